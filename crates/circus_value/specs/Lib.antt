@@ -1,0 +1,10 @@
+pub mod ValueTree
+pub mod ValueCode
+pub mod ValueOf
+pub mod ValueWeight
+pub mod ValueFalls
+pub mod ShapeTree
+pub mod ShapeCode
+pub mod ShapeOf
+pub mod ShapeWeight
+pub mod ShapeFalls

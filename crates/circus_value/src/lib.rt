@@ -1,0 +1,52 @@
+//! The values of Circus, the shapes that they fit, and the lists that all crates share.
+//!
+//! `list_of` has the one list type, `value` and `shape` the two trees, `outcome` what a procedure ends with,
+//! and `duplicate` the copies of plain data.
+#![tactic(auto)]
+
+mod duplicate;
+mod list_of;
+mod outcome;
+mod shape;
+mod value;
+
+pub use duplicate::Duplicate;
+pub use list_of::ListOf;
+pub use outcome::Outcome;
+pub use shape::{Arm, Arms, Element, Field, Fields, Label, Shape};
+pub use value::{Chosen, Value, Values};
+
+use std::alloc::AllocError;
+
+/// Want of memory.
+pub type NoMemory = AllocError;
+
+/// Bytes of a name.
+pub type Name = ListOf<u8>;
+
+/// Bytes of a text.
+pub type Octets = ListOf<u8>;
+
+/// Bytes of a datagram, a message or a file.
+pub type Message = ListOf<u8>;
+
+/// Numbers of nodes.
+pub type Nodes = ListOf<u16>;
+
+/// Numbers of modules, procedures, errors, ports or machines.
+pub type Numbers = ListOf<u16>;
+
+/// The numbers of asks from a root down.
+pub type Path = ListOf<u16>;
+
+/// For each module, how many calls a thread has made to it.
+pub type Clock = ListOf<u32>;
+
+/// The labels of an enumeration.
+pub type Labels = ListOf<Label>;
+
+/// Shapes in order.
+pub type Shapes = ListOf<Shape>;
+
+/// One value for each variable of a module.
+pub type State = Values;

@@ -1,0 +1,323 @@
+// Shapes of values, and the lists that they are made of.
+ghost use Rattle.std.specs.Prelude.{◌≡◌, List, [], ◌∷◌, ◌++◌, length, map, option_map, option_copied, slice_get, OnOk, OnErr, IfOk, IsTrue, ◌↔◌};
+ghost use Rattle.circus_value.specs.ShapeOf.{tree_of, field_of, arm_of};
+
+use crate::{Duplicate, ListOf, Name, NoMemory};
+use std::alloc::Global;
+use std::marker::Model;
+
+/// A label of an enumeration.
+#[derive(Debug, Drop)]
+pub struct Label {
+    pub name: Name,
+    pub number: u16,
+}
+
+/// What values may stand somewhere.
+#[cycle(shape)]
+#[derive(Debug, Drop)]
+pub enum Shape {
+    Boolean,
+    Cardinal,
+    LongCardinal,
+    Integer,
+    LongInteger,
+    Text,
+    Enumeration(ListOf<Label>),
+    /// So many items of one shape.
+    Array(u16, Element),
+    /// At most so many items of one shape.
+    Sequence(u16, Element),
+    Record(Fields),
+    Choice(Arms),
+}
+
+/// A named part of a record, or a parameter.
+#[cycle(shape)]
+#[derive(Debug, Drop)]
+pub struct Field {
+    pub name: Name,
+    pub shape: Shape,
+}
+
+/// One of the alternatives of a choice.
+#[cycle(shape)]
+#[derive(Debug, Drop)]
+pub struct Arm {
+    pub name: Name,
+    pub number: u16,
+    pub shape: Shape,
+}
+
+/// Fields in order. Clauses see the plain list of their trees.
+#[cycle(shape)]
+#[derive(Debug, Drop)]
+pub struct Fields {
+    items: Vec<Field>,
+}
+
+/// Arms in order. Clauses see the plain list of their trees.
+#[cycle(shape)]
+#[derive(Debug, Drop)]
+pub struct Arms {
+    items: Vec<Arm>,
+}
+
+/// The shape of the items of an array or a sequence. Clauses see its tree.
+#[cycle(shape)]
+#[derive(Debug, Drop)]
+pub struct Element {
+    shape: Box<Shape>,
+}
+
+impl Model for Fields {
+    ghost use Rattle.std.specs.Prelude.{List, map};
+    ghost use Rattle.std.specs.Coded.{coded_list};
+    ghost use Rattle.std.proofs.Common.{arith};
+    ghost use Rattle.circus_value.specs.ShapeTree.{FieldTree, field_trees};
+    ghost use Rattle.circus_value.specs.ShapeCode.{coded_field};
+    ghost use Rattle.circus_value.specs.ShapeWeight.{field_weights};
+
+    ghost Value = { List FieldTree };
+
+    ghost coded = { coded_list coded_field };
+
+    ghost use Rattle.circus_value.specs.ShapeOf.{field_of};
+
+    ghost view = { λ a. map field_of a.items.items };
+
+    ghost size = { λ fs. field_weights (field_trees fs) };
+
+    ghost use Rattle.circus_value.specs.ShapeFalls.{most_deep_le-field_weights};
+
+    ghost size_decreases = { λ a h. Prim.omega (arith, most_deep_le-field_weights a.items.items) };
+}
+
+impl Model for Arms {
+    ghost use Rattle.std.specs.Prelude.{List, map};
+    ghost use Rattle.std.specs.Coded.{coded_list};
+    ghost use Rattle.std.proofs.Common.{arith};
+    ghost use Rattle.circus_value.specs.ShapeTree.{ArmTree, arm_trees};
+    ghost use Rattle.circus_value.specs.ShapeCode.{coded_arm};
+    ghost use Rattle.circus_value.specs.ShapeWeight.{arm_weights};
+
+    ghost Value = { List ArmTree };
+
+    ghost coded = { coded_list coded_arm };
+
+    ghost use Rattle.circus_value.specs.ShapeOf.{arm_of};
+
+    ghost view = { λ a. map arm_of a.items.items };
+
+    ghost size = { λ arms. arm_weights (arm_trees arms) };
+
+    ghost use Rattle.circus_value.specs.ShapeFalls.{most_deep_le-arm_weights};
+
+    ghost size_decreases = { λ a h. Prim.omega (arith, most_deep_le-arm_weights a.items.items) };
+}
+
+impl Model for Element {
+    ghost use Rattle.std.proofs.Common.{arith};
+    ghost use Rattle.circus_value.specs.ShapeTree.{ShapeTree};
+    ghost use Rattle.circus_value.specs.ShapeCode.{coded_shape};
+    ghost use Rattle.circus_value.specs.ShapeWeight.{weight};
+
+    ghost Value = { ShapeTree };
+
+    ghost coded = { coded_shape };
+
+    ghost use Rattle.circus_value.specs.ShapeOf.{tree_of};
+
+    ghost view = { λ a. tree_of a.shape.value };
+
+    ghost size = { weight };
+
+    ghost use Rattle.circus_value.specs.ShapeFalls.{deep_le-weight};
+
+    ghost size_decreases = { λ a h. Prim.omega (arith, deep_le-weight a.shape.value) };
+}
+
+impl Fields {
+    /// No fields. It takes no memory, and grows with this allocator.
+    pub fn new(alloc: Global) -> Self
+        ensures { result ≡ [] }
+    {
+        Fields {
+            items: Vec::new(alloc),
+        }
+    }
+
+    pub fn len(&self) -> usize
+        ensures { result ≡ length self.now }
+    {
+        self.items.len()
+    }
+
+    pub fn is_empty(&self) -> bool
+        ensures { IsTrue result ↔ (self.now ≡ []) }
+    {
+        self.items.is_empty()
+    }
+
+    /// The field at a place, counted from 0. `None` exactly where the place is not below the length.
+    pub fn get(&self, place: usize) -> Option<&Field>
+        ensures { option_map field_of (option_copied result) ≡ slice_get self.now place }
+    {
+        self.items.get(place)
+    }
+
+    pub fn as_slice(&self) -> &[Field]
+        ensures { map field_of result.now ≡ self.now }
+    {
+        self.items.as_slice()
+    }
+
+    /// Adds a field at the end. After `NoMemory` the list is unchanged.
+    pub fn push(&mut self, item: Field) -> Result<(), NoMemory>
+        ensures ok { OnOk result (self.new ≡ self.old ++ field_of item ∷ []) }
+        ensures err { OnErr result (self.new ≡ self.old) }
+    {
+        self.items.push(item)?;
+        Ok(())
+    }
+}
+
+impl Arms {
+    /// No arms. It takes no memory, and grows with this allocator.
+    pub fn new(alloc: Global) -> Self
+        ensures { result ≡ [] }
+    {
+        Arms {
+            items: Vec::new(alloc),
+        }
+    }
+
+    pub fn len(&self) -> usize
+        ensures { result ≡ length self.now }
+    {
+        self.items.len()
+    }
+
+    pub fn is_empty(&self) -> bool
+        ensures { IsTrue result ↔ (self.now ≡ []) }
+    {
+        self.items.is_empty()
+    }
+
+    /// The arm at a place, counted from 0. `None` exactly where the place is not below the length.
+    pub fn get(&self, place: usize) -> Option<&Arm>
+        ensures { option_map arm_of (option_copied result) ≡ slice_get self.now place }
+    {
+        self.items.get(place)
+    }
+
+    pub fn as_slice(&self) -> &[Arm]
+        ensures { map arm_of result.now ≡ self.now }
+    {
+        self.items.as_slice()
+    }
+
+    /// Adds an arm at the end. After `NoMemory` the list is unchanged.
+    pub fn push(&mut self, item: Arm) -> Result<(), NoMemory>
+        ensures ok { OnOk result (self.new ≡ self.old ++ arm_of item ∷ []) }
+        ensures err { OnErr result (self.new ≡ self.old) }
+    {
+        self.items.push(item)?;
+        Ok(())
+    }
+}
+
+impl Element {
+    /// The shape of the items, or `NoMemory`.
+    pub fn new(alloc: Global, shape: Shape) -> Result<Self, NoMemory>
+        ensures { IfOk result (λ element. element ≡ tree_of shape) }
+    {
+        Ok(Element {
+            shape: Box::new(alloc, shape)?,
+        })
+    }
+
+    pub fn shape(&self) -> &Shape
+        ensures { tree_of result.now ≡ self.now }
+    {
+        &self.shape
+    }
+}
+
+impl Duplicate for Label {
+    fn copy(&self) -> Result<Self, NoMemory> {
+        Ok(Label {
+            name: self.name.copy()?,
+            number: self.number,
+        })
+    }
+}
+
+impl Duplicate for Shape {
+    #[cycle(shape_copy)]
+    fn copy(&self) -> Result<Self, NoMemory> {
+        Ok(match self {
+            Shape::Boolean => Shape::Boolean,
+            Shape::Cardinal => Shape::Cardinal,
+            Shape::LongCardinal => Shape::LongCardinal,
+            Shape::Integer => Shape::Integer,
+            Shape::LongInteger => Shape::LongInteger,
+            Shape::Text => Shape::Text,
+            Shape::Enumeration(labels) => Shape::Enumeration(labels.copy()?),
+            Shape::Array(len, element) => Shape::Array(*len, element.copy()?),
+            Shape::Sequence(bound, element) => Shape::Sequence(*bound, element.copy()?),
+            Shape::Record(fields) => Shape::Record(fields.copy()?),
+            Shape::Choice(arms) => Shape::Choice(arms.copy()?),
+        })
+    }
+}
+
+impl Duplicate for Field {
+    #[cycle(shape_copy)]
+    fn copy(&self) -> Result<Self, NoMemory> {
+        Ok(Field {
+            name: self.name.copy()?,
+            shape: self.shape.copy()?,
+        })
+    }
+}
+
+impl Duplicate for Arm {
+    #[cycle(shape_copy)]
+    fn copy(&self) -> Result<Self, NoMemory> {
+        Ok(Arm {
+            name: self.name.copy()?,
+            number: self.number,
+            shape: self.shape.copy()?,
+        })
+    }
+}
+
+impl Duplicate for Fields {
+    #[cycle(shape_copy)]
+    fn copy(&self) -> Result<Self, NoMemory> {
+        let mut items = Vec::with_capacity(*self.items.allocator(), self.items.len())?;
+        for item in &self.items {
+            items.push(item.copy()?)?;
+        }
+        Ok(Fields { items })
+    }
+}
+
+impl Duplicate for Arms {
+    #[cycle(shape_copy)]
+    fn copy(&self) -> Result<Self, NoMemory> {
+        let mut items = Vec::with_capacity(*self.items.allocator(), self.items.len())?;
+        for item in &self.items {
+            items.push(item.copy()?)?;
+        }
+        Ok(Arms { items })
+    }
+}
+
+impl Duplicate for Element {
+    #[cycle(shape_copy)]
+    fn copy(&self) -> Result<Self, NoMemory> {
+        Element::new(*Box::allocator(&self.shape), self.shape.copy()?)
+    }
+}
