@@ -8,3 +8,5 @@ pub mod ShapeCode
 pub mod ShapeOf
 pub mod ShapeWeight
 pub mod ShapeFalls
+pub mod Fits
+pub mod ExternalSize

@@ -14,9 +14,8 @@ pub use duplicate::Duplicate;
 pub use list_of::ListOf;
 pub use outcome::Outcome;
 pub use shape::{Arm, Arms, Element, Field, Fields, Label, Shape};
-pub use value::{Chosen, Value, Values};
-
 use std::alloc::AllocError;
+pub use value::{Chosen, Value, Values};
 
 /// Want of memory.
 pub type NoMemory = AllocError;

@@ -1,0 +1,161 @@
+-- What a program does when nothing is replicated.
+use Rattle.std.specs.Prelude.{ℕ, ◌+◌, ◌<◌, nat_lt, Bool, cond, List, [], ◌∷◌, ◌++◌, length, sum, map, replicate, slice_get, slice_index, slice_index_or, slice_set, zero, suc, fold}
+use Rattle.std.specs.Option.{option_map_or}
+use Rattle.circus_value.specs.ValueTree.{ValueTree}
+use Rattle.circus_value.specs.declared.outcome.Outcome.{Outcome}
+use Rattle.circus_value.specs.declared.outcome.Outcome.TheVariants.{Raised}
+use Rattle.circus_model.specs.declared.signature.Signature.{Signature}
+use Rattle.circus_model.specs.declared.history.Ask.{Ask}
+use Rattle.circus_model.specs.declared.history.Run.{Run}
+use Rattle.circus_model.specs.NextTurn.{NextTurn, asks, ends}
+
+-- a module as *Execution* sees it
+pub record Behaviour : Type 0 where
+  pub declared : Signature
+  pub turn : List ValueTree → ℕ → List ValueTree → List Outcome → NextTurn
+  pub first : List ValueTree
+
+-- one root's thread: the state of each module, the calls made to each so far, and the runs of each that have ended
+pub record Thread : Type 0 where
+  pub store : List (List ValueTree)
+  pub clock : List ℕ
+  pub runs : List (List Run)
+
+-- what a call leaves: the thread, and what the procedure ended with
+pub record Performed : Type 0 where
+  pub thread : Thread
+  pub outcome : Outcome
+
+-- what a run leaves: the thread, the asks that it made, and what it ended with
+pub record Finished : Type 0 where
+  pub thread : Thread
+  pub made : List Ask
+  pub outcome : Outcome
+
+-- who calls what: the root, the call path, the module, its procedure and the arguments
+pub record Order : Type 0 where
+  pub root : ℕ
+  pub path : List ℕ
+  pub callee : ℕ
+  pub procedure : ℕ
+  pub arguments : List ValueTree
+
+-- the most calls that a thread makes
+abbrev pub calls_per_thread : ℕ
+calls_per_thread = 16777216
+
+-- the most asks of one execution, and the turn after them
+abbrev pub turns_per_execution : ℕ
+turns_per_execution = 65536
+
+-- the thread with this state of the module
+abbrev pub stored : Thread → ℕ → List ValueTree → Thread
+stored t m state = record t { store = slice_set t.store m state }
+
+-- the thread with one call more to the module
+abbrev pub counted : Thread → ℕ → Thread
+counted t m = record t { clock = slice_set t.clock m (slice_index t.clock m + 1) }
+
+-- the thread with one run more of the module
+abbrev pub noted : Thread → ℕ → Run → Thread
+noted t m run = record t { runs = slice_set t.runs m (slice_index_or t.runs m [] ++ run ∷ []) }
+
+-- the reply to a call, and the thread after it, where `call` performs calls; a thread that is spent gets an error
+unfoldable pub answered : (Thread → Order → Performed) → Thread → Order → Performed
+answered call t o =
+    cond (nat_lt (sum t.clock) calls_per_thread)
+    (call (counted t o.callee) o)
+    (record { thread = t; outcome = Raised 60007 [] })
+
+-- an order of the run that is under way, for its next ask
+abbrev pub next_order : Order → List Ask → ℕ → ℕ → List ValueTree → Order
+next_order o made callee procedure arguments =
+    record { root = o.root; path = o.path ++ length made ∷ []; callee = callee; procedure = procedure; arguments = arguments }
+
+-- the ask that was made on a thread, with its reply
+abbrev pub ask_of : Order → List ValueTree → Thread → Performed → Ask
+ask_of asked state t p =
+    record {
+      callee = asked.callee;
+      index = slice_index t.clock asked.callee;
+      procedure = asked.procedure;
+      arguments = asked.arguments;
+      state = state;
+      reply = p.outcome;
+      after = p.thread.clock;
+    }
+
+-- the run after this turn: it ends, or its ask is answered and it goes on
+abbrev pub turned : (Thread → Order → Performed) → Order → (List Outcome → List Ask → Thread → Finished) → List Outcome → List Ask → Thread → NextTurn → Finished
+turned call o go_on replies made t (ends outcome state) =
+    record { thread = stored t o.callee state; made = made; outcome = outcome }
+turned call o go_on replies made t (asks callee procedure arguments state) =
+    let before = stored t o.callee state in
+    let asked = next_order o made callee procedure arguments in
+    let p = answered call before asked in
+    go_on (replies ++ p.outcome ∷ []) (made ++ ask_of asked state before p ∷ []) p.thread
+
+-- the run with at most so many turns, from its replies and asks so far; `turn` is that of its module, state, procedure and arguments
+unfoldable pub performed_on : (Thread → Order → Performed) → Order → (List Outcome → NextTurn) → ℕ → List Outcome → List Ask → Thread → Finished
+performed_on call o turn zero replies made t = record { thread = t; made = made; outcome = Raised 60006 [] }
+performed_on call o turn (suc left) replies made t =
+    turned call o (performed_on call o turn left) replies made t (turn replies)
+
+-- the run's record, and what its caller gets
+abbrev pub recorded : Order → Thread → Finished → Performed
+recorded o entered f =
+    record {
+      thread = noted f.thread o.callee (record {
+        path = o.path;
+        root = o.root;
+        procedure = o.procedure;
+        arguments = o.arguments;
+        entry = entered.clock;
+        asks = f.made;
+        outcome = f.outcome;
+        state = slice_index_or f.thread.store o.callee [];
+        end = f.thread.clock;
+      });
+      outcome = f.outcome;
+    }
+
+-- the turns of the ordered call
+abbrev pub turns_of : List Behaviour → Thread → Order → List Outcome → NextTurn
+turns_of program t o replies =
+    option_map_or
+    (λ b. b.turn (slice_index_or t.store o.callee []) o.procedure o.arguments replies)
+    (slice_get program o.callee)
+    (ends (Raised 60006 []) [])
+
+-- an order performed to its end, where modules call earlier ones alone and so nest at most `depth` deep
+unfoldable pub perform : List Behaviour → ℕ → Thread → Order → Performed
+perform program zero t o = record { thread = t; outcome = Raised 60006 [] }
+perform program (suc depth) t o =
+    recorded o t (performed_on (perform program depth) o (turns_of program t o) turns_per_execution [] [] t)
+
+-- a thread that has done nothing
+abbrev pub fresh : List Behaviour → Thread
+fresh program =
+    record { store = map (λ b. b.first) program; clock = map (λ _. 0) program; runs = map (λ _. []) program }
+
+-- what a root's thread does
+abbrev pub thread_of : List Behaviour → ℕ → Performed
+thread_of program root =
+    perform program (length program) (fresh program)
+    (record { root = root; path = []; callee = root; procedure = 0; arguments = [] })
+
+-- the places of the roots, the first module having this place
+abbrev pub roots_from : ℕ → List Behaviour → List ℕ
+roots_from place [] = []
+roots_from place (b ∷ program) =
+    cond b.declared.root (place ∷ roots_from (suc place) program) (roots_from (suc place) program)
+
+-- the runs of each module, those of one root before those of the next
+abbrev pub joined : List (List Run) → List (List Run) → List (List Run)
+joined [] others = others
+joined (runs ∷ before) [] = runs ∷ before
+joined (runs ∷ before) (more ∷ others) = (runs ++ more) ∷ joined before others
+
+-- for each module the runs that it performs, in order
+unfoldable pub history_of : List Behaviour → List (List Run)
+history_of program = fold (λ history root. joined history (thread_of program root).thread.runs) (map (λ _. []) program) (roots_from 0 program)

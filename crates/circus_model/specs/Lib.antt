@@ -1,0 +1,4 @@
+pub mod NextTurn
+pub mod Lawful
+pub mod Gives
+pub mod Execution

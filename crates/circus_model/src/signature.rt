@@ -1,0 +1,83 @@
+// What a module declares.
+use circus_value::{Duplicate, ListOf, NoMemory, Shapes};
+
+/// What a module declares to those that run it and to those that call it.
+#[derive(Debug, Drop)]
+pub struct Signature {
+    pub root: bool,
+    pub imports: Imports,
+    pub variables: Shapes,
+    pub procedures: ProcedureShapes,
+    /// The most bytes, in external form, of a state, of arguments together, of results together and of an error's values together.
+    pub limit: u32,
+}
+
+/// An imported module, by its number, with its procedures.
+#[derive(Debug, Drop)]
+pub struct Import {
+    pub module: u16,
+    pub procedures: ProcedureShapes,
+}
+
+pub type Imports = ListOf<Import>;
+
+/// A procedure, by its number, with the errors that it reports.
+#[derive(Debug, Drop)]
+pub struct ProcedureShape {
+    pub number: u16,
+    pub arguments: Shapes,
+    pub results: Shapes,
+    pub errors: ErrorShapes,
+}
+
+pub type ProcedureShapes = ListOf<ProcedureShape>;
+
+/// An error, by its number, with the shapes of its values.
+#[derive(Debug, Drop)]
+pub struct ErrorShape {
+    pub number: u16,
+    pub arguments: Shapes,
+}
+
+pub type ErrorShapes = ListOf<ErrorShape>;
+
+impl Duplicate for ErrorShape {
+    fn copy(&self) -> Result<Self, NoMemory> {
+        Ok(ErrorShape {
+            number: self.number,
+            arguments: self.arguments.copy()?,
+        })
+    }
+}
+
+impl Duplicate for ProcedureShape {
+    fn copy(&self) -> Result<Self, NoMemory> {
+        Ok(ProcedureShape {
+            number: self.number,
+            arguments: self.arguments.copy()?,
+            results: self.results.copy()?,
+            errors: self.errors.copy()?,
+        })
+    }
+}
+
+impl Duplicate for Import {
+    fn copy(&self) -> Result<Self, NoMemory> {
+        Ok(Import {
+            module: self.module,
+            procedures: self.procedures.copy()?,
+        })
+    }
+}
+
+impl Duplicate for Signature {
+    fn copy(&self) -> Result<Self, NoMemory> {
+        Ok(Signature {
+            root: self.root,
+            imports: self.imports.copy()?,
+            variables: self.variables.copy()?,
+            procedures: self.procedures.copy()?,
+            limit: self.limit,
+        })
+    }
+}
