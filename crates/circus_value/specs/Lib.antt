@@ -10,3 +10,5 @@ pub mod ShapeWeight
 pub mod ShapeFalls
 pub mod Fits
 pub mod ExternalSize
+pub mod PartEnds
+pub mod Shown

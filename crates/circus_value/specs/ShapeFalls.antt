@@ -1,5 +1,5 @@
 -- A shape's parts are lighter than the shape.
-use Rattle.std.specs.Prelude.{ℕ, ◌+◌, ◌≤◌, List, [], ◌∷◌, max, map}
+use Rattle.std.specs.Prelude.{◌≤◌, List, [], ◌∷◌, map}
 use Rattle.std.proofs.Common.{arith}
 use denote.Param.Weighed.{most}
 use Rattle.circus_value.specs.ShapeTree.{field_trees, arm_trees}

@@ -1,5 +1,4 @@
 -- The tree of a shape, whose own parts contracts see as trees.
-use Rattle.std.specs.Prelude.{ℕ, List}
 use Rattle.circus_value.specs.ShapeTree.{ShapeTree, FieldTree, ArmTree, boolean, cardinal, long_cardinal, integer, long_integer, text, enumeration, array, sequence, «record», choice, field_trees, arm_trees}
 use Rattle.circus_value.specs.declared.shape.Shape.{Shape}
 use Rattle.circus_value.specs.declared.shape.Shape.TheVariants as S

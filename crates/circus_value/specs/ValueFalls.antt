@@ -1,8 +1,8 @@
 -- A value's parts are lighter than the value.
-use Rattle.std.specs.Prelude.{ℕ, ◌+◌, ◌≤◌, List, [], ◌∷◌, max, map}
+use Rattle.std.specs.Prelude.{◌≤◌, List, [], ◌∷◌, map}
 use Rattle.std.proofs.Common.{arith}
 use denote.Param.Weighed.{most}
-use Rattle.circus_value.specs.ValueTree.{ValueTree, ValueTrees, value_trees}
+use Rattle.circus_value.specs.ValueTree.{value_trees}
 use Rattle.circus_value.specs.ValueOf.{tree_of}
 use Rattle.circus_value.specs.ValueWeight.{weight, weights}
 use Rattle.circus_value.specs.declared.value.Value.{Value}

@@ -1,5 +1,4 @@
 -- The tree of a value, whose own items contracts see as trees.
-use Rattle.std.specs.Prelude.{ℕ, List}
 use Rattle.circus_value.specs.ValueTree.{ValueTree, boolean, cardinal, long_cardinal, integer, long_integer, text, enumeration, array, sequence, «record», choice, value_trees}
 use Rattle.circus_value.specs.declared.value.Value.{Value}
 use Rattle.circus_value.specs.declared.value.Value.TheVariants as V

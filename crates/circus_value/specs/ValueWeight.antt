@@ -1,7 +1,6 @@
 -- A number for each tree that is above that of its parts.
-use Rattle.std.specs.Prelude.{ℕ, ◌+◌, ◌≤◌, List, [], ◌∷◌, max, map}
-use Rattle.std.proofs.Common.{arith}
-use Rattle.circus_value.specs.ValueTree.{ValueTree, ValueTrees, boolean, cardinal, long_cardinal, integer, long_integer, text, enumeration, array, sequence, «record», choice, none, more, value_trees}
+use Rattle.std.specs.Prelude.{ℕ, ◌+◌}
+use Rattle.circus_value.specs.ValueTree.{ValueTree, ValueTrees, boolean, cardinal, long_cardinal, integer, long_integer, text, enumeration, array, sequence, «record», choice, none, more}
 
 abbrev mutual
   pub weight : ValueTree → ℕ

@@ -2,6 +2,7 @@
 ghost use Rattle.std.specs.Prelude.{◌≡◌, IfOk};
 
 use crate::NoMemory;
+use bytes::Bytes;
 
 /// Plain data that can be copied where memory is found.
 pub trait Duplicate: Sized + Drop {
@@ -37,5 +38,21 @@ impl Duplicate for u32 {
 impl Duplicate for u64 {
     fn copy(&self) -> Result<Self, NoMemory> {
         Ok(*self)
+    }
+}
+
+impl<T: Duplicate> Duplicate for Option<T> {
+    fn copy(&self) -> Result<Self, NoMemory> {
+        match self {
+            None => Ok(None),
+            Some(item) => Ok(Some(item.copy()?)),
+        }
+    }
+}
+
+/// The bytes are shared.
+impl Duplicate for Bytes {
+    fn copy(&self) -> Result<Self, NoMemory> {
+        self.clone()
     }
 }

@@ -7,12 +7,14 @@
 mod duplicate;
 mod list_of;
 mod outcome;
+mod parts;
 mod shape;
 mod value;
 
 pub use duplicate::Duplicate;
 pub use list_of::ListOf;
 pub use outcome::Outcome;
+pub use parts::Parts;
 pub use shape::{Arm, Arms, Element, Field, Fields, Label, Shape};
 use std::alloc::AllocError;
 pub use value::{Chosen, Value, Values};

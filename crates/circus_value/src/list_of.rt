@@ -2,6 +2,7 @@
 ghost use Rattle.std.specs.Prelude.{◌≡◌, List, [], ◌∷◌, ◌++◌, length, option_copied, slice_get, OnOk, OnErr, IfOk, IsTrue, ◌↔◌};
 
 use crate::{Duplicate, NoMemory};
+use bytes::Bytes;
 use std::alloc::Global;
 use std::marker::Model;
 
@@ -53,6 +54,23 @@ impl<T> ListOf<T> {
     }
 }
 
+impl<T> ListOf<T> {
+    pub(crate) fn of(items: Vec<T>) -> Self
+        ensures { result ≡ items.items }
+    {
+        ListOf { items }
+    }
+}
+
+impl ListOf<u8> {
+    /// These bytes in a form that is shared and not copied.
+    pub fn shared(self) -> Result<Bytes, NoMemory>
+        ensures { IfOk result (λ bytes. bytes ≡ self) }
+    {
+        Ok(Bytes::from_vec(self.items)?)
+    }
+}
+
 impl<T: Drop> ListOf<T> {
     /// Adds an item at the end. After `NoMemory` the list is unchanged.
     pub fn push(&mut self, item: T) -> Result<(), NoMemory>
@@ -61,6 +79,16 @@ impl<T: Drop> ListOf<T> {
     {
         self.items.push(item)?;
         Ok(())
+    }
+}
+
+impl<T: Copy> ListOf<T> {
+    /// Adds copies of items at the end. After `NoMemory` the list is unchanged.
+    pub fn append(&mut self, items: &[T]) -> Result<(), NoMemory>
+        ensures ok { OnOk result (self.new ≡ self.old ++ items.now) }
+        ensures err { OnErr result (self.new ≡ self.old) }
+    {
+        self.items.extend_from_slice(items)
     }
 }
 

@@ -1,0 +1,7 @@
+use Rattle.std.proofs.Common.{◌≡◌, ◌++◌, take}
+use Rattle.std.specs.List.{concat}
+use Rattle.circus_value.proofs.parts.Parts.add_all.Given as goal
+
+-- the parts so far stand at the end
+abbrev pub invariant-loop-part : goal.invariant-loop-part
+invariant-loop-part l = l.self ≡ l.fn.self ++ concat (take l.part-index l.parts)

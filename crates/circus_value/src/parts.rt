@@ -1,0 +1,158 @@
+// Bytes in parts that are shared with others.
+ghost use Rattle.std.specs.Prelude.{◌≡◌, ℕ, ◌+◌, ◌-◌, ◌<◌, ◌≤◌, List, [], ◌++◌, length, take, drop, slice_get, slice_index, OnOk, OnErr, IsOk, IfOk, IfSome, IfNone, IsTrue, ◌↔◌};
+ghost use Rattle.std.specs.List.{concat};
+ghost use Rattle.circus_value.specs.PartEnds.{ends_from};
+
+use crate::{Duplicate, ListOf, Message, NoMemory};
+use bytes::Bytes;
+use std::alloc::Global;
+use std::marker::Model;
+
+/// Bytes that stand in parts, none of them empty, which may be shared. Clauses see the joined bytes.
+#[derive(Drop)]
+pub struct Parts {
+    parts: Vec<Bytes>,
+    /// Where each part ends among the joined bytes.
+    ends: Vec<usize>,
+}
+
+impl Model for Parts {
+    ghost use Rattle.std.specs.Prelude.{◌≡◌, ℕ, ◌<◌, ◌≤◌, List, length, All};
+    ghost use Rattle.std.specs.List.{concat};
+    ghost use Rattle.circus_value.specs.PartEnds.{ends_from};
+
+    ghost Value = { List ℕ };
+
+    ghost view = { λ p. concat p.parts.items };
+
+    ghost invariant = { λ p. (p.ends.items ≡ ends_from 0 p.parts.items)
+        × All (λ part. 0 < length part) p.parts.items
+        × (length (concat p.parts.items) ≤ 16777216) };
+}
+
+impl Parts {
+    /// No bytes. It takes no memory, and grows with this allocator.
+    pub fn new(alloc: Global) -> Self
+        ensures { result ≡ [] }
+    {
+        Parts {
+            parts: Vec::new(alloc),
+            ends: Vec::new(alloc),
+        }
+    }
+
+    /// How many bytes there are, at most 16,777,216.
+    pub fn len(&self) -> usize
+        ensures value { result ≡ length self.now }
+        ensures bound { result ≤ 16777216 }
+    {
+        self.ends.last().copied().unwrap_or(0)
+    }
+
+    pub fn is_empty(&self) -> bool
+        ensures { IsTrue result ↔ (self.now ≡ []) }
+    {
+        self.parts.is_empty()
+    }
+
+    /// The byte at a place, counted from 0. `None` exactly where the place is not below the length.
+    pub fn byte(&self, at: usize) -> Option<u8>
+        ensures { result ≡ slice_get self.now at }
+    {
+        let (part, offset) = find(&self.parts, &self.ends, at)?;
+        Some(self.parts[part].as_slice()[offset])
+    }
+
+    /// Adds bytes at the end, which are shared and not copied. An empty part changes nothing, and
+    /// after `NoMemory` the bytes are unchanged.
+    pub fn add(&mut self, part: Bytes) -> Result<(), NoMemory>
+        requires { length self.old + length part ≤ 16777216 }
+        ensures ok { OnOk result (self.new ≡ self.old ++ part) }
+        ensures err { OnErr result (self.new ≡ self.old) }
+        ensures empty { part ≡ [] → IsOk result }
+    {
+        if part.is_empty() {
+            return Ok(());
+        }
+        let end = self.len() + part.len();
+        self.ends.reserve(1)?;
+        self.parts.push(part)?;
+        self.ends.push_reserved(end);
+        Ok(())
+    }
+
+    /// A copy of the bytes in one piece.
+    pub fn joined(&self) -> Result<Message, NoMemory>
+        ensures { IfOk result (λ bytes. bytes ≡ self.now) }
+    {
+        let mut bytes = Vec::with_capacity(*self.parts.allocator(), self.len())?;
+        for part in &self.parts {
+            bytes.extend_from_slice(part.as_slice())?;
+        }
+        Ok(ListOf::of(bytes))
+    }
+
+    /// The bytes from a place on, in parts that are shared with these and not copied.
+    pub fn rest(&self, at: usize) -> Result<Parts, NoMemory>
+        requires { at ≤ length self.now }
+        ensures { IfOk result (λ rest. rest ≡ drop at self.now) }
+    {
+        let mut rest = Parts::new(*self.parts.allocator());
+        let Some((first, offset)) = find(&self.parts, &self.ends, at) else {
+            return Ok(rest);
+        };
+        let cut = &self.parts[first];
+        rest.add(cut.slice(offset..cut.len())?)?;
+        rest.add_all(&self.parts.as_slice()[first + 1..])?;
+        Ok(rest)
+    }
+
+    /// Adds parts at the end, which are shared. After `NoMemory` some of them may stand there.
+    fn add_all(&mut self, parts: &[Bytes]) -> Result<(), NoMemory>
+        requires { length self.old + length (concat parts.now) ≤ 16777216 }
+        ensures { OnOk result (self.new ≡ self.old ++ concat parts.now) }
+    {
+        for part in parts {
+            self.add(part.clone()?)?;
+        }
+        Ok(())
+    }
+}
+
+impl Duplicate for Parts {
+    fn copy(&self) -> Result<Self, NoMemory> {
+        self.rest(0)
+    }
+}
+
+/// The part that a byte stands in, and its place in that part. `None` where there is no such byte.
+fn find(parts: &[Bytes], ends: &[usize], at: usize) -> Option<(usize, usize)>
+    requires { (ends.now ≡ ends_from 0 parts.now) × (length (concat parts.now) ≤ 16777216) }
+    ensures none { IfNone result (length (concat parts.now) ≤ at) }
+    ensures within { IfSome result (λ place. place.0 < length parts.now) }
+    ensures start { IfSome result (λ place. length (concat (take place.0 parts.now)) + place.1 ≡ at) }
+    ensures end { IfSome result (λ place. at < length (concat (take (place.0 + 1) parts.now))) }
+{
+    let place = first_above(ends, at);
+    let part = parts.get(place)?;
+    Some((place, at + part.len() - ends[place]))
+}
+
+/// Of numbers that grow, the place of the first that is above this one, or how many there are.
+fn first_above(ends: &[usize], at: usize) -> usize
+    ensures within { result ≤ length ends.now }
+    ensures before { 0 < result → slice_index ends.now (result - 1) ≤ at }
+    ensures above { result < length ends.now → at < slice_index ends.now result }
+{
+    let mut low = 0;
+    let mut high = ends.len();
+    while low < high {
+        let middle = low + (high - low) / 2;
+        if ends[middle] <= at {
+            low = middle + 1;
+        } else {
+            high = middle;
+        }
+    }
+    low
+}
