@@ -1,0 +1,7 @@
+pub mod Fronts
+pub mod Numbers
+pub mod Divisions
+pub mod TokensLie
+mod Scanning
+pub mod Spaced
+mod Answered

@@ -1,0 +1,5 @@
+pub mod ByteClass
+pub mod Form
+pub mod Front
+pub mod Token
+pub mod Division
