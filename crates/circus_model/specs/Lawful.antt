@@ -3,7 +3,7 @@ use Rattle.std.specs.Prelude.{ℕ, ◌≤◌, ◌<◌, Bool, false, ◌&&◌, �
 use Rattle.std.specs.Option.{option_map_or}
 use Rattle.circus_value.specs.ValueTree.{ValueTree}
 use Rattle.circus_value.specs.Fits.{all_fit}
-use Rattle.circus_value.specs.ExternalSize.{size_of_all}
+use Rattle.circus_value.specs.ExternalSize.{size_of_values}
 use Rattle.circus_value.specs.declared.outcome.Outcome.{Outcome}
 use Rattle.circus_value.specs.declared.outcome.Outcome.TheVariants.{Returned, Raised}
 use Rattle.circus_model.specs.declared.signature.Signature.{Signature}
@@ -49,13 +49,13 @@ values_of (Raised _ values) = values
 -- the state is one that the module may have
 pub record IsState (signature : Signature) (state : List ValueTree) : Type 0 where
   pub fits : IsTrue (all_fit signature.variables state)
-  pub within : size_of_all state ≤ signature.limit
+  pub within : size_of_values state ≤ signature.limit
 
 -- a procedure may be started so
 pub record CanStart (signature : Signature) (state : List ValueTree) (procedure : ℕ) (arguments : List ValueTree) : Type 0 where
   pub from_state : IsState signature state
   pub fit : IsTrue (arguments_fit signature.procedures procedure arguments)
-  pub within : size_of_all arguments ≤ 1048576
+  pub within : size_of_values arguments ≤ 1048576
 
 -- an imported procedure may answer so
 abbrev pub import_answers : List Import → ℕ → ℕ → Outcome → Bool
@@ -85,12 +85,12 @@ import_takes imports callee procedure arguments =
 pub record IsLawfulAsk (signature : Signature) (replies callee procedure : ℕ) (arguments : List ValueTree) : Type 0 where
   pub few : replies < 65535
   pub fit : IsTrue (import_takes signature.imports callee procedure arguments)
-  pub within : size_of_all arguments ≤ signature.limit
+  pub within : size_of_values arguments ≤ signature.limit
 
 -- an outcome is one that the procedure may have, within the limit
 pub record IsLawfulEnd (signature : Signature) (procedure : ℕ) (outcome : Outcome) : Type 0 where
   pub fits : IsTrue (option_map_or (λ p. outcome_fits p outcome) (procedure_numbered procedure signature.procedures) false)
-  pub within : size_of_all (values_of outcome) ≤ signature.limit
+  pub within : size_of_values (values_of outcome) ≤ signature.limit
 
 -- a turn of this procedure after so many replies
 abbrev pub IsLawful : Signature → ℕ → ℕ → NextTurn → Type 0

@@ -1,1 +1,4 @@
 pub mod PartLemmas
+pub mod FitLemmas
+mod ItemFalls
+mod ShownMore

@@ -7,23 +7,23 @@ abbrev pub text_size : List ℕ → ℕ
 text_size bytes = 2 + 2 * ((length bytes + 1) / 2)
 
 abbrev mutual
-  pub size_of : ValueTree → ℕ
-  size_of (boolean _) = 2
-  size_of (cardinal _) = 2
-  size_of (long_cardinal _) = 4
-  size_of (integer _) = 2
-  size_of (long_integer _) = 4
-  size_of (text bytes) = text_size bytes
-  size_of (enumeration _) = 2
-  size_of (array items) = sizes_of items
-  size_of (sequence items) = 2 + sizes_of items
-  size_of («record» items) = sizes_of items
-  size_of (choice _ t) = 2 + size_of t
+  pub external_size : ValueTree → ℕ
+  external_size (boolean _) = 2
+  external_size (cardinal _) = 2
+  external_size (long_cardinal _) = 4
+  external_size (integer _) = 2
+  external_size (long_integer _) = 4
+  external_size (text bytes) = text_size bytes
+  external_size (enumeration _) = 2
+  external_size (array items) = external_sizes items
+  external_size (sequence items) = 2 + external_sizes items
+  external_size («record» items) = external_sizes items
+  external_size (choice _ t) = 2 + external_size t
 
-  pub sizes_of : ValueTrees → ℕ
-  sizes_of none = 0
-  sizes_of (more t ts) = size_of t + sizes_of ts
+  pub external_sizes : ValueTrees → ℕ
+  external_sizes none = 0
+  external_sizes (more t ts) = external_size t + external_sizes ts
 
 -- of values one after another
-abbrev pub size_of_all : List ValueTree → ℕ
-size_of_all ts = sizes_of (value_trees ts)
+abbrev pub size_of_values : List ValueTree → ℕ
+size_of_values ts = external_sizes (value_trees ts)

@@ -12,3 +12,6 @@ pub mod Fits
 pub mod ExternalSize
 pub mod PartEnds
 pub mod Shown
+pub mod ThreadText
+pub mod OutcomeText
+pub mod ArmShape

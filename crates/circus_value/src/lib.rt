@@ -1,26 +1,35 @@
 //! The values of Circus, the shapes that they fit, and the lists that all crates share.
 //!
 //! `list_of` has the one list type, `value` and `shape` the two trees, `outcome` what a procedure ends with,
-//! and `duplicate` the copies of plain data.
+//! and `duplicate` the copies of plain data. `fitting` tests a value against a shape, `size` counts
+//! a value's bytes in external form, `parts` has bytes that are shared in parts, and `shown` and `thread_text`
+//! the texts of values, outcomes, clocks and paths.
 #![tactic(auto)]
 
 mod duplicate;
+mod fitting;
 mod list_of;
 mod outcome;
 mod parts;
 mod shape;
+mod shown;
+mod size;
+mod thread_text;
 mod value;
 
 pub use duplicate::Duplicate;
+pub use fitting::fits;
 pub use list_of::ListOf;
 pub use outcome::Outcome;
 pub use parts::Parts;
 pub use shape::{Arm, Arms, Element, Field, Fields, Label, Shape};
-use std::alloc::AllocError;
+pub use shown::show;
+pub use size::{external_size, values_size};
+pub use thread_text::{ClockText, PathText, name_text};
 pub use value::{Chosen, Value, Values};
 
 /// Want of memory.
-pub type NoMemory = AllocError;
+pub type NoMemory = std::alloc::AllocError;
 
 /// Bytes of a name.
 pub type Name = ListOf<u8>;

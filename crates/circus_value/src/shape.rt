@@ -1,6 +1,7 @@
 // Shapes of values, and the lists that they are made of.
 ghost use Rattle.std.specs.Prelude.{◌≡◌, List, [], ◌∷◌, ◌++◌, length, map, option_map, option_copied, slice_get, OnOk, OnErr, IfOk, IsTrue, ◌↔◌};
 ghost use Rattle.circus_value.specs.ShapeOf.{tree_of, field_of, arm_of};
+ghost use Rattle.circus_value.specs.ArmShape.{arm_shape};
 
 use crate::{Duplicate, ListOf, Name, NoMemory};
 use std::alloc::Global;
@@ -215,6 +216,18 @@ impl Arms {
         ensures { map arm_of result.now ≡ self.now }
     {
         self.items.as_slice()
+    }
+
+    /// The shape of the first arm with this number. `None` exactly where no arm has it.
+    pub fn shape_of(&self, number: u16) -> Option<&Shape>
+        ensures { option_map tree_of (option_copied result) ≡ arm_shape self.now number }
+    {
+        for arm in &self.items {
+            if arm.number == number {
+                return Some(&arm.shape);
+            }
+        }
+        None
     }
 
     /// Adds an arm at the end. After `NoMemory` the list is unchanged.
