@@ -1,0 +1,9 @@
+pub mod Faults
+pub mod Link
+pub mod MemLink
+pub mod MemShelf
+pub mod MemSink
+pub mod Shelf
+pub mod Sink
+pub mod SureShelf
+pub mod Told
