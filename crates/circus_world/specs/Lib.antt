@@ -1,0 +1,13 @@
+pub mod Datagram
+pub mod Record
+pub mod WorldView
+pub mod Course
+pub mod Interface
+pub mod OneNumberLaws
+pub mod AdderTurn
+pub mod AdderLaws
+pub mod CallerTurn
+pub mod CallerLaws
+pub mod Paused
+pub mod Parts
+pub mod Refusal
