@@ -1,0 +1,13 @@
+pub mod Arrivals
+pub mod Cuts
+pub mod Finite
+pub mod Formats
+pub mod Freshness
+pub mod Handing
+pub mod Inboxes
+pub mod Joins
+pub mod Outboxes
+pub mod Places
+pub mod Spellings
+pub mod Standing
+pub mod Ties

@@ -1,0 +1,257 @@
+-- After every list of acts an end keeps what the segments say that it took.
+use Rattle.std.proofs.Common.{◌≡◌, ℕ, ◌+◌, ◌<◌, ◌≤◌, Bool, true, false, cond, not, ◌&&◌, ◌||◌, eqb, ltb, List, [], ◌∷◌, Option, None, Some, refl, sym, ap, subst, ◌∙◌, arith}
+use Rattle.std.specs.Prelude.{unwrap_or}
+use Rattle.std.proofs.lemmas.Bool.{ne_eqb, eqb-true, eqb-false}
+use Rattle.circus_pair.specs.declared.progress.Progress.{Progress}
+use Rattle.circus_pair.specs.declared.inbox.Inbox.{Inbox}
+use Rattle.circus_pair.specs.declared.exchange.Exchange.{Exchange}
+use Rattle.circus_pair.specs.declared.taken.Arrived.{Arrived}
+use Rattle.circus_pair.specs.declared.taken.Arrived.TheVariants.{Nothing, ArrivedCall, ArrivedReturn}
+use Rattle.circus_pair.specs.Segment.{Piece, IsSegment, is_acknowledgement, spelling}
+use Rattle.circus_pair.specs.Inbox.{known, fits, completes, joined, data_with, is_new, count_with, is_owed, acknowledgement, added}
+use Rattle.circus_pair.specs.Exchange.{start, called, returned, takes, was_sent, let_go, lets_go, call_reached, return_reached, ended, return_added, after_taken, after, arrived_of_taken, arrived_after, ticked}
+use Rattle.circus_pair.specs.Taken.{is_of, total_in, count_in, has_arrived, message_in, IsTotal, MayFollow, AreTaken}
+use Rattle.circus_pair.specs.Acts.{Act, Call, Return, Came, Tick, Stop, Acts, none_yet, more, happens, end_after, with_taken, taken_by, IsAct, AreActs, arrival_by, acknowledged_by}
+use Rattle.circus_pair.proofs.Arrivals.{Keeps, told, keeps_nothing, keeps_other, keeps_more, completes_is, count_is, message_is}
+
+-- what the boxes of arriving messages hold
+pub record Stands (ts : List Piece) (e : Exchange) : Type 0 where
+  pub calls : Keeps 0 ts e.arriving_calls
+  pub returns : Keeps 1 ts e.arriving_returns
+  pub taken : AreTaken ts
+
+-- ---- what a segment leaves in the boxes
+
+let_go_calls : (e : Exchange) → (let_go e).arriving_calls ≡ e.arriving_calls
+unfolding let_go
+let_go_calls e = elim (lets_go e e.in_flight) as (λ b. (cond b (record e { sent = e.sent + 1; in_flight = e.in_flight + 1 }) e).arriving_calls ≡ e.arriving_calls) [ true ↦ refl | false ↦ refl ]
+
+let_go_returns : (e : Exchange) → (let_go e).arriving_returns ≡ e.arriving_returns
+unfolding let_go
+let_go_returns e = elim (lets_go e e.in_flight) as (λ b. (cond b (record e { sent = e.sent + 1; in_flight = e.in_flight + 1 }) e).arriving_returns ≡ e.arriving_returns) [ true ↦ refl | false ↦ refl ]
+
+pub record Boxes (e : Exchange) (calls returns : Inbox) : Type 0 where
+  pub calls_are : e.arriving_calls ≡ calls
+  pub returns_are : e.arriving_returns ≡ returns
+
+boxes_cond : (b : Bool) (x y : Exchange) (calls returns : Inbox) → (b ≡ true → Boxes x calls returns) → (b ≡ false → Boxes y calls returns) → Boxes (cond b x y) calls returns
+boxes_cond true x y calls returns f g = f refl
+boxes_cond false x y calls returns f g = g refl
+
+let_go_boxes : (e : Exchange) (calls returns : Inbox) → Boxes e calls returns → Boxes (let_go e) calls returns
+let_go_boxes e calls returns b = record { calls_are = let_go_calls e ∙ b.calls_are; returns_are = let_go_returns e ∙ b.returns_are }
+
+reached_boxes : (e : Exchange) (call count : ℕ) → Boxes (call_reached e call count) e.arriving_calls e.arriving_returns
+unfolding call_reached
+reached_boxes e call count = record { calls_are = refl; returns_are = refl }
+
+return_reached_boxes : (e : Exchange) (call count : ℕ) → Boxes (return_reached e call count) e.arriving_calls e.arriving_returns
+unfolding return_reached
+return_reached_boxes e call count = record { calls_are = refl; returns_are = refl }
+
+return_added_boxes : (e : Exchange) (s : Piece) → Boxes (return_added e s) e.arriving_calls (added e.arriving_returns s)
+unfolding return_added ended call_reached
+return_added_boxes e s = record { calls_are = refl; returns_are = refl }
+
+quiet : (e : Exchange) (calls returns : Inbox) → Boxes e calls returns → Boxes (record e { ticks = 0 }) calls returns
+quiet e calls returns b = record { calls_are = b.calls_are; returns_are = b.returns_are }
+
+true_false : (b : Bool) → b ≡ true → b ≡ false → ⊥
+true_false b t f = cc
+
+-- an acknowledgement changes neither box
+acknowledged_boxes : (e : Exchange) (s : Piece) → is_acknowledgement s ≡ true → Boxes (after_taken e s) e.arriving_calls e.arriving_returns
+unfolding after_taken
+acknowledged_boxes e s ack = quiet _ _ _ (boxes_cond (is_acknowledgement s) _ _ _ _
+    (λ yes_. boxes_cond (eqb s.kind 0) _ _ _ _ (λ call. let_go_boxes _ _ _ (reached_boxes e s.call s.number)) (λ return_. return_reached_boxes e s.call s.number))
+    (λ plain. absurd (true_false _ ack plain)))
+
+-- a segment of a call is added to the calls
+call_boxes : (e : Exchange) (s : Piece) → is_acknowledgement s ≡ false → eqb s.kind 0 ≡ true → Boxes (after_taken e s) (added e.arriving_calls s) e.arriving_returns
+unfolding after_taken
+call_boxes e s plain call = quiet _ _ _ (boxes_cond (is_acknowledgement s) _ _ _ _
+    (λ ack. absurd (true_false _ ack plain))
+    (λ same. boxes_cond (eqb s.kind 0) _ _ _ _ (λ yes_. record { calls_are = refl; returns_are = refl }) (λ other. absurd (true_false _ call other))))
+
+-- a segment of a return is added to the returns
+return_boxes : (e : Exchange) (s : Piece) → is_acknowledgement s ≡ false → eqb s.kind 0 ≡ false → Boxes (after_taken e s) e.arriving_calls (added e.arriving_returns s)
+unfolding after_taken
+return_boxes e s plain return_ = quiet _ _ _ (boxes_cond (is_acknowledgement s) _ _ _ _
+    (λ ack. absurd (true_false _ ack plain))
+    (λ same. boxes_cond (eqb s.kind 0) _ _ _ _ (λ call. absurd (true_false _ call return_)) (λ yes_. let_go_boxes _ _ _ (return_added_boxes e s))))
+
+-- ---- what may follow
+
+number_facts : (total number : ℕ) (full : Bool) → (eqb total 0 || (ltb 1025 total || (ltb total number || (eqb number 0 && full)))) ≡ false → (0 < total) × (number ≤ total) × (full ≡ true → 0 < number)
+number_facts total number full h = (grind arith, grind arith, λ yes_. grind arith)
+
+told_total : (o : Option ℕ) (c : ℕ → ℕ) (t : ℕ) → eqb (unwrap_or {T = Progress} (told o c) (record { total = t; count = 0 })).total t ≡ true → IsTotal o t
+told_total None c t h = tt
+told_total (Some x) c t h = eqb-true x t h
+
+fit_total : (kind : ℕ) (ts : List Piece) (s : Piece) (box : Inbox) → Keeps kind ts box → fits box s ≡ true → IsTotal (total_in ts kind s.call) s.total
+unfolding fits known
+fit_total kind ts s box keeps h =
+    told_total (total_in ts kind s.call) (count_in ts kind s.call) s.total
+    (subst (λ (o : Option Progress). eqb (unwrap_or {T = Progress} o (record { total = s.total; count = 0 })).total s.total ≡ true) (keeps.progress s.call) h)
+
+second : (a b : Bool) → (a && b) ≡ true → b ≡ true
+second true b h = h
+second false b h = absurd cc
+
+chosen_true : (b : Bool) (x y : Bool) → cond b x y ≡ true → b ≡ true → x ≡ true
+chosen_true true x y h e = h
+chosen_true false x y h e = absurd cc
+
+chosen_false : (b : Bool) (x y : Bool) → cond b x y ≡ true → b ≡ false → y ≡ true
+chosen_false true x y h e = absurd cc
+chosen_false false x y h e = h
+
+call_fits : (e : Exchange) (s : Piece) → takes e s ≡ true → is_acknowledgement s ≡ false → eqb s.kind 0 ≡ true → fits e.arriving_calls s ≡ true
+unfolding takes
+call_fits e s h plain call = chosen_true (eqb s.kind 0) _ _ (chosen_false (is_acknowledgement s) _ _ (second (eqb s.format e.format) _ h) plain) call
+
+return_fits : (e : Exchange) (s : Piece) → takes e s ≡ true → is_acknowledgement s ≡ false → eqb s.kind 0 ≡ false → fits e.arriving_returns s ≡ true
+unfolding takes
+return_fits e s h plain return_ = second (was_sent e s.call) _ (chosen_false (eqb s.kind 0) _ _ (chosen_false (is_acknowledgement s) _ _ (second (eqb s.format e.format) _ h) plain) return_)
+
+kind_call : (s : Piece) → eqb s.kind 0 ≡ true → 0 ≡ s.kind
+kind_call s h = sym (eqb-true s.kind 0 h)
+
+kind_return : (s : Piece) → IsSegment s → eqb s.kind 0 ≡ false → 1 ≡ s.kind
+kind_return s segment h = (let le : s.kind ≤ 1 = segment.kind in let ne : s.kind ≡ 0 → ⊥ = eqb-false s.kind 0 h in omega arith)
+
+-- what an end takes may follow what it took
+pub may_follow : (ts : List Piece) (e : Exchange) (s : Piece) → Stands ts e → IsSegment s → takes e s ≡ true → MayFollow ts s
+may_follow ts e s stands segment h =
+    let facts = number_facts s.total s.number _ segment.numbered in
+    record {
+      total = λ plain_. (
+          let plain : is_acknowledgement s ≡ false = turned (is_acknowledgement s) plain_ in
+          elim (eqb s.kind 0) as (λ b. eqb s.kind 0 ≡ b → IsTotal (total_in ts s.kind s.call) s.total) [
+            | true ↦ λ call. subst (λ k. IsTotal (total_in ts k s.call) s.total) (kind_call s call) (fit_total 0 ts s e.arriving_calls stands.calls (call_fits e s h plain call))
+            | false ↦ λ return_. subst (λ k. IsTotal (total_in ts k s.call) s.total) (kind_return s segment return_) (fit_total 1 ts s e.arriving_returns stands.returns (return_fits e s h plain return_))
+          ] refl);
+      some = facts.0;
+      within = facts.1;
+      numbered = facts.2;
+    }
+  where
+    turned : (b : Bool) → not b ≡ true → b ≡ false
+    turned true k = absurd cc
+    turned false k = refl
+
+-- ---- one act more
+
+other_kind : (s : Piece) (kind : ℕ) → (s.kind ≡ kind → ⊥) → (call : ℕ) → is_of kind call s ≡ false
+other_kind s kind differ call = ap (λ b. b && (eqb s.call call && not (is_acknowledgement s))) (ne_eqb s.kind kind differ)
+
+no_part : (a b : Bool) → (a && (b && false)) ≡ false
+no_part true true = refl
+no_part true false = refl
+no_part false b = refl
+
+acknowledges : (s : Piece) (kind : ℕ) → is_acknowledgement s ≡ true → (call : ℕ) → is_of kind call s ≡ false
+acknowledges s kind ack call = ap (λ b. eqb s.kind kind && (eqb s.call call && not b)) ack ∙ no_part (eqb s.kind kind) (eqb s.call call)
+
+kept : (kind : ℕ) (ts : List Piece) (a b : Inbox) → a ≡ b → Keeps kind ts b → Keeps kind ts a
+kept kind ts a b same keeps = subst (λ x. Keeps kind ts x) (sym same) keeps
+
+stands_taken : (ts : List Piece) (e : Exchange) (s : Piece) → Stands ts e → IsSegment s → takes e s ≡ true → Stands (s ∷ ts) (after_taken e s)
+stands_taken ts e s stands segment h =
+    let may = may_follow ts e s stands segment h in
+    elim (is_acknowledgement s) as (λ b. is_acknowledgement s ≡ b → Stands (s ∷ ts) (after_taken e s)) [
+      | true ↦ λ ack. (let boxes = acknowledged_boxes e s ack in record {
+        calls = kept 0 (s ∷ ts) _ _ boxes.calls_are (keeps_other s ts 0 e.arriving_calls (acknowledges s 0 ack) stands.calls);
+        returns = kept 1 (s ∷ ts) _ _ boxes.returns_are (keeps_other s ts 1 e.arriving_returns (acknowledges s 1 ack) stands.returns);
+        taken = (may, stands.taken);
+      })
+      | false ↦ λ plain. elim (eqb s.kind 0) as (λ b. eqb s.kind 0 ≡ b → Stands (s ∷ ts) (after_taken e s)) [
+        | true ↦ λ call. (let boxes = call_boxes e s plain call in let zero_ : 0 ≡ s.kind = kind_call s call in record {
+          calls = kept 0 (s ∷ ts) _ _ boxes.calls_are (subst (λ k. Keeps k (s ∷ ts) (added e.arriving_calls s)) (sym zero_) (keeps_more s ts e.arriving_calls (subst (λ k. Keeps k ts e.arriving_calls) zero_ stands.calls) stands.taken may plain));
+          returns = kept 1 (s ∷ ts) _ _ boxes.returns_are (keeps_other s ts 1 e.arriving_returns (other_kind s 1 (λ one. absurd (omega arith))) stands.returns);
+          taken = (may, stands.taken);
+        })
+        | false ↦ λ return_. (let boxes = return_boxes e s plain return_ in let one : 1 ≡ s.kind = kind_return s segment return_ in record {
+          calls = kept 0 (s ∷ ts) _ _ boxes.calls_are (keeps_other s ts 0 e.arriving_calls (other_kind s 0 (λ zero_. absurd (omega arith))) stands.calls);
+          returns = kept 1 (s ∷ ts) _ _ boxes.returns_are (subst (λ k. Keeps k (s ∷ ts) (added e.arriving_returns s)) (sym one) (keeps_more s ts e.arriving_returns (subst (λ k. Keeps k ts e.arriving_returns) one stands.returns) stands.taken may plain));
+          taken = (may, stands.taken);
+        })
+      ] refl
+    ] refl
+
+stands_came : (ts : List Piece) (e : Exchange) (s : Piece) → Stands ts e → IsSegment s → Stands (cond (takes e s) (s ∷ ts) ts) (after e s)
+stands_came ts e s stands segment =
+    elim (takes e s) as (λ b. takes e s ≡ b → Stands (cond b (s ∷ ts) ts) (cond b (after_taken e s) e)) [
+      | true ↦ λ h. stands_taken ts e s stands segment h
+      | false ↦ λ h. stands
+    ] refl
+
+same_boxes : (ts : List Piece) (e f : Exchange) → f.arriving_calls ≡ e.arriving_calls → f.arriving_returns ≡ e.arriving_returns → Stands ts e → Stands ts f
+same_boxes ts e f calls returns stands = record {
+  calls = kept 0 ts f.arriving_calls e.arriving_calls calls stands.calls;
+  returns = kept 1 ts f.arriving_returns e.arriving_returns returns stands.returns;
+  taken = stands.taken;
+}
+
+stands_act : (ts : List Piece) (e : Exchange) (act : Act) → Stands ts e → IsAct act → Stands (with_taken e act ts) (happens e act)
+unfolding called returned ticked
+stands_act ts e (Came s) stands is = stands_came ts e s stands is
+stands_act ts e (Call message) stands is = same_boxes ts e _ refl refl stands
+stands_act ts e (Return call message) stands is = same_boxes ts e _ refl refl stands
+stands_act ts e Tick stands is = same_boxes ts e _ refl refl stands
+stands_act ts e Stop stands is = same_boxes ts e _ refl refl stands
+
+-- after every list of acts
+pub stands_after : (local remote number format : ℕ) (acts : Acts) → AreActs acts → Stands (taken_by (start local remote number format) acts) (end_after (start local remote number format) acts)
+stands_after local remote number format none_yet are = record { calls = keeps_nothing 0 _ refl refl; returns = keeps_nothing 1 _ refl refl; taken = tt }
+stands_after local remote number format (more acts act) are =
+    stands_act (taken_by (start local remote number format) acts) (end_after (start local remote number format) acts) act (stands_after local remote number format acts are.0) are.1
+
+-- ---- what arrives
+
+completed_new : (box : Inbox) (s : Piece) → completes box s ≡ true → is_new box s ≡ true
+unfolding completes
+completed_new box s h = first (is_new box s) _ h
+  where
+    first : (a b : Bool) → (a && b) ≡ true → a ≡ true
+    first true b k = refl
+    first false b k = absurd cc
+
+arrived_in : (s : Piece) (ts : List Piece) (box : Inbox) (message : List ℕ → Arrived) → Keeps s.kind ts box → MayFollow ts s → is_acknowledgement s ≡ false → cond (completes box s) (message (joined (data_with box s) s.total)) Nothing ≡ cond (has_arrived (s ∷ ts) s.kind s.call && not (has_arrived ts s.kind s.call)) (message (message_in (s ∷ ts) s.kind s.call s.total)) Nothing
+arrived_in s ts box message keeps may plain =
+    elim (completes box s) as (λ b. completes box s ≡ b → cond b (message (joined (data_with box s) s.total)) Nothing ≡ cond b (message (message_in (s ∷ ts) s.kind s.call s.total)) Nothing) [
+      | true ↦ λ h. ap message (message_is s ts box keeps may plain (completed_new box s h))
+      | false ↦ λ h. refl
+    ] refl
+    ∙ ap (λ b. cond b (message (message_in (s ∷ ts) s.kind s.call s.total)) Nothing) (completes_is s ts box keeps may plain)
+
+-- what arrives by a segment is what the segments say that were taken
+pub arrival_is : (ts : List Piece) (e : Exchange) (s : Piece) → Stands ts e → IsSegment s → takes e s ≡ true → arrived_after e s ≡ arrival_by ts s
+unfolding arrived_of_taken
+arrival_is ts e s stands segment h =
+    let may = may_follow ts e s stands segment h in
+    ap (λ b. cond (b && not (is_acknowledgement s)) (arrived_of_taken e s) Nothing) h
+    ∙ elim (is_acknowledgement s) as (λ b. is_acknowledgement s ≡ b → cond (not b) (arrived_of_taken e s) Nothing ≡ cond (not b && (has_arrived (s ∷ ts) s.kind s.call && not (has_arrived ts s.kind s.call))) (cond (eqb s.kind 0) (ArrivedCall s.call (message_in (s ∷ ts) s.kind s.call s.total)) (ArrivedReturn s.call (message_in (s ∷ ts) s.kind s.call s.total))) Nothing) [
+      | true ↦ λ ack. refl
+      | false ↦ λ plain. elim (eqb s.kind 0) as (λ b. eqb s.kind 0 ≡ b → cond b (cond (completes e.arriving_calls s) (ArrivedCall s.call (joined (data_with e.arriving_calls s) s.total)) Nothing) (cond (completes e.arriving_returns s) (ArrivedReturn s.call (joined (data_with e.arriving_returns s) s.total)) Nothing) ≡ cond (has_arrived (s ∷ ts) s.kind s.call && not (has_arrived ts s.kind s.call)) (cond b (ArrivedCall s.call (message_in (s ∷ ts) s.kind s.call s.total)) (ArrivedReturn s.call (message_in (s ∷ ts) s.kind s.call s.total))) Nothing) [
+        | true ↦ λ call. arrived_in s ts e.arriving_calls (λ m. ArrivedCall s.call m) (subst (λ k. Keeps k ts e.arriving_calls) (kind_call s call) stands.calls) may plain
+        | false ↦ λ return_. arrived_in s ts e.arriving_returns (λ m. ArrivedReturn s.call m) (subst (λ k. Keeps k ts e.arriving_returns) (kind_return s segment return_) stands.returns) may plain
+      ] refl
+    ] refl
+
+-- the acknowledgement of a segment by what the segments say that were taken
+pub acknowledged_is : (s : Piece) (ts : List Piece) (box : Inbox) (is_down : Bool) → Keeps s.kind ts box → MayFollow ts s → is_acknowledgement s ≡ false → acknowledgement is_down box s ≡ acknowledged_by is_down ts s
+unfolding acknowledgement is_owed
+acknowledged_is s ts box is_down keeps may plain =
+    let answer_of : ℕ → List (List ℕ) = λ n. spelling (record { format = s.format; kind = s.kind; control = 1; total = s.total; number = n; call = s.call; part = [] }) ∷ [] in
+    ap (λ b. cond (not is_down && (eqb s.control 2 || (b || ltb (count_with box s) s.number))) (answer_of (count_with box s)) []) (completes_is s ts box keeps may plain)
+    ∙ ap (λ n. cond (not is_down && (eqb s.control 2 || ((has_arrived (s ∷ ts) s.kind s.call && not (has_arrived ts s.kind s.call)) || ltb n s.number))) (answer_of n) []) (count_is s ts box keeps may plain)
+
+pub call_acknowledged : (ts : List Piece) (e : Exchange) (s : Piece) → Stands ts e → IsSegment s → takes e s ≡ true → is_acknowledgement s ≡ false → s.kind ≡ 0 → acknowledgement e.stopped e.arriving_calls s ≡ acknowledged_by e.stopped ts s
+call_acknowledged ts e s stands segment h plain call =
+    acknowledged_is s ts e.arriving_calls e.stopped (subst (λ k. Keeps k ts e.arriving_calls) (sym call) stands.calls) (may_follow ts e s stands segment h) plain
+
+pub return_acknowledged : (ts : List Piece) (e : Exchange) (s : Piece) → Stands ts e → IsSegment s → takes e s ≡ true → is_acknowledgement s ≡ false → s.kind ≡ 1 → acknowledgement e.stopped e.arriving_returns s ≡ acknowledged_by e.stopped ts s
+return_acknowledged ts e s stands segment h plain return_ =
+    acknowledged_is s ts e.arriving_returns e.stopped (subst (λ k. Keeps k ts e.arriving_returns) (sym return_) stands.returns) (may_follow ts e s stands segment h) plain

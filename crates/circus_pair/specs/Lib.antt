@@ -1,0 +1,11 @@
+pub mod Acts
+pub mod Cut
+pub mod Exchange
+pub mod Fresh
+pub mod Handed
+pub mod Inbox
+pub mod Outbox
+pub mod Outgoing
+pub mod Place
+pub mod Segment
+pub mod Taken
