@@ -1,0 +1,42 @@
+-- What was fetched and asked for, file by file.
+use Rattle.std.proofs.Common.{◌≡◌, ℕ, Option, Some, None, List, [], ◌∷◌, ap, ◌∙◌}
+use Rattle.std.specs.Prelude.{IfSome}
+use Rattle.circus_outside.specs.Told.{told_more}
+use Rattle.circus_program.specs.Answer.{Due, IsDueOfReplay, AreFetchedOf, AsksFirstOf}
+use Rattle.circus_program.specs.Step.{IsDueBehind, IsStepBehind, IsStepOfReplay}
+use Rattle.circus_program.proofs.ToldLemmas.{told_more-twice}
+
+-- nothing was fetched
+pub fetched-none : (shelf : Option (List ℕ → Option (List ℕ))) (names : List (List ℕ)) → AreFetchedOf shelf names []
+fetched-none None names = tt
+fetched-none (Some contents) names = tt
+
+-- one file was fetched before the others
+pub fetched-more : (shelf : Option (List ℕ → Option (List ℕ))) (name bytes : List ℕ) (names files : List (List ℕ)) → IfSome shelf (λ told. told name ≡ Some bytes) → AreFetchedOf shelf names files → AreFetchedOf shelf (name ∷ names) (bytes ∷ files)
+fetched-more None name bytes names files e h = tt
+fetched-more (Some contents) name bytes names files e h = (e, h)
+
+-- what is due behind the program is due of the replay
+behind-replay : (program bytes schedule : List ℕ) (due : Due) (files : List (List ℕ)) → IsDueBehind bytes schedule files due → IsDueOfReplay program schedule (bytes ∷ files) due
+behind-replay program bytes schedule due [] h = h
+behind-replay program bytes schedule due (more ∷ []) h = h
+behind-replay program bytes schedule due (_ ∷ _ ∷ _) h = h
+
+-- a step behind the fetched program is one of the replay
+pub step-of_replay : (shelf : Option (List ℕ → Option (List ℕ))) (program bytes schedule : List ℕ) (due : Due) → IfSome shelf (λ told. told program ≡ Some bytes) → IsStepBehind shelf bytes schedule due → IsStepOfReplay shelf program schedule due
+step-of_replay shelf program bytes schedule due told h =
+    record {
+      files = bytes ∷ h.files;
+      fetched = fetched-more shelf program bytes (schedule ∷ []) h.files told h.fetched;
+      is_due = behind-replay program bytes schedule due h.files h.is_due;
+    }
+
+-- the name that was asked for first, and then others
+pub asks-more : (old middle new : Option (List (List ℕ))) (name : List ℕ) (names : List (List ℕ)) → middle ≡ told_more old (name ∷ []) → AsksFirstOf middle new names → AsksFirstOf old new (name ∷ names)
+asks-more old middle new name names e h =
+    record {
+      asked = name ∷ h.asked;
+      rest = h.rest;
+      whole = ap (λ l. name ∷ l) h.whole;
+      noted = h.noted ∙ ap (λ told. told_more told h.asked) e ∙ told_more-twice old (name ∷ []) h.asked;
+    }

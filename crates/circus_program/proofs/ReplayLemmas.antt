@@ -1,0 +1,63 @@
+-- A replay, line by line.
+use Rattle.std.proofs.Common.{◌≡◌, ℕ, ◌+◌, ◌<◌, ◌≤◌, Some, None, List, [], ◌∷◌, ◌++◌, length, get_or, drop, append_assoc, refl, ap, sym, ◌∙◌, add-one, drop-cons, arith, Bool, true, false}
+use Rattle.std.specs.Prelude.{cond, slice_get, ◌&&◌, is_none}
+use Rattle.std.proofs.lemmas.Grind.{common_steps}
+use Rattle.circus_world.specs.declared.line.Line.{Line}
+use Rattle.circus_world.specs.declared.line.Line.TheVariants.{Deliver}
+use Rattle.circus_world.specs.WorldView.{WorldView}
+use Rattle.circus_world.specs.Datagram.{is_piece}
+use Rattle.circus_world.specs.Course.{IsLegal, stepped, taken, next_step, performed_now, answered_now}
+use Rattle.circus_world.specs.declared.line.Cause.{Cause}
+use Rattle.circus_world.specs.Refusal.{IsRefusal}
+use Rattle.circus_world.specs.declared.world.WorldFault.TheVariants.{Illegal}
+use Rattle.circus_program.specs.Report.{Names, Member, member_lines, members_lines}
+use Rattle.circus_program.specs.Replay.{Ending, replayed, refused, refusal_text, is_legal}
+
+-- what the test says of a legal line
+is_legal-legal : (w : WorldView) (line : Line) → IsLegal w line → is_legal w line ≡ true
+is_legal-legal w (Deliver number) legal = grind (arith, common_steps)
+
+-- and of another
+is_legal-refused : (w : WorldView) (line : Line) → (IsLegal w line → ⊥) → is_legal w line ≡ false
+is_legal-refused w (Deliver number) refused = grind (arith, common_steps)
+
+-- a legal line is stepped, and the replay goes on
+pub replayed-legal : (number : ℕ) (w : WorldView) (line : Line) (lines : List Line) → IsLegal w line → replayed number w (line ∷ lines) ≡ replayed (number + 1) (stepped w line) lines
+replayed-legal number w line lines legal =
+    ap (λ b. cond b (replayed (number + 1) (stepped w line) lines) (refused number w line)) (is_legal-legal w line legal)
+
+-- another line ends the replay
+pub replayed-refused : (number : ℕ) (w : WorldView) (line : Line) (lines : List Line) → (IsLegal w line → ⊥) → replayed number w (line ∷ lines) ≡ refused number w line
+replayed-refused number w line lines not_legal =
+    ap (λ b. cond b (replayed (number + 1) (stepped w line) lines) (refused number w line)) (is_legal-refused w line not_legal)
+
+-- handling a datagram counts no step
+handled-steps : (a b : Bool) (w : WorldView) → (cond a (performed_now w) (cond b (answered_now w) w)).steps ≡ w.steps
+handled-steps true b w = refl
+handled-steps false true w = refl
+handled-steps false false w = refl
+
+-- a line counts at most one step
+pub stepped-steps : (w : WorldView) (line : Line) → (stepped w line).steps ≤ w.steps + 1
+stepped-steps w (Deliver number) =
+    elim (slice_get w.sent number) as (λ s. (taken w s).steps ≤ w.steps + 1) [
+      | None ↦ omega arith
+      | Some sent ↦ omega (arith, handled-steps (is_piece 0 sent.bytes && is_none w.performed) (is_piece 1 sent.bytes && is_none w.answered) (next_step w))
+    ]
+
+-- the replay of a line that is refused ends with the refusal of what is handed back
+pub replayed-refusal : (number : ℕ) (w world : WorldView) (lines : List Line) (cause : Cause) (end whole : Ending) (i : ℕ) (other : Line) → i < length lines → IsRefusal w (get_or lines i other) (Illegal world cause) → replayed number w (drop i lines) ≡ whole → end ≡ record { status = 3; text = refusal_text number world cause } → end ≡ whole
+replayed-refusal number w world lines cause end whole i other within refusal so_far ended =
+    let here : drop i lines ≡ get_or lines i other ∷ drop (i + 1) lines = rw add-one (drop-cons lines i other within) in
+    let P : WorldView → Cause → Ending = λ v c. record { status = 3; text = refusal_text number v c } in
+    ended ∙ ap (λ v. P v cause) refusal.1 ∙ ap (P w) refusal.2
+    ∙ sym (replayed-refused number w (get_or lines i other) (drop (i + 1) lines) refusal.0)
+    ∙ ap (replayed number w) (sym here)
+    ∙ so_far
+
+-- the members of two lists
+pub members_lines-append : (names : Names) (ms others : List Member) → members_lines names (ms ++ others) ≡ members_lines names ms ++ members_lines names others
+members_lines-append names [] others = refl
+members_lines-append names (m ∷ ms) others =
+    ap (λ l. member_lines names m ++ l) (members_lines-append names ms others)
+    ∙ sym (append_assoc (member_lines names m) (members_lines names ms) (members_lines names others))

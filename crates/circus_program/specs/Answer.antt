@@ -1,0 +1,152 @@
+-- What the top call answers.
+use Rattle.std.specs.Prelude.{ℕ, ◌≡◌, ◌⊎◌, Bool, ◌||◌, ◌==◌, Option, Some, List, [], ◌∷◌, ◌++◌, codes, IfSome}
+use Rattle.circus_outside.specs.Told.{told_more}
+use Rattle.circus_world.specs.declared.line.Line.{Line}
+use Rattle.circus_world.specs.Course.{booted}
+use Rattle.circus_program.specs.Form.{Form, stubs, run, replay, node, sample, settle, place, audit, IsOfForm, IsOfNoForm, files_of}
+use Rattle.circus_program.specs.Thin.{IsThinProgram, IsThinSchedule}
+use Rattle.circus_program.specs.Replay.{Ending, replayed}
+use Rattle.circus_program.specs.Report.{line}
+
+-- what is due next: the contents of a file, or the end
+pub data Due : Type 0 where
+  fetch : List ℕ → Due
+  finish : Ending → Due
+
+-- the words are of no form
+abbrev pub bad_command_line : Due
+bad_command_line = finish (record { status = 1; text = line (codes "circus: bad command line") })
+
+-- what is asked for is not built
+abbrev pub not_built : Due
+not_built = finish (record { status = 9; text = line (codes "not built") })
+
+-- what is due once a replay's program is fetched
+abbrev pub IsDueOfProgram : List ℕ → List ℕ → Due → Type 0
+IsDueOfProgram schedule program due =
+    ((number : ℕ) × IsThinProgram program number × (due ≡ fetch schedule))
+    ⊎ (((number : ℕ) → IsThinProgram program number → ⊥) × (due ≡ not_built))
+
+-- what is due once its schedule is fetched too
+abbrev pub IsDueOfSchedule : ℕ → List ℕ → Due → Type 0
+IsDueOfSchedule number schedule due =
+    ((lines : List Line) × IsThinSchedule schedule lines × (due ≡ finish (replayed 1 (booted number) lines)))
+    ⊎ (((lines : List Line) → IsThinSchedule schedule lines → ⊥) × (due ≡ not_built))
+
+-- what is due of a replay, whose files so far are these
+abbrev pub IsDueOfReplay : List ℕ → List ℕ → List (List ℕ) → Due → Type 0
+IsDueOfReplay program schedule [] due = due ≡ fetch program
+IsDueOfReplay program schedule (bytes ∷ []) due = IsDueOfProgram schedule bytes due
+IsDueOfReplay program schedule (bytes ∷ more ∷ []) due =
+    (number : ℕ) × IsThinProgram bytes number × IsDueOfSchedule number more due
+IsDueOfReplay program schedule (_ ∷ _ ∷ _ ∷ _) due = ⊥
+
+-- what is due of a form that is not built, before any file is fetched
+abbrev pub IsDueUnbuilt : List (List ℕ) → Due → Type 0
+IsDueUnbuilt [] due = due ≡ not_built
+IsDueUnbuilt (_ ∷ _) due = ⊥
+
+-- what is due of a form, once these of its files are fetched, in order
+abbrev pub IsDueOfForm : Form → List (List ℕ) → Due → Type 0
+IsDueOfForm (replay program schedule) files due = IsDueOfReplay program schedule files due
+IsDueOfForm (stubs _) files due = IsDueUnbuilt files due
+IsDueOfForm (run _) files due = IsDueUnbuilt files due
+IsDueOfForm (node _ _ _) files due = IsDueUnbuilt files due
+IsDueOfForm (sample _ _ _) files due = IsDueUnbuilt files due
+IsDueOfForm (settle _ _) files due = IsDueUnbuilt files due
+IsDueOfForm (place _) files due = IsDueUnbuilt files due
+IsDueOfForm (audit _ _) files due = IsDueUnbuilt files due
+
+-- the files are those that the shelf has under the first of the names
+abbrev pub AreContents : (List ℕ → Option (List ℕ)) → List (List ℕ) → List (List ℕ) → Type 0
+AreContents contents names [] = Unit {0}
+AreContents contents [] (_ ∷ _) = ⊥
+AreContents contents (name ∷ names) (file ∷ files) = (contents name ≡ Some file) × AreContents contents names files
+
+-- where the shelf tells, the files are what it has under the first of the names
+abbrev pub AreFetchedOf : Option (List ℕ → Option (List ℕ)) → List (List ℕ) → List (List ℕ) → Type 0
+AreFetchedOf shelf names files = IfSome shelf (λ contents. AreContents contents names files)
+
+-- a form that the words have, and what is due of it once some of its files are fetched
+pub record IsDueOfSome (shelf : Option (List ℕ → Option (List ℕ))) (words : List (List ℕ)) (due : Due) : Type 0 where
+  pub form : Form
+  pub of_form : IsOfForm words form
+  pub files : List (List ℕ)
+  pub fetched : AreFetchedOf shelf (files_of form) files
+  pub is_due : IsDueOfForm form files due
+
+-- what is due of words, over a shelf that tells its contents or doesn't
+abbrev pub IsDue : Option (List ℕ → Option (List ℕ)) → List (List ℕ) → Due → Type 0
+IsDue shelf words due = IsDueOfSome shelf words due ⊎ (IsOfNoForm words × (due ≡ bad_command_line))
+
+-- the call came to the end that is due, with this status
+abbrev pub Finishes : Option (List ℕ → Option (List ℕ)) → List (List ℕ) → ℕ → List ℕ → Type 0
+Finishes shelf words status text = IsDue shelf words (finish (record { status = status; text = text }))
+
+-- the call came to a fetch that failed, of this name
+abbrev pub Lacks : Option (List ℕ → Option (List ℕ)) → List (List ℕ) → List ℕ → Type 0
+Lacks shelf words name = IsDue shelf words (fetch name)
+
+-- what is written of a fetch that failed
+abbrev pub shelf_fault : List ℕ → List ℕ
+shelf_fault name = line (codes "shelf fault: " ++ name)
+
+-- the text is one that is due in full: of an end, or of a fetch that failed
+abbrev pub IsText : Option (List ℕ → Option (List ℕ)) → List (List ℕ) → List ℕ → Type 0
+IsText shelf words text =
+    ((status : ℕ) × Finishes shelf words status text)
+    ⊎ ((name : List ℕ) × Lacks shelf words name × (text ≡ shelf_fault name))
+
+-- this was written at the end of what the sink has
+abbrev pub Writes : Option (List ℕ) → Option (List ℕ) → List ℕ → Type 0
+Writes old new text = new ≡ told_more old text
+
+-- a part of the text from its beginning was written
+pub record WritesPart (old new : Option (List ℕ)) (text : List ℕ) : Type 0 where
+  pub part : List ℕ
+  pub rest : List ℕ
+  pub whole : text ≡ part ++ rest
+  pub written : Writes old new part
+
+-- a part of a text that is due was written, or nothing
+abbrev pub WritesPartOfText : Option (List ℕ → Option (List ℕ)) → List (List ℕ) → Option (List ℕ) → Option (List ℕ) → Type 0
+WritesPartOfText shelf words old new =
+    ((text : List ℕ) × IsText shelf words text × WritesPart old new text) ⊎ (new ≡ old)
+
+-- the text of the end that is due with this status was written
+abbrev pub WritesEnd : Option (List ℕ → Option (List ℕ)) → List (List ℕ) → Option (List ℕ) → Option (List ℕ) → ℕ → Type 0
+WritesEnd shelf words old new status = (text : List ℕ) × Finishes shelf words status text × Writes old new text
+
+-- where the shelf tells, the name was asked for last
+abbrev pub WasLast : Option (List (List ℕ)) → List ℕ → Type 0
+WasLast asked name = IfSome asked (λ names. (before : List (List ℕ)) × (names ≡ before ++ name ∷ []))
+
+-- the name of the file that was due, and was asked for last, was written
+abbrev pub WritesLack : Option (List ℕ → Option (List ℕ)) → List (List ℕ) → Option (List (List ℕ)) → Option (List ℕ) → Option (List ℕ) → Type 0
+WritesLack shelf words fetched old new =
+    (name : List ℕ) × Lacks shelf words name × WasLast fetched name × Writes old new (shelf_fault name)
+
+-- the names asked for in the call are the first of these
+pub record AsksFirstOf (old new : Option (List (List ℕ))) (names : List (List ℕ)) : Type 0 where
+  pub asked : List (List ℕ)
+  pub rest : List (List ℕ)
+  pub whole : names ≡ asked ++ rest
+  pub noted : new ≡ told_more old asked
+
+-- a form that the words have, of whose files the first were asked for
+pub record AsksOfForm (old new : Option (List (List ℕ))) (words : List (List ℕ)) : Type 0 where
+  pub form : Form
+  pub of_form : IsOfForm words form
+  pub asks : AsksFirstOf old new (files_of form)
+
+-- the names asked for in the call are the first of those that the words give, and none where they are of no form
+abbrev pub AsksOnly : Option (List (List ℕ)) → Option (List (List ℕ)) → List (List ℕ) → Type 0
+AsksOnly old new words = AsksOfForm old new words ⊎ (IsOfNoForm words × (new ≡ old))
+
+-- a status with which a call comes to an end that is due
+abbrev pub is_end : ℕ → Bool
+is_end n = (n == 0) || (n == 1) || (n == 3) || (n == 9)
+
+-- a status of this call
+abbrev pub is_status : ℕ → Bool
+is_status n = (n == 0) || (n == 1) || (n == 3) || (n == 4) || (n == 5) || (n == 7) || (n == 9)

@@ -1,0 +1,64 @@
+-- The forms of a command line, and the words that spell each.
+use Rattle.std.specs.Prelude.{ℕ, ◌≡◌, ◌≢◌, ◌<◌, ◌≤◌, ◌^◌, List, [], ◌∷◌, codes}
+use Rattle.std.specs.Fmt.{decimal}
+
+-- the words of a command line; files and names are byte lists
+pub data Form : Type 0 where
+  -- program
+  stubs : List ℕ → Form
+  -- program
+  run : List ℕ → Form
+  -- program, schedule
+  replay : List ℕ → List ℕ → Form
+  -- program, node's name, takes
+  node : List ℕ → List ℕ → ℕ → Form
+  -- program, seed, steps
+  sample : List ℕ → ℕ → ℕ → Form
+  -- program, deliveries
+  settle : List ℕ → ℕ → Form
+  -- placing
+  place : List ℕ → Form
+  -- program, record
+  audit : List ℕ → List ℕ → Form
+
+-- what is written on the command line
+abbrev pub words_of : Form → List (List ℕ)
+words_of (stubs program) = codes "stubs" ∷ program ∷ []
+words_of (run program) = codes "run" ∷ program ∷ []
+words_of (replay program schedule) = codes "replay" ∷ program ∷ schedule ∷ []
+words_of (node program name turns) = codes "node" ∷ program ∷ name ∷ decimal turns ∷ []
+words_of (sample program seed steps) = codes "sample" ∷ program ∷ decimal seed ∷ decimal steps ∷ []
+words_of (settle program deliveries) = codes "settle" ∷ program ∷ decimal deliveries ∷ []
+words_of (place placing) = codes "place" ∷ placing ∷ []
+words_of (audit program «record») = codes "audit" ∷ program ∷ «record» ∷ []
+
+-- files have names, and numbers are in their ranges
+abbrev pub IsInRange : Form → Type 0
+IsInRange (stubs program) = program ≢ []
+IsInRange (run program) = program ≢ []
+IsInRange (replay program schedule) = (program ≢ []) × (schedule ≢ [])
+IsInRange (node program name turns) = (program ≢ []) × (turns ≤ 100000)
+IsInRange (sample program seed steps) = (program ≢ []) × (seed < 2 ^ 64) × (steps ≤ 200000)
+IsInRange (settle program deliveries) = (program ≢ []) × (deliveries ≤ 1000000)
+IsInRange (place placing) = placing ≢ []
+IsInRange (audit program «record») = (program ≢ []) × («record» ≢ [])
+
+-- the words are of this form
+pub record IsOfForm (words : List (List ℕ)) (form : Form) : Type 0 where
+  pub spelled : words ≡ words_of form
+  pub in_range : IsInRange form
+
+-- the words are of no form
+abbrev pub IsOfNoForm : List (List ℕ) → Type 0
+IsOfNoForm words = (form : Form) → IsOfForm words form → ⊥
+
+-- the files that a form names, in the order in which they are fetched
+abbrev pub files_of : Form → List (List ℕ)
+files_of (stubs program) = program ∷ []
+files_of (run program) = program ∷ []
+files_of (replay program schedule) = program ∷ schedule ∷ []
+files_of (node program name turns) = program ∷ []
+files_of (sample program seed steps) = program ∷ []
+files_of (settle program deliveries) = program ∷ []
+files_of (place placing) = placing ∷ []
+files_of (audit program «record») = program ∷ «record» ∷ []

@@ -1,0 +1,10 @@
+pub mod Answer
+pub mod Form
+pub mod Names
+pub mod Replay
+pub mod Report
+pub mod Thin
+pub mod Words
+pub mod Ending
+pub mod Step
+pub mod Put

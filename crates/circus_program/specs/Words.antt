@@ -1,0 +1,16 @@
+-- What the code's form says, as plain data.
+use Rattle.circus_program.specs.Form.{Form}
+use Rattle.circus_program.specs.Form as plain
+use Rattle.circus_program.specs.declared.words.Form as coded
+use Rattle.circus_program.specs.declared.words.Form.TheVariants.{Stubs, Run, Replay, Node, Sample, Settle, Place, Audit}
+
+-- the files and the name by their bytes
+abbrev pub form_of : coded.Form → Form
+form_of (Stubs program) = plain.stubs program.now
+form_of (Run program) = plain.run program.now
+form_of (Replay program schedule) = plain.replay program.now schedule.now
+form_of (Node program name turns) = plain.node program.now name.now turns
+form_of (Sample program seed steps) = plain.sample program.now seed steps
+form_of (Settle program deliveries) = plain.settle program.now deliveries
+form_of (Place placing) = plain.place placing.now
+form_of (Audit program «record») = plain.audit program.now «record».now

@@ -1,0 +1,136 @@
+// What the words ask for, and what comes of it.
+ghost use Rattle.std.specs.Prelude.{◌≡◌, ◌∷◌, [], map, string_bytes, IsTrue, IfOk, IfSome, IfNone};
+ghost use Rattle.circus_program.specs.Form.{replay};
+ghost use Rattle.circus_program.specs.Words.{form_of};
+ghost use Rattle.circus_program.specs.Answer.{IsDue, IsDueOfForm, IsDueOfSchedule, AsksOnly, AsksFirstOf, finish, not_built, is_end};
+ghost use Rattle.circus_program.specs.Ending.{ending_of};
+
+use crate::replay::{Ending, replay_lines};
+use crate::thin::{read_thin_program, read_thin_schedule};
+use crate::words::{Form, read_words};
+use circus_outside::{Shelf, ShelfFault};
+use circus_value::NoMemory;
+use std::alloc::{AllocError, Global};
+
+const BAD_COMMAND_LINE: u8 = 1;
+
+const NOT_BUILT: u8 = 9;
+
+/// What a command comes to: its end, or a file that the shelf doesn't give.
+#[derive(Drop)]
+pub enum Step<'a> {
+    Finish(Ending),
+    Lack(&'a str),
+}
+
+ghost use Rattle.circus_program.specs.Step.{due_of, HasEndStatus, IsLackNoted, IsStepBehind, IsStepOfReplay};
+
+/// An end whose text is this line.
+fn ending(alloc: Global, status: u8, line: &str) -> Result<Ending, NoMemory>
+    ensures ending { IfOk result (λ ending. ending_of ending ≡ record { status = status; text = line.now }) }
+    ensures status { IfOk result (λ ending. ending.status ≡ status) }
+{
+    Ok(Ending {
+        status,
+        text: String::from_str(alloc, line)?,
+    })
+}
+
+/// What comes of a replay whose two files are fetched.
+fn replay_schedule(alloc: Global, number: u16, schedule: &[u8]) -> Result<Ending, NoMemory>
+    ensures due { IfOk result (λ ending. IsDueOfSchedule number schedule.now (finish (ending_of ending))) }
+    ensures status { IfOk result (λ ending. IsTrue (is_end ending.status)) }
+{
+    let Some(lines) = read_thin_schedule(alloc, schedule)? else {
+        let unbuilt = ending(alloc, NOT_BUILT, "not built\n")?;
+        return Ok(unbuilt);
+    };
+    let replayed = replay_lines(alloc, number, lines.as_slice())?;
+    Ok(replayed)
+}
+
+/// What comes of a replay whose program is fetched.
+fn replay_program<'a, S: Shelf>(
+    alloc: Global,
+    program: &[u8],
+    schedule: &'a str,
+    shelf: &mut S,
+) -> Result<Step<'a>, NoMemory>
+    ensures due { IfOk result (λ step. IsStepBehind (S.contents shelf.old) program.now schedule.now (due_of step)) }
+    ensures status { IfOk result HasEndStatus }
+    ensures lack { IfOk result (IsLackNoted (S.fetched shelf.new) (S.faults shelf.old) (S.faults shelf.new)) }
+    ensures asked { AsksFirstOf (S.fetched shelf.old) (S.fetched shelf.new) (schedule.now ∷ []) }
+{
+    let Some(number) = read_thin_program(program) else {
+        let unbuilt = ending(alloc, NOT_BUILT, "not built\n")?;
+        return Ok(Step::Finish(unbuilt));
+    };
+    let bytes = match shelf.fetch(schedule) {
+        Ok(bytes) => bytes,
+        Err(ShelfFault::NoMemory) => return Err(AllocError),
+        Err(ShelfFault::Failed) => return Ok(Step::Lack(schedule)),
+    };
+    let replayed = replay_schedule(alloc, number, bytes.as_slice())?;
+    Ok(Step::Finish(replayed))
+}
+
+/// What comes of a replay of two files.
+fn replay<'a, S: Shelf>(
+    alloc: Global,
+    program: &'a str,
+    schedule: &'a str,
+    shelf: &mut S,
+) -> Result<Step<'a>, NoMemory>
+    ensures due { IfOk result (λ step. IsStepOfReplay (S.contents shelf.old) program.now schedule.now (due_of step)) }
+    ensures status { IfOk result HasEndStatus }
+    ensures lack { IfOk result (IsLackNoted (S.fetched shelf.new) (S.faults shelf.old) (S.faults shelf.new)) }
+    ensures asked { AsksFirstOf (S.fetched shelf.old) (S.fetched shelf.new) (program.now ∷ schedule.now ∷ []) }
+{
+    let bytes = match shelf.fetch(program) {
+        Ok(bytes) => bytes,
+        Err(ShelfFault::NoMemory) => return Err(AllocError),
+        Err(ShelfFault::Failed) => return Ok(Step::Lack(program)),
+    };
+    let step = replay_program(alloc, bytes.as_slice(), schedule, shelf)?;
+    Ok(step)
+}
+
+/// The program and the schedule of a replay. `None` where the form is another, none of which is built.
+fn files_of_replay(form: Form<'_>) -> Option<(&str, &str)>
+    ensures replay { IfSome result (λ files. form_of form.entry ≡ replay files.0.now files.1.now) }
+    ensures other { IfNone result (IsDueOfForm (form_of form.entry) [] not_built) }
+{
+    match form {
+        Form::Replay { program, schedule } => Some((program, schedule)),
+        Form::Stubs { .. }
+        | Form::Run { .. }
+        | Form::Node { .. }
+        | Form::Sample { .. }
+        | Form::Settle { .. }
+        | Form::Place { .. }
+        | Form::Audit { .. } => None,
+    }
+}
+
+/// What comes of the words of a command line.
+pub fn follow<'a, S: Shelf>(
+    alloc: Global,
+    words: &'a [String],
+    shelf: &mut S,
+) -> Result<Step<'a>, NoMemory>
+    ensures due { IfOk result (λ step. IsDue (S.contents shelf.old) (map string_bytes words.now) (due_of step)) }
+    ensures status { IfOk result HasEndStatus }
+    ensures lack { IfOk result (IsLackNoted (S.fetched shelf.new) (S.faults shelf.old) (S.faults shelf.new)) }
+    ensures asked { AsksOnly (S.fetched shelf.old) (S.fetched shelf.new) (map string_bytes words.now) }
+{
+    let Some(form) = read_words(words) else {
+        let refused = ending(alloc, BAD_COMMAND_LINE, "circus: bad command line\n")?;
+        return Ok(Step::Finish(refused));
+    };
+    let Some((program, schedule)) = files_of_replay(form) else {
+        let unbuilt = ending(alloc, NOT_BUILT, "not built\n")?;
+        return Ok(Step::Finish(unbuilt));
+    };
+    let step = replay(alloc, program, schedule, shelf)?;
+    Ok(step)
+}

@@ -1,0 +1,265 @@
+// The words of a command line.
+ghost use Rattle.circus_program.specs.Form.{IsOfForm, IsOfNoForm};
+ghost use Rattle.circus_program.specs.Words.{form_of};
+ghost use Rattle.std.specs.Prelude.{[], ◌∷◌, IfNone, IfSome, map};
+ghost use Rattle.std.specs.String.{string_bytes};
+
+use crate::decimal::decimal_at_most;
+
+const MOST_TURNS: u64 = 100_000;
+
+const MOST_STEPS: u64 = 200_000;
+
+const MOST_DELIVERIES: u64 = 1_000_000;
+
+/// What the words of a command line ask for (docs/GUIDE.md).
+#[derive(Clone, Copy, Debug)]
+pub enum Form<'a> {
+    /// `stubs PROGRAM`: the stubs of all interfaces.
+    Stubs {
+        program: &'a str,
+    },
+    /// `run PROGRAM`: the history of the unreplicated execution.
+    Run {
+        program: &'a str,
+    },
+    /// `replay PROGRAM SCHEDULE`: the report of a simulation under a schedule.
+    Replay {
+        program: &'a str,
+        schedule: &'a str,
+    },
+    /// `node PROGRAM NAME TURNS`: one node over the link, for 0 to 100,000 takes.
+    Node {
+        program: &'a str,
+        name: &'a str,
+        turns: u32,
+    },
+    /// `sample PROGRAM SEED STEPS`: a simulation of 0 to 200,000 steps that the seed chooses.
+    Sample {
+        program: &'a str,
+        seed: u64,
+        steps: u32,
+    },
+    /// `settle PROGRAM DELIVERIES`: a simulation of 0 to 1,000,000 deliveries in order of sending.
+    Settle {
+        program: &'a str,
+        deliveries: u32,
+    },
+    /// `place FILE`: a choice of machines for a troupe.
+    Place {
+        placing: &'a str,
+    },
+    /// `audit PROGRAM RECORD`: whether a node's record is a true one.
+    Audit {
+        program: &'a str,
+        record: &'a str,
+    },
+}
+
+/// The form of the words of a command line (docs/GUIDE.md). The names of files are not empty; numbers
+/// are decimal without leading zeros and in the ranges of their form. `None` exactly where the words
+/// are of no form. It takes no memory.
+pub fn read_words(words: &[String]) -> Option<Form<'_>>
+    ensures form { IfSome result (λ form. IsOfForm (map string_bytes words.now) (form_of form)) }
+    ensures none { IfNone result (IsOfNoForm (map string_bytes words.now)) }
+{
+    match words {
+        [command, file] => read_two_words(command.as_str(), file.as_str()),
+        [command, program, second] => {
+            read_three_words(command.as_str(), program.as_str(), second.as_str())
+        }
+        [command, program, second, third] => read_four_words(
+            command.as_str(),
+            program.as_str(),
+            second.as_str(),
+            third.as_str(),
+        ),
+        _ => None,
+    }
+}
+
+fn read_two_words<'a>(command: &'a str, file: &'a str) -> Option<Form<'a>>
+    ensures form { IfSome result (λ form. IsOfForm (command.now ∷ file.now ∷ []) (form_of form)) }
+    ensures none { IfNone result (IsOfNoForm (command.now ∷ file.now ∷ [])) }
+{
+    if file.is_empty() {
+        return None;
+    }
+    match command {
+        "stubs" => Some(Form::Stubs { program: file }),
+        "run" => Some(Form::Run { program: file }),
+        "place" => Some(Form::Place { placing: file }),
+        _ => None,
+    }
+}
+
+fn read_three_words<'a>(command: &'a str, program: &'a str, second: &'a str) -> Option<Form<'a>>
+    ensures form { IfSome result (λ form. IsOfForm (command.now ∷ program.now ∷ second.now ∷ []) (form_of form)) }
+    ensures none { IfNone result (IsOfNoForm (command.now ∷ program.now ∷ second.now ∷ [])) }
+{
+    if program.is_empty() {
+        return None;
+    }
+    match command {
+        "replay" if !second.is_empty() => Some(Form::Replay {
+            program,
+            schedule: second,
+        }),
+        "settle" => {
+            let deliveries = decimal_at_most(second.as_bytes(), MOST_DELIVERIES)?;
+            Some(Form::Settle {
+                program,
+                deliveries: deliveries as u32,
+            })
+        }
+        "audit" if !second.is_empty() => Some(Form::Audit {
+            program,
+            record: second,
+        }),
+        _ => None,
+    }
+}
+
+fn read_four_words<'a>(
+    command: &'a str,
+    program: &'a str,
+    second: &'a str,
+    third: &'a str,
+) -> Option<Form<'a>>
+    ensures form { IfSome result (λ form. IsOfForm (command.now ∷ program.now ∷ second.now ∷ third.now ∷ []) (form_of form)) }
+    ensures none { IfNone result (IsOfNoForm (command.now ∷ program.now ∷ second.now ∷ third.now ∷ [])) }
+{
+    if program.is_empty() {
+        return None;
+    }
+    match command {
+        "node" => {
+            let turns = decimal_at_most(third.as_bytes(), MOST_TURNS)?;
+            Some(Form::Node {
+                program,
+                name: second,
+                turns: turns as u32,
+            })
+        }
+        "sample" => {
+            let seed = decimal_at_most(second.as_bytes(), u64::MAX)?;
+            let steps = decimal_at_most(third.as_bytes(), MOST_STEPS)?;
+            Some(Form::Sample {
+                program,
+                seed,
+                steps: steps as u32,
+            })
+        }
+        _ => None,
+    }
+}
+
+#[cfg(test)]
+mod tests {
+    use super::*;
+    use std::alloc::{AllocError, Global};
+    use std::test::Fail;
+
+    // The words of a line, which stand between single spaces.
+    fn words_of(alloc: Global, line: &str) -> Result<Vec<String>, AllocError> {
+        let mut words = Vec::new(alloc);
+        for word in line.split(' ') {
+            words.push(String::from_str(alloc, word)?)?;
+        }
+        Ok(words)
+    }
+
+    #[test]
+    fn reads_files(rt: HostRuntime) -> Result<(), Fail> {
+        let words = words_of(rt.alloc(), "stubs p")?;
+        assert!(rt; matches!(read_words(&words), Some(Form::Stubs { program: "p" })));
+        let words = words_of(rt.alloc(), "run p")?;
+        assert!(rt; matches!(read_words(&words), Some(Form::Run { program: "p" })));
+        let words = words_of(rt.alloc(), "replay p s")?;
+        assert!(rt;
+            matches!(
+                read_words(&words),
+                Some(Form::Replay {
+                    program: "p",
+                    schedule: "s"
+                })
+            )
+        );
+        let words = words_of(rt.alloc(), "place f")?;
+        assert!(rt; matches!(read_words(&words), Some(Form::Place { placing: "f" })));
+        let words = words_of(rt.alloc(), "audit p r")?;
+        assert!(rt;
+            matches!(
+                read_words(&words),
+                Some(Form::Audit {
+                    program: "p",
+                    record: "r"
+                })
+            )
+        );
+        Ok(())
+    }
+
+    #[test]
+    fn reads_numbers(rt: HostRuntime) -> Result<(), Fail> {
+        let words = words_of(rt.alloc(), "node p m1 100000")?;
+        assert!(rt;
+            matches!(
+                read_words(&words),
+                Some(Form::Node {
+                    program: "p",
+                    name: "m1",
+                    turns: 100_000
+                })
+            )
+        );
+        let words = words_of(rt.alloc(), "sample p 18446744073709551615 200000")?;
+        assert!(rt;
+            matches!(
+                read_words(&words),
+                Some(Form::Sample {
+                    program: "p",
+                    seed: u64::MAX,
+                    steps: 200_000
+                })
+            )
+        );
+        let words = words_of(rt.alloc(), "settle p 0")?;
+        assert!(rt;
+            matches!(
+                read_words(&words),
+                Some(Form::Settle {
+                    program: "p",
+                    deliveries: 0
+                })
+            )
+        );
+        Ok(())
+    }
+
+    #[test]
+    fn refuses_near_misses(rt: HostRuntime) -> Result<(), Fail> {
+        assert!(rt; read_words(&[]).is_none());
+        for line in [
+            "",
+            "--help",
+            "run",
+            "run ",
+            "Run p",
+            "replay p",
+            "replay p ",
+            "replay p s t",
+            "node p m1 007",
+            "node p m1 100001",
+            "node p m1 +7",
+            "sample p 18446744073709551616 200000",
+            "settle p 1000001",
+            "settle p ",
+            "run p q r s",
+        ] {
+            let words = words_of(rt.alloc(), line)?;
+            assert!(rt; read_words(&words).is_none(), "{line}");
+        }
+        Ok(())
+    }
+}
