@@ -1,5 +1,5 @@
 // Bytes in parts that are shared with others.
-ghost use Rattle.std.specs.Prelude.{◌≡◌, ℕ, ◌+◌, ◌-◌, ◌<◌, ◌≤◌, List, [], ◌++◌, length, take, drop, slice_get, slice_index, OnOk, OnErr, IsOk, IfOk, IfSome, IfNone, IsTrue, ◌↔◌};
+ghost use Rattle.std.specs.Prelude.{◌≡◌, true, ℕ, ◌+◌, ◌-◌, ◌<◌, ◌≤◌, List, [], ◌++◌, length, take, drop, slice_get, slice_index, OnOk, OnErr, IsOk, IfOk, IfSome, IfNone, IsTrue, ◌↔◌};
 ghost use Rattle.std.specs.List.{concat};
 ghost use Rattle.circus_value.specs.PartEnds.{ends_from};
 
@@ -138,8 +138,30 @@ fn find(parts: &[Bytes], ends: &[usize], at: usize) -> Option<(usize, usize)>
     Some((place, at + part.len() - ends[place]))
 }
 
-/// Of numbers that grow, the place of the first that is above this one, or how many there are.
+/// Of numbers that grow, the place of the first that is above this one, or how many there are. Where each is as
+/// far from the one before it as the first from 0, it is found at once.
 fn first_above(ends: &[usize], at: usize) -> usize
+    ensures within { result ≤ length ends.now }
+    ensures before { 0 < result → slice_index ends.now (result - 1) ≤ at }
+    ensures above { result < length ends.now → at < slice_index ends.now result }
+{
+    match ends.first() {
+        Some(first) if *first > 0 && is_first_above(ends, at / *first, at) => at / *first,
+        _ => searched(ends, at),
+    }
+}
+
+/// Whether a place has the first number above this one.
+fn is_first_above(ends: &[usize], place: usize, at: usize) -> bool
+    ensures within { result ≡ true → place < length ends.now }
+    ensures before { result ≡ true → 0 < place → slice_index ends.now (place - 1) ≤ at }
+    ensures above { result ≡ true → at < slice_index ends.now place }
+{
+    place < ends.len() && at < ends[place] && (place == 0 || ends[place - 1] <= at)
+}
+
+/// As `first_above`, by halves.
+fn searched(ends: &[usize], at: usize) -> usize
     ensures within { result ≤ length ends.now }
     ensures before { 0 < result → slice_index ends.now (result - 1) ≤ at }
     ensures above { result < length ends.now → at < slice_index ends.now result }
