@@ -65,7 +65,7 @@ first_part_none None x = refl
 first_part_none (Some p) x = refl
 
 -- a segment of another message says nothing of this one
-total_other : (s : Piece) (ts : List Piece) (kind call : ℕ) → is_of kind call s ≡ false → total_in (s ∷ ts) kind call ≡ total_in ts kind call
+pub total_other : (s : Piece) (ts : List Piece) (kind call : ℕ) → is_of kind call s ≡ false → total_in (s ∷ ts) kind call ≡ total_in ts kind call
 unfolding total_in
 total_other s ts kind call other = ap (λ b. first_of (total_in ts kind call) b s.total) other ∙ first_of_none (total_in ts kind call) s.total
 
@@ -81,7 +81,7 @@ reached_alike : (o : Option ℕ) (f g : ℕ → ℕ) → ((t : ℕ) → f t ≡ 
 reached_alike None f g h = refl
 reached_alike (Some t) f g h = ap (λ n. eqb n t) (h t)
 
-arrived_other : (s : Piece) (ts : List Piece) (kind call : ℕ) → is_of kind call s ≡ false → has_arrived (s ∷ ts) kind call ≡ has_arrived ts kind call
+pub arrived_other : (s : Piece) (ts : List Piece) (kind call : ℕ) → is_of kind call s ≡ false → has_arrived (s ∷ ts) kind call ≡ has_arrived ts kind call
 unfolding has_arrived
 arrived_other s ts kind call other =
     ap (λ o. is_reached o (count_in (s ∷ ts) kind call)) (total_other s ts kind call other)
@@ -264,6 +264,14 @@ old_arrival s ts may plain old =
     ∙ ap (λ n. eqb n s.total) (front_alike _ _ s.total (λ k one le. there_old s ts k plain old))
     ∙ told_reached (total_in ts s.kind s.call) (count_in ts s.kind s.call) s.total (may.total (ap not plain)) may.some (none_count ts s.kind s.call s.total)
 
+-- what has arrived stays so
+pub arrived_stays : (s : Piece) (ts : List Piece) → MayFollow ts s → is_acknowledgement s ≡ false → has_arrived ts s.kind s.call ≡ true → has_arrived (s ∷ ts) s.kind s.call ≡ true
+arrived_stays s ts may plain whole =
+    elim (has_data s && not (is_there ts s.kind s.call s.number)) as (λ b. (has_data s && not (is_there ts s.kind s.call s.number)) ≡ b → has_arrived (s ∷ ts) s.kind s.call ≡ true) [
+      | true ↦ λ new. (let cases = new_cases (has_data s) _ new in absurd (let no_ : true ≡ false = sym whole ∙ not_before s ts may plain cases.0 cases.1 in cc))
+      | false ↦ λ old. old_arrival s ts may plain old ∙ whole
+    ] refl
+
 apart : (b : Bool) → false ≡ (b && not b)
 apart true = refl
 apart false = refl
@@ -343,13 +351,6 @@ message_is s ts box keeps may plain yes_ =
     joined_alike _ _ s.total (λ k.
     ap (λ o. cond (eqb k s.number) s.part (unwrap_or o [])) (keeps.parts s.call k ∙ ap (λ b. cond b None (data_in ts s.kind s.call k)) (not_before s ts may plain cases.0 cases.1))
     ∙ sym (ap (λ o. unwrap_or o []) (data_new s ts k plain cases.0 cases.1) ∙ chosen (eqb k s.number) s.part (data_in ts s.kind s.call k)))
-
--- ---- the numbers that data has
-
-number_bounds : (o : Option ℕ) (b : Bool) (t x total : ℕ) → first_of o b x ≡ Some total → (o ≡ Some total) ⊎ ((o ≡ None) × (b ≡ true) × (x ≡ total))
-number_bounds None true t x total h = inr (refl, refl, cc)
-number_bounds None false t x total h = absurd cc
-number_bounds (Some y) b t x total h = inl h
 
 -- ---- one segment more
 

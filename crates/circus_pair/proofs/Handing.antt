@@ -20,7 +20,7 @@ use Rattle.circus_pair.specs.Handed.{made, call_at, return_at, says, reached_in,
 use Rattle.circus_pair.specs.declared.inbox.Inbox.{Inbox}
 use Rattle.circus_pair.specs.Taken.{count_in}
 use Rattle.circus_pair.proofs.Arrivals.{Keeps, told}
-use Rattle.circus_pair.proofs.Formats.{format_called, format_returned, format_after, format_ticked}
+use Rattle.circus_pair.proofs.Lasting.{lasts_called, lasts_returned, lasts_after, lasts_ticked}
 use Rattle.circus_pair.proofs.Standing.{Stands, stands_after}
 use Rattle.circus_pair.proofs.Ties.{equal, nat_ties}
 
@@ -163,19 +163,19 @@ stays o c g progress knows none q = knows q ∙ told_same (o q) (c q) (g q) (non
 
 -- ---- takes, by the tables
 
-second : (a b : Bool) → (a && b) ≡ true → b ≡ true
+pub second : (a b : Bool) → (a && b) ≡ true → b ≡ true
 second true b h = h
 second false b h = absurd cc
 
-first : (a b : Bool) → (a && b) ≡ true → a ≡ true
+pub first : (a b : Bool) → (a && b) ≡ true → a ≡ true
 first true b h = refl
 first false b h = absurd cc
 
-chosen_true : (b : Bool) (x y : Bool) → cond b x y ≡ true → b ≡ true → x ≡ true
+pub chosen_true : (b : Bool) (x y : Bool) → cond b x y ≡ true → b ≡ true → x ≡ true
 chosen_true true x y h e = h
 chosen_true false x y h e = absurd cc
 
-chosen_false : (b : Bool) (x y : Bool) → cond b x y ≡ true → b ≡ false → y ≡ true
+pub chosen_false : (b : Bool) (x y : Bool) → cond b x y ≡ true → b ≡ false → y ≡ true
 chosen_false true x y h e = absurd cc
 chosen_false false x y h e = h
 
@@ -197,12 +197,12 @@ unfolding takes agrees
 taken_return_acknowledged e s h ack return_ none =
     known_total _ s.total (chosen_false (eqb s.kind 0) _ _ (chosen_true (is_acknowledgement s) _ _ (second (eqb s.format e.format) _ h) ack) return_) none
 
-taken_return : (e : Exchange) (s : Piece) → takes e s ≡ true → is_acknowledgement s ≡ false → eqb s.kind 0 ≡ false → get e.calls.progress s.call ≡ None → ⊥
+pub taken_return : (e : Exchange) (s : Piece) → takes e s ≡ true → is_acknowledgement s ≡ false → eqb s.kind 0 ≡ false → get e.calls.progress s.call ≡ None → ⊥
 unfolding takes was_sent
 taken_return e s h plain return_ none =
     known_some _ (second _ _ (first _ _ (chosen_false (eqb s.kind 0) _ _ (chosen_false (is_acknowledgement s) _ _ (second (eqb s.format e.format) _ h) plain) return_))) none
 
-says_elsewhere : (s : Piece) (kind call total : ℕ) → eqb call s.call ≡ false → says s kind call total ≡ 0
+pub says_elsewhere : (s : Piece) (kind call total : ℕ) → eqb call s.call ≡ false → says s kind call total ≡ 0
 says_elsewhere s kind call total other =
     let off : eqb s.call call ≡ false = same_number s.call call ∙ other in
     elim (is_acknowledgement s) as (λ b. cond b (cond (eqb s.kind kind && eqb s.call call) s.number 0) (cond (eqb kind 0 && (eqb s.kind 1 && eqb s.call call)) total 0) ≡ 0) [
@@ -219,25 +219,25 @@ says_elsewhere s kind call total other =
     nor true false x = refl
     nor false b x = refl
 
-says_other_kind : (s : Piece) (kind call total : ℕ) → is_acknowledgement s ≡ true → eqb s.kind kind ≡ false → says s kind call total ≡ 0
+pub says_other_kind : (s : Piece) (kind call total : ℕ) → is_acknowledgement s ≡ true → eqb s.kind kind ≡ false → says s kind call total ≡ 0
 says_other_kind s kind call total ack other = says_acknowledged s kind call total ack ∙ ap (λ b. cond (b && eqb s.call call) s.number 0) other
 
-says_no_return : (s : Piece) (call total : ℕ) → is_acknowledgement s ≡ false → says s 1 call total ≡ 0
+pub says_no_return : (s : Piece) (call total : ℕ) → is_acknowledgement s ≡ false → says s 1 call total ≡ 0
 says_no_return s call total plain = says_plain s 1 call total plain
 
-says_no_call : (s : Piece) (call total : ℕ) → is_acknowledgement s ≡ false → eqb s.kind 1 ≡ false → says s 0 call total ≡ 0
+pub says_no_call : (s : Piece) (call total : ℕ) → is_acknowledgement s ≡ false → eqb s.kind 1 ≡ false → says s 0 call total ≡ 0
 says_no_call s call total plain other = says_plain s 0 call total plain ∙ ap (λ b. cond (b && eqb s.call call) total 0) other
 
-says_here : (s : Piece) (kind total : ℕ) → is_acknowledgement s ≡ true → eqb s.kind kind ≡ true → says s kind s.call total ≡ s.number
+pub says_here : (s : Piece) (kind total : ℕ) → is_acknowledgement s ≡ true → eqb s.kind kind ≡ true → says s kind s.call total ≡ s.number
 says_here s kind total ack same = says_acknowledged s kind s.call total ack ∙ ap (λ b. cond (b && eqb s.call s.call) s.number 0) same ∙ ap (λ b. cond b s.number 0) (equal s.call)
 
-says_whole : (s : Piece) (total : ℕ) → is_acknowledgement s ≡ false → eqb s.kind 1 ≡ true → says s 0 s.call total ≡ total
+pub says_whole : (s : Piece) (total : ℕ) → is_acknowledgement s ≡ false → eqb s.kind 1 ≡ true → says s 0 s.call total ≡ total
 says_whole s total plain same = says_plain s 0 s.call total plain ∙ ap (λ b. cond (b && eqb s.call s.call) total 0) same ∙ ap (λ b. cond b total 0) (equal s.call)
 
-call_kind : (s : Piece) → eqb s.kind 0 ≡ true → eqb s.kind 1 ≡ false
+pub call_kind : (s : Piece) → eqb s.kind 0 ≡ true → eqb s.kind 1 ≡ false
 call_kind s h = ap (λ k. eqb k 1) (eqb-true s.kind 0 h)
 
-return_kind : (s : Piece) → IsSegment s → eqb s.kind 0 ≡ false → eqb s.kind 1 ≡ true
+pub return_kind : (s : Piece) → IsSegment s → eqb s.kind 0 ≡ false → eqb s.kind 1 ≡ true
 return_kind s segment h = (let le : s.kind ≤ 1 = segment.kind in let ne : s.kind ≡ 0 → ⊥ = eqb-false s.kind 0 h in let one : s.kind ≡ 1 = omega arith in ap (λ k. eqb k 1) one)
 
 zero_max : (a b : ℕ) → a ≡ 0 → b ≡ 0 → max a b ≡ 0
@@ -277,7 +277,7 @@ next_taken e s =
 nothing_told : (o : Option (List ℕ)) (c : ℕ → ℕ) → o ≡ None → told_out o c ≡ None
 nothing_told o c none = ap (λ (x : Option (List ℕ)). told_out x c) none
 
-total_told : (first : ℕ) (acts : Acts) (ts : List Piece) (e : Exchange) (call : ℕ) (message : List ℕ) → Hands first acts ts e → call_at first acts call ≡ Some message → total_of e call ≡ segment_count message
+pub total_told : (first : ℕ) (acts : Acts) (ts : List Piece) (e : Exchange) (call : ℕ) (message : List ℕ) → Hands first acts ts e → call_at first acts call ≡ Some message → total_of e call ≡ segment_count message
 unfolding total_of
 total_told first acts ts e call message hands is = ap total_or_none (hands.calls call ∙ ap (λ (o : Option (List ℕ)). told_out o (reached_in ts 0 call)) is)
 
@@ -425,13 +425,13 @@ hands_after local remote first format (more acts Stop) are once = hands_stopped 
 -- ---- which segments are taken
 
 format_act : (e : Exchange) (act : Act) → (happens e act).format ≡ e.format
-format_act e (Call message) = format_called e message
-format_act e (Return call message) = format_returned e call message
-format_act e (Came s) = format_after e s
-format_act e Tick = format_ticked e
+format_act e (Call message) = (lasts_called e message).format
+format_act e (Return call message) = (lasts_returned e call message).format
+format_act e (Came s) = (lasts_after e s).format
+format_act e Tick = (lasts_ticked e).format
 format_act e Stop = refl
 
-format_stays : (e : Exchange) (acts : Acts) → (end_after e acts).format ≡ e.format
+pub format_stays : (e : Exchange) (acts : Acts) → (end_after e acts).format ≡ e.format
 format_stays e none_yet = refl
 format_stays e (more acts act) = format_act (end_after e acts) act ∙ format_stays e acts
 
@@ -439,7 +439,7 @@ some_told : (o : Option (List ℕ)) (c : ℕ → ℕ) → is_some (told_out o c)
 some_told None c = refl
 some_told (Some m) c = refl
 
-total_agrees : (o : Option (List ℕ)) (c : ℕ → ℕ) (t : ℕ) → has_total (told_out o c) t ≡ agrees_with o t
+pub total_agrees : (o : Option (List ℕ)) (c : ℕ → ℕ) (t : ℕ) → has_total (told_out o c) t ≡ agrees_with o t
 total_agrees None c t = refl
 total_agrees (Some m) c t = refl
 

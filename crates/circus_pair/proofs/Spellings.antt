@@ -121,9 +121,6 @@ behind n x xs h i = h (suc i)
 four_fits : (a b d e : ℕ) → IsBytes (a ∷ b ∷ d ∷ e ∷ []) → from_be_bytes w32 (a ∷ b ∷ d ∷ e ∷ []) < 2 ^ 32
 four_fits a b d e h = omega (arith, h 0, h 1, h 2, h 3)
 
-two_fits : (a b : ℕ) → IsBytes (a ∷ b ∷ []) → from_be_bytes w16 (a ∷ b ∷ []) < 2 ^ 16
-two_fits a b h = omega (arith, h 0, h 1)
-
 kind_of_first : (k : ℕ) → k ≤ 3 → (eqb k 2 || eqb k 3) ≡ false → k ≤ 1
 kind_of_first k h isnt = grind arith
 

@@ -143,7 +143,7 @@ may_follow ts e s stands segment h =
 
 -- ---- one act more
 
-other_kind : (s : Piece) (kind : ℕ) → (s.kind ≡ kind → ⊥) → (call : ℕ) → is_of kind call s ≡ false
+pub other_kind : (s : Piece) (kind : ℕ) → (s.kind ≡ kind → ⊥) → (call : ℕ) → is_of kind call s ≡ false
 other_kind s kind differ call = ap (λ b. b && (eqb s.call call && not (is_acknowledgement s))) (ne_eqb s.kind kind differ)
 
 no_part : (a b : Bool) → (a && (b && false)) ≡ false
@@ -151,7 +151,7 @@ no_part true true = refl
 no_part true false = refl
 no_part false b = refl
 
-acknowledges : (s : Piece) (kind : ℕ) → is_acknowledgement s ≡ true → (call : ℕ) → is_of kind call s ≡ false
+pub acknowledges : (s : Piece) (kind : ℕ) → is_acknowledgement s ≡ true → (call : ℕ) → is_of kind call s ≡ false
 acknowledges s kind ack call = ap (λ b. eqb s.kind kind && (eqb s.call call && not b)) ack ∙ no_part (eqb s.kind kind) (eqb s.call call)
 
 kept : (kind : ℕ) (ts : List Piece) (a b : Inbox) → a ≡ b → Keeps kind ts b → Keeps kind ts a

@@ -16,7 +16,7 @@ tie Less e = absurd cc
 tie Equal e = refl
 tie Greater e = absurd cc
 
-alike : (a b : Bool) → (a ≡ true → b ≡ true) → (b ≡ true → a ≡ true) → a ≡ b
+pub alike : (a b : Bool) → (a ≡ true → b ≡ true) → (b ≡ true → a ≡ true) → a ≡ b
 alike true true f g = refl
 alike true false f g = sym (f refl)
 alike false true f g = g refl

@@ -1,12 +1,16 @@
 //! What holds of an end after every list of acts.
-ghost use Rattle.std.specs.Prelude.{◌≡◌, ℕ, true, false, List};
+ghost use Rattle.std.specs.Prelude.{◌≡◌, ℕ, ◌+◌, ◌≤◌, true, false, not, ◌&&◌, List};
 ghost use Rattle.circus_pair.specs.Segment.{Piece, IsSegment, is_acknowledgement, reading, spelling};
-ghost use Rattle.circus_pair.specs.Exchange.{start, takes, arrived_after};
-ghost use Rattle.circus_pair.specs.Handed.{ReturnsOnce, is_taken, sent_below};
+ghost use Rattle.circus_pair.specs.Exchange.{start, takes, arrived_after, datagrams_of_call, datagrams_of_return, datagrams_after, datagrams_of_tick, is_suspect};
+ghost use Rattle.circus_pair.specs.Handed.{made, is_taken, sent_below};
 ghost use Rattle.circus_pair.specs.Cut.{segment_count, part_at};
 ghost use Rattle.circus_pair.specs.Inbox.{acknowledgement, joined};
 ghost use Rattle.circus_pair.specs.Taken.{total_in, has_arrived, message_in, AreTaken, AreOf};
-ghost use Rattle.circus_pair.specs.Acts.{Acts, AreActs, end_after, taken_by, arrival_by, acknowledged_by};
+ghost use Rattle.circus_pair.specs.Acts.{Acts, more, Call, Return, Came, Tick, AreActs, end_after, taken_by, arrival_by, acknowledged_by};
+ghost use Rattle.circus_pair.specs.Lawful.{AreLawful};
+ghost use Rattle.circus_pair.specs.Window.{count_below, call_is_whole};
+ghost use Rattle.circus_pair.specs.Sending.{is_sent, outputs};
+ghost use Rattle.circus_pair.specs.Ticking.{ticks_after, suspects_after};
 
 /// What arrives by a segment that is taken is what the segments taken until then say: nothing, unless it is the
 /// last that its message lacked; then the joined data, number by number, of the first segments taken.
@@ -38,11 +42,10 @@ pub fn acknowledgements_count_the_segments()
 /// with its total; another one has the total of the first segment taken for its message, and a segment of a
 /// return answers a call that was sent.
 pub fn segments_are_taken_by_the_rules()
-    ensures { (local remote first format : ℕ) (acts : Acts) (s : Piece) → AreActs acts → ReturnsOnce acts
+    ensures { (local remote first format : ℕ) (acts : Acts) (s : Piece) → AreLawful local remote first format acts
         → IsSegment s
-        → let e = end_after (start local remote first format) acts in
-        takes e s ≡ is_taken first format acts (taken_by (start local remote first format) acts)
-        (sent_below e.sent first acts) s }
+        → let began = start local remote first format in
+        takes (end_after began acts) s ≡ is_taken first format acts (taken_by began acts) (is_sent began acts) s }
 {}
 
 /// The bytes of a segment are read as that segment.
@@ -61,4 +64,53 @@ pub fn sent_messages_arrive()
         → has_arrived ts kind call ≡ true
         → (total_in ts kind call ≡ Some (segment_count message))
         × (message_in ts kind call (segment_count message) ≡ message) }
+{}
+
+/// A call was sent exactly where the window let it go at the end of some act, from its making on and before the
+/// other end was declared down: where fewer than 64 calls of smaller numbers were not acknowledged whole. So at
+/// most 64 calls are sent and not acknowledged whole (docs/PROTOCOL.md, "The window").
+pub fn calls_are_sent_in_time()
+    ensures sent { (local remote first format : ℕ) (acts : Acts) (call : ℕ)
+        → AreLawful local remote first format acts
+        → let began = start local remote first format in
+        sent_below (end_after began acts).sent first acts call ≡ is_sent began acts call }
+    ensures window { (local remote first format : ℕ) (acts : Acts) → AreLawful local remote first format acts
+        → let began = start local remote first format in
+        count_below (λ call. is_sent began acts call && not (call_is_whole first acts (taken_by began acts) call))
+        (first + made acts) ≤ 64 }
+{}
+
+/// What an act sends is what is owed: a call is sent whole by the act that lets it go, and a return by the act
+/// that hands it over; a segment that is taken is acknowledged, before the calls that it lets go; and a tick
+/// sends the first open segment of each message that was sent and is not acknowledged whole, or the probe of a
+/// call that has no return yet (docs/PROTOCOL.md, "The window" to "Ticks").
+pub fn acts_send_what_is_owed()
+    ensures calls { (local remote first format : ℕ) (acts : Acts) (message : List ℕ)
+        → AreLawful local remote first format (more acts (Call message))
+        → let began = start local remote first format in
+        datagrams_of_call (end_after began acts) message ≡ outputs began acts (Call message) }
+    ensures returns { (local remote first format : ℕ) (acts : Acts) (call : ℕ) (message : List ℕ)
+        → AreLawful local remote first format (more acts (Return call message))
+        → let began = start local remote first format in
+        datagrams_of_return (end_after began acts) call message ≡ outputs began acts (Return call message) }
+    ensures segments { (local remote first format : ℕ) (acts : Acts) (s : Piece)
+        → AreLawful local remote first format (more acts (Came s))
+        → let began = start local remote first format in
+        datagrams_after (end_after began acts) s ≡ outputs began acts (Came s) }
+    ensures ticks { (local remote first format : ℕ) (acts : Acts)
+        → AreLawful local remote first format (more acts Tick)
+        → let began = start local remote first format in
+        datagrams_of_tick (end_after began acts) ≡ outputs began acts Tick }
+{}
+
+/// The ticks are those since a segment was taken, or a call was handed over while none was unfinished, as far as
+/// calls were unfinished, up to 8. The other end is suspected at the tick that makes them 8
+/// (docs/PROTOCOL.md, "Ticks").
+pub fn ticks_are_counted()
+    ensures count { (local remote first format : ℕ) (acts : Acts) → AreLawful local remote first format acts
+        → let began = start local remote first format in
+        (end_after began acts).ticks ≡ ticks_after began acts }
+    ensures suspicion { (local remote first format : ℕ) (acts : Acts) → AreLawful local remote first format acts
+        → let began = start local remote first format in
+        is_suspect (end_after began acts) ≡ suspects_after began acts }
 {}

@@ -22,8 +22,9 @@ mod taken;
 pub use cut::Datagrams;
 pub use fault::SegmentFault;
 pub use laws::{
-    acknowledgements_count_the_segments, arrivals_follow_the_segments, cut_messages_join,
-    segments_are_taken_by_the_rules, sent_messages_arrive, spelled_is_read,
+    acknowledgements_count_the_segments, acts_send_what_is_owed, arrivals_follow_the_segments,
+    calls_are_sent_in_time, cut_messages_join, segments_are_taken_by_the_rules,
+    sent_messages_arrive, spelled_is_read, ticks_are_counted,
 };
 pub use pair::Pair;
 pub use segment::{ACKNOWLEDGEMENT, CALL, DATA, PLEASE_ACKNOWLEDGE, RETURN, Segment, read_segment};

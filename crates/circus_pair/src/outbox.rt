@@ -20,7 +20,7 @@ pub struct Outbox {
 
 impl Outbox {
     ghost use Rattle.circus_pair.specs.Outgoing.{outgoing};
-    ghost use Rattle.circus_pair.specs.Outbox.{agrees, outgoing_at, handed, reached, becomes_whole, emptied, forgotten, reminder, reminders};
+    ghost use Rattle.circus_pair.specs.Outbox.{agrees, outgoing_at, handed, reached, becomes_whole, emptied, forgotten, reminder_of, reminders};
 
     pub fn new(alloc: Global) -> Self
         ensures progress { result.progress ≡ map.empty }
@@ -116,20 +116,15 @@ impl Outbox {
         self.messages.remove(call);
     }
 
-    // Adds what a tick sends for one message, if its call is below a limit.
-    #[tactic(auto, unfolding(crate::specs::Outbox::reminder))]
+    // Adds what a tick sends for one message.
     fn remind_of(
         &self,
         alloc: Global,
-        limit: u64,
         cut: &Cut<'_>,
         datagrams: &mut Datagrams,
     ) -> Result<(), NoMemory>
-        ensures { OnOk result (datagrams.new ≡ datagrams.old ++ reminder self.now cut.now.format cut.now.kind limit (cut.now.call, cut.now.message.now)) }
+        ensures { OnOk result (datagrams.new ≡ datagrams.old ++ reminder_of cut.now.format cut.now.kind cut.now.call cut.now.message.now (map.get self.now.progress cut.now.call)) }
     {
-        if u64::from(cut.call) >= limit {
-            return Ok(());
-        }
         let Some(progress) = self.progress.get(cut.call) else {
             return Ok(());
         };
@@ -155,7 +150,8 @@ impl Outbox {
         Ok(())
     }
 
-    /// Adds what a tick sends for the messages of calls below a limit, by number.
+    /// Adds what a tick sends for the messages of calls below a limit, by number. It reads no message past the
+    /// first of a call that is not below it.
     pub fn remind(
         &self,
         alloc: Global,
@@ -167,6 +163,9 @@ impl Outbox {
         ensures { OnOk result (datagrams.new ≡ datagrams.old ++ reminders self.now format kind limit) }
     {
         for (number, message) in self.messages.iter() {
+            if u64::from(*number) >= limit {
+                return Ok(());
+            }
             let cut = Cut {
                 format,
                 kind,
@@ -174,7 +173,7 @@ impl Outbox {
                 total: 0,
                 message: message.as_slice(),
             };
-            self.remind_of(alloc, limit, &cut, datagrams)?;
+            self.remind_of(alloc, &cut, datagrams)?;
         }
         Ok(())
     }

@@ -1,5 +1,5 @@
 //! A pair: one end of the paired messages between two nodes.
-ghost use Rattle.std.specs.Prelude.{◌≡◌, ◌⊎◌, not, true, IfOk, OnOk, OnErr, Ok, Err};
+ghost use Rattle.std.specs.Prelude.{◌≡◌, ◌⊎◌, not, true, false, IfOk, OnOk, OnErr, Ok, Err};
 ghost use Rattle.circus_pair.specs.Segment.{piece, reading};
 ghost use Rattle.circus_pair.specs.declared.taken.PairFault.TheVariants.{Spent};
 ghost use Rattle.circus_pair.specs.declared.exchange.Exchange.{Exchange};
@@ -63,16 +63,18 @@ impl Pair {
     }
 
     /// Hands a call over, and answers its number and what is sent: its segments, or nothing where it has to
-    /// wait, since 64 calls are sent and not acknowledged whole (docs/PROTOCOL.md, "The window"). `Spent` where
-    /// the number would be 4,294,967,295. After a fault nothing has changed.
+    /// wait, since 64 calls are sent and not acknowledged whole (docs/PROTOCOL.md, "The window"). The other end
+    /// was not declared down. `Spent` where the number would be 4,294,967,295. After a fault nothing has changed.
     pub fn send_call(&mut self, message: Message) -> Result<(u32, Datagrams), PairFault>
-        requires { IsSendable self.old.format message }
+        requires sendable { IsSendable self.old.format message }
+        requires up { self.old.stopped ≡ false }
         ensures number { IfOk result (λ sent. sent.0 ≡ self.old.next) }
         ensures datagrams { IfOk result (λ sent. sent.1 ≡ datagrams_of_call self.old message) }
         ensures state { OnOk result (self.new ≡ called self.old message) }
         ensures stands { (first : Exchange) (acts : Acts) → self.old ≡ end_after first acts → OnOk result (self.new ≡ end_after first (more acts (Call message))) }
         ensures err { OnErr result (self.new ≡ self.old) }
         ensures format { self.new.format ≡ self.old.format }
+        ensures down { self.new.stopped ≡ self.old.stopped }
 
         // Where no number is left, and only there.
         ensures spent { self.old.next ≡ 4294967295 → result ≡ Err Spent }
@@ -98,6 +100,7 @@ impl Pair {
         ensures stands { (first : Exchange) (acts : Acts) → self.old ≡ end_after first acts → OnOk result (self.new ≡ end_after first (more acts (Return call message))) }
         ensures err { OnErr result (self.new ≡ self.old) }
         ensures format { self.new.format ≡ self.old.format }
+        ensures down { self.new.stopped ≡ self.old.stopped }
     {
         self.exchange.send_return(self.alloc, call, message)
     }
@@ -113,19 +116,22 @@ impl Pair {
         ensures stands { (first : Exchange) (acts : Acts) → self.old ≡ end_after first acts → OnOk result (self.new ≡ end_after first (more acts (Came (piece segment.now)))) }
         ensures err { OnErr result (self.new ≡ self.old) }
         ensures format { self.new.format ≡ self.old.format }
+        ensures down { self.new.stopped ≡ self.old.stopped }
     {
         self.exchange.take(self.alloc, segment, datagram)
     }
 
     /// What a tick sends again or asks for, and whether the other end is suspected now (docs/PROTOCOL.md,
-    /// "Ticks"). After `NoMemory` nothing has changed.
+    /// "Ticks"). The other end was not declared down. After `NoMemory` nothing has changed.
     pub fn tick(&mut self) -> Result<Ticked, NoMemory>
+        requires up { self.old.stopped ≡ false }
         ensures datagrams { IfOk result (λ tick. tick.datagrams ≡ datagrams_of_tick self.old) }
         ensures suspect { IfOk result (λ tick. tick.suspect ≡ is_suspect self.old) }
         ensures state { OnOk result (self.new ≡ ticked self.old) }
         ensures stands { (first : Exchange) (acts : Acts) → self.old ≡ end_after first acts → OnOk result (self.new ≡ end_after first (more acts Tick)) }
         ensures err { OnErr result (self.new ≡ self.old) }
         ensures format { self.new.format ≡ self.old.format }
+        ensures down { self.new.stopped ≡ self.old.stopped }
     {
         self.exchange.tick(self.alloc)
     }
