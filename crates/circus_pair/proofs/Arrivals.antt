@@ -6,14 +6,14 @@ use Rattle.std.specs.Ordering.{nat_cmp}
 use Rattle.std.specs.FinMap.{FinMap, get, empty, insert, get-empty, get-insert, get-remove}
 use Rattle.std.proofs.lemmas.Bool.{cases_lt, ne_eqb, eqb-true}
 use Rattle.std.proofs.lemmas.Bool.Decides.{eqb_tells}
-use Rattle.circus_pair.specs.declared.progress.Progress.{Progress}
-use Rattle.circus_pair.specs.declared.inbox.Inbox.{Inbox}
-use Rattle.circus_pair.specs.Segment.{Piece, is_acknowledgement, has_data}
-use Rattle.circus_pair.specs.Place.{place_cmp}
-use Rattle.circus_pair.specs.Inbox.{front, joined, known, has, is_new, has_with, count_with, completes, data_with, parts_with, without, added}
+use Rattle.circus_exchange.specs.declared.progress.Progress.{Progress}
+use Rattle.circus_exchange.specs.declared.inbox.Inbox.{Inbox}
+use Rattle.circus_segment.specs.Segment.{Piece, is_acknowledgement, has_data}
+use Rattle.circus_exchange.specs.Place.{place_cmp}
+use Rattle.circus_exchange.specs.Inbox.{front, joined, known, has, is_new, has_with, count_with, completes, data_with, parts_with, without, added}
 use Rattle.circus_pair.specs.Taken.{is_of, first_of, total_in, first_part, data_in, is_there, count_in, is_reached, has_arrived, message_in, IsTotal, MayFollow, AreTaken}
-use Rattle.circus_pair.proofs.Places.{places_total}
-use Rattle.circus_pair.proofs.Ties.{equal, nat_ties, places_tie}
+use Rattle.circus_exchange.proofs.Places.{places_total}
+use Rattle.circus_exchange.proofs.Ties.{equal, nat_ties, places_tie}
 
 -- ---- how far a message has come, on numbers alone
 

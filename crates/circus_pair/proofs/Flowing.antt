@@ -3,14 +3,14 @@ use Rattle.std.proofs.Common.{◌≡◌, ◌≢◌, ℕ, ◌+◌, ◌-◌, ◌<�
 use Rattle.std.specs.Prelude.{is_some, max}
 use Rattle.std.proofs.lemmas.Bool.{ne_eqb, eq-eqb, eqb-true, lt-ltb, le-ltb, ltb-true, cases_lt}
 use Rattle.std.proofs.lemmas.Bool.Decides.{eqb_tells}
-use Rattle.circus_pair.specs.declared.progress.Progress.{Progress}
-use Rattle.circus_pair.specs.declared.exchange.Exchange.{Exchange}
-use Rattle.circus_pair.specs.Segment.{Piece, IsSegment, is_acknowledgement}
-use Rattle.circus_pair.specs.Cut.{segment_count}
-use Rattle.circus_pair.specs.Inbox.{added}
+use Rattle.circus_exchange.specs.declared.progress.Progress.{Progress}
+use Rattle.circus_exchange.specs.declared.exchange.Exchange.{Exchange}
+use Rattle.circus_segment.specs.Segment.{Piece, IsSegment, is_acknowledgement}
+use Rattle.circus_segment.specs.Cut.{segment_count}
+use Rattle.circus_exchange.specs.Inbox.{added}
 use Rattle.std.specs.FinMap.{len}
-use Rattle.circus_pair.specs.Outbox.{whole_by, becomes_whole, handed}
-use Rattle.circus_pair.specs.Exchange.{start, called, returned, takes, was_sent, sends_at_once, let_go, lets_go, in_flight_after, call_reached, return_reached, total_of, ended, return_added, after_taken, after, ticked}
+use Rattle.circus_exchange.specs.Outbox.{whole_by, becomes_whole, handed}
+use Rattle.circus_exchange.specs.Exchange.{start, called, returned, takes, was_sent, sends_at_once, let_go, lets_go, in_flight_after, call_reached, return_reached, total_of, ended, return_added, after_taken, after, ticked}
 use Rattle.circus_pair.specs.Taken.{is_of, total_in}
 use Rattle.circus_pair.specs.Acts.{Act, Call, Return, Came, Tick, Stop, Acts, none_yet, more, end_after, taken_by}
 use Rattle.circus_pair.specs.Handed.{made, call_at, says, reached_in, sent_below}

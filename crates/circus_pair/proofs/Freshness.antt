@@ -4,15 +4,15 @@ use Rattle.std.specs.Prelude.{is_some, nat_lt, OnOk, OnErr}
 use Rattle.std.specs.Cmp.{nat_cmp_total}
 use Rattle.std.specs.Ordering.{nat_cmp}
 use Rattle.std.specs.FinMap.{FinMap, get, insert, get-empty, get-insert}
-use Rattle.circus_pair.specs.declared.progress.Progress.{Progress}
-use Rattle.circus_pair.specs.declared.exchange.Exchange.{Exchange}
-use Rattle.circus_pair.specs.Segment.{Piece, is_acknowledgement}
-use Rattle.circus_pair.specs.Cut.{segment_count}
-use Rattle.circus_pair.specs.Outbox.{handed, raised, reached, emptied, forgotten, becomes_whole}
-use Rattle.circus_pair.specs.Inbox.{added}
-use Rattle.circus_pair.specs.Exchange.{start, called, returned, is_whole, awaits_return, takes, let_go, lets_go, call_reached, return_reached, ended, return_added, total_of, after_taken, after, ticked}
+use Rattle.circus_exchange.specs.declared.progress.Progress.{Progress}
+use Rattle.circus_exchange.specs.declared.exchange.Exchange.{Exchange}
+use Rattle.circus_segment.specs.Segment.{Piece, is_acknowledgement}
+use Rattle.circus_segment.specs.Cut.{segment_count}
+use Rattle.circus_exchange.specs.Outbox.{handed, raised, reached, emptied, forgotten, becomes_whole}
+use Rattle.circus_exchange.specs.Inbox.{added}
+use Rattle.circus_exchange.specs.Exchange.{start, called, returned, is_whole, awaits_return, takes, let_go, lets_go, call_reached, return_reached, ended, return_added, total_of, after_taken, after, ticked}
 use Rattle.circus_pair.specs.Fresh.{IsFresh}
-use Rattle.circus_pair.proofs.Ties.{other_key}
+use Rattle.circus_exchange.proofs.Ties.{other_key}
 
 pub fresh_start : (local remote number format : ℕ) → IsFresh (start local remote number format)
 fresh_start local remote number format q le = get-empty nat_cmp q

@@ -6,23 +6,23 @@ use Rattle.std.specs.Ordering.{nat_cmp}
 use Rattle.std.specs.FinMap.{FinMap, get, insert, get-empty, get-insert}
 use Rattle.std.proofs.lemmas.Bool.{ne_eqb, eqb-true, eqb-false, ltb-false, ltb-true}
 use Rattle.std.proofs.lemmas.Bool.Decides.{eqb_tells}
-use Rattle.circus_pair.specs.declared.progress.Progress.{Progress}
-use Rattle.circus_pair.specs.declared.outbox.Outbox.{Outbox}
-use Rattle.circus_pair.specs.declared.exchange.Exchange.{Exchange}
-use Rattle.circus_pair.specs.Segment.{Piece, IsSegment, is_acknowledgement}
-use Rattle.circus_pair.specs.Cut.{segment_count}
-use Rattle.circus_pair.specs.Inbox.{fits, known, added}
-use Rattle.circus_pair.specs.Outbox.{has_total, agrees, handed, raised, reached, becomes_whole, emptied, forgotten}
-use Rattle.circus_pair.specs.Exchange.{start, called, returned, takes, was_sent, let_go, lets_go, call_reached, return_reached, total_or_none, total_of, ended, return_added, after_taken, after, ticked}
+use Rattle.circus_exchange.specs.declared.progress.Progress.{Progress}
+use Rattle.circus_exchange.specs.declared.outbox.Outbox.{Outbox}
+use Rattle.circus_exchange.specs.declared.exchange.Exchange.{Exchange}
+use Rattle.circus_segment.specs.Segment.{Piece, IsSegment, is_acknowledgement}
+use Rattle.circus_segment.specs.Cut.{segment_count}
+use Rattle.circus_exchange.specs.Inbox.{fits, known, added}
+use Rattle.circus_exchange.specs.Outbox.{has_total, agrees, handed, raised, reached, becomes_whole, emptied, forgotten}
+use Rattle.circus_exchange.specs.Exchange.{start, called, returned, takes, was_sent, let_go, lets_go, call_reached, return_reached, total_or_none, total_of, ended, return_added, after_taken, after, ticked}
 use Rattle.circus_pair.specs.Taken.{total_in}
 use Rattle.circus_pair.specs.Acts.{Act, Call, Return, Came, Tick, Stop, Acts, none_yet, more, happens, end_after, taken_by, AreActs}
 use Rattle.circus_pair.specs.Handed.{made, call_at, return_at, says, reached_in, agrees_with, fits_with, sent_below, is_taken, ReturnsOnce}
-use Rattle.circus_pair.specs.declared.inbox.Inbox.{Inbox}
+use Rattle.circus_exchange.specs.declared.inbox.Inbox.{Inbox}
 use Rattle.circus_pair.specs.Taken.{count_in}
 use Rattle.circus_pair.proofs.Arrivals.{Keeps, told}
 use Rattle.circus_pair.proofs.Lasting.{lasts_called, lasts_returned, lasts_after, lasts_ticked}
 use Rattle.circus_pair.proofs.Standing.{Stands, stands_after}
-use Rattle.circus_pair.proofs.Ties.{equal, nat_ties}
+use Rattle.circus_exchange.proofs.Ties.{equal, nat_ties}
 
 -- ---- what an act leaves in the tables of what was handed over
 

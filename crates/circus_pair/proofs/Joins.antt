@@ -2,9 +2,9 @@
 use Rattle.std.proofs.Common.{◌≡◌, ℕ, zero, suc, ◌+◌, ◌-◌, ◌*◌, ◌≤◌, Bool, true, false, ◌&&◌, eqb, List, [], ◌∷◌, ◌++◌, length, take, drop, Option, None, Some, refl, sym, ap, subst, ◌∙◌, arith}
 use Rattle.std.specs.Prelude.{unwrap_or, is_some}
 use Rattle.std.proofs.lemmas.Bool.{eqb-true}
-use Rattle.circus_pair.specs.Segment.{Piece, has_data}
-use Rattle.circus_pair.specs.Cut.{segment_count, part_at}
-use Rattle.circus_pair.specs.Inbox.{front, joined}
+use Rattle.circus_segment.specs.Segment.{Piece, has_data}
+use Rattle.circus_segment.specs.Cut.{segment_count, part_at}
+use Rattle.circus_exchange.specs.Inbox.{front, joined}
 use Rattle.circus_pair.specs.Taken.{is_of, first_of, total_in, first_part, data_in, is_there, count_in, is_reached, has_arrived, message_in, AreTaken, AreOf}
 use Rattle.circus_pair.proofs.Arrivals.{front_passes}
 

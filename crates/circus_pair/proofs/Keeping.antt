@@ -6,14 +6,14 @@ use Rattle.std.specs.Ordering.{nat_cmp}
 use Rattle.std.specs.FinMap.{FinMap, get, insert, remove, get-empty, get-insert, get-remove}
 use Rattle.std.proofs.lemmas.Bool.{ne_eqb, eq-eqb, eqb-true, lt-ltb}
 use Rattle.std.proofs.lemmas.Bool.Decides.{eqb_tells}
-use Rattle.circus_pair.specs.declared.progress.Progress.{Progress}
-use Rattle.circus_pair.specs.declared.outbox.Outbox.{Outbox}
-use Rattle.circus_pair.specs.declared.exchange.Exchange.{Exchange}
-use Rattle.circus_pair.specs.Segment.{Piece, IsSegment, is_acknowledgement}
-use Rattle.circus_pair.specs.Cut.{segment_count}
-use Rattle.circus_pair.specs.Inbox.{completes, added}
-use Rattle.circus_pair.specs.Outbox.{has_total, agrees, handed, whole_by, becomes_whole, reached, emptied, forgotten}
-use Rattle.circus_pair.specs.Exchange.{start, called, returned, takes, let_go, lets_go, call_reached, return_reached, total_of, ended, return_added, after_taken, after, ticked}
+use Rattle.circus_exchange.specs.declared.progress.Progress.{Progress}
+use Rattle.circus_exchange.specs.declared.outbox.Outbox.{Outbox}
+use Rattle.circus_exchange.specs.declared.exchange.Exchange.{Exchange}
+use Rattle.circus_segment.specs.Segment.{Piece, IsSegment, is_acknowledgement}
+use Rattle.circus_segment.specs.Cut.{segment_count}
+use Rattle.circus_exchange.specs.Inbox.{completes, added}
+use Rattle.circus_exchange.specs.Outbox.{has_total, agrees, handed, whole_by, becomes_whole, reached, emptied, forgotten}
+use Rattle.circus_exchange.specs.Exchange.{start, called, returned, takes, let_go, lets_go, call_reached, return_reached, total_of, ended, return_added, after_taken, after, ticked}
 use Rattle.circus_pair.specs.Taken.{is_of, total_in, has_arrived, is_reached, count_in}
 use Rattle.circus_pair.specs.Acts.{Call, Return, Came, Tick, Stop, Acts, none_yet, more, happens, end_after, taken_by, AreActs}
 use Rattle.circus_pair.specs.Handed.{made, call_at, return_at, says, reached_in, agrees_with, ReturnsOnce}
@@ -21,7 +21,7 @@ use Rattle.circus_pair.specs.Lawful.{AreLawful}
 use Rattle.circus_pair.proofs.Arrivals.{Keeps, completes_is, arrived_stays, arrived_other, total_other}
 use Rattle.circus_pair.proofs.Handing.{Hands, hands_after, told_out, second, chosen_true, chosen_false, says_elsewhere, says_other_kind, says_no_return, says_no_call, says_here, says_whole, call_kind, return_kind, total_told, total_agrees, taken_return}
 use Rattle.circus_pair.proofs.Standing.{Stands, stands_after, may_follow, acknowledges, other_kind}
-use Rattle.circus_pair.proofs.Ties.{equal, nat_ties}
+use Rattle.circus_exchange.proofs.Ties.{equal, nat_ties}
 
 -- ---- lawful acts
 

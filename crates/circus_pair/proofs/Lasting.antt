@@ -1,9 +1,9 @@
 -- The format of an end never changes, nor but by a stop whether the other end is down.
 use Rattle.std.proofs.Common.{◌≡◌, ℕ, Bool, true, false, cond, eqb, List, Result, Ok, Err, refl, ap, ◌∙◌}
 use Rattle.std.specs.Prelude.{OnOk, OnErr}
-use Rattle.circus_pair.specs.declared.exchange.Exchange.{Exchange}
-use Rattle.circus_pair.specs.Segment.{Piece, is_acknowledgement}
-use Rattle.circus_pair.specs.Exchange.{called, returned, takes, let_go, lets_go, call_reached, return_reached, ended, return_added, after_taken, after, ticked}
+use Rattle.circus_exchange.specs.declared.exchange.Exchange.{Exchange}
+use Rattle.circus_segment.specs.Segment.{Piece, is_acknowledgement}
+use Rattle.circus_exchange.specs.Exchange.{called, returned, takes, let_go, lets_go, call_reached, return_reached, ended, return_added, after_taken, after, ticked}
 
 pub record Lasts (old new : Exchange) : Type 0 where
   pub format : new.format ≡ old.format

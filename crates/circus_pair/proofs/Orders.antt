@@ -9,7 +9,8 @@ use Rattle.std.proofs.lemmas.List.{append-nil}
 use Rattle.std.proofs.lemmas.Bool.{cases_lt, ne_eqb, lt-ltb, le-ltb}
 use Rattle.std.proofs.lemmas.Bool.Decides.{eqb_tells}
 use Rattle.circus_pair.specs.Sending.{in_order}
-use Rattle.circus_pair.proofs.Ties.{equal, nat_ties}
+use Rattle.circus_exchange.proofs.Ties.{equal, nat_ties}
+use Rattle.circus_exchange.proofs.Rising.{left, right, rising}
 
 pub order_none : (f : ℕ → List (List ℕ)) (n : ℕ) → ((k : ℕ) → k < n → f k ≡ []) → in_order f n ≡ []
 unfolding in_order
@@ -63,24 +64,6 @@ order_put f g k (suc n) none other = elim (cases_lt n k) [
 ]
 
 -- ---- the entries of a map
-
-pub left : (a b : Bool) → T (a && b) → T a
-left true b h = tt
-left false b h = h
-
-pub right : (a b : Bool) → T (a && b) → T b
-right true b h = h
-right false b h = absurd h
-
-pub rising : (x y : ℕ) → T (is_lt (nat_cmp x y)) → x < y
-rising x y h = elim (cases_lt x y) [
-  | inl less ↦ less
-  | inr more ↦ absurd (not_less (eqb x y) (subst (λ b. T (is_lt (cond b Less (cond (eqb x y) Equal Greater)))) (le-ltb x y more) h))
-]
-  where
-    not_less : (b : Bool) → T (is_lt (cond b Equal Greater)) → ⊥
-    not_less true h = h
-    not_less false h = h
 
 -- nothing stands below the first key
 none_below : (k : ℕ) (es : List (ℕ × List ℕ)) → T (below_all nat_cmp k es) → (q : ℕ) → q ≤ k → find nat_cmp q es ≡ None

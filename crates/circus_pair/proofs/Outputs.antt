@@ -5,14 +5,14 @@ use Rattle.std.specs.FinMap.{get, entries}
 use Rattle.std.proofs.lemmas.List.{append-nil}
 use Rattle.std.proofs.lemmas.Bool.{ne_eqb, eq-eqb, eqb-true, lt-ltb, le-ltb, cases_lt}
 use Rattle.std.proofs.lemmas.Bool.Decides.{eqb_tells}
-use Rattle.circus_pair.specs.declared.progress.Progress.{Progress}
-use Rattle.circus_pair.specs.declared.outbox.Outbox.{Outbox}
-use Rattle.circus_pair.specs.declared.exchange.Exchange.{Exchange}
-use Rattle.circus_pair.specs.Segment.{Piece, IsSegment, is_acknowledgement, spelling}
-use Rattle.circus_pair.specs.Cut.{segment_count, segment_of, whole}
-use Rattle.circus_pair.specs.Inbox.{acknowledgement}
-use Rattle.circus_pair.specs.Outbox.{on_its_way, outgoing_at, whole_of, probe, reminder_of, reminder, reminders}
-use Rattle.circus_pair.specs.Exchange.{start, called, message_out, datagrams_of_call, datagrams_of_return, takes, sends_at_once, let_go, lets_go, datagrams_let_go, in_flight_after, call_reached, return_reached, total_of, ended, return_added, after_taken, datagrams_of_taken, datagrams_after, datagrams_of_tick}
+use Rattle.circus_exchange.specs.declared.progress.Progress.{Progress}
+use Rattle.circus_exchange.specs.declared.outbox.Outbox.{Outbox}
+use Rattle.circus_exchange.specs.declared.exchange.Exchange.{Exchange}
+use Rattle.circus_segment.specs.Segment.{Piece, IsSegment, is_acknowledgement, spelling}
+use Rattle.circus_segment.specs.Cut.{segment_count, segment_of, whole}
+use Rattle.circus_exchange.specs.Inbox.{acknowledgement}
+use Rattle.circus_exchange.specs.Outbox.{on_its_way, outgoing_at, whole_of, probe, reminder_of, reminder, reminders}
+use Rattle.circus_exchange.specs.Exchange.{start, called, message_out, datagrams_of_call, datagrams_of_return, takes, sends_at_once, let_go, lets_go, datagrams_let_go, in_flight_after, call_reached, return_reached, total_of, ended, return_added, after_taken, datagrams_of_taken, datagrams_after, datagrams_of_tick}
 use Rattle.circus_pair.specs.Taken.{total_in, has_arrived}
 use Rattle.circus_pair.specs.Acts.{Act, Call, Return, Came, Tick, Acts, more, end_after, taken_by, acknowledged_by}
 use Rattle.circus_pair.specs.Handed.{made, call_at, return_at, reached_in, sent_below, agrees_with, fits_with}

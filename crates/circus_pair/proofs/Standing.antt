@@ -2,14 +2,14 @@
 use Rattle.std.proofs.Common.{◌≡◌, ℕ, ◌+◌, ◌<◌, ◌≤◌, Bool, true, false, cond, not, ◌&&◌, ◌||◌, eqb, ltb, List, [], ◌∷◌, Option, None, Some, refl, sym, ap, subst, ◌∙◌, arith}
 use Rattle.std.specs.Prelude.{unwrap_or}
 use Rattle.std.proofs.lemmas.Bool.{ne_eqb, eqb-true, eqb-false}
-use Rattle.circus_pair.specs.declared.progress.Progress.{Progress}
-use Rattle.circus_pair.specs.declared.inbox.Inbox.{Inbox}
-use Rattle.circus_pair.specs.declared.exchange.Exchange.{Exchange}
-use Rattle.circus_pair.specs.declared.taken.Arrived.{Arrived}
-use Rattle.circus_pair.specs.declared.taken.Arrived.TheVariants.{Nothing, ArrivedCall, ArrivedReturn}
-use Rattle.circus_pair.specs.Segment.{Piece, IsSegment, is_acknowledgement, spelling}
-use Rattle.circus_pair.specs.Inbox.{known, fits, completes, joined, data_with, is_new, count_with, is_owed, acknowledgement, added}
-use Rattle.circus_pair.specs.Exchange.{start, called, returned, takes, was_sent, let_go, lets_go, call_reached, return_reached, ended, return_added, after_taken, after, arrived_of_taken, arrived_after, ticked}
+use Rattle.circus_exchange.specs.declared.progress.Progress.{Progress}
+use Rattle.circus_exchange.specs.declared.inbox.Inbox.{Inbox}
+use Rattle.circus_exchange.specs.declared.exchange.Exchange.{Exchange}
+use Rattle.circus_exchange.specs.declared.taken.Arrived.{Arrived}
+use Rattle.circus_exchange.specs.declared.taken.Arrived.TheVariants.{Nothing, ArrivedCall, ArrivedReturn}
+use Rattle.circus_segment.specs.Segment.{Piece, IsSegment, is_acknowledgement, spelling}
+use Rattle.circus_exchange.specs.Inbox.{known, fits, completes, joined, data_with, is_new, count_with, is_owed, acknowledgement, added}
+use Rattle.circus_exchange.specs.Exchange.{start, called, returned, takes, was_sent, let_go, lets_go, call_reached, return_reached, ended, return_added, after_taken, after, arrived_of_taken, arrived_after, ticked}
 use Rattle.circus_pair.specs.Taken.{is_of, total_in, count_in, has_arrived, message_in, IsTotal, MayFollow, AreTaken}
 use Rattle.circus_pair.specs.Acts.{Act, Call, Return, Came, Tick, Stop, Acts, none_yet, more, happens, end_after, with_taken, taken_by, IsAct, AreActs, arrival_by, acknowledged_by}
 use Rattle.circus_pair.proofs.Arrivals.{Keeps, told, keeps_nothing, keeps_other, keeps_more, completes_is, count_is, message_is}

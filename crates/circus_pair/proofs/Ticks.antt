@@ -5,9 +5,9 @@ use Rattle.std.specs.Cmp.{nat_cmp_total}
 use Rattle.std.specs.Ordering.{nat_cmp}
 use Rattle.std.specs.FinMap.{FinMap, nat_cmp-IsAntisymmetric, get, len, empty, empty_of_len, len-empty, get-empty, same_map}
 use Rattle.std.proofs.lemmas.Bool.{eqb-true, eq-eqb, ne_eqb, lt-ltb, le-ltb, cases_lt}
-use Rattle.circus_pair.specs.declared.exchange.Exchange.{Exchange}
-use Rattle.circus_pair.specs.Segment.{Piece}
-use Rattle.circus_pair.specs.Exchange.{start, called, returned, takes, after_taken, is_waiting, ticked, is_suspect}
+use Rattle.circus_exchange.specs.declared.exchange.Exchange.{Exchange}
+use Rattle.circus_segment.specs.Segment.{Piece}
+use Rattle.circus_exchange.specs.Exchange.{start, called, returned, takes, after_taken, is_waiting, ticked, is_suspect}
 use Rattle.circus_pair.specs.Taken.{has_arrived}
 use Rattle.circus_pair.specs.Acts.{Call, Return, Came, Tick, Stop, Acts, none_yet, more, end_after, taken_by}
 use Rattle.circus_pair.specs.Handed.{made, call_at, reached_in}
@@ -17,7 +17,7 @@ use Rattle.circus_pair.specs.Ticking.{is_unfinished, waits_after, ticks_after, s
 use Rattle.circus_pair.proofs.Counting.{count_none, none_counted}
 use Rattle.circus_pair.proofs.Keeping.{kept_after, kept_call, hands_lawful}
 use Rattle.circus_pair.proofs.Outputs.{taken_is}
-use Rattle.circus_pair.proofs.Ties.{alike}
+use Rattle.circus_exchange.proofs.Ties.{alike}
 
 -- an end keeps something of a call exactly while it is unfinished
 kept_some : (o : Option (List ℕ)) (c : ℕ → ℕ) (finished : Bool) → is_some (kept_call o c finished) ≡ (is_some o && not finished)

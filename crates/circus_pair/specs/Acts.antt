@@ -1,10 +1,10 @@
 -- What happened at one end, oldest first, and what it knows then.
 use Rattle.std.specs.Prelude.{ℕ, Bool, not, ◌&&◌, ◌||◌, nat_lt, List, [], ◌∷◌, ◌==◌, if◌then◌else◌}
-use Rattle.circus_pair.specs.declared.exchange.Exchange.{Exchange}
-use Rattle.circus_pair.specs.declared.taken.Arrived.{Arrived}
-use Rattle.circus_pair.specs.declared.taken.Arrived.TheVariants.{Nothing, ArrivedCall, ArrivedReturn}
-use Rattle.circus_pair.specs.Segment.{Piece, IsSegment, is_acknowledgement, spelling}
-use Rattle.circus_pair.specs.Exchange.{called, returned, takes, after, ticked, stopped}
+use Rattle.circus_exchange.specs.declared.exchange.Exchange.{Exchange}
+use Rattle.circus_exchange.specs.declared.taken.Arrived.{Arrived}
+use Rattle.circus_exchange.specs.declared.taken.Arrived.TheVariants.{Nothing, ArrivedCall, ArrivedReturn}
+use Rattle.circus_segment.specs.Segment.{Piece, IsSegment, is_acknowledgement, spelling}
+use Rattle.circus_exchange.specs.Exchange.{called, returned, takes, after, ticked, stopped}
 use Rattle.circus_pair.specs.Taken.{count_in, has_arrived, message_in}
 
 -- a call or a return is handed over, a datagram comes that is a segment, a tick comes, the other end is declared down

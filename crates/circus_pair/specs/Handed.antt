@@ -1,7 +1,7 @@
 -- What was handed over at one end, what is acknowledged of it, and which segments are taken.
 use Rattle.std.specs.Prelude.{◌≡◌, ℕ, ◌+◌, Bool, true, false, ◌&&◌, List, [], ◌∷◌, Option, None, Some, is_some, max, nat_lt, ◌==◌, if◌then◌else◌}
-use Rattle.circus_pair.specs.Segment.{Piece, is_acknowledgement}
-use Rattle.circus_pair.specs.Cut.{segment_count}
+use Rattle.circus_segment.specs.Segment.{Piece, is_acknowledgement}
+use Rattle.circus_segment.specs.Cut.{segment_count}
 use Rattle.circus_pair.specs.Taken.{total_in}
 use Rattle.circus_pair.specs.Acts.{Call, Return, Acts, none_yet, more}
 

@@ -1,7 +1,7 @@
 -- Which acts an end may be given after which.
 use Rattle.std.specs.Prelude.{◌≡◌, ℕ, ◌+◌, ◌<◌, Bool, true, false, None}
-use Rattle.circus_pair.specs.Segment.{IsSegment}
-use Rattle.circus_pair.specs.Exchange.{start, IsSendable}
+use Rattle.circus_segment.specs.Segment.{IsSegment}
+use Rattle.circus_exchange.specs.Exchange.{start, IsSendable}
 use Rattle.circus_pair.specs.Taken.{has_arrived}
 use Rattle.circus_pair.specs.Handed.{made, return_at}
 use Rattle.circus_pair.specs.Acts.{Act, Call, Return, Came, Tick, Stop, Acts, none_yet, more, taken_by}

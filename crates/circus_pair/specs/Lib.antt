@@ -1,14 +1,7 @@
 pub mod Acts
-pub mod Cut
-pub mod Exchange
 pub mod Fresh
 pub mod Handed
-pub mod Inbox
 pub mod Lawful
-pub mod Outbox
-pub mod Outgoing
-pub mod Place
-pub mod Segment
 pub mod Sending
 pub mod Taken
 pub mod Ticking

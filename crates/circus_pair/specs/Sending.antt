@@ -1,10 +1,10 @@
 -- What an end sends, by the acts that it was given.
 use Rattle.std.specs.Prelude.{ℕ, zero, suc, ◌+◌, ◌^◌, Bool, false, not, ◌&&◌, ◌||◌, List, [], ◌∷◌, ◌++◌, Option, None, Some, is_some, if◌then◌else◌}
-use Rattle.circus_pair.specs.declared.exchange.Exchange.{Exchange}
-use Rattle.circus_pair.specs.Segment.{Piece, is_acknowledgement, spelling}
-use Rattle.circus_pair.specs.Cut.{segment_count, segment_of, whole}
-use Rattle.circus_pair.specs.Outbox.{probe}
-use Rattle.circus_pair.specs.Exchange.{message_out}
+use Rattle.circus_exchange.specs.declared.exchange.Exchange.{Exchange}
+use Rattle.circus_segment.specs.Segment.{Piece, is_acknowledgement, spelling}
+use Rattle.circus_segment.specs.Cut.{segment_count, segment_of, whole}
+use Rattle.circus_exchange.specs.Outbox.{probe}
+use Rattle.circus_exchange.specs.Exchange.{message_out}
 use Rattle.circus_pair.specs.Taken.{has_arrived}
 use Rattle.circus_pair.specs.Acts.{Act, Call, Return, Came, Tick, Stop, Acts, none_yet, more, taken_by, acknowledged_by}
 use Rattle.circus_pair.specs.Handed.{made, call_at, return_at, reached_in, is_taken}

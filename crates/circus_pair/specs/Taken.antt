@@ -1,8 +1,8 @@
 -- What the segments say that one end has taken. A list of them begins with the newest.
 use Rattle.std.specs.Prelude.{◌≡◌, ℕ, ◌<◌, ◌≤◌, Bool, true, false, not, ◌&&◌, List, [], ◌∷◌, Option, None, Some, unwrap_or, is_some, ◌==◌, if◌then◌else◌}
-use Rattle.circus_pair.specs.Segment.{Piece, is_acknowledgement, has_data}
-use Rattle.circus_pair.specs.Cut.{segment_count, part_at}
-use Rattle.circus_pair.specs.Inbox.{front, joined}
+use Rattle.circus_segment.specs.Segment.{Piece, is_acknowledgement, has_data}
+use Rattle.circus_segment.specs.Cut.{segment_count, part_at}
+use Rattle.circus_exchange.specs.Inbox.{front, joined}
 
 -- a segment, or a probe, of the message of this kind and call
 abbrev pub is_of : ℕ → ℕ → Piece → Bool

@@ -1,7 +1,7 @@
 -- How long the other end has been silent.
 use Rattle.std.specs.Prelude.{ℕ, ◌+◌, Bool, not, ◌&&◌, List, is_some, nat_lt, ◌==◌, if◌then◌else◌}
-use Rattle.circus_pair.specs.declared.exchange.Exchange.{Exchange}
-use Rattle.circus_pair.specs.Segment.{Piece}
+use Rattle.circus_exchange.specs.declared.exchange.Exchange.{Exchange}
+use Rattle.circus_segment.specs.Segment.{Piece}
 use Rattle.circus_pair.specs.Taken.{has_arrived}
 use Rattle.circus_pair.specs.Acts.{Acts, none_yet, more, Call, Return, Came, Tick, Stop, taken_by}
 use Rattle.circus_pair.specs.Handed.{made, call_at}

@@ -1,7 +1,7 @@
 -- Which messages are acknowledged whole, and which calls the window lets go. A list of segments is of those that were taken.
 use Rattle.std.specs.Prelude.{ℕ, zero, suc, ◌+◌, Bool, false, not, ◌&&◌, List, Option, None, Some, is_some, nat_lt, ◌==◌, if◌then◌else◌}
-use Rattle.circus_pair.specs.Segment.{Piece}
-use Rattle.circus_pair.specs.Cut.{segment_count}
+use Rattle.circus_segment.specs.Segment.{Piece}
+use Rattle.circus_segment.specs.Cut.{segment_count}
 use Rattle.circus_pair.specs.Acts.{Acts}
 use Rattle.circus_pair.specs.Handed.{call_at, return_at, reached_in}
 

@@ -1,22 +1,13 @@
-//! Why a datagram is no segment, and why a call is not sent.
+//! Why a call is not sent.
 use thiserror::Error;
 
-/// What is wrong with the bytes of a datagram: the first of these that applies (docs/FORMATS.md, "Segments").
-#[derive(Clone, Copy, Debug, PartialEq, Eq, Error)]
-pub enum SegmentFault {
-    /// The header is not whole.
-    #[error("the header is not whole")]
-    Short,
-    /// More bytes than a header and 1,024.
-    #[error("more bytes than a header and 1,024")]
-    TooLong,
-    /// Byte 0 or byte 1 has no meaning.
-    #[error("no such kind or control")]
-    BadKind,
-    /// Total and number are those of no segment.
-    #[error("no such total or number")]
-    BadNumber,
-    /// The data does not fit the number.
-    #[error("the data does not fit the number")]
-    BadPart,
+/// Why a call is not sent.
+#[derive(Debug, Drop, Error)]
+pub enum PairFault {
+    /// The next number is 4,294,967,295, which is never used.
+    #[error("no number is left")]
+    Spent,
+    /// Memory ran out.
+    #[error("out of memory")]
+    NoMemory,
 }

@@ -1,10 +1,10 @@
 //! What holds of an end after every list of acts.
 ghost use Rattle.std.specs.Prelude.{◌≡◌, ℕ, ◌+◌, ◌≤◌, true, false, not, ◌&&◌, List};
-ghost use Rattle.circus_pair.specs.Segment.{Piece, IsSegment, is_acknowledgement, reading, spelling};
-ghost use Rattle.circus_pair.specs.Exchange.{start, takes, arrived_after, datagrams_of_call, datagrams_of_return, datagrams_after, datagrams_of_tick, is_suspect};
+ghost use Rattle.circus_segment.specs.Segment.{Piece, IsSegment, is_acknowledgement, reading, spelling};
+ghost use Rattle.circus_exchange.specs.Exchange.{start, takes, arrived_after, datagrams_of_call, datagrams_of_return, datagrams_after, datagrams_of_tick, is_suspect};
 ghost use Rattle.circus_pair.specs.Handed.{made, is_taken, sent_below};
-ghost use Rattle.circus_pair.specs.Cut.{segment_count, part_at};
-ghost use Rattle.circus_pair.specs.Inbox.{acknowledgement, joined};
+ghost use Rattle.circus_segment.specs.Cut.{segment_count, part_at};
+ghost use Rattle.circus_exchange.specs.Inbox.{acknowledgement, joined};
 ghost use Rattle.circus_pair.specs.Taken.{total_in, has_arrived, message_in, AreTaken, AreOf};
 ghost use Rattle.circus_pair.specs.Acts.{Acts, more, Call, Return, Came, Tick, AreActs, end_after, taken_by, arrival_by, acknowledged_by};
 ghost use Rattle.circus_pair.specs.Lawful.{AreLawful};
@@ -46,11 +46,6 @@ pub fn segments_are_taken_by_the_rules()
         → IsSegment s
         → let began = start local remote first format in
         takes (end_after began acts) s ≡ is_taken first format acts (taken_by began acts) (is_sent began acts) s }
-{}
-
-/// The bytes of a segment are read as that segment.
-pub fn spelled_is_read()
-    ensures { (s : Piece) → IsSegment s → reading (spelling s) ≡ Ok s }
 {}
 
 /// The segments of a message join to it.

@@ -1,15 +1,14 @@
 //! A pair: one end of the paired messages between two nodes.
 ghost use Rattle.std.specs.Prelude.{◌≡◌, ◌⊎◌, not, true, false, IfOk, OnOk, OnErr, Ok, Err};
-ghost use Rattle.circus_pair.specs.Segment.{piece, reading};
-ghost use Rattle.circus_pair.specs.declared.taken.PairFault.TheVariants.{Spent};
-ghost use Rattle.circus_pair.specs.declared.exchange.Exchange.{Exchange};
+ghost use Rattle.circus_segment.specs.Segment.{piece, reading};
+ghost use Rattle.circus_pair.specs.declared.fault.PairFault.TheVariants.{Spent};
+ghost use Rattle.circus_exchange.specs.declared.exchange.Exchange.{Exchange};
 ghost use Rattle.circus_pair.specs.Acts.{Call, Return, Came, Tick, Stop, Acts, more, end_after};
 
-use crate::cut::Datagrams;
-use crate::exchange::Exchange;
-use crate::segment::Segment;
-use crate::taken::{PairFault, Taken, Ticked};
+use crate::fault::PairFault;
 use bytes::Bytes;
+use circus_exchange::{Exchange, Taken, Ticked};
+use circus_segment::{Datagrams, Segment};
 use circus_value::{Message, NoMemory};
 use std::alloc::Global;
 use std::marker::Model;
@@ -26,8 +25,8 @@ pub struct Pair {
 }
 
 impl Model for Pair {
-    ghost use Rattle.circus_pair.specs.declared.exchange.Exchange.{Exchange};
-    ghost use Rattle.circus_pair.specs.contracts.exchange.Exchange as model;
+    ghost use Rattle.circus_exchange.specs.declared.exchange.Exchange.{Exchange};
+    ghost use Rattle.circus_exchange.specs.contracts.exchange.Exchange as model;
 
     ghost Value = { Exchange };
 
@@ -41,7 +40,7 @@ impl Model for Pair {
 }
 
 impl Pair {
-    ghost use Rattle.circus_pair.specs.Exchange.{IsSendable, start, called, datagrams_of_call, returned, datagrams_of_return, awaits_return, takes, after, datagrams_after, arrived_after, ticked, is_suspect, datagrams_of_tick, stopped};
+    ghost use Rattle.circus_exchange.specs.Exchange.{IsSendable, start, called, datagrams_of_call, returned, datagrams_of_return, awaits_return, takes, after, datagrams_after, arrived_after, ticked, is_suspect, datagrams_of_tick, stopped};
 
     /// An end before any call, in segment format 1 or 2. It takes no memory.
     pub fn new(alloc: Global, local: u16, remote: u16, format: u8) -> Pair

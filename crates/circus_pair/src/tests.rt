@@ -1,10 +1,17 @@
-//! Bytes of segments, and the last number of a call.
-use super::*;
-use crate::segment::message_of;
-use circus_value::{Message, NoMemory};
+//! The last number of a call.
+ghost use Rattle.std.specs.Prelude.{◌≡◌, length, IfOk};
 
-fn fault_of(bytes: &[u8]) -> Option<SegmentFault> {
-    read_segment(bytes).err()
+use super::*;
+use circus_value::{Message, NoMemory};
+use std::alloc::Global;
+
+// A message of one byte.
+fn message(alloc: Global) -> Result<Message, NoMemory>
+    ensures { IfOk result (λ message. length message ≡ 1) }
+{
+    let mut message = Message::new(alloc);
+    message.push(7)?;
+    Ok(message)
 }
 
 // The number and the first datagram of a call.
@@ -16,37 +23,16 @@ fn number_of(sent: &Result<(u32, Datagrams), PairFault>) -> Option<(u32, &Messag
 }
 
 #[test]
-fn refuses_what_is_no_segment(rt: HostRuntime) {
-    assert_eq!(rt; fault_of(&[0; 7]), Some(SegmentFault::Short));
-    assert_eq!(rt;
-        fault_of(&[2, 0, 1, 1, 0, 0, 0, 0, 0xaa]),
-        Some(SegmentFault::Short)
-    );
-    assert_eq!(rt;
-        fault_of(&[4, 0, 1, 1, 0, 0, 0, 0, 0xaa]),
-        Some(SegmentFault::BadKind)
-    );
-    assert_eq!(rt;
-        fault_of(&[0, 0, 0, 1, 0, 0, 0, 0, 0xaa]),
-        Some(SegmentFault::BadNumber)
-    );
-    assert_eq!(rt;
-        fault_of(&[0, 0, 2, 1, 0, 0, 0, 0, 0xaa]),
-        Some(SegmentFault::BadPart)
-    );
-}
-
-#[test]
 fn uses_the_last_number(rt: HostRuntime) -> Result<(), NoMemory> {
     let mut pair = Pair::starting_at(rt.alloc(), 0, 1, 4_294_967_294, 1);
-    let sent = pair.send_call(message_of(rt.alloc(), &[7])?);
+    let sent = pair.send_call(message(rt.alloc())?);
     match number_of(&sent) {
         Some((4_294_967_294, datagram)) => {
             assert!(rt; datagram.as_slice() == [0, 0, 1, 1, 0xff, 0xff, 0xff, 0xfe, 7].as_slice());
         }
         _ => assert!(rt; false),
     }
-    let spent = pair.send_call(message_of(rt.alloc(), &[7])?);
+    let spent = pair.send_call(message(rt.alloc())?);
     assert!(rt; matches!(&spent, Err(PairFault::Spent)));
     Ok(())
 }

@@ -1,6 +1,6 @@
 use Rattle.std.proofs.Common.{ap, ◌∙◌}
-use Rattle.circus_pair.specs.Exchange.{awaits_return}
-use Rattle.circus_pair.specs.declared.exchange.Exchange.{Exchange}
+use Rattle.circus_exchange.specs.Exchange.{awaits_return}
+use Rattle.circus_exchange.specs.declared.exchange.Exchange.{Exchange}
 use Rattle.circus_pair.proofs.Lasting.{lasts_returned, lasts_either}
 use Rattle.circus_pair.proofs.Freshness.{fresh_returned, return_free, fresh_either}
 use Rattle.circus_pair.proofs.pair.Pair.send_return.Goals as goal

@@ -1,0 +1,4 @@
+pub mod Exchange
+pub mod Inbox
+pub mod Outbox
+pub mod Place

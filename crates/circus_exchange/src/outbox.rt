@@ -1,0 +1,179 @@
+//! Messages of one kind that are handed over and sent.
+ghost use Rattle.std.specs.Prelude.{◌≡◌, ◌≤◌, ◌<◌, ◌++◌, option_map, IfOk, OnOk, OnErr};
+ghost use Rattle.std.specs.FinMap as map;
+ghost use Rattle.circus_segment.specs.Segment.{piece};
+
+use crate::progress::Progress;
+use crate::table::Table;
+use circus_segment::{CALL, Cut, Datagrams, PLEASE_ACKNOWLEDGE, Segment};
+use circus_value::{Message, NoMemory};
+use std::alloc::Global;
+
+/// What was handed over under the numbers of calls. The bytes of a message are kept while they may be sent
+/// again, and of a call an empty message until its return has come.
+#[derive(Drop)]
+pub struct Outbox {
+    pub progress: Table<Progress>,
+    pub messages: Table<Message>,
+}
+
+impl Outbox {
+    ghost use Rattle.circus_segment.specs.Outgoing.{outgoing};
+    ghost use Rattle.circus_exchange.specs.Outbox.{agrees, outgoing_at, handed, reached, becomes_whole, emptied, forgotten, reminder_of, reminders};
+
+    pub fn new(alloc: Global) -> Self
+        ensures progress { result.progress ≡ map.empty }
+        ensures messages { result.messages ≡ map.empty }
+    {
+        Outbox {
+            progress: Table::new(alloc),
+            messages: Table::new(alloc),
+        }
+    }
+
+    /// Whether a segment speaks of a message that was handed over, and has its total.
+    #[tactic(auto, unfolding(crate::specs::Outbox::agrees))]
+    pub fn agrees(&self, segment: &Segment<'_>) -> bool
+        ensures { result ≡ agrees self.now (piece segment.now) }
+    {
+        match self.progress.get(segment.call) {
+            Some(progress) => progress.total == segment.total,
+            None => false,
+        }
+    }
+
+    /// The message of a call on its way.
+    #[tactic(auto, unfolding(crate::specs::Outbox::outgoing_at))]
+    pub fn outgoing(&self, format: u8, kind: u8, call: u32) -> Option<Cut<'_>>
+        ensures { option_map outgoing result ≡ outgoing_at self.now format kind call }
+    {
+        match (self.progress.get(call), self.messages.get(call)) {
+            (Some(progress), Some(message)) => Some(Cut {
+                format,
+                kind,
+                call,
+                total: progress.total,
+                message: message.as_slice(),
+            }),
+            _ => None,
+        }
+    }
+
+    /// Takes a message. After `NoMemory` nothing has changed.
+    pub fn hand(&mut self, call: u32, total: u16, message: Message) -> Result<(), NoMemory>
+        requires { map.get self.old.progress call ≡ None }
+        ensures ok { OnOk result (self.new ≡ handed self.old call total message) }
+        ensures err { OnErr result (self.new ≡ self.old) }
+    {
+        self.progress.insert(call, Progress { total, count: 0 })?;
+        let handed = self.messages.insert(call, message);
+        if handed.is_err() {
+            self.progress.remove(call);
+        }
+        handed
+    }
+
+    /// Whether the acknowledgement of segments up to a count makes a message acknowledged whole.
+    #[tactic(auto, unfolding(crate::specs::Outbox::becomes_whole))]
+    pub fn becomes_whole(&self, call: u32, count: u16) -> bool
+        ensures { result ≡ becomes_whole self.now call count }
+    {
+        match self.progress.get(call) {
+            Some(progress) => progress.count < count && progress.total == count,
+            None => false,
+        }
+    }
+
+    /// Notes that the segments up to a count are acknowledged.
+    #[tactic(auto, unfolding(crate::specs::Outbox::reached))]
+    pub fn reach(&mut self, call: u32, count: u16)
+        ensures { self.new ≡ reached self.old call count }
+    {
+        if let Some(progress) = self.progress.get(call) {
+            if progress.count < count {
+                let total = progress.total;
+                self.progress.set(call, Progress { total, count });
+            }
+        }
+    }
+
+    /// Gives up the bytes of a message.
+    #[tactic(auto, unfolding(crate::specs::Outbox::emptied))]
+    pub fn empty(&mut self, alloc: Global, call: u32)
+        ensures { self.new ≡ emptied self.old call }
+    {
+        if self.messages.get(call).is_some() {
+            self.messages.set(call, Message::new(alloc));
+        }
+    }
+
+    /// Gives up a message.
+    #[tactic(auto, unfolding(crate::specs::Outbox::forgotten))]
+    pub fn forget(&mut self, call: u32)
+        ensures { self.new ≡ forgotten self.old call }
+    {
+        self.messages.remove(call);
+    }
+
+    // Adds what a tick sends for one message.
+    fn remind_of(
+        &self,
+        alloc: Global,
+        cut: &Cut<'_>,
+        datagrams: &mut Datagrams,
+    ) -> Result<(), NoMemory>
+        ensures { OnOk result (datagrams.new ≡ datagrams.old ++ reminder_of cut.now.format cut.now.kind cut.now.call cut.now.message.now (map.get self.now.progress cut.now.call)) }
+    {
+        let Some(progress) = self.progress.get(cut.call) else {
+            return Ok(());
+        };
+        let progress = *progress;
+        if progress.count < progress.total {
+            let cut = Cut {
+                total: progress.total,
+                ..*cut
+            };
+            datagrams.push(cut.datagram(alloc, PLEASE_ACKNOWLEDGE, progress.next())?)?;
+        } else if cut.kind == CALL {
+            let probe = Segment {
+                format: cut.format,
+                kind: cut.kind,
+                control: PLEASE_ACKNOWLEDGE,
+                total: progress.total,
+                number: 0,
+                call: cut.call,
+                part: &[],
+            };
+            datagrams.push(probe.spelled(alloc)?)?;
+        }
+        Ok(())
+    }
+
+    /// Adds what a tick sends for the messages of calls below a limit, by number. It reads no message past the
+    /// first of a call that is not below it.
+    pub fn remind(
+        &self,
+        alloc: Global,
+        format: u8,
+        kind: u8,
+        limit: u64,
+        datagrams: &mut Datagrams,
+    ) -> Result<(), NoMemory>
+        ensures { OnOk result (datagrams.new ≡ datagrams.old ++ reminders self.now format kind limit) }
+    {
+        for (number, message) in self.messages.iter() {
+            if u64::from(*number) >= limit {
+                return Ok(());
+            }
+            let cut = Cut {
+                format,
+                kind,
+                call: *number,
+                total: 0,
+                message: message.as_slice(),
+            };
+            self.remind_of(alloc, &cut, datagrams)?;
+        }
+        Ok(())
+    }
+}

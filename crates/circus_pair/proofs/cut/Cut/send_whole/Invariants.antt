@@ -1,7 +1,0 @@
-use Rattle.std.proofs.Common.{◌≡◌, ◌++◌}
-use Rattle.circus_pair.specs.Cut.{first_datagrams}
-use Rattle.circus_pair.specs.Outgoing.{outgoing}
-use Rattle.circus_pair.proofs.cut.Cut.send_whole.Given as goal
-
-abbrev pub invariant-loop-before : goal.invariant-loop-before
-invariant-loop-before l = l.datagrams ≡ l.initial.datagrams ++ first_datagrams (outgoing l.self) l.before

@@ -1,7 +1,0 @@
-use Rattle.std.proofs.Common.{◌≡◌, ◌*◌, ◌≤◌, length}
-use Rattle.circus_pair.specs.Segment.{piece}
-use Rattle.circus_pair.specs.Inbox.{joined, data_with}
-use Rattle.circus_pair.proofs.inbox.Inbox.message.Given as goal
-
-abbrev pub invariant-loop-before : goal.invariant-loop-before
-invariant-loop-before l = record { bytes : l.message ≡ joined (data_with l.self (piece l.segment)) l.before; short : length l.message ≤ 1024 * l.before }
