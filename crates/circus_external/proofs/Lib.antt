@@ -1,0 +1,14 @@
+pub mod OctetLemmas
+pub mod PieceLemmas
+pub mod ReadLemmas
+pub mod Alike
+pub mod ShapesAlike
+pub mod OneAnswer
+pub mod Sound
+pub mod PieceSound
+pub mod SomeValue
+pub mod ReadingSound
+pub mod Promises
+pub mod Sizes
+pub mod OctetsSpelled
+pub mod ProperLemmas

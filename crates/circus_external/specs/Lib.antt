@@ -1,0 +1,6 @@
+pub mod Octets
+pub mod Spelling
+pub mod Answer
+pub mod Refusal
+pub mod Reading
+pub mod Given

@@ -1,0 +1,91 @@
+// What bytes are read from, by place.
+ghost use Rattle.std.specs.Prelude.{◌≡◌, ◌+◌, ◌-◌, ◌^◌, ◌<◌, ◌≤◌, List, ℕ, length, drop, take, slice_get, OnSome, IfOk};
+ghost use Rattle.circus_external.specs.Octets.{first_word, first_long};
+
+use circus_value::{ListOf, NoMemory, Octets, Parts};
+use std::alloc::Global;
+
+/// Bytes in order, each of which can be had by its place, counted from 0.
+pub trait ByteSource {
+    ghost octets: { Self → List ℕ };
+
+    /// How many bytes there are.
+    fn len(&self) -> usize
+        ensures { result ≡ length (octets self.now) };
+
+    /// The byte at a place. `None` exactly where the place is not below the length.
+    fn byte(&self, at: usize) -> Option<u8>
+        ensures { result ≡ slice_get (octets self.now) at };
+}
+
+impl ByteSource for &[u8] {
+    ghost octets = { λ s. s.now };
+
+    fn len(&self) -> usize {
+        (*self).len()
+    }
+
+    fn byte(&self, at: usize) -> Option<u8> {
+        self.get(at).copied()
+    }
+}
+
+impl ByteSource for Parts {
+    ghost octets = { λ joined. joined };
+
+    fn len(&self) -> usize {
+        self.len()
+    }
+
+    fn byte(&self, at: usize) -> Option<u8> {
+        self.byte(at)
+    }
+}
+
+/// The word at a place, the high byte first (docs/FORMATS.md, "External data"). `None` exactly where
+/// fewer than two bytes stand from there on.
+pub fn word_at<S: ByteSource>(source: &S, at: usize) -> Option<u16>
+    ensures value { result ≡ first_word (drop at (S.octets source.now)) }
+    ensures behind { OnSome result (at + 2 < 2 ^ 64) }
+{
+    let len = source.len();
+    if at >= len || len - at < 2 {
+        return None;
+    }
+    let high = source.byte(at).unwrap();
+    let low = source.byte(at + 1).unwrap();
+    Some(u16::from_be_bytes([high, low]))
+}
+
+/// The number of two words at a place, the high word first (docs/FORMATS.md, "External data"). `None`
+/// exactly where fewer than four bytes stand from there on.
+pub fn long_at<S: ByteSource>(source: &S, at: usize) -> Option<u32>
+    ensures value { result ≡ first_long (drop at (S.octets source.now)) }
+    ensures behind { OnSome result (at + 4 < 2 ^ 64) }
+{
+    let len = source.len();
+    if at >= len || len - at < 4 {
+        return None;
+    }
+    let high = word_at(source, at)?;
+    let low = word_at(source, at + 2)?;
+    Some(u32::from(high) * 65_536 + u32::from(low))
+}
+
+/// A copy of the bytes from one place up to another. `NoMemory` is the one fault.
+pub fn copied<S: ByteSource>(
+    alloc: Global,
+    source: &S,
+    from: usize,
+    to: usize,
+) -> Result<Octets, NoMemory>
+    requires order { from ≤ to }
+    requires within { to ≤ length (S.octets source.now) }
+    ensures { IfOk result (λ copy. copy ≡ take (to - from) (drop from (S.octets source.now))) }
+{
+    let mut copy = ListOf::new(alloc);
+    for at in from..to {
+        copy.push(source.byte(at).unwrap())?;
+    }
+    Ok(copy)
+}
