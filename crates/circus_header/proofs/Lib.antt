@@ -1,0 +1,12 @@
+pub mod Accepting
+pub mod Standing
+pub mod Meanings
+pub mod Uniqueness
+pub mod Reaching
+pub mod Answering
+pub mod Clocks
+pub mod Asks
+pub mod Calls
+pub mod Returns
+pub mod Steps
+pub mod Writings

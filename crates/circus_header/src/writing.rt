@@ -1,0 +1,157 @@
+// Headers, written.
+ghost use Rattle.std.specs.Prelude.{◌≡◌, ◌++◌, ◌∷◌, [], ◌<◌, length, map, OnOk, OnErr};
+ghost use Rattle.circus_header.specs.Field.{word, long, bytes_of};
+ghost use Rattle.circus_header.specs.CallFields.{call_fields, ask_fields, request_fields, IsCall, IsAsk, IsRequest};
+ghost use Rattle.circus_header.specs.ReturnFields.{return_fields, IsReturn};
+ghost use Rattle.circus_header.specs.Written.{Written};
+
+use crate::{Call, CallHeader, Request, ReturnHeader};
+use circus_value::{Clock, ListOf, Message, NoMemory, Path};
+use std::alloc::Global;
+
+/// Adds the bytes of a call message's header at the end of `out` (docs/FORMATS.md, "Headers").
+///
+/// After `NoMemory`, the one fault, `out` is unchanged.
+pub fn write_call(alloc: Global, call: &Call, out: &mut Message) -> Result<(), NoMemory>
+    requires { IsCall call.now }
+    ensures ok { OnOk result (out.new ≡ out.old ++ bytes_of (call_fields call.now)) }
+    ensures err { OnErr result (out.new ≡ out.old) }
+{
+    let mut header = ListOf::new(alloc);
+    push_call(call, &mut header)?;
+    out.append(header.as_slice())
+}
+
+/// Adds the bytes of a return message's header at the end of `out` (docs/FORMATS.md, "Headers").
+///
+/// After `NoMemory`, the one fault, `out` is unchanged.
+pub fn write_return(alloc: Global, header: &ReturnHeader, out: &mut Message) -> Result<(), NoMemory>
+    requires { IsReturn header.now }
+    ensures ok { OnOk result (out.new ≡ out.old ++ bytes_of (return_fields header.now)) }
+    ensures err { OnErr result (out.new ≡ out.old) }
+{
+    let mut bytes = ListOf::new(alloc);
+    push_return(header, &mut bytes)?;
+    out.append(bytes.as_slice())
+}
+
+fn push_call(call: &Call, out: &mut Message) -> Result<(), NoMemory>
+    requires { IsCall call.now }
+    ensures { OnOk result (Written out.old (call_fields call.now) out.new) }
+{
+    match call {
+        Call::Ask(header) => {
+            push_word(0, out)?;
+            push_ask(header, out)
+        }
+        Call::Ring(request) => {
+            push_word(1, out)?;
+            push_request(request, out)
+        }
+        Call::Fetch(troupe, incarnation) => {
+            push_word(2, out)?;
+            push_word(*troupe, out)?;
+            push_long(*incarnation, out)
+        }
+    }
+}
+
+fn push_ask(header: &CallHeader, out: &mut Message) -> Result<(), NoMemory>
+    requires { IsAsk header.now }
+    ensures { OnOk result (Written out.old (ask_fields header.now) out.new) }
+{
+    push_word(header.root, out)?;
+    push_path(&header.path, out)?;
+    push_word(header.client, out)?;
+    push_long(header.client_incarnation, out)?;
+    push_long(header.client_index, out)?;
+    push_word(header.server, out)?;
+    push_long(header.server_incarnation, out)?;
+    push_word(header.procedure, out)?;
+    push_clock(&header.clock, out)
+}
+
+fn push_request(request: &Request, out: &mut Message) -> Result<(), NoMemory>
+    ensures { OnOk result (Written out.old (request_fields request.now) out.new) }
+{
+    match *request {
+        Request::Lookup(troupe) => push_ring(0, troupe, 0, 0, out),
+        Request::Join(troupe, node) => push_ring(1, troupe, node, 0, out),
+        Request::Active(troupe, node, count) => push_ring(2, troupe, node, count, out),
+        Request::Gone(troupe, node) => push_ring(3, troupe, node, 0, out),
+    }
+}
+
+fn push_ring(
+    request: u16,
+    troupe: u16,
+    node: u16,
+    count: u32,
+    out: &mut Message,
+) -> Result<(), NoMemory>
+    ensures { OnOk result (Written out.old (word request ∷ word troupe ∷ word node ∷ long count ∷ []) out.new) }
+{
+    push_word(request, out)?;
+    push_word(troupe, out)?;
+    push_word(node, out)?;
+    push_long(count, out)
+}
+
+fn push_return(header: &ReturnHeader, out: &mut Message) -> Result<(), NoMemory>
+    requires { IsReturn header.now }
+    ensures { OnOk result (Written out.old (return_fields header.now) out.new) }
+{
+    match header {
+        ReturnHeader::Reply(clock) => {
+            push_word(0, out)?;
+            push_clock(clock, out)
+        }
+        ReturnHeader::Stale(incarnation) => {
+            push_word(1, out)?;
+            push_long(*incarnation, out)
+        }
+        ReturnHeader::Before(first) => {
+            push_word(2, out)?;
+            push_long(*first, out)
+        }
+        ReturnHeader::Snapshot(count) => {
+            push_word(3, out)?;
+            push_long(*count, out)
+        }
+        ReturnHeader::Table => push_word(4, out),
+    }
+}
+
+fn push_path(path: &Path, out: &mut Message) -> Result<(), NoMemory>
+    requires { length path.now < 65536 }
+    ensures { OnOk result (Written out.old (word (length path.now) ∷ map word path.now) out.new) }
+{
+    push_word(path.len() as u16, out)?;
+    for number in path.as_slice() {
+        push_word(*number, out)?;
+    }
+    Ok(())
+}
+
+fn push_clock(clock: &Clock, out: &mut Message) -> Result<(), NoMemory>
+    requires { length clock.now < 65536 }
+    ensures { OnOk result (Written out.old (word (length clock.now) ∷ map long clock.now) out.new) }
+{
+    push_word(clock.len() as u16, out)?;
+    for count in clock.as_slice() {
+        push_long(*count, out)?;
+    }
+    Ok(())
+}
+
+fn push_word(number: u16, out: &mut Message) -> Result<(), NoMemory>
+    ensures { OnOk result (Written out.old (word number ∷ []) out.new) }
+{
+    out.append(&number.to_be_bytes())
+}
+
+fn push_long(number: u32, out: &mut Message) -> Result<(), NoMemory>
+    ensures { OnOk result (Written out.old (long number ∷ []) out.new) }
+{
+    out.append(&number.to_be_bytes())
+}
