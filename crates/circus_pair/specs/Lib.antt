@@ -5,4 +5,5 @@ pub mod Lawful
 pub mod Sending
 pub mod Taken
 pub mod Ticking
+pub mod TwoEnds
 pub mod Window

@@ -1,12 +1,19 @@
 //! Paired messages between two nodes: messages are cut into segments, acknowledged, sent again and joined.
 //!
 //! `pair` is what a node uses, `fault` why a call is not sent. `laws` says what holds after every list of acts.
+//! `two_ends` puts two pairs together, whose datagrams come as the caller says: `side` is one of them and `sent` keeps
+//! what it has sent. `two_laws` says what holds of both after every list of acts.
+//!
 //! Segments are those of `circus_segment`, and what an end does is `circus_exchange`.
 #![tactic(auto)]
 
 mod fault;
 mod laws;
 mod pair;
+mod sent;
+mod side;
+mod two_ends;
+mod two_laws;
 
 pub use circus_exchange::{Arrived, Taken, Ticked};
 pub use circus_segment::{
@@ -20,6 +27,13 @@ pub use laws::{
     sent_messages_arrive, ticks_are_counted,
 };
 pub use pair::Pair;
+pub use two_ends::{Act, TwoEnds, TwoFault};
+pub use two_laws::{
+    acknowledged_messages_have_arrived, arrived_messages_were_sent, datagrams_are_segments,
+    messages_arrive_once, returns_answer_arrived_calls,
+};
 
 #[cfg(test)]
 mod tests;
+#[cfg(test)]
+mod two_tests;

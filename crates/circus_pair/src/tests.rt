@@ -6,7 +6,7 @@ use circus_value::{Message, NoMemory};
 use std::alloc::Global;
 
 // A message of one byte.
-fn message(alloc: Global) -> Result<Message, NoMemory>
+pub(crate) fn message(alloc: Global) -> Result<Message, NoMemory>
     ensures { IfOk result (λ message. length message ≡ 1) }
 {
     let mut message = Message::new(alloc);

@@ -1,0 +1,297 @@
+-- After every lawful list of acts two ends agree on what was sent, arrived and acknowledged.
+use Rattle.std.proofs.Common.{◌≡◌, ℕ, ◌+◌, ◌^◌, ◌<◌, ◌≤◌, ◌⊎◌, inl, inr, Bool, true, false, cond, not, ◌&&◌, eqb, List, [], ◌∷◌, length, Option, None, Some, Result, Ok, Err, refl, sym, ap, subst, ◌∙◌, arith, eq-eqb}
+use Rattle.std.specs.Prelude.{All, count_by, is_some, max, slice_get, OnOk}
+use Rattle.std.specs.FinMap.{get}
+use Rattle.std.proofs.lemmas.Bool.{eqb-true, eqb-false, ltb-true, cases_lt}
+use Rattle.std.proofs.lemmas.List.Elements.{All-cons, All-nil}
+use Rattle.circus_exchange.specs.declared.progress.Progress.{Progress}
+use Rattle.circus_exchange.specs.declared.exchange.Exchange.{Exchange}
+use Rattle.circus_segment.specs.declared.fault.SegmentFault.{SegmentFault}
+use Rattle.circus_exchange.specs.declared.taken.Arrived.{Arrived}
+use Rattle.circus_pair.specs.declared.two_ends.TwoFault.{TwoFault}
+use Rattle.circus_pair.specs.declared.two_ends.TwoFault.TheVariants.{NoSuch, Spent}
+use Rattle.circus_pair.specs.declared.two_ends.Act.{Act}
+use Rattle.circus_pair.specs.declared.two_ends.Act.TheVariants.{Call, Return, Deliver, Tick}
+use Rattle.circus_segment.specs.Segment.{Piece, IsSegment, is_acknowledgement, reading}
+use Rattle.circus_segment.specs.Cut.{segment_count}
+use Rattle.circus_exchange.specs.Exchange.{IsSendable, is_whole, awaits_return}
+use Rattle.circus_pair.specs.Taken.{is_of, first_of, total_in, count_in, is_reached, has_arrived, AreOf}
+use Rattle.circus_pair.specs.Acts.{Call as Calls, Return as Returns, Came, Tick as Ticks, Acts, more, taken_by, end_after}
+use Rattle.circus_pair.specs.Handed.{made, call_at, return_at, says, reached_in}
+use Rattle.circus_pair.specs.TwoEnds.{History, begun, then_came, Arrival, Both, end_at, both_after, coming, delivered, with_act, start_of, acts_of, sent_by, taken_at, arrived_at, handed_over, MayFollow, AreLawful, CanBeSent, names_none, has_no_number}
+use Rattle.circus_pair.proofs.Arrivals.{told}
+use Rattle.circus_pair.proofs.Standing.{Stands}
+use Rattle.circus_pair.proofs.Handing.{Hands, told_out}
+use Rattle.circus_segment.proofs.Spellings.{read_again}
+use Rattle.circus_pair.proofs.Growing.{count_le}
+use Rattle.circus_pair.proofs.Each.{Each, each_at}
+use Rattle.circus_pair.proofs.Sayings.{IsSaid, Tells, count_bounds}
+use Rattle.circus_pair.proofs.Speaking.{Fine}
+use Rattle.circus_pair.proofs.Dialogue.{started, keeping, are_of, found, Sound, turned, sound_act, sound_start}
+
+-- ---- every list of acts
+
+sound_call : (local remote format : ℕ) (here there : Acts) (message : List ℕ) → Sound local remote format here there → IsSendable format message × (made here < 4294967295) → Sound local remote format (more here (Calls message)) there
+sound_call local remote format here there message sound may = (let low : made here < 4294967295 = may.1 in sound_act local remote format here there (Calls message) sound (may.0, omega arith) tt)
+
+-- the number of a call that has arrived
+number_fits : (format : ℕ) (acts : Acts) (ots ts : List Piece) (call : ℕ) → Each (IsSaid 0 format acts ots) ts → has_arrived ts 0 call ≡ true → call < 2 ^ 32
+number_fits format acts ots ts call each h = (let f = found (IsSaid 0 format acts ots) ts 0 call each h in subst (λ n. n < 2 ^ 32) f.part.call_is f.is.segment.call)
+
+sound_return : (local remote format : ℕ) (here there : Acts) (call : ℕ) (message : List ℕ) → Sound local remote format here there → IsSendable format message × (has_arrived (taken_by (started local remote format) here) 0 call ≡ true) × (return_at here call ≡ None) → Sound local remote format (more here (Returns call message)) there
+sound_return local remote format here there call message sound may =
+    sound_act local remote format here there (Returns call message) sound (may.0, number_fits format there _ (taken_by (started local remote format) here) call sound.hears_there.heard may.1, may.1, may.2) tt
+
+sound_datagram : (local remote format : ℕ) (here there : Acts) (bytes : List ℕ) → Sound local remote format here there → Tells 0 format there (taken_by (started remote local format) there) bytes → Sound local remote format (with_act here (coming (reading bytes))) there
+sound_datagram local remote format here there bytes sound tells =
+    let read : reading bytes ≡ Ok tells.said = ap reading tells.bytes_are ∙ read_again tells.said tells.is.segment in
+    subst (λ (r : Result Piece SegmentFault). Sound local remote format (with_act here (coming r)) there) (sym read)
+    (sound_act local remote format here there (Came tells.said) sound tells.is.segment tells.is)
+
+sound_delivered : (local remote format : ℕ) (here there : Acts) (o : Option (List ℕ)) → Sound local remote format here there → ((bytes : List ℕ) → o ≡ Some bytes → Tells 0 format there (taken_by (started remote local format) there) bytes) → Sound local remote format (with_act here (delivered o)) there
+sound_delivered local remote format here there None sound tells = sound
+sound_delivered local remote format here there (Some bytes) sound tells = sound_datagram local remote format here there bytes sound (tells bytes refl)
+
+sound_deliver : (local remote format : ℕ) (here there : Acts) (number : ℕ) → Sound local remote format here there → Sound local remote format (with_act here (delivered (slice_get (sent_by (started remote local format) there) number))) there
+sound_deliver local remote format here there number sound =
+    sound_delivered local remote format here there (slice_get (sent_by (started remote local format) there) number) sound
+    (λ bytes is. each_at _ (sent_by (started remote local format) there) number bytes sound.good_there.tells is)
+
+sound_tick : (local remote format : ℕ) (here there : Acts) → Sound local remote format here there → Sound local remote format (more here Ticks) there
+sound_tick local remote format here there sound = sound_act local remote format here there Ticks sound tt tt
+
+sound_after : (format : ℕ) (history : History) → (format ≡ 1) ⊎ (format ≡ 2) → AreLawful format history → Sound 0 1 format (acts_of false format history) (acts_of true format history)
+sound_after format begun known lawful = sound_start 0 1 format known
+sound_after format (then_came history (Call false message)) known lawful = sound_call 0 1 format _ _ message (sound_after format history known lawful.0) lawful.1
+sound_after format (then_came history (Call true message)) known lawful = turned 1 0 format _ _ (sound_call 1 0 format _ _ message (turned 0 1 format _ _ (sound_after format history known lawful.0)) lawful.1)
+sound_after format (then_came history (Return false call message)) known lawful = sound_return 0 1 format _ _ call message (sound_after format history known lawful.0) lawful.1
+sound_after format (then_came history (Return true call message)) known lawful = turned 1 0 format _ _ (sound_return 1 0 format _ _ call message (turned 0 1 format _ _ (sound_after format history known lawful.0)) lawful.1)
+sound_after format (then_came history (Deliver false number)) known lawful = sound_deliver 0 1 format _ _ number (sound_after format history known lawful.0)
+sound_after format (then_came history (Deliver true number)) known lawful = turned 1 0 format _ _ (sound_deliver 1 0 format _ _ number (turned 0 1 format _ _ (sound_after format history known lawful.0)))
+sound_after format (then_came history (Tick false)) known lawful = sound_tick 0 1 format _ _ (sound_after format history known lawful.0)
+sound_after format (then_came history (Tick true)) known lawful = turned 1 0 format _ _ (sound_tick 1 0 format _ _ (turned 0 1 format _ _ (sound_after format history known lawful.0)))
+
+-- what holds of two ends seen from either holds of each of them
+turned_after : (format : ℕ) (history : History) → (format ≡ 1) ⊎ (format ≡ 2) → AreLawful format history → Sound 1 0 format (acts_of true format history) (acts_of false format history)
+turned_after format history known lawful = turned 0 1 format _ _ (sound_after format history known lawful)
+
+-- ---- what is sent
+
+read_of : (local remote format : ℕ) (here there : Acts) → Sound local remote format here there → (number : ℕ) (datagram : List ℕ) → slice_get (sent_by (started local remote format) here) number ≡ Some datagram → (s : Piece) × (reading datagram ≡ Ok s) × IsSegment s × (s.format ≡ format)
+read_of local remote format here there sound number datagram is =
+    let tells = each_at (Tells 0 format here (taken_by (started local remote format) here)) (sent_by (started local remote format) here) number datagram sound.good_here.tells is in
+    (tells.said, ap reading tells.bytes_are ∙ read_again tells.said tells.is.segment, tells.is.segment, tells.is.format_is)
+
+pub datagrams_read : (format : ℕ) (history : History) (end : Bool) (number : ℕ) (datagram : List ℕ) → (format ≡ 1) ⊎ (format ≡ 2) → AreLawful format history → slice_get (sent_by (start_of end format) (acts_of end format history)) number ≡ Some datagram → (s : Piece) × (reading datagram ≡ Ok s) × IsSegment s × (s.format ≡ format)
+datagrams_read format history false number datagram known lawful = read_of 0 1 format _ _ (sound_after format history known lawful) number datagram
+datagrams_read format history true number datagram known lawful = read_of 1 0 format _ _ (turned_after format history known lawful) number datagram
+
+-- ---- what arrives
+
+pub arrived_once : (format : ℕ) (history : History) (end : Bool) (kind call : ℕ) → (format ≡ 1) ⊎ (format ≡ 2) → AreLawful format history → count_by (λ (a : Arrival). eqb a.kind kind && eqb a.call call) (arrived_at end format history) ≡ cond (has_arrived (taken_at end format history) kind call) 1 0
+arrived_once format history false kind call known lawful = (sound_after format history known lawful).hears_there.once kind call
+arrived_once format history true kind call known lawful = (turned_after format history known lawful).hears_there.once kind call
+
+pub at_most_once : (format : ℕ) (history : History) (end : Bool) (kind call : ℕ) → (format ≡ 1) ⊎ (format ≡ 2) → AreLawful format history → count_by (λ (a : Arrival). eqb a.kind kind && eqb a.call call) (arrived_at end format history) ≤ 1
+at_most_once format history end kind call known lawful = subst (λ n. n ≤ 1) (sym (arrived_once format history end kind call known lawful)) (one_most (has_arrived (taken_at end format history) kind call))
+  where
+    one_most : (b : Bool) → cond b 1 0 ≤ 1
+    one_most true = omega arith
+    one_most false = omega arith
+
+each_all : {X : Type 0} (P : X → Type 0) (xs : List X) → Each P xs → All P xs
+each_all P [] each = All-nil P
+each_all P (x ∷ xs) each = All-cons P x xs each.0 (each_all P xs each.1)
+
+pub arrived_as_handed : (format : ℕ) (history : History) (end : Bool) → (format ≡ 1) ⊎ (format ≡ 2) → AreLawful format history → All (λ (a : Arrival). handed_over 0 (acts_of (not end) format history) a.kind a.call ≡ Some a.message) (arrived_at end format history)
+arrived_as_handed format history false known lawful = each_all _ (arrived_at false format history) (sound_after format history known lawful).hears_there.messages
+arrived_as_handed format history true known lawful = each_all _ (arrived_at true format history) (turned_after format history known lawful).hears_there.messages
+
+-- ---- what is acknowledged
+
+-- a segment that says so
+record Says (P : Piece → Type 0) (kind call total n : ℕ) : Type 0 where
+  pub piece : Piece
+  pub is : P piece
+  pub most : n ≤ says piece kind call total
+
+said_by : (P : Piece → Type 0) (ts : List Piece) (kind call total n : ℕ) → Each P ts → 0 < n → n ≤ reached_in ts kind call total → Says P kind call total n
+unfolding reached_in
+said_by P [] kind call total n each some le = absurd (omega arith)
+said_by P (s ∷ ts) kind call total n each some le = elim (larger (says s kind call total) (reached_in ts kind call total) n le) [
+  | inl here ↦ record { piece = s; is = each.0; most = here }
+  | inr before ↦ said_by P ts kind call total n each.1 some before
+]
+  where
+    larger : (a b k : ℕ) → k ≤ max a b → (k ≤ a) ⊎ (k ≤ b)
+    larger a b k h = elim (cases_lt a b) [ inl less ↦ inr (omega arith) | inr more_ ↦ inl (omega arith) ]
+
+chosen_some : (b : Bool) (x n : ℕ) → 0 < n → n ≤ cond b x 0 → (b ≡ true) × (n ≤ x)
+chosen_some true x n some le = (refl, le)
+chosen_some false x n some le = absurd (omega arith)
+
+both_true : (a b : Bool) → (a && b) ≡ true → (a ≡ true) × (b ≡ true)
+both_true true b h = (refl, h)
+both_true false b h = absurd cc
+
+total_cases : (o : Option ℕ) (b : Bool) (x n total : ℕ) → (o ≡ Some total → total ≡ n) → (b ≡ true → x ≡ n) → first_of o b x ≡ Some total → total ≡ n
+total_cases None true x n total h k e = (let same : x ≡ total = cc in sym same ∙ k refl)
+total_cases None false x n total h k e = absurd cc
+total_cases (Some t) b x n total h k e = h e
+
+total_of_sent : (ts : List Piece) (kind call total : ℕ) (message : List ℕ) → AreOf kind call message ts → total_in ts kind call ≡ Some total → total ≡ segment_count message
+unfolding total_in
+total_of_sent [] kind call total message of_it e = absurd cc
+total_of_sent (s ∷ ts) kind call total message of_it e =
+    total_cases (total_in ts kind call) (is_of kind call s) s.total (segment_count message) total
+    (total_of_sent ts kind call total message of_it.1) (λ h. (of_it.0 h).total) e
+
+whole_there : (ts : List Piece) (kind call total : ℕ) → total_in ts kind call ≡ Some total → total ≤ count_in ts kind call total → has_arrived ts kind call ≡ true
+unfolding has_arrived
+whole_there ts kind call total is le =
+    (let most : count_in ts kind call total ≤ total = count_le ts kind call total in
+    ap (λ o. is_reached o (count_in ts kind call)) is ∙ eq-eqb (count_in ts kind call total) total (omega arith))
+
+-- an acknowledgement of the last segment
+acknowledged_whole : (format : ℕ) (here there : Acts) (tsh tst : List Piece) (kind call : ℕ) (m : List ℕ) (s : Piece) → 0 < segment_count m → handed_over 0 here kind call ≡ Some m → Each (IsSaid 0 format here tsh) tst → IsSaid 0 format there tst s → is_acknowledgement s ≡ true → segment_count m ≤ cond (eqb s.kind kind && eqb s.call call) s.number 0 → has_arrived tst kind call ≡ true
+acknowledged_whole format here there tsh tst kind call m s some handed heard said ack le =
+    let key = chosen_some (eqb s.kind kind && eqb s.call call) s.number (segment_count m) some le in
+    let keys = both_true (eqb s.kind kind) _ key.0 in
+    let same_kind : s.kind ≡ kind = eqb-true s.kind kind keys.0 in
+    let same_call : s.call ≡ call = eqb-true s.call call keys.1 in
+    let told_so = said.acknowledges ack in
+    let total : total_in tst kind call ≡ Some s.total = subst (λ k. total_in tst k call ≡ Some s.total) same_kind (subst (λ n. total_in tst s.kind n ≡ Some s.total) same_call told_so.0) in
+    let counted : s.number ≤ count_in tst kind call s.total = subst (λ k. s.number ≤ count_in tst k call s.total) same_kind (subst (λ n. s.number ≤ count_in tst s.kind n s.total) same_call told_so.1) in
+    let count : s.total ≡ segment_count m = total_of_sent tst kind call s.total m (are_of format here tsh tst kind call m handed heard) total in
+    let all : segment_count m ≤ s.number = key.1 in
+    whole_there tst kind call s.total total (omega arith)
+
+-- a segment of the return
+answered_whole : (format : ℕ) (there : Acts) (tst : List Piece) (kind call total : ℕ) (s : Piece) → 0 < total → IsSaid 0 format there tst s → is_acknowledgement s ≡ false → total ≤ cond (eqb kind 0 && (eqb s.kind 1 && eqb s.call call)) total 0 → has_arrived tst kind call ≡ true
+answered_whole format there tst kind call total s some said plain le =
+    let key = chosen_some (eqb kind 0 && (eqb s.kind 1 && eqb s.call call)) total total some le in
+    let keys = both_true (eqb kind 0) _ key.0 in
+    let more_keys = both_true (eqb s.kind 1) _ keys.1 in
+    subst (λ k. has_arrived tst k call ≡ true) (sym (eqb-true kind 0 keys.0))
+    (subst (λ n. has_arrived tst 0 n ≡ true) (eqb-true s.call call more_keys.1) (said.answers plain (eqb-true s.kind 1 more_keys.0)))
+
+some_segments : (format : ℕ) (acts : Acts) (ts : List Piece) (kind call : ℕ) (m : List ℕ) → Fine 0 format acts ts → handed_over 0 acts kind call ≡ Some m → 0 < segment_count m
+some_segments format acts ts kind call m fine handed =
+    (let sendable : IsSendable format m = (elim (eqb kind 0) as (λ b. cond b (call_at 0 acts call) (return_at acts call) ≡ Some m → IsSendable format m) [ true ↦ λ h. (fine.calls call m h).0 | false ↦ λ h. (fine.returns call m h).0 ]) handed in
+    (count_bounds (length m) _ (segment_count m) refl sendable.0 sendable.1).0)
+
+acknowledged_of : (local remote format : ℕ) (here there : Acts) → Sound local remote format here there → (kind call : ℕ) (m : List ℕ) → handed_over 0 here kind call ≡ Some m → reached_in (taken_by (started local remote format) here) kind call (segment_count m) ≡ segment_count m → has_arrived (taken_by (started remote local format) there) kind call ≡ true
+acknowledged_of local remote format here there sound kind call m handed reached =
+    let tsh = taken_by (started local remote format) here in
+    let tst = taken_by (started remote local format) there in
+    let some = some_segments format here tsh kind call m sound.good_here.fine handed in
+    let s = said_by (IsSaid 0 format there tst) tsh kind call (segment_count m) (segment_count m) sound.hears_there.heard some (let e : reached_in tsh kind call (segment_count m) ≡ segment_count m = reached in omega arith) in
+    elim (is_acknowledgement s.piece) as (λ b. is_acknowledgement s.piece ≡ b → segment_count m ≤ cond b (cond (eqb s.piece.kind kind && eqb s.piece.call call) s.piece.number 0) (cond (eqb kind 0 && (eqb s.piece.kind 1 && eqb s.piece.call call)) (segment_count m) 0) → has_arrived tst kind call ≡ true) [
+      | true ↦ λ ack le. acknowledged_whole format here there tsh tst kind call m s.piece some handed sound.hears_here.heard s.is ack le
+      | false ↦ λ plain le. answered_whole format there tst kind call (segment_count m) s.piece some s.is plain le
+    ] refl s.most
+
+pub acknowledged_arrived : (format : ℕ) (history : History) (end : Bool) (kind call : ℕ) (m : List ℕ) → (format ≡ 1) ⊎ (format ≡ 2) → AreLawful format history → handed_over 0 (acts_of end format history) kind call ≡ Some m → reached_in (taken_at end format history) kind call (segment_count m) ≡ segment_count m → has_arrived (taken_at (not end) format history) kind call ≡ true
+acknowledged_arrived format history false kind call m known lawful = acknowledged_of 0 1 format _ _ (sound_after format history known lawful) kind call m
+acknowledged_arrived format history true kind call m known lawful = acknowledged_of 1 0 format _ _ (turned_after format history known lawful) kind call m
+
+-- ---- what an end keeps of it
+
+-- progress that is whole says so
+progress_whole : (o : Option (List ℕ)) (c : ℕ → ℕ) (p : Progress) → told_out o c ≡ Some p → p.count ≡ p.total → (m : List ℕ) × (o ≡ Some m) × (c (segment_count m) ≡ segment_count m)
+progress_whole None c p is whole = absurd cc
+progress_whole (Some m) c p is whole =
+    (let same : record { total = segment_count m; count = c (segment_count m) } ≡ p = cc in
+    (m, refl, ap (λ (x : Progress). x.count) same ∙ whole ∙ sym (ap (λ (x : Progress). x.total) same)))
+
+kept_of : (local remote format : ℕ) (here there : Acts) → Sound local remote format here there → (kind call : ℕ) (p : Progress) → told_out (handed_over 0 here kind call) (reached_in (taken_by (started local remote format) here) kind call) ≡ Some p → p.count ≡ p.total → has_arrived (taken_by (started remote local format) there) kind call ≡ true
+kept_of local remote format here there sound kind call p is whole =
+    (let so = progress_whole (handed_over 0 here kind call) (reached_in (taken_by (started local remote format) here) kind call) p is whole in
+    acknowledged_of local remote format here there sound kind call so.0 so.1 so.2)
+
+call_kept_of : (local remote format : ℕ) (here there : Acts) → Sound local remote format here there → (call : ℕ) (p : Progress) → get (end_after (started local remote format) here).calls.progress call ≡ Some p → p.count ≡ p.total → has_arrived (taken_by (started remote local format) there) 0 call ≡ true
+call_kept_of local remote format here there sound call p is = kept_of local remote format here there sound 0 call p (sym ((keeping local remote format here sound.good_here).hands.calls call) ∙ is)
+
+return_kept_of : (local remote format : ℕ) (here there : Acts) → Sound local remote format here there → (call : ℕ) (p : Progress) → get (end_after (started local remote format) here).returns.progress call ≡ Some p → p.count ≡ p.total → has_arrived (taken_by (started remote local format) there) 1 call ≡ true
+return_kept_of local remote format here there sound call p is = kept_of local remote format here there sound 1 call p (sym ((keeping local remote format here sound.good_here).hands.returns call) ∙ is)
+
+pub call_kept : (format : ℕ) (history : History) (end : Bool) (call : ℕ) (p : Progress) → (format ≡ 1) ⊎ (format ≡ 2) → AreLawful format history → get (end_at (both_after format history) end).exchange.calls.progress call ≡ Some p → p.count ≡ p.total → has_arrived (taken_at (not end) format history) 0 call ≡ true
+call_kept format history false call p known lawful = call_kept_of 0 1 format _ _ (sound_after format history known lawful) call p
+call_kept format history true call p known lawful = call_kept_of 1 0 format _ _ (turned_after format history known lawful) call p
+
+pub return_kept : (format : ℕ) (history : History) (end : Bool) (call : ℕ) (p : Progress) → (format ≡ 1) ⊎ (format ≡ 2) → AreLawful format history → get (end_at (both_after format history) end).exchange.returns.progress call ≡ Some p → p.count ≡ p.total → has_arrived (taken_at (not end) format history) 1 call ≡ true
+return_kept format history false call p known lawful = return_kept_of 0 1 format _ _ (sound_after format history known lawful) call p
+return_kept format history true call p known lawful = return_kept_of 1 0 format _ _ (turned_after format history known lawful) call p
+
+-- ---- which returns may follow
+
+whole_told : (o : Option ℕ) (c : ℕ → ℕ) → is_whole (told o c) ≡ is_reached o c
+whole_told None c = refl
+whole_told (Some t) c = refl
+
+some_told : (o : Option (List ℕ)) (c : ℕ → ℕ) → is_some (told_out o c) ≡ is_some o
+some_told None c = refl
+some_told (Some m) c = refl
+
+awaits_is : (first : ℕ) (acts : Acts) (ts : List Piece) (e : Exchange) (call : ℕ) → Stands ts e → Hands first acts ts e → awaits_return e call ≡ (has_arrived ts 0 call && not (is_some (return_at acts call)))
+unfolding awaits_return has_arrived
+awaits_is first acts ts e call stands hands =
+    ap (λ b. b && not (is_some (get e.returns.progress call))) (ap is_whole (stands.calls.progress call) ∙ whole_told (total_in ts 0 call) (count_in ts 0 call))
+    ∙ ap (λ b. is_reached (total_in ts 0 call) (count_in ts 0 call) && not b) (ap is_some (hands.returns call) ∙ some_told (return_at acts call) (reached_in ts 1 call))
+
+awaits_of : (local remote format : ℕ) (here there : Acts) → Sound local remote format here there → (call : ℕ) → awaits_return (end_after (started local remote format) here) call ≡ (has_arrived (taken_by (started local remote format) here) 0 call && not (is_some (return_at here call)))
+awaits_of local remote format here there sound call = (let k = keeping local remote format here sound.good_here in awaits_is 0 here _ _ call k.stands k.hands)
+
+pub awaited : (format : ℕ) (history : History) (end : Bool) (call : ℕ) → (format ≡ 1) ⊎ (format ≡ 2) → AreLawful format history → awaits_return (end_at (both_after format history) end).exchange call ≡ (has_arrived (taken_at end format history) 0 call && not (is_some (return_at (acts_of end format history) call)))
+awaited format history false call known lawful = awaits_of 0 1 format _ _ (sound_after format history known lawful) call
+awaited format history true call known lawful = awaits_of 1 0 format _ _ (turned_after format history known lawful) call
+
+-- ---- an act that happens might come
+
+not_false : (b : Bool) → not b ≡ false → b ≡ true
+not_false true h = refl
+not_false false h = absurd cc
+
+nothing_there : (o : Option (List ℕ)) → not (is_some o) ≡ true → o ≡ None
+nothing_there None h = refl
+nothing_there (Some m) h = absurd cc
+
+may_call : (local remote format : ℕ) (here there : Acts) (message : List ℕ) → Sound local remote format here there → IsSendable (end_after (started local remote format) here).format message → eqb (end_after (started local remote format) here).next 4294967295 ≡ false → IsSendable format message × (made here < 4294967295)
+may_call local remote format here there message sound sendable left =
+    let k = keeping local remote format here sound.good_here in
+    let next : (end_after (started local remote format) here).next ≡ 0 + made here = k.hands.next in
+    let few : made here ≤ 4294967295 = sound.good_here.few in
+    let ne : (end_after (started local remote format) here).next ≡ 4294967295 → ⊥ = eqb-false (end_after (started local remote format) here).next 4294967295 left in
+    (subst (λ f. IsSendable f message) k.format_is sendable, below (end_after (started local remote format) here).next (made here) next few ne)
+  where
+    below : (n m : ℕ) → n ≡ 0 + m → m ≤ 4294967295 → (n ≡ 4294967295 → ⊥) → m < 4294967295
+    below n m is le ne = omega arith
+
+may_return : (local remote format : ℕ) (here there : Acts) (call : ℕ) (message : List ℕ) → Sound local remote format here there → IsSendable (end_after (started local remote format) here).format message → not (awaits_return (end_after (started local remote format) here) call) ≡ false → IsSendable format message × (has_arrived (taken_by (started local remote format) here) 0 call ≡ true) × (return_at here call ≡ None)
+may_return local remote format here there call message sound sendable awaits =
+    let k = keeping local remote format here sound.good_here in
+    let both = both_true (has_arrived (taken_by (started local remote format) here) 0 call) _ (sym (awaits_of local remote format here there sound call) ∙ not_false _ awaits) in
+    (subst (λ f. IsSendable f message) k.format_is sendable, both.0, nothing_there _ both.1)
+
+may_follow : (format : ℕ) (history : History) (act : Act) → (format ≡ 1) ⊎ (format ≡ 2) → AreLawful format history → CanBeSent (both_after format history) act → names_none (both_after format history) act ≡ false → has_no_number (both_after format history) act ≡ false → MayFollow format history act
+may_follow format history (Call false message) known lawful sendable such left = may_call 0 1 format _ _ message (sound_after format history known lawful) sendable left
+may_follow format history (Call true message) known lawful sendable such left = may_call 1 0 format _ _ message (turned_after format history known lawful) sendable left
+may_follow format history (Return false call message) known lawful sendable such left = may_return 0 1 format _ _ call message (sound_after format history known lawful) sendable such
+may_follow format history (Return true call message) known lawful sendable such left = may_return 1 0 format _ _ call message (turned_after format history known lawful) sendable such
+may_follow format history (Deliver false number) known lawful sendable such left = ltb-true number _ (not_false _ such)
+may_follow format history (Deliver true number) known lawful sendable such left = ltb-true number _ (not_false _ such)
+may_follow format history (Tick at) known lawful sendable such left = tt
+
+no_fault : (b : Bool) (x : Arrived) (fault : TwoFault) → (b ≡ true → ◌≡◌ {A = Result Arrived TwoFault} (Ok x) (Err fault)) → b ≡ false
+no_fault true x fault h = (let e : ◌≡◌ {A = Result Arrived TwoFault} (Ok x) (Err fault) = h refl in absurd cc)
+no_fault false x fault h = refl
+
+pub lawful_more : (r : Result Arrived TwoFault) (old : Both) (act : Act) → CanBeSent old act → (names_none old act ≡ true → r ≡ Err NoSuch) → (has_no_number old act ≡ true → r ≡ Err Spent) → (format : ℕ) (history : History) → (format ≡ 1) ⊎ (format ≡ 2) → AreLawful format history → old ≡ both_after format history → OnOk r (AreLawful format (then_came history act))
+lawful_more (Err fault) old act sendable such left format history known lawful stands = tt
+lawful_more (Ok x) old act sendable such left format history known lawful stands = (
+  lawful,
+  may_follow format history act known lawful
+      (subst (λ both. CanBeSent both act) stands sendable)
+      (ap (λ both. names_none both act) (sym stands) ∙ no_fault (names_none old act) x NoSuch such)
+      (ap (λ both. has_no_number both act) (sym stands) ∙ no_fault (has_no_number old act) x Spent left),
+)
