@@ -1,0 +1,14 @@
+pub mod Sound
+pub mod Repeats
+pub mod Complete
+pub mod Tokens
+pub mod Types
+pub mod TypesRead
+pub mod Interfaces
+pub mod Widens
+pub mod WidensInterfaces
+pub mod Whole
+pub mod Viewed
+pub mod Loops
+pub mod ByWord
+pub mod ByLine

@@ -1,0 +1,13 @@
+pub mod TypeTree
+pub mod TypeCode
+pub mod TypeOf
+pub mod TypeWeight
+pub mod TypeFalls
+pub mod InterfaceTree
+pub mod Reserved
+pub mod Placed
+pub mod Reader
+pub mod Reading
+pub mod Spelling
+pub mod Stopping
+pub mod Read

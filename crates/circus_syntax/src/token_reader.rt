@@ -1,0 +1,294 @@
+// A reader of tokens.
+ghost use Rattle.std.specs.Prelude.{◌≡◌, ℕ, ◌≤◌, true, false, length, map, All, MatchOption, IfOk, IsTrue, Some, option_map};
+ghost use Rattle.circus_text.specs.Token.{IsTokenIn, bytes_of};
+ghost use Rattle.circus_syntax.specs.Placed.{Placed, placed_of, is_lexeme, is_name, is_number, word, sign};
+ghost use Rattle.circus_syntax.specs.Reader.{open_at, place, next, sees, skipped_by, stopped_by};
+ghost use Rattle.circus_syntax.specs.Reading.{fixed, name, number, names, stop_in_type, stop_in_list};
+ghost use Rattle.circus_text.specs.Form.{number_value};
+
+use crate::reserved::is_reserved_word;
+use crate::{Named, Nameds, Numeral, Stop};
+use circus_text::{Token, TokenKind};
+use circus_value::{Name, NoMemory};
+use std::alloc::Global;
+use std::marker::Model;
+
+/// Reads the tokens of a text from the first on, up to the first with which nothing goes on. From there it
+/// reads nothing more, and fills in what is left to answer (docs/LANGUAGE.md, "Interfaces").
+#[derive(Drop)]
+pub struct Reader<'a> {
+    alloc: Global,
+    text: &'a [u8],
+    left: &'a [Token],
+    stop: Option<Stop>,
+}
+
+impl<'a> Model for Reader<'a> {
+    ghost use Rattle.std.specs.Prelude.{ℕ, ◌≤◌, List, length, map, All};
+    ghost use Rattle.circus_text.specs.Token.{IsTokenIn};
+    ghost use Rattle.circus_syntax.specs.Placed.{placed_of};
+    ghost use Rattle.circus_syntax.specs.Reader.{Reader};
+
+    ghost Value = { Reader };
+
+    ghost view = { λ r. record { rest = map (placed_of r.text.now) r.left.now; end = length r.text.now; stop = r.stop } };
+
+    ghost invariant = { λ r. All (IsTokenIn r.text.now) r.left.now × (length r.text.now ≤ 1048576) };
+}
+
+impl<'a> Reader<'a> {
+    /// A reader at the first of these tokens of a text of at most 1,048,576 bytes. What it reads takes
+    /// memory from this allocator.
+    pub fn new(alloc: Global, text: &'a [u8], tokens: &'a [Token]) -> Self
+        requires of_text { All (IsTokenIn text.now) tokens.now }
+        requires short { length text.now ≤ 1048576 }
+        ensures { result ≡ open_at (map (placed_of text.now) tokens.now) (length text.now) }
+    {
+        Reader {
+            alloc,
+            text,
+            left: tokens,
+            stop: None,
+        }
+    }
+
+    /// The allocator of what is read.
+    pub fn alloc(&self) -> Global {
+        self.alloc
+    }
+
+    /// How many tokens are left.
+    pub fn left(&self) -> usize
+        ensures { result ≡ length self.now.rest }
+    {
+        self.left.len()
+    }
+
+    /// Where and why reading stopped, or `None` where it goes on.
+    pub fn stop(&self) -> Option<Stop>
+        ensures { result ≡ self.now.stop }
+    {
+        self.stop
+    }
+
+    /// The place of the next token, or of the text's end, or where reading stopped.
+    pub fn place(&self) -> u32
+        ensures { result ≡ place self.now }
+    {
+        match (&self.stop, self.left.split_first()) {
+            (Some(stop), _) => stop.place,
+            (None, Some((token, _))) => token.start,
+            (None, None) => self.text.len() as u32,
+        }
+    }
+
+    /// Whether the next token is this word.
+    pub fn sees_word(&self, bytes: &[u8]) -> bool
+        ensures { result ≡ sees (is_lexeme (word bytes.now)) self.now }
+    {
+        self.sees(TokenKind::Word, bytes)
+    }
+
+    /// Whether the next token is this sign.
+    pub fn sees_sign(&self, bytes: &[u8]) -> bool
+        ensures { result ≡ sees (is_lexeme (sign bytes.now)) self.now }
+    {
+        self.sees(TokenKind::Sign, bytes)
+    }
+
+    fn sees(&self, kind: TokenKind, bytes: &[u8]) -> bool
+        ensures { result ≡ sees (is_lexeme (record { kind = kind; bytes = bytes.now })) self.now }
+    {
+        match (&self.stop, self.left.split_first()) {
+            (None, Some((token, _))) => token.kind == kind && token.bytes(self.text) == bytes,
+            _ => false,
+        }
+    }
+
+    /// Whether the next token is a name.
+    pub fn sees_name(&self) -> bool
+        ensures { result ≡ sees is_name self.now }
+    {
+        self.next_name().is_some()
+    }
+
+    /// Whether the next token is a number.
+    pub fn sees_number(&self) -> bool
+        ensures { result ≡ sees is_number self.now }
+    {
+        self.next_number().is_some()
+    }
+
+    // The next token's bytes, if it is a name.
+    fn next_name(&self) -> Option<&'a [u8]>
+        ensures { MatchOption result (sees is_name self.now ≡ false)
+            (λ bytes. (t : Placed) × (next self.now ≡ Some t) × (is_name t ≡ true) × (bytes.now ≡ t.bytes)) }
+    {
+        match (&self.stop, self.left.split_first()) {
+            (None, Some((token, _))) => name_in(self.text, token),
+            _ => None,
+        }
+    }
+
+    // The next token's value, if it is a number.
+    fn next_number(&self) -> Option<u64>
+        ensures { MatchOption result (sees is_number self.now ≡ false)
+            (λ value. (t : Placed) × (next self.now ≡ Some t) × (is_number t ≡ true) × (value ≡ number_value t.bytes)) }
+    {
+        match (&self.stop, self.left.split_first()) {
+            (None, Some((token, _))) => number_in(self.text, token),
+            _ => None,
+        }
+    }
+
+    // Goes behind the next token, unless reading stopped.
+    fn skip(&mut self)
+        ensures { self.new ≡ skipped_by self.old.stop self.old.rest self.old.end }
+    {
+        if self.stop.is_none()
+            && let Some((_, rest)) = self.left.split_first()
+        {
+            self.left = rest;
+        }
+    }
+
+    // Stops here, unless reading has stopped before.
+    pub(crate) fn stop_here(&mut self, deep: bool)
+        ensures { self.new ≡ stopped_by deep self.old.stop self.old.rest self.old.end }
+    {
+        if self.stop.is_none() {
+            self.stop = Some(Stop {
+                place: self.place(),
+                deep,
+                within: None,
+                list: None,
+            });
+        }
+    }
+
+    // Marks the stop, if there is one, with the place of a type.
+    pub(crate) fn mark_type(&mut self, at: u32)
+        ensures { self.new ≡ record { rest = self.old.rest; end = self.old.end; stop = option_map (stop_in_type at) self.old.stop } }
+    {
+        if let Some(stop) = &mut self.stop {
+            stop.within = Some(at);
+        }
+    }
+
+    // Marks the stop, if there is one, with the place of a list.
+    pub(crate) fn mark_list(&mut self, at: u32)
+        ensures { self.new ≡ record { rest = self.old.rest; end = self.old.end; stop = option_map (stop_in_list at) self.old.stop } }
+    {
+        if let Some(stop) = &mut self.stop {
+            stop.list = Some(at);
+        }
+    }
+
+    /// Reads this word, or stops.
+    pub fn word(&mut self, bytes: &[u8])
+        ensures { fixed (word bytes.now) self.old ≡ (tt, self.new) }
+    {
+        self.fixed(TokenKind::Word, bytes);
+    }
+
+    /// Reads this sign, or stops.
+    pub fn sign(&mut self, bytes: &[u8])
+        ensures { fixed (sign bytes.now) self.old ≡ (tt, self.new) }
+    {
+        self.fixed(TokenKind::Sign, bytes);
+    }
+
+    #[tactic(auto, unfolding(crate::specs::Reading::fixed))]
+    fn fixed(&mut self, kind: TokenKind, bytes: &[u8])
+        ensures { fixed (record { kind = kind; bytes = bytes.now }) self.old ≡ (tt, self.new) }
+    {
+        if self.sees(kind, bytes) {
+            self.skip();
+        } else {
+            self.stop_here(false);
+        }
+    }
+
+    /// Reads a name, or stops and answers `x`. `NoMemory` leaves the reader where it is.
+    #[tactic(auto, unfolding(crate::specs::Reading::name))]
+    pub fn name(&mut self) -> Result<Named, NoMemory>
+        ensures { IfOk result (λ named. name self.old ≡ (named, self.new)) }
+    {
+        let at = self.place();
+        let mut name = Name::new(self.alloc);
+        match self.next_name() {
+            Some(bytes) => {
+                name.append(bytes)?;
+                self.skip();
+            }
+            None => {
+                name.append(b"x")?;
+                self.stop_here(false);
+            }
+        }
+        Ok(Named { name, at })
+    }
+
+    /// Reads a number, or stops and answers 0.
+    #[tactic(auto, unfolding(crate::specs::Reading::number))]
+    pub fn number(&mut self) -> Numeral
+        ensures { number self.old ≡ (result, self.new) }
+    {
+        let at = self.place();
+        match self.next_number() {
+            Some(value) => {
+                self.skip();
+                Numeral { value, at }
+            }
+            None => {
+                self.stop_here(false);
+                Numeral { value: 0, at }
+            }
+        }
+    }
+
+    /// Reads names with commas between them, at least one.
+    #[tactic(auto, unfolding(crate::specs::Reading::names))]
+    pub fn names(&mut self) -> Result<Nameds, NoMemory>
+        ensures { IfOk result (λ all. names self.old ≡ (all, self.new)) }
+    {
+        let mut names = Nameds::new(self.alloc);
+        names.push(self.name()?)?;
+        while self.sees_sign(b",") {
+            self.sign(b",");
+            names.push(self.name()?)?;
+        }
+        Ok(names)
+    }
+}
+
+// The token's bytes, if it is a name.
+fn name_in<'a>(text: &'a [u8], token: &Token) -> Option<&'a [u8]>
+    requires { IsTokenIn text.now token.now }
+    ensures { MatchOption result (is_name (placed_of text.now token.now) ≡ false)
+        (λ bytes. (is_name (placed_of text.now token.now) ≡ true) × (bytes.now ≡ bytes_of text.now token.now)) }
+{
+    match token.kind {
+        TokenKind::Word => {
+            let bytes = token.bytes(text);
+            if is_reserved_word(bytes) {
+                None
+            } else {
+                Some(bytes)
+            }
+        }
+        _ => None,
+    }
+}
+
+// The token's value, if it is a number.
+fn number_in(text: &[u8], token: &Token) -> Option<u64>
+    requires { IsTokenIn text.now token.now }
+    ensures { MatchOption result (is_number (placed_of text.now token.now) ≡ false)
+        (λ value. (is_number (placed_of text.now token.now) ≡ true) × (value ≡ number_value (bytes_of text.now token.now))) }
+{
+    match token.kind {
+        TokenKind::Number => Some(token.number(text)),
+        _ => None,
+    }
+}
