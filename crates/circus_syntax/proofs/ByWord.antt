@@ -185,15 +185,15 @@ arm_is n r s t u l e first second last =
     ∙ ap (λ x. (record { name = l.name; number = l.number; shape = x.0 }, x.1)) last
 
 -- no groups
-pub groups_none : (n : ℕ) (r : Reader) (b : Bool) → b ≡ sees is_name r → b ≡ false → groups n r ≡ ([], r)
+pub groups_none : (n : ℕ) (r : Reader) (b : Bool) → b ≡ sees (is_lexeme (sign (codes "]"))) r → b ≡ true → groups n r ≡ ([], r)
 unfolding groups
-groups_none n r b seen missed = rw (← seen, missed) refl
+groups_none n r b seen hit = rw (← seen, hit) refl
 
 -- the first group, and those that follow
-pub groups_some : (n : ℕ) (r s : Reader) (x : GroupTree) (b : Bool) → b ≡ sees is_name r → b ≡ true → group_of_type n r ≡ (x, s)
+pub groups_some : (n : ℕ) (r s : Reader) (x : GroupTree) (b : Bool) → b ≡ sees (is_lexeme (sign (codes "]"))) r → b ≡ false → group_of_type n r ≡ (x, s)
     → groups n r ≡ goes_on is_comma (behind comma_sign (group_of_type n)) (x ∷ []) s
 unfolding groups group_of_type
-groups_some n r s x b seen hit is = rw (← seen, hit) (listed_is (group (type n)) r s x is)
+groups_some n r s x b seen missed is = rw (← seen, missed) (listed_is (group (type n)) r s x is)
 
 pub arms_some : (n : ℕ) (r s : Reader) (x : ArmTree) → arm_of_type n r ≡ (x, s) → arms n r ≡ goes_on is_comma (behind comma_sign (arm_of_type n)) (x ∷ []) s
 unfolding arms

@@ -198,7 +198,7 @@ complete_fields n =
     complete_marked stop_in_list
     (complete_mapped (λ x. record { at = x.0; groups = x.1.0 }) spelling_fields (AreFieldsWithin n) (λ x. refl) (λ f g. ((f.at, (f.groups, tt)), refl, (tt, (g, tt))))
     (complete_then (complete_fixed_at (sign (codes "["))) (complete_both (complete_groups n) (complete_fixed (sign (codes "]")))
-    (λ x us rest g d stays. (clash (sign (codes "]")) [] us rest is_dot (λ s. refl) d, clash (sign (codes "]")) [] us rest is_comma (λ s. refl) d, clash (sign (codes "]")) [] us rest is_name (λ s. refl) d)))))
+    (λ x us rest g d stays. (clash (sign (codes "]")) [] us rest is_dot (λ s. refl) d, clash (sign (codes "]")) [] us rest is_comma (λ s. refl) d, opens_due (sign (codes "]")) [] us rest d)))))
 
 -- what the next token isn't
 abbrev IsNot : Lexeme → Option Placed → Type 0

@@ -147,10 +147,10 @@ sound_group n T =
 pub sound_groups_with : (n : ℕ) {inner : Reader → TypeTree × Reader} → Sound inner spelling_type (IsTypeWithin n)
     → Sound (groups_with inner) (λ gs. spelling_groups (group_trees gs)) (AreGroupsWithin n)
 sound_groups_with n {inner = inner} T =
-    sound_either is_name
+    sound_either (is_lexeme (sign (codes "]")))
+    (sound_nothing [] (λ gs. spelling_groups (group_trees gs)) (AreGroupsWithin n) (tt, omega arith) refl)
     (sound_mapped (λ gs. gs) (λ gs. spelling_groups (group_trees gs)) (AreGroupsWithin n) groups_spelled (λ gs g. groups_good n gs (IsListed-each (IsGroupWithin n) gs g))
     (sound_listed (sound_group n T)))
-    (sound_nothing [] (λ gs. spelling_groups (group_trees gs)) (AreGroupsWithin n) (tt, omega arith) refl)
 
 -- Arms.
 

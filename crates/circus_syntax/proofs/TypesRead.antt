@@ -1,9 +1,10 @@
 -- What a type is spelled by is read as that type.
-use Rattle.std.proofs.Common.{◌≡◌, ℕ, zero, suc, ◌≤◌, Bool, true, false, List, [], ◌∷◌, ◌++◌, refl, sym, ◌∙◌, ap, subst, arith}
+use Rattle.std.proofs.Common.{◌≡◌, ℕ, zero, suc, ◌≤◌, Bool, true, false, ◌&&◌, List, [], ◌∷◌, ◌++◌, refl, sym, ◌∙◌, ap, subst, arith}
 use Rattle.std.specs.Prelude.{Option, Some, None, codes, bytes_eq}
 use Rattle.std.proofs.lemmas.Bool.{false_from_ne_true}
 use Rattle.std.proofs.lemmas.Slice.Eq.{bytes_eq-Decides}
-use Rattle.circus_text.specs.declared.token.TokenKind.TheVariants.{Word}
+use Rattle.circus_text.specs.declared.token.TokenKind.{TokenKind}
+use Rattle.circus_text.specs.declared.token.TokenKind.TheVariants.{Word, Number, Quoted, Sign}
 use Rattle.circus_text.specs.Token.{Lexeme}
 use Rattle.circus_syntax.specs.declared.named.Named.{Named}
 use Rattle.circus_syntax.specs.declared.named.Numeral.{Numeral}
@@ -12,7 +13,7 @@ use Rattle.circus_syntax.specs.declared.reading.TypeStart.{TypeStart}
 use Rattle.circus_syntax.specs.declared.reading.TypeStart.TheVariants as begins
 use Rattle.circus_syntax.specs.Reserved.{is_reserved, reserved_words}
 use Rattle.circus_syntax.specs.TypeTree.{TypeTree, GroupTree, ArmTree, GroupTrees, ArmTrees, boolean, cardinal, long_cardinal, integer, long_integer, text, enumeration, array, sequence, «record», choice, called, no_groups, more_groups, no_arms, more_arms, group_trees, arm_trees}
-use Rattle.circus_syntax.specs.Placed.{Placed, first, is_lexeme, is_name, is_number, word, sign, Due, due, due_at, due_name, due_number, AreDue}
+use Rattle.circus_syntax.specs.Placed.{Placed, first, same_kind, is_lexeme, is_name, is_number, word, sign, Due, due, due_at, due_name, due_number, AreDue}
 use Rattle.circus_syntax.specs.Reader.{Reader, passes, nothing, both, mapped, cased, either, either_case}
 use Rattle.circus_syntax.specs.Reading.{fixed, fixed_at, number, listed, names, label, label_of, labels, type_name, name_of_type, start_of_type, long_of, is_long_integer, long, called_of, type_name_place, simple, group, groups_with, arm, arm_of_parts, array_with, sequence_with, record_with, choice_with, type_with, flat_type, stop_in_type, type, groups}
 use Rattle.circus_syntax.specs.Spelling.{each, spelling_more_groups, with_commas, comma, if_written, spelling_name, spelling_number, spelling_names, spelling_label, spelling_type_name, spelling_type, spelling_groups, spelling_arms, IsEach, IsListed, IfWritten, IsName, IsNumeral, IsLabel, IsType, IsTypeNameAt, levels, arm_levels}
@@ -264,9 +265,24 @@ opens_group n g gs ts rest good d = by_names g.names good.0 d
     by_names (m ∷ ns) good d =
         opens_name m ((each (λ y. comma ∷ spelling_name y) ns ++ due (sign (codes ":")) ∷ spelling_type g.shape) ++ spelling_more_groups (group_trees gs)) ts rest good.0 d
 
--- what doesn't go on a list of groups
+-- the bracket behind groups
+abbrev pub is_closing : Placed → Bool
+is_closing = is_lexeme (sign (codes "]"))
+
+-- what doesn't go on a list of groups, but ends it
 abbrev pub NotGroups : Option Placed → Type 0
-NotGroups o = NotDot o × NotComma o × (passes is_name o ≡ false)
+NotGroups o = NotDot o × NotComma o × (passes is_closing o ≡ true)
+
+-- a name is no bracket
+name_closes_not : (o : Option Placed) → passes is_name o ≡ true → passes is_closing o ≡ false
+name_closes_not None h = refl
+name_closes_not (Some t) h = by_kind t.kind _ _ h
+  where
+    by_kind : (k : TokenKind) (a b : Bool) → same_kind k Word && a ≡ true → same_kind k Sign && b ≡ false
+    by_kind Word a b h = refl
+    by_kind Number a b h = refl
+    by_kind Quoted a b h = refl
+    by_kind Sign a b h = absurd cc
 
 pub complete_groups_with : (n : ℕ) {inner : Reader → TypeTree × Reader} → Sound inner spelling_type (IsTypeWithin n) → Complete inner spelling_type (IsTypeWithin n) NotDot
     → Complete (groups_with inner) (λ gs. spelling_groups (group_trees gs)) (AreGroupsWithin n) NotGroups
@@ -279,11 +295,11 @@ complete_groups_with n {inner} S T = record { reads = reads }
         → groups_with inner (reader None (ts ++ rest) e) ≡ (gs, reader None rest e)
     reads [] ts rest e good d stays =
         subst (λ (us : List Placed). groups_with inner (reader None (us ++ rest) e) ≡ ([], reader None rest e)) (sym (AreDue-none ts d))
-        (cased_is (passes is_name) (either_case (listed (group inner)) (nothing [])) false rest e ([], reader None rest e) stays.2 refl)
+        (cased_is (passes is_closing) (either_case (nothing []) (listed (group inner))) true rest e ([], reader None rest e) stays.2 refl)
     reads (g ∷ gs) ts rest e good d stays =
         let each_good : IsEach (IsGroupWithin n) (g ∷ gs) = groups_each n (g ∷ gs) good in
-        cased_is (passes is_name) (either_case (listed (group inner)) (nothing [])) true (ts ++ rest) e (g ∷ gs, reader None rest e)
-        (opens_group n g gs ts rest each_good.0 d)
+        cased_is (passes is_closing) (either_case (nothing []) (listed (group inner))) false (ts ++ rest) e (g ∷ gs, reader None rest e)
+        (name_closes_not (first (ts ++ rest)) (opens_group n g gs ts rest each_good.0 d))
         (listed_group.reads (g ∷ gs) ts rest e each_good (subst (λ ds. AreDue ds ts) (groups_spelled (g ∷ gs)) d) (stays.0, stays.1))
 
 complete_arm : (n : ℕ) {inner : Reader → TypeTree × Reader} → Complete inner spelling_type (IsTypeWithin n) NotDot → Complete (arm inner) spelling_arm (IsArmWithin n) NotDot
@@ -317,7 +333,7 @@ record_is n S T at gs ts rest e good d =
     ap (λ y. («record» y.0.0 (group_trees y.0.1.1.0), y.1))
     ((complete_then (complete_fixed_at (word (codes "RECORD"))) (complete_then (complete_fixed (sign (codes "[")))
     (complete_both (complete_groups_with n S T) (complete_fixed (sign (codes "]")))
-    (λ x us rest g d stays. (clash (sign (codes "]")) [] us rest is_dot (λ s. refl) d, clash (sign (codes "]")) [] us rest is_comma (λ s. refl) d, clash (sign (codes "]")) [] us rest is_name (λ s. refl) d))))).reads
+    (λ x us rest g d stays. (clash (sign (codes "]")) [] us rest is_dot (λ s. refl) d, clash (sign (codes "]")) [] us rest is_comma (λ s. refl) d, opens_due (sign (codes "]")) [] us rest d))))).reads
     (at, (tt, (gs, tt))) ts rest e (tt, (tt, (good, tt))) d tt)
 
 choice_is : (n : ℕ) {inner : Reader → TypeTree × Reader} → Sound inner spelling_type (IsTypeWithin n) → Complete inner spelling_type (IsTypeWithin n) NotDot

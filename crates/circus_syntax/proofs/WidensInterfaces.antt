@@ -101,7 +101,7 @@ steady_group n m I = steady_mapped (λ x. record { names = x.0; shape = x.1.1 })
 steady_groups_with : (n m : ℕ) {inner wide : Reader → TypeTree × Reader} → Inner n m inner wide → Steady (groups_with inner) (groups_with wide)
 steady_groups_with n m I =
     steady_of
-    (widens_either is_name (steady_listed (steady_group n m I) (sound_group n I.narrow_sound) (sound_group m I.wide_sound)).widens (widens_nothing []))
+    (widens_either (is_lexeme (sign (codes "]"))) (widens_nothing []) (steady_listed (steady_group n m I) (sound_group n I.narrow_sound) (sound_group m I.wide_sound)).widens)
     (sound_groups_with n I.narrow_sound) (sound_groups_with m I.wide_sound)
 
 steady_arm : (n m : ℕ) {inner wide : Reader → TypeTree × Reader} → Inner n m inner wide → Steady (arm inner) (arm wide)

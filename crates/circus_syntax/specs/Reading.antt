@@ -134,7 +134,7 @@ abbrev pub group : (Reader → TypeTree × Reader) → Reader → GroupTree × R
 group inner = mapped (λ x. record { names = x.0; shape = x.1.1 }) (both names (both (fixed (sign (codes ":"))) inner))
 
 abbrev pub groups_with : (Reader → TypeTree × Reader) → Reader → List GroupTree × Reader
-groups_with inner = either is_name (listed (group inner)) (nothing [])
+groups_with inner = either (is_lexeme (sign (codes "]"))) (nothing []) (listed (group inner))
 
 abbrev pub arm_of_parts : Named × (Unit {0} × (Numeral × (Unit {0} × (Unit {0} × TypeTree)))) → ArmTree
 arm_of_parts x = record { name = x.0; number = x.1.1.0; shape = x.1.1.1.1.1 }

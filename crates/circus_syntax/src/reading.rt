@@ -269,7 +269,7 @@ impl Reader<'_> {
         ensures { IfOk result (λ read. groups levels self.old ≡ (read, self.new)) }
     {
         let mut groups = GroupTexts::new(self.alloc());
-        if !self.sees_name() {
+        if self.sees_sign(b"]") {
             return Ok(groups);
         }
         groups.push(self.group(levels)?)?;

@@ -47,25 +47,25 @@ choice_kind-returns t c = choice_is c.args.levels _ _ _ _ _ _ c.in_ok-arms.arms 
 pub group-returns : goal.group-returns
 group-returns t c = group_is c.args.levels _ _ _ _ c.in_ok-names.names (tree_of c.in_ok-shape.shape) c.in_ok-names.ensures c.sign.ensures c.in_ok-shape.ensures
 
-pub groups-returns-then-not-sees_name : goal.groups-returns-then-not-sees_name
-groups-returns-then-not-sees_name t c =
-    groups_none c.args.levels c.args.self.now c.sees_name.result c.sees_name.ensures c.if-not-sees_name.true
+pub groups-returns-then-sees_sign : goal.groups-returns-then-sees_sign
+groups-returns-then-sees_sign t c =
+    groups_none c.args.levels c.args.self.now c.sees_sign.result c.sees_sign.ensures c.if-sees_sign.true
     ∙ ap (λ l. (l, c.args.self.now)) (sym c.new-groups.ensures)
 
 pub groups-loop-self-init : goal.groups-loop-self-init
 groups-loop-self-init t c =
-    groups_some c.args.levels _ c.group.new.self (group_of c.in_ok-group.field-0) c.sees_name.result c.sees_name.ensures c.if-not-sees_name.false c.in_ok-group.ensures
+    groups_some c.args.levels _ c.group.new.self (group_of c.in_ok-group.field-0) c.sees_sign.result c.sees_sign.ensures c.if-sees_sign.false c.in_ok-group.ensures
     ∙ ap (λ l. goes_on is_comma (behind comma_sign (group_of_type c.args.levels)) l c.group.new.self) (first_item c.new-groups.result c.push.new.self (group_of c.in_ok-group.field-0) c.new-groups.ensures c.in_ok-push.ensures.ok)
 
 pub groups-loop-self-smaller : goal.groups-loop-self-smaller
 groups-loop-self-smaller t c =
-    comma_shorter (sound_group_of_type c.args.levels) c.loop-self.self c.sign.new.self c.group-in-loop-self.new.self (group_of c.in_ok-group-2.field-0) c.sees_sign.result
-    c.sees_sign.ensures c.loop-self-test.true c.sign.ensures c.in_ok-group-2.ensures
+    comma_shorter (sound_group_of_type c.args.levels) c.loop-self.self c.sign.new.self c.group-in-loop-self.new.self (group_of c.in_ok-group-2.field-0) c.sees_sign-in-loop-self.result
+    c.sees_sign-in-loop-self.ensures c.loop-self-test.true c.sign.ensures c.in_ok-group-2.ensures
 
 pub groups-loop-self-preserved : goal.groups-loop-self-preserved
 groups-loop-self-preserved t c =
-    comma_step (sound_group_of_type c.args.levels) _ c.loop-self.groups c.push-in-loop-self.new.self c.loop-self.self c.sign.new.self c.group-in-loop-self.new.self (group_of c.in_ok-group-2.field-0) c.sees_sign.result
-    c.loop-self.invariant c.sees_sign.ensures c.loop-self-test.true c.sign.ensures c.in_ok-group-2.ensures c.in_ok-push-2.ensures.ok
+    comma_step (sound_group_of_type c.args.levels) _ c.loop-self.groups c.push-in-loop-self.new.self c.loop-self.self c.sign.new.self c.group-in-loop-self.new.self (group_of c.in_ok-group-2.field-0) c.sees_sign-in-loop-self.result
+    c.loop-self.invariant c.sees_sign-in-loop-self.ensures c.loop-self-test.true c.sign.ensures c.in_ok-group-2.ensures c.in_ok-push-2.ensures.ok
 
 pub type_kind-returns-then-not-nests : goal.type_kind-returns-then-not-nests
 type_kind-returns-then-not-nests t c =
