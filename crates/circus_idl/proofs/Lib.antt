@@ -1,0 +1,11 @@
+mod ShownFrom
+mod ShapeItems
+mod Dropped
+mod ShownSome
+mod NumberMaps
+mod FirstPlace
+mod LeastMore
+mod TypeItems
+mod TypesPut
+mod ScopeMore
+mod DraftMore

@@ -1,0 +1,25 @@
+-- The items of a list of groups or arms are lighter than the list.
+use Rattle.std.proofs.Common.{arith, ◌≡◌, ℕ, ◌+◌, ◌<◌, ◌≤◌, List, [], ◌∷◌, length, map, get_or, zero, suc, ap}
+use Rattle.circus_syntax.specs.declared.type_text.GroupText.{GroupText}
+use Rattle.circus_syntax.specs.declared.type_text.ArmText.{ArmText}
+use Rattle.circus_syntax.specs.TypeOf.{tree_of, group_of, arm_of}
+use Rattle.circus_syntax.specs.TypeTree.{group_trees, arm_trees}
+use Rattle.circus_syntax.specs.TypeWeight.{weight, group_weights, arm_weights}
+
+group_lighter : (gs : List GroupText) (i : ℕ) (d : GroupText) → i < length gs → weight (tree_of (get_or gs i d).shape) + 2 ≤ group_weights (group_trees (map group_of gs))
+group_lighter [] i d below = omega arith
+group_lighter (g ∷ gs) zero d below = omega arith
+group_lighter (g ∷ gs) (suc i) d below = omega (arith, group_lighter gs i d (omega arith))
+
+-- a group of a list
+pub group_falls : (gs : List GroupText) (i : ℕ) (g : GroupText) → i < length gs → g ≡ get_or gs i g → weight (tree_of g.shape) + 2 ≤ group_weights (group_trees (map group_of gs))
+group_falls gs i g below is = omega (arith, group_lighter gs i g below, ap (λ (h : GroupText). weight (tree_of h.shape)) is)
+
+arm_lighter : (arms : List ArmText) (i : ℕ) (d : ArmText) → i < length arms → weight (tree_of (get_or arms i d).shape) + 2 ≤ arm_weights (arm_trees (map arm_of arms))
+arm_lighter [] i d below = omega arith
+arm_lighter (a ∷ arms) zero d below = omega arith
+arm_lighter (a ∷ arms) (suc i) d below = omega (arith, arm_lighter arms i d (omega arith))
+
+-- an arm of a list
+pub arm_falls : (arms : List ArmText) (i : ℕ) (a : ArmText) → i < length arms → a ≡ get_or arms i a → weight (tree_of a.shape) + 2 ≤ arm_weights (arm_trees (map arm_of arms))
+arm_falls arms i a below is = omega (arith, arm_lighter arms i a below, ap (λ (b : ArmText). weight (tree_of b.shape)) is)

@@ -1,0 +1,24 @@
+use Rattle.std.proofs.Common.{◌++◌, ◌∙◌, ap}
+use Rattle.circus_idl.specs.declared.scope.Scope.{Scope}
+use Rattle.circus_idl.specs.Least.{least_from}
+use Rattle.circus_idl.specs.Tables.{holds_number}
+use Rattle.circus_idl.specs.Scoped.{before_of, cut_in}
+use Rattle.circus_idl.specs.Inside.{repeated_name, repeated_number, above}
+use Rattle.circus_idl.specs.Faults.{fields_faults}
+use Rattle.circus_idl.proofs.LeastMore.{least_then}
+use Rattle.circus_idl.proofs.scope.Scope.error.Goals as goal
+
+pub returns-clause-found : goal.returns-clause-found
+returns-clause-found c =
+    let s = c.args.self.now in
+    let e = c.args.error.now in
+    let before = before_of s in
+    let best = s.best.fault in
+    let name = repeated_name before.names e.name in
+    let fields = fields_faults (cut_in s) before.types before.sizes before.parts e.arguments in
+    let number = repeated_number before.error_numbers e.number in
+    least_then best c.meet-2.new.best.fault c.note_above.new.self.fault (name ++ fields ++ number) (above 59999 e.number)
+    (least_then best c.fields.new.self.best.fault c.meet-2.new.best.fault (name ++ fields) number
+    (least_then best c.meet.new.best.fault c.fields.new.self.best.fault name fields c.in_ok-meet.ensures.found c.in_ok-fields.ensures.found)
+    (c.in_ok-meet-2.ensures.found ∙ ap (λ (t : Scope). least_from c.fields.new.self.best.fault (repeated_number (holds_number t.error_numbers) e.number)) c.in_ok-fields.ensures.others))
+    c.note_above.ensures

@@ -1,0 +1,22 @@
+-- The tokens of a text, each with a space before it.
+use Rattle.std.specs.Prelude.{ℕ, List, ◌∷◌}
+use Rattle.std.specs.Fmt.{decimal}
+use Rattle.std.specs.List.{flat_map}
+use Rattle.circus_text.specs.declared.token.TokenKind.TheVariants as kind
+use Rattle.circus_text.specs.Token.{Lexeme}
+
+-- a word by its bytes
+abbrev pub word : List ℕ → Lexeme
+word bytes = record { kind = kind.Word; bytes = bytes }
+
+-- a sign by its bytes
+abbrev pub sign : List ℕ → Lexeme
+sign bytes = record { kind = kind.Sign; bytes = bytes }
+
+-- a number, without leading zeros
+abbrev pub number : ℕ → Lexeme
+number n = record { kind = kind.Number; bytes = decimal n }
+
+-- a space before each
+abbrev pub led : List Lexeme → List ℕ
+led lexemes = flat_map (λ l. 32 ∷ l.bytes) lexemes

@@ -1,0 +1,155 @@
+// The interface that a tree means, or the least of its faults.
+ghost use Rattle.std.specs.Prelude.{◌≡◌, ◌⊎◌, min, List, [], map, None, Some, OnOk, IfOk, IfErr, IfNone};
+ghost use Rattle.circus_value.specs.ShapeTree.{boolean};
+ghost use Rattle.circus_syntax.specs.InterfaceTree.{declared_of, interface_of};
+ghost use Rattle.circus_idl.specs.declared.fault.Fault.{Fault};
+ghost use Rattle.circus_idl.specs.declared.idl_fault.IdlFault.{IdlFault};
+ghost use Rattle.circus_idl.specs.Least.{least_from};
+ghost use Rattle.circus_idl.specs.Tables.{name_value};
+ghost use Rattle.circus_idl.specs.Known.{type_form};
+ghost use Rattle.circus_idl.specs.Scoped.{before_of, cut_in};
+ghost use Rattle.circus_idl.specs.Drafted.{drafted};
+ghost use Rattle.circus_idl.specs.Answer.{answer_of};
+ghost use Rattle.circus_idl.specs.Faults.{nothing, cut_of, stop_faults, declarations_faults, read_faults};
+ghost use Rattle.circus_idl.specs.Means.{Means, meant_of, and_then, nothing_meant, declarations_meant};
+ghost use Rattle.circus_idl.specs.Meaning.{word_of};
+
+use crate::draft::Draft;
+use crate::fault::{Best, Cause, Fault};
+use crate::idl_fault::IdlFault;
+use crate::interface::{Declared, Errors, Interface, Procedures};
+use crate::measure::word;
+use crate::names::{Names, Numbers};
+use crate::scope::Scope;
+use crate::types::Types;
+use circus_syntax::{DeclaredText, InterfaceText, Stop};
+use circus_value::{Duplicate, NoMemory};
+use std::alloc::Global;
+
+/// The most that the number of a program may be.
+const MOST_PROGRAM: u64 = 4_294_967_295;
+
+/// The most that a version may be.
+const MOST_VERSION: u64 = 65_535;
+
+fn answer(fault: Fault) -> IdlFault
+    ensures { result ≡ answer_of fault }
+{
+    let place = u64::from(fault.place);
+    match fault.cause {
+        Cause::Expected => IdlFault::Expected(place),
+        Cause::Deep => IdlFault::Deep(place),
+        Cause::Unknown => IdlFault::Unknown(place),
+        Cause::Repeated => IdlFault::Repeated(place),
+        Cause::OutOfRange => IdlFault::OutOfRange(place),
+        Cause::TooLarge => IdlFault::TooLarge(place),
+    }
+}
+
+// Where reading stopped is the first fault that is known.
+fn best_of(stop: &Option<Stop>) -> Best
+    ensures { result.fault ≡ least_from None (stop_faults stop.now) }
+{
+    let mut best = Best { fault: None };
+    if let Some(stop) = stop {
+        let cause = if stop.deep {
+            Cause::Deep
+        } else {
+            Cause::Expected
+        };
+        best.note(true, stop.place, cause);
+    }
+    best
+}
+
+fn within(stop: &Option<Stop>) -> Option<u32>
+    ensures { result ≡ (cut_of stop.now).within }
+{
+    match stop {
+        Some(stop) => stop.within,
+        None => None,
+    }
+}
+
+fn list(stop: &Option<Stop>) -> Option<u32>
+    ensures { result ≡ (cut_of stop.now).list }
+{
+    match stop {
+        Some(stop) => stop.list,
+        None => None,
+    }
+}
+
+fn start<'a>(alloc: Global, stop: &Option<Stop>) -> Draft<'a>
+    ensures found { result.scope.best.fault ≡ least_from None (stop_faults stop.now) }
+    ensures cut { cut_in result.scope ≡ cut_of stop.now }
+    ensures before { before_of result.scope ≡ nothing }
+    ensures formed { type_form result.scope.types ≡ (λ _. boolean) }
+    ensures drafted { drafted result ≡ nothing_meant }
+{
+    let scope = Scope {
+        alloc,
+        within: within(stop),
+        list: list(stop),
+        best: best_of(stop),
+        names: Names::new(alloc),
+        types: Types::new(alloc),
+        errors: Names::new(alloc),
+        error_numbers: Numbers::new(alloc),
+        procedure_numbers: Numbers::new(alloc),
+        parts: 0,
+    };
+    Draft {
+        scope,
+        types: Declared::new(alloc),
+        errors: Errors::new(alloc),
+        procedures: Procedures::new(alloc),
+    }
+}
+
+fn declare_all<'a>(draft: &mut Draft<'a>, declared: &'a [DeclaredText]) -> Result<(), NoMemory>
+    ensures found { OnOk result (draft.new.scope.best.fault ≡ least_from draft.old.scope.best.fault (declarations_faults (cut_in draft.old.scope) (before_of draft.old.scope) (map declared_of declared.now))) }
+    ensures meant { OnOk result (IfNone draft.new.scope.best.fault (drafted draft.new ≡ and_then (drafted draft.old) (declarations_meant (type_form draft.old.scope.types) (name_value draft.old.scope.errors) (map declared_of declared.now)))) }
+{
+    for item in declared {
+        draft.add(item)?;
+    }
+    Ok(())
+}
+
+/// The interface that a tree means where it has no fault and reading didn't stop, else the least of its
+/// faults (docs/LANGUAGE.md, "Interfaces").
+pub fn check(
+    alloc: Global,
+    tree: &InterfaceText,
+    stop: &Option<Stop>,
+) -> Result<Interface, IdlFault>
+    ensures ok { IfOk result (λ i. (read_faults stop.now (interface_of tree.now) ≡ []) × Means (interface_of tree.now) i) }
+    ensures err { IfErr result (λ e. (e ≡ IdlFault.NoMemory) ⊎ ((f : Fault) × (least_from None (read_faults stop.now (interface_of tree.now)) ≡ Some f) × (e ≡ answer_of f))) }
+{
+    let mut draft = start(alloc, stop);
+    draft.scope.best.note_above(MOST_PROGRAM, tree.number);
+    draft.scope.best.note_above(MOST_VERSION, tree.version);
+    declare_all(&mut draft, tree.declared.as_slice())?;
+    match draft.scope.best.fault {
+        Some(fault) => Err(answer(fault)),
+        None => Ok(named(tree, draft)?),
+    }
+}
+
+// The interface of a draft, with its name and its numbers.
+fn named(tree: &InterfaceText, draft: Draft) -> Result<Interface, NoMemory>
+    ensures declared { IfOk result (λ i. meant_of i ≡ drafted draft.entry) }
+    ensures name { IfOk result (λ i. i.name ≡ tree.now.name.name) }
+    ensures number { IfOk result (λ i. i.number ≡ min tree.now.number.value 4294967295) }
+    ensures version { IfOk result (λ i. i.version ≡ word_of tree.now.version) }
+{
+    Ok(Interface {
+        name: tree.name.name.copy()?,
+        number: tree.number.value.min(MOST_PROGRAM) as u32,
+        version: word(tree.version),
+        types: draft.types,
+        errors: draft.errors,
+        procedures: draft.procedures,
+    })
+}

@@ -1,0 +1,82 @@
+// What an interface declares, looked at from its front on.
+ghost use Rattle.std.specs.Prelude.{◌≡◌, OnOk, IfOk, IfNone};
+ghost use Rattle.circus_syntax.specs.InterfaceTree.{a_type, an_error, a_procedure};
+ghost use Rattle.circus_syntax.specs.TypeOf.{tree_of};
+ghost use Rattle.circus_idl.specs.Least.{least_from};
+ghost use Rattle.circus_idl.specs.Scoped.{before_of, cut_in};
+ghost use Rattle.circus_idl.specs.Faults.{declared_faults, behind};
+ghost use Rattle.circus_idl.specs.Known.{type_form, tree_or, standing_for};
+ghost use Rattle.circus_idl.specs.Meaning.{written};
+
+use crate::scope::Scope;
+use crate::written::written;
+use circus_syntax::{ErrorText, Named, ProcedureText, TypeText};
+use circus_value::{NoMemory, Shape};
+
+/// The most that the number of an error may be.
+const MOST_ERROR: u64 = 59_999;
+
+/// The most that the number of a procedure may be.
+const MOST_PROCEDURE: u64 = 65_535;
+
+impl<'a> Scope<'a> {
+    /// Declares an error.
+    pub fn error(&mut self, error: &'a ErrorText) -> Result<(), NoMemory>
+        ensures found { OnOk result (self.new.best.fault ≡ least_from self.old.best.fault (declared_faults (cut_in self.old) (before_of self.old) (an_error error.now))) }
+        ensures behind { OnOk result (before_of self.new ≡ behind (before_of self.old) (an_error error.now)) }
+        ensures cut { OnOk result (cut_in self.new ≡ cut_in self.old) }
+        ensures types { OnOk result (self.new.types ≡ self.old.types) }
+    {
+        self.names.meet(&mut self.best, &error.name)?;
+        self.fields(&error.arguments)?;
+        self.error_numbers.meet(&mut self.best, error.number)?;
+        self.best.note_above(MOST_ERROR, error.number);
+        self.errors
+            .put(error.name.name.as_slice(), error.number.value as usize)?;
+        Ok(())
+    }
+
+    /// Declares a procedure.
+    pub fn procedure(&mut self, procedure: &'a ProcedureText) -> Result<(), NoMemory>
+        ensures found { OnOk result (self.new.best.fault ≡ least_from self.old.best.fault (declared_faults (cut_in self.old) (before_of self.old) (a_procedure procedure.now))) }
+        ensures behind { OnOk result (before_of self.new ≡ behind (before_of self.old) (a_procedure procedure.now)) }
+        ensures cut { OnOk result (cut_in self.new ≡ cut_in self.old) }
+        ensures types { OnOk result (self.new.types ≡ self.old.types) }
+    {
+        self.names.meet(&mut self.best, &procedure.name)?;
+        self.together(&procedure.name, &procedure.arguments)?;
+        self.fields(&procedure.arguments)?;
+        self.fields(&procedure.results)?;
+        self.reports(&procedure.reports);
+        self.procedure_numbers
+            .meet(&mut self.best, procedure.number)?;
+        self.best.note_above(MOST_PROCEDURE, procedure.number);
+        Ok(())
+    }
+
+    /// Declares a type.
+    pub fn declared_type(&mut self, name: &'a Named, shape: &'a TypeText) -> Result<(), NoMemory>
+        ensures found { OnOk result (self.new.best.fault ≡ least_from self.old.best.fault (declared_faults (cut_in self.old) (before_of self.old) (a_type name.now (tree_of shape.now)))) }
+        ensures behind { OnOk result (before_of self.new ≡ behind (before_of self.old) (a_type name.now (tree_of shape.now))) }
+        ensures cut { OnOk result (cut_in self.new ≡ cut_in self.old) }
+
+        // While no fault is found the type's shape is kept.
+        ensures formed { OnOk result (IfNone self.new.best.fault (type_form self.new.types ≡ standing_for name.now.name (written (type_form self.old.types) (tree_of shape.now)) (type_form self.old.types))) }
+    {
+        self.names.meet(&mut self.best, name)?;
+        let size = self.whole(1, shape)?;
+        let meant = self.shape_meant(shape)?;
+        self.types.put(name.name.as_slice(), size, meant)?;
+        Ok(())
+    }
+
+    // What a type means, while no fault is found.
+    fn shape_meant(&self, shape: &TypeText) -> Result<Option<Shape>, NoMemory>
+        ensures { IfOk result (λ meant. IfNone self.now.best.fault (tree_or meant ≡ written (type_form self.now.types) (tree_of shape.now))) }
+    {
+        match self.best.fault {
+            None => Ok(Some(written(self.alloc, &self.types, shape)?)),
+            Some(_) => Ok(None),
+        }
+    }
+}

@@ -1,0 +1,145 @@
+// An interface that is made from its declarations, as long as no fault is found.
+ghost use Rattle.std.specs.Prelude.{◌≡◌, OnOk, IfOk, IfNone};
+ghost use Rattle.circus_syntax.specs.InterfaceTree.{declared_of, a_type, an_error, a_procedure};
+ghost use Rattle.circus_syntax.specs.TypeOf.{tree_of};
+ghost use Rattle.circus_idl.specs.Least.{least_from};
+ghost use Rattle.circus_idl.specs.Tables.{name_value};
+ghost use Rattle.circus_idl.specs.Known.{type_form};
+ghost use Rattle.circus_idl.specs.Scoped.{before_of, cut_in};
+ghost use Rattle.circus_idl.specs.Faults.{declared_faults, behind};
+ghost use Rattle.circus_idl.specs.Drafted.{drafted};
+ghost use Rattle.circus_idl.specs.Means.{and_then, fields_meant, reports_meant, numbers_meant, procedure_meant, declared_meant, forms_behind};
+
+use crate::interface::{Declared, DeclaredError, DeclaredType, Errors, Procedure, Procedures};
+use crate::measure::word;
+use crate::names::Names;
+use crate::scope::Scope;
+use crate::types::Types;
+use crate::written::written_groups;
+use circus_syntax::{DeclaredText, ErrorText, FieldsText, Named, Nameds, ProcedureText, TypeText};
+use circus_value::{Duplicate, Fields, NoMemory, Numbers};
+use std::alloc::Global;
+
+/// What is declared so far, and what it means.
+#[derive(Drop)]
+pub struct Draft<'a> {
+    pub scope: Scope<'a>,
+    pub types: Declared,
+    pub errors: Errors,
+    pub procedures: Procedures,
+}
+
+// The fields of a list, none where it isn't written.
+fn fields_meant(
+    alloc: Global,
+    types: &Types,
+    fields: &Option<FieldsText>,
+) -> Result<Fields, NoMemory>
+    ensures { IfOk result (λ list. list ≡ fields_meant (type_form types.now) fields.now) }
+{
+    match fields {
+        Some(fields) => written_groups(alloc, types, fields.groups.as_slice()),
+        None => Ok(Fields::new(alloc)),
+    }
+}
+
+// The numbers of the errors of these names.
+fn reports_meant(alloc: Global, errors: &Names, names: &Option<Nameds>) -> Result<Numbers, NoMemory>
+    ensures { IfOk result (λ numbers. numbers ≡ reports_meant (name_value errors.now) names.now) }
+{
+    match names {
+        Some(names) => numbers_meant(alloc, errors, names.as_slice()),
+        None => Ok(Numbers::new(alloc)),
+    }
+}
+
+fn numbers_meant(alloc: Global, errors: &Names, names: &[Named]) -> Result<Numbers, NoMemory>
+    ensures { IfOk result (λ numbers. numbers ≡ numbers_meant (name_value errors.now) names.now) }
+{
+    let mut numbers = Numbers::new(alloc);
+    for name in names {
+        let number = errors.get(name.name.as_slice()).unwrap_or(0);
+        numbers.push(number.min(65_535) as u16)?;
+    }
+    Ok(numbers)
+}
+
+impl<'a> Draft<'a> {
+    fn add_type(&mut self, name: &'a Named, shape: &'a TypeText) -> Result<(), NoMemory>
+        ensures found { OnOk result (self.new.scope.best.fault ≡ least_from self.old.scope.best.fault (declared_faults (cut_in self.old.scope) (before_of self.old.scope) (a_type name.now (tree_of shape.now)))) }
+        ensures behind { OnOk result (before_of self.new.scope ≡ behind (before_of self.old.scope) (a_type name.now (tree_of shape.now))) }
+        ensures cut { OnOk result (cut_in self.new.scope ≡ cut_in self.old.scope) }
+        ensures formed { OnOk result (IfNone self.new.scope.best.fault (type_form self.new.scope.types ≡ forms_behind (type_form self.old.scope.types) (a_type name.now (tree_of shape.now)))) }
+        ensures meant { OnOk result (IfNone self.new.scope.best.fault (drafted self.new ≡ and_then (drafted self.old) (declared_meant (type_form self.old.scope.types) (name_value self.old.scope.errors) (a_type name.now (tree_of shape.now))))) }
+    {
+        self.scope.declared_type(name, shape)?;
+        if self.scope.best.fault.is_none() {
+            self.types.push(DeclaredType {
+                name: name.name.copy()?,
+                shape: self.scope.types.shape(name.name.as_slice())?,
+            })?;
+        }
+        Ok(())
+    }
+
+    fn add_error(&mut self, error: &'a ErrorText) -> Result<(), NoMemory>
+        ensures found { OnOk result (self.new.scope.best.fault ≡ least_from self.old.scope.best.fault (declared_faults (cut_in self.old.scope) (before_of self.old.scope) (an_error error.now))) }
+        ensures behind { OnOk result (before_of self.new.scope ≡ behind (before_of self.old.scope) (an_error error.now)) }
+        ensures cut { OnOk result (cut_in self.new.scope ≡ cut_in self.old.scope) }
+        ensures formed { OnOk result (type_form self.new.scope.types ≡ type_form self.old.scope.types) }
+        ensures meant { OnOk result (IfNone self.new.scope.best.fault (drafted self.new ≡ and_then (drafted self.old) (declared_meant (type_form self.old.scope.types) (name_value self.old.scope.errors) (an_error error.now)))) }
+    {
+        self.scope.error(error)?;
+        if self.scope.best.fault.is_none() {
+            self.errors.push(DeclaredError {
+                name: error.name.name.copy()?,
+                number: word(error.number),
+                arguments: fields_meant(self.scope.alloc, &self.scope.types, &error.arguments)?,
+            })?;
+        }
+        Ok(())
+    }
+
+    fn add_procedure(&mut self, procedure: &'a ProcedureText) -> Result<(), NoMemory>
+        ensures found { OnOk result (self.new.scope.best.fault ≡ least_from self.old.scope.best.fault (declared_faults (cut_in self.old.scope) (before_of self.old.scope) (a_procedure procedure.now))) }
+        ensures behind { OnOk result (before_of self.new.scope ≡ behind (before_of self.old.scope) (a_procedure procedure.now)) }
+        ensures cut { OnOk result (cut_in self.new.scope ≡ cut_in self.old.scope) }
+        ensures formed { OnOk result (type_form self.new.scope.types ≡ type_form self.old.scope.types) }
+        ensures meant { OnOk result (IfNone self.new.scope.best.fault (drafted self.new ≡ and_then (drafted self.old) (declared_meant (type_form self.old.scope.types) (name_value self.old.scope.errors) (a_procedure procedure.now)))) }
+    {
+        self.scope.procedure(procedure)?;
+        if self.scope.best.fault.is_none() {
+            let meant = procedure_meant(&self.scope, procedure)?;
+            self.procedures.push(meant)?;
+        }
+        Ok(())
+    }
+
+    /// One more declaration.
+    pub fn add(&mut self, declared: &'a DeclaredText) -> Result<(), NoMemory>
+        ensures found { OnOk result (self.new.scope.best.fault ≡ least_from self.old.scope.best.fault (declared_faults (cut_in self.old.scope) (before_of self.old.scope) (declared_of declared.now))) }
+        ensures behind { OnOk result (before_of self.new.scope ≡ behind (before_of self.old.scope) (declared_of declared.now)) }
+        ensures cut { OnOk result (cut_in self.new.scope ≡ cut_in self.old.scope) }
+        ensures formed { OnOk result (IfNone self.new.scope.best.fault (type_form self.new.scope.types ≡ forms_behind (type_form self.old.scope.types) (declared_of declared.now))) }
+        ensures meant { OnOk result (IfNone self.new.scope.best.fault (drafted self.new ≡ and_then (drafted self.old) (declared_meant (type_form self.old.scope.types) (name_value self.old.scope.errors) (declared_of declared.now)))) }
+    {
+        match declared {
+            DeclaredText::Type(name, shape) => self.add_type(name, shape),
+            DeclaredText::Error(error) => self.add_error(error),
+            DeclaredText::Procedure(procedure) => self.add_procedure(procedure),
+        }
+    }
+}
+
+fn procedure_meant(scope: &Scope, procedure: &ProcedureText) -> Result<Procedure, NoMemory>
+    ensures { IfOk result (λ meant. meant ≡ procedure_meant (type_form scope.now.types) (name_value scope.now.errors) procedure.now) }
+{
+    let alloc = scope.alloc;
+    Ok(Procedure {
+        name: procedure.name.name.copy()?,
+        number: word(procedure.number),
+        arguments: fields_meant(alloc, &scope.types, &procedure.arguments)?,
+        results: fields_meant(alloc, &scope.types, &procedure.results)?,
+        reports: reports_meant(alloc, &scope.errors, &procedure.reports)?,
+    })
+}

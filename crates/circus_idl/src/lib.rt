@@ -1,0 +1,35 @@
+//! Interfaces of modules: what they hold, the rules that they obey, and their text.
+//!
+//! `interface` has an interface and its parts, and `idl_fault` what can be wrong with the text of one. `read`
+//! reads one: `check` goes over its tree, `draft` makes the interface from it, `declared` and `scope` keep what
+//! is declared before a place, `inside` finds the faults of a type, `measure` its size and `written` its shape;
+//! `types` and `names` are the tables for that, and `fault` the least fault so far. `show` writes an interface,
+//! token by token in `writer`, with the names of errors in `error_names`.
+#![tactic(auto)]
+
+mod check;
+mod declared;
+mod draft;
+mod error_names;
+mod fault;
+mod idl_fault;
+mod inside;
+mod interface;
+mod measure;
+mod names;
+mod read;
+mod scope;
+mod show;
+mod types;
+mod writer;
+mod written;
+
+pub use idl_fault::IdlFault;
+pub use interface::{
+    Declared, DeclaredError, DeclaredType, Errors, Interface, Procedure, Procedures,
+};
+pub use read::read_interface;
+pub use show::show_interface;
+
+#[cfg(test)]
+mod tests;

@@ -1,0 +1,21 @@
+// The text of an interface.
+ghost use Rattle.std.specs.Prelude.{◌≡◌, IfOk};
+ghost use Rattle.circus_text.specs.Token.{spaced};
+ghost use Rattle.circus_idl.specs.Shown.{lexemes};
+
+use crate::interface::Interface;
+use crate::writer::Writer;
+use circus_value::{NoMemory, Octets};
+use std::alloc::Global;
+
+/// The text of an interface (docs/FORMATS.md, "Interfaces"): its tokens with one space between two, types
+/// first, then errors, then procedures, each in the order of its list. `NoMemory` is the one fault.
+pub fn show_interface(alloc: Global, interface: &Interface) -> Result<Octets, NoMemory>
+    ensures { IfOk result (λ text. text ≡ spaced (lexemes interface.now)) }
+{
+    let mut writer = Writer::new(alloc, &interface.name)?;
+    writer.heading(interface)?;
+    writer.declared(interface)?;
+    writer.words(" END .")?;
+    Ok(writer.text())
+}

@@ -1,0 +1,82 @@
+// The types that are declared before a place.
+ghost use Rattle.std.specs.Prelude.{◌≡◌, IfOk, OnOk};
+ghost use Rattle.circus_value.specs.ShapeOf.{tree_of};
+ghost use Rattle.circus_value.specs.ShapeTree.{boolean};
+ghost use Rattle.circus_idl.specs.Measured.{measure_of};
+ghost use Rattle.circus_idl.specs.Inside.{also_name, no_name};
+ghost use Rattle.circus_idl.specs.Known.{is_known, type_measure, type_form, tree_or, standing_for};
+
+use crate::measure::Measure;
+use circus_value::{Duplicate, NoMemory, Shape};
+use std::alloc::Global;
+use std::collections::BTreeMap;
+
+/// A declared type: how large it is, and its shape while there is use for it.
+#[derive(Drop)]
+pub struct KnownType {
+    pub measure: Measure,
+    pub shape: Option<Shape>,
+}
+
+/// The types that are declared so far, by their names.
+#[derive(Drop)]
+pub struct Types<'a> {
+    pub table: BTreeMap<&'a [u8], KnownType>,
+}
+
+impl<'a> Types<'a> {
+    pub fn new(alloc: Global) -> Self
+        ensures known { is_known result ≡ no_name }
+        ensures sized { type_measure result ≡ (λ _. measure_of boolean) }
+        ensures formed { type_form result ≡ (λ _. boolean) }
+    {
+        Types {
+            table: BTreeMap::new(alloc),
+        }
+    }
+
+    /// Whether a type of this name is declared.
+    pub fn has(&self, name: &[u8]) -> bool
+        ensures { result ≡ is_known self.now name.now }
+    {
+        self.table.get(name).is_some()
+    }
+
+    /// The size of the type of this name, or that of BOOLEAN where there is none.
+    pub fn measure(&self, name: &[u8]) -> Measure
+        ensures { result ≡ type_measure self.now name.now }
+    {
+        match self.table.get(name) {
+            Some(known) => known.measure,
+            None => Measure::new(1, 0, 2),
+        }
+    }
+
+    /// A copy of the shape of this name, or BOOLEAN where there is none.
+    pub fn shape(&self, name: &[u8]) -> Result<Shape, NoMemory>
+        ensures { IfOk result (λ shape. tree_of shape ≡ type_form self.now name.now) }
+    {
+        let Some(known) = self.table.get(name) else {
+            return Ok(Shape::Boolean);
+        };
+        match &known.shape {
+            Some(shape) => shape.copy(),
+            None => Ok(Shape::Boolean),
+        }
+    }
+
+    /// Declares a type.
+    pub fn put(
+        &mut self,
+        name: &'a [u8],
+        measure: Measure,
+        shape: Option<Shape>,
+    ) -> Result<(), NoMemory>
+        ensures known { OnOk result (is_known self.new ≡ also_name name.now (is_known self.old)) }
+        ensures sized { OnOk result (type_measure self.new ≡ standing_for name.now measure (type_measure self.old)) }
+        ensures formed { OnOk result (type_form self.new ≡ standing_for name.now (tree_or shape) (type_form self.old)) }
+    {
+        self.table.insert(name, KnownType { measure, shape })?;
+        Ok(())
+    }
+}
