@@ -1,0 +1,287 @@
+-- What stands at a place, by the operation there.
+use Rattle.std.proofs.Common.{◌≡◌, ℕ, suc, zero, ◌+◌, ◌<◌, ◌≤◌, Some, List, [], ◌∷◌, ◌++◌, length, get_or, drop, cond, nat_eq, true, false, refl, sym, ap, ◌∙◌, subst, arith, append_assoc}
+use Rattle.std.specs.Option.{unwrap_or}
+use Rattle.std.proofs.Math.Seq.{drop-append_seam}
+use Rattle.std.proofs.lemmas.List.{drop-drop}
+use Rattle.std.proofs.lemmas.Bool.{eq-eqb, ne_eqb}
+use Rattle.circus_value.specs.declared.shape.Label.{Label}
+use Rattle.circus_value.specs.ShapeTree.{ShapeTree, FieldTrees, ArmTrees, boolean, cardinal, long_cardinal, integer, long_integer, text, enumeration, array, sequence, «record», choice, no_fields, more_fields, no_arms, more_arms}
+use Rattle.circus_stub.specs.declared.operation.Operation.{Operation}
+use Rattle.circus_stub.specs.declared.operation.Operation.TheVariants as operation
+use Rattle.circus_stub.specs.Flat.{operations_in, operations_in_fields, operations_in_arms, label_numbers, field_count, arm_count, flat, flat_fields, flat_arms, part_end}
+use Rattle.circus_stub.specs.Standing.{Stands, FieldsStand, ArmsStand, first_arm}
+use Rattle.circus_stub.proofs.FlatLemmas.{length-flat}
+
+-- ---- lists from a place on
+
+pub within_at : {A : Type 0} (xs : List A) (i : ℕ) (x : A) (tail : List A) → drop i xs ≡ x ∷ tail → i < length xs
+within_at [] zero x tail is = cc
+within_at [] (suc i) x tail is = cc
+within_at (y ∷ xs) zero x tail is = omega arith
+within_at (y ∷ xs) (suc i) x tail is = omega (arith, within_at xs i x tail is)
+
+pub first_at : {A : Type 0} (xs : List A) (i : ℕ) (x d : A) (tail : List A) → drop i xs ≡ x ∷ tail → get_or xs i d ≡ x
+first_at [] zero x d tail is = cc
+first_at [] (suc i) x d tail is = cc
+first_at (y ∷ xs) zero x d tail is = cc
+first_at (y ∷ xs) (suc i) x d tail is = first_at xs i x d tail is
+
+others_at : {A : Type 0} (xs : List A) (i : ℕ) (x : A) (tail : List A) → drop i xs ≡ x ∷ tail → drop (suc i) xs ≡ tail
+others_at [] zero x tail is = cc
+others_at [] (suc i) x tail is = cc
+others_at (y ∷ xs) zero x tail is = cc
+others_at (y ∷ xs) (suc i) x tail is = others_at xs i x tail is
+
+pub behind_at : {A : Type 0} (xs : List A) (i : ℕ) (x : A) (tail : List A) → drop i xs ≡ x ∷ tail → drop (i + 1) xs ≡ tail
+behind_at xs i x tail is = let next : i + 1 ≡ suc i = omega arith in ap (λ k. drop k xs) next ∙ others_at xs i x tail is
+
+pub drop_behind : {A : Type 0} (xs : List A) (i n : ℕ) (front tail : List A) → length front ≡ n → drop i xs ≡ front ++ tail → drop (i + n) xs ≡ tail
+drop_behind xs i n front tail long is =
+    sym (drop-drop n i xs) ∙ ap (drop n) is ∙ ap (λ k. drop k (front ++ tail)) (sym long) ∙ drop-append_seam front tail
+
+-- ---- the first operation of a shape
+
+abbrev pub head_of : List Operation → Operation
+head_of [] = operation.Boolean
+head_of (x ∷ xs) = x
+
+abbrev pub tail_of : List Operation → List Operation
+tail_of [] = []
+tail_of (x ∷ xs) = xs
+
+abbrev pub first : ShapeTree → ℕ → Operation
+first s p = head_of (flat s p)
+
+abbrev pub parts : ShapeTree → ℕ → List Operation
+parts s p = tail_of (flat s p)
+
+pub flat-split : (s : ShapeTree) (p : ℕ) → flat s p ≡ first s p ∷ parts s p
+flat-split boolean p = refl
+flat-split cardinal p = refl
+flat-split long_cardinal p = refl
+flat-split integer p = refl
+flat-split long_integer p = refl
+flat-split text p = refl
+flat-split (enumeration _) p = refl
+flat-split (array _ _) p = refl
+flat-split (sequence _ _) p = refl
+flat-split («record» _) p = refl
+flat-split (choice _) p = refl
+
+pub one_operation : (s : ShapeTree) → 1 ≤ operations_in s
+one_operation boolean = omega arith
+one_operation cardinal = omega arith
+one_operation long_cardinal = omega arith
+one_operation integer = omega arith
+one_operation long_integer = omega arith
+one_operation text = omega arith
+one_operation (enumeration _) = omega arith
+one_operation (array _ _) = omega arith
+one_operation (sequence _ _) = omega arith
+one_operation («record» _) = omega arith
+one_operation (choice _) = omega arith
+
+-- where its operations end
+pub end_behind : (s : ShapeTree) (p : ℕ) → unwrap_or (part_end (first s p)) (p + 1) ≡ p + operations_in s
+end_behind boolean p = refl
+end_behind cardinal p = refl
+end_behind long_cardinal p = refl
+end_behind integer p = refl
+end_behind long_integer p = refl
+end_behind text p = refl
+end_behind (enumeration _) p = refl
+end_behind (array _ _) p = omega arith
+end_behind (sequence _ _) p = omega arith
+end_behind («record» _) p = omega arith
+end_behind (choice _) p = omega arith
+
+pub stands_at : (ops : List Operation) (p : ℕ) (s : ShapeTree) (rest : List Operation) → drop p ops ≡ flat s p ++ rest → Stands ops p s
+stands_at ops p s rest is =
+    record {
+      within = within_at ops p (first s p) (parts s p ++ rest) (is ∙ ap (λ xs. xs ++ rest) (flat-split s p));
+      rest = rest;
+      stands = is;
+    }
+
+pub first_stands : (ops : List Operation) (p : ℕ) (d : Operation) (s : ShapeTree) → Stands ops p s → get_or ops p d ≡ first s p
+first_stands ops p d s st =
+    first_at ops p (first s p) d (parts s p ++ st.rest) (st.stands ∙ ap (λ xs. xs ++ st.rest) (flat-split s p))
+
+pub parts_stand : (ops : List Operation) (p : ℕ) (s : ShapeTree) (st : Stands ops p s) → drop (p + 1) ops ≡ parts s p ++ st.rest
+parts_stand ops p s st =
+    behind_at ops p (first s p) (parts s p ++ st.rest) (st.stands ∙ ap (λ xs. xs ++ st.rest) (flat-split s p))
+
+-- ---- shapes by their first operation
+
+pub boolean_of : (s : ShapeTree) (p : ℕ) → first s p ≡ operation.Boolean → s ≡ boolean
+boolean_of boolean p is = refl
+boolean_of _ p is = cc
+
+pub cardinal_of : (s : ShapeTree) (p : ℕ) → first s p ≡ operation.Cardinal → s ≡ cardinal
+cardinal_of cardinal p is = refl
+cardinal_of _ p is = cc
+
+pub long_cardinal_of : (s : ShapeTree) (p : ℕ) → first s p ≡ operation.LongCardinal → s ≡ long_cardinal
+long_cardinal_of long_cardinal p is = refl
+long_cardinal_of _ p is = cc
+
+pub integer_of : (s : ShapeTree) (p : ℕ) → first s p ≡ operation.Integer → s ≡ integer
+integer_of integer p is = refl
+integer_of _ p is = cc
+
+pub long_integer_of : (s : ShapeTree) (p : ℕ) → first s p ≡ operation.LongInteger → s ≡ long_integer
+long_integer_of long_integer p is = refl
+long_integer_of _ p is = cc
+
+pub text_of : (s : ShapeTree) (p : ℕ) → first s p ≡ operation.Text → s ≡ text
+text_of text p is = refl
+text_of _ p is = cc
+
+pub enumeration_of : (s : ShapeTree) (p : ℕ) (numbers : List ℕ) → first s p ≡ operation.Enumeration numbers → (labels : List Label) × (s ≡ enumeration labels) × (numbers ≡ label_numbers labels)
+enumeration_of (enumeration labels) p numbers is = (labels, refl, cc)
+enumeration_of _ p numbers is = absurd cc
+
+pub no_arm_of : (s : ShapeTree) (p n end : ℕ) → first s p ≡ operation.Arm n end → ⊥
+no_arm_of boolean p n end is = absurd cc
+no_arm_of _ p n end is = absurd cc
+
+array_of : (s : ShapeTree) (p n end : ℕ) → first s p ≡ operation.Array n end → (e : ShapeTree) × (s ≡ array n e)
+array_of (array len e) p n end is = (e, let same : len ≡ n = cc in ap (λ k. array k e) same)
+array_of _ p n end is = absurd cc
+
+sequence_of : (s : ShapeTree) (p n end : ℕ) → first s p ≡ operation.Sequence n end → (e : ShapeTree) × (s ≡ sequence n e)
+sequence_of (sequence bound e) p n end is = (e, let same : bound ≡ n = cc in ap (λ k. sequence k e) same)
+sequence_of _ p n end is = absurd cc
+
+record_of : (s : ShapeTree) (p n end : ℕ) → first s p ≡ operation.Record n end → (fs : FieldTrees) × (s ≡ «record» fs) × (end ≡ p + 1 + operations_in_fields fs) × (n ≡ field_count fs)
+record_of («record» fs) p n end is = (fs, refl, cc, cc)
+record_of _ p n end is = absurd cc
+
+choice_of : (s : ShapeTree) (p n end : ℕ) → first s p ≡ operation.Choice n end → (arms : ArmTrees) × (s ≡ choice arms) × (end ≡ p + 1 + operations_in_arms arms) × (n ≡ arm_count arms)
+choice_of (choice arms) p n end is = (arms, refl, cc, cc)
+choice_of _ p n end is = absurd cc
+
+-- ---- parts by the operation before them
+
+pub array_stands : (ops : List Operation) (p n end : ℕ) (d : Operation) (s : ShapeTree) → get_or ops p d ≡ operation.Array n end → Stands ops p s → (e : ShapeTree) × (s ≡ array n e) × Stands ops (p + 1) e
+array_stands ops p n end d s is st =
+    let found = array_of s p n end (sym (first_stands ops p d s st) ∙ is) in
+    let here : Stands ops p (array n found.0) = subst (Stands ops p) found.1 st in
+    (found.0, found.1, stands_at ops (p + 1) found.0 here.rest (parts_stand ops p (array n found.0) here))
+
+pub sequence_stands : (ops : List Operation) (p n end : ℕ) (d : Operation) (s : ShapeTree) → get_or ops p d ≡ operation.Sequence n end → Stands ops p s → (e : ShapeTree) × (s ≡ sequence n e) × Stands ops (p + 1) e
+sequence_stands ops p n end d s is st =
+    let found = sequence_of s p n end (sym (first_stands ops p d s st) ∙ is) in
+    let here : Stands ops p (sequence n found.0) = subst (Stands ops p) found.1 st in
+    (found.0, found.1, stands_at ops (p + 1) found.0 here.rest (parts_stand ops p (sequence n found.0) here))
+
+pub record_stands : (ops : List Operation) (p n end : ℕ) (d : Operation) (s : ShapeTree) → get_or ops p d ≡ operation.Record n end → Stands ops p s → (fs : FieldTrees) × (s ≡ «record» fs) × FieldsStand ops (p + 1) end fs × (n ≡ field_count fs)
+record_stands ops p n end d s is st =
+    let found = record_of s p n end (sym (first_stands ops p d s st) ∙ is) in
+    let here : Stands ops p («record» found.0) = subst (Stands ops p) found.1 st in
+    (found.0, found.1, record { rest = here.rest; stands = parts_stand ops p («record» found.0) here; ends = found.2 }, found.3)
+
+pub choice_stands : (ops : List Operation) (p n end : ℕ) (d : Operation) (s : ShapeTree) → get_or ops p d ≡ operation.Choice n end → Stands ops p s → (arms : ArmTrees) × (s ≡ choice arms) × ArmsStand ops (p + 1) end arms × (n ≡ arm_count arms)
+choice_stands ops p n end d s is st =
+    let found = choice_of s p n end (sym (first_stands ops p d s st) ∙ is) in
+    let here : Stands ops p (choice found.0) = subst (Stands ops p) found.1 st in
+    (found.0, found.1, record { rest = here.rest; stands = parts_stand ops p (choice found.0) here; ends = found.2 }, found.3)
+
+-- ---- one field and the others
+
+pub record FieldsFirst (ops : List Operation) (p end : ℕ) (fields : FieldTrees) : Type 0 where
+  pub name : List ℕ
+  pub shape : ShapeTree
+  pub others : FieldTrees
+  pub is : fields ≡ more_fields name shape others
+  pub stand : Stands ops p shape
+  pub later : FieldsStand ops (p + operations_in shape) end others
+
+pub fields_first : (ops : List Operation) (p end : ℕ) (fields : FieldTrees) → p < end → FieldsStand ops p end fields → FieldsFirst ops p end fields
+fields_first ops p end no_fields before st = absurd (omega (arith, st.ends))
+fields_first ops p end (more_fields name s fs) before st =
+    let split : drop p ops ≡ flat s p ++ (flat_fields fs (p + operations_in s) ++ st.rest) =
+    st.stands ∙ append_assoc (flat s p) (flat_fields fs (p + operations_in s)) st.rest in
+    record {
+      name = name;
+      shape = s;
+      others = fs;
+      is = refl;
+      stand = stands_at ops p s (flat_fields fs (p + operations_in s) ++ st.rest) split;
+      later = record {
+        rest = st.rest;
+        stands = drop_behind ops p (operations_in s) (flat s p) (flat_fields fs (p + operations_in s) ++ st.rest) (length-flat s p) split;
+        ends = omega (arith, st.ends);
+      };
+    }
+
+pub fields_last : (ops : List Operation) (p end : ℕ) (fields : FieldTrees) → end ≤ p → FieldsStand ops p end fields → fields ≡ no_fields
+fields_last ops p end no_fields past st = refl
+fields_last ops p end (more_fields name s fs) past st = absurd (omega (arith, st.ends, one_operation s))
+
+-- ---- one arm and the others
+
+pub record ArmsFirst (ops : List Operation) (p end : ℕ) (arms : ArmTrees) : Type 0 where
+  pub name : List ℕ
+  pub number : ℕ
+  pub shape : ShapeTree
+  pub others : ArmTrees
+  pub is : arms ≡ more_arms name number shape others
+  pub within : p < length ops
+  pub head : (d : Operation) → get_or ops p d ≡ operation.Arm number (p + 1 + operations_in shape)
+  pub stand : Stands ops (p + 1) shape
+  pub later : ArmsStand ops (p + 1 + operations_in shape) end others
+
+pub arms_first : (ops : List Operation) (p end : ℕ) (arms : ArmTrees) → p < end → ArmsStand ops p end arms → ArmsFirst ops p end arms
+arms_first ops p end no_arms before st = absurd (omega (arith, st.ends))
+arms_first ops p end (more_arms name n s arms) before st =
+    let behind = p + 1 + operations_in s in
+    let tail = (flat s (p + 1) ++ flat_arms arms behind) ++ st.rest in
+    let split : drop (p + 1) ops ≡ flat s (p + 1) ++ (flat_arms arms behind ++ st.rest) =
+    behind_at ops p (operation.Arm n behind) tail st.stands ∙ append_assoc (flat s (p + 1)) (flat_arms arms behind) st.rest in
+    record {
+      name = name;
+      number = n;
+      shape = s;
+      others = arms;
+      is = refl;
+      within = within_at ops p (operation.Arm n behind) tail st.stands;
+      head = λ d. first_at ops p (operation.Arm n behind) d tail st.stands;
+      stand = stands_at ops (p + 1) s (flat_arms arms behind ++ st.rest) split;
+      later = record {
+        rest = st.rest;
+        stands = drop_behind ops (p + 1) (operations_in s) (flat s (p + 1)) (flat_arms arms behind ++ st.rest) (length-flat s (p + 1)) split;
+        ends = omega (arith, st.ends);
+      };
+    }
+
+pub arms_last : (ops : List Operation) (p end : ℕ) (arms : ArmTrees) → end ≤ p → ArmsStand ops p end arms → arms ≡ no_arms
+arms_last ops p end no_arms past st = refl
+arms_last ops p end (more_arms name n s arms) past st = absurd (omega (arith, st.ends))
+
+-- the arm at a place has the number that is wanted
+pub arm_found : (ops : List Operation) (p end n behind wanted : ℕ) (d : Operation) (arms : ArmTrees) → p < end → ArmsStand ops p end arms → get_or ops p d ≡ operation.Arm n behind → n ≡ wanted → (s : ShapeTree) × (first_arm arms wanted ≡ Some s) × Stands ops (p + 1) s
+arm_found ops p end n behind wanted d arms before st is same =
+    let f = arms_first ops p end arms before st in
+    let heads = sym is ∙ f.head d in
+    let number : n ≡ f.number = cc in
+    let hit : nat_eq wanted f.number ≡ true = eq-eqb _ _ (sym same ∙ number) in
+    (f.shape, ap (λ xs. first_arm xs wanted) f.is ∙ ap (λ b. cond b (Some f.shape) (first_arm f.others wanted)) hit, f.stand)
+
+-- it has another number
+pub arm_passed : (ops : List Operation) (p end n behind wanted : ℕ) (d : Operation) (arms : ArmTrees) → p < end → ArmsStand ops p end arms → get_or ops p d ≡ operation.Arm n behind → (n ≡ wanted → ⊥) → (others : ArmTrees) × ArmsStand ops behind end others × (first_arm arms wanted ≡ first_arm others wanted)
+arm_passed ops p end n behind wanted d arms before st is other =
+    let f = arms_first ops p end arms before st in
+    let heads = sym is ∙ f.head d in
+    let number : n ≡ f.number = cc in
+    let next : p + 1 + operations_in f.shape ≡ behind = cc in
+    let miss : nat_eq wanted f.number ≡ false = ne_eqb _ _ (λ same. other (number ∙ sym same)) in
+    (f.others, subst (λ k. ArmsStand ops k end f.others) next f.later, ap (λ xs. first_arm xs wanted) f.is ∙ ap (λ b. cond b (Some f.shape) (first_arm f.others wanted)) miss)
+
+-- the place behind an arm is further
+pub arm_further : (ops : List Operation) (p end n behind : ℕ) (d : Operation) (arms : ArmTrees) → p < end → ArmsStand ops p end arms → get_or ops p d ≡ operation.Arm n behind → p < behind
+arm_further ops p end n behind d arms before st is =
+    let f = arms_first ops p end arms before st in
+    let heads = sym is ∙ f.head d in
+    let next : p + 1 + operations_in f.shape ≡ behind = cc in
+    omega arith

@@ -1,0 +1,29 @@
+//! Stubs: flat lists of marshalling operations, compiled from an interface.
+//!
+//! `operation` has the steps and their lists, `stubs` what is compiled from an interface, and `compiler` the
+//! compiler. `place` finds places in a list of operations, `reader` reads values by their operations, and
+//! `behind` has the bytes from a place on. `unpack` and `pack` have the calls, `fault` says why bytes are no
+//! arguments and no outcome, `show` has the text of stubs, and `laws` what holds of all of them.
+#![tactic(auto)]
+
+mod behind;
+mod compiler;
+mod fault;
+mod laws;
+mod operation;
+mod pack;
+mod place;
+mod reader;
+mod show;
+mod stubs;
+mod unpack;
+
+pub use compiler::compile;
+pub use fault::StubFault;
+pub use laws::{packed_is_unpacked, unpacked_is_packed};
+pub use operation::{Operation, Operations};
+pub use show::show_stubs;
+pub use stubs::{Stubs, StubsList};
+
+#[cfg(test)]
+mod tests;
