@@ -7,7 +7,8 @@ use crate::{ByteSource, ExternalFault, copied, long_at, word_at};
 use circus_value::Octets;
 use std::alloc::Global;
 
-/// The word at a place, and the place behind it. `Short` where fewer than two bytes are left.
+/// The word at a place, and the place behind it (docs/FORMATS.md, "External data"). `Short` with the place where
+/// fewer than two bytes are left.
 pub fn read_word<S: ByteSource>(source: &S, at: usize) -> Result<(u16, usize), ExternalFault>
     requires { at ≤ length (S.octets source.now) }
     ensures { Gives (λ n. n) (S.octets source.now) result (word_read at (drop at (S.octets source.now))) }

@@ -4,12 +4,12 @@ ghost use Rattle.std.specs.List.{list_any};
 ghost use Rattle.circus_value.specs.ShapeTree.{ShapeTree, FieldTrees, ArmTrees};
 ghost use Rattle.circus_value.specs.ValueOf as values;
 ghost use Rattle.circus_external.specs.Given.{Gives};
-ghost use Rattle.circus_external.specs.Reading.{word_read, one_word, count_within, items_read, sequence_read, reading, fields_reading, choice_read};
+ghost use Rattle.circus_external.specs.Reading.{one_word, count_within, items_read, sequence_read, reading, fields_reading, choice_read};
 ghost use Rattle.circus_stub.specs.Standing.{Stands, FieldsStand, ArmsStand, listed_value};
 
 use crate::Operation;
 use crate::place::{arm_place, place_behind};
-use circus_external::{ByteSource, ExternalFault, read_from, word_at};
+use circus_external::{ByteSource, ExternalFault, read_from, read_word};
 use circus_value::{Chosen, Shape, Value, Values};
 use std::alloc::Global;
 
@@ -49,16 +49,6 @@ fn read_value<S: ByteSource>(
         }
         Operation::Choice(_, end) => read_choice(alloc, source, at, operations, place + 1, *end),
         Operation::Arm(_, _) => unreachable!(),
-    }
-}
-
-fn read_word<S: ByteSource>(source: &S, at: usize) -> Result<(u16, usize), ExternalFault>
-    requires { at ≤ length (S.octets source.now) }
-    ensures { Gives (λ n. n) (S.octets source.now) result (word_read at (drop at (S.octets source.now))) }
-{
-    match word_at(source, at) {
-        Some(number) => Ok((number, at + 2)),
-        None => Err(ExternalFault::Short(at as u64)),
     }
 }
 
