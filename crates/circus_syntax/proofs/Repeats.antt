@@ -3,6 +3,7 @@ use Rattle.std.proofs.Common.{◌≡◌, ℕ, zero, suc, ◌<◌, ◌≤◌, Boo
 use Rattle.std.specs.Prelude.{Option, Some, None, option_map}
 use Rattle.circus_syntax.specs.declared.stopping.Stop.{Stop}
 use Rattle.circus_syntax.specs.Placed.{Placed, first, Due}
+use Rattle.circus_syntax.specs.Stopping.{StandAt}
 use Rattle.circus_syntax.specs.Reader.{Reader, place_in, passes, sees, next_of, either, either_case, optional, repeat, repeated, marked, marked_in}
 use Rattle.circus_syntax.specs.Spelling.{each, if_written, IsEach, IfWritten}
 use Rattle.circus_syntax.proofs.Sound.{Sound, Ran, Fills, EndsAt, reader, ran_is, ran_both, ran_mapped, ran_like, sound_cased, sound_mapped, sound_nothing, first_append, place_first}
@@ -90,6 +91,7 @@ fills_repeated test item spell Good s e = record {
   stays = λ ts. repeated_none test item (reader (Some s) ts e) refl;
   good = tt;
   due = tt;
+  there = tt;
 }
 
 ran_step : {A : Type 0} (test : Placed → Bool) (item : Reader → A × Reader) (spell : A → List Due) (Good : A → Type 0) → Shrinks test item → Sound item spell Good
@@ -122,12 +124,13 @@ sound_repeated test {item = item} {spell = spell} {Good = Good} shrinks sound = 
 ended_marked : (mark : ℕ → Stop → Stop) → ((at : ℕ) (s : Stop) → (mark at s).place ≡ s.place) → (at : ℕ) (stop : Option Stop) (left : List Placed) (e : ℕ) (more : List Placed)
     → EndsAt stop left e more → EndsAt (option_map (mark at) stop) left e more
 ended_marked mark keeps at None left e more ended = ended
-ended_marked mark keeps at (Some s) left e more ended = keeps at s ∙ ended
+ended_marked mark keeps at (Some s) left e more ended =
+    (keeps at s ∙ ended.0, subst (λ place. StandAt place more) (sym (keeps at s)) ended.1)
 
 pub sound_marked : {A : Type 0} (mark : ℕ → Stop → Stop) {p : Reader → A × Reader} {spell : A → List Due} {Good : A → Type 0}
     → ((at : ℕ) (s : Stop) → (mark at s).place ≡ s.place) → Sound p spell Good → Sound (marked mark p) spell Good
 sound_marked mark {p = p} {spell = spell} {Good = Good} keeps P = record {
-  fills = λ s e. let F = P.fills s e in record { tree = F.tree; more = F.more; stays = F.stays; good = F.good; due = F.due };
+  fills = λ s e. let F = P.fills s e in record { tree = F.tree; more = F.more; stays = F.stays; good = F.good; due = F.due; there = F.there };
   runs = runs;
 }
   where

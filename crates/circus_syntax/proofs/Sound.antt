@@ -5,6 +5,7 @@ use Rattle.circus_text.specs.Token.{IsSpelling}
 use Rattle.circus_syntax.specs.declared.stopping.Stop.{Stop}
 use Rattle.circus_syntax.specs.Placed.{Placed, first, AreTokens, Due, AreDue}
 use Rattle.circus_syntax.specs.Reader.{Reader, place_in, stop_at, token, nothing, both, mapped, cased}
+use Rattle.circus_syntax.specs.Stopping.{StandAt}
 
 pub AreDue-append : (ds es : List Due) (ts us : List Placed) → AreDue ds ts → AreDue es us → AreDue (ds ++ es) (ts ++ us)
 AreDue-append [] es [] us d e = e
@@ -28,6 +29,10 @@ pub tokens_behind : (ts us : List Placed) → AreTokens (ts ++ us) → AreTokens
 tokens_behind [] us a = a
 tokens_behind (t ∷ ts) us a = tokens_behind ts us a.1
 
+pub StandAt-append : (at : ℕ) (ts us : List Placed) → StandAt at ts → StandAt at us → StandAt at (ts ++ us)
+StandAt-append at [] us s t = t
+StandAt-append at (x ∷ ts) us s t = (s.0, StandAt-append at ts us s.1 t)
+
 pub first_append : (ts us vs : List Placed) → first us ≡ first vs → first (ts ++ us) ≡ first (ts ++ vs)
 first_append [] us vs e = e
 first_append (t ∷ ts) us vs e = refl
@@ -43,10 +48,11 @@ place_first (t ∷ ts) (u ∷ us) e same =
 abbrev pub reader : Option Stop → List Placed → ℕ → Reader
 reader stop ts e = record { rest = ts; end = e; stop = stop }
 
--- where reading doesn't stop nothing more is due; a stop is at the first token left, or at the end
+-- where reading doesn't stop nothing more is due; a stop is at the first token left, or at the end, and what more is due is
+-- filled in there
 abbrev pub EndsAt : Option Stop → List Placed → ℕ → List Placed → Type 0
 EndsAt None left e more = more ≡ []
-EndsAt (Some s) left e more = s.place ≡ place_in left e
+EndsAt (Some s) left e more = (s.place ≡ place_in left e) × StandAt s.place more
 
 -- what a production does at tokens, whatever stands behind the first token that it leaves
 pub record Ran {A : Type 0} (p : Reader → A × Reader) (spell : A → List Due) (Good : A → Type 0) (ts : List Placed) (e : ℕ) : Type 0 where
@@ -68,6 +74,7 @@ pub record Fills {A : Type 0} (p : Reader → A × Reader) (spell : A → List D
   pub stays : (ts : List Placed) → p (reader (Some s) ts e) ≡ (tree, reader (Some s) ts e)
   pub good : Good tree
   pub due : AreDue (spell tree) more
+  pub there : StandAt s.place more
 
 pub record Sound {A : Type 0} (p : Reader → A × Reader) (spell : A → List Due) (Good : A → Type 0) : Type 0 where
   pub fills : (s : Stop) (e : ℕ) → Fills p spell Good s e
@@ -83,10 +90,17 @@ ran_is {A = A} {p = p} {e = e} r =
 
 pub sound_token : {A : Type 0} (test : Placed → Bool) (read : Placed → A) (fill : ℕ → A) (spell : A → List Due) (Good : A → Type 0)
     → ((t : Placed) → test t ≡ true → IsSpelling t.kind t.bytes → Good (read t) × AreDue (spell (read t)) (t ∷ []))
-    → ((at : ℕ) → Good (fill at) × (more : List Placed) × AreDue (spell (fill at)) more)
+    → ((at : ℕ) → Good (fill at) × (more : Placed) × (more.start ≡ at) × AreDue (spell (fill at)) (more ∷ []))
     → Sound (token test read fill) spell Good
 sound_token {A = A} test read fill spell Good reads filled = record {
-  fills = λ s e. record { tree = fill s.place; more = (filled s.place).1; stays = λ ts. refl; good = (filled s.place).0; due = (filled s.place).2 };
+  fills = λ s e. record {
+    tree = fill s.place;
+    more = (filled s.place).1 ∷ [];
+    stays = λ ts. refl;
+    good = (filled s.place).0;
+    due = (filled s.place).3;
+    there = ((filled s.place).2, tt);
+  };
   runs = runs;
 }
   where
@@ -121,12 +135,12 @@ sound_token {A = A} test read fill spell Good reads filled = record {
       taken = [];
       left = t ∷ ts;
       stop = Some (stop_at false t.start);
-      more = (filled t.start).1;
+      more = (filled t.start).1 ∷ [];
       whole = refl;
       same = λ rest f. unseen t rest e missed f;
-      ended = refl;
+      ended = (refl, ((filled t.start).2, tt));
       good = λ a. (filled t.start).0;
-      due = λ a. (filled t.start).2;
+      due = λ a. (filled t.start).3;
     }
 
     runs : (ts : List Placed) (e : ℕ) → Ran (token test read fill) spell Good ts e
@@ -135,12 +149,12 @@ sound_token {A = A} test read fill spell Good reads filled = record {
       taken = [];
       left = [];
       stop = Some (stop_at false e);
-      more = (filled e).1;
+      more = (filled e).1 ∷ [];
       whole = refl;
       same = λ rest f. at_end e rest f;
-      ended = refl;
+      ended = (refl, ((filled e).2, tt));
       good = λ a. (filled e).0;
-      due = λ a. (filled e).2;
+      due = λ a. (filled e).3;
     }
     runs (t ∷ ts) e = tested t ts e (test t) refl
 
@@ -148,7 +162,7 @@ sound_token {A = A} test read fill spell Good reads filled = record {
 
 pub sound_nothing : {A : Type 0} (a : A) (spell : A → List Due) (Good : A → Type 0) → Good a → spell a ≡ [] → Sound (nothing a) spell Good
 sound_nothing {A = A} a spell Good good none = record {
-  fills = λ s e. record { tree = a; more = []; stays = λ ts. refl; good = good; due = rw none tt };
+  fills = λ s e. record { tree = a; more = []; stays = λ ts. refl; good = good; due = rw none tt; there = tt };
   runs = λ ts e. record {
     tree = a;
     taken = [];
@@ -177,6 +191,7 @@ fills_both {p = p} {q = q} {sa = sa} {sb = sb} {s = s} {e = e} P Q = record {
   stays = λ ts. both_is p q _ _ _ P.tree Q.tree (P.stays ts) (Q.stays ts);
   good = (P.good, Q.good);
   due = AreDue-append (sa P.tree) (sb Q.tree) P.more Q.more P.due Q.due;
+  there = StandAt-append s.place P.more Q.more P.there Q.there;
 }
 
 pub ran_both : {A B : Type 0} {p : Reader → A × Reader} {q : Reader → B × Reader} {sa : A → List Due} {sb : B → List Due} {ga : A → Type 0} {gb : B → Type 0} {ts : List Placed} {e : ℕ}
@@ -214,7 +229,7 @@ ran_both {A = A} {B = B} {p = p} {q = q} {sa = sa} {sb = sb} {ga = ga} {gb = gb}
           more = P.more ++ F.more;
           whole = P.whole;
           same = λ rest f. both_is p q _ _ _ P.tree F.tree (same rest f) (F.stays rest);
-          ended = ended;
+          ended = (ended.0, StandAt-append s.place P.more F.more ended.1 F.there);
           good = λ a. (P.good a, F.good);
           due = λ a.
               subst (AreDue (sa P.tree ++ sb F.tree)) (append_assoc P.taken P.more F.more)
@@ -238,6 +253,7 @@ fills_mapped f sb gb spelled kept P = record {
   stays = λ ts. ap (λ x. (f x.0, x.1)) (P.stays ts);
   good = kept P.tree P.good;
   due = subst (λ ds. AreDue ds P.more) (sym (spelled P.tree)) P.due;
+  there = P.there;
 }
 
 pub ran_mapped : {A B : Type 0} {p : Reader → A × Reader} {sa : A → List Due} {ga : A → Type 0} {ts : List Placed} {e : ℕ} (f : A → B) (sb : B → List Due) (gb : B → Type 0)
@@ -283,6 +299,6 @@ ran_like p alike Q = record {
 pub sound_cased : {K A : Type 0} (class : Option Placed → K) (p : K → Reader → A × Reader) {spell : A → List Due} {Good : A → Type 0}
     → ((k : K) → Sound (p k) spell Good) → Sound (cased class p) spell Good
 sound_cased class p each = record {
-  fills = λ s e. let F = (each (class None)).fills s e in record { tree = F.tree; more = F.more; stays = F.stays; good = F.good; due = F.due };
+  fills = λ s e. let F = (each (class None)).fills s e in record { tree = F.tree; more = F.more; stays = F.stays; good = F.good; due = F.due; there = F.there };
   runs = λ ts e. ran_like (cased class p) (λ us same. ap (λ k. p k (reader None us e)) (ap class same)) ((each (class (first ts))).runs ts e);
 }

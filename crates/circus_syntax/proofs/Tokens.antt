@@ -64,14 +64,14 @@ unfolding fixed
 sound_fixed l =
     sound_token (is_lexeme l) (λ t. tt) (λ at. tt) (spelling_fixed l) Always
     (λ t hit fine. (tt, (lexeme_is l t hit, tt)))
-    (λ at. (tt, record { kind = l.kind; bytes = l.bytes; start = at } ∷ [], ((refl, refl), tt)))
+    (λ at. (tt, record { kind = l.kind; bytes = l.bytes; start = at }, refl, ((refl, refl), tt)))
 
 pub sound_fixed_at : (l : Lexeme) → Sound (fixed_at l) (spelling_fixed_at l) Always
 unfolding fixed_at
 sound_fixed_at l =
     sound_token (is_lexeme l) (λ t. t.start) (λ at. at) (spelling_fixed_at l) Always
     (λ t hit fine. let (kind, bytes) = lexeme_is l t hit in (tt, ((kind, bytes, refl), tt)))
-    (λ at. (tt, record { kind = l.kind; bytes = l.bytes; start = at } ∷ [], ((refl, refl, refl), tt)))
+    (λ at. (tt, record { kind = l.kind; bytes = l.bytes; start = at }, refl, ((refl, refl, refl), tt)))
 
 name_parts : (t : Placed) → is_name t ≡ true → (t.kind ≡ Word) × (is_reserved t.bytes ≡ false)
 name_parts t hit =
@@ -92,7 +92,7 @@ sound_name =
     (λ t hit fine.
     let (kind, free) = name_parts t hit in
     ((subst (λ k. IsSpelling k t.bytes) kind fine, free), ((kind, refl, refl), tt)))
-    (λ at. ((x_is_word, x_is_free), record { kind = Word; bytes = codes "x"; start = at } ∷ [], ((refl, refl, refl), tt)))
+    (λ at. ((x_is_word, x_is_free), record { kind = Word; bytes = codes "x"; start = at }, refl, ((refl, refl, refl), tt)))
 
 zero_is_number : IsSpelling Number (codes "0")
 zero_is_number = record { formed = (omega arith, refl); no_bad_byte = refl; no_long_number = refl }
@@ -105,7 +105,7 @@ sound_number =
     let kind = same_kind-is t.kind Number hit in
     let spelled = subst (λ k. IsSpelling k t.bytes) kind fine in
     (ltb-false _ _ spelled.no_long_number, ((kind, spelled, refl, refl), tt)))
-    (λ at. (omega arith, record { kind = Number; bytes = codes "0"; start = at } ∷ [], ((refl, zero_is_number, refl, refl), tt)))
+    (λ at. (omega arith, record { kind = Number; bytes = codes "0"; start = at }, refl, ((refl, zero_is_number, refl, refl), tt)))
 
 pub complete_fixed : (l : Lexeme) → Complete (fixed l) (spelling_fixed l) Always Any
 unfolding fixed

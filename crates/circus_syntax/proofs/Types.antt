@@ -237,7 +237,7 @@ boolean_token at = record { kind = Word; bytes = codes "BOOLEAN"; start = at }
 sound_too_deep : (n : ℕ) → Sound too_deep spelling_type (IsTypeWithin n)
 unfolding too_deep
 sound_too_deep n = record {
-  fills = λ s e. record { tree = boolean s.place; more = boolean_token s.place ∷ []; stays = λ ts. refl; good = (tt, omega arith); due = ((refl, refl, refl), tt) };
+  fills = λ s e. record { tree = boolean s.place; more = boolean_token s.place ∷ []; stays = λ ts. refl; good = (tt, omega arith); due = ((refl, refl, refl), tt); there = (refl, tt) };
   runs = λ ts e. record {
     tree = boolean (place_in ts e);
     taken = [];
@@ -246,7 +246,7 @@ sound_too_deep n = record {
     more = boolean_token (place_in ts e) ∷ [];
     whole = refl;
     same = λ rest f. let here = place_first rest ts e f in λ i. (boolean (here i), reader (Some (stop_at true (here i))) rest e);
-    ended = refl;
+    ended = (refl, (refl, tt));
     good = λ a. (tt, omega arith);
     due = λ a. ((refl, refl, refl), tt);
   };

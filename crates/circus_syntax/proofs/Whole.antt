@@ -12,7 +12,7 @@ use Rattle.circus_syntax.specs.Placed.{Placed, placed_of, first, AreTokens, AreD
 use Rattle.circus_syntax.specs.Reader.{Reader, place_in}
 use Rattle.circus_syntax.specs.Reading.{interface}
 use Rattle.circus_syntax.specs.Spelling.{spelling, IsEach, declared_levels, IsWithin, most_levels, IsInterface, Begins, BeginsWithin}
-use Rattle.circus_syntax.specs.Stopping.{NoneIsWhole, IsUnexpected, IsTooDeep}
+use Rattle.circus_syntax.specs.Stopping.{NoneIsWhole, IsUnexpected, IsTooDeep, IsFilledIn}
 use Rattle.circus_syntax.proofs.Sound.{Ran, reader, ran_is, EndsAt}
 use Rattle.circus_syntax.proofs.Interfaces.{IsInterfaceWithin, sound_interface, complete_interface}
 use Rattle.circus_syntax.proofs.Widens.{Wider, WiderBy}
@@ -76,6 +76,25 @@ interface_one own more tree other first_is second_is =
 begun_of : (ts : List Placed) (e : ℕ) (n : ℕ) (R : Ran (interface n) spelling (IsInterfaceWithin n) ts e) → AreTokens ts → IsInterface (R.taken ++ R.more) R.tree × IsWithin n R.tree
 begun_of ts e n R tokens = let good = R.good tokens in (record { grammatical = good.0; spelled = R.due tokens }, good.1)
 
+-- where reading stopped, and where what was filled in stands
+ended_at : (ts : List Placed) (e : ℕ) (R : Ran (interface most_levels) spelling (IsInterfaceWithin most_levels) ts e) (s : Stop) → R.stop ≡ Some s → EndsAt (Some s) R.left e R.more
+ended_at ts e R s stop_is = subst (λ (o : Option Stop). EndsAt o R.left e R.more) stop_is R.ended
+
+pub interface_filled_in : (ts left : List Placed) (tree : InterfaceTree) (s : Stop) (e : ℕ) → AreTokens ts
+    → interface most_levels (reader None ts e) ≡ (tree, reader (Some s) left e) → IsFilledIn ts left s.place tree
+interface_filled_in ts left tree s e tokens is =
+    let R = (sound_interface most_levels).runs ts e in
+    let (tree_is, left_is, stop_is) = ran_parts ts left tree (Some s) e R is in
+    let (begun, within) = begun_of ts e most_levels R tokens in
+    record {
+      read = R.taken;
+      more = R.more;
+      whole = R.whole ∙ ap (λ l. R.taken ++ l) left_is;
+      interface = subst (IsInterface (R.taken ++ R.more)) tree_is begun;
+      within = subst (IsWithin most_levels) tree_is within;
+      there = (ended_at ts e R s stop_is).1;
+    }
+
 no_stop : (x y : InterfaceTree × Reader) (s : Stop) → x.1.stop ≡ None → y.1.stop ≡ Some s → x ≡ y → ⊥
 no_stop x y s going stopped same = let stops : None ≡ Some s = sym going ∙ ap (λ (z : InterfaceTree × Reader). z.1.stop) same ∙ stopped in cc
 
@@ -97,7 +116,7 @@ interface_unexpected ts left tree s e tokens is flat = (
     none_whole = none_whole;
     none_on = none_on;
   },
-  subst (λ (l : List Placed). s.place ≡ place_in l e) left_is (subst (λ (o : Option Stop). EndsAt o R.left e R.more) stop_is R.ended),
+  subst (λ (l : List Placed). s.place ≡ place_in l e) left_is (ended_at ts e R s stop_is).0,
 )
   where
     R : Ran (interface most_levels) spelling (IsInterfaceWithin most_levels) ts e
@@ -152,7 +171,7 @@ interface_too_deep ts left tree s e tokens is deep = (
     goes_on = goes_on;
     none_within = none_within;
   },
-  subst (λ (l : List Placed). s.place ≡ place_in l e) left_is (subst (λ (o : Option Stop). EndsAt o R.left e R.more) stop_is R.ended),
+  subst (λ (l : List Placed). s.place ≡ place_in l e) left_is (ended_at ts e R s stop_is).0,
 )
   where
     R : Ran (interface most_levels) spelling (IsInterfaceWithin most_levels) ts e

@@ -1,8 +1,8 @@
 -- Where reading an interface stops.
-use Rattle.std.specs.Prelude.{◌≡◌, List, [], ◌∷◌, ◌++◌}
+use Rattle.std.specs.Prelude.{◌≡◌, ℕ, List, [], ◌∷◌, ◌++◌}
 use Rattle.circus_syntax.specs.InterfaceTree.{InterfaceTree}
 use Rattle.circus_syntax.specs.Placed.{Placed}
-use Rattle.circus_syntax.specs.Spelling.{IsInterface, Begins, BeginsWithin}
+use Rattle.circus_syntax.specs.Spelling.{IsInterface, IsWithin, most_levels, Begins, BeginsWithin}
 
 -- no interface is read whole
 abbrev pub NoneIsWhole : List Placed → Type 0
@@ -27,3 +27,17 @@ pub record IsTooDeep (ts left : List Placed) : Type 0 where
   pub none_whole : NoneIsWhole read
   pub goes_on : Begins (read ++ next ∷ [])
   pub none_within : BeginsWithin (read ++ next ∷ []) → ⊥
+
+-- each of the tokens stands at this place
+abbrev pub StandAt : ℕ → List Placed → Type 0
+StandAt at [] = Unit {0}
+StandAt at (t ∷ ts) = (t.start ≡ at) × StandAt at ts
+
+-- the tree is that of an interface which the tokens in front of what is left begin, and what it has besides them stands at this place
+pub record IsFilledIn (ts left : List Placed) (at : ℕ) (tree : InterfaceTree) : Type 0 where
+  pub read : List Placed
+  pub more : List Placed
+  pub whole : ts ≡ read ++ left
+  pub interface : IsInterface (read ++ more) tree
+  pub within : IsWithin most_levels tree
+  pub there : StandAt at more

@@ -9,7 +9,7 @@ ghost use Rattle.circus_syntax.specs.Read.{placed_from};
 ghost use Rattle.circus_syntax.specs.Reader.{open_at, place_in};
 ghost use Rattle.circus_syntax.specs.Reading.{interface};
 ghost use Rattle.circus_syntax.specs.Spelling.{IsInterface, IsWithin, most_levels};
-ghost use Rattle.circus_syntax.specs.Stopping.{IsUnexpected, IsTooDeep};
+ghost use Rattle.circus_syntax.specs.Stopping.{IsUnexpected, IsTooDeep, IsFilledIn};
 
 /// The tokens of a text, from any one on, are tokens that a text can have.
 pub fn text_has_tokens()
@@ -53,4 +53,13 @@ pub fn stops_at_the_too_deep()
         → interface most_levels (open_at all end)
         ≡ (tree, record { rest = left; end = end; stop = Some stop })
         → stop.deep ≡ true → IsTooDeep all left × (stop.place ≡ place_in left end) }
+{}
+
+/// Where reading stops, the tree is that of an interface which the tokens so far begin. What it has besides them stands
+/// at the place of the stop, and none of its types is too deep.
+pub fn a_stop_is_filled_in()
+    ensures { (all left : List Placed) (tree : InterfaceTree) (stop : Stop) (end : ℕ) → AreTokens all
+        → interface most_levels (open_at all end)
+        ≡ (tree, record { rest = left; end = end; stop = Some stop })
+        → IsFilledIn all left stop.place tree }
 {}
