@@ -1,7 +1,7 @@
 //! The command `circus`: it fetches the files of the folder that it is called in, and writes to the
 //! standard output. No datagram arrives at its link, which is one in memory.
 //!
-//! `tests` has whole runs over the forms in memory.
+//! `tests` has whole runs over the forms in memory, and what two pairs say to each other.
 #![tactic(auto)]
 
 use circus_outside::{Arrivals, DirShelf, Failing, MemLink, StdSink};
