@@ -30,7 +30,7 @@ pub holds_anyway : (o : Option Fault) (P : Type 0) → P → IfNone o P
 holds_anyway None P holds = holds
 holds_anyway (Some f) P holds = tt
 
-bytes_eq_same : (name : List ℕ) → bytes_eq name name ≡ true
+pub bytes_eq_same : (name : List ℕ) → bytes_eq name name ≡ true
 bytes_eq_same name = grind (arith, common_steps, bytes_eq-Decides name name)
 
 -- a name stands for what it was given

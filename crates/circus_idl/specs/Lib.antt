@@ -16,3 +16,4 @@ pub mod Scoped
 pub mod Means
 pub mod Drafted
 pub mod Answer
+pub mod ReadAt

@@ -4,7 +4,8 @@
 //! reads one: `check` goes over its tree, `draft` makes the interface from it, `declared` and `scope` keep what
 //! is declared before a place, `inside` finds the faults of a type, `measure` its size and `written` its shape;
 //! `types` and `names` are the tables for that, and `fault` the least fault so far. `show` writes an interface,
-//! token by token in `writer`, with the names of errors in `error_names`.
+//! token by token in `writer`, with the names of errors in `error_names`. `laws` has what holds of every text
+//! that is shown.
 #![tactic(auto)]
 
 mod check;
@@ -15,6 +16,7 @@ mod fault;
 mod idl_fault;
 mod inside;
 mod interface;
+mod laws;
 mod measure;
 mod names;
 mod read;
@@ -28,6 +30,7 @@ pub use idl_fault::IdlFault;
 pub use interface::{
     Declared, DeclaredError, DeclaredType, Errors, Interface, Procedure, Procedures,
 };
+pub use laws::shown_is_read;
 pub use read::read_interface;
 pub use show::show_interface;
 

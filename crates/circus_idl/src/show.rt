@@ -10,6 +10,9 @@ use std::alloc::Global;
 
 /// The text of an interface (docs/FORMATS.md, "Interfaces"): its tokens with one space between two, types
 /// first, then errors, then procedures, each in the order of its list. `NoMemory` is the one fault.
+///
+/// Where the interface obeys the rules and the text has at most 1,048,576 bytes, `read_interface` reads it as
+/// that interface.
 pub fn show_interface(alloc: Global, interface: &Interface) -> Result<Octets, NoMemory>
     ensures { IfOk result (λ text. text ≡ spaced (lexemes interface.now)) }
 {

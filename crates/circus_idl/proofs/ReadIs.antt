@@ -1,0 +1,163 @@
+-- What is read at a token, accepted or refused.
+use Rattle.std.proofs.Common.{◌≡◌, ℕ, ◌<◌, ◌≤◌, ◌⊎◌, inl, inr, Bool, true, false, List, [], ◌∷◌, ◌++◌, length, drop, refl, sym, ◌∙◌, ap, subst, arith, length-append, Option, Some, None}
+use Rattle.std.specs.List.{AllByRecursion}
+use Rattle.std.specs.Prelude.{Contains, All, if◌then◌else◌}
+use Rattle.std.proofs.lemmas.List.{length-map, length-drop}
+use Rattle.std.proofs.lemmas.List.Elements.{Contains-append_cases}
+use Rattle.circus_text.specs.declared.token.Token.{Token}
+use Rattle.circus_text.specs.Token.{IsTokenIn}
+use Rattle.circus_syntax.specs.declared.interface_reading.Read.{Read}
+use Rattle.circus_syntax.specs.declared.stopping.Stop.{Stop}
+use Rattle.circus_syntax.specs.InterfaceTree.{InterfaceTree, interface_of}
+use Rattle.circus_syntax.specs.Placed.{Placed, placed_of}
+use Rattle.circus_syntax.specs.Read.{placed_from, Answers}
+use Rattle.circus_syntax.specs.Reader.{Reader, open_at, place_in}
+use Rattle.circus_syntax.specs.Reading.{interface}
+use Rattle.circus_syntax.specs.Spelling.{IsInterface, IsWithin, most_levels}
+use Rattle.circus_syntax.specs.Stopping.{IsUnexpected, IsTooDeep}
+use Rattle.circus_syntax.proofs.Viewed.{text_tokens}
+use Rattle.circus_syntax.proofs.Whole.{interface_read, interface_whole, interface_unexpected, interface_too_deep}
+use Rattle.circus_idl.specs.declared.fault.Fault.{Fault}
+use Rattle.circus_idl.specs.declared.fault.Cause.{Cause}
+use Rattle.circus_idl.specs.declared.fault.Cause.TheVariants as cause
+use Rattle.circus_idl.specs.declared.idl_fault.IdlFault.{IdlFault}
+use Rattle.circus_idl.specs.declared.idl_fault.IdlFault.TheVariants.{Expected, Deep, NoMemory}
+use Rattle.circus_idl.specs.declared.interface.Interface.{Interface}
+use Rattle.circus_idl.specs.Rank.{rank}
+use Rattle.circus_idl.specs.Least.{least_from}
+use Rattle.circus_idl.specs.Answer.{answer_at, answer_of}
+use Rattle.circus_idl.specs.Faults.{cut_of, interface_faults, stop_faults, read_faults}
+use Rattle.circus_idl.specs.Means.{Means}
+use Rattle.circus_idl.specs.ReadAt.{IsReadAt, IsRefused}
+use Rattle.circus_idl.proofs.Items.{none_in, of_each}
+use Rattle.circus_idl.proofs.LeastIs.{least_is}
+use Rattle.circus_idl.proofs.RuleFaults.{IsOfRule, interface_rule}
+
+-- What is accepted.
+
+no_stop : (stop : Option Stop) → stop_faults stop ≡ [] → stop ≡ None
+no_stop None none = refl
+no_stop (Some s) none = absurd (cc)
+
+pub is_read : (text : List ℕ) (ts : List Token) (at : ℕ) (read : Read) (i : Interface) → All (IsTokenIn text) ts → at ≤ length ts → Answers text ts at read
+    → read_faults read.stop (interface_of read.interface) ≡ [] → Means (interface_of read.interface) i → IsReadAt text ts at i read.next
+is_read text ts at read i tokens inside answers none means =
+    let tree = interface_of read.interface in
+    let (going, rules) = none_in (stop_faults read.stop) (interface_faults (cut_of read.stop) tree) none in
+    let went_on = no_stop read.stop going in
+    let all = placed_from text ts at in
+    let whole : interface most_levels (open_at all (length text)) ≡ (tree, open_at answers.left (length text)) =
+    answers.is ∙ ap (λ s. (tree, record { rest = answers.left; end = length text; stop = s })) went_on in
+    let (own, parts, spelled, within) = interface_whole all answers.left tree (length text) (text_tokens text ts at tokens) whole in
+    record {
+      own = own;
+      rest = answers.left;
+      tree = tree;
+      whole = parts;
+      spelled = spelled;
+      within = within;
+      faultless = subst (λ s. interface_faults (cut_of s) tree ≡ []) went_on rules;
+      means = means;
+      next_is = omega (arith, answers.next, ap length parts, length-append own answers.left, length-map (drop at ts) (placed_of text), length-drop at ts);
+    }
+
+-- an interface without a fault is not refused
+pub none_refused : (text : List ℕ) (ts : List Token) (at : ℕ) (answer : IdlFault) (own rest : List Placed) (tree : InterfaceTree) → placed_from text ts at ≡ own ++ rest → IsInterface own tree → IsWithin most_levels tree
+    → interface_faults (cut_of None) tree ≡ [] → (answer ≡ NoMemory) ⊎ IsRefused text ts at answer → answer ≡ NoMemory
+none_refused text ts at answer own rest tree whole spelled within none (inl no_memory) = no_memory
+none_refused text ts at answer own rest tree whole spelled within none (inr refused) =
+    let read = refused.read in
+    let end = length text in
+    let is : (tree, open_at rest end) ≡ (interface_of read.interface, record { rest = refused.answers.left; end = end; stop = read.stop }) =
+    sym (interface_read own rest tree end spelled within) ∙ ap (λ ts. interface most_levels (open_at ts end)) (sym whole) ∙ refused.answers.is in
+    let tree_is = ap (λ (x : InterfaceTree × Reader). x.0) is in
+    let stop_is = ap (λ (x : InterfaceTree × Reader). x.1.stop) is in
+    let faults : read_faults read.stop (interface_of read.interface) ≡ [] = (λ i. read_faults (sym stop_is i) (sym tree_is i)) ∙ none in
+    absurd (of_each (λ _. ⊥) [] refused.fault tt (subst (λ fs. Contains fs refused.fault) faults refused.least.found))
+
+-- What is refused.
+
+pub is_refused : (text : List ℕ) (ts : List Token) (at : ℕ) (read : Read) (answer : IdlFault) → Answers text ts at read
+    → (answer ≡ NoMemory) ⊎ ((f : Fault) × (least_from None (read_faults read.stop (interface_of read.interface)) ≡ Some f) × (answer ≡ answer_of f))
+    → (answer ≡ NoMemory) ⊎ IsRefused text ts at answer
+is_refused text ts at read answer answers (inl no_memory) = inl no_memory
+is_refused text ts at read answer answers (inr (f, least, given)) =
+    inr (record { read = read; answers = answers; fault = f; least = least_is (read_faults read.stop (interface_of read.interface)) f least; given = given })
+
+at_expected : (p : ℕ) (c : Cause) (place : ℕ) → answer_at p c ≡ Expected place → (c ≡ cause.Expected) × (p ≡ place)
+at_expected p cause.Expected place is = (refl, cc)
+at_expected p cause.Deep place is = absurd (cc)
+at_expected p cause.Unknown place is = absurd (cc)
+at_expected p cause.Repeated place is = absurd (cc)
+at_expected p cause.OutOfRange place is = absurd (cc)
+at_expected p cause.TooLarge place is = absurd (cc)
+
+at_deep : (p : ℕ) (c : Cause) (place : ℕ) → answer_at p c ≡ Deep place → (c ≡ cause.Deep) × (p ≡ place)
+at_deep p cause.Deep place is = (refl, cc)
+at_deep p cause.Expected place is = absurd (cc)
+at_deep p cause.Unknown place is = absurd (cc)
+at_deep p cause.Repeated place is = absurd (cc)
+at_deep p cause.OutOfRange place is = absurd (cc)
+at_deep p cause.TooLarge place is = absurd (cc)
+
+-- a fault of where reading stopped
+record IsStop (stop : Option Stop) (f : Fault) : Type 0 where
+  at : Stop
+  stop_is : stop ≡ Some at
+  place_is : f.place ≡ at.place
+  cause_is : f.cause ≡ (if at.deep then cause.Deep else cause.Expected)
+
+stop_of : (stop : Option Stop) (f : Fault) → Contains (stop_faults stop) f → IsStop stop f
+stop_of None f there = absurd (of_each (λ _. ⊥) [] f tt there)
+stop_of (Some s) f there =
+    let only : Fault = record { place = s.place; cause = if s.deep then cause.Deep else cause.Expected } in
+    let same : AllByRecursion (λ g. only ≡ g) (only ∷ []) = (refl, tt) in
+    let is : f ≡ only =
+    sym (of_each (λ g. only ≡ g) (only ∷ []) f same there) in
+    record { at = s; stop_is = refl; place_is = ap (λ (g : Fault). g.place) is; cause_is = ap (λ (g : Fault). g.cause) is }
+
+-- no rule's fault is one of reading
+of_stop : (stop : Option Stop) (tree : InterfaceTree) (f : Fault) → rank f.cause ≤ 1 → Contains (read_faults stop tree) f → IsStop stop f
+of_stop stop tree f reading there =
+    elim (Contains-append_cases (stop_faults stop) (interface_faults (cut_of stop) tree) f there) [
+      | inl stopped ↦ stop_of stop f stopped
+      | inr rules ↦ absurd (let of_rule : 1 < rank f.cause = of_each IsOfRule _ f (interface_rule (cut_of stop) tree) rules in omega arith)
+    ]
+
+flat : (deep : Bool) → (if deep then cause.Deep else cause.Expected) ≡ cause.Expected → deep ≡ false
+flat false is = refl
+flat true is = absurd (cc)
+
+deep : (deep : Bool) → (if deep then cause.Deep else cause.Expected) ≡ cause.Deep → deep ≡ true
+deep true is = refl
+deep false is = absurd (cc)
+
+stopped_at : (text : List ℕ) (ts : List Token) (at : ℕ) (read : Read) (s : Stop) (answers : Answers text ts at read) → read.stop ≡ Some s
+    → interface most_levels (open_at (placed_from text ts at) (length text)) ≡ (interface_of read.interface, record { rest = answers.left; end = length text; stop = Some s })
+stopped_at text ts at read s answers is = answers.is ∙ ap (λ o. (interface_of read.interface, record { rest = answers.left; end = length text; stop = o })) is
+
+pub is_unexpected : (text : List ℕ) (ts : List Token) (at : ℕ) (answer : IdlFault) (place : ℕ) → All (IsTokenIn text) ts → (answer ≡ NoMemory) ⊎ IsRefused text ts at answer → answer ≡ Expected place
+    → (left : List Placed) × IsUnexpected (placed_from text ts at) left × (place ≡ place_in left (length text))
+is_unexpected text ts at answer place tokens (inl no_memory) is = absurd (cc)
+is_unexpected text ts at answer place tokens (inr refused) is =
+    let f = refused.fault in
+    let read = refused.read in
+    let (because, where_is) = at_expected f.place f.cause place (sym refused.given ∙ is) in
+    let s = of_stop read.stop (interface_of read.interface) f (omega (arith, ap rank because)) refused.least.found in
+    let (unexpected, stands) =
+    interface_unexpected (placed_from text ts at) refused.answers.left (interface_of read.interface) s.at (length text) (text_tokens text ts at tokens)
+    (stopped_at text ts at read s.at refused.answers s.stop_is) (flat s.at.deep (sym s.cause_is ∙ because)) in
+    (refused.answers.left, unexpected, sym where_is ∙ s.place_is ∙ stands)
+
+pub is_too_deep : (text : List ℕ) (ts : List Token) (at : ℕ) (answer : IdlFault) (place : ℕ) → All (IsTokenIn text) ts → (answer ≡ NoMemory) ⊎ IsRefused text ts at answer → answer ≡ Deep place
+    → (left : List Placed) × IsTooDeep (placed_from text ts at) left × (place ≡ place_in left (length text))
+is_too_deep text ts at answer place tokens (inl no_memory) is = absurd (cc)
+is_too_deep text ts at answer place tokens (inr refused) is =
+    let f = refused.fault in
+    let read = refused.read in
+    let (because, where_is) = at_deep f.place f.cause place (sym refused.given ∙ is) in
+    let s = of_stop read.stop (interface_of read.interface) f (omega (arith, ap rank because)) refused.least.found in
+    let (too_deep, stands) =
+    interface_too_deep (placed_from text ts at) refused.answers.left (interface_of read.interface) s.at (length text) (text_tokens text ts at tokens)
+    (stopped_at text ts at read s.at refused.answers s.stop_is) (deep s.at.deep (sym s.cause_is ∙ because)) in
+    (refused.answers.left, too_deep, sym where_is ∙ s.place_is ∙ stands)
