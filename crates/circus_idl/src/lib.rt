@@ -35,4 +35,6 @@ pub use read::read_interface;
 pub use show::show_interface;
 
 #[cfg(test)]
+mod table_tests;
+#[cfg(test)]
 mod tests;

@@ -1,5 +1,4 @@
 use super::*;
-use circus_text::tokens;
 use circus_value::{Field, Fields, ListOf, Name, NoMemory, Numbers, Octets, Shape};
 use std::alloc::Global;
 use std::test::Fail;
@@ -43,19 +42,5 @@ fn shows_an_interface(rt: HostRuntime) -> Result<(), Fail> {
     let mut text = Octets::from_text(alloc, "Count : PROGRAM 1 VERSION 1 = BEGIN Add : ")?;
     text.append(b"PROCEDURE [ n : CARDINAL ] RETURNS [ sum : CARDINAL ] = 1 ; END .")?;
     assert!(rt; shown.as_slice() == text.as_slice());
-    Ok(())
-}
-
-#[test]
-fn reads_an_interface(rt: HostRuntime) -> Result<(), Fail> {
-    let alloc = rt.alloc();
-    let text = "X: PROGRAM 1 VERSION 70000 = BEGIN END.".as_bytes();
-    let list = tokens(alloc, text)?;
-    assert!(rt;
-        matches!(
-            read_interface(alloc, text, &list, 0),
-            Err(IdlFault::OutOfRange(21))
-        )
-    );
     Ok(())
 }
