@@ -5,23 +5,21 @@ use Rattle.std.specs.FinMap.{get}
 use Rattle.std.proofs.lemmas.Bool.{eqb-true, eqb-false, ltb-true, cases_lt}
 use Rattle.std.proofs.lemmas.List.Elements.{All-cons, All-nil}
 use Rattle.circus_exchange.specs.declared.progress.Progress.{Progress}
-use Rattle.circus_exchange.specs.declared.exchange.Exchange.{Exchange}
 use Rattle.circus_segment.specs.declared.fault.SegmentFault.{SegmentFault}
 use Rattle.circus_exchange.specs.declared.taken.Arrived.{Arrived}
 use Rattle.circus_pair.specs.declared.two_ends.TwoFault.{TwoFault}
 use Rattle.circus_pair.specs.declared.two_ends.TwoFault.TheVariants.{NoSuch, Spent}
 use Rattle.circus_pair.specs.declared.two_ends.Act.{Act}
 use Rattle.circus_pair.specs.declared.two_ends.Act.TheVariants.{Call, Return, Deliver, Tick}
-use Rattle.circus_segment.specs.Segment.{Piece, IsSegment, is_acknowledgement, reading}
+use Rattle.circus_segment.specs.Segment.{Piece, IsSegment, is_acknowledgement, reading, spelling}
 use Rattle.circus_segment.specs.Cut.{segment_count}
-use Rattle.circus_exchange.specs.Exchange.{IsSendable, is_whole, awaits_return}
+use Rattle.circus_exchange.specs.Exchange.{IsSendable, awaits_return}
 use Rattle.circus_pair.specs.Taken.{is_of, first_of, total_in, count_in, is_reached, has_arrived, AreOf}
-use Rattle.circus_pair.specs.Acts.{Call as Calls, Return as Returns, Came, Tick as Ticks, Acts, more, taken_by, end_after}
+use Rattle.circus_pair.specs.Acts.{Act as OneAct, Call as Calls, Return as Returns, Came, Tick as Ticks, Stop as Stops, Acts, more, taken_by, end_after}
 use Rattle.circus_pair.specs.Handed.{made, call_at, return_at, says, reached_in}
-use Rattle.circus_pair.specs.TwoEnds.{History, begun, then_came, Arrival, Both, end_at, both_after, coming, delivered, with_act, start_of, acts_of, sent_by, taken_at, arrived_at, handed_over, MayFollow, AreLawful, CanBeSent, names_none, has_no_number}
-use Rattle.circus_pair.proofs.Arrivals.{told}
-use Rattle.circus_pair.proofs.Standing.{Stands}
-use Rattle.circus_pair.proofs.Handing.{Hands, told_out}
+use Rattle.circus_pair.specs.TwoEnds.{History, begun, then_came, Arrival, Both, end_at, both_after, coming, delivered, is_same, with_act, start_of, acts_of, sent_by, taken_at, arrived_at, arrived_in, handed_over, Agrees, Agree, Talk, silent, at_first, at_second, acts_at_first, acts_at_second, WasSent, IsTalk, MayFollow, AreLawful, CanBeSent, names_none, has_no_number}
+use Rattle.circus_pair.specs.Lawful.{is_stopped_after, MayFollow as MayCome, AreLawful as IsLawfulEnd}
+use Rattle.circus_pair.proofs.Handing.{told_out, awaits_is}
 use Rattle.circus_segment.proofs.Spellings.{read_again}
 use Rattle.circus_pair.proofs.Growing.{count_le}
 use Rattle.circus_pair.proofs.Each.{Each, each_at}
@@ -30,9 +28,6 @@ use Rattle.circus_pair.proofs.Speaking.{Fine}
 use Rattle.circus_pair.proofs.Dialogue.{started, keeping, are_of, found, Sound, turned, sound_act, sound_start}
 
 -- ---- every list of acts
-
-sound_call : (local remote format : ℕ) (here there : Acts) (message : List ℕ) → Sound local remote format here there → IsSendable format message × (made here < 4294967295) → Sound local remote format (more here (Calls message)) there
-sound_call local remote format here there message sound may = (let low : made here < 4294967295 = may.1 in sound_act local remote format here there (Calls message) sound (may.0, omega arith) tt)
 
 -- the number of a call that has arrived
 number_fits : (format : ℕ) (acts : Acts) (ots ts : List Piece) (call : ℕ) → Each (IsSaid 0 format acts ots) ts → has_arrived ts 0 call ≡ true → call < 2 ^ 32
@@ -57,23 +52,72 @@ sound_deliver local remote format here there number sound =
     sound_delivered local remote format here there (slice_get (sent_by (started remote local format) there) number) sound
     (λ bytes is. each_at _ (sent_by (started remote local format) there) number bytes sound.good_there.tells is)
 
-sound_tick : (local remote format : ℕ) (here there : Acts) → Sound local remote format here there → Sound local remote format (more here Ticks) there
-sound_tick local remote format here there sound = sound_act local remote format here there Ticks sound tt tt
+-- the ends that are put together are never stopped
+up_delivered : (acts : Acts) (r : Result Piece SegmentFault) → is_stopped_after acts ≡ false → is_stopped_after (with_act acts (coming r)) ≡ false
+up_delivered acts (Ok s) up = up
+up_delivered acts (Err fault) up = up
+
+up_found : (acts : Acts) (o : Option (List ℕ)) → is_stopped_after acts ≡ false → is_stopped_after (with_act acts (delivered o)) ≡ false
+up_found acts None up = up
+up_found acts (Some bytes) up = up_delivered acts (reading bytes) up
+
+up_chosen : (acts : Acts) (b : Bool) (o : Option OneAct) → is_stopped_after acts ≡ false → is_stopped_after (with_act acts o) ≡ false → is_stopped_after (with_act acts (cond b o None)) ≡ false
+up_chosen acts true o up then_ = then_
+up_chosen acts false o up then_ = up
+
+up_after : (end : Bool) (format : ℕ) (history : History) → is_stopped_after (acts_of end format history) ≡ false
+up_after end format begun = refl
+up_after end format (then_came history (Call at message)) = up_chosen (acts_of end format history) (is_same end at) (Some (Calls message)) (up_after end format history) (up_after end format history)
+up_after end format (then_came history (Return at call message)) = up_chosen (acts_of end format history) (is_same end at) (Some (Returns call message)) (up_after end format history) (up_after end format history)
+up_after end format (then_came history (Deliver at number)) =
+    up_chosen (acts_of end format history) (is_same end at) (delivered (slice_get (sent_by (start_of (not end) format) (acts_of (not end) format history)) number)) (up_after end format history)
+    (up_found (acts_of end format history) (slice_get (sent_by (start_of (not end) format) (acts_of (not end) format history)) number) (up_after end format history))
+up_after end format (then_came history (Tick at)) = up_chosen (acts_of end format history) (is_same end at) (Some Ticks) (up_after end format history) (up_after end format history)
+
+sound_own : (local remote format : ℕ) (here there : Acts) (act : OneAct) → Sound local remote format here there → MayCome local remote 0 format here act → WasSent (sent_by (started remote local format) there) act → Sound local remote format (more here act) there
+sound_own local remote format here there (Calls message) sound may was = sound_act local remote format here there (Calls message) sound may tt
+sound_own local remote format here there (Returns call message) sound may was = sound_return local remote format here there call message sound may
+sound_own local remote format here there (Came s) sound may was =
+    let tells = each_at _ (sent_by (started remote local format) there) was.0 (spelling s) sound.good_there.tells was.1 in
+    let read : ◌≡◌ {A = Result Piece SegmentFault} (Ok tells.said) (Ok s) = sym (read_again tells.said tells.is.segment) ∙ ap reading (sym tells.bytes_are) ∙ read_again s may in
+    let same : tells.said ≡ s = cc in
+    sound_act local remote format here there (Came s) sound may (subst (IsSaid 0 format there (taken_by (started remote local format) there)) same tells.is)
+sound_own local remote format here there Ticks sound may was = sound_act local remote format here there Ticks sound may tt
+sound_own local remote format here there Stops sound may was = sound_act local remote format here there Stops sound may tt
+
+sound_talk : (local remote format : ℕ) (talk : Talk) → (format ≡ 1) ⊎ (format ≡ 2) → IsTalk local remote format talk → Sound local remote format (acts_at_first talk) (acts_at_second talk)
+sound_talk local remote format silent known is = sound_start local remote format known
+sound_talk local remote format (at_first talk act) known is = sound_own local remote format _ _ act (sound_talk local remote format talk known is.0) is.1 is.2
+sound_talk local remote format (at_second talk act) known is = turned remote local format _ _ (sound_own remote local format _ _ act (turned local remote format _ _ (sound_talk local remote format talk known is.0)) is.1 is.2)
+
+sound_call : (local remote format : ℕ) (here there : Acts) (message : List ℕ) → is_stopped_after here ≡ false → Sound local remote format here there → IsSendable format message × (made here < 4294967295) → Sound local remote format (more here (Calls message)) there
+sound_call local remote format here there message up sound may = (let low : made here < 4294967295 = may.1 in sound_act local remote format here there (Calls message) sound (may.0, omega arith, up) tt)
+
+sound_tick : (local remote format : ℕ) (here there : Acts) → is_stopped_after here ≡ false → Sound local remote format here there → Sound local remote format (more here Ticks) there
+sound_tick local remote format here there up sound = sound_act local remote format here there Ticks sound up tt
 
 sound_after : (format : ℕ) (history : History) → (format ≡ 1) ⊎ (format ≡ 2) → AreLawful format history → Sound 0 1 format (acts_of false format history) (acts_of true format history)
 sound_after format begun known lawful = sound_start 0 1 format known
-sound_after format (then_came history (Call false message)) known lawful = sound_call 0 1 format _ _ message (sound_after format history known lawful.0) lawful.1
-sound_after format (then_came history (Call true message)) known lawful = turned 1 0 format _ _ (sound_call 1 0 format _ _ message (turned 0 1 format _ _ (sound_after format history known lawful.0)) lawful.1)
+sound_after format (then_came history (Call false message)) known lawful = sound_call 0 1 format _ _ message (up_after false format history) (sound_after format history known lawful.0) lawful.1
+sound_after format (then_came history (Call true message)) known lawful = turned 1 0 format _ _ (sound_call 1 0 format _ _ message (up_after true format history) (turned 0 1 format _ _ (sound_after format history known lawful.0)) lawful.1)
 sound_after format (then_came history (Return false call message)) known lawful = sound_return 0 1 format _ _ call message (sound_after format history known lawful.0) lawful.1
 sound_after format (then_came history (Return true call message)) known lawful = turned 1 0 format _ _ (sound_return 1 0 format _ _ call message (turned 0 1 format _ _ (sound_after format history known lawful.0)) lawful.1)
 sound_after format (then_came history (Deliver false number)) known lawful = sound_deliver 0 1 format _ _ number (sound_after format history known lawful.0)
 sound_after format (then_came history (Deliver true number)) known lawful = turned 1 0 format _ _ (sound_deliver 1 0 format _ _ number (turned 0 1 format _ _ (sound_after format history known lawful.0)))
-sound_after format (then_came history (Tick false)) known lawful = sound_tick 0 1 format _ _ (sound_after format history known lawful.0)
-sound_after format (then_came history (Tick true)) known lawful = turned 1 0 format _ _ (sound_tick 1 0 format _ _ (turned 0 1 format _ _ (sound_after format history known lawful.0)))
+sound_after format (then_came history (Tick false)) known lawful = sound_tick 0 1 format _ _ (up_after false format history) (sound_after format history known lawful.0)
+sound_after format (then_came history (Tick true)) known lawful = turned 1 0 format _ _ (sound_tick 1 0 format _ _ (up_after true format history) (turned 0 1 format _ _ (sound_after format history known lawful.0)))
 
 -- what holds of two ends seen from either holds of each of them
 turned_after : (format : ℕ) (history : History) → (format ≡ 1) ⊎ (format ≡ 2) → AreLawful format history → Sound 1 0 format (acts_of true format history) (acts_of false format history)
 turned_after format history known lawful = turned 0 1 format _ _ (sound_after format history known lawful)
+
+-- ---- what happens at each of them
+
+pub low_lawful : (format : ℕ) (history : History) → (format ≡ 1) ⊎ (format ≡ 2) → AreLawful format history → IsLawfulEnd 0 1 0 format (acts_of false format history)
+low_lawful format history known lawful = (sound_after format history known lawful).good_here.lawful
+
+pub high_lawful : (format : ℕ) (history : History) → (format ≡ 1) ⊎ (format ≡ 2) → AreLawful format history → IsLawfulEnd 1 0 0 format (acts_of true format history)
+high_lawful format history known lawful = (sound_after format history known lawful).good_there.lawful
 
 -- ---- what is sent
 
@@ -92,20 +136,9 @@ pub arrived_once : (format : ℕ) (history : History) (end : Bool) (kind call : 
 arrived_once format history false kind call known lawful = (sound_after format history known lawful).hears_there.once kind call
 arrived_once format history true kind call known lawful = (turned_after format history known lawful).hears_there.once kind call
 
-pub at_most_once : (format : ℕ) (history : History) (end : Bool) (kind call : ℕ) → (format ≡ 1) ⊎ (format ≡ 2) → AreLawful format history → count_by (λ (a : Arrival). eqb a.kind kind && eqb a.call call) (arrived_at end format history) ≤ 1
-at_most_once format history end kind call known lawful = subst (λ n. n ≤ 1) (sym (arrived_once format history end kind call known lawful)) (one_most (has_arrived (taken_at end format history) kind call))
-  where
-    one_most : (b : Bool) → cond b 1 0 ≤ 1
-    one_most true = omega arith
-    one_most false = omega arith
-
 each_all : {X : Type 0} (P : X → Type 0) (xs : List X) → Each P xs → All P xs
 each_all P [] each = All-nil P
 each_all P (x ∷ xs) each = All-cons P x xs each.0 (each_all P xs each.1)
-
-pub arrived_as_handed : (format : ℕ) (history : History) (end : Bool) → (format ≡ 1) ⊎ (format ≡ 2) → AreLawful format history → All (λ (a : Arrival). handed_over 0 (acts_of (not end) format history) a.kind a.call ≡ Some a.message) (arrived_at end format history)
-arrived_as_handed format history false known lawful = each_all _ (arrived_at false format history) (sound_after format history known lawful).hears_there.messages
-arrived_as_handed format history true known lawful = each_all _ (arrived_at true format history) (turned_after format history known lawful).hears_there.messages
 
 -- ---- what is acknowledged
 
@@ -191,9 +224,28 @@ acknowledged_of local remote format here there sound kind call m handed reached 
       | false ↦ λ plain le. answered_whole format there tst kind call (segment_count m) s.piece some s.is plain le
     ] refl s.most
 
-pub acknowledged_arrived : (format : ℕ) (history : History) (end : Bool) (kind call : ℕ) (m : List ℕ) → (format ≡ 1) ⊎ (format ≡ 2) → AreLawful format history → handed_over 0 (acts_of end format history) kind call ≡ Some m → reached_in (taken_at end format history) kind call (segment_count m) ≡ segment_count m → has_arrived (taken_at (not end) format history) kind call ≡ true
-acknowledged_arrived format history false kind call m known lawful = acknowledged_of 0 1 format _ _ (sound_after format history known lawful) kind call m
-acknowledged_arrived format history true kind call m known lawful = acknowledged_of 1 0 format _ _ (turned_after format history known lawful) kind call m
+-- ---- both together
+
+agrees_of : (local remote format : ℕ) (here there : Acts) → Sound local remote format here there → Agrees local remote format here there
+agrees_of local remote format here there sound = record {
+  once = λ kind call. subst (λ n. n ≤ 1) (sym (sound.hears_there.once kind call)) (one_most (has_arrived (taken_by (started local remote format) here) kind call));
+  sent = each_all _ (arrived_in (started local remote format) here) sound.hears_there.messages;
+  acknowledged = acknowledged_of local remote format here there sound;
+}
+  where
+    one_most : (b : Bool) → cond b 1 0 ≤ 1
+    one_most true = omega arith
+    one_most false = omega arith
+
+agree_of : (local remote format : ℕ) (here there : Acts) → Sound local remote format here there → Agree local remote format here there
+agree_of local remote format here there sound = (agrees_of local remote format here there sound, agrees_of remote local format there here (turned local remote format here there sound))
+
+pub talk_agrees : (local remote format : ℕ) (talk : Talk) → (format ≡ 1) ⊎ (format ≡ 2) → IsTalk local remote format talk → Agree local remote format (acts_at_first talk) (acts_at_second talk)
+talk_agrees local remote format talk known is = agree_of local remote format _ _ (sound_talk local remote format talk known is)
+
+pub agree_more : (r : Result Arrived TwoFault) (format : ℕ) (history : History) (act : Act) → (format ≡ 1) ⊎ (format ≡ 2) → OnOk r (AreLawful format (then_came history act)) → OnOk r (Agree 0 1 format (acts_of false format (then_came history act)) (acts_of true format (then_came history act)))
+agree_more (Ok x) format history act known lawful = agree_of 0 1 format _ _ (sound_after format (then_came history act) known lawful)
+agree_more (Err fault) format history act known lawful = tt
 
 -- ---- what an end keeps of it
 
@@ -224,20 +276,6 @@ return_kept format history false call p known lawful = return_kept_of 0 1 format
 return_kept format history true call p known lawful = return_kept_of 1 0 format _ _ (turned_after format history known lawful) call p
 
 -- ---- which returns may follow
-
-whole_told : (o : Option ℕ) (c : ℕ → ℕ) → is_whole (told o c) ≡ is_reached o c
-whole_told None c = refl
-whole_told (Some t) c = refl
-
-some_told : (o : Option (List ℕ)) (c : ℕ → ℕ) → is_some (told_out o c) ≡ is_some o
-some_told None c = refl
-some_told (Some m) c = refl
-
-awaits_is : (first : ℕ) (acts : Acts) (ts : List Piece) (e : Exchange) (call : ℕ) → Stands ts e → Hands first acts ts e → awaits_return e call ≡ (has_arrived ts 0 call && not (is_some (return_at acts call)))
-unfolding awaits_return has_arrived
-awaits_is first acts ts e call stands hands =
-    ap (λ b. b && not (is_some (get e.returns.progress call))) (ap is_whole (stands.calls.progress call) ∙ whole_told (total_in ts 0 call) (count_in ts 0 call))
-    ∙ ap (λ b. is_reached (total_in ts 0 call) (count_in ts 0 call) && not b) (ap is_some (hands.returns call) ∙ some_told (return_at acts call) (reached_in ts 1 call))
 
 awaits_of : (local remote format : ℕ) (here there : Acts) → Sound local remote format here there → (call : ℕ) → awaits_return (end_after (started local remote format) here) call ≡ (has_arrived (taken_by (started local remote format) here) 0 call && not (is_some (return_at here call)))
 awaits_of local remote format here there sound call = (let k = keeping local remote format here sound.good_here in awaits_is 0 here _ _ call k.stands k.hands)

@@ -9,15 +9,17 @@ use Rattle.circus_exchange.specs.declared.taken.Arrived.TheVariants.{Nothing, Ar
 use Rattle.circus_segment.specs.Segment.{Piece, IsSegment, is_acknowledgement}
 use Rattle.circus_exchange.specs.Exchange.{start, takes, arrived_of_taken, arrived_after}
 use Rattle.circus_pair.specs.Taken.{is_of, first_of, total_in, count_in, is_reached, has_arrived, message_in, IsOf, AreOf}
-use Rattle.circus_pair.specs.Acts.{Act, Call, Return, Came, Tick, Stop, Acts, none_yet, more, end_after, with_taken, taken_by, IsAct, AreActs, arrives_by, arrival_by}
-use Rattle.circus_pair.specs.Handed.{made, call_at, return_at, ReturnsOnce}
+use Rattle.circus_pair.specs.Acts.{Act, Call, Return, Came, Tick, Stop, Acts, none_yet, more, end_after, with_taken, taken_by, arrives_by, arrival_by}
+use Rattle.circus_pair.specs.Handed.{made, call_at, return_at}
+use Rattle.circus_pair.specs.Lawful.{MayFollow, AreLawful}
 use Rattle.circus_pair.specs.TwoEnds.{sent_by, arrival_of, Arrival, noted, arrived_in, handed_over}
 use Rattle.circus_pair.proofs.Arrivals.{arrived_other}
 use Rattle.circus_pair.proofs.Standing.{Stands, stands_after, may_follow, arrival_is}
-use Rattle.circus_pair.proofs.Handing.{hands_after, format_stays}
+use Rattle.circus_pair.proofs.Handing.{format_stays}
 use Rattle.circus_pair.proofs.Joins.{arrives_as_sent}
 use Rattle.circus_pair.proofs.Growing.{Grows, grows_act, arrived_grows}
-use Rattle.circus_pair.proofs.Retaining.{Retains, retains_act, retains_start}
+use Rattle.circus_pair.proofs.Keeping.{lawful_acts, hands_lawful, kept_after}
+use Rattle.circus_pair.proofs.Flowing.{flows_after}
 use Rattle.circus_pair.proofs.Each.{Each, each_append, each_map}
 use Rattle.circus_pair.proofs.Sayings.{IsSaid, IsOfSome, Tells, said_later, tells_later}
 use Rattle.circus_pair.proofs.Speaking.{Fine, Keeping, MayDo, is_first, fine_act, says_act}
@@ -29,10 +31,8 @@ started local remote format = start local remote 0 format
 
 pub record Good (local remote format : ℕ) (acts : Acts) : Type 0 where
   pub known : (format ≡ 1) ⊎ (format ≡ 2)
-  pub are : AreActs acts
-  pub once : ReturnsOnce acts
+  pub lawful : AreLawful local remote 0 format acts
   pub few : made acts ≤ 4294967295
-  pub retains : Retains (call_at 0 acts) (return_at acts) (end_after (started local remote format) acts)
   pub fine : Fine 0 format acts (taken_by (started local remote format) acts)
   pub tells : Each (Tells 0 format acts (taken_by (started local remote format) acts)) (sent_by (started local remote format) acts)
 
@@ -40,25 +40,19 @@ pub keeping : (local remote format : ℕ) (acts : Acts) → Good local remote fo
 keeping local remote format acts good = record {
   known = good.known;
   format_is = format_stays (started local remote format) acts;
-  hands = hands_after local remote 0 format acts good.are good.once;
-  stands = stands_after local remote 0 format acts good.are;
-  retains = good.retains;
+  hands = hands_lawful local remote 0 format acts good.lawful;
+  stands = stands_after local remote 0 format acts (lawful_acts local remote 0 format acts good.lawful);
+  kept = kept_after local remote 0 format acts good.lawful;
+  unsaid = (flows_after local remote 0 format acts good.lawful).unsaid;
   fine = good.fine;
 }
 
-is_act : (format : ℕ) (acts : Acts) (ts : List Piece) (act : Act) → MayDo 0 format acts ts act → IsAct act
-is_act format acts ts (Call message) may = tt
-is_act format acts ts (Return call message) may = tt
-is_act format acts ts (Came s) may = may
-is_act format acts ts Tick may = tt
-is_act format acts ts Stop may = tt
-
-once_act : (format : ℕ) (acts : Acts) (ts : List Piece) (act : Act) → MayDo 0 format acts ts act → ReturnsOnce acts → ReturnsOnce (more acts act)
-once_act format acts ts (Call message) may once = once
-once_act format acts ts (Return call message) may once = (once, may.3)
-once_act format acts ts (Came s) may once = once
-once_act format acts ts Tick may once = once
-once_act format acts ts Stop may once = once
+lawful_act : (local remote format : ℕ) (acts : Acts) (act : Act) → MayDo 0 format acts (taken_by (started local remote format) acts) act → MayFollow local remote 0 format acts act
+lawful_act local remote format acts (Call message) may = may
+lawful_act local remote format acts (Return call message) may = (may.0, may.2, may.3)
+lawful_act local remote format acts (Came s) may = may
+lawful_act local remote format acts Tick may = may
+lawful_act local remote format acts Stop may = may
 
 few_act : (format : ℕ) (acts : Acts) (ts : List Piece) (act : Act) → MayDo 0 format acts ts act → made acts ≤ 4294967295 → made (more acts act) ≤ 4294967295
 unfolding made
@@ -79,10 +73,8 @@ good_act local remote format acts act good may =
     let k = keeping local remote format acts good in
     record {
       known = good.known;
-      are = (good.are, is_act format acts ts act may);
-      once = once_act format acts ts act may good.once;
+      lawful = (good.lawful, lawful_act local remote format acts act may);
       few = few_act format acts ts act may good.few;
-      retains = retains_act 0 acts e act k.hands.next good.retains;
       fine = fine_act 0 format acts ts e act k.hands good.fine may;
       tells = each_append _ _ _
           (each_map _ _ (sent_by (started local remote format) acts) (λ bytes. tells_later 0 format acts (more acts act) ts (with_taken e act ts) bytes (grown local remote format acts act good may)) good.tells)
@@ -96,10 +88,8 @@ good_start : (local remote format : ℕ) → (format ≡ 1) ⊎ (format ≡ 2) �
 unfolding made call_at return_at
 good_start local remote format known = record {
   known = known;
-  are = tt;
-  once = tt;
+  lawful = tt;
   few = omega arith;
-  retains = retains_start local remote 0 format _ _;
   fine = record { calls = λ q m h. absurd (none_handed m h); returns = λ q m h. absurd (none_handed m h) };
   tells = tt;
 }

@@ -1,5 +1,5 @@
 -- After every list of acts an end knows of each message that was handed over its total and what is acknowledged.
-use Rattle.std.proofs.Common.{◌≡◌, ℕ, ◌+◌, ◌<◌, ◌≤◌, Bool, true, false, cond, ◌&&◌, eqb, ltb, List, [], ◌∷◌, Option, None, Some, refl, sym, ap, subst, ◌∙◌, inl, inr, arith}
+use Rattle.std.proofs.Common.{◌≡◌, ℕ, ◌+◌, ◌<◌, ◌≤◌, Bool, true, false, cond, not, ◌&&◌, eqb, ltb, List, [], ◌∷◌, Option, None, Some, refl, sym, ap, subst, ◌∙◌, inl, inr, arith}
 use Rattle.std.specs.Prelude.{is_some, max, unwrap_or}
 use Rattle.std.specs.Cmp.{nat_cmp_total}
 use Rattle.std.specs.Ordering.{nat_cmp}
@@ -13,14 +13,15 @@ use Rattle.circus_segment.specs.Segment.{Piece, IsSegment, is_acknowledgement}
 use Rattle.circus_segment.specs.Cut.{segment_count}
 use Rattle.circus_exchange.specs.Inbox.{fits, known, added}
 use Rattle.circus_exchange.specs.Outbox.{has_total, agrees, handed, raised, reached, becomes_whole, emptied, forgotten}
-use Rattle.circus_exchange.specs.Exchange.{start, called, returned, takes, was_sent, let_go, lets_go, call_reached, return_reached, total_or_none, total_of, ended, return_added, after_taken, after, ticked}
+use Rattle.circus_exchange.specs.Exchange.{start, called, returned, is_whole, awaits_return, takes, was_sent, let_go, lets_go, call_reached, return_reached, total_or_none, total_of, ended, return_added, after_taken, after, ticked}
 use Rattle.circus_pair.specs.Taken.{total_in}
 use Rattle.circus_pair.specs.Acts.{Act, Call, Return, Came, Tick, Stop, Acts, none_yet, more, happens, end_after, taken_by, AreActs}
 use Rattle.circus_pair.specs.Handed.{made, call_at, return_at, says, reached_in, agrees_with, fits_with, sent_below, is_taken, ReturnsOnce}
 use Rattle.circus_exchange.specs.declared.inbox.Inbox.{Inbox}
-use Rattle.circus_pair.specs.Taken.{count_in}
+use Rattle.circus_pair.specs.Taken.{count_in, is_reached, has_arrived}
 use Rattle.circus_pair.proofs.Arrivals.{Keeps, told}
 use Rattle.circus_pair.proofs.Lasting.{lasts_called, lasts_returned, lasts_after, lasts_ticked}
+use Rattle.circus_pair.proofs.Sides.{next_taken}
 use Rattle.circus_pair.proofs.Standing.{Stands, stands_after}
 use Rattle.circus_exchange.proofs.Ties.{equal, nat_ties}
 
@@ -243,35 +244,6 @@ return_kind s segment h = (let le : s.kind ≤ 1 = segment.kind in let ne : s.ki
 zero_max : (a b : ℕ) → a ≡ 0 → b ≡ 0 → max a b ≡ 0
 zero_max a b x y = omega arith
 
--- ---- the number of the next call
-
-next_cond : (n : ℕ) (b : Bool) (x y : Exchange) → x.next ≡ n → y.next ≡ n → (cond b x y).next ≡ n
-next_cond n true x y f g = f
-next_cond n false x y f g = g
-
-next_let_go : (e : Exchange) → (let_go e).next ≡ e.next
-unfolding let_go
-next_let_go e = next_cond e.next (lets_go e e.in_flight) _ e refl refl
-
-next_reached : (e : Exchange) (call count : ℕ) → (call_reached e call count).next ≡ e.next
-unfolding call_reached
-next_reached e call count = refl
-
-next_return_reached : (e : Exchange) (call count : ℕ) → (return_reached e call count).next ≡ e.next
-unfolding return_reached
-next_return_reached e call count = refl
-
-next_return_added : (e : Exchange) (s : Piece) → (return_added e s).next ≡ e.next
-unfolding return_added ended
-next_return_added e s = next_reached (record e { arriving_returns = added e.arriving_returns s }) _ _
-
-next_taken : (e : Exchange) (s : Piece) → (after_taken e s).next ≡ e.next
-unfolding after_taken
-next_taken e s =
-    next_cond e.next (is_acknowledgement s) _ _
-    (next_cond e.next (eqb s.kind 0) _ _ (next_let_go (call_reached e s.call s.number) ∙ next_reached e s.call s.number) (next_return_reached e s.call s.number))
-    (next_cond e.next (eqb s.kind 0) _ _ refl (next_let_go (return_added e s) ∙ next_return_added e s))
-
 -- ---- one act more
 
 nothing_told : (o : Option (List ℕ)) (c : ℕ → ℕ) → o ≡ None → told_out o c ≡ None
@@ -424,7 +396,7 @@ hands_after local remote first format (more acts Stop) are once = hands_stopped 
 
 -- ---- which segments are taken
 
-format_act : (e : Exchange) (act : Act) → (happens e act).format ≡ e.format
+pub format_act : (e : Exchange) (act : Act) → (happens e act).format ≡ e.format
 format_act e (Call message) = (lasts_called e message).format
 format_act e (Return call message) = (lasts_returned e call message).format
 format_act e (Came s) = (lasts_after e s).format
@@ -479,3 +451,16 @@ taken_is first format acts ts e s same hands stands segment =
 pub taken_after : (local remote first format : ℕ) (acts : Acts) (s : Piece) → AreActs acts → ReturnsOnce acts → IsSegment s → takes (end_after (start local remote first format) acts) s ≡ is_taken first format acts (taken_by (start local remote first format) acts) (sent_below (end_after (start local remote first format) acts).sent first acts) s
 taken_after local remote first format acts s are once segment =
     taken_is first format acts _ _ s (format_stays (start local remote first format) acts) (hands_after local remote first format acts are once) (stands_after local remote first format acts are) segment
+
+-- ---- which calls wait for a return
+
+whole_told : (o : Option ℕ) (c : ℕ → ℕ) → is_whole (told o c) ≡ is_reached o c
+whole_told None c = refl
+whole_told (Some t) c = refl
+
+-- a call waits for its return exactly where it has arrived and had none
+pub awaits_is : (first : ℕ) (acts : Acts) (ts : List Piece) (e : Exchange) (call : ℕ) → Stands ts e → Hands first acts ts e → awaits_return e call ≡ (has_arrived ts 0 call && not (is_some (return_at acts call)))
+unfolding awaits_return has_arrived
+awaits_is first acts ts e call stands hands =
+    ap (λ b. b && not (is_some (get e.returns.progress call))) (ap is_whole (stands.calls.progress call) ∙ whole_told (total_in ts 0 call) (count_in ts 0 call))
+    ∙ ap (λ b. is_reached (total_in ts 0 call) (count_in ts 0 call) && not b) (ap is_some (hands.returns call) ∙ some_told (return_at acts call) (reached_in ts 1 call))

@@ -251,6 +251,29 @@ pub record Kept (first : ℕ) (acts : Acts) (ts : List Piece) (e : Exchange) : T
   pub returns_within : (call : ℕ) → IsWithin (return_at acts call) (reached_in ts 1 call)
   pub no_call : (call : ℕ) → call_at first acts call ≡ None → total_in ts 1 call ≡ None
 
+kept_some : (b : Bool) (o : Option (List ℕ)) (m : List ℕ) → cond b None o ≡ Some m → o ≡ Some m
+kept_some true o m h = absurd cc
+kept_some false o m h = h
+
+-- what is kept of a call that isn't acknowledged whole is the message that was handed over
+pub call_kept_is : (first : ℕ) (acts : Acts) (ts : List Piece) (e : Exchange) (call : ℕ) (m : List ℕ) → Kept first acts ts e → ((message : List ℕ) → 0 < segment_count message → call_at first acts call ≡ Some message → reached_in ts 0 call (segment_count message) < segment_count message) → get e.calls.messages call ≡ Some m → call_at first acts call ≡ Some m
+call_kept_is first acts ts e call m kept open_ is = go (call_at first acts call) (kept.calls_within call) open_ (sym (kept.calls call) ∙ is)
+  where
+    go : (o : Option (List ℕ)) → IsWithin o (reached_in ts 0 call) → ((message : List ℕ) → 0 < segment_count message → o ≡ Some message → reached_in ts 0 call (segment_count message) < segment_count message) → kept_call o (reached_in ts 0 call) (has_arrived ts 1 call) ≡ Some m → o ≡ Some m
+    go None within below h = absurd cc
+    go (Some x) within below h =
+        let lt : reached_in ts 0 call (segment_count x) < segment_count x = below x within.0 refl in
+        let differ : eqb (reached_in ts 0 call (segment_count x)) (segment_count x) ≡ false = ne_eqb _ _ (λ same. absurd (omega arith)) in
+        kept_some (has_arrived ts 1 call) (Some x) m (ap (λ b. cond (has_arrived ts 1 call) None (cond b (Some []) (Some x))) (sym differ) ∙ h)
+
+-- what is kept of a return is the message that was handed over
+pub return_kept_is : (first : ℕ) (acts : Acts) (ts : List Piece) (e : Exchange) (call : ℕ) (m : List ℕ) → Kept first acts ts e → get e.returns.messages call ≡ Some m → return_at acts call ≡ Some m
+return_kept_is first acts ts e call m kept is = go (return_at acts call) (sym (kept.returns call) ∙ is)
+  where
+    go : (o : Option (List ℕ)) → kept_return o (reached_in ts 1 call) ≡ Some m → o ≡ Some m
+    go None h = absurd cc
+    go (Some x) h = kept_some _ (Some x) m h
+
 -- ---- a segment is of a message that was handed over
 
 agreed : (o : Option (List ℕ)) (total : ℕ) (message : List ℕ) → agrees_with o total ≡ true → o ≡ Some message → segment_count message ≡ total

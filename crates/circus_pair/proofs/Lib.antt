@@ -12,7 +12,6 @@ pub mod Keeping
 pub mod Lasting
 pub mod Orders
 pub mod Outputs
-pub mod Retaining
 pub mod Sayings
 pub mod Sides
 pub mod Speaking

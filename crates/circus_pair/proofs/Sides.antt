@@ -37,7 +37,7 @@ next_return_added : (e : Exchange) (s : Piece) → (return_added e s).next ≡ e
 unfolding return_added ended
 next_return_added e s = next_reached (record e { arriving_returns = added e.arriving_returns s }) _ _
 
-next_taken : (e : Exchange) (s : Piece) → (after_taken e s).next ≡ e.next
+pub next_taken : (e : Exchange) (s : Piece) → (after_taken e s).next ≡ e.next
 unfolding after_taken
 next_taken e s =
     choice e.next (is_acknowledgement s) _ _

@@ -1,5 +1,5 @@
 -- Each act sends what an end may say.
-use Rattle.std.proofs.Common.{◌≡◌, ℕ, ◌+◌, ◌^◌, ◌<◌, ◌≤◌, ◌⊎◌, inl, inr, Bool, true, false, cond, ◌&&◌, eqb, ltb, List, [], ◌∷◌, Option, None, Some, refl, sym, ap, subst, ◌∙◌, arith}
+use Rattle.std.proofs.Common.{◌≡◌, ℕ, ◌+◌, ◌^◌, ◌<◌, ◌≤◌, ◌⊎◌, Bool, true, false, cond, ◌&&◌, eqb, ltb, List, [], ◌∷◌, Option, None, Some, refl, sym, ap, subst, ◌∙◌, arith}
 use Rattle.std.specs.FinMap.{get, entries}
 use Rattle.std.proofs.lemmas.Bool.{eqb-true, eqb-false, ltb-true, eq-eqb}
 use Rattle.circus_exchange.specs.declared.progress.Progress.{Progress}
@@ -11,12 +11,13 @@ use Rattle.circus_exchange.specs.Exchange.{IsSendable, takes, lets_go, in_flight
 use Rattle.circus_pair.specs.Taken.{has_arrived, MayFollow}
 use Rattle.circus_pair.specs.Acts.{Act, Call, Return, Came, Tick, Stop, Acts, more, with_taken, count_by, acknowledged_by}
 use Rattle.circus_pair.specs.Handed.{made, call_at, return_at, reached_in}
+use Rattle.circus_pair.specs.Lawful.{is_stopped_after}
 use Rattle.circus_pair.specs.TwoEnds.{datagrams_by}
 use Rattle.circus_pair.proofs.Arrivals.{total_here}
 use Rattle.circus_pair.proofs.Standing.{Stands, may_follow, call_acknowledged, return_acknowledged}
 use Rattle.circus_pair.proofs.Handing.{Hands, told_out}
 use Rattle.circus_pair.proofs.Growing.{Grows, IsFirst, grows_act, arrived_grows, count_le}
-use Rattle.circus_pair.proofs.Retaining.{Retains, IsWhole}
+use Rattle.circus_pair.proofs.Keeping.{Kept, call_kept_is, return_kept_is}
 use Rattle.circus_pair.proofs.Each.{Each, each_append, each_map, each_cond, each_flat, each_entry}
 use Rattle.circus_pair.proofs.Sayings.{Tells, MaySay, says_part, says_probe, says_whole, tells_later, most_bound, good_number}
 
@@ -31,15 +32,16 @@ pub record Keeping (first format : ℕ) (acts : Acts) (ts : List Piece) (e : Exc
   pub format_is : e.format ≡ format
   pub hands : Hands first acts ts e
   pub stands : Stands ts e
-  pub retains : Retains (call_at first acts) (return_at acts) e
+  pub kept : Kept first acts ts e
+  pub unsaid : (call total : ℕ) → e.sent ≤ call → reached_in ts 0 call total ≡ 0
   pub fine : Fine first format acts ts
 
 -- an act may come
 abbrev pub MayDo : ℕ → ℕ → Acts → List Piece → Act → Type 0
-MayDo first format acts ts (Call message) = IsSendable format message × (first + made acts < 4294967295)
+MayDo first format acts ts (Call message) = IsSendable format message × (first + made acts < 4294967295) × (is_stopped_after acts ≡ false)
 MayDo first format acts ts (Return call message) = IsSendable format message × (call < 2 ^ 32) × (has_arrived ts 0 call ≡ true) × (return_at acts call ≡ None)
 MayDo first format acts ts (Came s) = IsSegment s
-MayDo first format acts ts Tick = Unit {0}
+MayDo first format acts ts Tick = is_stopped_after acts ≡ false
 MayDo first format acts ts Stop = Unit {0}
 
 pub is_first : (first format : ℕ) (acts : Acts) (ts : List Piece) (act : Act) → MayDo first format acts ts act → IsFirst acts act
@@ -94,6 +96,16 @@ told_total (Some x) c m p h is =
     let here : record { total = segment_count x; count = c (segment_count x) } ≡ p = cc in
     ap (λ (y : Progress). y.total) (sym here) ∙ ap segment_count same
 
+-- where segments are open, the count is below the total
+below_total : (o : Option (List ℕ)) (c : ℕ → ℕ) (p : Progress) (m : List ℕ) → told_out o c ≡ Some p → o ≡ Some m → p.count < p.total → c (segment_count m) < segment_count m
+below_total None c p m is h less = absurd cc
+below_total (Some x) c p m is h less =
+    let same : x ≡ m = cc in
+    let here : record { total = segment_count x; count = c (segment_count x) } ≡ p = cc in
+    let total : segment_count x ≡ p.total = ap (λ (y : Progress). y.total) here in
+    let count : c (segment_count x) ≡ p.count = ap (λ (y : Progress). y.count) here in
+    subst (λ y. c (segment_count y) < segment_count y) same (omega arith)
+
 told_some : (o : Option (List ℕ)) (c : ℕ → ℕ) (p : Progress) → told_out o c ≡ Some p → (m : List ℕ) × (o ≡ Some m)
 told_some None c p is = absurd cc
 told_some (Some m) c p is = (m, refl)
@@ -113,7 +125,7 @@ says_let_go : (first format : ℕ) (acts : Acts) (ts : List Piece) (e : Exchange
 unfolding datagrams_let_go outgoing_at
 says_let_go first format acts ts e in_flight k = each_cond (Tells first format acts ts) (lets_go e in_flight) _ _
     (λ yes_. says_out first format acts ts e.format 0 e.sent (get e.calls.progress e.sent) (get e.calls.messages e.sent) k.format_is (λ p m is kept.
-    let handed : call_at first acts e.sent ≡ Some m = (elim (k.retains.of_calls e.sent m kept) [ inl same ↦ same | inr past ↦ (let lt : e.sent < e.sent = past.0 in absurd (omega arith)) ]) in
+    let handed : call_at first acts e.sent ≡ Some m = call_kept_is first acts ts e e.sent m k.kept (λ x full some. (let none : reached_in ts 0 e.sent (segment_count x) ≡ 0 = k.unsaid e.sent (segment_count x) (omega arith) in omega arith)) kept in
     (call_total first acts ts e e.sent m p k.hands handed is, may_call first format acts ts e.sent m k.known k.fine handed)))
     (λ no_. tt)
 
@@ -216,10 +228,7 @@ unfolding reminder
 says_call_again first format acts ts e limit entry k kept = each_cond _ (ltb entry.0 limit) _ _
     (λ below. says_reminder_of first format acts ts e.format 0 entry.0 entry.1 (get e.calls.progress entry.0) k.format_is
     (λ p is lt.
-    let handed : call_at first acts entry.0 ≡ Some entry.1 = (elim (k.retains.of_calls entry.0 entry.1 kept) [
-      | inl same ↦ same
-      | inr past ↦ (let le : p.total ≤ p.count = subst (λ (x : Option Progress). IsWhole x) is past.1 in absurd (omega arith))
-    ]) in
+    let handed : call_at first acts entry.0 ≡ Some entry.1 = call_kept_is first acts ts e entry.0 entry.1 k.kept (λ x full some. below_total (call_at first acts entry.0) (reached_in ts 0 entry.0) p x (sym (k.hands.calls entry.0) ∙ is) some lt) kept in
     (call_total first acts ts e entry.0 entry.1 p k.hands handed is, may_call first format acts ts entry.0 entry.1 k.known k.fine handed))
     (λ p is zero_.
     let some = told_some (call_at first acts entry.0) (reached_in ts 0 entry.0) p (sym (k.hands.calls entry.0) ∙ is) in
@@ -231,7 +240,7 @@ unfolding reminder
 says_return_again first format acts ts e limit entry k kept = each_cond _ (ltb entry.0 limit) _ _
     (λ below. says_reminder_of first format acts ts e.format 1 entry.0 entry.1 (get e.returns.progress entry.0) k.format_is
     (λ p is lt.
-    let handed : return_at acts entry.0 ≡ Some entry.1 = k.retains.of_returns entry.0 entry.1 kept in
+    let handed : return_at acts entry.0 ≡ Some entry.1 = return_kept_is first acts ts e entry.0 entry.1 k.kept kept in
     (return_total first acts ts e entry.0 entry.1 p k.hands handed is, may_return first format acts ts entry.0 entry.1 k.known k.fine handed))
     (λ p is zero_. absurd cc))
     (λ past. tt)

@@ -7,8 +7,8 @@ use Rattle.circus_exchange.specs.declared.taken.Arrived.{Arrived}
 use Rattle.circus_pair.specs.declared.two_ends.TwoFault.{TwoFault}
 use Rattle.circus_pair.specs.declared.two_ends.Act.{Act}
 use Rattle.circus_pair.specs.declared.two_ends.Act.TheVariants.{Call, Return, Deliver, Tick}
-use Rattle.circus_pair.specs.Acts.{Act as OneAct, Call as Calls, Return as Returns, Came, Tick as Ticks, Stop as Stops, Acts, happens}
-use Rattle.circus_pair.proofs.Lasting.{lasts_called, lasts_returned, lasts_after, lasts_ticked}
+use Rattle.circus_pair.specs.Acts.{Act as OneAct, Acts}
+use Rattle.circus_pair.proofs.Handing.{format_act}
 use Rattle.circus_pair.specs.TwoEnds.{History, then_came, act_at, with_act, start_of, acts_of, sent_by, noted, arrived_by, arrived_in, arrived_at, End, Both, end_at, end_of, both_after, moved, stepped, arrives, acting}
 
 -- ---- both ends after an act more
@@ -33,13 +33,6 @@ stands_more (Ok x) old new act format history step stands = step ∙ ap (λ (bot
 stands_more (Err x) old new act format history step stands = tt
 
 -- ---- the format
-
-format_act : (e : Exchange) (act : OneAct) → (happens e act).format ≡ e.format
-format_act e (Calls message) = (lasts_called e message).format
-format_act e (Returns call message) = (lasts_returned e call message).format
-format_act e (Came s) = (lasts_after e s).format
-format_act e Ticks = (lasts_ticked e).format
-format_act e Stops = refl
 
 format_moved : (end : End) (act : Option OneAct) → (moved end act).exchange.format ≡ end.exchange.format
 format_moved end None = refl

@@ -1,16 +1,18 @@
 -- Two ends of a pair: what happens at them, oldest first, and what they know, have sent and have received then.
-use Rattle.std.specs.Prelude.{◌≡◌, ℕ, ◌<◌, Bool, true, false, not, List, [], ◌∷◌, ◌++◌, length, Option, None, Some, Result, Ok, Err, slice_get, nat_lt, ◌==◌, if◌then◌else◌}
+use Rattle.std.specs.Prelude.{◌≡◌, ℕ, ◌<◌, ◌≤◌, Bool, true, false, not, ◌&&◌, List, [], ◌∷◌, ◌++◌, length, All, count_by, Option, None, Some, Result, Ok, Err, slice_get, nat_lt, ◌==◌, if◌then◌else◌}
 use Rattle.circus_exchange.specs.declared.exchange.Exchange.{Exchange}
 use Rattle.circus_segment.specs.declared.fault.SegmentFault.{SegmentFault}
 use Rattle.circus_exchange.specs.declared.taken.Arrived.{Arrived}
 use Rattle.circus_exchange.specs.declared.taken.Arrived.TheVariants.{Nothing, ArrivedCall, ArrivedReturn}
 use Rattle.circus_pair.specs.declared.two_ends.Act.{Act}
 use Rattle.circus_pair.specs.declared.two_ends.Act.TheVariants.{Call, Return, Deliver, Tick}
-use Rattle.circus_segment.specs.Segment.{Piece, reading}
+use Rattle.circus_segment.specs.Segment.{Piece, reading, spelling}
 use Rattle.circus_exchange.specs.Exchange.{start, IsSendable, datagrams_of_call, datagrams_of_return, datagrams_after, datagrams_of_tick, arrived_after, awaits_return}
 use Rattle.circus_pair.specs.Acts.{Act as OneAct, Call as Calls, Return as Returns, Came, Tick as Ticks, Stop as Stops, Acts, none_yet, more, happens, end_after, taken_by}
 use Rattle.circus_pair.specs.Taken.{has_arrived}
-use Rattle.circus_pair.specs.Handed.{made, call_at, return_at}
+use Rattle.circus_segment.specs.Cut.{segment_count}
+use Rattle.circus_pair.specs.Handed.{made, call_at, return_at, reached_in}
+use Rattle.circus_pair.specs.Lawful.{MayFollow as MayCome}
 
 -- the acts of both ends, oldest first
 pub data History : Type 0 where
@@ -196,3 +198,45 @@ MayFollow format history (Tick at) = Unit {0}
 abbrev pub AreLawful : ℕ → History → Type 0
 AreLawful format begun = Unit {0}
 AreLawful format (then_came history act) = AreLawful format history × MayFollow format history act
+
+-- ---- what two ends owe each other
+
+-- between an end after its acts and the other one after its own: each message has arrived here at most once, and is the one that was handed over there; one counts here as acknowledged whole only where it has arrived there
+pub record Agrees (local remote format : ℕ) (here there : Acts) : Type 0 where
+  pub once : (kind call : ℕ) → count_by (λ a. (a.kind == kind) && (a.call == call)) (arrived_in (start local remote 0 format) here) ≤ 1
+  pub sent : All (λ a. handed_over 0 there a.kind a.call ≡ Some a.message) (arrived_in (start local remote 0 format) here)
+  pub acknowledged : (kind call : ℕ) (message : List ℕ) → handed_over 0 here kind call ≡ Some message → reached_in (taken_by (start local remote 0 format) here) kind call (segment_count message) ≡ segment_count message → has_arrived (taken_by (start remote local 0 format) there) kind call ≡ true
+
+-- both ways
+abbrev pub Agree : ℕ → ℕ → ℕ → Acts → Acts → Type 0
+Agree local remote format here there = Agrees local remote format here there × Agrees remote local format there here
+
+-- what happens at two ends, oldest first: an act at the first one, or at the second
+pub data Talk : Type 0 where
+  silent : Talk
+  at_first : Talk → OneAct → Talk
+  at_second : Talk → OneAct → Talk
+
+abbrev pub acts_at_first : Talk → Acts
+acts_at_first silent = none_yet
+acts_at_first (at_first talk act) = more (acts_at_first talk) act
+acts_at_first (at_second talk act) = acts_at_first talk
+
+abbrev pub acts_at_second : Talk → Acts
+acts_at_second silent = none_yet
+acts_at_second (at_first talk act) = acts_at_second talk
+acts_at_second (at_second talk act) = more (acts_at_second talk) act
+
+-- what comes is among the datagrams that the other end has sent
+abbrev pub WasSent : List (List ℕ) → OneAct → Type 0
+WasSent sent (Came s) = (number : ℕ) × (slice_get sent number ≡ Some (spelling s))
+WasSent sent (Calls message) = Unit {0}
+WasSent sent (Returns call message) = Unit {0}
+WasSent sent Ticks = Unit {0}
+WasSent sent Stops = Unit {0}
+
+-- each act may come at its end after those before it
+abbrev pub IsTalk : ℕ → ℕ → ℕ → Talk → Type 0
+IsTalk local remote format silent = Unit {0}
+IsTalk local remote format (at_first talk act) = IsTalk local remote format talk × MayCome local remote 0 format (acts_at_first talk) act × WasSent (sent_by (start remote local 0 format) (acts_at_second talk)) act
+IsTalk local remote format (at_second talk act) = IsTalk local remote format talk × MayCome remote local 0 format (acts_at_second talk) act × WasSent (sent_by (start local remote 0 format) (acts_at_first talk)) act

@@ -1,13 +1,13 @@
 //! What holds of an end after every list of acts.
-ghost use Rattle.std.specs.Prelude.{◌≡◌, ℕ, ◌+◌, ◌≤◌, true, false, not, ◌&&◌, List};
+ghost use Rattle.std.specs.Prelude.{◌≡◌, ℕ, ◌+◌, ◌≤◌, true, false, not, ◌&&◌, List, is_some};
 ghost use Rattle.circus_segment.specs.Segment.{Piece, IsSegment, is_acknowledgement, reading, spelling};
-ghost use Rattle.circus_exchange.specs.Exchange.{start, takes, arrived_after, datagrams_of_call, datagrams_of_return, datagrams_after, datagrams_of_tick, is_suspect};
-ghost use Rattle.circus_pair.specs.Handed.{made, is_taken, sent_below};
+ghost use Rattle.circus_exchange.specs.Exchange.{start, awaits_return, takes, arrived_after, datagrams_of_call, datagrams_of_return, datagrams_after, datagrams_of_tick, is_suspect};
+ghost use Rattle.circus_pair.specs.Handed.{made, return_at, is_taken, sent_below};
 ghost use Rattle.circus_segment.specs.Cut.{segment_count, part_at};
 ghost use Rattle.circus_exchange.specs.Inbox.{acknowledgement, joined};
 ghost use Rattle.circus_pair.specs.Taken.{total_in, has_arrived, message_in, AreTaken, AreOf};
 ghost use Rattle.circus_pair.specs.Acts.{Acts, more, Call, Return, Came, Tick, AreActs, end_after, taken_by, arrival_by, acknowledged_by};
-ghost use Rattle.circus_pair.specs.Lawful.{AreLawful};
+ghost use Rattle.circus_pair.specs.Lawful.{is_stopped_after, AreLawful};
 ghost use Rattle.circus_pair.specs.Window.{count_below, call_is_whole};
 ghost use Rattle.circus_pair.specs.Sending.{is_sent, outputs};
 ghost use Rattle.circus_pair.specs.Ticking.{ticks_after, suspects_after};
@@ -46,6 +46,22 @@ pub fn segments_are_taken_by_the_rules()
         → IsSegment s
         → let began = start local remote first format in
         takes (end_after began acts) s ≡ is_taken first format acts (taken_by began acts) (is_sent began acts) s }
+{}
+
+/// What an end knows of its acts: its format, the number of its next call, whether the other end was declared down, and
+/// which calls wait for a return, which are those that have arrived whole and had none.
+pub fn ends_know_their_acts()
+    ensures format { (local remote first format : ℕ) (acts : Acts)
+        → (end_after (start local remote first format) acts).format ≡ format }
+    ensures next { (local remote first format : ℕ) (acts : Acts) → AreLawful local remote first format acts
+        → (end_after (start local remote first format) acts).next ≡ first + made acts }
+    ensures down { (local remote first format : ℕ) (acts : Acts) → AreLawful local remote first format acts
+        → (end_after (start local remote first format) acts).stopped ≡ is_stopped_after acts }
+    ensures awaits { (local remote first format : ℕ) (acts : Acts) (call : ℕ)
+        → AreLawful local remote first format acts
+        → let began = start local remote first format in
+        awaits_return (end_after began acts) call
+        ≡ (has_arrived (taken_by began acts) 0 call && not (is_some (return_at acts call))) }
 {}
 
 /// The segments of a message join to it.

@@ -23,14 +23,14 @@ pub use circus_segment::{
 pub use fault::PairFault;
 pub use laws::{
     acknowledgements_count_the_segments, acts_send_what_is_owed, arrivals_follow_the_segments,
-    calls_are_sent_in_time, cut_messages_join, segments_are_taken_by_the_rules,
-    sent_messages_arrive, ticks_are_counted,
+    calls_are_sent_in_time, cut_messages_join, ends_know_their_acts,
+    segments_are_taken_by_the_rules, sent_messages_arrive, ticks_are_counted,
 };
 pub use pair::Pair;
 pub use two_ends::{Act, TwoEnds, TwoFault};
 pub use two_laws::{
-    acknowledged_messages_have_arrived, arrived_messages_were_sent, datagrams_are_segments,
-    messages_arrive_once, returns_answer_arrived_calls,
+    acknowledged_messages_have_arrived, datagrams_are_segments, each_end_is_lawful,
+    returns_answer_arrived_calls, two_ends_agree, whole_messages_have_arrived,
 };
 
 #[cfg(test)]

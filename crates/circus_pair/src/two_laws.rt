@@ -1,44 +1,33 @@
 //! What holds of two ends after every lawful list of acts, in which datagrams are lost, repeated and reordered.
-ghost use Rattle.std.specs.Prelude.{◌≡◌, ◌⊎◌, ℕ, Bool, not, true, List, Some, Ok, is_some, ◌≤◌, ◌&&◌, ◌==◌, if◌then◌else◌, All, count_by, slice_get};
+ghost use Rattle.std.specs.Prelude.{◌≡◌, ◌⊎◌, ℕ, Bool, not, true, false, List, Some, Ok, is_some, ◌&&◌, ◌==◌, if◌then◌else◌, count_by, slice_get};
 ghost use Rattle.std.specs.FinMap.{get};
 ghost use Rattle.circus_exchange.specs.declared.progress.Progress.{Progress};
 ghost use Rattle.circus_segment.specs.Segment.{Piece, IsSegment, reading};
-ghost use Rattle.circus_segment.specs.Cut.{segment_count};
 ghost use Rattle.circus_exchange.specs.Exchange.{awaits_return};
 ghost use Rattle.circus_pair.specs.Taken.{has_arrived};
-ghost use Rattle.circus_pair.specs.Handed.{return_at, reached_in};
-ghost use Rattle.circus_pair.specs.TwoEnds.{History, AreLawful, start_of, acts_of, taken_at, sent_by, arrived_at, handed_over, end_at, both_after};
+ghost use Rattle.circus_pair.specs.Handed.{return_at};
+ghost use Rattle.circus_pair.specs.Lawful.{AreLawful as IsLawfulEnd};
+ghost use Rattle.circus_pair.specs.TwoEnds.{History, Talk, acts_at_first, acts_at_second, IsTalk, Agree, AreLawful, start_of, acts_of, taken_at, sent_by, arrived_at, end_at, both_after};
 
-/// A message arrives at an end at most once, and has arrived exactly where all its segments were taken, however
-/// often and in whatever order its datagrams come (docs/PROTOCOL.md, "Segments").
-pub fn messages_arrive_once()
-    ensures once { (format : ℕ) (history : History) (end : Bool) (kind call : ℕ) → (format ≡ 1) ⊎ (format ≡ 2)
-        → AreLawful format history
-        → count_by (λ a. (a.kind == kind) && (a.call == call)) (arrived_at end format history) ≤ 1 }
-    ensures exactly { (format : ℕ) (history : History) (end : Bool) (kind call : ℕ) → (format ≡ 1) ⊎ (format ≡ 2)
+/// Whatever is handed over at two ends, however datagrams are lost, repeated and reordered on their way between them, and
+/// whenever one is told that the other is down: a message arrives at most once and as it was handed over, and counts as
+/// acknowledged whole only where it has arrived (docs/PROTOCOL.md, "Segments").
+pub fn two_ends_agree()
+    ensures { (local remote format : ℕ) (talk : Talk) → (format ≡ 1) ⊎ (format ≡ 2) → IsTalk local remote format talk
+        → Agree local remote format (acts_at_first talk) (acts_at_second talk) }
+{}
+
+/// A message has arrived at an end exactly where all its segments were taken (docs/PROTOCOL.md, "Segments").
+pub fn whole_messages_have_arrived()
+    ensures { (format : ℕ) (history : History) (end : Bool) (kind call : ℕ) → (format ≡ 1) ⊎ (format ≡ 2)
         → AreLawful format history
         → count_by (λ a. (a.kind == kind) && (a.call == call)) (arrived_at end format history)
         ≡ (if has_arrived (taken_at end format history) kind call then 1 else 0) }
 {}
 
-/// Each message that has arrived at an end as the call of a number, or as the return to one, is the message that the
-/// other end has handed over as that.
-pub fn arrived_messages_were_sent()
-    ensures { (format : ℕ) (history : History) (end : Bool) → (format ≡ 1) ⊎ (format ≡ 2)
-        → AreLawful format history
-        → All (λ a. handed_over 0 (acts_of (not end) format history) a.kind a.call ≡ Some a.message) (arrived_at end format history) }
-{}
-
-/// A message counts as acknowledged whole at the end that sends it only where it has arrived whole at the other one
+/// What an end keeps as acknowledged whole, of a call or of a return, has arrived whole at the other one
 /// (docs/PROTOCOL.md, "The window").
 pub fn acknowledged_messages_have_arrived()
-    // By the segments that were taken.
-    ensures segments { (format : ℕ) (history : History) (end : Bool) (kind call : ℕ) (message : List ℕ) → (format ≡ 1) ⊎ (format ≡ 2)
-        → AreLawful format history
-        → handed_over 0 (acts_of end format history) kind call ≡ Some message
-        → reached_in (taken_at end format history) kind call (segment_count message) ≡ segment_count message
-        → has_arrived (taken_at (not end) format history) kind call ≡ true }
-    // By what the end keeps of a call, and of a return.
     ensures calls { (format : ℕ) (history : History) (end : Bool) (call : ℕ) (kept : Progress) → (format ≡ 1) ⊎ (format ≡ 2)
         → AreLawful format history
         → get (end_at (both_after format history) end).exchange.calls.progress call ≡ Some kept
@@ -49,6 +38,14 @@ pub fn acknowledged_messages_have_arrived()
         → get (end_at (both_after format history) end).exchange.returns.progress call ≡ Some kept
         → kept.count ≡ kept.total
         → has_arrived (taken_at (not end) format history) 1 call ≡ true }
+{}
+
+/// What has happened at either of two ends is lawful there, so that the laws of one end hold of it.
+pub fn each_end_is_lawful()
+    ensures low { (format : ℕ) (history : History) → (format ≡ 1) ⊎ (format ≡ 2) → AreLawful format history
+        → IsLawfulEnd 0 1 0 format (acts_of false format history) }
+    ensures high { (format : ℕ) (history : History) → (format ≡ 1) ⊎ (format ≡ 2) → AreLawful format history
+        → IsLawfulEnd 1 0 0 format (acts_of true format history) }
 {}
 
 /// Each datagram that an end has sent is a segment of its format, and is read as that, so a delivery drops none for

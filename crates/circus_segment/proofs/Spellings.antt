@@ -100,9 +100,6 @@ second_is : (k c t u n m a b d e : ℕ) (part : List ℕ) → (eqb k 2 || eqb k 
 unfolding fields_of
 second_is k c t u n m a b d e part h = rw h refl
 
-four : (a b d e : ℕ) → List ℕ
-four a b d e = a ∷ b ∷ d ∷ e ∷ []
-
 four_bytes : (a b d e : ℕ) (rest : List ℕ) → IsBytes (a ∷ b ∷ d ∷ e ∷ rest) → IsBytes (a ∷ b ∷ d ∷ e ∷ [])
 four_bytes a b d e rest h zero = h 0
 four_bytes a b d e rest h (suc zero) = h 1
@@ -114,9 +111,6 @@ two_bytes : (a b : ℕ) (rest : List ℕ) → IsBytes (a ∷ b ∷ rest) → IsB
 two_bytes a b rest h zero = h 0
 two_bytes a b rest h (suc zero) = h 1
 two_bytes a b rest h (suc (suc i)) = omega arith
-
-behind : (n : ℕ) (x : ℕ) (xs : List ℕ) → IsBytes (x ∷ xs) → IsBytes xs
-behind n x xs h i = h (suc i)
 
 four_fits : (a b d e : ℕ) → IsBytes (a ∷ b ∷ d ∷ e ∷ []) → from_be_bytes w32 (a ∷ b ∷ d ∷ e ∷ []) < 2 ^ 32
 four_fits a b d e h = omega (arith, h 0, h 1, h 2, h 3)

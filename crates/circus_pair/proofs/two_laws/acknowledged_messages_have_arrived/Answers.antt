@@ -1,8 +1,5 @@
-use Rattle.circus_pair.proofs.Agreeing.{acknowledged_arrived, call_kept, return_kept}
+use Rattle.circus_pair.proofs.Agreeing.{call_kept, return_kept}
 use Rattle.circus_pair.proofs.two_laws.acknowledged_messages_have_arrived.Goals as goal
-
-pub returns-clause-segments : goal.returns-clause-segments
-returns-clause-segments c = acknowledged_arrived
 
 pub returns-clause-calls : goal.returns-clause-calls
 returns-clause-calls c = call_kept

@@ -1,0 +1,19 @@
+use Rattle.circus_exchange.specs.Exchange.{start}
+use Rattle.circus_pair.proofs.Flowing.{flows_after}
+use Rattle.circus_pair.proofs.Handing.{format_stays, awaits_is}
+use Rattle.circus_pair.proofs.Keeping.{lawful_acts, hands_lawful}
+use Rattle.circus_pair.proofs.Standing.{stands_after}
+use Rattle.circus_pair.proofs.laws.ends_know_their_acts.Goals as goal
+
+pub returns-clause-format : goal.returns-clause-format
+returns-clause-format c local remote first format acts = format_stays (start local remote first format) acts
+
+pub returns-clause-next : goal.returns-clause-next
+returns-clause-next c local remote first format acts lawful = (hands_lawful local remote first format acts lawful).next
+
+pub returns-clause-down : goal.returns-clause-down
+returns-clause-down c local remote first format acts lawful = (flows_after local remote first format acts lawful).stopped
+
+pub returns-clause-awaits : goal.returns-clause-awaits
+returns-clause-awaits c local remote first format acts call lawful =
+    awaits_is first acts _ _ call (stands_after local remote first format acts (lawful_acts local remote first format acts lawful)) (hands_lawful local remote first format acts lawful)
