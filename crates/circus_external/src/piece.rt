@@ -1,10 +1,12 @@
 // The pieces that values are spelled with: numbers, and the bytes of strings.
-ghost use Rattle.std.specs.Prelude.{◌≡◌, ◌+◌, ◌%◌, ◌≤◌, length, drop};
+ghost use Rattle.std.specs.Prelude.{◌≡◌, ◌+◌, ◌++◌, ◌%◌, ◌≤◌, List, ℕ, length, drop, OnOk, OnErr};
+ghost use Rattle.circus_external.specs.Octets.{word, long};
+ghost use Rattle.circus_external.specs.Spelling.{joined, contents};
 ghost use Rattle.circus_external.specs.Given.{Gives};
 ghost use Rattle.circus_external.specs.Reading.{word_read, long_read, is_bad_pad, content_read};
 
 use crate::{ByteSource, ExternalFault, copied, long_at, word_at};
-use circus_value::Octets;
+use circus_value::{Message, NoMemory, Octets};
 use std::alloc::Global;
 
 /// The word at a place, and the place behind it (docs/FORMATS.md, "External data"). `Short` with the place where
@@ -60,4 +62,35 @@ fn has_bad_pad<S: ByteSource>(source: &S, at: usize, len: usize) -> bool
     ensures { result ≡ is_bad_pad len (drop at (S.octets source.now)) }
 {
     len % 2 == 1 && source.byte(at + len) != Some(0)
+}
+
+/// Appends the two bytes of a word (docs/FORMATS.md, "External data"). After `NoMemory` the bytes are
+/// unchanged.
+pub fn write_word(number: u16, out: &mut Message) -> Result<(), NoMemory>
+    ensures ok { OnOk result (out.new ≡ out.old ++ word number) }
+    ensures err { OnErr result (out.new ≡ out.old) }
+{
+    out.append(&number.to_be_bytes())
+}
+
+/// Appends the four bytes of a number of two words (docs/FORMATS.md, "External data"). After `NoMemory` the
+/// bytes are unchanged.
+pub fn write_long(number: u32, out: &mut Message) -> Result<(), NoMemory>
+    ensures ok { OnOk result (out.new ≡ out.old ++ long number) }
+    ensures err { OnErr result (out.new ≡ out.old) }
+{
+    out.append(&number.to_be_bytes())
+}
+
+/// Appends the bytes of a string, and a zero byte where they are odd in number (docs/FORMATS.md, "External
+/// data"). After `NoMemory` the bytes of the string may stand at the end.
+pub fn write_content(content: &[u8], out: &mut Message) -> Result<(), NoMemory>
+    ensures ok { OnOk result (out.new ≡ out.old ++ joined (contents content.now)) }
+    ensures err { OnErr result ((added : List ℕ) × (out.new ≡ out.old ++ added)) }
+{
+    out.append(content)?;
+    if content.len() % 2 == 1 {
+        out.push(0)?;
+    }
+    Ok(())
 }

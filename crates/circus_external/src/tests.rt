@@ -3,13 +3,11 @@ ghost use Rattle.std.specs.Prelude.{◌≤◌, length};
 
 use super::*;
 use bytes::Bytes;
-use circus_value::{Arm, Arms, Element, Field, Fields, ListOf, NoMemory, Parts, Shape, Value};
+use circus_value::{
+    Arm, Arms, Element, Field, Fields, ListOf, Message, NoMemory, Parts, Shape, Value,
+};
 use std::alloc::Global;
 use std::test::Fail;
-
-fn fault_of(alloc: Global, bytes: &[u8], shape: &Shape) -> Option<ExternalFault> {
-    read(alloc, bytes, 0, shape).err()
-}
 
 // CHOICE {none(0) => RECORD [], some(4) => CARDINAL}
 fn optional(alloc: Global) -> Result<Shape, NoMemory> {
@@ -27,8 +25,8 @@ fn optional(alloc: Global) -> Result<Shape, NoMemory> {
     Ok(Shape::Choice(arms))
 }
 
-// RECORD [a, b: CARDINAL]
-fn pair(alloc: Global) -> Result<Shape, NoMemory> {
+// [a, b: CARDINAL]
+fn pair(alloc: Global) -> Result<Fields, NoMemory> {
     let mut fields = Fields::new(alloc);
     for name in [ListOf::new(alloc), ListOf::new(alloc)] {
         fields.push(Field {
@@ -36,7 +34,7 @@ fn pair(alloc: Global) -> Result<Shape, NoMemory> {
             shape: Shape::Cardinal,
         })?;
     }
-    Ok(Shape::Record(fields))
+    Ok(fields)
 }
 
 // SEQUENCE 3 OF CARDINAL
@@ -53,6 +51,48 @@ fn cut(alloc: Global, bytes: &[u8], place: usize) -> Result<Parts, NoMemory>
     parts.add(Bytes::copy_from_slice(alloc, &bytes[..place])?)?;
     parts.add(Bytes::copy_from_slice(alloc, &bytes[place..])?)?;
     Ok(parts)
+}
+
+// Whether the bytes are no value, with this fault, in one piece and in two, wherever they are cut.
+fn is_refused(
+    alloc: Global,
+    bytes: &[u8],
+    shape: &Shape,
+    fault: ExternalFault,
+) -> Result<bool, NoMemory> {
+    if bytes.len() > 100 {
+        return Ok(false);
+    }
+    let fault = Some(fault);
+    for place in 0..bytes.len() {
+        let parts = cut(alloc, bytes, place)?;
+        if read_parts(alloc, &parts, 0, shape).err() != fault {
+            return Ok(false);
+        }
+    }
+    Ok(read(alloc, bytes, 0, shape).err() == fault)
+}
+
+// Whether the bytes are refused wherever they end too early, at the unit that is cut.
+fn is_short(alloc: Global, bytes: &[u8], shape: &Shape, units: &[u64]) -> Result<bool, NoMemory> {
+    for len in 0..bytes.len() {
+        let cut_unit = units.iter().rev().find(|unit| **unit <= len as u64);
+        let Some(unit) = cut_unit else {
+            return Ok(false);
+        };
+        if !is_refused(alloc, &bytes[..len], shape, ExternalFault::Short(*unit))? {
+            return Ok(false);
+        }
+    }
+    Ok(true)
+}
+
+// The values of fields that stand in the bytes, written again.
+fn fields_again(alloc: Global, bytes: &[u8], fields: &Fields) -> Result<Message, ExternalFault> {
+    let (values, _) = read_fields(alloc, &bytes, 0, fields)?;
+    let mut out = ListOf::new(alloc);
+    write_all(alloc, &values, &mut out)?;
+    Ok(out)
 }
 
 #[test]
@@ -76,14 +116,29 @@ fn reads_values(rt: HostRuntime) -> Result<(), Fail> {
 #[test]
 fn refuses_what_is_no_value(rt: HostRuntime) -> Result<(), Fail> {
     let alloc = rt.alloc();
-    let pad = fault_of(alloc, b"\0\x03abc\x01", &Shape::Text);
-    assert_eq!(rt; pad, Some(ExternalFault::BadPad(5)));
-    let many = fault_of(alloc, &[0, 4], &three(alloc)?);
-    assert_eq!(rt; many, Some(ExternalFault::NotAValue(0)));
-    let truth = fault_of(alloc, &[0, 2], &Shape::Boolean);
-    assert_eq!(rt; truth, Some(ExternalFault::NotAValue(0)));
-    let half = fault_of(alloc, &[0, 1, 0], &pair(alloc)?);
-    assert_eq!(rt; half, Some(ExternalFault::Short(2)));
+    let three = three(alloc)?;
+    assert!(rt;
+        is_refused(
+            alloc,
+            b"\0\x03abc\x01",
+            &Shape::Text,
+            ExternalFault::BadPad(5)
+        )?
+    );
+    assert!(rt; is_refused(alloc, &[0, 4], &three, ExternalFault::NotAValue(0))?);
+    assert!(rt; is_refused(alloc, &[0, 2], &Shape::Boolean, ExternalFault::NotAValue(0))?);
+    Ok(())
+}
+
+#[test]
+fn refuses_what_ends_too_early(rt: HostRuntime) -> Result<(), Fail> {
+    let alloc = rt.alloc();
+    assert!(rt; is_short(alloc, b"\0\x03abc\0", &Shape::Text, &[0, 2])?);
+    assert!(rt; is_short(alloc, &[0, 0], &three(alloc)?, &[0])?);
+    assert!(rt; is_short(alloc, &[0, 4, 0, 7], &optional(alloc)?, &[0, 2])?);
+    assert!(rt; is_short(alloc, &[0x80, 0], &Shape::Integer, &[0])?);
+    assert!(rt; is_short(alloc, &[0, 1], &Shape::Boolean, &[0])?);
+    assert!(rt; is_short(alloc, &[0, 1, 0, 2], &Shape::Record(pair(alloc)?), &[0, 2])?);
     Ok(())
 }
 
@@ -97,9 +152,6 @@ fn reads_parts(rt: HostRuntime) -> Result<(), Fail> {
             next == 6
                 && matches!(&text, Value::Text(octets) if octets.as_slice() == b"abc".as_slice())
         );
-        let bad = cut(alloc, b"\0\x03abc\x01", place)?;
-        let pad = read_parts(alloc, &bad, 0, &Shape::Text).err();
-        assert_eq!(rt; pad, Some(ExternalFault::BadPad(5)));
     }
     Ok(())
 }
@@ -114,5 +166,7 @@ fn spells_what_is_read(rt: HostRuntime) -> Result<(), Fail> {
     out.push(9)?;
     write(alloc, &some, &shape, &mut out)?;
     assert!(rt; out.as_slice() == b"\x09\0\x04\0\x07".as_slice());
+    let values = fields_again(alloc, &[0, 1, 0, 2], &pair(alloc)?)?;
+    assert!(rt; values.as_slice() == [0, 1, 0, 2].as_slice());
     Ok(())
 }

@@ -4,9 +4,10 @@ ghost use Rattle.circus_value.specs.ValueOf as values;
 ghost use Rattle.circus_value.specs.ShapeOf as shapes;
 ghost use Rattle.circus_value.specs.ShapeTree.{FieldTrees};
 ghost use Rattle.circus_value.specs.Fits as fit;
-ghost use Rattle.circus_external.specs.Octets.{word, long};
+ghost use Rattle.circus_external.specs.Octets.{word};
 ghost use Rattle.circus_external.specs.Spelling.{spelling, spelling_of_all, fields_admit, joined, number, contents};
 
+use crate::piece::{write_content, write_long, write_word};
 use circus_value::{ListOf, Message, NoMemory, Shape, Value, Values, fits};
 use std::alloc::Global;
 
@@ -41,11 +42,11 @@ fn spell(value: &Value, out: &mut Message) -> Result<(), NoMemory>
     ensures { OnOk result (out.new ≡ out.old ++ spelling (values.tree_of value.now)) }
 {
     match value {
-        Value::Boolean(truth) => spell_word(u16::from(*truth), out),
-        Value::Cardinal(number) | Value::Enumeration(number) => spell_word(*number, out),
-        Value::LongCardinal(number) => spell_long(*number, out),
-        Value::Integer(number) => spell_word(number.cast_unsigned(), out),
-        Value::LongInteger(number) => spell_long(number.cast_unsigned(), out),
+        Value::Boolean(truth) => write_word(u16::from(*truth), out),
+        Value::Cardinal(number) | Value::Enumeration(number) => write_word(*number, out),
+        Value::LongCardinal(number) => write_long(*number, out),
+        Value::Integer(number) => write_word(number.cast_unsigned(), out),
+        Value::LongInteger(number) => write_long(number.cast_unsigned(), out),
         Value::Text(bytes) => spell_text(bytes.as_slice(), out),
         Value::Array(items) | Value::Record(items) => spell_all(items, out),
         Value::Sequence(items) => {
@@ -53,7 +54,7 @@ fn spell(value: &Value, out: &mut Message) -> Result<(), NoMemory>
             spell_all(items, out)
         }
         Value::Choice(number, chosen) => {
-            spell_word(*number, out)?;
+            write_word(*number, out)?;
             spell(chosen.value(), out)
         }
     }
@@ -69,32 +70,16 @@ fn spell_all(values: &Values, out: &mut Message) -> Result<(), NoMemory>
     Ok(())
 }
 
-fn spell_word(number: u16, out: &mut Message) -> Result<(), NoMemory>
-    ensures { OnOk result (out.new ≡ out.old ++ word number) }
-{
-    out.append(&number.to_be_bytes())
-}
-
-fn spell_long(number: u32, out: &mut Message) -> Result<(), NoMemory>
-    ensures { OnOk result (out.new ≡ out.old ++ long number) }
-{
-    out.append(&number.to_be_bytes())
-}
-
 // The low word of a count. What a shape admits has no more than 65,535 items or bytes.
 fn spell_count(count: usize, out: &mut Message) -> Result<(), NoMemory>
     ensures { OnOk result (out.new ≡ out.old ++ word count) }
 {
-    spell_word((count % 65_536) as u16, out)
+    write_word((count % 65_536) as u16, out)
 }
 
 fn spell_text(bytes: &[u8], out: &mut Message) -> Result<(), NoMemory>
     ensures { OnOk result (out.new ≡ out.old ++ joined (number (word (length bytes.now)) ∷ contents bytes.now)) }
 {
     spell_count(bytes.len(), out)?;
-    out.append(bytes)?;
-    if bytes.len() % 2 == 1 {
-        out.push(0)?;
-    }
-    Ok(())
+    write_content(bytes, out)
 }
