@@ -4,7 +4,7 @@ use Rattle.std.specs.Int.{w16, from_be_bytes}
 use Rattle.std.specs.Prelude.{IfOk}
 use Rattle.std.specs.Option.{option_map_or}
 use Rattle.std.proofs.lemmas.List.{drop-drop}
-use Rattle.std.proofs.lemmas.Nat.{be_bytes_2}
+use Rattle.std.proofs.lemmas.Nat.{be_bytes_2, from_be_bytes-to_be_bytes_2}
 use Rattle.std.proofs.lemmas.Bool.{le-ltb, ltb-false}
 use Rattle.circus_value.specs.declared.outcome.Outcome.TheVariants.{Returned, Raised}
 use Rattle.circus_value.specs.declared.outcome.Outcome.{Outcome}
@@ -18,9 +18,10 @@ use Rattle.circus_external.specs.Reading.{fields_reading}
 use Rattle.circus_external.specs.Refusal.{AreOctets, are_proper}
 use Rattle.circus_external.specs.Spelling.{spelling_of_all, fields_admit}
 use Rattle.circus_external.proofs.Promises.{fields_spelled_read, fields_read_are_spelled, octets_rest}
+use Rattle.circus_external.proofs.OctetsSpelled.{fields_spelled_octets}
 use Rattle.circus_stub.specs.declared.fault.StubFault.{StubFault}
 use Rattle.circus_stub.specs.declared.fault.StubFault.TheVariants as stub
-use Rattle.circus_stub.specs.Packed.{AreArguments, MayEnd, IsOutcome, outcome_spelling}
+use Rattle.circus_stub.specs.Packed.{AreArguments, MayEnd, IsOutcome, outcome_spelling, outcome_values}
 use Rattle.circus_stub.specs.Unpacked.{Answers, procedure_of, limited, values_alone, values_unpacked, arguments_unpacked, as_returned, as_raised, raised_fields, raised_values, raised_unpacked, outcome_behind, outcome_unpacked}
 
 -- what was found, with nothing behind
@@ -60,17 +61,24 @@ unpacked_is_packed i limit n bytes values octets is =
     let v = values_packed (field_trees p.0.arguments) limit 0 bytes values octets p.2 in
     (record { procedure = p.0; declared = p.1; admitted = v.0 }, v.1, v.2)
 
-pub packed_is_unpacked : (i : Interface) (limit n : ℕ) (values : List ValueTree) → (fits : AreArguments i n values) → are_proper (field_trees fits.procedure.arguments) ≡ true → AreOctets (spelling_of_all values) → length (spelling_of_all values) ≤ limit → arguments_unpacked i limit n (spelling_of_all values) ≡ Ok values
-packed_is_unpacked i limit n values fits proper octets few =
+-- values that were packed, from a place on
+values_unpack : (fields : FieldTrees) (limit at : ℕ) (bytes : List ℕ) (values : List ValueTree) → are_proper fields ≡ true → fields_admit fields values ≡ true → length (spelling_of_all values) ≤ limit → drop at bytes ≡ spelling_of_all values → values_unpacked fields limit at bytes ≡ Ok values
+values_unpack fields limit at bytes values proper admitted few is =
+    let spelled = spelling_of_all values in
+    let whole : spelled ++ [] ≡ spelled = append-nil spelled in
+    let octets = subst AreOctets (sym whole) (fields_spelled_octets fields values admitted) in
+    let read : fields_reading fields at spelled ≡ found values (at + length spelled) [] =
+    ap (fields_reading fields at) (sym whole) ∙ fields_spelled_read fields proper values at [] admitted octets in
+    let not_above : nat_lt limit (length spelled) ≡ false = le-ltb limit (length spelled) few in
+    ap (λ xs. cond (nat_lt limit (length xs)) (Err (stub.Large (length xs))) (values_alone (fields_reading fields at xs))) is
+    ∙ ap (λ b. cond b (Err (stub.Large (length spelled))) (values_alone (fields_reading fields at spelled))) not_above
+    ∙ ap values_alone read
+
+pub packed_is_unpacked : (i : Interface) (limit n : ℕ) (values : List ValueTree) → (fits : AreArguments i n values) → are_proper (field_trees fits.procedure.arguments) ≡ true → length (spelling_of_all values) ≤ limit → arguments_unpacked i limit n (spelling_of_all values) ≡ Ok values
+packed_is_unpacked i limit n values fits proper few =
     let bytes = spelling_of_all values in
-    let fields = field_trees fits.procedure.arguments in
-    let whole : bytes ++ [] ≡ bytes = append-nil bytes in
-    let read = fields_spelled_read fields proper values 0 [] fits.admitted (subst AreOctets (sym whole) octets) in
-    let alone_read : fields_reading fields 0 bytes ≡ found values (0 + length bytes) [] = ap (fields_reading fields 0) (sym whole) ∙ read in
-    let not_above : nat_lt limit (length bytes) ≡ false = le-ltb limit (length bytes) few in
     ap (λ o. option_map_or (λ (p : Procedure). values_unpacked (field_trees p.arguments) limit 0 bytes) o (Err (stub.NoProcedure n))) fits.declared
-    ∙ ap (λ b. cond b (Err (stub.Large (length bytes))) (values_alone (fields_reading fields 0 bytes))) not_above
-    ∙ ap values_alone alone_read
+    ∙ values_unpack (field_trees fits.procedure.arguments) limit 0 bytes values proper fits.admitted few refl
 
 -- what an answer says of its values
 pub answer_is_packed : (i : Interface) (limit n : ℕ) (bytes : List ℕ) (result : Result (List ValueTree) StubFault) → AreOctets bytes → Answers result (arguments_unpacked i limit n bytes) → IfOk result (λ values. AreArguments i n values × (bytes ≡ spelling_of_all values))
@@ -101,8 +109,13 @@ raised : (n : ℕ) (a : Result (List ValueTree) StubFault) (outcome : Outcome) �
 raised n (Ok values) outcome is = (values, refl, cc)
 raised n (Err fault) outcome is = absurd cc
 
+-- an outcome of the procedure, whose bytes these are and whose values are within the limit
+abbrev Ends : Interface → Procedure → ℕ → List ℕ → Outcome → Type 0
+Ends i p limit bytes outcome =
+    MayEnd i p outcome × (bytes ≡ outcome_spelling outcome) × (length (spelling_of_all (outcome_values outcome)) ≤ limit)
+
 -- what stands behind the first word and an error's number
-raised_ends : (i : Interface) (p : Procedure) (limit n : ℕ) (bytes : List ℕ) (outcome : Outcome) (o : Option FieldTrees) → AreOctets bytes → first_word bytes ≡ Some 1 → first_word (drop 2 bytes) ≡ Some n → raised_fields i p n ≡ o → as_raised n (raised_values n limit bytes o) ≡ Ok outcome → MayEnd i p outcome × (bytes ≡ outcome_spelling outcome)
+raised_ends : (i : Interface) (p : Procedure) (limit n : ℕ) (bytes : List ℕ) (outcome : Outcome) (o : Option FieldTrees) → AreOctets bytes → first_word bytes ≡ Some 1 → first_word (drop 2 bytes) ≡ Some n → raised_fields i p n ≡ o → as_raised n (raised_values n limit bytes o) ≡ Ok outcome → Ends i p limit bytes outcome
 raised_ends i p limit n bytes outcome None octets one number fields is =
     let r = raised n (raised_values n limit bytes None) outcome is in
     let l = within_limit limit 4 bytes (Err (stub.NoError n)) r.0 r.1 in
@@ -112,31 +125,53 @@ raised_ends i p limit n bytes outcome (Some fs) octets one number fields is =
     let v = values_packed fs limit 4 bytes r.0 octets r.1 in
     let rest : drop 2 bytes ≡ word n ++ drop 4 bytes = word_front (drop 2 bytes) n (octets_rest bytes 2 octets) number ∙ ap (λ l. word n ++ l) (drop-drop 2 2 bytes) in
     let whole : bytes ≡ word 1 ++ (word n ++ spelling_of_all r.0) = word_front bytes 1 octets one ∙ ap (λ l. word 1 ++ l) (rest ∙ ap (λ l. word n ++ l) v.1) in
-    subst (λ out. MayEnd i p out × (bytes ≡ outcome_spelling out)) (sym r.2) ((fs, fields, v.0), whole)
+    subst (Ends i p limit bytes) (sym r.2) ((fs, fields, v.0), whole, subst (λ xs. length xs ≤ limit) v.1 v.2)
 
-raised_behind : (i : Interface) (p : Procedure) (limit : ℕ) (bytes : List ℕ) (outcome : Outcome) (o : Option ℕ) → AreOctets bytes → first_word bytes ≡ Some 1 → first_word (drop 2 bytes) ≡ o → raised_unpacked i p limit bytes o ≡ Ok outcome → MayEnd i p outcome × (bytes ≡ outcome_spelling outcome)
+raised_behind : (i : Interface) (p : Procedure) (limit : ℕ) (bytes : List ℕ) (outcome : Outcome) (o : Option ℕ) → AreOctets bytes → first_word bytes ≡ Some 1 → first_word (drop 2 bytes) ≡ o → raised_unpacked i p limit bytes o ≡ Ok outcome → Ends i p limit bytes outcome
 raised_behind i p limit bytes outcome None octets one number is = absurd cc
 raised_behind i p limit bytes outcome (Some n) octets one number is =
     raised_ends i p limit n bytes outcome (raised_fields i p n) octets one number refl is
 
-ends_behind : (i : Interface) (p : Procedure) (limit : ℕ) (bytes : List ℕ) (outcome : Outcome) (o : Option ℕ) → AreOctets bytes → first_word bytes ≡ o → outcome_behind i p limit bytes o ≡ Ok outcome → MayEnd i p outcome × (bytes ≡ outcome_spelling outcome)
+ends_behind : (i : Interface) (p : Procedure) (limit : ℕ) (bytes : List ℕ) (outcome : Outcome) (o : Option ℕ) → AreOctets bytes → first_word bytes ≡ o → outcome_behind i p limit bytes o ≡ Ok outcome → Ends i p limit bytes outcome
 ends_behind i p limit bytes outcome None octets kind is = absurd cc
 ends_behind i p limit bytes outcome (Some zero) octets kind is =
     let r = returned (values_unpacked (field_trees p.results) limit 2 bytes) outcome is in
     let v = values_packed (field_trees p.results) limit 2 bytes r.0 octets r.1 in
     let whole : bytes ≡ word 0 ++ spelling_of_all r.0 = word_front bytes 0 octets kind ∙ ap (λ l. word 0 ++ l) v.1 in
-    subst (λ out. MayEnd i p out × (bytes ≡ outcome_spelling out)) (sym r.2) (v.0, whole)
+    subst (Ends i p limit bytes) (sym r.2) (v.0, whole, subst (λ xs. length xs ≤ limit) v.1 v.2)
 ends_behind i p limit bytes outcome (Some (suc zero)) octets kind is =
     raised_behind i p limit bytes outcome (first_word (drop 2 bytes)) octets kind refl is
 ends_behind i p limit bytes outcome (Some (suc (suc n))) octets kind is = absurd cc
 
-pub unpacked_outcome_is_packed : (i : Interface) (limit n : ℕ) (bytes : List ℕ) (outcome : Outcome) → AreOctets bytes → outcome_unpacked i limit n bytes ≡ Ok outcome → IsOutcome i n outcome × (bytes ≡ outcome_spelling outcome)
+pub unpacked_outcome_is_packed : (i : Interface) (limit n : ℕ) (bytes : List ℕ) (outcome : Outcome) → AreOctets bytes → outcome_unpacked i limit n bytes ≡ Ok outcome → IsOutcome i n outcome × (bytes ≡ outcome_spelling outcome) × (length (spelling_of_all (outcome_values outcome)) ≤ limit)
 unpacked_outcome_is_packed i limit n bytes outcome octets is =
     let p = procedure_found (procedure_of i n) (λ (p : Procedure). outcome_behind i p limit bytes (first_word bytes)) n outcome is in
     let ends = ends_behind i p.0 limit bytes outcome (first_word bytes) octets refl p.2 in
-    (record { procedure = p.0; declared = p.1; ends = ends.0 }, ends.1)
+    (record { procedure = p.0; declared = p.1; ends = ends.0 }, ends.1, ends.2)
+
+front_word : (n : ℕ) (rest : List ℕ) → n < 65536 → first_word (word n ++ rest) ≡ Some n
+front_word n rest few = ap Some (from_be_bytes-to_be_bytes_2 n few)
+
+outcome_by : (i : Interface) (limit n : ℕ) (p : Procedure) (bytes : List ℕ) (kind : ℕ) → procedure_of i n ≡ Some p → first_word bytes ≡ Some kind → outcome_unpacked i limit n bytes ≡ outcome_behind i p limit bytes (Some kind)
+outcome_by i limit n p bytes kind declared is =
+    ap (λ o. option_map_or (λ (q : Procedure). outcome_behind i q limit bytes (first_word bytes)) o (Err (stub.NoProcedure n))) declared
+    ∙ ap (outcome_behind i p limit bytes) is
+
+pub returned_is_unpacked : (i : Interface) (limit n : ℕ) (p : Procedure) (results : List ValueTree) → procedure_of i n ≡ Some p → fields_admit (field_trees p.results) results ≡ true → are_proper (field_trees p.results) ≡ true → length (spelling_of_all results) ≤ limit → outcome_unpacked i limit n (outcome_spelling (Returned results)) ≡ Ok (Returned results)
+returned_is_unpacked i limit n p results declared admitted proper few =
+    let bytes = outcome_spelling (Returned results) in
+    outcome_by i limit n p bytes 0 declared (front_word 0 (spelling_of_all results) (omega arith))
+    ∙ ap as_returned (values_unpack (field_trees p.results) limit 2 bytes results proper admitted few refl)
+
+pub raised_is_unpacked : (i : Interface) (limit n : ℕ) (p : Procedure) (e : ℕ) (fields : FieldTrees) (values : List ValueTree) → procedure_of i n ≡ Some p → e < 65536 → raised_fields i p e ≡ Some fields → fields_admit fields values ≡ true → are_proper fields ≡ true → length (spelling_of_all values) ≤ limit → outcome_unpacked i limit n (outcome_spelling (Raised e values)) ≡ Ok (Raised e values)
+raised_is_unpacked i limit n p e fields values declared small raises admitted proper few =
+    let bytes = outcome_spelling (Raised e values) in
+    outcome_by i limit n p bytes 1 declared (front_word 1 (word e ++ spelling_of_all values) (omega arith))
+    ∙ ap (raised_unpacked i p limit bytes) (front_word e (spelling_of_all values) small)
+    ∙ ap (λ o. as_raised e (raised_values e limit bytes o)) raises
+    ∙ ap (as_raised e) (values_unpack fields limit 4 bytes values proper admitted few refl)
 
 -- what an answer says of its outcome
 pub outcome_answer_is_packed : (i : Interface) (limit n : ℕ) (bytes : List ℕ) (result : Result Outcome StubFault) → AreOctets bytes → Answers result (outcome_unpacked i limit n bytes) → IfOk result (λ outcome. IsOutcome i n outcome × (bytes ≡ outcome_spelling outcome))
-outcome_answer_is_packed i limit n bytes (Ok outcome) octets is = unpacked_outcome_is_packed i limit n bytes outcome octets is
+outcome_answer_is_packed i limit n bytes (Ok outcome) octets is = let packed = unpacked_outcome_is_packed i limit n bytes outcome octets is in (packed.0, packed.1)
 outcome_answer_is_packed i limit n bytes (Err fault) octets is = tt

@@ -1,7 +1,7 @@
 -- Unpacking by stubs, and by the interface that they were compiled from.
-use Rattle.std.proofs.Common.{◌≡◌, ℕ, zero, suc, ◌+◌, ◌<◌, ◌≤◌, Bool, true, false, cond, nat_eq, nat_lt, Option, Some, None, Result, Ok, Err, List, [], ◌∷◌, length, map, drop, refl, sym, ap, ◌∙◌, arith, append-nil, length-drop, Bor}
+use Rattle.std.proofs.Common.{◌≡◌, ℕ, zero, suc, ◌+◌, ◌<◌, ◌≤◌, Bool, true, false, cond, nat_eq, nat_lt, Option, Some, None, Result, Ok, Err, List, [], ◌∷◌, length, map, drop, refl, sym, ap, ◌∙◌, arith, append-nil, length-drop}
 use Rattle.std.specs.Prelude.{find, slice_get}
-use Rattle.std.specs.Option.{option_map, option_copied, is_some}
+use Rattle.std.specs.Option.{option_map}
 use Rattle.circus_value.specs.ValueTree.{ValueTree}
 use Rattle.circus_value.specs.ShapeTree.{FieldTrees, no_fields, field_trees}
 use Rattle.circus_idl.specs.declared.interface.Interface.{Interface}
@@ -165,7 +165,12 @@ slice_get-drop xs zero k = ap (slice_get xs) (omega arith)
 slice_get-drop [] (suc i) k = refl
 slice_get-drop (x ∷ xs) (suc i) k = let next : suc i + k ≡ suc (i + k) = omega arith in slice_get-drop xs i k ∙ ap (slice_get (x ∷ xs)) (sym next)
 
--- a procedure that is declared has a stub
-pub has_stub : (i : Interface) (limit n : ℕ) (p : Procedure) (o : Option (Bor ProcedureStub)) → option_copied o ≡ stub_of (compiled i limit) n → procedure_of i n ≡ Some p → is_some o ≡ false → ⊥
-has_stub i limit n p None is declared none = let missing = stub_missing i limit n is in absurd cc
-has_stub i limit n p (Some q) is declared none = absurd cc
+-- a procedure that is declared has its stub, and no other
+pub stub_declared : (i : Interface) (limit n : ℕ) (p : Procedure) (stub : ProcedureStub) → Some stub ≡ stub_of (compiled i limit) n → procedure_of i n ≡ Some p → stub ≡ procedure_stub p
+stub_declared i limit n p stub is declared =
+    let found = stub_found i limit n stub is in
+    let same : found.0 ≡ p = cc in
+    found.2 ∙ ap procedure_stub same
+
+pub no_stub_missing : (i : Interface) (limit n : ℕ) (p : Procedure) → None ≡ stub_of (compiled i limit) n → procedure_of i n ≡ Some p → ⊥
+no_stub_missing i limit n p is declared = let missing = stub_missing i limit n is in absurd cc

@@ -36,3 +36,8 @@ words numbers = flat_map word numbers
 abbrev pub outcome_spelling : Outcome → List ℕ
 outcome_spelling (Returned results) = words (0 ∷ []) ++ spelling_of_all results
 outcome_spelling (Raised n values) = words (1 ∷ n ∷ []) ++ spelling_of_all values
+
+-- the results, or the values of what was raised
+abbrev pub outcome_values : Outcome → List ValueTree
+outcome_values (Returned results) = results
+outcome_values (Raised n values) = values

@@ -198,7 +198,11 @@ impl Stubs {
     }
 
     /// The operations of the values that a procedure raises under a number.
-    fn raised_operations(&self, stub: &ProcedureStub, number: u16) -> Option<&[Operation]>
+    pub(crate) fn raised_operations(
+        &self,
+        stub: &ProcedureStub,
+        number: u16,
+    ) -> Option<&[Operation]>
         ensures { option_copied result ≡ raised_operations self.now stub.now number }
     {
         if is_among(number, stub.reports.as_slice()) {

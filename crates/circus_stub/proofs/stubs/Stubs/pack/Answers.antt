@@ -1,8 +1,14 @@
-use Rattle.std.proofs.Common.{sym, ◌∙◌, ap}
+use Rattle.std.proofs.Common.{◌∙◌, ap}
+use Rattle.circus_value.specs.ShapeTree.{field_trees}
 use Rattle.circus_stub.specs.Compiled.{stub_of}
-use Rattle.circus_stub.proofs.UnpackLemmas.{has_stub}
+use Rattle.circus_stub.proofs.UnpackLemmas.{stub_declared, no_stub_missing}
 use Rattle.circus_stub.proofs.stubs.Stubs.pack.Goals as goal
 
-pub prove-unreachable-requires : goal.prove-unreachable-requires
-prove-unreachable-requires c =
-    has_stub c.requires.0 c.args.self.now.limit c.args.procedure c.requires.2.procedure c.stub.result (c.stub.ensures ∙ ap (λ s. stub_of s c.args.procedure) c.requires.1) c.requires.2.declared (sym c.is_some.ensures ∙ c.if-prove.true)
+pub packed-requires : goal.packed-requires
+packed-requires c =
+    let same = stub_declared c.requires.0 c.args.self.now.limit c.args.procedure c.requires.2.procedure c.in-Some.stub.now (c.in-Some.ensures ∙ ap (λ s. stub_of s c.args.procedure) c.requires.1) c.requires.2.declared in
+    (field_trees c.requires.2.procedure.arguments, c.as_slice.ensures ∙ ap (λ p. p.arguments) same, c.requires.2.admitted)
+
+pub unreachable-requires : goal.unreachable-requires
+unreachable-requires c =
+    no_stub_missing c.requires.0 c.args.self.now.limit c.args.procedure c.requires.2.procedure (c.in-None.ensures ∙ ap (λ s. stub_of s c.args.procedure) c.requires.1) c.requires.2.declared
