@@ -1,10 +1,8 @@
 -- A draft with one more type.
-use Rattle.std.proofs.Common.{◌≡◌, ℕ, true, false, cond, List, [], ◌∷◌, ◌++◌, Option, Some, None, is_some, refl, ◌∙◌, ap, map, bytes_eq}
+use Rattle.std.proofs.Common.{◌≡◌, ℕ, false, cond, List, [], ◌∷◌, ◌++◌, Option, Some, None, is_some, refl, ◌∙◌, ap, map}
 use Rattle.std.specs.Prelude.{IfNone}
 use Rattle.std.proofs.lemmas.List.{map-append}
-use Rattle.std.proofs.Common.{arith}
-use Rattle.std.proofs.lemmas.Grind.{common_steps}
-use Rattle.std.proofs.lemmas.Slice.Eq.{bytes_eq-Decides}
+use Rattle.circus_syntax.proofs.Tokens.{bytes_eq-refl}
 use Rattle.circus_value.specs.ShapeTree.{ShapeTree}
 use Rattle.circus_value.specs.ShapeOf.{tree_of}
 use Rattle.circus_idl.specs.declared.fault.Fault.{Fault}
@@ -30,12 +28,9 @@ pub holds_anyway : (o : Option Fault) (P : Type 0) → P → IfNone o P
 holds_anyway None P holds = holds
 holds_anyway (Some f) P holds = tt
 
-pub bytes_eq_same : (name : List ℕ) → bytes_eq name name ≡ true
-bytes_eq_same name = grind (arith, common_steps, bytes_eq-Decides name name)
-
 -- a name stands for what it was given
 pub standing_here : {A : Type 0} (name : List ℕ) (a : A) (earlier : List ℕ → A) → standing_for name a earlier name ≡ a
-standing_here name a earlier = ap (λ b. cond b a (earlier name)) (bytes_eq_same name)
+standing_here name a earlier = ap (λ b. cond b a (earlier name)) (bytes_eq-refl name)
 
 pub types_more : (types : List DeclaredType) (t : DeclaredType) (name : List ℕ) (s : ShapeTree) → t.name ≡ name → tree_of t.shape ≡ s → map named_shape (types ++ t ∷ []) ≡ map named_shape types ++ record { name = name; shape = s } ∷ []
 types_more types t name s named shaped =

@@ -3,6 +3,7 @@ use Rattle.std.proofs.Common.{◌≡◌, ℕ, ◌<◌, ◌≤◌, ◌⊎◌, inl
 use Rattle.std.specs.Prelude.{◌==◌, nat_lt, min}
 use Rattle.std.specs.List.{AllByRecursion}
 use Rattle.std.proofs.lemmas.List.{map-append}
+use Rattle.std.proofs.lemmas.Bool.{or_parts}
 use Rattle.std.proofs.lemmas.Grind.{common_steps}
 use Rattle.circus_value.specs.declared.shape.Label.{Label}
 use Rattle.circus_value.specs.ShapeTree.{ShapeTree, FieldTree, ArmTree, FieldTrees, field_trees, arm_trees}
@@ -22,7 +23,7 @@ use Rattle.circus_idl.specs.Whole.{names_of}
 use Rattle.circus_idl.specs.Obeys as rule
 use Rattle.circus_idl.specs.Obeys.{ObeyLabels, field_names, arm_names, arm_numbers, AreFieldNames, ObeyArms, ObeysInside, ObeyFields, ObeyArmTypes}
 use Rattle.circus_idl.proofs.Items.{none_in, all_appended}
-use Rattle.circus_idl.proofs.NoFaults.{no_fault, neither, distinct_names, labels_clean}
+use Rattle.circus_idl.proofs.NoFaults.{no_fault, distinct_names, labels_clean}
 
 pub each_named : (ns : List Named) → IsEach IsName ns → AllByRecursion rule.IsName (map (λ (n : Named). n.name) ns)
 each_named [] named = tt
@@ -134,7 +135,7 @@ module _ (form : List ℕ → ShapeTree) where
 
 in_length : (n : Numeral) → length_faults n ≡ [] → 1 ≤ word_of n
 in_length n clean =
-    let (some, few) = neither (n.value == 0) (nat_lt 65535 n.value) (no_fault _ _ _ clean) in
+    let (some, few) = or_parts (n.value == 0) (nat_lt 65535 n.value) (no_fault _ _ _ clean) in
     some_value n.value some
   where
     some_value : (v : ℕ) → (v == 0) ≡ false → 1 ≤ min v 65535
@@ -204,7 +205,7 @@ module _ (types : List ℕ → Bool) (form : List ℕ → ShapeTree) (known : (n
         (arm_labels_obey form at arms good own, arms_obey arms (some_arms form at arms good).1 rest)
     inside_obeys (called at name) good clean = known name.name.name (known_name types name.«module» name.name clean)
 
-    pub groups_obey : (groups : GroupTrees) → AreGroups groups → inside_groups types groups ≡ [] → ObeyFields (field_trees (written_groups form groups))
+    groups_obey : (groups : GroupTrees) → AreGroups groups → inside_groups types groups ≡ [] → ObeyFields (field_trees (written_groups form groups))
     groups_obey no_groups good clean = tt
     groups_obey (more_groups names t groups) good clean =
         let (own, rest) = none_in (inside types t) (inside_groups types groups) clean in

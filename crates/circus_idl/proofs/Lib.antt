@@ -23,7 +23,7 @@ mod PlainTypes
 mod PlainRules
 mod PlainSizes
 mod ShapeBack
-mod ObeysParts
+pub mod ObeysParts
 mod PlainDeclared
 mod ErrorsFound
 mod PlainGrammar

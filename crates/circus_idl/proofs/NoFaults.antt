@@ -2,8 +2,8 @@
 use Rattle.std.proofs.Common.{◌≡◌, ◌≢◌, ℕ, ◌≤◌, Bool, true, false, ◌||◌, List, [], ◌∷◌, ◌++◌, refl, sym, ◌∙◌, ap, subst, arith, map, bytes_eq}
 use Rattle.std.specs.Prelude.{◌==◌}
 use Rattle.std.specs.List.{AllByRecursion}
-use Rattle.std.proofs.lemmas.Bool.{ltb-false}
-use Rattle.std.proofs.lemmas.Grind.{common_steps}
+use Rattle.std.proofs.lemmas.Bool.{ltb-false, or_parts, eq-eqb}
+use Rattle.circus_syntax.proofs.Tokens.{bytes_eq-refl}
 use Rattle.circus_value.specs.declared.shape.Label.{Label}
 use Rattle.circus_syntax.specs.declared.named.Named.{Named}
 use Rattle.circus_syntax.specs.declared.named.Numeral.{Numeral}
@@ -13,19 +13,11 @@ use Rattle.circus_idl.specs.Least.{faults_if}
 use Rattle.circus_idl.specs.Inside.{also_name, also_number, repeated_name, repeated_number, repeated_names, above, label_faults, labels_faults}
 use Rattle.circus_idl.specs.Meaning.{word_of, label_meant}
 use Rattle.circus_idl.specs.Distinct.{AreDistinct}
-use Rattle.circus_idl.proofs.DraftMore.{bytes_eq_same}
 use Rattle.circus_idl.proofs.Items.{none_in}
 
 pub no_fault : (b : Bool) (place : ℕ) (cause : Cause) → faults_if b place cause ≡ [] → b ≡ false
 no_fault true place cause is = absurd (cc)
 no_fault false place cause is = refl
-
-pub neither : (a b : Bool) → (a || b) ≡ false → (a ≡ false) × (b ≡ false)
-neither true b is = absurd (cc)
-neither false b is = (refl, is)
-
-number_same : (n : ℕ) → (n == n) ≡ true
-number_same n = grind (arith, common_steps)
 
 -- Of items none of which stands among those before them, where this one stands before them too.
 module _ {X : Type 0} (same : X → X → Bool) (itself : (x : X) → same x x ≡ true) where
@@ -37,17 +29,17 @@ module _ {X : Type 0} (same : X → X → Bool) (itself : (x : X) → same x x �
   apart : (earlier : X → Bool) (x : X) (ys : List X) → AllByRecursion (λ y. (same x y || earlier y) ≡ false) ys → AllByRecursion (λ y. earlier y ≡ false) ys × AllByRecursion (λ y. x ≢ y) ys
   apart earlier x [] all = (tt, tt)
   apart earlier x (y ∷ ys) all =
-      let (other, fresh) = neither (same x y) (earlier y) all.0 in
+      let (other, fresh) = or_parts (same x y) (earlier y) all.0 in
       let (fresh_ones, others) = apart earlier x ys all.1 in
       ((fresh, fresh_ones), (differs x y other, others))
 
 -- names none of which is this one
 pub names_apart : (earlier : List ℕ → Bool) (name : List ℕ) (others : List (List ℕ)) → AllByRecursion (λ n. also_name name earlier n ≡ false) others → AllByRecursion (λ n. earlier n ≡ false) others × AllByRecursion (λ n. name ≢ n) others
-names_apart earlier name others all = apart bytes_eq bytes_eq_same earlier name others all
+names_apart earlier name others all = apart bytes_eq bytes_eq-refl earlier name others all
 
 -- numbers none of which is this one
 pub numbers_apart : (earlier : ℕ → Bool) (number : ℕ) (others : List ℕ) → AllByRecursion (λ n. also_number number earlier n ≡ false) others → AllByRecursion (λ n. earlier n ≡ false) others × AllByRecursion (λ n. number ≢ n) others
-numbers_apart earlier number others all = apart (λ n m. n == m) number_same earlier number others all
+numbers_apart earlier number others all = apart (λ n m. n == m) (λ n. eq-eqb n n refl) earlier number others all
 
 pub within : (limit : ℕ) (n : Numeral) → above limit n ≡ [] → n.value ≤ limit
 within limit n is = ltb-false limit n.value (no_fault _ _ _ is)

@@ -30,7 +30,7 @@ use Rattle.circus_idl.specs.Obeys as rule
 use Rattle.circus_idl.specs.Obeys.{ObeysInside, ObeysWhole, ObeysError, ObeysProcedure, Obeys}
 use Rattle.circus_idl.proofs.Items.{none_in, all_appended, all_with, distinct_with, contains_first, contains_later}
 use Rattle.circus_idl.proofs.NoFaults.{no_fault, names_apart, numbers_apart, within, word_is}
-use Rattle.circus_idl.proofs.WholeObeys.{uncut, AreWhole, size_is, whole_obeys, fields_obey, together_small}
+use Rattle.circus_idl.proofs.WholeObeys.{uncut, AreWhole, size_is, whole_obeys, fields_whole, together_small}
 
 -- names that stand before nothing yet, and no two of which are equal
 record AreNew (earlier : List ℕ → Bool) (names : List (List ℕ)) : Type 0 where
@@ -152,7 +152,7 @@ module _ (all : List DeclaredError) (before : Before) (form : List ℕ → Shape
       let (first, high) = none_in (repeated_name before.names e.name ++ fields_faults uncut before.types before.sizes before.parts e.arguments ++ repeated_number before.error_numbers e.number) (above 59999 e.number) clean in
       let (two, number) = none_in (repeated_name before.names e.name ++ fields_faults uncut before.types before.sizes before.parts e.arguments) (repeated_number before.error_numbers e.number) first in
       let (name, fields) = none_in (repeated_name before.names e.name) (fields_faults uncut before.types before.sizes before.parts e.arguments) two in
-      let (names, whole) = fields_obey before.types before.sizes form linked.sized linked.known before.parts e.arguments linked.few good.1 fields in
+      let (names, whole) = fields_whole before.types before.sizes form linked.sized linked.known before.parts e.arguments linked.few good.1 fields in
       (name, names, whole, no_fault _ _ _ number, within 59999 e.number high)
 
   error_linked : (e : ErrorText) → Contains (error_numbers all) (word_of e.number) → fields_parts before.sizes before.parts e.arguments ≤ 16384 → Linked all (behind before (an_error e)) form
@@ -231,8 +231,8 @@ module _ (all : List DeclaredError) (before : Before) (form : List ℕ → Shape
       let (three, no_results) = none_in (name ++ together ++ arguments) results four in
       let (two, no_arguments) = none_in (name ++ together) arguments three in
       let (no_name, no_together) = none_in name together two in
-      let (argument_names, whole_arguments) = fields_obey before.types before.sizes form linked.sized linked.known before.parts p.arguments linked.few good.1 no_arguments in
-      let (result_names, whole_results) = fields_obey before.types before.sizes form linked.sized linked.known parts p.results whole_arguments.few good.2 no_results in
+      let (argument_names, whole_arguments) = fields_whole before.types before.sizes form linked.sized linked.known before.parts p.arguments linked.few good.1 no_arguments in
+      let (result_names, whole_results) = fields_whole before.types before.sizes form linked.sized linked.known parts p.results whole_arguments.few good.2 no_results in
       record {
         name = no_name;
         arguments = argument_names;

@@ -2,7 +2,7 @@
 use Rattle.std.proofs.Common.{◌≡◌, ℕ, zero, suc, ◌+◌, ◌*◌, ◌≤◌, Bool, true, false, ◌&&◌, List, [], ◌∷◌, ◌++◌, length, refl, ◌∙◌, ap, arith, Option, Some, None, min}
 use Rattle.std.specs.Prelude.{nat_lt, ◌||◌}
 use Rattle.std.specs.List.{AllByRecursion}
-use Rattle.std.proofs.lemmas.Bool.{ltb-false}
+use Rattle.std.proofs.lemmas.Bool.{ltb-false, or_parts}
 use Rattle.std.proofs.lemmas.List.Sums.{sum_by-cons}
 use Rattle.circus_value.specs.ShapeTree.{ShapeTree, FieldTree, field_trees}
 use Rattle.circus_value.specs.ExternalSize.{external_sizes}
@@ -21,7 +21,7 @@ use Rattle.circus_idl.specs.Faults.{Cut, cut_of, is_clean, more_parts, is_over, 
 use Rattle.circus_idl.specs.Whole.{shapes_of, parts_of, zero_size_of}
 use Rattle.circus_idl.specs.Obeys.{ObeysInside, ObeysWhole, ObeyFieldList}
 use Rattle.circus_idl.proofs.Items.{none_in}
-use Rattle.circus_idl.proofs.NoFaults.{no_fault, neither}
+use Rattle.circus_idl.proofs.NoFaults.{no_fault}
 use Rattle.circus_idl.proofs.Sizes.{measured_is, groups_measured}
 use Rattle.circus_idl.proofs.InsideObeys.{inside_obeys, names_obey}
 
@@ -44,8 +44,8 @@ record IsSmall (counted : ℕ) (size : Measure) : Type 0 where
 
 not_over : (counted : ℕ) (size : Measure) → is_over counted size ≡ false → IsSmall counted size
 not_over counted size is =
-    let (two, few) = neither (nat_lt 65536 size.zeros || nat_lt 64 size.levels) (nat_lt 16384 counted) is in
-    let (small, shallow) = neither (nat_lt 65536 size.zeros) (nat_lt 64 size.levels) two in
+    let (two, few) = or_parts (nat_lt 65536 size.zeros || nat_lt 64 size.levels) (nat_lt 16384 counted) is in
+    let (small, shallow) = or_parts (nat_lt 65536 size.zeros) (nat_lt 64 size.levels) two in
     record { zeros = ltb-false 65536 size.zeros small; levels = ltb-false 64 size.levels shallow; parts = ltb-false 16384 counted few }
 
 -- the parts so far with those of so many types, where they don't pass the limit
@@ -100,14 +100,14 @@ module _ (types : List ℕ → Bool) (sizes : List ℕ → Measure) (form : List
         omega (arith, small.parts, counted, exact),
       )
 
-  pub groups_obey : (before : ℕ) (groups : GroupTrees) → before ≤ 16384 → AreGroups groups → groups_faults uncut types sizes before groups ≡ []
+  pub groups_whole : (before : ℕ) (groups : GroupTrees) → before ≤ 16384 → AreGroups groups → groups_faults uncut types sizes before groups ≡ []
       → (inside_groups types groups ≡ []) × AreWhole before (groups_parts sizes before groups) (written_groups form groups)
-  groups_obey before no_groups few good clean = (refl, record { types = tt; counted_is = omega arith; few = few })
-  groups_obey before (more_groups names t groups) few good clean =
+  groups_whole before no_groups few good clean = (refl, record { types = tt; counted_is = omega arith; few = few })
+  groups_whole before (more_groups names t groups) few good clean =
       let (own, rest) = none_in (whole_faults uncut types sizes before (length names) t) _ clean in
       let (none, obeys, counted, fewer) = whole_obeys before (length names) t good.1 own in
       let after = more_parts before (length names) (measured sizes t) in
-      let (none_behind, others) = groups_obey after groups (omega (arith, counted, fewer)) good.2 rest in (
+      let (none_behind, others) = groups_whole after groups (omega (arith, counted, fewer)) good.2 rest in (
         ap (λ fs. fs ++ inside_groups types groups) none ∙ none_behind,
         record {
           types = shared names (written form t) (written_groups form groups) obeys others.types;
@@ -116,13 +116,13 @@ module _ (types : List ℕ → Bool) (sizes : List ℕ → Measure) (form : List
         },
       )
 
-  pub fields_obey : (before : ℕ) (fields : Option FieldsText) → before ≤ 16384 → IfWritten AreFields fields → fields_faults uncut types sizes before fields ≡ []
+  pub fields_whole : (before : ℕ) (fields : Option FieldsText) → before ≤ 16384 → IfWritten AreFields fields → fields_faults uncut types sizes before fields ≡ []
       → ObeyFieldList (fields_meant form fields) × AreWhole before (fields_parts sizes before fields) (fields_meant form fields)
-  fields_obey before None few good clean = (record { named = tt; distinct = tt }, record { types = tt; counted_is = omega arith; few = few })
-  fields_obey before (Some f) few good clean =
+  fields_whole before None few good clean = (record { named = tt; distinct = tt }, record { types = tt; counted_is = omega arith; few = few })
+  fields_whole before (Some f) few good clean =
       let groups = group_trees f.groups in
       let (names, rest) = none_in (repeated_names no_name (group_names groups)) (groups_faults uncut types sizes before groups) clean in
-      (names_obey form groups good names, (groups_obey before groups few good rest).1)
+      (names_obey form groups good names, (groups_whole before groups few good rest).1)
 
   -- the arguments of a procedure together
   pub together_small : (before : ℕ) (name : Named) (fields : Option FieldsText) → before ≤ 16384 → IfWritten AreFields fields → fields_faults uncut types sizes before fields ≡ [] → together_faults uncut types sizes name fields ≡ []
@@ -131,7 +131,7 @@ module _ (types : List ℕ → Bool) (sizes : List ℕ → Measure) (form : List
   together_small before name (Some f) few good clean together =
       let groups = group_trees f.groups in
       let (names, rest) = none_in (repeated_names no_name (group_names groups)) (groups_faults uncut types sizes before groups) clean in
-      let none = (groups_obey before groups few good rest).0 in
+      let none = (groups_whole before groups few good rest).0 in
       let no_other : repeated_names no_name (group_names groups) ++ inside_groups types groups ≡ [] = ap (λ fs. fs ++ inside_groups types groups) names ∙ none in
       let fits = ltb-false 65536 _ (tested (is_clean (repeated_names no_name (group_names groups) ++ inside_groups types groups)) _ (clean_none _ no_other) (no_fault _ _ _ together)) in
       let size = ap (λ s. (measured_groups s groups).zeros) sized ∙ ap (λ (m : Measure). m.zeros) (groups_measured form groups) in
