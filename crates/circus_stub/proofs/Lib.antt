@@ -6,3 +6,4 @@ pub mod WriterLemmas
 pub mod UnpackLemmas
 pub mod ShowLemmas
 pub mod Roundtrips
+mod Obeying

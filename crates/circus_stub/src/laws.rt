@@ -6,6 +6,7 @@ ghost use Rattle.circus_value.specs.declared.outcome.Outcome.TheVariants.{Return
 ghost use Rattle.circus_value.specs.ShapeTree.{FieldTrees, field_trees};
 ghost use Rattle.circus_idl.specs.declared.interface.Interface.{Interface};
 ghost use Rattle.circus_idl.specs.declared.interface.Procedure.{Procedure};
+ghost use Rattle.circus_idl.specs.Obeys.{Obeys};
 ghost use Rattle.circus_external.specs.Refusal.{AreOctets, are_proper};
 ghost use Rattle.circus_external.specs.Spelling.{spelling_of_all, fields_admit};
 ghost use Rattle.circus_stub.specs.Unpacked.{arguments_unpacked, outcome_unpacked, procedure_of, raised_fields};
@@ -36,4 +37,14 @@ pub fn packed_is_unpacked()
         → error < 65536 → raised_fields i p error ≡ Some fields → fields_admit fields values ≡ true → are_proper fields ≡ true
         → length (spelling_of_all values) ≤ limit
         → outcome_unpacked i limit n (outcome_spelling (Raised error values)) ≡ Ok (Raised error values) }
+{}
+
+/// The fields of an interface that obeys the rules have shapes with values in all their parts.
+pub fn obeying_interfaces_are_proper()
+    ensures arguments { (i : Interface) (n : ℕ) (p : Procedure) → Obeys i → procedure_of i n ≡ Some p
+        → are_proper (field_trees p.arguments) ≡ true }
+    ensures results { (i : Interface) (n : ℕ) (p : Procedure) → Obeys i → procedure_of i n ≡ Some p
+        → are_proper (field_trees p.results) ≡ true }
+    ensures raised { (i : Interface) (p : Procedure) (n : ℕ) (fields : FieldTrees) → Obeys i
+        → raised_fields i p n ≡ Some fields → are_proper fields ≡ true }
 {}

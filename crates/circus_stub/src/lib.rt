@@ -23,7 +23,7 @@ mod writer;
 
 pub use compiler::compile;
 pub use fault::StubFault;
-pub use laws::{packed_is_unpacked, unpacked_is_packed};
+pub use laws::{obeying_interfaces_are_proper, packed_is_unpacked, unpacked_is_packed};
 pub use operation::{Operation, Operations};
 pub use show::show_stubs;
 pub use stubs::{Stubs, StubsList};
