@@ -92,7 +92,8 @@ impl TwoEnds {
         // Where these ends stand for a list of acts, they stand for it with this act, which might come.
         ensures stands { (format : ℕ) (history : History) → self.old ≡ both_after format history → OnOk result (self.new ≡ both_after format (then_came history act)) }
         ensures lawful { (format : ℕ) (history : History) → (format ≡ 1) ⊎ (format ≡ 2) → AreLawful format history → self.old ≡ both_after format history → OnOk result (AreLawful format (then_came history act)) }
-        // Then each message has arrived at most once, and as it was sent, and counts as acknowledged whole only where it has arrived.
+        // Then each message has arrived at most once, and as it was sent, and counts as acknowledged whole only where
+        // it has arrived.
         ensures agree { (format : ℕ) (history : History) → (format ≡ 1) ⊎ (format ≡ 2) → AreLawful format history → self.old ≡ both_after format history → OnOk result (Agree 0 1 format (acts_of false format (then_came history act)) (acts_of true format (then_came history act))) }
         ensures low_format { self.new.low.exchange.format ≡ self.old.low.exchange.format }
         ensures high_format { self.new.high.exchange.format ≡ self.old.high.exchange.format }
