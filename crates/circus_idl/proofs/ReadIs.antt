@@ -9,14 +9,14 @@ use Rattle.circus_text.specs.Token.{IsTokenIn}
 use Rattle.circus_syntax.specs.declared.interface_reading.Read.{Read}
 use Rattle.circus_syntax.specs.declared.stopping.Stop.{Stop}
 use Rattle.circus_syntax.specs.InterfaceTree.{InterfaceTree, interface_of}
-use Rattle.circus_syntax.specs.Placed.{Placed, placed_of}
+use Rattle.circus_syntax.specs.Placed.{Placed, placed_of, AreTokens}
 use Rattle.circus_syntax.specs.Read.{placed_from, Answers}
 use Rattle.circus_syntax.specs.Reader.{Reader, open_at, place_in}
 use Rattle.circus_syntax.specs.Reading.{interface}
 use Rattle.circus_syntax.specs.Spelling.{IsInterface, IsWithin, most_levels}
 use Rattle.circus_syntax.specs.Stopping.{IsUnexpected, IsTooDeep}
 use Rattle.circus_syntax.proofs.Viewed.{text_tokens}
-use Rattle.circus_syntax.proofs.Whole.{interface_read, interface_whole, interface_unexpected, interface_too_deep}
+use Rattle.circus_syntax.proofs.Whole.{interface_read, interface_whole, interface_filled_in, interface_unexpected, interface_too_deep}
 use Rattle.circus_idl.specs.declared.fault.Fault.{Fault}
 use Rattle.circus_idl.specs.declared.fault.Cause.{Cause}
 use Rattle.circus_idl.specs.declared.fault.Cause.TheVariants as cause
@@ -28,7 +28,7 @@ use Rattle.circus_idl.specs.Least.{least_from}
 use Rattle.circus_idl.specs.Answer.{answer_at, answer_of}
 use Rattle.circus_idl.specs.Faults.{cut_of, interface_faults, stop_faults, read_faults}
 use Rattle.circus_idl.specs.Means.{Means}
-use Rattle.circus_idl.specs.ReadAt.{IsReadAt, IsRefused}
+use Rattle.circus_idl.specs.ReadAt.{IsReadAt, IsTreeOf, IsRefused}
 use Rattle.circus_idl.proofs.Items.{none_in, of_each}
 use Rattle.circus_idl.proofs.LeastIs.{least_is}
 use Rattle.circus_idl.proofs.RuleFaults.{IsOfRule, interface_rule}
@@ -77,12 +77,29 @@ none_refused text ts at answer own rest tree whole spelled within none (inr refu
 
 -- What is refused.
 
-pub is_refused : (text : List ℕ) (ts : List Token) (at : ℕ) (read : Read) (answer : IdlFault) → Answers text ts at read
+stop_place : (ts left : List Placed) (tree : InterfaceTree) (s : Stop) (end : ℕ) → AreTokens ts → interface most_levels (open_at ts end) ≡ (tree, record { rest = left; end = end; stop = Some s })
+    → (b : Bool) → s.deep ≡ b → s.place ≡ place_in left end
+stop_place ts left tree s end tokens is false flat = (interface_unexpected ts left tree s end tokens is flat).1
+stop_place ts left tree s end tokens is true deep = (interface_too_deep ts left tree s end tokens is deep).1
+
+is_tree_of : (ts left : List Placed) (tree : InterfaceTree) (stop : Option Stop) (end : ℕ) → AreTokens ts → interface most_levels (open_at ts end) ≡ (tree, record { rest = left; end = end; stop = stop })
+    → IsTreeOf ts end stop tree
+is_tree_of ts left tree None end tokens is = let (own, parts, spelled, within) = interface_whole ts left tree end tokens is in (own, left, parts, spelled, within)
+is_tree_of ts left tree (Some s) end tokens is = (left, interface_filled_in ts left tree s end tokens is, stop_place ts left tree s end tokens is s.deep refl)
+
+pub is_refused : (text : List ℕ) (ts : List Token) (at : ℕ) (read : Read) (answer : IdlFault) → All (IsTokenIn text) ts → Answers text ts at read
     → (answer ≡ NoMemory) ⊎ ((f : Fault) × (least_from None (read_faults read.stop (interface_of read.interface)) ≡ Some f) × (answer ≡ answer_of f))
     → (answer ≡ NoMemory) ⊎ IsRefused text ts at answer
-is_refused text ts at read answer answers (inl no_memory) = inl no_memory
-is_refused text ts at read answer answers (inr (f, least, given)) =
-    inr (record { read = read; answers = answers; fault = f; least = least_is (read_faults read.stop (interface_of read.interface)) f least; given = given })
+is_refused text ts at read answer tokens answers (inl no_memory) = inl no_memory
+is_refused text ts at read answer tokens answers (inr (f, least, given)) =
+    inr (record {
+      read = read;
+      answers = answers;
+      tree = is_tree_of (placed_from text ts at) answers.left (interface_of read.interface) read.stop (length text) (text_tokens text ts at tokens) answers.is;
+      fault = f;
+      least = least_is (read_faults read.stop (interface_of read.interface)) f least;
+      given = given;
+    })
 
 at_expected : (p : ℕ) (c : Cause) (place : ℕ) → answer_at p c ≡ Expected place → (c ≡ cause.Expected) × (p ≡ place)
 at_expected p cause.Expected place is = (refl, cc)

@@ -21,7 +21,7 @@ given : {A : Type 0} (r : Result A IdlFault) (e f : IdlFault) → IsErrAnd r (λ
 given r e f is equal = let p = err_from_is_err_and r is in cc
 
 refused : (c : In_err-interface) → (c.in_err-interface.field-0.0 ≡ NoMemory) ⊎ IsRefused c.args.text.now c.args.tokens.now c.args.at c.in_err-interface.field-0.0
-refused c = is_refused _ _ _ c.in_ok-read.read c.in_err-interface.field-0.0 c.in_ok-read.ensures c.in_err-interface.ensures.err
+refused c = is_refused _ _ _ c.in_ok-read.read c.in_err-interface.field-0.0 c.requires.of_text c.in_ok-read.ensures c.in_err-interface.ensures.err
 
 pub returns-in_err-interface-clause-err : goal.returns-in_err-interface-clause-err
 returns-in_err-interface-clause-err c =
