@@ -28,10 +28,6 @@ alike_then end end' (u ∷ us) (v ∷ vs) us' vs' alike f = (alike.0, λ same. a
 alike_then end end' [] (v ∷ vs) us' vs' alike f = absurd alike
 alike_then end end' (u ∷ us) [] us' vs' alike f = absurd alike
 
-pub alike_end : (end : Type 0) (us : List Piece) → Alike end us us → end
-alike_end end [] alike = alike
-alike_end end (u ∷ us) alike = alike_end end us (alike.1 refl)
-
 -- ---- bytes
 
 pub append_same : (a b x y : List ℕ) → length a ≡ length b → a ++ x ≡ b ++ y → (a ≡ b) × (x ≡ y)

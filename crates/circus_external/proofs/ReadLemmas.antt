@@ -24,13 +24,6 @@ behind_more done t (short place) = refl
 behind_more done t (not_a_value place) = refl
 behind_more done t (bad_pad place) = refl
 
--- a fault stays the answer
-pub fault_stays : {X Y Z W : Type 0} (tree : Y → X) (other : W → Z) (bs : List ℕ) (f : ExternalFault) (a : Answer X) (b : Answer Z) (go_on : X → ℕ → List ℕ → Answer Z) → Gives tree bs (Err f) a → b ≡ and_then a go_on → Gives other bs (Err f) b
-fault_stays tree other bs (fault.Short place) a b go_on gives is = is ∙ ap (λ x. and_then x go_on) gives
-fault_stays tree other bs (fault.NotAValue place) a b go_on gives is = is ∙ ap (λ x. and_then x go_on) gives
-fault_stays tree other bs (fault.BadPad place) a b go_on gives is = is ∙ ap (λ x. and_then x go_on) gives
-fault_stays tree other bs fault.NoMemory a b go_on gives is = tt
-
 pub fault_mapped : {X Y Z W : Type 0} (tree : Y → X) (other : W → Z) (bs : List ℕ) (f : ExternalFault) (a : Answer X) (b : Answer Z) (seen : X → Z) → Gives tree bs (Err f) a → b ≡ answer_map seen a → Gives other bs (Err f) b
 fault_mapped tree other bs (fault.Short place) a b seen gives is = is ∙ ap (answer_map seen) gives
 fault_mapped tree other bs (fault.NotAValue place) a b seen gives is = is ∙ ap (answer_map seen) gives
@@ -51,11 +44,6 @@ items_more item count i at next bs rest done t whole few is all =
     all ∙ ap (λ n. behind done (items_read item n at bs)) left
     ∙ ap (λ a. behind done (and_then a (λ u m later. one_more u (items_read item (count - (i + 1)) m later)))) is
     ∙ behind_more done t (items_read item (count - (i + 1)) next rest)
-
-pub items_all : (item : ℕ → List ℕ → Answer ValueTree) (count i at : ℕ) (bs : List ℕ) (done : List ValueTree) (whole : Answer (List ValueTree)) → count ≤ i → whole ≡ behind done (items_read item (count - i) at bs) → whole ≡ found done at bs
-items_all item count i at bs done whole all is =
-    let none : count - i ≡ 0 = omega arith in
-    is ∙ ap (λ n. behind done (items_read item n at bs)) none ∙ ap (λ xs. found xs at bs) (append-nil done)
 
 pub items_fault : {W : Type 0} (tree : W → ValueTree) (octets : List ℕ) (f : ExternalFault) (item : ℕ → List ℕ → Answer ValueTree) (count i at : ℕ) (bs : List ℕ) (done : List ValueTree) (whole : Answer (List ValueTree)) → i < count → Gives tree octets (Err f) (item at bs) → whole ≡ behind done (items_read item (count - i) at bs) → Gives (λ ts. ts) octets (Err f) whole
 items_fault tree octets f item count i at bs done whole few gives is =

@@ -8,12 +8,12 @@ use Rattle.circus_value.specs.ShapeOf.{tree_of}
 use Rattle.circus_idl.specs.declared.fault.Fault.{Fault}
 use Rattle.circus_idl.specs.declared.interface.DeclaredType.{DeclaredType}
 use Rattle.circus_idl.specs.Known.{standing_for}
-use Rattle.circus_idl.specs.Means.{named_shape, Meant, and_then, nothing_meant, declared_meant, declarations_meant, forms_behind, errors_behind}
+use Rattle.circus_idl.specs.Means.{named_shape, Meant, and_then, declared_meant, declarations_meant, forms_behind, errors_behind}
 use Rattle.circus_idl.specs.Least.{least_from}
 use Rattle.circus_idl.specs.Faults.{Before, behind}
 use Rattle.circus_syntax.specs.InterfaceTree.{DeclaredTree, a_type, an_error, a_procedure}
 use Rattle.circus_idl.proofs.ScopeMore.{kept_is_some}
-use Rattle.std.proofs.Common.{is_none, append_assoc, append-nil}
+use Rattle.std.proofs.Common.{is_none, append_assoc}
 
 -- nothing is kept
 pub none_from : (o : Option Fault) → is_some o ≡ false → o ≡ None
@@ -52,9 +52,6 @@ and_then_assoc m o p = λ i. record {
   errors = append_assoc m.errors o.errors p.errors i;
   procedures = append_assoc m.procedures o.procedures p.procedures i;
 }
-
-pub and_then_nothing : (m : Meant) → and_then m nothing_meant ≡ m
-and_then_nothing m = λ i. record { types = append-nil m.types i; errors = append-nil m.errors i; procedures = append-nil m.procedures i }
 
 pub behind_errors : (before : Before) (d : DeclaredTree) → (behind before d).errors ≡ errors_behind before.errors d
 behind_errors before (a_type name t) = refl

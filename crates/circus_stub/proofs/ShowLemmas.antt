@@ -2,10 +2,8 @@
 use Rattle.std.proofs.Common.{◌≡◌, ℕ, zero, suc, ◌+◌, ◌<◌, List, [], ◌∷◌, ◌++◌, length, get_or, drop, map, sym, ap, ◌∙◌, subst, arith, append_assoc, append-nil}
 use Rattle.std.specs.List.{flat_map}
 use Rattle.std.specs.Prelude.{codes}
-use Rattle.std.specs.Fmt.{decimal}
 use Rattle.std.proofs.Math.ListN.{length-map}
 use Rattle.std.proofs.lemmas.List.{drop_more}
-use Rattle.circus_value.specs.ThreadText.{numbers_behind}
 use Rattle.circus_value.specs.ShapeTree.{FieldTrees, ArmTrees, no_fields, no_arms}
 use Rattle.circus_stub.specs.declared.operation.Operation.{Operation}
 use Rattle.circus_stub.specs.declared.operation.Operation.TheVariants as operation
@@ -26,11 +24,6 @@ pub flat_map_shown : {X : Type 0} (f : X → List ℕ) (xs : List X) (i : ℕ) (
 flat_map_shown f xs i x t u whole few is more all =
     let front : drop i xs ≡ x ∷ drop (i + 1) xs = drop_more xs i x few ∙ ap (λ y. y ∷ drop (i + 1) xs) (sym is) in
     left_shown t u whole (f x) (flat_map f (drop (i + 1) xs)) more (ap (λ ys. t ++ flat_map f ys) (sym front) ∙ all)
-
-pub numbers_shown : (ns : List ℕ) (i n : ℕ) (t u whole : List ℕ) → i < length ns → n ≡ get_or ns i n → u ≡ t ++ (32 ∷ decimal n) → t ++ numbers_behind 32 (drop i ns) ≡ whole → u ++ numbers_behind 32 (drop (i + 1) ns) ≡ whole
-numbers_shown ns i n t u whole few is more all =
-    let front : drop i ns ≡ n ∷ drop (i + 1) ns = drop_more ns i n few ∙ ap (λ y. y ∷ drop (i + 1) ns) (sym is) in
-    left_shown t u whole (32 ∷ decimal n) (numbers_behind 32 (drop (i + 1) ns)) more (ap (λ ys. t ++ numbers_behind 32 ys) (sym front) ∙ all)
 
 pub field_shown : (ops : List Operation) (p end : ℕ) (left : FieldTrees) (f : FieldsFirst ops p end left) (t u whole : List ℕ) → u ≡ t ++ shape_words f.shape → t ++ field_words left ≡ whole → u ++ field_words f.others ≡ whole
 field_shown ops p end left f t u whole more all =

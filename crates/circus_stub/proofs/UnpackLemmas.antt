@@ -21,7 +21,7 @@ use Rattle.circus_stub.specs.Flat.{flat_fields}
 use Rattle.circus_stub.specs.Standing.{FieldsStand}
 use Rattle.circus_stub.specs.Compiled.{compiled, procedure_stub, error_stub, stub_of, error_values, raised_operations}
 use Rattle.circus_external.specs.Octets.{first_word}
-use Rattle.circus_stub.specs.Unpacked.{Answers, as_returned, as_raised, raised_values, raised_unpacked, procedure_of, error_of, is_among, is_of_system, raised_fields, limited, values_alone}
+use Rattle.circus_stub.specs.Unpacked.{Answers, as_raised, raised_values, raised_unpacked, procedure_of, error_of, is_among, is_of_system, raised_fields, limited, values_alone}
 use Rattle.circus_stub.proofs.FlatLemmas.{length-flat_fields}
 
 -- ---- values
@@ -132,16 +132,6 @@ pub raised_missing : (i : Interface) (p : Procedure) (limit n : ℕ) → None �
 raised_missing i p limit n is = mapped_none fields_alone (raised_fields i p n) (is ∙ raised_operations-compiled i p limit n)
 
 -- ---- outcomes
-
-pub returned_fault : (fault : StubFault) (a : Result (List ValueTree) StubFault) → Answers (Err fault) a → Answers (Err fault) (as_returned a)
-returned_fault stub.NoMemory a answers = tt
-returned_fault (stub.NoProcedure n) a answers = ap as_returned answers
-returned_fault (stub.Large n) a answers = ap as_returned answers
-returned_fault (stub.Short place) a answers = ap as_returned answers
-returned_fault (stub.NotAValue place) a answers = ap as_returned answers
-returned_fault (stub.BadPad place) a answers = ap as_returned answers
-returned_fault (stub.NoError n) a answers = ap as_returned answers
-returned_fault (stub.Excess place) a answers = ap as_returned answers
 
 pub raised_fault : (number : ℕ) (fault : StubFault) (a : Result (List ValueTree) StubFault) → Answers (Err fault) a → Answers (Err fault) (as_raised number a)
 raised_fault number stub.NoMemory a answers = tt
