@@ -1,2 +1,15 @@
+// Whole runs of the command, and what two pairs say to each other.
+use circus_value::NoMemory;
+use std::alloc::Global;
+
 mod pairs;
 mod replays;
+
+// The texts, one behind another.
+fn joined(alloc: Global, texts: &[&str]) -> Result<String, NoMemory> {
+    let mut all = String::new(alloc);
+    for text in texts {
+        all.push_str(text)?;
+    }
+    Ok(all)
+}

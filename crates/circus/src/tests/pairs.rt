@@ -1,6 +1,7 @@
 // What two pairs say to each other, of which one calls. The test hands each datagram on.
 ghost use Rattle.std.specs.Prelude.{◌≡◌, ◌⊎◌};
 
+use super::joined;
 use bytes::Bytes;
 use circus_pair::{Arrived, Datagrams, Pair, read_segment};
 use circus_value::{Duplicate, Message, NoMemory, Parts};
@@ -220,14 +221,6 @@ impl<'a> Row<'a> {
             said,
         }
     }
-}
-
-fn joined(alloc: Global, parts: &[&str]) -> Result<String, NoMemory> {
-    let mut text = String::new(alloc);
-    for part in parts {
-        text.push_str(part)?;
-    }
-    Ok(text)
 }
 
 // The lines that are said.

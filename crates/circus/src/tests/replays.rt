@@ -1,5 +1,6 @@
 // Whole runs of the command over a shelf, a sink and a link in memory. Of a program and a schedule
 // they have what is written to the byte, the status, and how many files were fetched.
+use super::joined;
 use circus_outside::{Arrivals, Failing, File, Files, MemLink, MemShelf, MemSink};
 use circus_program::circus;
 use circus_value::{Duplicate, NoMemory, Octets};
@@ -125,14 +126,6 @@ impl Ended {
 fn octets(alloc: Global, text: &str) -> Result<Octets, NoMemory> {
     let mut all = Octets::new(alloc);
     all.append(text.as_bytes())?;
-    Ok(all)
-}
-
-fn joined(alloc: Global, parts: &[&str]) -> Result<String, NoMemory> {
-    let mut all = String::new(alloc);
-    for part in parts {
-        all.push_str(part)?;
-    }
     Ok(all)
 }
 
