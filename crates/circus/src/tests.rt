@@ -3,7 +3,6 @@ use circus_value::NoMemory;
 use std::alloc::Global;
 
 mod pairs;
-mod replays;
 
 // The texts, one behind another.
 fn joined(alloc: Global, texts: &[&str]) -> Result<String, NoMemory> {

@@ -1,24 +1,15 @@
 -- Numbers of two and of four bytes by the bytes at their places.
-use Rattle.std.proofs.Common.{◌≡◌, ℕ, zero, suc, ◌+◌, ◌*◌, ◌<◌, ◌≤◌, List, [], ◌∷◌, length, drop, slice_get, Some, None, refl, ap, arith}
-use Rattle.std.specs.Int.{w16, from_be_bytes}
-use Rattle.circus_external.specs.Octets.{first_word, first_long}
+use Rattle.std.proofs.Common.{◌≡◌, ℕ, zero, suc, ◌+◌, ◌<◌, ◌≤◌, ◌^◌, List, [], ◌∷◌, ◌++◌, length, drop, get_or, slice_get, Some, None, refl, sym, ap, ◌∙◌, arith}
+use Rattle.std.proofs.lemmas.Nat.{be_bytes_2, be_bytes_4, from_be_bytes-to_be_bytes_2, from_be_bytes-to_be_bytes_4}
+use Rattle.std.specs.Int.{w16, w32, from_be_bytes}
+use Rattle.circus_external.specs.Octets.{word, long, first_word, first_long}
 
-pub first_word_none : (bs : List ℕ) (at : ℕ) → length bs ≤ suc at → first_word (drop at bs) ≡ None
+pub first_word_none : (bs : List ℕ) (at : ℕ) → length bs < at + 2 → first_word (drop at bs) ≡ None
 first_word_none [] zero short = refl
 first_word_none [] (suc at) short = refl
 first_word_none (a ∷ []) zero short = refl
 first_word_none (a ∷ b ∷ bs) zero short = absurd (omega arith)
 first_word_none (a ∷ bs) (suc at) short = first_word_none bs at (omega arith)
-
-pub first_word_some : (bs : List ℕ) (at a b : ℕ) → slice_get bs at ≡ Some a → slice_get bs (suc at) ≡ Some b → first_word (drop at bs) ≡ Some (from_be_bytes w16 (a ∷ b ∷ []))
-first_word_some [] zero a b high low = cc
-first_word_some [] (suc at) a b high low = cc
-first_word_some (x ∷ []) zero a b high low = cc
-first_word_some (x ∷ y ∷ bs) zero a b high low =
-    let first : x ≡ a = cc in
-    let second : y ≡ b = cc in
-    λ i. Some (from_be_bytes w16 (first i ∷ second i ∷ []))
-first_word_some (x ∷ bs) (suc at) a b high low = first_word_some bs at a b high low
 
 pub first_long_none : (bs : List ℕ) (at : ℕ) → length bs < at + 4 → first_long (drop at bs) ≡ None
 first_long_none [] zero short = refl
@@ -29,22 +20,56 @@ first_long_none (a ∷ b ∷ c ∷ []) zero short = refl
 first_long_none (a ∷ b ∷ c ∷ d ∷ bs) zero short = absurd (omega arith)
 first_long_none (a ∷ bs) (suc at) short = first_long_none bs at (omega arith)
 
--- a number of two words by its words
-pub first_long_some : (bs : List ℕ) (at h l : ℕ) → first_word (drop at bs) ≡ Some h → first_word (drop (suc (suc at)) bs) ≡ Some l → first_long (drop at bs) ≡ Some (h * 65536 + l)
-first_long_some [] zero h l high low = cc
-first_long_some [] (suc at) h l high low = cc
-first_long_some (a ∷ []) zero h l high low = cc
-first_long_some (a ∷ b ∷ []) zero h l high low = cc
-first_long_some (a ∷ b ∷ c ∷ []) zero h l high low = cc
-first_long_some (a ∷ b ∷ c ∷ d ∷ bs) zero h l high low =
-    let first : from_be_bytes w16 (a ∷ b ∷ []) ≡ h = cc in
-    let second : from_be_bytes w16 (c ∷ d ∷ []) ≡ l = cc in
-    ap Some (omega (arith, first, second))
-first_long_some (a ∷ bs) (suc at) h l high low = first_long_some bs at h l high low
+drop_at_byte : (octets : List ℕ) (at b : ℕ) → slice_get octets at ≡ Some b → drop at octets ≡ b ∷ drop (at + 1) octets
+drop_at_byte [] zero b e = cc
+drop_at_byte [] (suc at) b e = cc
+drop_at_byte (x ∷ xs) zero b e = let same : x ≡ b = cc in ap (λ w. w ∷ xs) same
+drop_at_byte (x ∷ xs) (suc at) b e =
+    let place : suc at + 1 ≡ suc (at + 1) = omega arith in
+    drop_at_byte xs at b e ∙ ap (λ k. b ∷ drop k (x ∷ xs)) (sym place)
 
--- bytes of which there are two or more begin with a word
-pub first_word_is : (bs : List ℕ) (at : ℕ) → suc at < length bs → (first_word (drop at bs) ≡ None) → ⊥
-first_word_is [] at long none = absurd (omega arith)
-first_word_is (a ∷ []) zero long none = absurd (omega arith)
-first_word_is (a ∷ b ∷ bs) zero long none = cc
-first_word_is (a ∷ bs) (suc at) long none = first_word_is bs at (omega arith) none
+two_small : (a b i : ℕ) → a < 256 → b < 256 → get_or (a ∷ b ∷ []) i 0 < 256
+two_small a b zero p q = p
+two_small a b (suc zero) p q = q
+two_small a b (suc (suc i)) p q = omega arith
+
+four_small : (a b c d i : ℕ) → a < 256 → b < 256 → c < 256 → d < 256 → get_or (a ∷ b ∷ c ∷ d ∷ []) i 0 < 256
+four_small a b c d zero p q r s = p
+four_small a b c d (suc zero) p q r s = q
+four_small a b c d (suc (suc zero)) p q r s = r
+four_small a b c d (suc (suc (suc zero))) p q r s = s
+four_small a b c d (suc (suc (suc (suc i)))) p q r s = omega arith
+
+-- the word of two bytes stands where they do
+pub word_stands : (octets : List ℕ) (at a b n : ℕ) → slice_get octets at ≡ Some a → slice_get octets (at + 1) ≡ Some b
+    → a < 256 → b < 256 → n ≡ from_be_bytes w16 (a ∷ b ∷ []) → drop at octets ≡ word n ++ drop (at + 2) octets
+word_stands octets at a b n first second p q is =
+    let bytes = be_bytes_2 (a ∷ b ∷ []) n refl (λ i. two_small a b i p q) is in
+    let place : (at + 1) + 1 ≡ at + 2 = omega arith in
+    let here : drop at octets ≡ a ∷ b ∷ drop (at + 2) octets =
+    drop_at_byte octets at a first ∙ ap (λ w. a ∷ w) (drop_at_byte octets (at + 1) b second ∙ ap (λ k. b ∷ drop k octets) place) in
+    here ∙ ap (λ w. w ++ drop (at + 2) octets) (sym bytes)
+
+-- the number of four bytes stands where they do
+pub long_stands : (octets : List ℕ) (at a b c d n : ℕ) → slice_get octets at ≡ Some a → slice_get octets (at + 1) ≡ Some b
+    → slice_get octets (at + 2) ≡ Some c → slice_get octets (at + 3) ≡ Some d
+    → a < 256 → b < 256 → c < 256 → d < 256 → n ≡ from_be_bytes w32 (a ∷ b ∷ c ∷ d ∷ []) → drop at octets ≡ long n ++ drop (at + 4) octets
+long_stands octets at a b c d n first second third fourth p q r s is =
+    let bytes = be_bytes_4 (a ∷ b ∷ c ∷ d ∷ []) n refl (λ i. four_small a b c d i p q r s) is in
+    let two : (at + 1) + 1 ≡ at + 2 = omega arith in
+    let three : (at + 2) + 1 ≡ at + 3 = omega arith in
+    let four : (at + 3) + 1 ≡ at + 4 = omega arith in
+    let low : drop (at + 2) octets ≡ c ∷ d ∷ drop (at + 4) octets =
+    drop_at_byte octets (at + 2) c third ∙ ap (λ k. c ∷ drop k octets) three
+    ∙ ap (λ w. c ∷ w) (drop_at_byte octets (at + 3) d fourth ∙ ap (λ k. d ∷ drop k octets) four) in
+    let here : drop at octets ≡ a ∷ b ∷ c ∷ d ∷ drop (at + 4) octets =
+    drop_at_byte octets at a first
+    ∙ ap (λ w. a ∷ w) (drop_at_byte octets (at + 1) b second ∙ ap (λ k. b ∷ drop k octets) two ∙ ap (λ w. b ∷ w) low) in
+    here ∙ ap (λ w. w ++ drop (at + 4) octets) (sym bytes)
+
+-- what stands at a place is the first word from there on
+pub first_word_some : (octets : List ℕ) (at n : ℕ) → n < 65536 → drop at octets ≡ word n ++ drop (at + 2) octets → first_word (drop at octets) ≡ Some n
+first_word_some octets at n room stands = ap first_word stands ∙ ap Some (from_be_bytes-to_be_bytes_2 n room)
+
+pub first_long_some : (octets : List ℕ) (at n : ℕ) → n < 2 ^ 32 → drop at octets ≡ long n ++ drop (at + 4) octets → first_long (drop at octets) ≡ Some n
+first_long_some octets at n room stands = ap first_long stands ∙ ap Some (from_be_bytes-to_be_bytes_4 n room)

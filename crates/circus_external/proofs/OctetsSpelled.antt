@@ -11,18 +11,11 @@ use Rattle.circus_value.specs.declared.shape.Label.{Label}
 use Rattle.circus_value.specs.Fits.{fits, fields_fit, arm_fits, is_truth, is_cardinal, is_long_cardinal, is_integer, is_long_integer, is_text, is_labelled, is_array, is_sequence, is_record, is_choice, every, count_of}
 use Rattle.circus_external.specs.Octets.{word, long}
 use Rattle.circus_external.specs.Spelling.{contents, pad, truth_number, pieces, pieces_of_items, joined, spelling, spelling_of_all, fields_admit}
-use Rattle.circus_external.specs.Refusal.{AreOctets}
+use Rattle.circus_value.specs.Parts.{AreOctets}
+use Rattle.circus_value.proofs.Octets.{none_octets, both_octets}
 use Rattle.circus_external.proofs.Alike.{joined-append}
 use Rattle.circus_external.proofs.ShapesAlike.{and_both}
 use Rattle.circus_external.proofs.PieceSound.{content_given}
-
-none_octets : AreOctets []
-none_octets k = omega arith
-
-both_octets : (a b : List ℕ) → AreOctets a → AreOctets b → AreOctets (a ++ b)
-both_octets [] b first second k = second k
-both_octets (x ∷ a) b first second zero = first 0
-both_octets (x ∷ a) b first second (suc k) = both_octets a b (λ i. first (suc i)) second k
 
 word_octets : (n : ℕ) → AreOctets (word n)
 word_octets n zero = omega arith

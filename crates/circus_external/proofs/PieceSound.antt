@@ -10,7 +10,8 @@ use Rattle.std.proofs.Math.Seq.{drop-cons}
 use Rattle.circus_external.specs.Octets.{word, long}
 use Rattle.circus_external.specs.Spelling.{Piece, number, content, contents, pad, joined}
 use Rattle.circus_external.specs.Answer.{found, short, bad_pad}
-use Rattle.circus_external.specs.Refusal.{AreOctets, GoesOn}
+use Rattle.circus_value.specs.Parts.{AreOctets}
+use Rattle.circus_external.specs.Refusal.{GoesOn}
 use Rattle.circus_external.specs.Reading.{meant, one_word, two_words, is_bad_pad, content_read}
 use Rattle.circus_external.proofs.ShapesAlike.{and_both}
 use Rattle.circus_external.proofs.Sound.{Sound}

@@ -8,9 +8,10 @@ use Rattle.circus_external.specs.declared.fault.ExternalFault.{ExternalFault}
 use Rattle.circus_external.specs.declared.fault.ExternalFault.TheVariants as fault
 use Rattle.circus_external.specs.Spelling.{pieces, pieces_of_all, spelling, spelling_of_all, fields_admit}
 use Rattle.circus_external.specs.Answer.{Answer, found, short, not_a_value, bad_pad}
-use Rattle.circus_external.specs.Refusal.{AreOctets, IsShort, IsNotAValue, IsBadPad, From, IsAnswer, is_proper, are_proper}
+use Rattle.circus_value.specs.Parts.{AreOctets}
+use Rattle.circus_external.specs.Refusal.{IsShort, IsNotAValue, IsBadPad, From, IsAnswer, is_proper, are_proper}
 use Rattle.circus_external.specs.Reading.{reading, fields_reading}
-use Rattle.circus_external.specs.Given.{Gives, IsReadAt}
+use Rattle.circus_external.specs.Seen.Given.{Gives, IsReadAt}
 use Rattle.circus_external.proofs.ShapesAlike.{alike, all_alike}
 use Rattle.circus_external.proofs.OneAnswer.{one_answer, begins_alone}
 use Rattle.circus_external.proofs.Sound.{Sound, sound_answer}

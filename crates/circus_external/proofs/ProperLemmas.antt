@@ -4,7 +4,7 @@ use Rattle.std.specs.List.{list_any}
 use Rattle.circus_value.specs.declared.shape.Arm.{Arm}
 use Rattle.circus_value.specs.ShapeTree.{arm_trees}
 use Rattle.circus_value.specs.ShapeOf.{tree_of, arm_of}
-use Rattle.circus_value.specs.ShapeWeight.{weight, arm_weights}
+use Rattle.circus_value.specs.Seen.ShapeWeight.{weight, arm_weights}
 use Rattle.circus_external.specs.Refusal.{has_arm}
 
 pub any_arm : (arms : List Arm) → list_any (λ (a : Arm). nat_lt a.number 65536) arms ≡ has_arm (arm_trees (map arm_of arms))

@@ -6,12 +6,12 @@ use Rattle.circus_value.specs.ValueTree.{ValueTree}
 use Rattle.circus_value.specs.ValueTree as V
 use Rattle.circus_value.specs.ShapeTree.{ShapeTree, ArmTree, field_trees, arm_trees}
 use Rattle.circus_value.specs.ShapeOf.{tree_of, field_of}
-use Rattle.circus_value.specs.ShapeWeight.{weight, field_weights, arm_weights}
+use Rattle.circus_value.specs.Seen.ShapeWeight.{weight, field_weights, arm_weights}
 use Rattle.circus_value.specs.ArmShape.{arm_shape}
 use Rattle.circus_external.specs.declared.fault.ExternalFault.{ExternalFault}
 use Rattle.circus_external.specs.declared.fault.ExternalFault.TheVariants as fault
 use Rattle.circus_external.specs.Answer.{Answer, found, short, not_a_value, bad_pad}
-use Rattle.circus_external.specs.Given.{Gives}
+use Rattle.circus_external.specs.Seen.Given.{Gives}
 use Rattle.circus_external.specs.Reading.{and_then, answer_map, word_read, items_read, one_more, reading, fields_reading, arm_reading, choice_read}
 
 -- these values in front of the others

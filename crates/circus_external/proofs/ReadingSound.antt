@@ -16,7 +16,8 @@ use Rattle.circus_value.specs.Fits.{fits, fields_fit, arm_fits, is_truth, is_car
 use Rattle.circus_external.specs.Octets.{word, long}
 use Rattle.circus_external.specs.Spelling.{Piece, number, contents, pieces, pieces_of_all, fields_admit}
 use Rattle.circus_external.specs.Answer.{Answer, found, short, not_a_value, bad_pad}
-use Rattle.circus_external.specs.Refusal.{AreOctets, is_proper, are_proper, arms_are_proper, has_arm}
+use Rattle.circus_value.specs.Parts.{AreOctets}
+use Rattle.circus_external.specs.Refusal.{is_proper, are_proper, arms_are_proper, has_arm}
 use Rattle.circus_external.specs.Reading.{and_then, answer_map, word_read, meant, truth_of, label_of, one_word, content_read, items_read, count_within, sequence_read, reading, fields_reading, arm_reading}
 use Rattle.circus_external.proofs.Alike.{Alike}
 use Rattle.circus_external.proofs.ShapesAlike.{and_both, word_same, word_first, EachAlike, alike}

@@ -2,7 +2,8 @@
 use Rattle.std.proofs.Common.{◌≡◌, ℕ, suc, ◌+◌, Bool, true, List, [], ◌∷◌, ◌++◌, length, refl, sym, ap, ◌∙◌, subst, arith, append_assoc, length-append}
 use Rattle.circus_external.specs.Spelling.{Piece, number, content, joined}
 use Rattle.circus_external.specs.Answer.{Answer, found, short, not_a_value, bad_pad}
-use Rattle.circus_external.specs.Refusal.{AreOctets, GoesOn, IsShort, IsNotAValue, IsBadPad, IsFound, From, IsAnswer}
+use Rattle.circus_value.specs.Parts.{AreOctets}
+use Rattle.circus_external.specs.Refusal.{GoesOn, IsShort, IsNotAValue, IsBadPad, IsFound, From, IsAnswer}
 use Rattle.circus_external.specs.Reading.{and_then, answer_map}
 use Rattle.circus_external.proofs.Alike.{Alike, alike_split, alike_reach, joined-append}
 

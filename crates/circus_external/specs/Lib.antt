@@ -3,4 +3,4 @@ pub mod Spelling
 pub mod Answer
 pub mod Refusal
 pub mod Reading
-pub mod Given
+pub mod Seen

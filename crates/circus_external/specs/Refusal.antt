@@ -6,10 +6,6 @@ use Rattle.circus_value.specs.declared.shape.Label.{Label}
 use Rattle.circus_external.specs.Spelling.{Piece, number, content, piece_bytes, joined}
 use Rattle.circus_external.specs.Answer.{Answer, found, short, not_a_value, bad_pad}
 
--- each is the value of a byte
-abbrev pub AreOctets : List ℕ → Type 0
-AreOctets bytes = (k : ℕ) → slice_index bytes k < 256
-
 -- behind these pieces, this piece stands in some value that is admitted
 pub record GoesOn {X : Type 0} (admits : X → Bool) (pieces_of : X → List Piece) (done : List Piece) (next : Piece) : Type 0 where
   pub value : X

@@ -6,9 +6,9 @@ ghost use Rattle.circus_value.specs.ValueTree.{ValueTree};
 ghost use Rattle.circus_value.specs.Fits as fit;
 ghost use Rattle.circus_external.specs.Spelling.{pieces};
 ghost use Rattle.circus_external.specs.Answer.{Answer};
-ghost use Rattle.circus_external.specs.Refusal.{AreOctets, IsShort, IsNotAValue, IsBadPad, From, IsAnswer, is_proper};
+ghost use Rattle.circus_external.specs.Refusal.{IsShort, IsNotAValue, IsBadPad, From, IsAnswer, is_proper};
 ghost use Rattle.circus_external.specs.Reading as pure;
-ghost use Rattle.circus_external.specs.Given.{Gives, IsReadAt};
+ghost use Rattle.circus_external.specs.Seen.Given.{Gives, IsReadAt};
 
 use crate::{ExternalFault, read_from};
 use circus_value::{Parts, Shape, Value};
@@ -57,11 +57,25 @@ pub fn read_parts(
     shape: &Shape,
 ) -> Result<(Value, usize), ExternalFault>
     requires { at ≤ length parts.now }
-    // Parts are made of bytes, which a contract does not see.
-    ensures value { AreOctets parts.now → IfOk result (λ r. IsReadAt (shapes.tree_of shape.now) (values.tree_of r.0) parts.now at r.1) }
+    // What is read is spelled there.
+    ensures value { IfOk result (λ r. IsReadAt (shapes.tree_of shape.now) (values.tree_of r.0) parts.now at r.1) }
+
+    // A fault is that of the bytes from the place on.
+    ensures short { (place : ℕ) → result ≡ Err (ExternalFault.Short place) → is_proper (shapes.tree_of shape.now) ≡ true
+        → From (IsShort (fit.fits (shapes.tree_of shape.now)) pieces (drop at parts.now)) at place }
+    ensures not_a_value { (place : ℕ) → result ≡ Err (ExternalFault.NotAValue place) → is_proper (shapes.tree_of shape.now) ≡ true
+        → From (IsNotAValue (fit.fits (shapes.tree_of shape.now)) pieces (drop at parts.now)) at place }
+    ensures bad_pad { (place : ℕ) → result ≡ Err (ExternalFault.BadPad place) → is_proper (shapes.tree_of shape.now) ≡ true
+        → From (IsBadPad (fit.fits (shapes.tree_of shape.now)) pieces (drop at parts.now)) at place }
+
+    // No other answer is given.
+    ensures only { (answer : Answer ValueTree) → is_proper (shapes.tree_of shape.now) ≡ true
+        → IsAnswer (fit.fits (shapes.tree_of shape.now)) pieces at (drop at parts.now) answer
+        → Gives values.tree_of parts.now result answer }
 
     // The answer of `read`.
     ensures exact { Gives values.tree_of parts.now result (pure.reading (shapes.tree_of shape.now) at (drop at parts.now)) }
 {
+    prove!(at <= parts.len());
     read_from(alloc, parts, at, shape)
 }

@@ -6,7 +6,8 @@ ghost use Rattle.circus_value.specs.Fits as fit;
 ghost use Rattle.circus_value.specs.ExternalSize.{external_size, size_of_values};
 ghost use Rattle.circus_external.specs.Spelling.{pieces, pieces_of_all, spelling, spelling_of_all, fields_admit};
 ghost use Rattle.circus_external.specs.Answer.{Answer, found};
-ghost use Rattle.circus_external.specs.Refusal.{AreOctets, IsAnswer, is_proper, are_proper};
+ghost use Rattle.circus_value.specs.Parts.{AreOctets};
+ghost use Rattle.circus_external.specs.Refusal.{IsAnswer, is_proper, are_proper};
 ghost use Rattle.circus_external.specs.Reading as pure;
 
 /// Of two values that a shape admits, with anything behind their bytes, the bytes are equal only where the

@@ -26,6 +26,3 @@ pub use proper::is_proper;
 pub use reading::{read_fields, read_from};
 pub use source::{ByteSource, copied, long_at, word_at};
 pub use writing::{write, write_all};
-
-#[cfg(test)]
-mod tests;

@@ -2,7 +2,7 @@
 ghost use Rattle.std.specs.Prelude.{◌≡◌, ◌+◌, ◌++◌, ◌%◌, ◌≤◌, List, ℕ, length, drop, OnOk, OnErr};
 ghost use Rattle.circus_external.specs.Octets.{word, long};
 ghost use Rattle.circus_external.specs.Spelling.{joined, contents};
-ghost use Rattle.circus_external.specs.Given.{Gives};
+ghost use Rattle.circus_external.specs.Seen.Given.{Gives};
 ghost use Rattle.circus_external.specs.Reading.{word_read, long_read, is_bad_pad, content_read};
 
 use crate::{ByteSource, ExternalFault, copied, long_at, word_at};

@@ -4,7 +4,7 @@ ghost use Rattle.std.specs.List.{list_any};
 ghost use Rattle.circus_value.specs.ValueOf as values;
 ghost use Rattle.circus_value.specs.ShapeOf as shapes;
 ghost use Rattle.circus_value.specs.ShapeTree.{field_trees, arm_trees};
-ghost use Rattle.circus_external.specs.Given.{Gives};
+ghost use Rattle.circus_external.specs.Seen.Given.{Gives};
 ghost use Rattle.circus_external.specs.Reading.{one_word, two_words, text_read, truth_of, label_of, items_read, sequence_read, reading, fields_reading, choice_read};
 
 use crate::piece::{read_content, read_long, read_word};

@@ -1,6 +1,6 @@
 // What bytes are read from, by place.
-ghost use Rattle.std.specs.Prelude.{◌≡◌, ◌+◌, ◌-◌, ◌^◌, ◌<◌, ◌≤◌, List, ℕ, length, drop, take, slice_get, OnSome, IfOk};
-ghost use Rattle.circus_external.specs.Octets.{first_word, first_long};
+ghost use Rattle.std.specs.Prelude.{◌≡◌, ◌+◌, ◌-◌, ◌^◌, ◌<◌, ◌≤◌, ◌++◌, List, ℕ, length, drop, take, slice_get, OnSome, IfSome, IfNone, IfOk};
+ghost use Rattle.circus_external.specs.Octets.{word, long, first_word, first_long};
 
 use circus_value::{ListOf, NoMemory, Octets, Parts};
 use std::alloc::Global;
@@ -46,30 +46,44 @@ impl ByteSource for Parts {
 /// fewer than two bytes stand from there on.
 pub fn word_at<S: ByteSource>(source: &S, at: usize) -> Option<u16>
     ensures value { result ≡ first_word (drop at (S.octets source.now)) }
+    ensures stands { IfSome result (λ n. drop at (S.octets source.now) ≡ word n ++ drop (at + 2) (S.octets source.now)) }
+    ensures short { IfNone result (length (S.octets source.now) < at + 2) }
     ensures behind { OnSome result (at + 2 < 2 ^ 64) }
 {
     let len = source.len();
     if at >= len || len - at < 2 {
         return None;
     }
-    let high = source.byte(at).unwrap();
-    let low = source.byte(at + 1).unwrap();
-    Some(u16::from_be_bytes([high, low]))
+    let bytes = [octet(source, at), octet(source, at + 1)];
+    Some(u16::from_be_bytes(bytes))
 }
 
 /// The number of two words at a place, the high word first (docs/FORMATS.md, "External data"). `None`
 /// exactly where fewer than four bytes stand from there on.
 pub fn long_at<S: ByteSource>(source: &S, at: usize) -> Option<u32>
     ensures value { result ≡ first_long (drop at (S.octets source.now)) }
+    ensures stands { IfSome result (λ n. drop at (S.octets source.now) ≡ long n ++ drop (at + 4) (S.octets source.now)) }
+    ensures short { IfNone result (length (S.octets source.now) < at + 4) }
     ensures behind { OnSome result (at + 4 < 2 ^ 64) }
 {
     let len = source.len();
     if at >= len || len - at < 4 {
         return None;
     }
-    let high = word_at(source, at)?;
-    let low = word_at(source, at + 2)?;
-    Some(u32::from(high) * 65_536 + u32::from(low))
+    let bytes = [
+        octet(source, at),
+        octet(source, at + 1),
+        octet(source, at + 2),
+        octet(source, at + 3),
+    ];
+    Some(u32::from_be_bytes(bytes))
+}
+
+fn octet<S: ByteSource>(source: &S, at: usize) -> u8
+    requires { at < length (S.octets source.now) }
+    ensures { slice_get (S.octets source.now) at ≡ Some result }
+{
+    source.byte(at).unwrap()
 }
 
 /// A copy of the bytes from one place up to another. `NoMemory` is the one fault.

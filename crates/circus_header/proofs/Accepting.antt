@@ -3,7 +3,7 @@ use Rattle.std.proofs.lemmas.List.{append-nil}
 use Rattle.std.proofs.lemmas.List.Elements.{All-nil, All-cons, All-head, All-tail}
 use Rattle.std.proofs.Common.{◌≡◌, ℕ, zero, suc, ◌≤◌, List, [], ◌∷◌, ◌++◌, length, map, All, refl, sym, ap, ◌∙◌, subst, arith, append_assoc}
 use Rattle.circus_header.specs.Field.{Field, word, long, HasRoom}
-use Rattle.circus_header.specs.Layout.{Size, of_word, of_long, field_of, Layout, end, field, followed, numbers}
+use Rattle.circus_header.specs.Seen.Layout.{Size, of_word, of_long, field_of, Layout, end, field, followed, numbers}
 
 abbrev pub size_of : Field → Size
 size_of (word _) = of_word

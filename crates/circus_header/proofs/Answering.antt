@@ -6,7 +6,7 @@ use Rattle.std.proofs.lemmas.Bool.Decides.{eqb_tells}
 use Rattle.std.specs.Result.{IsErr, IsErrAnd}
 use Rattle.circus_header.proofs.Steps.{passed}
 use Rattle.circus_header.specs.Field.{Field, field_len, field_bytes, bytes_of}
-use Rattle.circus_header.specs.Layout.{Layout, Reading, refused}
+use Rattle.circus_header.specs.Seen.Layout.{Layout, Reading, refused}
 use Rattle.circus_header.specs.Reading.{Headers, IsOne, BeginsWith, IsShort, IsOutOfRange, IsAnswer}
 use Rattle.circus_header.specs.declared.header_fault.HeaderFault.{HeaderFault}
 use Rattle.circus_header.specs.declared.header_fault.HeaderFault.TheVariants.{Short, BadField, NoMemory}

@@ -2,8 +2,8 @@
 use Rattle.std.proofs.Common.{◌≡◌, ℕ, ◌+◌, ◌<◌, ◌≤◌, ◌^◌, max, List, [], ◌∷◌, ◌++◌, length, map, All, refl, sym, ap, ◌∙◌, subst, arith}
 use Rattle.circus_header.specs.Field.{Field, word, long, HasRoom}
 use Rattle.circus_header.specs.CallFields.{ask_fields, IsAsk}
-use Rattle.circus_header.specs.Layout.{of_word, of_long, end, field, followed}
-use Rattle.circus_header.specs.Layouts.{path_layout, clock_layout, client_layout, server_layout, ask_of, behind_server, behind_client, behind_path, ask_layout}
+use Rattle.circus_header.specs.Seen.Layout.{of_word, of_long, end, field, followed}
+use Rattle.circus_header.specs.Seen.Layouts.{path_layout, clock_layout, client_layout, server_layout, ask_of, behind_server, behind_client, behind_path, ask_layout}
 use Rattle.circus_header.specs.declared.party.Client.{Client}
 use Rattle.circus_header.specs.declared.party.Server.{Server}
 use Rattle.circus_header.specs.declared.call.CallHeader.{CallHeader}

@@ -2,8 +2,8 @@
 use Rattle.std.proofs.Common.{◌≡◌, ℕ, zero, suc, ◌<◌, ◌≤◌, ◌^◌, List, [], ◌∷◌, All, refl, sym, ap, ◌∙◌, subst, arith}
 use Rattle.circus_header.specs.Field.{Field, word, long, HasRoom}
 use Rattle.circus_header.specs.CallFields.{ask_fields, request_fields, call_fields, IsRequest, IsCall}
-use Rattle.circus_header.specs.Layout.{of_word, of_long, end, field}
-use Rattle.circus_header.specs.Layouts.{ask_layout, most_node, most_count, request_of, request_layout, fetch_layout, call_by, call_layout}
+use Rattle.circus_header.specs.Seen.Layout.{of_word, of_long, end, field}
+use Rattle.circus_header.specs.Seen.Layouts.{ask_layout, most_node, most_count, request_of, request_layout, fetch_layout, call_by, call_layout}
 use Rattle.circus_header.specs.Reading.{calls, IsOne}
 use Rattle.circus_header.specs.declared.call.Request.{Request}
 use Rattle.circus_header.specs.declared.call.Request.TheVariants.{Lookup, Join, Active, Gone}

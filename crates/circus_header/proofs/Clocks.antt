@@ -2,8 +2,8 @@
 use Rattle.std.proofs.Common.{◌≡◌, ℕ, ◌<◌, ◌≤◌, ◌^◌, List, [], ◌∷◌, ◌++◌, length, map, All, refl, sym, ap, ◌∙◌, subst, arith}
 use Rattle.std.proofs.lemmas.List.Elements.{All-weaker, All-nil, All-cons, All-head, All-tail}
 use Rattle.circus_header.specs.Field.{Field, word, long, HasRoom}
-use Rattle.circus_header.specs.Layout.{of_word, of_long, numbers}
-use Rattle.circus_header.specs.Layouts.{path_layout, clock_layout}
+use Rattle.circus_header.specs.Seen.Layout.{of_word, of_long, numbers}
+use Rattle.circus_header.specs.Seen.Layouts.{path_layout, clock_layout}
 use Rattle.circus_header.proofs.Accepting.{Accepts, Live, front, live_numbers, accepts_numbers, counted}
 
 pub live_path : Live path_layout

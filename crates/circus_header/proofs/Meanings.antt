@@ -2,7 +2,7 @@
 use Rattle.std.proofs.Common.{◌≡◌, ℕ, ◌+◌, ◌<◌, ◌≤◌, ◌⊎◌, inl, inr, List, [], ◌∷◌, ◌++◌, length, drop, Result, Ok, Err, refl, sym, ap, ◌∙◌, arith, append_assoc, length-append, length-drop}
 use Rattle.std.proofs.lemmas.List.{append-nil}
 use Rattle.circus_header.specs.Field.{Field, field_bytes, bytes_of}
-use Rattle.circus_header.specs.Layout.{Size, field_of, size_len, Layout, end, field, StandsAt, Reading, refused, ended, cut, out, more}
+use Rattle.circus_header.specs.Seen.Layout.{Size, field_of, size_len, Layout, end, field, StandsAt, Reading, refused, ended, cut, out, more}
 use Rattle.circus_header.specs.Reading.{Headers, IsOne, MayGoOn, IsShort, IsOutOfRange}
 use Rattle.circus_header.specs.declared.header_fault.HeaderFault.{HeaderFault}
 use Rattle.circus_header.specs.declared.header_fault.HeaderFault.TheVariants.{Short, BadField, NoMemory}

@@ -2,7 +2,7 @@
 use Rattle.std.proofs.Common.{◌≡◌, ℕ, ◌+◌, ◌<◌, ◌≤◌, ◌⊎◌, inl, inr, List, [], ◌∷◌, ◌++◌, length, Result, Ok, Err, refl, sym, ap, ◌∙◌, subst, arith, append_assoc, length-append}
 use Rattle.std.proofs.lemmas.Bool.{cases_lt}
 use Rattle.circus_header.specs.Field.{Field, word, long, HasRoom, field_len, field_bytes, bytes_of}
-use Rattle.circus_header.specs.Layout.{Size, of_word, of_long, field_of, size_len, Layout, end, field, Reading, ended, cut, out, more}
+use Rattle.circus_header.specs.Seen.Layout.{Size, of_word, of_long, field_of, size_len, Layout, end, field, Reading, ended, cut, out, more}
 use Rattle.circus_header.specs.declared.header_fault.HeaderFault.{HeaderFault}
 use Rattle.circus_header.specs.declared.header_fault.HeaderFault.TheVariants.{Short, BadField}
 use Rattle.circus_header.proofs.Accepting.{size_of, Accepts, Live, room_below, accepts_field, live_some}

@@ -2,8 +2,8 @@
 use Rattle.std.proofs.Common.{◌≡◌, ℕ, zero, suc, ◌<◌, ◌≤◌, ◌^◌, List, [], ◌∷◌, length, map, All, refl, sym, ap, ◌∙◌, subst, arith}
 use Rattle.circus_header.specs.Field.{Field, word, long, HasRoom}
 use Rattle.circus_header.specs.ReturnFields.{return_fields, IsReturn}
-use Rattle.circus_header.specs.Layout.{of_word, of_long, end, field}
-use Rattle.circus_header.specs.Layouts.{clock_layout, return_by, return_layout}
+use Rattle.circus_header.specs.Seen.Layout.{of_word, of_long, end, field}
+use Rattle.circus_header.specs.Seen.Layouts.{clock_layout, return_by, return_layout}
 use Rattle.circus_header.specs.Reading.{returns, IsOne}
 use Rattle.circus_header.specs.declared.answer.ReturnHeader.{ReturnHeader}
 use Rattle.circus_header.specs.declared.answer.ReturnHeader.TheVariants.{Reply, Stale, Before, Snapshot, Table}

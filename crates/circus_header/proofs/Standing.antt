@@ -4,7 +4,7 @@ use Rattle.std.proofs.lemmas.List.{take-append-le, take_all}
 use Rattle.std.proofs.lemmas.Nat.{be_bytes_2, be_bytes_4, from_be_bytes-to_be_bytes_2, from_be_bytes-to_be_bytes_4}
 use Rattle.std.specs.Int.{w16, w32, to_be_bytes, from_be_bytes}
 use Rattle.circus_header.specs.Field.{Field, word, long, HasRoom, field_len, field_bytes, bytes_of}
-use Rattle.circus_header.specs.Layout.{Size, of_word, of_long, field_of, size_len, StandsAt}
+use Rattle.circus_header.specs.Seen.Layout.{Size, of_word, of_long, field_of, size_len, StandsAt}
 
 pub length-field_bytes : (f : Field) → length (field_bytes f) ≡ field_len f
 length-field_bytes (word n) = refl
@@ -64,50 +64,3 @@ stands_behind octets before rest at s n room e place =
     let after : drop (at + size_len s) octets ≡ rest =
     ap (drop (at + size_len s)) (e ∙ sym (append_assoc before f rest)) ∙ drop-prefix (before ++ f) rest (at + size_len s) len in
     record { room = room; here = here ∙ ap (λ r. f ++ r) (sym after) }
-
-pub drop_at_byte : (octets : List ℕ) (at b : ℕ) → slice_get octets at ≡ Some b → drop at octets ≡ b ∷ drop (at + 1) octets
-drop_at_byte [] zero b e = cc
-drop_at_byte [] (suc at) b e = cc
-drop_at_byte (x ∷ xs) zero b e = let same : x ≡ b = cc in ap (λ w. w ∷ xs) same
-drop_at_byte (x ∷ xs) (suc at) b e =
-    let place : suc at + 1 ≡ suc (at + 1) = omega arith in
-    drop_at_byte xs at b e ∙ ap (λ k. b ∷ drop k (x ∷ xs)) (sym place)
-
-two_small : (a b i : ℕ) → a < 256 → b < 256 → get_or (a ∷ b ∷ []) i 0 < 256
-two_small a b zero p q = p
-two_small a b (suc zero) p q = q
-two_small a b (suc (suc i)) p q = omega arith
-
-four_small : (a b c d i : ℕ) → a < 256 → b < 256 → c < 256 → d < 256 → get_or (a ∷ b ∷ c ∷ d ∷ []) i 0 < 256
-four_small a b c d zero p q r s = p
-four_small a b c d (suc zero) p q r s = q
-four_small a b c d (suc (suc zero)) p q r s = r
-four_small a b c d (suc (suc (suc zero))) p q r s = s
-four_small a b c d (suc (suc (suc (suc i)))) p q r s = omega arith
-
--- the number of two bytes stands where they do
-pub stands_word : (octets : List ℕ) (at a b n : ℕ) → slice_get octets at ≡ Some a → slice_get octets (at + 1) ≡ Some b
-    → a < 256 → b < 256 → n < 65536 → n ≡ from_be_bytes w16 (a ∷ b ∷ []) → StandsAt octets at of_word n
-stands_word octets at a b n first second p q room is =
-    let bytes = be_bytes_2 (a ∷ b ∷ []) n refl (λ i. two_small a b i p q) is in
-    let place : (at + 1) + 1 ≡ at + 2 = omega arith in
-    let here : drop at octets ≡ a ∷ b ∷ drop (at + 2) octets =
-    drop_at_byte octets at a first ∙ ap (λ w. a ∷ w) (drop_at_byte octets (at + 1) b second ∙ ap (λ k. b ∷ drop k octets) place) in
-    record { room = room; here = here ∙ ap (λ w. w ++ drop (at + 2) octets) (sym bytes) }
-
--- the number of four bytes stands where they do
-pub stands_long : (octets : List ℕ) (at a b c d n : ℕ) → slice_get octets at ≡ Some a → slice_get octets (at + 1) ≡ Some b
-    → slice_get octets (at + 2) ≡ Some c → slice_get octets (at + 3) ≡ Some d
-    → a < 256 → b < 256 → c < 256 → d < 256 → n < 2 ^ 32 → n ≡ from_be_bytes w32 (a ∷ b ∷ c ∷ d ∷ []) → StandsAt octets at of_long n
-stands_long octets at a b c d n first second third fourth p q r s room is =
-    let bytes = be_bytes_4 (a ∷ b ∷ c ∷ d ∷ []) n refl (λ i. four_small a b c d i p q r s) is in
-    let two : (at + 1) + 1 ≡ at + 2 = omega arith in
-    let three : (at + 2) + 1 ≡ at + 3 = omega arith in
-    let four : (at + 3) + 1 ≡ at + 4 = omega arith in
-    let low : drop (at + 2) octets ≡ c ∷ d ∷ drop (at + 4) octets =
-    drop_at_byte octets (at + 2) c third ∙ ap (λ k. c ∷ drop k octets) three
-    ∙ ap (λ w. c ∷ w) (drop_at_byte octets (at + 3) d fourth ∙ ap (λ k. d ∷ drop k octets) four) in
-    let here : drop at octets ≡ a ∷ b ∷ c ∷ d ∷ drop (at + 4) octets =
-    drop_at_byte octets at a first
-    ∙ ap (λ w. a ∷ w) (drop_at_byte octets (at + 1) b second ∙ ap (λ k. b ∷ drop k octets) two ∙ ap (λ w. b ∷ w) low) in
-    record { room = room; here = here ∙ ap (λ w. w ++ drop (at + 4) octets) (sym bytes) }

@@ -7,8 +7,8 @@ use Rattle.circus_header.specs.declared.party.Client.{Client}
 use Rattle.circus_header.specs.declared.party.Server.{Server}
 use Rattle.circus_header.proofs.Accepting.{Accepts, accepts_field}
 use Rattle.circus_header.proofs.Asks.{client_meant, server_meant}
-use Rattle.circus_header.specs.Layout.{field_of, size_len, Size, Layout, end, field, followed, one, numbers, Reading, refused, ended, cut, out, more}
-use Rattle.circus_header.specs.Layouts.{client_layout, server_layout, fetch_layout, call_by, return_by}
+use Rattle.circus_header.specs.Seen.Layout.{field_of, size_len, Size, Layout, end, field, followed, one, numbers, Reading, refused, ended, cut, out, more}
+use Rattle.circus_header.specs.Seen.Layouts.{client_layout, server_layout, fetch_layout, call_by, return_by}
 use Rattle.circus_header.specs.declared.call.Call.{Call}
 use Rattle.circus_header.specs.declared.answer.ReturnHeader.{ReturnHeader}
 use Rattle.circus_header.specs.declared.answer.ReturnHeader.TheVariants.{Table}

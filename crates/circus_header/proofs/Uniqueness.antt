@@ -1,6 +1,6 @@
 -- Bytes are read in one way.
 use Rattle.std.proofs.Common.{◌≡◌, ℕ, ◌+◌, ◌<◌, ◌≤◌, ◌⊎◌, inl, inr, List, Result, Err, length, refl, sym, subst, arith}
-use Rattle.circus_header.specs.Layout.{Size, size_len, Layout, StandsAt, Reading, refused, ended, cut, out, more}
+use Rattle.circus_header.specs.Seen.Layout.{Size, size_len, Layout, StandsAt, Reading, refused, ended, cut, out, more}
 use Rattle.circus_header.specs.declared.header_fault.HeaderFault.{HeaderFault}
 use Rattle.circus_header.specs.declared.header_fault.HeaderFault.TheVariants.{NoMemory}
 use Rattle.circus_header.proofs.Standing.{stands_once, stands_within}

@@ -10,8 +10,6 @@ mod header_fault;
 mod laws;
 mod party;
 mod reading;
-#[cfg(test)]
-mod tests;
 mod writing;
 
 pub use answer::{Reply, ReturnHeader};

@@ -1,15 +1,15 @@
 // Headers, read from a slice or from parts.
 ghost use Rattle.std.specs.Prelude.{◌≡◌, ◌+◌, ◌<◌, ◌≤◌, [], max, length, slice_get};
-ghost use Rattle.circus_header.specs.Layout.{of_word, of_long, one, numbers, Reading};
-ghost use Rattle.circus_header.specs.Layouts.{path_layout, clock_layout, client_layout, server_layout, ask_layout, request_layout, fetch_layout, call_layout, return_layout};
-ghost use Rattle.circus_header.specs.Layouts as layouts;
+ghost use Rattle.circus_header.specs.Seen.Layout.{of_word, of_long, one, numbers, Reading};
+ghost use Rattle.circus_header.specs.Seen.Layouts.{path_layout, clock_layout, client_layout, server_layout, ask_layout, request_layout, fetch_layout, call_layout, return_layout};
+ghost use Rattle.circus_header.specs.Seen.Layouts as layouts;
 ghost use Rattle.circus_header.specs.CallFields.{has_body};
 ghost use Rattle.circus_header.specs.ReturnFields.{has_rest};
 ghost use Rattle.circus_header.specs.Reading.{calls, returns, IsAnswer};
 
 use crate::party::{Client, Server};
 use crate::{Call, CallHeader, HeaderFault, Request, ReturnHeader};
-use circus_external::ByteSource;
+use circus_external::{ByteSource, long_at, word_at};
 use circus_value::{Clock, ListOf, Parts, Path};
 use std::alloc::Global;
 
@@ -293,11 +293,9 @@ fn word<S: ByteSource>(
 ) -> Result<(u16, usize), HeaderFault>
     ensures { Reading (S.octets source.now) (one of_word least most) at result }
 {
-    let len = source.len();
-    if at >= len || len - at < 2 {
+    let Some(number) = word_at(source, at) else {
         return Err(HeaderFault::Short(at as u64));
-    }
-    let number = u16::from_be_bytes([byte(source, at), byte(source, at + 1)]);
+    };
     if number < least || most < number {
         return Err(HeaderFault::BadField(at as u64));
     }
@@ -313,25 +311,11 @@ fn long<S: ByteSource>(
 ) -> Result<(u32, usize), HeaderFault>
     ensures { Reading (S.octets source.now) (one of_long least most) at result }
 {
-    let len = source.len();
-    if at >= len || len - at < 4 {
+    let Some(number) = long_at(source, at) else {
         return Err(HeaderFault::Short(at as u64));
-    }
-    let number = u32::from_be_bytes([
-        byte(source, at),
-        byte(source, at + 1),
-        byte(source, at + 2),
-        byte(source, at + 3),
-    ]);
+    };
     if number < least || most < number {
         return Err(HeaderFault::BadField(at as u64));
     }
     Ok((number, at + 4))
-}
-
-fn byte<S: ByteSource>(source: &S, at: usize) -> u8
-    requires { at < length (S.octets source.now) }
-    ensures { slice_get (S.octets source.now) at ≡ Some result }
-{
-    source.byte(at).unwrap()
 }

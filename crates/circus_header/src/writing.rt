@@ -3,9 +3,10 @@ ghost use Rattle.std.specs.Prelude.{◌≡◌, ◌++◌, ◌∷◌, [], ◌<◌,
 ghost use Rattle.circus_header.specs.Field.{word, long, bytes_of};
 ghost use Rattle.circus_header.specs.CallFields.{call_fields, ask_fields, request_fields, IsCall, IsAsk, IsRequest};
 ghost use Rattle.circus_header.specs.ReturnFields.{return_fields, IsReturn};
-ghost use Rattle.circus_header.specs.Written.{Written};
+ghost use Rattle.circus_header.specs.Seen.Written.{Written};
 
 use crate::{Call, CallHeader, Request, ReturnHeader};
+use circus_external::{write_long, write_word};
 use circus_value::{Clock, ListOf, Message, NoMemory, Path};
 use std::alloc::Global;
 
@@ -147,11 +148,11 @@ fn push_clock(clock: &Clock, out: &mut Message) -> Result<(), NoMemory>
 fn push_word(number: u16, out: &mut Message) -> Result<(), NoMemory>
     ensures { OnOk result (Written out.old (word number ∷ []) out.new) }
 {
-    out.append(&number.to_be_bytes())
+    write_word(number, out)
 }
 
 fn push_long(number: u32, out: &mut Message) -> Result<(), NoMemory>
     ensures { OnOk result (Written out.old (long number ∷ []) out.new) }
 {
-    out.append(&number.to_be_bytes())
+    write_long(number, out)
 }

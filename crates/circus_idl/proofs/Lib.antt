@@ -22,7 +22,6 @@ mod Places
 mod PlainTypes
 mod PlainRules
 mod PlainSizes
-mod ShapeBack
 pub mod ObeysParts
 mod PlainDeclared
 mod ErrorsFound

@@ -8,7 +8,7 @@ use Rattle.circus_idl.specs.declared.scope.Scope.{Scope}
 use Rattle.circus_idl.specs.Least.{is_before, lesser, least_from}
 use Rattle.circus_idl.specs.Known.{is_known, type_measure}
 use Rattle.circus_idl.specs.Measured.{measured}
-use Rattle.circus_idl.specs.Scoped.{cut_in}
+use Rattle.circus_idl.specs.Seen.Scoped.{cut_in}
 use Rattle.circus_idl.specs.Faults.{is_clean, more_parts, whole_faults, groups_faults, groups_parts}
 use Rattle.circus_idl.proofs.LeastMore.{least_step}
 

@@ -4,7 +4,7 @@ use Rattle.circus_value.specs.declared.shape.Field.{Field}
 use Rattle.circus_value.specs.declared.shape.Arm.{Arm}
 use Rattle.circus_value.specs.ShapeOf.{tree_of, field_of, arm_of}
 use Rattle.circus_value.specs.ShapeTree.{field_trees, arm_trees}
-use Rattle.circus_value.specs.ShapeWeight.{weight, field_weights, arm_weights}
+use Rattle.circus_value.specs.Seen.ShapeWeight.{weight, field_weights, arm_weights}
 
 field_lighter : (fs : List Field) (i : ℕ) (d : Field) → i < length fs → weight (tree_of (get_or fs i d).shape) + 2 ≤ field_weights (field_trees (map field_of fs))
 field_lighter [] i d below = omega arith

@@ -3,7 +3,7 @@ ghost use Rattle.std.specs.Prelude.{◌≡◌, OnOk, IfOk, IfNone};
 ghost use Rattle.circus_syntax.specs.InterfaceTree.{a_type, an_error, a_procedure};
 ghost use Rattle.circus_syntax.specs.TypeOf.{tree_of};
 ghost use Rattle.circus_idl.specs.Least.{least_from};
-ghost use Rattle.circus_idl.specs.Scoped.{before_of, cut_in};
+ghost use Rattle.circus_idl.specs.Seen.Scoped.{before_of, cut_in};
 ghost use Rattle.circus_idl.specs.Faults.{declared_faults, behind};
 ghost use Rattle.circus_idl.specs.Known.{type_form, tree_or, standing_for};
 ghost use Rattle.circus_idl.specs.Meaning.{written};

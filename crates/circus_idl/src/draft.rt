@@ -3,11 +3,11 @@ ghost use Rattle.std.specs.Prelude.{◌≡◌, OnOk, IfOk, IfNone};
 ghost use Rattle.circus_syntax.specs.InterfaceTree.{declared_of, a_type, an_error, a_procedure};
 ghost use Rattle.circus_syntax.specs.TypeOf.{tree_of};
 ghost use Rattle.circus_idl.specs.Least.{least_from};
-ghost use Rattle.circus_idl.specs.Tables.{name_value};
+ghost use Rattle.circus_idl.specs.Seen.Tables.{name_value};
 ghost use Rattle.circus_idl.specs.Known.{type_form};
-ghost use Rattle.circus_idl.specs.Scoped.{before_of, cut_in};
+ghost use Rattle.circus_idl.specs.Seen.Scoped.{before_of, cut_in};
 ghost use Rattle.circus_idl.specs.Faults.{declared_faults, behind};
-ghost use Rattle.circus_idl.specs.Drafted.{drafted};
+ghost use Rattle.circus_idl.specs.Seen.Drafted.{drafted};
 ghost use Rattle.circus_idl.specs.Means.{and_then, fields_meant, reports_meant, numbers_meant, procedure_meant, declared_meant, forms_behind};
 
 use crate::interface::{Declared, DeclaredError, DeclaredType, Errors, Procedure, Procedures};

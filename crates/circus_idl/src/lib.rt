@@ -33,8 +33,3 @@ pub use interface::{
 pub use laws::shown_is_read;
 pub use read::read_interface;
 pub use show::show_interface;
-
-#[cfg(test)]
-mod table_tests;
-#[cfg(test)]
-mod tests;

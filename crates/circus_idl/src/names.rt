@@ -1,6 +1,6 @@
 // What names and numbers stand for, in tables that are filled from the front of a text on.
 ghost use Rattle.std.specs.Prelude.{◌≡◌, ℕ, List, Some, None, cond, bytes_eq, nat_eq, OnOk};
-ghost use Rattle.circus_idl.specs.Tables.{name_value, number_value, holds_name, holds_number};
+ghost use Rattle.circus_idl.specs.Seen.Tables.{name_value, number_value, holds_name, holds_number};
 ghost use Rattle.circus_idl.specs.Least.{least_from};
 ghost use Rattle.circus_idl.specs.Inside.{repeated_name, repeated_number, also_name, also_number};
 

@@ -1,5 +1,6 @@
 // Reading interfaces.
 ghost use Rattle.std.specs.Prelude.{◌≡◌, ℕ, ◌≤◌, ◌⊎◌, List, [], ◌++◌, length, All, None, Err, IfOk, IfErr};
+ghost use Rattle.circus_text.specs.Form.{longest_text};
 ghost use Rattle.circus_text.specs.Token.{IsTokenIn, spaced};
 ghost use Rattle.circus_text.specs.Division.{AreTokensOf};
 ghost use Rattle.circus_syntax.specs.InterfaceTree.{InterfaceTree};
@@ -35,7 +36,7 @@ pub fn read_interface(
 ) -> Result<(Interface, usize), IdlFault>
     requires of_text { All (IsTokenIn text.now) tokens.now }
     requires inside { at ≤ length tokens.now }
-    requires short { length text.now ≤ 1048576 }
+    requires short { length text.now ≤ longest_text }
 
     // The tokens up to the one answered are an interface without a fault, whose meaning is answered.
     ensures ok { IfOk result (λ read. IsReadAt text.now tokens.now at read.0 read.1) }

@@ -3,11 +3,11 @@ ghost use Rattle.std.specs.Prelude.{◌≡◌, ◌++◌, map, OnOk, IfOk};
 ghost use Rattle.circus_syntax.specs.TypeOf.{tree_of, group_of};
 ghost use Rattle.circus_syntax.specs.TypeTree.{group_trees};
 ghost use Rattle.circus_idl.specs.Least.{least_from};
-ghost use Rattle.circus_idl.specs.Tables.{name_value};
+ghost use Rattle.circus_idl.specs.Seen.Tables.{name_value};
 ghost use Rattle.circus_idl.specs.Measured as size;
 ghost use Rattle.circus_idl.specs.Known.{is_known, type_measure};
 ghost use Rattle.circus_idl.specs.Inside as faults;
-ghost use Rattle.circus_idl.specs.Scoped.{cut_in};
+ghost use Rattle.circus_idl.specs.Seen.Scoped.{cut_in};
 ghost use Rattle.circus_idl.specs.Faults as whole;
 
 use crate::fault::{Best, Cause};

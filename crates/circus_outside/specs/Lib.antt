@@ -1,9 +1,10 @@
-pub mod Faults
-pub mod Link
-pub mod MemLink
-pub mod MemShelf
-pub mod MemSink
+pub mod Limits
 pub mod Shelf
 pub mod Sink
-pub mod SureShelf
+pub mod Link
+pub mod Faults
 pub mod Told
+pub mod MemShelf
+pub mod SureShelf
+pub mod MemSink
+pub mod MemLink

@@ -1,5 +1,6 @@
 -- What the calls of a link leave.
 use Rattle.std.specs.Prelude.{◌≡◌, ◌≤◌, ℕ, Option, Result, Ok, Err, List, [], ◌∷◌, length}
+use Rattle.circus_outside.specs.Limits.{longest_datagram}
 use Rattle.circus_outside.specs.Faults.{Rose}
 use Rattle.circus_outside.specs.Told.{told_more}
 use Rattle.circus_outside.specs.declared.link.LinkFault.{LinkFault}
@@ -26,7 +27,7 @@ LinkCounts (Err Failed) old new = Rose old new
 
 -- a datagram has at most 2,048 bytes
 abbrev pub IsCut : TakenFrom → Type 0
-IsCut (From port bytes) = length bytes ≤ 2048
+IsCut (From port bytes) = length bytes ≤ longest_datagram
 IsCut Nothing = Unit {0}
 
 -- the ports told after a bind: this one too, unless it found no memory

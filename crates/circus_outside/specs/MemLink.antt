@@ -1,5 +1,6 @@
 -- A link in memory.
 use Rattle.std.specs.Prelude.{◌≡◌, ℕ, Option, Some, None, List, [], ◌∷◌, Contains, take, slice_get}
+use Rattle.circus_outside.specs.Limits.{longest_datagram}
 use Rattle.circus_outside.specs.Link.{Taken, datagram, nothing, failed}
 use Rattle.circus_outside.specs.declared.arrival.Arrival.{Arrival}
 use Rattle.circus_outside.specs.declared.arrival.Look.{Look}
@@ -21,7 +22,7 @@ pub record LinkInMemory : Type 0 where
 
 -- the answer that is made of an arrival
 abbrev pub answer_with : Option Arrival → Taken
-answer_with (Some arrival) = datagram arrival.port (take 2048 arrival.bytes)
+answer_with (Some arrival) = datagram arrival.port (take longest_datagram arrival.bytes)
 answer_with None = nothing
 
 -- the answer of a take that looked at a place of the arrivals, or that failed
@@ -41,4 +42,4 @@ CallFails link = Contains link.failing link.number
 -- others; nothing where none is left
 abbrev pub TakesFirst : List Arrival → TakenFrom → List Arrival → Type 0
 TakesFirst [] answer left = (answer ≡ Nothing) × (left ≡ [])
-TakesFirst (first ∷ others) answer left = (answer ≡ From first.port (take 2048 first.bytes)) × (left ≡ others)
+TakesFirst (first ∷ others) answer left = (answer ≡ From first.port (take longest_datagram first.bytes)) × (left ≡ others)

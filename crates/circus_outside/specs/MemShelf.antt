@@ -1,6 +1,7 @@
 -- A shelf in memory.
 use Rattle.std.specs.Prelude.{◌<◌, ◌⊎◌, ℕ, Option, Some, None, List, Contains, length, find, option_map}
 use Rattle.std.specs.Str.{bytes_eq}
+use Rattle.circus_outside.specs.Limits.{longest_contents}
 use Rattle.circus_outside.specs.declared.file.File.{File}
 
 -- what a shelf in memory has: its files, the calls that are to fail, the number of the next call, the
@@ -19,7 +20,7 @@ contents_in files name = option_map (λ file. file.contents) (find (λ file. byt
 -- there is no such file, or it has more bytes than a shelf answers
 abbrev pub IsUnanswerable : Option (List ℕ) → Type 0
 IsUnanswerable None = Unit {0}
-IsUnanswerable (Some bytes) = 16777216 < length bytes
+IsUnanswerable (Some bytes) = longest_contents < length bytes
 
 -- the next fetch, of this name, is to fail
 abbrev pub FetchFails : ShelfInMemory → List ℕ → Type 0

@@ -1,5 +1,6 @@
 -- A shelf in memory that never fails.
 use Rattle.std.specs.Prelude.{◌≤◌, ℕ, Option, Some, List, [], All, length, unwrap_or}
+use Rattle.circus_outside.specs.Limits.{longest_contents}
 use Rattle.circus_outside.specs.MemShelf.{contents_in}
 use Rattle.circus_outside.specs.declared.file.File.{File}
 
@@ -10,7 +11,7 @@ pub record SureFiles : Type 0 where
 
 -- each file has at most as many bytes as a shelf answers
 abbrev pub AllAnswerable : List File → Type 0
-AllAnswerable files = All (λ file. length file.contents ≤ 16777216) files
+AllAnswerable files = All (λ file. length file.contents ≤ longest_contents) files
 
 -- the contents of a name: those of the first file of it, and none where there is no such file
 abbrev pub sure_contents : List File → List ℕ → List ℕ

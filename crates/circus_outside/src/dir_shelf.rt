@@ -1,12 +1,11 @@
 // A shelf of real files.
 ghost use Rattle.std.specs.Prelude.{◌≡◌, ◌≤◌, None, length, IfOk};
+ghost use Rattle.circus_outside.specs.Limits.{longest_contents};
 
-use crate::shelf::LONGEST_CONTENTS;
-use crate::{Shelf, ShelfFault};
+use crate::{Shelf, ShelfFault, read_contents};
 use circus_value::Message;
 use std::alloc::Global;
 use std::fs;
-use std::io::Read;
 use std::marker::Model;
 use std::rt::Files;
 
@@ -62,22 +61,12 @@ impl<R: Files> Shelf for DirShelf<R> {
     }
 }
 
-// The contents of a file, read piece by piece.
+// The contents of a file.
 fn read_file<R: Files>(alloc: Global, files: &R, name: &str) -> Result<Message, ShelfFault>
-    ensures { IfOk result (λ bytes. length bytes ≤ 16777216) }
+    ensures { IfOk result (λ bytes. length bytes ≤ longest_contents) }
 {
-    let mut file = fs::open(files, name).map_err(|_| ShelfFault::Failed)?;
-    let mut contents = Message::new(alloc);
-    let mut piece = [0u8; 4096];
-    for _ in 0..u64::MAX {
-        let count = file.read(&mut piece).map_err(|_| ShelfFault::Failed)?;
-        if count == 0 {
-            return Ok(contents);
-        }
-        if count > LONGEST_CONTENTS - contents.len() {
-            return Err(ShelfFault::Failed);
-        }
-        contents.append(&piece[..count])?;
+    match fs::open(files, name) {
+        Ok(file) => read_contents(alloc, file),
+        Err(_) => Err(ShelfFault::Failed),
     }
-    Err(ShelfFault::Failed)
 }

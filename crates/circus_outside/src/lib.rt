@@ -6,7 +6,8 @@
 //! - `mem_shelf`, `mem_sink` and `mem_link` have forms in memory, whose listed calls fail. `calls` counts
 //!   their calls, `file` has the files of a shelf, and `arrival` the datagrams of a link.
 //! - `sure_shelf` and `sure_sink` have forms in memory that never fail.
-//! - `dir_shelf` and `std_sink` have the real files and the standard output.
+//! - `streams` reads contents from any reader and gives pieces to any writer; `dir_shelf` and `std_sink` do so
+//!   with the real files and the standard output.
 #![tactic(auto)]
 
 mod arrival;
@@ -20,6 +21,7 @@ mod mem_sink;
 mod shelf;
 mod sink;
 mod std_sink;
+mod streams;
 mod sure_shelf;
 mod sure_sink;
 
@@ -34,8 +36,6 @@ pub use mem_sink::MemSink;
 pub use shelf::{Shelf, ShelfFault};
 pub use sink::{Sink, SinkFault};
 pub use std_sink::StdSink;
+pub use streams::{LONGEST_CONTENTS, read_contents, write_piece};
 pub use sure_shelf::SureShelf;
 pub use sure_sink::SureSink;
-
-#[cfg(test)]
-mod tests;

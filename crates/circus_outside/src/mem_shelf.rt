@@ -1,13 +1,13 @@
 // A shelf in memory, some of whose calls fail.
 ghost use Rattle.std.specs.Prelude.{◌≡◌, ◌≤◌, ◌++◌, [], ◌∷◌, Option, Some, List, ℕ, length, IfOk, IfSome, IfNone, OnOk, OnSome, IsErrOf};
 ghost use Rattle.circus_outside.specs.Faults.{one_more};
+ghost use Rattle.circus_outside.specs.Limits.{longest_contents};
 ghost use Rattle.circus_outside.specs.Shelf.{ShelfCounts, names_after};
 ghost use Rattle.circus_outside.specs.MemShelf.{contents_in, FetchFails};
 
 use crate::calls::Calls;
 use crate::file::first_of;
-use crate::shelf::LONGEST_CONTENTS;
-use crate::{Failing, FileNames, Files, Shelf, ShelfFault};
+use crate::{Failing, FileNames, Files, LONGEST_CONTENTS, Shelf, ShelfFault};
 use circus_value::{Duplicate, Message, NoMemory, Octets};
 use std::alloc::Global;
 use std::marker::Model;
@@ -59,7 +59,7 @@ impl MemShelf {
     // The contents that the next fetch of this name answers, or `None` where it is to fail.
     fn answer(&self, name: &str) -> Result<Option<Message>, NoMemory>
         ensures told { IfOk result (λ answer. IfSome answer (λ bytes. contents_in self.now.files name.now ≡ Some bytes)) }
-        ensures size { IfOk result (λ answer. IfSome answer (λ bytes. length bytes ≤ 16777216)) }
+        ensures size { IfOk result (λ answer. IfSome answer (λ bytes. length bytes ≤ longest_contents)) }
         ensures fails { IfOk result (λ answer. IfNone answer (FetchFails self.now name.now)) }
         ensures answers { IfOk result (λ answer. OnSome answer (FetchFails self.now name.now → ⊥)) }
     {
@@ -82,7 +82,7 @@ impl Shelf for MemShelf {
 
     fn fetch(&mut self, name: &str) -> Result<Message, ShelfFault>
         ensures told { IfOk result (λ bytes. contents_in self.old.files name.now ≡ Some bytes) }
-        ensures size { IfOk result (λ bytes. length bytes ≤ 16777216) }
+        ensures size { IfOk result (λ bytes. length bytes ≤ longest_contents) }
         ensures contents { Some (contents_in self.new.files) ≡ Some (contents_in self.old.files) }
         ensures fetched { Some self.new.fetched ≡ names_after result (Some self.old.fetched) name.now }
         ensures counts { ShelfCounts result self.old.faults self.new.faults }

@@ -1,13 +1,11 @@
 // Files that are fetched by name.
 ghost use Rattle.std.specs.Prelude.{◌≡◌, ◌≤◌, Option, Some, List, ℕ, length, IfOk, IfSome};
+ghost use Rattle.circus_outside.specs.Limits.{longest_contents};
 ghost use Rattle.circus_outside.specs.Shelf.{ShelfCounts, names_after};
 ghost use Rattle.circus_outside.specs.declared.shelf.ShelfFault.TheVariants.{NoMemory};
 
 use circus_value::{Message, NoMemory};
 use thiserror::Error;
-
-// The longest contents that a shelf answers, in bytes.
-pub const LONGEST_CONTENTS: usize = 16_777_216;
 
 /// Why a shelf answers no contents.
 #[derive(Debug, Drop, Error)]
@@ -46,7 +44,7 @@ pub trait Shelf {
     /// value. After `NoMemory` the shelf is unchanged.
     fn fetch(&mut self, name: &str) -> Result<Message, ShelfFault>
         ensures told { IfOk result (λ bytes. IfSome (contents self.old) (λ told. told name.now ≡ Some bytes)) }
-        ensures size { IfOk result (λ bytes. length bytes ≤ 16777216) }
+        ensures size { IfOk result (λ bytes. length bytes ≤ longest_contents) }
         ensures contents { contents self.new ≡ contents self.old }
         ensures fetched { fetched self.new ≡ names_after result (fetched self.old) name.now }
         ensures counts { ShelfCounts result (faults self.old) (faults self.new) }

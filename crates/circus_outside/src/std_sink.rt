@@ -1,7 +1,8 @@
 // A sink that writes to the standard output.
 ghost use Rattle.std.specs.Prelude.{◌≡◌, None};
 
-use crate::{Sink, SinkFault};
+use crate::{Sink, SinkFault, write_piece};
+use std::io;
 use std::marker::Model;
 
 /// The standard output. What a put answered is written when it returns. It tells nothing of what was
@@ -35,15 +36,12 @@ impl<R: Print> Sink for StdSink<R> {
     ghost faults = { λ sink. sink };
 
     fn put(&mut self, bytes: &[u8]) -> Result<usize, SinkFault> {
-        if bytes.is_empty() {
-            return Ok(0);
-        }
-        match self.output.write_some(bytes) {
-            Ok(count) if count > 0 => Ok(count),
-            _ => {
+        match write_piece(&mut io::writer(&self.output), bytes) {
+            Err(SinkFault::Failed) => {
                 self.faults = self.faults.saturating_add(1);
                 Err(SinkFault::Failed)
             }
+            answer => answer,
         }
     }
 

@@ -1,5 +1,6 @@
 // A shelf in memory that never fails.
 ghost use Rattle.std.specs.Prelude.{◌≡◌, ◌≤◌, ◌++◌, [], ◌∷◌, Option, Some, List, ℕ, length, IfOk, OnOk, OnErr, IsOkUnless};
+ghost use Rattle.circus_outside.specs.Limits.{longest_contents};
 ghost use Rattle.circus_outside.specs.Shelf.{ShelfCounts, names_after};
 ghost use Rattle.circus_outside.specs.SureShelf.{AllAnswerable, sure_contents, sure_of};
 
@@ -50,7 +51,7 @@ impl SureShelf {
     // The contents that a fetch of this name answers.
     fn answer(&self, name: &str) -> Result<Message, NoMemory>
         ensures told { IfOk result (λ bytes. bytes ≡ sure_contents self.now.files name.now) }
-        ensures size { IfOk result (λ bytes. length bytes ≤ 16777216) }
+        ensures size { IfOk result (λ bytes. length bytes ≤ longest_contents) }
     {
         match first_of(&self.files, name) {
             Some(contents) => contents.copy(),
@@ -68,7 +69,7 @@ impl Shelf for SureShelf {
 
     fn fetch(&mut self, name: &str) -> Result<Message, ShelfFault>
         ensures told { IfOk result (λ bytes. sure_of self.old.files name.now ≡ Some bytes) }
-        ensures size { IfOk result (λ bytes. length bytes ≤ 16777216) }
+        ensures size { IfOk result (λ bytes. length bytes ≤ longest_contents) }
         ensures contents { Some (sure_of self.new.files) ≡ Some (sure_of self.old.files) }
         ensures fetched { Some self.new.fetched ≡ names_after result (Some self.old.fetched) name.now }
         ensures counts { ShelfCounts result 0 0 }

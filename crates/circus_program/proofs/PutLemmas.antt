@@ -28,7 +28,7 @@ module _ (shelf : Option (List ℕ → Option (List ℕ))) (words : List (List �
       }
 
   -- a part of a text that is due was written, and the sink failed
-  answer-stopped : (text : List ℕ) → IsText shelf words text → WritesPart old new text → SinkRose → IsAnswer shelf words fetched ShelfRose old new SinkRose 5
+  answer-stopped : (text : List ℕ) → IsText shelf words fetched ShelfRose text → WritesPart old new text → SinkRose → IsAnswer shelf words fetched ShelfRose old new SinkRose 5
   answer-stopped text due part rose =
       record {
         known = refl;
@@ -41,7 +41,7 @@ module _ (shelf : Option (List ℕ → Option (List ℕ))) (words : List (List �
       }
 
   -- a part was written, and there was no memory
-  answer-unfinished : (text : List ℕ) → IsText shelf words text → WritesPart old new text → IsAnswer shelf words fetched ShelfRose old new SinkRose 7
+  answer-unfinished : (text : List ℕ) → IsText shelf words fetched ShelfRose text → WritesPart old new text → IsAnswer shelf words fetched ShelfRose old new SinkRose 7
   answer-unfinished text due part =
       record {
         known = refl;
@@ -96,7 +96,7 @@ module _ (shelf : Option (List ℕ → Option (List ℕ))) (words : List (List �
       subst (λ (n : ℕ). IsAnswer shelf words fetched ShelfRose old new SinkRose n) (sym whole.0) (answer-lacked name due last rose whole.1)
   answer-lack result name due last rose (inr (inl stopped)) =
       subst (λ (n : ℕ). IsAnswer shelf words fetched ShelfRose old new SinkRose n) (sym stopped.0)
-      (answer-stopped (shelf_fault name) (inr (name, due, refl)) stopped.1 stopped.2)
+      (answer-stopped (shelf_fault name) (inr (name, due, last, rose, refl)) stopped.1 stopped.2)
   answer-lack result name due last rose (inr (inr unfinished)) =
       subst (λ (n : ℕ). IsAnswer shelf words fetched ShelfRose old new SinkRose n) (sym unfinished.0)
-      (answer-unfinished (shelf_fault name) (inr (name, due, refl)) unfinished.1)
+      (answer-unfinished (shelf_fault name) (inr (name, due, last, rose, refl)) unfinished.1)

@@ -91,11 +91,16 @@ Lacks shelf words name = IsDue shelf words (fetch name)
 abbrev pub shelf_fault : List ℕ → List ℕ
 shelf_fault name = line (codes "shelf fault: " ++ name)
 
--- the text is one that is due in full: of an end, or of a fetch that failed
-abbrev pub IsText : Option (List ℕ → Option (List ℕ)) → List (List ℕ) → List ℕ → Type 0
-IsText shelf words text =
+-- where the shelf tells, the name was asked for last
+abbrev pub WasLast : Option (List (List ℕ)) → List ℕ → Type 0
+WasLast asked name = IfSome asked (λ names. (before : List (List ℕ)) × (names ≡ before ++ name ∷ []))
+
+-- the text is one that is due in full: of an end, or of a fetch that failed, which was asked for last and with
+-- which the shelf's count of faults rose
+abbrev pub IsText : Option (List ℕ → Option (List ℕ)) → List (List ℕ) → Option (List (List ℕ)) → Type 0 → List ℕ → Type 0
+IsText shelf words fetched ShelfRose text =
     ((status : ℕ) × Finishes shelf words status text)
-    ⊎ ((name : List ℕ) × Lacks shelf words name × (text ≡ shelf_fault name))
+    ⊎ ((name : List ℕ) × Lacks shelf words name × WasLast fetched name × ShelfRose × (text ≡ shelf_fault name))
 
 -- this was written at the end of what the sink has
 abbrev pub Writes : Option (List ℕ) → Option (List ℕ) → List ℕ → Type 0
@@ -109,17 +114,13 @@ pub record WritesPart (old new : Option (List ℕ)) (text : List ℕ) : Type 0 w
   pub written : Writes old new part
 
 -- a part of a text that is due was written, or nothing
-abbrev pub WritesPartOfText : Option (List ℕ → Option (List ℕ)) → List (List ℕ) → Option (List ℕ) → Option (List ℕ) → Type 0
-WritesPartOfText shelf words old new =
-    ((text : List ℕ) × IsText shelf words text × WritesPart old new text) ⊎ (new ≡ old)
+abbrev pub WritesPartOfText : Option (List ℕ → Option (List ℕ)) → List (List ℕ) → Option (List (List ℕ)) → Type 0 → Option (List ℕ) → Option (List ℕ) → Type 0
+WritesPartOfText shelf words fetched ShelfRose old new =
+    ((text : List ℕ) × IsText shelf words fetched ShelfRose text × WritesPart old new text) ⊎ (new ≡ old)
 
 -- the text of the end that is due with this status was written
 abbrev pub WritesEnd : Option (List ℕ → Option (List ℕ)) → List (List ℕ) → Option (List ℕ) → Option (List ℕ) → ℕ → Type 0
 WritesEnd shelf words old new status = (text : List ℕ) × Finishes shelf words status text × Writes old new text
-
--- where the shelf tells, the name was asked for last
-abbrev pub WasLast : Option (List (List ℕ)) → List ℕ → Type 0
-WasLast asked name = IfSome asked (λ names. (before : List (List ℕ)) × (names ≡ before ++ name ∷ []))
 
 -- the name of the file that was due, and was asked for last, was written
 abbrev pub WritesLack : Option (List ℕ → Option (List ℕ)) → List (List ℕ) → Option (List (List ℕ)) → Option (List ℕ) → Option (List ℕ) → Type 0

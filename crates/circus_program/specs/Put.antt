@@ -14,6 +14,6 @@ pub record IsAnswer (shelf : Option (List ℕ → Option (List ℕ))) (words : L
   pub ended : (status : ℕ) → IsTrue (is_end status) → result ≡ status → WritesEnd shelf words old new status
   pub lacked : result ≡ 4 → WritesLack shelf words fetched old new
   pub shelf_rose : result ≡ 4 → ShelfRose
-  pub stopped : result ≡ 5 → WritesPartOfText shelf words old new
+  pub stopped : result ≡ 5 → WritesPartOfText shelf words fetched ShelfRose old new
   pub sink_rose : result ≡ 5 → SinkRose
-  pub no_memory : result ≡ 7 → WritesPartOfText shelf words old new
+  pub no_memory : result ≡ 7 → WritesPartOfText shelf words fetched ShelfRose old new

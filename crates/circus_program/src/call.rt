@@ -47,10 +47,10 @@ pub fn circus<S: Shelf, K: Sink, L: Link>(
     ensures shelf_fault { result ≡ 4 → WritesLack (S.contents shelf.old) (map string_bytes words.now) (S.fetched shelf.new) (K.written sink.old) (K.written sink.new) }
     ensures shelf_rose { result ≡ 4 → Rose (S.faults shelf.old) (S.faults shelf.new) }
 
-    ensures sink_fault { result ≡ 5 → WritesPartOfText (S.contents shelf.old) (map string_bytes words.now) (K.written sink.old) (K.written sink.new) }
+    ensures sink_fault { result ≡ 5 → WritesPartOfText (S.contents shelf.old) (map string_bytes words.now) (S.fetched shelf.new) (Rose (S.faults shelf.old) (S.faults shelf.new)) (K.written sink.old) (K.written sink.new) }
     ensures sink_rose { result ≡ 5 → Rose (K.faults sink.old) (K.faults sink.new) }
 
-    ensures no_memory { result ≡ 7 → WritesPartOfText (S.contents shelf.old) (map string_bytes words.now) (K.written sink.old) (K.written sink.new) }
+    ensures no_memory { result ≡ 7 → WritesPartOfText (S.contents shelf.old) (map string_bytes words.now) (S.fetched shelf.new) (Rose (S.faults shelf.old) (S.faults shelf.new)) (K.written sink.old) (K.written sink.new) }
 {
     let _link = link;
     answer(alloc, words, shelf, sink)

@@ -5,7 +5,7 @@ use Rattle.std.proofs.Math.Seq.{set-append_seam}
 use Rattle.std.proofs.lemmas.List.{drop_more}
 use Rattle.circus_value.specs.ShapeTree.{ShapeTree, FieldTree, ArmTree, FieldTrees, ArmTrees, boolean, cardinal, long_cardinal, integer, long_integer, text, enumeration, array, sequence, «record», choice, no_fields, more_fields, no_arms, more_arms, field_trees, arm_trees}
 use Rattle.circus_value.specs.ShapeOf.{tree_of, field_of, arm_of}
-use Rattle.circus_value.specs.ShapeWeight.{weight, field_weights, arm_weights}
+use Rattle.circus_value.specs.Seen.ShapeWeight.{weight, field_weights, arm_weights}
 use Rattle.circus_value.specs.declared.shape.Field.{Field}
 use Rattle.circus_value.specs.declared.shape.Arm.{Arm}
 use Rattle.circus_stub.specs.declared.operation.Operation.{Operation}

@@ -7,12 +7,12 @@ use Rattle.circus_value.specs.ValueTree as V
 use Rattle.circus_value.specs.ShapeTree.{ShapeTree, FieldTrees, ArmTrees, no_fields, no_arms, more_arms}
 use Rattle.circus_external.specs.declared.fault.ExternalFault.{ExternalFault}
 use Rattle.circus_external.specs.Answer.{Answer, found, short, not_a_value, bad_pad}
-use Rattle.circus_external.specs.Given.{Gives}
+use Rattle.circus_external.specs.Seen.Given.{Gives}
 use Rattle.circus_external.specs.Reading.{label_of, and_then, answer_map, word_read, one_more, reading, fields_reading, arm_reading, choice_read}
 use Rattle.circus_external.proofs.ReadLemmas.{behind, fault_behind}
 use Rattle.circus_stub.specs.declared.operation.Operation.{Operation}
 use Rattle.circus_stub.specs.Flat.{label_numbers}
-use Rattle.circus_stub.specs.Standing.{first_arm, listed_value}
+use Rattle.circus_stub.specs.Seen.Standing.{first_arm, listed_value}
 use Rattle.circus_stub.proofs.StandLemmas.{FieldsFirst}
 
 behind_more : (done : List ValueTree) (t : ValueTree) (a : Answer (List ValueTree)) → behind done (one_more t a) ≡ behind (done ++ t ∷ []) a

@@ -15,7 +15,8 @@ use Rattle.circus_idl.specs.declared.interface.Procedure.{Procedure}
 use Rattle.circus_external.specs.Octets.{word, first_word}
 use Rattle.circus_external.specs.Answer.{Answer, found, short, not_a_value, bad_pad}
 use Rattle.circus_external.specs.Reading.{fields_reading}
-use Rattle.circus_external.specs.Refusal.{AreOctets, are_proper}
+use Rattle.circus_value.specs.Parts.{AreOctets}
+use Rattle.circus_external.specs.Refusal.{are_proper}
 use Rattle.circus_external.specs.Spelling.{spelling_of_all, fields_admit}
 use Rattle.circus_external.proofs.Promises.{fields_spelled_read, fields_read_are_spelled, octets_rest}
 use Rattle.circus_external.proofs.OctetsSpelled.{fields_spelled_octets}

@@ -8,7 +8,7 @@ use Rattle.circus_value.specs.ShapeTree.{FieldTrees, ArmTrees, no_fields, no_arm
 use Rattle.circus_stub.specs.declared.operation.Operation.{Operation}
 use Rattle.circus_stub.specs.declared.operation.Operation.TheVariants as operation
 use Rattle.circus_stub.specs.Flat.{operations_in}
-use Rattle.circus_stub.specs.Standing.{ArmsStand}
+use Rattle.circus_stub.specs.Seen.Standing.{ArmsStand}
 use Rattle.circus_stub.specs.StubsText.{part_words, shape_words, field_words, arm_words}
 use Rattle.circus_stub.proofs.StandLemmas.{FieldsFirst, ArmsFirst}
 

@@ -9,7 +9,7 @@ use Rattle.circus_value.specs.ShapeTree.{ShapeTree, FieldTrees, ArmTrees, boolea
 use Rattle.circus_stub.specs.declared.operation.Operation.{Operation}
 use Rattle.circus_stub.specs.declared.operation.Operation.TheVariants as operation
 use Rattle.circus_stub.specs.Flat.{operations_in, operations_in_fields, operations_in_arms, label_numbers, field_count, arm_count, flat, flat_fields, flat_arms, part_end}
-use Rattle.circus_stub.specs.Standing.{Stands, FieldsStand, ArmsStand, first_arm}
+use Rattle.circus_stub.specs.Seen.Standing.{Stands, FieldsStand, ArmsStand, first_arm}
 use Rattle.circus_stub.proofs.FlatLemmas.{length-flat}
 
 -- ---- lists from a place on

@@ -10,15 +10,15 @@ use Rattle.circus_idl.specs.declared.interface.DeclaredError.{DeclaredError}
 use Rattle.circus_external.specs.declared.fault.ExternalFault.{ExternalFault}
 use Rattle.circus_external.specs.declared.fault.ExternalFault.TheVariants as external
 use Rattle.circus_external.specs.Answer.{Answer, found}
-use Rattle.circus_external.specs.Given.{Gives}
+use Rattle.circus_external.specs.Seen.Given.{Gives}
 use Rattle.circus_stub.specs.declared.fault.StubFault.{StubFault}
 use Rattle.circus_stub.specs.declared.fault.StubFault.TheVariants as stub
 use Rattle.circus_stub.specs.declared.operation.Operation.{Operation}
 use Rattle.circus_stub.specs.declared.stubs.ProcedureStub.{ProcedureStub}
 use Rattle.circus_stub.specs.declared.stubs.ErrorStub.{ErrorStub}
-use Rattle.circus_stub.specs.Faults.{stub_fault}
+use Rattle.circus_stub.specs.Seen.Faults.{stub_fault}
 use Rattle.circus_stub.specs.Flat.{flat_fields}
-use Rattle.circus_stub.specs.Standing.{FieldsStand}
+use Rattle.circus_stub.specs.Seen.Standing.{FieldsStand}
 use Rattle.circus_stub.specs.Compiled.{compiled, procedure_stub, error_stub, stub_of, error_values, raised_operations}
 use Rattle.circus_external.specs.Octets.{first_word}
 use Rattle.circus_stub.specs.Unpacked.{Answers, as_raised, raised_values, raised_unpacked, procedure_of, error_of, is_among, is_of_system, raised_fields, limited, values_alone}

@@ -13,7 +13,7 @@ use Rattle.circus_external.proofs.Alike.{joined-append}
 use Rattle.circus_external.proofs.ShapesAlike.{and_both}
 use Rattle.circus_stub.specs.declared.operation.Operation.{Operation}
 use Rattle.circus_stub.specs.Flat.{operations_in, operations_in_fields}
-use Rattle.circus_stub.specs.Standing.{Stands, FieldsStand, first_arm}
+use Rattle.circus_stub.specs.Seen.Standing.{Stands, FieldsStand, first_arm}
 use Rattle.circus_stub.proofs.StandLemmas.{fields_first, one_operation}
 
 -- ---- items

@@ -53,7 +53,7 @@ impl From<NoMemory> for StubFault {
 /// What is wrong with values is wrong with the arguments or the outcome.
 impl From<ExternalFault> for StubFault {
     ghost use Rattle.std.specs.Prelude.{◌≡◌};
-    ghost use Rattle.circus_stub.specs.Faults.{stub_fault};
+    ghost use Rattle.circus_stub.specs.Seen.Faults.{stub_fault};
 
     ghost from_gives = { λ external fault. fault ≡ stub_fault external };
 

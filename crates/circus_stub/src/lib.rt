@@ -1,6 +1,6 @@
 //! Stubs: flat lists of marshalling operations, compiled from an interface.
 //!
-//! `operation` has the steps and their lists, `stubs` what is compiled from an interface, and `compiler` the
+//! `operation` has the steps, `stubs` what is compiled from an interface, and `compiler` the
 //! compiler. `place` finds places in a list of operations, `reader` and `writer` read and write values by their
 //! operations; `behind` has the bytes from a place on, and `kinds` what values of a known kind hold. `unpack` and
 //! `pack` have the calls, `fault` says why bytes are no arguments and no outcome, `show` has the text of stubs, and
@@ -24,9 +24,9 @@ mod writer;
 pub use compiler::compile;
 pub use fault::StubFault;
 pub use laws::{obeying_interfaces_are_proper, packed_is_unpacked, unpacked_is_packed};
-pub use operation::{Operation, Operations};
+pub use operation::Operation;
 pub use show::show_stubs;
 pub use stubs::{Stubs, StubsList};
 
-#[cfg(test)]
-mod tests;
+/// Operations in order.
+pub type Operations = circus_value::ListOf<Operation>;

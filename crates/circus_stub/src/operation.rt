@@ -1,9 +1,7 @@
-// Marshalling operations, and lists of them.
-ghost use Rattle.std.specs.Prelude.{◌≡◌, ◌<◌, [], ◌∷◌, ◌++◌, length, slice_set, OnOk, OnErr};
+// Marshalling operations.
+ghost use Rattle.std.specs.Prelude.{◌≡◌};
 
 use circus_value::{Duplicate, NoMemory, Numbers};
-use std::alloc::Global;
-use std::marker::Model;
 
 /// One step of packing or unpacking a value. Where a step has a part of its own, the part's operations
 /// stand behind it, and its last number is the place behind them.
@@ -29,21 +27,6 @@ pub enum Operation {
     Arm(u16, usize),
 }
 
-/// Operations in order. Clauses see the plain list.
-#[derive(Debug, Drop)]
-pub struct Operations {
-    items: Vec<Operation>,
-}
-
-impl Model for Operations {
-    ghost use Rattle.std.specs.Prelude.{List};
-    ghost use Rattle.circus_stub.specs.declared.operation.Operation.{Operation};
-
-    ghost Value = { List Operation };
-
-    ghost view = { λ a. a.items.items };
-}
-
 impl Operation {
     ghost use Rattle.circus_stub.specs.Flat.{part_end};
 
@@ -59,46 +42,6 @@ impl Operation {
             Operation::Integer | Operation::LongInteger | Operation::Text => None,
             Operation::Enumeration(_) => None,
         }
-    }
-}
-
-impl Operations {
-    /// No operations. It takes no memory, and grows with this allocator.
-    pub(crate) fn new(alloc: Global) -> Self
-        ensures { result ≡ [] }
-    {
-        Operations {
-            items: Vec::new(alloc),
-        }
-    }
-
-    pub(crate) fn len(&self) -> usize
-        ensures { result ≡ length self.now }
-    {
-        self.items.len()
-    }
-
-    pub fn as_slice(&self) -> &[Operation]
-        ensures { result.now ≡ self.now }
-    {
-        self.items.as_slice()
-    }
-
-    /// Adds an operation at the end. After `NoMemory` the list is unchanged.
-    pub(crate) fn push(&mut self, operation: Operation) -> Result<(), NoMemory>
-        ensures ok { OnOk result (self.new ≡ self.old ++ operation ∷ []) }
-        ensures err { OnErr result (self.new ≡ self.old) }
-    {
-        self.items.push(operation)?;
-        Ok(())
-    }
-
-    /// Puts an operation in the place of another.
-    pub(crate) fn set(&mut self, place: usize, operation: Operation)
-        requires { place < length self.old }
-        ensures { self.new ≡ slice_set self.old place operation }
-    {
-        self.items[place] = operation;
     }
 }
 
@@ -118,15 +61,5 @@ impl Duplicate for Operation {
             Operation::Choice(arms, end) => Operation::Choice(*arms, *end),
             Operation::Arm(number, end) => Operation::Arm(*number, *end),
         })
-    }
-}
-
-impl Duplicate for Operations {
-    fn copy(&self) -> Result<Self, NoMemory> {
-        let mut items = Vec::with_capacity(*self.items.allocator(), self.items.len())?;
-        for item in &self.items {
-            items.push(item.copy()?)?;
-        }
-        Ok(Operations { items })
     }
 }

@@ -2,7 +2,7 @@
 ghost use Rattle.std.specs.Prelude.{◌≡◌, ◌+◌, ◌<◌, ℕ, MatchOption, None, Some};
 ghost use Rattle.circus_value.specs.ShapeTree.{ShapeTree, ArmTrees};
 ghost use Rattle.circus_stub.specs.Flat.{operations_in};
-ghost use Rattle.circus_stub.specs.Standing.{Stands, ArmsStand, first_arm};
+ghost use Rattle.circus_stub.specs.Seen.Standing.{Stands, ArmsStand, first_arm};
 
 use crate::Operation;
 

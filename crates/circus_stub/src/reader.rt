@@ -3,9 +3,9 @@ ghost use Rattle.std.specs.Prelude.{◌≡◌, ◌≤◌, ◌==◌, length, drop
 ghost use Rattle.std.specs.List.{list_any};
 ghost use Rattle.circus_value.specs.ShapeTree.{ShapeTree, FieldTrees, ArmTrees};
 ghost use Rattle.circus_value.specs.ValueOf as values;
-ghost use Rattle.circus_external.specs.Given.{Gives};
+ghost use Rattle.circus_external.specs.Seen.Given.{Gives};
 ghost use Rattle.circus_external.specs.Reading.{one_word, count_within, items_read, sequence_read, reading, fields_reading, choice_read};
-ghost use Rattle.circus_stub.specs.Standing.{Stands, FieldsStand, ArmsStand, listed_value};
+ghost use Rattle.circus_stub.specs.Seen.Standing.{Stands, FieldsStand, ArmsStand, listed_value};
 
 use crate::Operation;
 use crate::place::{arm_place, place_behind};

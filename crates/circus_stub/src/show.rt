@@ -5,7 +5,7 @@ ghost use Rattle.std.specs.List.{flat_map};
 ghost use Rattle.circus_value.specs.ThreadText.{numbers_behind};
 ghost use Rattle.circus_value.specs.ShapeTree.{ShapeTree, FieldTrees, ArmTrees};
 ghost use Rattle.circus_stub.specs.Flat.{flat_fields};
-ghost use Rattle.circus_stub.specs.Standing.{Stands, FieldsStand, ArmsStand};
+ghost use Rattle.circus_stub.specs.Seen.Standing.{Stands, FieldsStand, ArmsStand};
 ghost use Rattle.circus_stub.specs.Compiled.{compiled, procedure_stub, error_stub};
 ghost use Rattle.circus_stub.specs.StubsText.{part_words, shape_words, field_words, arm_words, interface_line, error_line, reports_line, procedure_lines, stubs_text};
 

@@ -5,7 +5,6 @@ ghost use Rattle.circus_idl.specs.declared.interface.Interface.{Interface};
 ghost use Rattle.circus_idl.specs.declared.interface.Procedure.{Procedure};
 ghost use Rattle.circus_external.specs.Octets.{first_word};
 ghost use Rattle.circus_external.specs.Reading.{fields_reading};
-ghost use Rattle.circus_external.specs.Refusal.{AreOctets};
 ghost use Rattle.circus_external.specs.Spelling.{spelling_of_all};
 ghost use Rattle.circus_stub.specs.Flat.{flat_fields};
 ghost use Rattle.circus_stub.specs.Compiled.{compiled, AreCompiled, procedure_stub, stub_of, error_values, raised_operations};
@@ -74,14 +73,15 @@ impl Stubs {
     ) -> Result<Values, StubFault>
         requires stubs { AreCompiled self.now }
         requires within { at ≤ length parts.now }
-        // Parts are made of bytes, which a contract does not see.
-        ensures spelled { (i : Interface) → self.now ≡ compiled i self.now.limit → AreOctets parts.now
+        // What is unpacked are arguments, and the bytes are theirs.
+        ensures spelled { (i : Interface) → self.now ≡ compiled i self.now.limit
             → IfOk result (λ values. AreArguments i procedure values × (drop at parts.now ≡ spelling_of_all values)) }
 
         // The answer of `unpack`.
         ensures exact { (i : Interface) → self.now ≡ compiled i self.now.limit
             → Answers result (arguments_unpacked i self.now.limit procedure (drop at parts.now)) }
     {
+        prove!(at <= parts.len());
         self.arguments_from(alloc, procedure, &Behind { source: parts, at })
     }
 
@@ -96,14 +96,15 @@ impl Stubs {
     ) -> Result<Outcome, StubFault>
         requires stubs { AreCompiled self.now }
         requires within { at ≤ length parts.now }
-        // Parts are made of bytes, which a contract does not see.
-        ensures spelled { (i : Interface) → self.now ≡ compiled i self.now.limit → AreOctets parts.now
+        // What is unpacked is an outcome, and the bytes are its bytes.
+        ensures spelled { (i : Interface) → self.now ≡ compiled i self.now.limit
             → IfOk result (λ outcome. IsOutcome i procedure outcome × (drop at parts.now ≡ outcome_spelling outcome)) }
 
         // The answer of `unpack_outcome`.
         ensures exact { (i : Interface) → self.now ≡ compiled i self.now.limit
             → Answers result (outcome_unpacked i self.now.limit procedure (drop at parts.now)) }
     {
+        prove!(at <= parts.len());
         self.outcome_from(alloc, procedure, &Behind { source: parts, at })
     }
 

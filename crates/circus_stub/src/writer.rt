@@ -6,7 +6,7 @@ ghost use Rattle.circus_value.specs.ValueTree as tree;
 ghost use Rattle.circus_value.specs.ValueTree.{value_trees};
 ghost use Rattle.circus_value.specs.Fits.{fits, every, is_sequence, is_choice, arm_fits};
 ghost use Rattle.circus_external.specs.Spelling.{spelling, spelling_of_all, fields_admit};
-ghost use Rattle.circus_stub.specs.Standing.{Stands, FieldsStand, ArmsStand};
+ghost use Rattle.circus_stub.specs.Seen.Standing.{Stands, FieldsStand, ArmsStand};
 
 use crate::place::{arm_place, place_behind};
 use crate::{Operation, kinds};

@@ -4,7 +4,7 @@ use Rattle.std.specs.Coded.{Coded, code_by}
 use Rattle.std.proofs.Common.{ap, zero, suc}
 use base.Stored.{Gv, gnil, gnum, gcons, num}
 use denote.Struct.Codes.{itself}
-use Rattle.circus_value.specs.ValueCode.{bytes_to, bytes_from, bytes_back}
+use Rattle.circus_value.specs.Seen.ValueCode.{bytes_to, bytes_from, bytes_back}
 use Rattle.circus_syntax.specs.declared.named.Named.{Named}
 use Rattle.circus_syntax.specs.declared.named.Numeral.{Numeral}
 use Rattle.circus_syntax.specs.declared.named.TypeName.{TypeName}

@@ -1,5 +1,6 @@
 // Reading interfaces.
 ghost use Rattle.std.specs.Prelude.{◌≡◌, ℕ, ◌≤◌, ◌-◌, length, map, drop, All, IfOk};
+ghost use Rattle.circus_text.specs.Form.{longest_text};
 ghost use Rattle.circus_text.specs.Token.{IsTokenIn};
 ghost use Rattle.circus_syntax.specs.TypeOf.{tree_of};
 ghost use Rattle.circus_syntax.specs.InterfaceTree.{interface_of, declared_of};
@@ -46,7 +47,7 @@ pub fn read_interface_text(
 ) -> Result<Read, NoMemory>
     requires of_text { All (IsTokenIn text.now) tokens.now }
     requires inside { at ≤ length tokens.now }
-    requires short { length text.now ≤ 1048576 }
+    requires short { length text.now ≤ longest_text }
     ensures { IfOk result (λ read. Answers text.now tokens.now at read) }
 {
     let left = &tokens.as_slice()[at..];
@@ -227,6 +228,3 @@ impl Reader<'_> {
         number
     }
 }
-
-#[cfg(test)]
-mod tests;

@@ -4,7 +4,7 @@ ghost use Rattle.circus_text.specs.Token.{IsTokenIn, bytes_of};
 ghost use Rattle.circus_syntax.specs.Placed.{Placed, placed_of, is_lexeme, is_name, is_number, word, sign};
 ghost use Rattle.circus_syntax.specs.Reader.{open_at, place, next, sees, skipped_by, stopped_by};
 ghost use Rattle.circus_syntax.specs.Reading.{fixed, name, number, names, stop_in_type, stop_in_list};
-ghost use Rattle.circus_text.specs.Form.{number_value};
+ghost use Rattle.circus_text.specs.Form.{longest_text, number_value};
 
 use crate::reserved::is_reserved_word;
 use crate::{Named, Nameds, Numeral, Stop};
@@ -25,6 +25,7 @@ pub struct Reader<'a> {
 
 impl<'a> Model for Reader<'a> {
     ghost use Rattle.std.specs.Prelude.{ℕ, ◌≤◌, List, length, map, All};
+    ghost use Rattle.circus_text.specs.Form.{longest_text};
     ghost use Rattle.circus_text.specs.Token.{IsTokenIn};
     ghost use Rattle.circus_syntax.specs.Placed.{placed_of};
     ghost use Rattle.circus_syntax.specs.Reader.{Reader};
@@ -33,7 +34,7 @@ impl<'a> Model for Reader<'a> {
 
     ghost view = { λ r. record { rest = map (placed_of r.text.now) r.left.now; end = length r.text.now; stop = r.stop } };
 
-    ghost invariant = { λ r. All (IsTokenIn r.text.now) r.left.now × (length r.text.now ≤ 1048576) };
+    ghost invariant = { λ r. All (IsTokenIn r.text.now) r.left.now × (length r.text.now ≤ longest_text) };
 }
 
 impl<'a> Reader<'a> {
@@ -41,7 +42,7 @@ impl<'a> Reader<'a> {
     /// memory from this allocator.
     pub fn new(alloc: Global, text: &'a [u8], tokens: &'a [Token]) -> Self
         requires of_text { All (IsTokenIn text.now) tokens.now }
-        requires short { length text.now ≤ 1048576 }
+        requires short { length text.now ≤ longest_text }
         ensures { result ≡ open_at (map (placed_of text.now) tokens.now) (length text.now) }
     {
         Reader {

@@ -62,6 +62,10 @@ number_value w = digits_value 10 w
 abbrev pub longest_word : ℕ
 longest_word = 32
 
+-- how many bytes a text has at most
+abbrev pub longest_text : ℕ
+longest_text = 1048576
+
 -- the greatest value that a number may have
 abbrev pub greatest_number : ℕ
 greatest_number = 9223372036854775807

@@ -1,10 +1,7 @@
 ghost use Rattle.std.specs.Prelude.{◌≡◌};
 
-use std::alloc::AllocError;
+use circus_value::NoMemory;
 use thiserror::Error;
-
-/// Want of memory.
-pub type NoMemory = AllocError;
 
 /// Why a text has no tokens. A place is counted in bytes from the text's front (docs/LANGUAGE.md, "Tokens").
 #[derive(Debug, PartialEq, Eq, Drop, Error)]

@@ -1,14 +1,14 @@
 ghost use Rattle.std.specs.Prelude.{◌≡◌, ℕ, ◌≤◌, ◌⊎◌, length, List, Result, Ok, Err, ◌+◌, ◌++◌, IfOk, OnOk, All, AllPairs};
 ghost use Rattle.circus_text.specs.declared.token.Token.{Token};
 ghost use Rattle.circus_text.specs.declared.lex_fault.LexFault.{LexFault};
+ghost use Rattle.circus_text.specs.Form.{longest_text};
 ghost use Rattle.circus_text.specs.Front.{IsBadCharacter, IsOpenString, IsLongNumber};
 ghost use Rattle.circus_text.specs.Token.{IsTokenIn, IsBefore};
 ghost use Rattle.circus_text.specs.Division.{AreTokensOf, HasFault, IsAnswer, token_of};
 
 use crate::front::{Form, Front, front_of};
-use crate::lex_fault::{LexFault, NoMemory};
-use crate::token::Token;
-use crate::token_list::TokenList;
+use crate::{LexFault, Token, TokenList};
+use circus_value::NoMemory;
 use std::alloc::Global;
 
 /// The tokens of a text of at most 1,048,576 bytes, in the order in which they stand in it
@@ -19,7 +19,7 @@ use std::alloc::Global;
 /// its place, `OpenString` at the quote of a string that its line doesn't close, `LongNumber` at the first
 /// digit of a number above 9,223,372,036,854,775,807. `NoMemory` can come at any token.
 pub fn tokens(alloc: Global, text: &[u8]) -> Result<TokenList, LexFault>
-    requires { length text.now ≤ 1048576 }
+    requires { length text.now ≤ longest_text }
     ensures found { IfOk result (AreTokensOf text.now) }
     ensures bad_character { (place : ℕ) → result ≡ Err (LexFault.BadCharacter place)
         → HasFault IsBadCharacter text.now place }
@@ -41,7 +41,7 @@ pub fn tokens(alloc: Global, text: &[u8]) -> Result<TokenList, LexFault>
 
 // The loop of `tokens`: the text's one answer, unless memory runs out.
 fn scan(alloc: Global, text: &[u8]) -> Result<TokenList, LexFault>
-    requires { length text.now ≤ 1048576 }
+    requires { length text.now ≤ longest_text }
     ensures { (result ≡ Err LexFault.NoMemory) ⊎ IsAnswer text.now result }
 {
     let mut found = TokenList::new(alloc);
@@ -62,7 +62,7 @@ fn scan(alloc: Global, text: &[u8]) -> Result<TokenList, LexFault>
 
 // Adds the token that a piece is, if it is one.
 fn push_token(found: &mut TokenList, form: Form, at: usize, len: usize) -> Result<(), NoMemory>
-    requires { at + len ≤ 1048576 }
+    requires { at + len ≤ longest_text }
     ensures { OnOk result (found.new ≡ found.old ++ token_of at form len) }
 {
     match form {
@@ -74,6 +74,3 @@ fn push_token(found: &mut TokenList, form: Form, at: usize, len: usize) -> Resul
         Form::Spacing | Form::Comment => Ok(()),
     }
 }
-
-#[cfg(test)]
-mod tests;

@@ -3,6 +3,7 @@ ghost use Rattle.circus_text.specs.Form.{greatest_number, number_value};
 ghost use Rattle.circus_text.specs.Token.{bytes_of, content_of, LiesIn, IsTokenIn};
 
 use crate::number::number_of;
+use circus_value::{Duplicate, NoMemory};
 
 /// What a token is.
 #[derive(Clone, Copy, Debug, PartialEq, Eq)]
@@ -52,5 +53,11 @@ impl Token {
     {
         let bytes = self.bytes(text);
         &bytes[1..bytes.len() - 1]
+    }
+}
+
+impl Duplicate for Token {
+    fn copy(&self) -> Result<Self, NoMemory> {
+        Ok(*self)
     }
 }

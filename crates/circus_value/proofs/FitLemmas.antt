@@ -7,7 +7,7 @@ use Rattle.std.proofs.lemmas.Bool.Decides.{nat_tests}
 use Rattle.std.proofs.lemmas.List.{drop_more, drop-map}
 use Rattle.circus_value.specs.ValueTree.{ValueTree, value_trees, array, sequence, choice}
 use Rattle.circus_value.specs.ShapeTree.{ShapeTree, FieldTree, ArmTree, field_trees, arm_trees}
-use Rattle.circus_value.specs.ValueWeight.{weight, weights}
+use Rattle.circus_value.specs.Seen.ValueWeight.{weight, weights}
 use Rattle.circus_value.specs.ValueOf as values
 use Rattle.circus_value.specs.ShapeOf.{field_of}
 use Rattle.circus_value.specs.ShapeOf as shapes

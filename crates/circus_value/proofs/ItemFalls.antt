@@ -3,8 +3,8 @@ use Rattle.std.proofs.Common.{arith, ◌≡◌, ℕ, ◌+◌, ◌<◌, ◌≤◌
 use denote.Param.Weighed.{at_most}
 use Rattle.circus_value.specs.ValueTree.{ValueTree, value_trees, boolean, cardinal, long_cardinal, integer, long_integer, text, enumeration, array, sequence, «record», choice}
 use Rattle.circus_value.specs.ValueOf.{tree_of}
-use Rattle.circus_value.specs.ValueWeight.{weight, weights}
-use Rattle.circus_value.specs.ValueFalls.{most_deep_le-weights}
+use Rattle.circus_value.specs.Seen.ValueWeight.{weight, weights}
+use Rattle.circus_value.specs.Seen.ValueFalls.{most_deep_le-weights}
 use Rattle.circus_value.specs.declared.value.Value.{Value}
 use Rattle.circus_value.specs.declared.value.Chosen.TheDeep.{deep-Value}
 

@@ -1,4 +1,6 @@
 pub mod PartLemmas
 pub mod FitLemmas
+pub mod Octets
+pub mod ShapeBack
 mod ItemFalls
 mod ShownMore

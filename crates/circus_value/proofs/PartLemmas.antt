@@ -4,7 +4,7 @@ use Rattle.std.specs.List.{concat}
 use Rattle.std.proofs.lemmas.List.Folds.{concat-append}
 use Rattle.std.proofs.lemmas.List.{take_all, take_more, append-nil, take-append-drop, drop-drop, drop_at, drop-append-le, take_rest}
 use Rattle.std.proofs.lemmas.Option.{unwrap_or-slice_get, slice_get_read, slice_get-get_or}
-use Rattle.circus_value.specs.PartEnds.{ends_from}
+use Rattle.circus_value.specs.Seen.PartEnds.{ends_from}
 
 pub length-ends_from : (n : ℕ) (ps : List (List ℕ)) → length (ends_from n ps) ≡ length ps
 length-ends_from n [] = refl

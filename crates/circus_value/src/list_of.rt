@@ -1,5 +1,5 @@
 // A list that grows at its end.
-ghost use Rattle.std.specs.Prelude.{◌≡◌, List, [], ◌∷◌, ◌++◌, length, option_copied, slice_get, OnOk, OnErr, IfOk, IsTrue, ◌↔◌};
+ghost use Rattle.std.specs.Prelude.{◌≡◌, ◌<◌, List, [], ◌∷◌, ◌++◌, length, option_copied, slice_get, slice_set, OnOk, OnErr, IfOk, IsTrue, ◌↔◌};
 
 use crate::{Duplicate, NoMemory};
 use bytes::Bytes;
@@ -55,7 +55,8 @@ impl<T> ListOf<T> {
 }
 
 impl<T> ListOf<T> {
-    pub(crate) fn of(items: Vec<T>) -> Self
+    /// These items, which are not copied.
+    pub fn of(items: Vec<T>) -> Self
         ensures { result ≡ items.items }
     {
         ListOf { items }
@@ -79,6 +80,14 @@ impl<T: Drop> ListOf<T> {
     {
         self.items.push(item)?;
         Ok(())
+    }
+
+    /// Puts an item in the place of another.
+    pub fn set(&mut self, place: usize, item: T)
+        requires { place < length self.old }
+        ensures { self.new ≡ slice_set self.old place item }
+    {
+        self.items[place] = item;
     }
 }
 

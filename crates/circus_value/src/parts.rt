@@ -1,7 +1,8 @@
 // Bytes in parts that are shared with others.
 ghost use Rattle.std.specs.Prelude.{◌≡◌, true, ℕ, ◌+◌, ◌-◌, ◌<◌, ◌≤◌, List, [], ◌++◌, length, take, drop, slice_get, slice_index, OnOk, OnErr, IsOk, IfOk, IfSome, IfNone, IsTrue, ◌↔◌};
 ghost use Rattle.std.specs.List.{concat};
-ghost use Rattle.circus_value.specs.PartEnds.{ends_from};
+ghost use Rattle.circus_value.specs.Parts.{most_bytes, AreOctets};
+ghost use Rattle.circus_value.specs.Seen.PartEnds.{ends_from};
 
 use crate::{Duplicate, ListOf, Message, NoMemory};
 use bytes::Bytes;
@@ -19,7 +20,8 @@ pub struct Parts {
 impl Model for Parts {
     ghost use Rattle.std.specs.Prelude.{◌≡◌, ℕ, ◌<◌, ◌≤◌, List, length, All};
     ghost use Rattle.std.specs.List.{concat};
-    ghost use Rattle.circus_value.specs.PartEnds.{ends_from};
+    ghost use Rattle.circus_value.specs.Parts.{most_bytes, AreOctets};
+    ghost use Rattle.circus_value.specs.Seen.PartEnds.{ends_from};
 
     ghost Value = { List ℕ };
 
@@ -27,7 +29,8 @@ impl Model for Parts {
 
     ghost invariant = { λ p. (p.ends.items ≡ ends_from 0 p.parts.items)
         × All (λ part. 0 < length part) p.parts.items
-        × (length (concat p.parts.items) ≤ 16777216) };
+        × (length (concat p.parts.items) ≤ most_bytes)
+        × AreOctets (concat p.parts.items) };
 }
 
 impl Parts {
@@ -44,7 +47,8 @@ impl Parts {
     /// How many bytes there are, at most 16,777,216.
     pub fn len(&self) -> usize
         ensures value { result ≡ length self.now }
-        ensures bound { result ≤ 16777216 }
+        ensures bound { result ≤ most_bytes }
+        ensures octets { AreOctets self.now }
     {
         self.ends.last().copied().unwrap_or(0)
     }
@@ -66,15 +70,16 @@ impl Parts {
     /// Adds bytes at the end, which are shared and not copied. An empty part changes nothing, and
     /// after `NoMemory` the bytes are unchanged.
     pub fn add(&mut self, part: Bytes) -> Result<(), NoMemory>
-        requires { length self.old + length part ≤ 16777216 }
+        requires { length self.old + length part ≤ most_bytes }
         ensures ok { OnOk result (self.new ≡ self.old ++ part) }
         ensures err { OnErr result (self.new ≡ self.old) }
         ensures empty { part ≡ [] → IsOk result }
     {
-        if part.is_empty() {
+        let bytes = part.as_slice();
+        if bytes.is_empty() {
             return Ok(());
         }
-        let end = self.len() + part.len();
+        let end = self.len() + bytes.len();
         self.ends.reserve(1)?;
         self.parts.push(part)?;
         self.ends.push_reserved(end);
@@ -109,7 +114,7 @@ impl Parts {
 
     /// Adds parts at the end, which are shared. After `NoMemory` some of them may stand there.
     fn add_all(&mut self, parts: &[Bytes]) -> Result<(), NoMemory>
-        requires { length self.old + length (concat parts.now) ≤ 16777216 }
+        requires { length self.old + length (concat parts.now) ≤ most_bytes }
         ensures { OnOk result (self.new ≡ self.old ++ concat parts.now) }
     {
         for part in parts {
@@ -127,7 +132,7 @@ impl Duplicate for Parts {
 
 /// The part that a byte stands in, and its place in that part. `None` where there is no such byte.
 fn find(parts: &[Bytes], ends: &[usize], at: usize) -> Option<(usize, usize)>
-    requires { (ends.now ≡ ends_from 0 parts.now) × (length (concat parts.now) ≤ 16777216) }
+    requires { (ends.now ≡ ends_from 0 parts.now) × (length (concat parts.now) ≤ most_bytes) }
     ensures none { IfNone result (length (concat parts.now) ≤ at) }
     ensures within { IfSome result (λ place. place.0 < length parts.now) }
     ensures start { IfSome result (λ place. length (concat (take place.0 parts.now)) + place.1 ≡ at) }

@@ -76,8 +76,8 @@ impl Model for Fields {
     ghost use Rattle.std.specs.Coded.{coded_list};
     ghost use Rattle.std.proofs.Common.{arith};
     ghost use Rattle.circus_value.specs.ShapeTree.{FieldTree, field_trees};
-    ghost use Rattle.circus_value.specs.ShapeCode.{coded_field};
-    ghost use Rattle.circus_value.specs.ShapeWeight.{field_weights};
+    ghost use Rattle.circus_value.specs.Seen.ShapeCode.{coded_field};
+    ghost use Rattle.circus_value.specs.Seen.ShapeWeight.{field_weights};
 
     ghost Value = { List FieldTree };
 
@@ -89,7 +89,7 @@ impl Model for Fields {
 
     ghost size = { λ fs. field_weights (field_trees fs) };
 
-    ghost use Rattle.circus_value.specs.ShapeFalls.{most_deep_le-field_weights};
+    ghost use Rattle.circus_value.specs.Seen.ShapeFalls.{most_deep_le-field_weights};
 
     ghost size_decreases = { λ a h. Prim.omega (arith, most_deep_le-field_weights a.items.items) };
 }
@@ -99,8 +99,8 @@ impl Model for Arms {
     ghost use Rattle.std.specs.Coded.{coded_list};
     ghost use Rattle.std.proofs.Common.{arith};
     ghost use Rattle.circus_value.specs.ShapeTree.{ArmTree, arm_trees};
-    ghost use Rattle.circus_value.specs.ShapeCode.{coded_arm};
-    ghost use Rattle.circus_value.specs.ShapeWeight.{arm_weights};
+    ghost use Rattle.circus_value.specs.Seen.ShapeCode.{coded_arm};
+    ghost use Rattle.circus_value.specs.Seen.ShapeWeight.{arm_weights};
 
     ghost Value = { List ArmTree };
 
@@ -112,7 +112,7 @@ impl Model for Arms {
 
     ghost size = { λ arms. arm_weights (arm_trees arms) };
 
-    ghost use Rattle.circus_value.specs.ShapeFalls.{most_deep_le-arm_weights};
+    ghost use Rattle.circus_value.specs.Seen.ShapeFalls.{most_deep_le-arm_weights};
 
     ghost size_decreases = { λ a h. Prim.omega (arith, most_deep_le-arm_weights a.items.items) };
 }
@@ -120,8 +120,8 @@ impl Model for Arms {
 impl Model for Element {
     ghost use Rattle.std.proofs.Common.{arith};
     ghost use Rattle.circus_value.specs.ShapeTree.{ShapeTree};
-    ghost use Rattle.circus_value.specs.ShapeCode.{coded_shape};
-    ghost use Rattle.circus_value.specs.ShapeWeight.{weight};
+    ghost use Rattle.circus_value.specs.Seen.ShapeCode.{coded_shape};
+    ghost use Rattle.circus_value.specs.Seen.ShapeWeight.{weight};
 
     ghost Value = { ShapeTree };
 
@@ -133,7 +133,7 @@ impl Model for Element {
 
     ghost size = { weight };
 
-    ghost use Rattle.circus_value.specs.ShapeFalls.{deep_le-weight};
+    ghost use Rattle.circus_value.specs.Seen.ShapeFalls.{deep_le-weight};
 
     ghost size_decreases = { λ a h. Prim.omega (arith, deep_le-weight a.shape.value) };
 }

@@ -34,8 +34,8 @@ impl Model for Values {
     ghost use Rattle.std.specs.Prelude.{List, map};
     ghost use Rattle.std.specs.Coded.{coded_list};
     ghost use Rattle.circus_value.specs.ValueTree.{ValueTree, value_trees};
-    ghost use Rattle.circus_value.specs.ValueCode.{coded_value};
-    ghost use Rattle.circus_value.specs.ValueWeight.{weights};
+    ghost use Rattle.circus_value.specs.Seen.ValueCode.{coded_value};
+    ghost use Rattle.circus_value.specs.Seen.ValueWeight.{weights};
 
     ghost Value = { List ValueTree };
 
@@ -48,7 +48,7 @@ impl Model for Values {
     ghost size = { λ ts. weights (value_trees ts) };
 
     ghost use Rattle.std.proofs.Common.{arith};
-    ghost use Rattle.circus_value.specs.ValueFalls.{most_deep_le-weights};
+    ghost use Rattle.circus_value.specs.Seen.ValueFalls.{most_deep_le-weights};
 
     ghost size_decreases = { λ a h. Prim.omega (arith, most_deep_le-weights a.items.items) };
 }
@@ -62,8 +62,8 @@ pub struct Chosen {
 
 impl Model for Chosen {
     ghost use Rattle.circus_value.specs.ValueTree.{ValueTree};
-    ghost use Rattle.circus_value.specs.ValueCode.{coded_value};
-    ghost use Rattle.circus_value.specs.ValueWeight.{weight};
+    ghost use Rattle.circus_value.specs.Seen.ValueCode.{coded_value};
+    ghost use Rattle.circus_value.specs.Seen.ValueWeight.{weight};
 
     ghost Value = { ValueTree };
 
@@ -76,7 +76,7 @@ impl Model for Chosen {
     ghost size = { weight };
 
     ghost use Rattle.std.proofs.Common.{arith};
-    ghost use Rattle.circus_value.specs.ValueFalls.{deep_le-weight};
+    ghost use Rattle.circus_value.specs.Seen.ValueFalls.{deep_le-weight};
 
     ghost size_decreases = { λ a h. Prim.omega (arith, deep_le-weight a.value.value) };
 }

@@ -233,6 +233,3 @@ fn from_root(step: u64, bytes: Bytes) -> Sent
         bytes,
     }
 }
-
-#[cfg(test)]
-mod tests;

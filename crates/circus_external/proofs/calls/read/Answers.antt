@@ -1,7 +1,7 @@
 use Rattle.std.proofs.Common.{rules}
 use Rattle.circus_value.specs.ValueOf as values
 use Rattle.circus_value.specs.ShapeOf as shapes
-use Rattle.circus_external.specs.Refusal.{AreOctets}
+use Rattle.circus_value.specs.Parts.{AreOctets}
 use Rattle.circus_external.proofs.Promises.{given_value, given_short, given_not_a_value, given_bad_pad, given_only}
 use Rattle.circus_external.proofs.calls.read.Goals as goal
 

@@ -1,7 +1,7 @@
 use Rattle.std.proofs.Common.{◌&&◌, sym, ◌∙◌, arith, ap}
 use Rattle.circus_value.specs.ShapeTree.{field_trees, arm_trees}
 use Rattle.circus_value.specs.ShapeOf.{tree_of}
-use Rattle.circus_value.specs.ShapeWeight.{field_weights, arm_weights}
+use Rattle.circus_value.specs.Seen.ShapeWeight.{field_weights, arm_weights}
 use Rattle.circus_external.specs.Refusal as refusal
 use Rattle.circus_external.proofs.ReadLemmas.{weight_field}
 use Rattle.circus_external.proofs.ProperLemmas.{any_arm, weight_of_arm}

@@ -4,7 +4,7 @@ use Rattle.circus_value.specs.ValueOf as values
 use Rattle.circus_value.specs.ValueTree as V
 use Rattle.circus_value.specs.ShapeOf as shapes
 use Rattle.circus_value.specs.ShapeTree.{field_trees, arm_trees}
-use Rattle.circus_value.specs.ShapeWeight.{field_weights}
+use Rattle.circus_value.specs.Seen.ShapeWeight.{field_weights}
 use Rattle.circus_value.specs.ArmShape.{arm_shape}
 use Rattle.circus_external.specs.Answer.{found}
 use Rattle.circus_external.specs.Reading.{answer_map, items_read, reading, choice_read}

@@ -1,7 +1,7 @@
 use Rattle.std.proofs.Common.{◌≡◌, ◌+◌, ◌*◌, ◌-◌, ◌≤◌, length, drop}
 use Rattle.circus_value.specs.ShapeOf.{tree_of}
 use Rattle.circus_value.specs.ShapeTree.{field_trees, arm_trees}
-use Rattle.circus_value.specs.ShapeWeight.{weight, field_weights, arm_weights}
+use Rattle.circus_value.specs.Seen.ShapeWeight.{weight, field_weights, arm_weights}
 use Rattle.circus_external.specs.Reading.{items_read, reading, fields_reading}
 use Rattle.circus_external.proofs.ReadLemmas.{behind, fields_left}
 use Rattle.circus_external.proofs.reading.+reading.Given as goal

@@ -1,7 +1,7 @@
 use Rattle.std.proofs.Common.{◌≡◌, ◌++◌, OnOk, sym, ap, ◌∙◌, subst, arith, append_assoc}
 use Rattle.circus_value.specs.ValueOf as values
 use Rattle.circus_value.specs.ValueTree.{value_trees}
-use Rattle.circus_value.specs.ValueWeight.{weights}
+use Rattle.circus_value.specs.Seen.ValueWeight.{weights}
 use Rattle.circus_value.proofs.FitLemmas.{weight-item, count_of-value_trees}
 use Rattle.circus_external.specs.Octets.{word}
 use Rattle.circus_external.specs.Spelling.{spelling, spelling_of_all}

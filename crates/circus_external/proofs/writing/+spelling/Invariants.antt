@@ -1,7 +1,7 @@
 use Rattle.std.proofs.Common.{◌≡◌, ◌++◌, map, drop}
 use Rattle.circus_value.specs.ValueOf.{tree_of}
 use Rattle.circus_value.specs.ValueTree.{value_trees}
-use Rattle.circus_value.specs.ValueWeight.{weight, weights}
+use Rattle.circus_value.specs.Seen.ValueWeight.{weight, weights}
 use Rattle.circus_external.specs.Spelling.{spelling_of_all}
 use Rattle.circus_external.proofs.writing.+spelling.Given as goal
 

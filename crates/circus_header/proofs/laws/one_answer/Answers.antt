@@ -1,4 +1,4 @@
-use Rattle.circus_header.specs.Layouts.{call_layout, return_layout}
+use Rattle.circus_header.specs.Seen.Layouts.{call_layout, return_layout}
 use Rattle.circus_header.specs.Reading.{calls, returns}
 use Rattle.circus_header.proofs.Answering.{answered_once}
 use Rattle.circus_header.proofs.Calls.{under_calls}

@@ -1,6 +1,6 @@
 use Rattle.std.proofs.Common.{◌<◌, arith}
-use Rattle.circus_header.specs.Layout.{ended, end}
-use Rattle.circus_header.specs.Layouts.{ask_layout, request_layout}
+use Rattle.circus_header.specs.Seen.Layout.{ended, end}
+use Rattle.circus_header.specs.Seen.Layouts.{ask_layout, request_layout}
 use Rattle.circus_header.specs.declared.call.Call.TheVariants.{Ask, Ring}
 use Rattle.circus_header.proofs.Steps.{next_read, next_failed, then_read, then_failed, call_at, call_beyond}
 use Rattle.circus_header.proofs.reading.any_call.Goals as goal

@@ -1,6 +1,6 @@
 use Rattle.std.proofs.Common.{◌<◌, arith}
-use Rattle.circus_header.specs.Layout.{ended, end}
-use Rattle.circus_header.specs.Layouts.{clock_layout}
+use Rattle.circus_header.specs.Seen.Layout.{ended, end}
+use Rattle.circus_header.specs.Seen.Layouts.{clock_layout}
 use Rattle.circus_header.specs.declared.answer.ReturnHeader.TheVariants.{Reply}
 use Rattle.circus_header.proofs.Steps.{next_read, next_failed, then_read, then_failed, return_at, return_beyond}
 use Rattle.circus_header.proofs.reading.any_return.Goals as goal

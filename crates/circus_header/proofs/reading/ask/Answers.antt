@@ -1,6 +1,6 @@
 use Rattle.std.proofs.Common.{◌+◌, max, arith}
-use Rattle.circus_header.specs.Layout.{ended, end}
-use Rattle.circus_header.specs.Layouts.{path_layout, clock_layout, client_layout, server_layout, ask_of, behind_server, behind_client, behind_path}
+use Rattle.circus_header.specs.Seen.Layout.{ended, end}
+use Rattle.circus_header.specs.Seen.Layouts.{path_layout, clock_layout, client_layout, server_layout, ask_of, behind_server, behind_client, behind_path}
 use Rattle.circus_header.proofs.Steps.{next_read, next_failed, then_read, then_failed, client_below, server_below}
 use Rattle.circus_header.proofs.reading.ask.Goals as goal
 

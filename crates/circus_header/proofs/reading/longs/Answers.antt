@@ -1,5 +1,5 @@
 use Rattle.std.proofs.Common.{◌≡◌, ◌+◌, ◌-◌, subst, arith}
-use Rattle.circus_header.specs.Layout.{of_long, numbers, Reading}
+use Rattle.circus_header.specs.Seen.Layout.{of_long, numbers, Reading}
 use Rattle.circus_header.proofs.Steps.{number_more, number_failed, number_end, none_read}
 use Rattle.circus_header.proofs.reading.longs.Goals as goal
 

@@ -1,4 +1,4 @@
-use Rattle.circus_header.specs.Layout.{ended}
+use Rattle.circus_header.specs.Seen.Layout.{ended}
 use Rattle.circus_header.proofs.Steps.{next_read, next_failed}
 use Rattle.circus_header.proofs.reading.server.Goals as goal
 

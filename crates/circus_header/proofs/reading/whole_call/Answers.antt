@@ -1,6 +1,6 @@
 use Rattle.std.proofs.Common.{inl, inr, sym, ◌∙◌}
 use Rattle.circus_header.specs.Reading.{calls}
-use Rattle.circus_header.specs.Layouts.{call_layout}
+use Rattle.circus_header.specs.Seen.Layouts.{call_layout}
 use Rattle.circus_header.proofs.Calls.{under_calls}
 use Rattle.circus_header.proofs.Answering.{answer_failed, answer_whole, answer_excess}
 use Rattle.circus_header.proofs.reading.whole_call.Goals as goal

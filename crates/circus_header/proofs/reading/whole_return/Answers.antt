@@ -1,6 +1,6 @@
 use Rattle.std.proofs.Common.{inl, inr, sym, ◌∙◌}
 use Rattle.circus_header.specs.Reading.{returns as headers}
-use Rattle.circus_header.specs.Layouts.{return_layout}
+use Rattle.circus_header.specs.Seen.Layouts.{return_layout}
 use Rattle.circus_header.proofs.Returns.{under_returns}
 use Rattle.circus_header.proofs.Answering.{answer_failed, answer_whole, answer_excess}
 use Rattle.circus_header.proofs.reading.whole_return.Goals as goal

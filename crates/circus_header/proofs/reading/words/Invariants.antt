@@ -1,5 +1,5 @@
 use Rattle.std.proofs.Common.{ℕ, ◌-◌, [], List, Result}
-use Rattle.circus_header.specs.Layout.{of_word, numbers, Reading}
+use Rattle.circus_header.specs.Seen.Layout.{of_word, numbers, Reading}
 use Rattle.circus_header.specs.declared.header_fault.HeaderFault.{HeaderFault}
 use Rattle.circus_header.proofs.reading.words.Given as goal
 

@@ -1,6 +1,6 @@
 use Rattle.std.proofs.Common.{◌∷◌, length, take, map}
 use Rattle.circus_header.specs.Field.{word}
-use Rattle.circus_header.specs.Written.{Written}
+use Rattle.circus_header.specs.Seen.Written.{Written}
 use Rattle.circus_header.proofs.writing.push_path.Given as goal
 
 abbrev pub invariant-loop-number : goal.invariant-loop-number

@@ -1,11 +1,11 @@
 use Rattle.std.proofs.Common.{◌≡◌, ◌++◌, ◌∙◌, ap, sym, map, None}
 use Rattle.circus_syntax.specs.InterfaceTree.{declared_of, interface_of}
 use Rattle.circus_idl.specs.Least.{least_from}
-use Rattle.circus_idl.specs.Tables.{name_value}
+use Rattle.circus_idl.specs.Seen.Tables.{name_value}
 use Rattle.circus_idl.specs.Known.{type_form}
 use Rattle.circus_idl.specs.Inside.{above}
-use Rattle.circus_idl.specs.Scoped.{before_of}
-use Rattle.circus_idl.specs.Drafted.{drafted}
+use Rattle.circus_idl.specs.Seen.Scoped.{before_of}
+use Rattle.circus_idl.specs.Seen.Drafted.{drafted}
 use Rattle.circus_idl.specs.Faults.{Before, nothing, cut_of, stop_faults, declarations_faults, read_faults}
 use Rattle.circus_idl.specs.Means.{and_then, declarations_meant}
 use Rattle.circus_value.specs.ShapeTree.{boolean}

@@ -1,10 +1,10 @@
 use Rattle.std.proofs.Common.{◌≡◌, ◌+◌, ◌∙◌, ap, sym, map, drop}
 use Rattle.circus_syntax.specs.InterfaceTree.{declared_of}
 use Rattle.circus_idl.specs.Least.{least_from}
-use Rattle.circus_idl.specs.Tables.{name_value}
+use Rattle.circus_idl.specs.Seen.Tables.{name_value}
 use Rattle.circus_idl.specs.Known.{type_form}
-use Rattle.circus_idl.specs.Scoped.{before_of, cut_in}
-use Rattle.circus_idl.specs.Drafted.{drafted}
+use Rattle.circus_idl.specs.Seen.Scoped.{before_of, cut_in}
+use Rattle.circus_idl.specs.Seen.Drafted.{drafted}
 use Rattle.circus_idl.specs.Faults.{behind, declared_faults, declarations_faults}
 use Rattle.circus_idl.specs.Means.{and_then, declared_meant, declarations_meant, forms_behind}
 use Rattle.circus_idl.proofs.Dropped.{drop_more}

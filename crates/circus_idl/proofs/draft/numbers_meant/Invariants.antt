@@ -1,5 +1,5 @@
 use Rattle.std.proofs.Common.{◌≡◌, ◌++◌, drop}
-use Rattle.circus_idl.specs.Tables.{name_value}
+use Rattle.circus_idl.specs.Seen.Tables.{name_value}
 use Rattle.circus_idl.specs.Means.{numbers_meant}
 use Rattle.circus_idl.proofs.draft.numbers_meant.Given as goal
 

@@ -2,7 +2,7 @@ use Rattle.std.proofs.Common.{◌≡◌, drop, map}
 use Rattle.circus_syntax.specs.TypeTree.{arm_trees}
 use Rattle.circus_syntax.specs.TypeOf.{arm_of}
 use Rattle.circus_idl.specs.Least.{least_from}
-use Rattle.circus_idl.specs.Tables.{holds_name, holds_number}
+use Rattle.circus_idl.specs.Seen.Tables.{holds_name, holds_number}
 use Rattle.circus_idl.specs.Inside.{arm_label_faults, no_name, no_number}
 use Rattle.circus_idl.proofs.inside.arm_labels.Given as goal
 

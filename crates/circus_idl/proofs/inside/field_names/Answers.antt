@@ -2,7 +2,7 @@ use Rattle.std.proofs.Common.{◌≡◌, ◌+◌, ◌∙◌, ap, sym, map, drop}
 use Rattle.circus_syntax.specs.TypeTree.{group_trees}
 use Rattle.circus_syntax.specs.TypeOf.{group_of}
 use Rattle.circus_idl.specs.Least.{least_from}
-use Rattle.circus_idl.specs.Tables.{holds_name}
+use Rattle.circus_idl.specs.Seen.Tables.{holds_name}
 use Rattle.circus_idl.specs.Inside.{repeated_names, group_names, also_names}
 use Rattle.circus_idl.proofs.Dropped.{drop_more}
 use Rattle.circus_idl.proofs.LeastMore.{names_more}

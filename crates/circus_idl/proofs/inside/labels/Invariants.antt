@@ -1,6 +1,6 @@
 use Rattle.std.proofs.Common.{◌≡◌, drop}
 use Rattle.circus_idl.specs.Least.{least_from}
-use Rattle.circus_idl.specs.Tables.{holds_name, holds_number}
+use Rattle.circus_idl.specs.Seen.Tables.{holds_name, holds_number}
 use Rattle.circus_idl.specs.Inside.{labels_faults, no_name, no_number}
 use Rattle.circus_idl.proofs.inside.labels.Given as goal
 

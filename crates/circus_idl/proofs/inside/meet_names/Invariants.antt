@@ -1,6 +1,6 @@
 use Rattle.std.proofs.Common.{◌≡◌, drop}
 use Rattle.circus_idl.specs.Least.{least_from}
-use Rattle.circus_idl.specs.Tables.{holds_name}
+use Rattle.circus_idl.specs.Seen.Tables.{holds_name}
 use Rattle.circus_idl.specs.Inside.{repeated_names, also_names}
 use Rattle.circus_idl.proofs.inside.meet_names.Given as goal
 

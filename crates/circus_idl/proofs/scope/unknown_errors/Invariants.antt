@@ -1,6 +1,6 @@
 use Rattle.std.proofs.Common.{◌≡◌, drop}
 use Rattle.circus_idl.specs.Least.{least_from}
-use Rattle.circus_idl.specs.Tables.{name_value}
+use Rattle.circus_idl.specs.Seen.Tables.{name_value}
 use Rattle.circus_idl.specs.Faults.{unknown_errors}
 use Rattle.circus_idl.proofs.scope.unknown_errors.Given as goal
 

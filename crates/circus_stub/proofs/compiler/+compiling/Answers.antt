@@ -1,5 +1,5 @@
 use Rattle.std.proofs.Common.{◌+◌, ◌++◌, ◌∷◌, length, sym, ap, ◌∙◌, arith}
-use Rattle.circus_value.specs.ShapeWeight.{field_weights, arm_weights}
+use Rattle.circus_value.specs.Seen.ShapeWeight.{field_weights, arm_weights}
 use Rattle.circus_value.specs.ShapeOf.{tree_of}
 use Rattle.circus_value.specs.ShapeTree.{field_trees, arm_trees}
 use Rattle.circus_stub.specs.declared.operation.Operation.TheVariants as operation

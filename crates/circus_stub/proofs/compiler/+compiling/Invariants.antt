@@ -1,5 +1,5 @@
 use Rattle.std.proofs.Common.{◌≡◌, ◌++◌, length, map, drop}
-use Rattle.circus_value.specs.ShapeWeight.{weight, field_weights, arm_weights}
+use Rattle.circus_value.specs.Seen.ShapeWeight.{weight, field_weights, arm_weights}
 use Rattle.circus_value.specs.ShapeOf.{tree_of, field_of, arm_of}
 use Rattle.circus_value.specs.ShapeTree.{field_trees, arm_trees}
 use Rattle.circus_stub.specs.Flat.{flat_fields, flat_arms}

@@ -1,5 +1,5 @@
 use Rattle.std.proofs.Common.{◌<◌, length, sym, ap, ◌∙◌, arith, rules}
-use Rattle.circus_stub.specs.Standing.{first_arm}
+use Rattle.circus_stub.specs.Seen.Standing.{first_arm}
 use Rattle.circus_stub.proofs.StandLemmas.{arms_first, arms_last, arm_found, arm_passed, arm_further}
 use Rattle.circus_stub.proofs.place.arm_place.Goals as goal
 

@@ -1,6 +1,6 @@
 use Rattle.std.proofs.Common.{◌≡◌, ◌-◌, ◌≤◌}
 use Rattle.circus_value.specs.ShapeTree.{ArmTrees}
-use Rattle.circus_stub.specs.Standing.{ArmsStand, first_arm}
+use Rattle.circus_stub.specs.Seen.Standing.{ArmsStand, first_arm}
 use Rattle.circus_stub.proofs.place.arm_place.Given as goal
 
 -- the arms that are left decide

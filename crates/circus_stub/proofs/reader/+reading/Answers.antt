@@ -6,7 +6,7 @@ use Rattle.circus_value.specs.ValueTree.{value_trees}
 use Rattle.circus_external.specs.Answer.{found}
 use Rattle.circus_external.specs.Reading.{answer_map, one_word, items_read, sequence_read, reading, fields_reading, choice_read}
 use Rattle.circus_external.proofs.ReadLemmas.{behind, fault_mapped, items_more, items_fault}
-use Rattle.circus_stub.specs.Standing.{FieldsStand, listed_value}
+use Rattle.circus_stub.specs.Seen.Standing.{FieldsStand, listed_value}
 use Rattle.circus_stub.proofs.StandLemmas.{first_stands, boolean_of, cardinal_of, long_cardinal_of, integer_of, long_integer_of, text_of, enumeration_of, no_arm_of, array_stands, sequence_stands, record_stands, choice_stands, fields_first, fields_last, one_operation}
 use Rattle.circus_stub.proofs.ReaderLemmas.{fields_more, fields_all, fields_fault, chosen_read, unchosen_read, listed_value-label_numbers}
 use Rattle.circus_stub.proofs.reader.+reading.Goals as goal

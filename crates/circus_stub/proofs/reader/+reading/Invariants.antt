@@ -2,7 +2,7 @@ use Rattle.std.proofs.Common.{◌≡◌, ◌+◌, ◌*◌, ◌-◌, ◌≤◌, l
 use Rattle.circus_value.specs.ShapeTree.{ShapeTree, FieldTrees}
 use Rattle.circus_external.specs.Reading.{items_read, reading, fields_reading}
 use Rattle.circus_external.proofs.ReadLemmas.{behind}
-use Rattle.circus_stub.specs.Standing.{Stands, FieldsStand}
+use Rattle.circus_stub.specs.Seen.Standing.{Stands, FieldsStand}
 use Rattle.circus_stub.proofs.reader.+reading.Given as goal
 
 -- the values so far stand in front of those that are left

@@ -1,7 +1,7 @@
 use Rattle.std.proofs.Common.{◌≡◌, ◌++◌, ◌<◌, length, sym, subst, ◌∙◌, arith, rules}
 use Rattle.std.specs.Prelude.{codes, OnOk}
 use Rattle.std.specs.Fmt.{decimal}
-use Rattle.circus_stub.specs.Standing.{FieldsStand}
+use Rattle.circus_stub.specs.Seen.Standing.{FieldsStand}
 use Rattle.circus_stub.specs.StubsText.{part_words, shape_words, field_words, arm_words}
 use Rattle.circus_stub.proofs.StandLemmas.{first_stands, boolean_of, cardinal_of, long_cardinal_of, integer_of, long_integer_of, text_of, enumeration_of, no_arm_of, array_stands, sequence_stands, record_stands, choice_stands, fields_first, fields_last, arms_first, arms_last, arm_further, one_operation}
 use Rattle.circus_stub.proofs.ShowLemmas.{both, field_shown, fields_shown, arm_shown, arms_shown}

@@ -1,6 +1,6 @@
 use Rattle.std.proofs.Common.{◌≡◌, ◌+◌, ◌*◌, ◌-◌, ◌≤◌, ◌++◌, length}
 use Rattle.circus_value.specs.ShapeTree.{FieldTrees, ArmTrees}
-use Rattle.circus_stub.specs.Standing.{FieldsStand, ArmsStand}
+use Rattle.circus_stub.specs.Seen.Standing.{FieldsStand, ArmsStand}
 use Rattle.circus_stub.specs.StubsText.{field_words, arm_words}
 use Rattle.circus_stub.proofs.show.+showing.Given as goal
 

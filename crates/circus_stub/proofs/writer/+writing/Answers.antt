@@ -6,7 +6,7 @@ use Rattle.circus_value.proofs.FitLemmas.{count_of-value_trees}
 use Rattle.circus_external.specs.Octets.{word}
 use Rattle.circus_external.specs.Spelling.{spelling_of_all}
 use Rattle.circus_external.proofs.ShapesAlike.{and_both}
-use Rattle.circus_stub.specs.Standing.{FieldsStand}
+use Rattle.circus_stub.specs.Seen.Standing.{FieldsStand}
 use Rattle.circus_stub.proofs.StandLemmas.{first_stands, boolean_of, cardinal_of, long_cardinal_of, integer_of, long_integer_of, text_of, enumeration_of, no_arm_of, array_stands, sequence_stands, record_stands, choice_stands}
 use Rattle.circus_stub.proofs.WriterLemmas.{item_passes, fields_go, written_more, sequence_bounded, chosen_fits, chosen_exists, same_fits}
 use Rattle.circus_stub.proofs.writer.+writing.Goals as goal

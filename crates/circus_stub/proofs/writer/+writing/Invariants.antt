@@ -2,7 +2,7 @@ use Rattle.std.proofs.Common.{◌≡◌, true, ◌+◌, ◌*◌, ◌-◌, ◌≤
 use Rattle.circus_value.specs.ValueOf.{tree_of}
 use Rattle.circus_value.specs.ShapeTree.{FieldTrees}
 use Rattle.circus_external.specs.Spelling.{spelling_of_all, fields_admit}
-use Rattle.circus_stub.specs.Standing.{FieldsStand}
+use Rattle.circus_stub.specs.Seen.Standing.{FieldsStand}
 use Rattle.circus_stub.proofs.writer.+writing.Given as goal
 
 -- what stands there and what is left make up the whole

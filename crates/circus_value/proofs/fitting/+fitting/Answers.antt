@@ -3,7 +3,7 @@ use Rattle.std.proofs.lemmas.Bool.{ne_eqb, lt-leb}
 use Rattle.std.proofs.Math.ListN.{length-map}
 use Rattle.circus_value.specs.ValueTree.{value_trees}
 use Rattle.circus_value.specs.ShapeTree.{field_trees}
-use Rattle.circus_value.specs.ValueWeight.{weights}
+use Rattle.circus_value.specs.Seen.ValueWeight.{weights}
 use Rattle.circus_value.specs.ValueOf.{tree_of}
 use Rattle.circus_value.specs.ShapeOf as shapes
 use Rattle.circus_value.specs.Fits.{fits, every, fields_fit}

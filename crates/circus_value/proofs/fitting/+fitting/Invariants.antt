@@ -1,7 +1,7 @@
 use Rattle.std.proofs.Common.{◌≡◌, drop, map}
 use Rattle.circus_value.specs.ValueTree.{value_trees}
 use Rattle.circus_value.specs.ShapeTree.{field_trees}
-use Rattle.circus_value.specs.ValueWeight.{weight, weights}
+use Rattle.circus_value.specs.Seen.ValueWeight.{weight, weights}
 use Rattle.circus_value.specs.ValueOf as values
 use Rattle.circus_value.specs.ShapeOf as shapes
 use Rattle.circus_value.specs.Fits.{fits, every, fields_fit}

@@ -3,7 +3,7 @@ use Rattle.std.proofs.lemmas.List.{drop_all}
 use Rattle.circus_value.specs.ValueTree.{value_trees}
 use Rattle.circus_value.specs.ValueOf.{tree_of}
 use Rattle.circus_value.specs.ExternalSize.{external_sizes}
-use Rattle.circus_value.specs.ValueWeight.{weights}
+use Rattle.circus_value.specs.Seen.ValueWeight.{weights}
 use Rattle.circus_value.proofs.FitLemmas.{weight-item}
 use Rattle.circus_value.proofs.size.+sizing.Goals as goal
 

@@ -1,7 +1,7 @@
 use Rattle.std.proofs.Common.{◌≡◌, ◌+◌, ◌-◌, ◌^◌, ◌≤◌, min, drop, map}
 use Rattle.circus_value.specs.ValueTree.{value_trees}
 use Rattle.circus_value.specs.ValueOf.{tree_of}
-use Rattle.circus_value.specs.ValueWeight.{weight, weights}
+use Rattle.circus_value.specs.Seen.ValueWeight.{weight, weights}
 use Rattle.circus_value.specs.ExternalSize.{external_sizes}
 use Rattle.circus_value.proofs.size.+sizing.Given as goal
 

@@ -1,8 +1,8 @@
 use Rattle.std.proofs.Common.{◌++◌, ◌∙◌, ap}
 use Rattle.circus_idl.specs.declared.scope.Scope.{Scope}
 use Rattle.circus_idl.specs.Least.{least_from}
-use Rattle.circus_idl.specs.Tables.{holds_number}
-use Rattle.circus_idl.specs.Scoped.{before_of, cut_in}
+use Rattle.circus_idl.specs.Seen.Tables.{holds_number}
+use Rattle.circus_idl.specs.Seen.Scoped.{before_of, cut_in}
 use Rattle.circus_idl.specs.Inside.{repeated_name, repeated_number, above}
 use Rattle.circus_idl.specs.Faults.{fields_faults}
 use Rattle.circus_idl.proofs.LeastMore.{least_then}

@@ -3,7 +3,7 @@ use Rattle.circus_syntax.specs.TypeTree.{group_trees}
 use Rattle.circus_idl.specs.Least.{least_from}
 use Rattle.circus_idl.specs.Known.{is_known, type_measure}
 use Rattle.circus_idl.specs.Inside.{repeated_names, no_name, group_names}
-use Rattle.circus_idl.specs.Scoped.{cut_in}
+use Rattle.circus_idl.specs.Seen.Scoped.{cut_in}
 use Rattle.circus_idl.specs.Faults.{groups_faults, fields_faults}
 use Rattle.circus_idl.proofs.LeastMore.{least_more}
 use Rattle.circus_idl.proofs.scope.Scope.fields.Goals as goal

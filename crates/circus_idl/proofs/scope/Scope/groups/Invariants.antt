@@ -3,7 +3,7 @@ use Rattle.circus_syntax.specs.TypeTree.{group_trees}
 use Rattle.circus_syntax.specs.TypeOf.{group_of}
 use Rattle.circus_idl.specs.Least.{least_from}
 use Rattle.circus_idl.specs.Known.{is_known, type_measure}
-use Rattle.circus_idl.specs.Scoped.{cut_in}
+use Rattle.circus_idl.specs.Seen.Scoped.{cut_in}
 use Rattle.circus_idl.specs.Faults.{groups_faults, groups_parts}
 use Rattle.circus_idl.proofs.scope.Scope.groups.Given as goal
 

@@ -2,9 +2,9 @@ use Rattle.std.proofs.Common.{◌++◌, ◌∙◌, ap, List}
 use Rattle.circus_idl.specs.declared.fault.Fault.{Fault}
 use Rattle.circus_idl.specs.declared.scope.Scope.{Scope}
 use Rattle.circus_idl.specs.Least.{least_from}
-use Rattle.circus_idl.specs.Tables.{name_value, holds_number}
+use Rattle.circus_idl.specs.Seen.Tables.{name_value, holds_number}
 use Rattle.circus_idl.specs.Known.{is_known, type_measure}
-use Rattle.circus_idl.specs.Scoped.{before_of, cut_in}
+use Rattle.circus_idl.specs.Seen.Scoped.{before_of, cut_in}
 use Rattle.circus_idl.specs.Inside.{repeated_name, repeated_number, above}
 use Rattle.circus_idl.specs.Faults.{together_faults, fields_faults, fields_parts, reports_faults}
 use Rattle.circus_idl.proofs.LeastMore.{least_then}

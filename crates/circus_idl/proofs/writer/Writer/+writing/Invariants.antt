@@ -1,7 +1,7 @@
 use Rattle.std.proofs.Common.{◌≡◌, ◌+◌, ◌*◌, ◌++◌, drop, map}
 use Rattle.circus_value.specs.ShapeOf.{tree_of, field_of, arm_of}
 use Rattle.circus_value.specs.ShapeTree.{field_trees, arm_trees}
-use Rattle.circus_value.specs.ShapeWeight.{weight, field_weights, arm_weights}
+use Rattle.circus_value.specs.Seen.ShapeWeight.{weight, field_weights, arm_weights}
 use Rattle.circus_idl.specs.Lexemes.{led}
 use Rattle.circus_idl.proofs.ShownFrom.{fields_from, arms_from}
 use Rattle.circus_idl.proofs.writer.Writer.+writing.Given as goal

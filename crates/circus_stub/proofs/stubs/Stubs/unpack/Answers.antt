@@ -1,5 +1,5 @@
 use Rattle.std.proofs.Common.{rules}
-use Rattle.circus_external.specs.Refusal.{AreOctets}
+use Rattle.circus_value.specs.Parts.{AreOctets}
 use Rattle.circus_stub.proofs.Roundtrips.{answer_is_packed}
 use Rattle.circus_stub.proofs.stubs.Stubs.unpack.Goals as goal
 

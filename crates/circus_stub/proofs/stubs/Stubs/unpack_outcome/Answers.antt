@@ -1,5 +1,5 @@
 use Rattle.std.proofs.Common.{rules}
-use Rattle.circus_external.specs.Refusal.{AreOctets}
+use Rattle.circus_value.specs.Parts.{AreOctets}
 use Rattle.circus_stub.proofs.Roundtrips.{outcome_answer_is_packed}
 use Rattle.circus_stub.proofs.stubs.Stubs.unpack_outcome.Goals as goal
 

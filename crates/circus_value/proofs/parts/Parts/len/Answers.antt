@@ -1,5 +1,6 @@
-use Rattle.std.proofs.Common.{◌≡◌, ap, ◌∙◌, slice_get, length, ◌-◌, arith, unwrap_or}
+use Rattle.std.proofs.Common.{◌≡◌, ap, subst, ◌∙◌, slice_get, length, ◌-◌, arith, unwrap_or}
 use Rattle.circus_value.proofs.PartLemmas.{last_end}
+use Rattle.circus_value.specs.Parts.{AreOctets}
 use Rattle.circus_value.proofs.parts.Parts.len.Goals as goal
 
 pub returns-clause-value : goal.returns-clause-value
@@ -12,3 +13,6 @@ pub returns-clause-bound : goal.returns-clause-bound
 returns-clause-bound c =
     let value : c.unwrap_or.result ≡ length c.args.self.now = returns-clause-value c in
     omega (arith, ap length c.self.view_is, c.self.invariant.2)
+
+pub returns-clause-octets : goal.returns-clause-octets
+returns-clause-octets c = subst AreOctets c.self.view_is c.self.invariant.3

@@ -1,6 +1,0 @@
-use Rattle.std.proofs.Common.{◌≡◌, take}
-use Rattle.circus_stub.proofs.operation.OperationsDuplicate.copy.Given as goal
-
--- what was copied so far is the front of the list
-abbrev pub invariant-loop-item : goal.invariant-loop-item
-invariant-loop-item l = l.items.items ≡ take l.item-index l.item-items
