@@ -4,3 +4,5 @@ pub mod Octets
 pub mod ShapeBack
 mod ItemFalls
 mod ShownMore
+pub mod EqualityLemmas
+pub mod PointwiseLemmas

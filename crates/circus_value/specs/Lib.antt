@@ -3,6 +3,8 @@ pub mod ShapeTree
 pub mod ValueOf
 pub mod ShapeOf
 pub mod Fits
+pub mod ValueEquality
+pub mod OutcomeEquality
 pub mod ArmShape
 pub mod ExternalSize
 pub mod Parts

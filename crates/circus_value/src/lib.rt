@@ -1,12 +1,13 @@
 //! The values of Circus, the shapes that they fit, and the lists that all crates share.
 //!
 //! `list_of` has the one list type, `value` and `shape` the two trees, `outcome` what a procedure ends with,
-//! and `duplicate` the copies of plain data. `fitting` tests a value against a shape, `size` counts
+//! `duplicate` the copies of plain data and `equality` what is equal. `fitting` tests a value against a shape, `size` counts
 //! a value's bytes in external form, `parts` has bytes that are shared in parts, and `shown` and `thread_text`
 //! the texts of values, outcomes, clocks and paths.
 #![tactic(auto)]
 
 mod duplicate;
+mod equality;
 mod fitting;
 mod list_of;
 mod outcome;
@@ -18,6 +19,7 @@ mod thread_text;
 mod value;
 
 pub use duplicate::Duplicate;
+pub use equality::equal_is_the_same;
 pub use fitting::fits;
 pub use list_of::ListOf;
 pub use outcome::Outcome;

@@ -1,6 +1,8 @@
 // Bytes in parts that are shared with others.
 ghost use Rattle.std.specs.Prelude.{◌≡◌, true, ℕ, ◌+◌, ◌-◌, ◌<◌, ◌≤◌, List, [], ◌++◌, length, take, drop, slice_get, slice_index, OnOk, OnErr, IsOk, IfOk, IfSome, IfNone, IsTrue, ◌↔◌};
 ghost use Rattle.std.specs.List.{concat};
+ghost use Rattle.std.specs.Prelude.{nat_eq};
+ghost use Rattle.std.specs.Cmp.Lexicographic.{pointwise};
 ghost use Rattle.circus_value.specs.Parts.{most_bytes, AreOctets};
 ghost use Rattle.circus_value.specs.Seen.PartEnds.{ends_from};
 
@@ -112,6 +114,22 @@ impl Parts {
         Ok(rest)
     }
 
+    /// Whether there are the same bytes in order, wherever the parts end.
+    fn has_bytes_of(&self, other: &Parts) -> bool
+        ensures { result ≡ pointwise nat_eq self.now other.now }
+    {
+        let len = self.len();
+        if other.len() != len {
+            return false;
+        }
+        for at in 0..len {
+            if self.byte(at) != other.byte(at) {
+                return false;
+            }
+        }
+        true
+    }
+
     /// Adds parts at the end, which are shared. After `NoMemory` some of them may stand there.
     fn add_all(&mut self, parts: &[Bytes]) -> Result<(), NoMemory>
         requires { length self.old + length (concat parts.now) ≤ most_bytes }
@@ -128,6 +146,44 @@ impl Duplicate for Parts {
     fn copy(&self) -> Result<Self, NoMemory> {
         self.rest(0)
     }
+}
+
+/// Parts are equal where their joined bytes are.
+impl PartialEq for Parts {
+    ghost use Rattle.std.specs.Prelude.{nat_eq};
+    ghost use Rattle.std.specs.Cmp.{nat_eq_equiv, partial_equiv_from_equiv};
+    ghost use Rattle.std.specs.Cmp.Lexicographic.{pointwise, lists_per};
+
+    ghost eq = { pointwise nat_eq };
+
+    ghost laws = { lists_per (partial_equiv_from_equiv nat_eq_equiv) };
+
+    fn eq(&self, other: &Self) -> bool {
+        if self.ends == other.ends {
+            same_parts(&self.parts, &other.parts)
+        } else {
+            self.has_bytes_of(other)
+        }
+    }
+}
+
+impl Eq for Parts {
+    ghost use Rattle.std.specs.Cmp.Lexicographic.{nat_list_eq_equiv};
+
+    ghost laws = { nat_list_eq_equiv };
+}
+
+/// Whether parts that are as long, one by one, have the same bytes.
+fn same_parts(parts: &[Bytes], others: &[Bytes]) -> bool
+    requires { length parts.now ≡ length others.now }
+    ensures { result ≡ pointwise (pointwise nat_eq) parts.now others.now }
+{
+    for (place, part) in parts.iter().enumerate() {
+        if part.as_slice() != others[place].as_slice() {
+            return false;
+        }
+    }
+    true
 }
 
 /// The part that a byte stands in, and its place in that part. `None` where there is no such byte.
