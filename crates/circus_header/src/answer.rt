@@ -59,3 +59,21 @@ impl Duplicate for Reply {
         })
     }
 }
+
+impl PartialEq for Reply {
+    ghost use Rattle.circus_header.specs.ReplyEquality.{reply_eq, reply_eq_per};
+
+    ghost eq = { reply_eq };
+
+    ghost laws = { reply_eq_per };
+
+    fn eq(&self, other: &Self) -> bool {
+        self.clock == other.clock && self.outcome == other.outcome
+    }
+}
+
+impl Eq for Reply {
+    ghost use Rattle.circus_header.specs.ReplyEquality.{reply_eq_equiv};
+
+    ghost laws = { reply_eq_equiv };
+}

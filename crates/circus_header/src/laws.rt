@@ -6,6 +6,9 @@ ghost use Rattle.circus_header.specs.declared.call.Call.{Call};
 ghost use Rattle.circus_header.specs.declared.answer.ReturnHeader.{ReturnHeader};
 ghost use Rattle.circus_header.specs.declared.header_fault.HeaderFault.{HeaderFault};
 ghost use Rattle.circus_header.specs.declared.header_fault.HeaderFault.TheVariants as fault;
+ghost use Rattle.std.specs.Bool.{Decides};
+ghost use Rattle.circus_header.specs.declared.answer.Reply.{Reply};
+ghost use Rattle.circus_header.specs.ReplyEquality.{reply_eq};
 
 /// Bytes have one answer, but for want of memory (docs/FORMATS.md, "Headers").
 pub fn one_answer()
@@ -30,4 +33,9 @@ pub fn no_header_begins_another()
         → bytes_of (calls.fields b) ≡ bytes_of (calls.fields a) ++ rest → a ≡ b }
     ensures returns { (a b : ReturnHeader) (rest : List ℕ) → IsOne returns a → IsOne returns b
         → bytes_of (returns.fields b) ≡ bytes_of (returns.fields a) ++ rest → a ≡ b }
+{}
+
+/// Replies are equal exactly where clock and outcome are the same.
+pub fn equal_replies_are_the_same()
+    ensures { (a b : Reply) → Decides (reply_eq a b) (a ≡ b) }
 {}

@@ -15,6 +15,8 @@ mod writing;
 pub use answer::{Reply, ReturnHeader};
 pub use call::{Call, CallHeader, Request};
 pub use header_fault::HeaderFault;
-pub use laws::{headers_are_read, no_header_begins_another, one_answer};
+pub use laws::{
+    equal_replies_are_the_same, headers_are_read, no_header_begins_another, one_answer,
+};
 pub use reading::{read_call, read_call_parts, read_return, read_return_parts};
 pub use writing::{write_call, write_return};
