@@ -1,5 +1,6 @@
 -- The fields of a call message's header, and which calls there are.
 use Rattle.std.specs.Prelude.{ℕ, ◌<◌, ◌≤◌, Bool, true, false, List, [], ◌∷◌, ◌++◌, length, map, All}
+use Rattle.circus_header.specs.Limits.{most_modules, most_nodes, most_asks, longest_path}
 use Rattle.circus_header.specs.Field.{Field, word, long}
 use Rattle.circus_header.specs.declared.call.CallHeader.{CallHeader}
 use Rattle.circus_header.specs.declared.call.Request.{Request}
@@ -30,11 +31,11 @@ call_fields (Fetch troupe incarnation) = word 2 ∷ word troupe ∷ long incarna
 
 -- the number of a module or a troupe
 abbrev pub IsModule : ℕ → Type 0
-IsModule n = n < 32
+IsModule n = n < most_modules
 
 -- the number of a node
 abbrev pub IsNode : ℕ → Type 0
-IsNode n = n < 64
+IsNode n = n < most_nodes
 
 -- a view's incarnation
 abbrev pub IsIncarnation : ℕ → Type 0
@@ -44,13 +45,13 @@ IsIncarnation n = 1 ≤ n
 pub record IsAsk (h : CallHeader) : Type 0 where
   pub root : IsModule h.root
   pub path_some : 1 ≤ length h.path
-  pub path_most : length h.path ≤ 31
-  pub path : All (λ n. n < 65535) h.path
+  pub path_most : length h.path ≤ longest_path
+  pub path : All (λ n. n < most_asks) h.path
   pub client : IsModule h.client
   pub client_incarnation : IsIncarnation h.client_incarnation
   pub server : IsModule h.server
   pub server_incarnation : IsIncarnation h.server_incarnation
-  pub clock_most : length h.clock ≤ 32
+  pub clock_most : length h.clock ≤ most_modules
   pub has_server : h.server < length h.clock
   pub has_client : h.client < length h.clock
 

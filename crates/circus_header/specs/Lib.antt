@@ -1,3 +1,4 @@
+pub mod Limits
 pub mod Field
 pub mod CallFields
 pub mod ReturnFields

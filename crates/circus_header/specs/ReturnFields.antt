@@ -1,5 +1,6 @@
 -- The fields of a return message's header, and which returns there are.
 use Rattle.std.specs.Prelude.{◌≤◌, Bool, true, false, List, [], ◌∷◌, length, map}
+use Rattle.circus_header.specs.Limits.{most_modules}
 use Rattle.circus_header.specs.Field.{Field, word, long}
 use Rattle.circus_header.specs.CallFields.{IsIncarnation}
 use Rattle.circus_header.specs.declared.answer.ReturnHeader.{ReturnHeader}
@@ -15,7 +16,7 @@ return_fields Table = word 4 ∷ []
 
 -- a return whose fields are in their ranges
 abbrev pub IsReturn : ReturnHeader → Type 0
-IsReturn (Reply clock) = (1 ≤ length clock) × (length clock ≤ 32)
+IsReturn (Reply clock) = (1 ≤ length clock) × (length clock ≤ most_modules)
 IsReturn (Stale incarnation) = IsIncarnation incarnation
 IsReturn (Before first) = Unit {0}
 IsReturn (Snapshot count) = Unit {0}

@@ -22,6 +22,12 @@ const MOST_NODE: u16 = 63;
 /// The greatest number of an ask.
 const MOST_ASK: u16 = 65_534;
 
+/// How many asks there are from a root down at most.
+const LONGEST_PATH: u16 = 31;
+
+/// How many counts a clock has at most.
+const LONGEST_CLOCK: u16 = 32;
+
 /// The header that a call message begins with, and how many bytes it has (docs/FORMATS.md, "Headers").
 ///
 /// `Short` names the first byte of the first field that isn't whole, and `BadField` that of the first field
@@ -229,7 +235,7 @@ fn any_return<S: ByteSource>(
 fn path<S: ByteSource>(alloc: Global, source: &S, at: usize) -> Result<(Path, usize), HeaderFault>
     ensures { Reading (S.octets source.now) path_layout at result }
 {
-    let (count, at) = word(source, at, 1, 31)?;
+    let (count, at) = word(source, at, 1, LONGEST_PATH)?;
     words(alloc, source, at, count)
 }
 
@@ -261,7 +267,7 @@ fn clock<S: ByteSource>(
 ) -> Result<(Clock, usize), HeaderFault>
     ensures { Reading (S.octets source.now) (clock_layout least) at result }
 {
-    let (count, at) = word(source, at, least, 32)?;
+    let (count, at) = word(source, at, least, LONGEST_CLOCK)?;
     longs(alloc, source, at, count)
 }
 
