@@ -5,7 +5,7 @@
 #![tactic(auto)]
 
 use circus_outside::{Arrivals, DirShelf, Failing, MemLink, StdSink};
-use circus_program::circus;
+use circus_program::{Status, circus};
 use circus_value::NoMemory;
 use std::alloc::Global;
 use std::process::ExitCode;
@@ -14,14 +14,11 @@ use std::{env, io};
 #[cfg(test)]
 mod tests;
 
-// The status where there is no memory for the words.
-const NO_MEMORY: u8 = 7;
-
 fn main(rt: HostRuntime) -> ExitCode {
     let alloc = rt.alloc();
     let status = match words(&rt, alloc) {
         Ok(words) => run(&rt, alloc, words.as_slice()),
-        Err(_) => NO_MEMORY,
+        Err(_) => Status::NoMemory.code(),
     };
     ExitCode::from(status)
 }

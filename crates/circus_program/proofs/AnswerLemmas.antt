@@ -3,7 +3,7 @@ use Rattle.std.proofs.Common.{◌≡◌, ℕ, Option, Some, None, List, [], ◌�
 use Rattle.std.specs.Prelude.{IfSome}
 use Rattle.circus_outside.specs.Told.{told_more}
 use Rattle.circus_program.specs.Answer.{Due, IsDueOfReplay, AreFetchedOf, AsksFirstOf}
-use Rattle.circus_program.specs.Step.{IsDueBehind, IsStepBehind, IsStepOfReplay}
+use Rattle.circus_program.specs.Seen.Step.{IsDueBehind, IsStepBehind, IsStepOfReplay}
 use Rattle.circus_program.proofs.ToldLemmas.{told_more-twice}
 
 -- nothing was fetched

@@ -10,6 +10,7 @@ use Rattle.circus_world.specs.Course.{IsLegal, stepped, taken, next_step, perfor
 use Rattle.circus_world.specs.declared.line.Cause.{Cause}
 use Rattle.circus_world.specs.Refusal.{IsRefusal}
 use Rattle.circus_world.specs.declared.world.WorldFault.TheVariants.{Illegal}
+use Rattle.circus_program.specs.declared.status.Status.TheVariants.{BadSchedule}
 use Rattle.circus_program.specs.Report.{Names, Member, member_lines, members_lines}
 use Rattle.circus_program.specs.Replay.{Ending, replayed, refused, refusal_text, is_legal}
 
@@ -46,10 +47,10 @@ stepped-steps w (Deliver number) =
     ]
 
 -- the replay of a line that is refused ends with the refusal of what is handed back
-pub replayed-refusal : (number : ℕ) (w world : WorldView) (lines : List Line) (cause : Cause) (end whole : Ending) (i : ℕ) (other : Line) → i < length lines → IsRefusal w (get_or lines i other) (Illegal world cause) → replayed number w (drop i lines) ≡ whole → end ≡ record { status = 3; text = refusal_text number world cause } → end ≡ whole
+pub replayed-refusal : (number : ℕ) (w world : WorldView) (lines : List Line) (cause : Cause) (end whole : Ending) (i : ℕ) (other : Line) → i < length lines → IsRefusal w (get_or lines i other) (Illegal world cause) → replayed number w (drop i lines) ≡ whole → end ≡ record { status = BadSchedule; text = refusal_text number world cause } → end ≡ whole
 replayed-refusal number w world lines cause end whole i other within refusal so_far ended =
     let here : drop i lines ≡ get_or lines i other ∷ drop (i + 1) lines = rw add-one (drop-cons lines i other within) in
-    let P : WorldView → Cause → Ending = λ v c. record { status = 3; text = refusal_text number v c } in
+    let P : WorldView → Cause → Ending = λ v c. record { status = BadSchedule; text = refusal_text number v c } in
     ended ∙ ap (λ v. P v cause) refusal.1 ∙ ap (P w) refusal.2
     ∙ sym (replayed-refused number w (get_or lines i other) (drop (i + 1) lines) refusal.0)
     ∙ ap (replayed number w) (sym here)

@@ -1,8 +1,10 @@
 -- What the top call answers.
-use Rattle.std.specs.Prelude.{ℕ, ◌≡◌, ◌⊎◌, Bool, ◌||◌, ◌==◌, Option, Some, List, [], ◌∷◌, ◌++◌, codes, IfSome}
+use Rattle.std.specs.Prelude.{ℕ, ◌≡◌, ◌⊎◌, Option, Some, List, [], ◌∷◌, ◌++◌, codes, IfSome}
 use Rattle.circus_outside.specs.Told.{told_more}
 use Rattle.circus_world.specs.declared.line.Line.{Line}
 use Rattle.circus_world.specs.Course.{booted}
+use Rattle.circus_program.specs.declared.status.Status.{Status}
+use Rattle.circus_program.specs.declared.status.Status.TheVariants.{BadCommandLine, NotBuilt}
 use Rattle.circus_program.specs.Form.{Form, stubs, run, replay, node, sample, settle, place, audit, IsOfForm, IsOfNoForm, files_of}
 use Rattle.circus_program.specs.Thin.{IsThinProgram, IsThinSchedule}
 use Rattle.circus_program.specs.Replay.{Ending, replayed}
@@ -15,11 +17,11 @@ pub data Due : Type 0 where
 
 -- the words are of no form
 abbrev pub bad_command_line : Due
-bad_command_line = finish (record { status = 1; text = line (codes "circus: bad command line") })
+bad_command_line = finish (record { status = BadCommandLine; text = line (codes "circus: bad command line") })
 
 -- what is asked for is not built
 abbrev pub not_built : Due
-not_built = finish (record { status = 9; text = line (codes "not built") })
+not_built = finish (record { status = NotBuilt; text = line (codes "not built") })
 
 -- what is due once a replay's program is fetched
 abbrev pub IsDueOfProgram : List ℕ → List ℕ → Due → Type 0
@@ -80,7 +82,7 @@ abbrev pub IsDue : Option (List ℕ → Option (List ℕ)) → List (List ℕ) �
 IsDue shelf words due = IsDueOfSome shelf words due ⊎ (IsOfNoForm words × (due ≡ bad_command_line))
 
 -- the call came to the end that is due, with this status
-abbrev pub Finishes : Option (List ℕ → Option (List ℕ)) → List (List ℕ) → ℕ → List ℕ → Type 0
+abbrev pub Finishes : Option (List ℕ → Option (List ℕ)) → List (List ℕ) → Status → List ℕ → Type 0
 Finishes shelf words status text = IsDue shelf words (finish (record { status = status; text = text }))
 
 -- the call came to a fetch that failed, of this name
@@ -99,7 +101,7 @@ WasLast asked name = IfSome asked (λ names. (before : List (List ℕ)) × (name
 -- which the shelf's count of faults rose
 abbrev pub IsText : Option (List ℕ → Option (List ℕ)) → List (List ℕ) → Option (List (List ℕ)) → Type 0 → List ℕ → Type 0
 IsText shelf words fetched ShelfRose text =
-    ((status : ℕ) × Finishes shelf words status text)
+    ((status : Status) × Finishes shelf words status text)
     ⊎ ((name : List ℕ) × Lacks shelf words name × WasLast fetched name × ShelfRose × (text ≡ shelf_fault name))
 
 -- this was written at the end of what the sink has
@@ -119,7 +121,7 @@ WritesPartOfText shelf words fetched ShelfRose old new =
     ((text : List ℕ) × IsText shelf words fetched ShelfRose text × WritesPart old new text) ⊎ (new ≡ old)
 
 -- the text of the end that is due with this status was written
-abbrev pub WritesEnd : Option (List ℕ → Option (List ℕ)) → List (List ℕ) → Option (List ℕ) → Option (List ℕ) → ℕ → Type 0
+abbrev pub WritesEnd : Option (List ℕ → Option (List ℕ)) → List (List ℕ) → Option (List ℕ) → Option (List ℕ) → Status → Type 0
 WritesEnd shelf words old new status = (text : List ℕ) × Finishes shelf words status text × Writes old new text
 
 -- the name of the file that was due, and was asked for last, was written
@@ -143,11 +145,3 @@ pub record AsksOfForm (old new : Option (List (List ℕ))) (words : List (List �
 -- the names asked for in the call are the first of those that the words give, and none where they are of no form
 abbrev pub AsksOnly : Option (List (List ℕ)) → Option (List (List ℕ)) → List (List ℕ) → Type 0
 AsksOnly old new words = AsksOfForm old new words ⊎ (IsOfNoForm words × (new ≡ old))
-
--- a status with which a call comes to an end that is due
-abbrev pub is_end : ℕ → Bool
-is_end n = (n == 0) || (n == 1) || (n == 3) || (n == 9)
-
--- a status of this call
-abbrev pub is_status : ℕ → Bool
-is_status n = (n == 0) || (n == 1) || (n == 3) || (n == 4) || (n == 5) || (n == 7) || (n == 9)

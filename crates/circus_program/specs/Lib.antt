@@ -1,10 +1,8 @@
-pub mod Answer
+pub mod Status
 pub mod Form
-pub mod Names
-pub mod Replay
-pub mod Report
 pub mod Thin
-pub mod Words
-pub mod Ending
-pub mod Step
-pub mod Put
+pub mod Names
+pub mod Report
+pub mod Replay
+pub mod Answer
+pub mod Seen

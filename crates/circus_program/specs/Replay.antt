@@ -9,12 +9,14 @@ use Rattle.circus_world.specs.Refusal.{cause_of}
 use Rattle.circus_world.specs.declared.record.MemberRecord.{MemberRecord}
 use Rattle.circus_world.specs.WorldView.{WorldView}
 use Rattle.circus_world.specs.Course.{stepped, kept_of}
+use Rattle.circus_program.specs.declared.status.Status.{Status}
+use Rattle.circus_program.specs.declared.status.Status.TheVariants.{Done, BadSchedule}
 use Rattle.circus_program.specs.Names.{names}
 use Rattle.circus_program.specs.Report.{Member, Viewed, line, first_line, sent_lines, report_text}
 
 -- what a command ends with: its status and all that it writes
 pub record Ending : Type 0 where
-  pub status : ℕ
+  pub status : Status
   pub text : List ℕ
 
 -- a troupe of one founder, as it was at boot
@@ -55,10 +57,10 @@ refusal_text number w cause =
 -- the end at a line that is refused
 abbrev pub refused : ℕ → WorldView → Line → Ending
 refused number w refused_line =
-    record { status = 3; text = refusal_text number w (cause_of w refused_line) }
+    record { status = BadSchedule; text = refusal_text number w (cause_of w refused_line) }
 
 -- the end of a replay of lines, the first having this number
 abbrev pub replayed : ℕ → WorldView → List Line → Ending
-replayed number w [] = record { status = 0; text = report_of w }
+replayed number w [] = record { status = Done; text = report_of w }
 replayed number w (next ∷ lines) =
     cond (is_legal w next) (replayed (number + 1) (stepped w next) lines) (refused number w next)

@@ -1,20 +1,18 @@
 // What the words ask for, and what comes of it.
 ghost use Rattle.std.specs.Prelude.{◌≡◌, ◌∷◌, [], map, string_bytes, IsTrue, IfOk, IfSome, IfNone};
 ghost use Rattle.circus_program.specs.Form.{replay};
-ghost use Rattle.circus_program.specs.Words.{form_of};
-ghost use Rattle.circus_program.specs.Answer.{IsDue, IsDueOfForm, IsDueOfSchedule, AsksOnly, AsksFirstOf, finish, not_built, is_end};
-ghost use Rattle.circus_program.specs.Ending.{ending_of};
+ghost use Rattle.circus_program.specs.Seen.Words.{form_of};
+ghost use Rattle.circus_program.specs.Answer.{IsDue, IsDueOfForm, IsDueOfSchedule, AsksOnly, AsksFirstOf, finish, not_built};
+ghost use Rattle.circus_program.specs.Status.{is_end};
+ghost use Rattle.circus_program.specs.Seen.Ending.{ending_of};
 
+use crate::Status;
 use crate::replay::{Ending, replay_lines};
 use crate::thin::{read_thin_program, read_thin_schedule};
 use crate::words::{Form, read_words};
 use circus_outside::{Shelf, ShelfFault};
 use circus_value::NoMemory;
 use std::alloc::{AllocError, Global};
-
-const BAD_COMMAND_LINE: u8 = 1;
-
-const NOT_BUILT: u8 = 9;
 
 /// What a command comes to: its end, or a file that the shelf doesn't give.
 #[derive(Drop)]
@@ -23,10 +21,10 @@ pub enum Step<'a> {
     Lack(&'a str),
 }
 
-ghost use Rattle.circus_program.specs.Step.{due_of, HasEndStatus, IsLackNoted, IsStepBehind, IsStepOfReplay};
+ghost use Rattle.circus_program.specs.Seen.Step.{due_of, HasEndStatus, IsLackNoted, IsStepBehind, IsStepOfReplay};
 
 /// An end whose text is this line.
-fn ending(alloc: Global, status: u8, line: &str) -> Result<Ending, NoMemory>
+fn ending(alloc: Global, status: Status, line: &str) -> Result<Ending, NoMemory>
     ensures ending { IfOk result (λ ending. ending_of ending ≡ record { status = status; text = line.now }) }
     ensures status { IfOk result (λ ending. ending.status ≡ status) }
 {
@@ -42,7 +40,7 @@ fn replay_schedule(alloc: Global, number: u16, schedule: &[u8]) -> Result<Ending
     ensures status { IfOk result (λ ending. IsTrue (is_end ending.status)) }
 {
     let Some(lines) = read_thin_schedule(alloc, schedule)? else {
-        let unbuilt = ending(alloc, NOT_BUILT, "not built\n")?;
+        let unbuilt = ending(alloc, Status::NotBuilt, "not built\n")?;
         return Ok(unbuilt);
     };
     let replayed = replay_lines(alloc, number, lines.as_slice())?;
@@ -62,7 +60,7 @@ fn replay_program<'a, S: Shelf>(
     ensures asked { AsksFirstOf (S.fetched shelf.old) (S.fetched shelf.new) (schedule.now ∷ []) }
 {
     let Some(number) = read_thin_program(program) else {
-        let unbuilt = ending(alloc, NOT_BUILT, "not built\n")?;
+        let unbuilt = ending(alloc, Status::NotBuilt, "not built\n")?;
         return Ok(Step::Finish(unbuilt));
     };
     let bytes = match shelf.fetch(schedule) {
@@ -124,11 +122,11 @@ pub fn follow<'a, S: Shelf>(
     ensures asked { AsksOnly (S.fetched shelf.old) (S.fetched shelf.new) (map string_bytes words.now) }
 {
     let Some(form) = read_words(words) else {
-        let refused = ending(alloc, BAD_COMMAND_LINE, "circus: bad command line\n")?;
+        let refused = ending(alloc, Status::BadCommandLine, "circus: bad command line\n")?;
         return Ok(Step::Finish(refused));
     };
     let Some((program, schedule)) = files_of_replay(form) else {
-        let unbuilt = ending(alloc, NOT_BUILT, "not built\n")?;
+        let unbuilt = ending(alloc, Status::NotBuilt, "not built\n")?;
         return Ok(Step::Finish(unbuilt));
     };
     let step = replay(alloc, program, schedule, shelf)?;

@@ -1,20 +1,18 @@
 // The top call.
-ghost use Rattle.std.specs.Prelude.{◌≡◌, map, string_bytes, IsTrue, IfOk};
+ghost use Rattle.std.specs.Prelude.{◌≡◌, map, string_bytes, IfOk};
 ghost use Rattle.circus_outside.specs.Faults.{Rose};
-ghost use Rattle.circus_program.specs.Answer.{AsksOnly, WritesEnd, WritesLack, WritesPartOfText, is_status, shelf_fault as fault_line};
-ghost use Rattle.circus_program.specs.Put.{IsPut, IsAnswer};
+ghost use Rattle.circus_program.specs.Answer.{AsksOnly, WritesEnd, WritesLack, WritesPartOfText, shelf_fault as fault_line};
+ghost use Rattle.circus_program.specs.declared.status.Status.{Status as Ended};
+ghost use Rattle.circus_program.specs.declared.status.Status.TheVariants.{Done, BadCommandLine, BadSchedule, ShelfFault, SinkFault, NoMemory, NotBuilt};
+ghost use Rattle.circus_program.specs.Status.{code_of};
+ghost use Rattle.circus_program.specs.Seen.Put.{IsPut, IsAnswer};
 
+use crate::Status;
 use crate::answer::{Step, follow};
-use crate::put::{Stop, put_lines};
+use crate::put::{PutFault, put_lines};
 use circus_outside::{Link, Shelf, Sink};
 use circus_value::NoMemory;
 use std::alloc::Global;
-
-const SHELF_FAULT: u8 = 4;
-
-const SINK_FAULT: u8 = 5;
-
-const OUT_OF_MEMORY: u8 = 7;
 
 /// Does what the words ask for: fetches files from the shelf, writes to the sink line by line, and answers
 /// the status (docs/GUIDE.md, "Statuses"). So far `replay` is built, for one program and schedules of
@@ -35,42 +33,43 @@ pub fn circus<S: Shelf, K: Sink, L: Link>(
     sink: &mut K,
     link: &mut L,
 ) -> u8
-    ensures known { IsTrue (is_status result) }
+    ensures known { (status : Ended) × (result ≡ code_of status) }
     ensures asked { AsksOnly (S.fetched shelf.old) (S.fetched shelf.new) (map string_bytes words.now) }
     ensures link { link.new ≡ link.old }
 
-    ensures done { result ≡ 0 → WritesEnd (S.contents shelf.old) (map string_bytes words.now) (K.written sink.old) (K.written sink.new) 0 }
-    ensures bad_words { result ≡ 1 → WritesEnd (S.contents shelf.old) (map string_bytes words.now) (K.written sink.old) (K.written sink.new) 1 }
-    ensures bad_schedule { result ≡ 3 → WritesEnd (S.contents shelf.old) (map string_bytes words.now) (K.written sink.old) (K.written sink.new) 3 }
-    ensures not_built { result ≡ 9 → WritesEnd (S.contents shelf.old) (map string_bytes words.now) (K.written sink.old) (K.written sink.new) 9 }
+    ensures done { result ≡ code_of Done → WritesEnd (S.contents shelf.old) (map string_bytes words.now) (K.written sink.old) (K.written sink.new) Done }
+    ensures bad_words { result ≡ code_of BadCommandLine → WritesEnd (S.contents shelf.old) (map string_bytes words.now) (K.written sink.old) (K.written sink.new) BadCommandLine }
+    ensures bad_schedule { result ≡ code_of BadSchedule → WritesEnd (S.contents shelf.old) (map string_bytes words.now) (K.written sink.old) (K.written sink.new) BadSchedule }
+    ensures not_built { result ≡ code_of NotBuilt → WritesEnd (S.contents shelf.old) (map string_bytes words.now) (K.written sink.old) (K.written sink.new) NotBuilt }
 
-    ensures shelf_fault { result ≡ 4 → WritesLack (S.contents shelf.old) (map string_bytes words.now) (S.fetched shelf.new) (K.written sink.old) (K.written sink.new) }
-    ensures shelf_rose { result ≡ 4 → Rose (S.faults shelf.old) (S.faults shelf.new) }
+    ensures shelf_fault { result ≡ code_of ShelfFault → WritesLack (S.contents shelf.old) (map string_bytes words.now) (S.fetched shelf.new) (K.written sink.old) (K.written sink.new) }
+    ensures shelf_rose { result ≡ code_of ShelfFault → Rose (S.faults shelf.old) (S.faults shelf.new) }
 
-    ensures sink_fault { result ≡ 5 → WritesPartOfText (S.contents shelf.old) (map string_bytes words.now) (S.fetched shelf.new) (Rose (S.faults shelf.old) (S.faults shelf.new)) (K.written sink.old) (K.written sink.new) }
-    ensures sink_rose { result ≡ 5 → Rose (K.faults sink.old) (K.faults sink.new) }
+    ensures sink_fault { result ≡ code_of SinkFault → WritesPartOfText (S.contents shelf.old) (map string_bytes words.now) (S.fetched shelf.new) (Rose (S.faults shelf.old) (S.faults shelf.new)) (K.written sink.old) (K.written sink.new) }
+    ensures sink_rose { result ≡ code_of SinkFault → Rose (K.faults sink.old) (K.faults sink.new) }
 
-    ensures no_memory { result ≡ 7 → WritesPartOfText (S.contents shelf.old) (map string_bytes words.now) (S.fetched shelf.new) (Rose (S.faults shelf.old) (S.faults shelf.new)) (K.written sink.old) (K.written sink.new) }
+    ensures no_memory { result ≡ code_of NoMemory → WritesPartOfText (S.contents shelf.old) (map string_bytes words.now) (S.fetched shelf.new) (Rose (S.faults shelf.old) (S.faults shelf.new)) (K.written sink.old) (K.written sink.new) }
 {
     let _link = link;
-    answer(alloc, words, shelf, sink)
+    let status = answer(alloc, words, shelf, sink);
+    status.code()
 }
 
 /// Does what the words ask for, over a shelf and a sink.
-fn answer<S: Shelf, K: Sink>(alloc: Global, words: &[String], shelf: &mut S, sink: &mut K) -> u8
+fn answer<S: Shelf, K: Sink>(alloc: Global, words: &[String], shelf: &mut S, sink: &mut K) -> Status
     ensures asked { AsksOnly (S.fetched shelf.old) (S.fetched shelf.new) (map string_bytes words.now) }
     ensures answer { IsAnswer (S.contents shelf.old) (map string_bytes words.now) (S.fetched shelf.new) (Rose (S.faults shelf.old) (S.faults shelf.new))
         (K.written sink.old) (K.written sink.new) (Rose (K.faults sink.old) (K.faults sink.new)) result }
 {
     let step = match follow(alloc, words, shelf) {
         Ok(step) => step,
-        Err(_) => return OUT_OF_MEMORY,
+        Err(_) => return Status::NoMemory,
     };
     match step {
         Step::Finish(ending) => put(sink, ending.status, ending.text.as_bytes()),
         Step::Lack(name) => match shelf_fault(alloc, name) {
-            Ok(text) => put(sink, SHELF_FAULT, text.as_bytes()),
-            Err(_) => OUT_OF_MEMORY,
+            Ok(text) => put(sink, Status::ShelfFault, text.as_bytes()),
+            Err(_) => Status::NoMemory,
         },
     }
 }
@@ -83,12 +82,12 @@ fn shelf_fault(alloc: Global, name: &str) -> Result<String, NoMemory>
 }
 
 /// Puts a text, and answers this status where all of it was taken.
-fn put<K: Sink>(sink: &mut K, status: u8, text: &[u8]) -> u8
+fn put<K: Sink>(sink: &mut K, status: Status, text: &[u8]) -> Status
     ensures { IsPut status text.now (K.written sink.old) (K.written sink.new) (Rose (K.faults sink.old) (K.faults sink.new)) result }
 {
     match put_lines(sink, text) {
         Ok(()) => status,
-        Err(Stop::Sink) => SINK_FAULT,
-        Err(Stop::Memory) => OUT_OF_MEMORY,
+        Err(PutFault::Sink) => Status::SinkFault,
+        Err(PutFault::Memory) => Status::NoMemory,
     }
 }

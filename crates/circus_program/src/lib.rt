@@ -1,6 +1,6 @@
 //! The top call: words in, status out, over a shelf, a sink and a link.
 //!
-//! `words` reads the command line, `thin` the program and the schedules that are built so far, `answer` fetches
+//! `status` has how a call ends. `words` reads the command line, `thin` the program and the schedules that are built so far, `answer` fetches
 //! and decides, `replay` runs the world, `report` and `names` have the report's lines, `put` writes, and `call`
 //! is the top call itself.
 #![tactic(auto)]
@@ -12,9 +12,11 @@ mod names;
 mod put;
 mod replay;
 mod report;
+mod status;
 mod thin;
 mod words;
 
 pub use call::circus;
+pub use status::Status;
 pub use thin::{AFTER_NUMBER, BEFORE_NUMBER};
 pub use words::{Form, read_words};

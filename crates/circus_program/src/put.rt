@@ -7,34 +7,34 @@ use circus_outside::{Sink, SinkFault};
 
 /// Why not all was written.
 #[derive(Clone, Copy, Debug)]
-pub enum Stop {
+pub enum PutFault {
     Sink,
     Memory,
 }
 
 /// Offers a line to the sink, and its rest again until all is taken.
-fn put_line<K: Sink>(sink: &mut K, line: &[u8]) -> Result<(), Stop>
+fn put_line<K: Sink>(sink: &mut K, line: &[u8]) -> Result<(), PutFault>
     ensures written { OnOk result (Writes (K.written sink.old) (K.written sink.new) line.now) }
     ensures part { OnErr result (WritesPart (K.written sink.old) (K.written sink.new) line.now) }
-    ensures rose { IsErrOf result Stop.Sink → Rose (K.faults sink.old) (K.faults sink.new) }
+    ensures rose { IsErrOf result PutFault.Sink → Rose (K.faults sink.old) (K.faults sink.new) }
     ensures count { OnOk result (K.faults sink.new ≡ K.faults sink.old) }
 {
     let mut at = 0;
     while at < line.len() {
         match sink.put(&line[at..]) {
             Ok(count) => at += count,
-            Err(SinkFault::NoMemory) => return Err(Stop::Memory),
-            Err(SinkFault::Failed) => return Err(Stop::Sink),
+            Err(SinkFault::NoMemory) => return Err(PutFault::Memory),
+            Err(SinkFault::Failed) => return Err(PutFault::Sink),
         }
     }
     Ok(())
 }
 
 /// Writes a text line by line.
-pub fn put_lines<K: Sink>(sink: &mut K, text: &[u8]) -> Result<(), Stop>
+pub fn put_lines<K: Sink>(sink: &mut K, text: &[u8]) -> Result<(), PutFault>
     ensures written { OnOk result (Writes (K.written sink.old) (K.written sink.new) text.now) }
     ensures part { OnErr result (WritesPart (K.written sink.old) (K.written sink.new) text.now) }
-    ensures rose { IsErrOf result Stop.Sink → Rose (K.faults sink.old) (K.faults sink.new) }
+    ensures rose { IsErrOf result PutFault.Sink → Rose (K.faults sink.old) (K.faults sink.new) }
     ensures count { OnOk result (K.faults sink.new ≡ K.faults sink.old) }
 {
     let mut at = 0;

@@ -1,14 +1,15 @@
 // A replay: the world that the lines leave, and its report.
 ghost use Rattle.std.specs.Prelude.{◌≡◌, ◌++◌, ◌≤◌, length, None, IfOk, OnOk, string_bytes, codes, IsTrue};
-ghost use Rattle.circus_program.specs.Answer.{is_end};
+ghost use Rattle.circus_program.specs.Status.{is_end};
 ghost use Rattle.std.specs.Fmt.{decimal};
 ghost use Rattle.circus_world.specs.Course.{booted, kept_of};
-ghost use Rattle.circus_program.specs.Ending.{ending_of};
+ghost use Rattle.circus_program.specs.Seen.Ending.{ending_of};
 ghost use Rattle.circus_program.specs.Names.{names};
 ghost use Rattle.circus_program.specs.Report.{line, rest_text, members_lines, view_line, view_lines};
 ghost use Rattle.circus_program.specs.Replay.{founded, founded_views, member_of, members_of, report_of, refusal_text, cause_text, replayed};
 
 use crate::names::{name_of_node, name_of_troupe};
+use crate::Status;
 use crate::report::{append_all_sent, append_member, append_words};
 use circus_value::NoMemory;
 use circus_world::{BootFault, Cause, Line, World, WorldFault};
@@ -22,14 +23,10 @@ const COUNTER: u16 = 0;
 
 const MAIN: u16 = 1;
 
-const DONE: u8 = 0;
-
-const BAD_SCHEDULE: u8 = 3;
-
 /// What a command ends with: its status, and all that it writes.
 #[derive(Drop)]
 pub struct Ending {
-    pub status: u8,
+    pub status: Status,
     pub text: String,
 }
 
@@ -56,7 +53,7 @@ pub fn replay_lines(alloc: Global, number: u16, lines: &[Line]) -> Result<Ending
         line_number += 1;
     }
     Ok(Ending {
-        status: DONE,
+        status: Status::Done,
         text: report(alloc, &world)?,
     })
 }
@@ -69,15 +66,15 @@ fn refusal(
     cause: &Cause,
 ) -> Result<Ending, NoMemory>
     ensures ending { IfOk result (λ ending. ending_of ending
-        ≡ record { status = 3; text = refusal_text line_number world.now cause.now }) }
-    ensures status { IfOk result (λ ending. ending.status ≡ 3) }
+        ≡ record { status = Status.BadSchedule; text = refusal_text line_number world.now cause.now }) }
+    ensures status { IfOk result (λ ending. ending.status ≡ Status.BadSchedule) }
 {
     let mut text = String::new(alloc);
     append_words(&mut text, "circus report 1\n")?;
     append_all_sent(alloc, &mut text, world.sent().as_slice())?;
     append_refusal(&mut text, line_number, cause)?;
     Ok(Ending {
-        status: BAD_SCHEDULE,
+        status: Status::BadSchedule,
         text,
     })
 }

@@ -1,6 +1,6 @@
 // The words of a command line.
 ghost use Rattle.circus_program.specs.Form.{IsOfForm, IsOfNoForm};
-ghost use Rattle.circus_program.specs.Words.{form_of};
+ghost use Rattle.circus_program.specs.Seen.Words.{form_of};
 ghost use Rattle.std.specs.Prelude.{[], ◌∷◌, IfNone, IfSome, map};
 ghost use Rattle.std.specs.String.{string_bytes};
 

@@ -3,8 +3,9 @@ use Rattle.std.specs.Prelude.{ℕ, Option, List, [], ◌∷◌, IsTrue}
 use Rattle.circus_outside.specs.Faults.{Rose}
 use Rattle.circus_program.specs.declared.answer.Step.{Step}
 use Rattle.circus_program.specs.declared.answer.Step.TheVariants.{Finish, Lack}
-use Rattle.circus_program.specs.Ending.{ending_of}
-use Rattle.circus_program.specs.Answer.{Due, fetch, finish, IsDueOfProgram, IsDueOfSchedule, IsDueOfReplay, AreFetchedOf, WasLast, is_end}
+use Rattle.circus_program.specs.Status.{is_end}
+use Rattle.circus_program.specs.Seen.Ending.{ending_of}
+use Rattle.circus_program.specs.Answer.{Due, fetch, finish, IsDueOfProgram, IsDueOfSchedule, IsDueOfReplay, AreFetchedOf, WasLast}
 use Rattle.circus_program.specs.Thin.{IsThinProgram}
 
 -- the end, or the file that was due

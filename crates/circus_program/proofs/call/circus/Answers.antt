@@ -1,0 +1,34 @@
+use Rattle.std.proofs.Common.{refl}
+use Rattle.circus_program.specs.declared.status.Status.TheVariants.{Done, BadCommandLine, BadSchedule, ShelfFault, SinkFault, NoMemory, NotBuilt}
+use Rattle.circus_program.proofs.PutLemmas.{ended_as, one_status}
+use Rattle.circus_program.proofs.call.circus.Goals as goal
+
+pub returns-clause-known : goal.returns-clause-known
+returns-clause-known g c = (c.answer-status.result, c.code.ensures)
+
+pub returns-clause-done : goal.returns-clause-done
+returns-clause-done g c = λ is. ended_as _ _ _ _ _ _ _ c.answer-status.result Done c.code.result c.answer-status.ensures.answer c.code.ensures refl is
+
+pub returns-clause-bad_words : goal.returns-clause-bad_words
+returns-clause-bad_words g c = λ is. ended_as _ _ _ _ _ _ _ c.answer-status.result BadCommandLine c.code.result c.answer-status.ensures.answer c.code.ensures refl is
+
+pub returns-clause-bad_schedule : goal.returns-clause-bad_schedule
+returns-clause-bad_schedule g c = λ is. ended_as _ _ _ _ _ _ _ c.answer-status.result BadSchedule c.code.result c.answer-status.ensures.answer c.code.ensures refl is
+
+pub returns-clause-not_built : goal.returns-clause-not_built
+returns-clause-not_built g c = λ is. ended_as _ _ _ _ _ _ _ c.answer-status.result NotBuilt c.code.result c.answer-status.ensures.answer c.code.ensures refl is
+
+pub returns-clause-shelf_fault : goal.returns-clause-shelf_fault
+returns-clause-shelf_fault g c = λ is. c.answer-status.ensures.answer.lacked (one_status c.answer-status.result ShelfFault c.code.result c.code.ensures is)
+
+pub returns-clause-shelf_rose : goal.returns-clause-shelf_rose
+returns-clause-shelf_rose g c = λ is. c.answer-status.ensures.answer.shelf_rose (one_status c.answer-status.result ShelfFault c.code.result c.code.ensures is)
+
+pub returns-clause-sink_fault : goal.returns-clause-sink_fault
+returns-clause-sink_fault g c = λ is. c.answer-status.ensures.answer.stopped (one_status c.answer-status.result SinkFault c.code.result c.code.ensures is)
+
+pub returns-clause-sink_rose : goal.returns-clause-sink_rose
+returns-clause-sink_rose g c = λ is. c.answer-status.ensures.answer.sink_rose (one_status c.answer-status.result SinkFault c.code.result c.code.ensures is)
+
+pub returns-clause-no_memory : goal.returns-clause-no_memory
+returns-clause-no_memory g c = λ is. c.answer-status.ensures.answer.no_memory (one_status c.answer-status.result NoMemory c.code.result c.code.ensures is)

@@ -1,0 +1,21 @@
+-- What a call answers, as one fact.
+use Rattle.std.specs.Prelude.{◌≡◌, ◌⊎◌, ℕ, Option, List, IsTrue}
+use Rattle.circus_program.specs.declared.status.Status.{Status}
+use Rattle.circus_program.specs.declared.status.Status.TheVariants.{ShelfFault, SinkFault, NoMemory}
+use Rattle.circus_program.specs.Status.{is_end}
+use Rattle.circus_program.specs.Answer.{Writes, WritesPart, WritesPartOfText, WritesEnd, WritesLack}
+
+-- a text was put with this status, or a part of it, and the sink failed or there was no memory
+abbrev pub IsPut : Status → List ℕ → Option (List ℕ) → Option (List ℕ) → Type 0 → Status → Type 0
+IsPut status text old new SinkRose result =
+    ((result ≡ status) × Writes old new text)
+    ⊎ (((result ≡ SinkFault) × WritesPart old new text × SinkRose) ⊎ ((result ≡ NoMemory) × WritesPart old new text))
+
+-- each clause of the top call
+pub record IsAnswer (shelf : Option (List ℕ → Option (List ℕ))) (words : List (List ℕ)) (fetched : Option (List (List ℕ))) (ShelfRose : Type 0) (old new : Option (List ℕ)) (SinkRose : Type 0) (result : Status) : Type 0 where
+  pub ended : IsTrue (is_end result) → WritesEnd shelf words old new result
+  pub lacked : result ≡ ShelfFault → WritesLack shelf words fetched old new
+  pub shelf_rose : result ≡ ShelfFault → ShelfRose
+  pub stopped : result ≡ SinkFault → WritesPartOfText shelf words fetched ShelfRose old new
+  pub sink_rose : result ≡ SinkFault → SinkRose
+  pub no_memory : result ≡ NoMemory → WritesPartOfText shelf words fetched ShelfRose old new

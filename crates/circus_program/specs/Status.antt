@@ -1,0 +1,24 @@
+-- How a call of the command ends.
+use Rattle.std.specs.Prelude.{ℕ, Bool, true, false}
+use Rattle.circus_program.specs.declared.status.Status.{Status}
+use Rattle.circus_program.specs.declared.status.Status.TheVariants.{Done, BadCommandLine, BadSchedule, ShelfFault, SinkFault, NoMemory, NotBuilt}
+
+-- the number that the program ends with
+abbrev pub code_of : Status → ℕ
+code_of Done = 0
+code_of BadCommandLine = 1
+code_of BadSchedule = 3
+code_of ShelfFault = 4
+code_of SinkFault = 5
+code_of NoMemory = 7
+code_of NotBuilt = 9
+
+-- the call came to an end that is due
+abbrev pub is_end : Status → Bool
+is_end Done = true
+is_end BadCommandLine = true
+is_end BadSchedule = true
+is_end ShelfFault = false
+is_end SinkFault = false
+is_end NoMemory = false
+is_end NotBuilt = true
