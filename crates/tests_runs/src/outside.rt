@@ -223,7 +223,7 @@ impl Write for Slowly<'_> {
     }
 }
 
-fn slow(calls: u64, left: &[u8]) -> Slowly<'_> {
+fn byte_by_byte(calls: u64, left: &[u8]) -> Slowly<'_> {
     Slowly {
         calls,
         left,
@@ -234,10 +234,10 @@ fn slow(calls: u64, left: &[u8]) -> Slowly<'_> {
 #[test]
 fn contents_come_a_byte_at_a_time(rt: HostRuntime) -> Result<(), Fail> {
     let alloc = rt.alloc();
-    let whole = read_contents(alloc, slow(100, b"abc"))?;
+    let whole = read_contents(alloc, byte_by_byte(100, b"abc"))?;
     assert_eq!(rt; whole.as_slice(), b"abc".as_slice());
     for calls in 0..4 {
-        let cut = read_contents(alloc, slow(calls, b"abc"));
+        let cut = read_contents(alloc, byte_by_byte(calls, b"abc"));
         assert!(rt; matches!(cut, Err(ShelfFault::Failed)));
     }
     Ok(())
@@ -245,7 +245,7 @@ fn contents_come_a_byte_at_a_time(rt: HostRuntime) -> Result<(), Fail> {
 
 #[test]
 fn a_piece_goes_a_byte_at_a_time(rt: HostRuntime) -> Result<(), Fail> {
-    let mut writer = slow(2, b"");
+    let mut writer = byte_by_byte(2, b"");
     assert_eq!(rt; write_piece(&mut writer, b"abc")?, 1);
     assert_eq!(rt; write_piece(&mut writer, b"")?, 0);
     assert_eq!(rt; write_piece(&mut writer, b"bc")?, 1);

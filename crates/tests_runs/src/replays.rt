@@ -4,6 +4,7 @@ use circus_outside::{Arrivals, Failing, File, Files, MemLink, MemShelf, MemSink}
 use circus_program::circus;
 use circus_value::{Duplicate, NoMemory, Octets};
 use std::alloc::Global;
+use std::process::Abort;
 use std::test::Fail;
 
 const BEFORE_NUMBER: &str = "\
@@ -145,11 +146,6 @@ fn strings(alloc: Global, texts: &[&str]) -> Result<Vec<String>, NoMemory> {
     Ok(all)
 }
 
-// The program whose root calls with this number.
-fn program(alloc: Global, number: &str) -> Result<String, NoMemory> {
-    joined(alloc, &[BEFORE_NUMBER, number, AFTER_NUMBER])
-}
-
 fn file(alloc: Global, name: &str, contents: &str) -> Result<File, NoMemory> {
     let name = octets(alloc, name)?;
     let contents = octets(alloc, contents)?;
@@ -177,19 +173,27 @@ fn run(alloc: Global, words: &[&str], files: Files, failing: Failing) -> Result<
     })
 }
 
-// Replays a program under a schedule.
-fn replay(alloc: Global, program: &str, schedule: &str) -> Result<Ended, NoMemory> {
-    let files = files(alloc, program, schedule)?;
-    run(alloc, &["replay", "p", "s"], files, Failing::new(alloc))
+// Words, the files `p` and `s` that they may name, and what their run leaves: what it writes, its status and how
+// many files it fetches.
+struct Row {
+    words: &'static [&'static str],
+    program: &'static [&'static str],
+    schedule: &'static str,
+    written: &'static [&'static str],
+    status: u8,
+    fetched: usize,
 }
 
-#[test]
-fn a_call_and_its_return_are_delivered(rt: HostRuntime) -> Result<(), Fail> {
-    let alloc = rt.alloc();
-    let ended = replay(alloc, program(alloc, "5")?.as_str(), DELIVER_ALL)?;
-    let wanted = joined(
-        alloc,
-        &[
+const REPLAY: &[&str] = &["replay", "p", "s"];
+
+const CALLS_WITH_5: &[&str] = &[BEFORE_NUMBER, "5", AFTER_NUMBER];
+
+const REPLAYED: [Row; 5] = [
+    Row {
+        words: REPLAY,
+        program: CALLS_WITH_5,
+        schedule: DELIVER_ALL,
+        written: &[
             TITLE,
             CALL,
             CALL_ACKNOWLEDGED,
@@ -199,34 +203,24 @@ fn a_call_and_its_return_are_delivered(rt: HostRuntime) -> Result<(), Fail> {
             SERVER_CALLED,
             ROOT_DONE,
         ],
-    )?;
-    assert_eq!(rt; ended.text(), wanted.as_str());
-    assert_eq!(rt; ended.status, 0);
-    assert_eq!(rt; ended.fetched, 2);
-    Ok(())
-}
-
-#[test]
-fn a_call_that_is_not_delivered_is_waited_for(rt: HostRuntime) -> Result<(), Fail> {
-    let alloc = rt.alloc();
-    let ended = replay(alloc, program(alloc, "5")?.as_str(), "")?;
-    let wanted = joined(alloc, &[TITLE, CALL, VIEWS, SERVER_UNCALLED, ROOT_WAITING])?;
-    assert_eq!(rt; ended.text(), wanted.as_str());
-    assert_eq!(rt; ended.status, 0);
-    Ok(())
-}
-
-#[test]
-fn a_call_that_comes_again_is_not_performed_again(rt: HostRuntime) -> Result<(), Fail> {
-    let alloc = rt.alloc();
-    let ended = replay(
-        alloc,
-        program(alloc, "5")?.as_str(),
-        "deliver 0\ndeliver 0\ndeliver 0\n",
-    )?;
-    let wanted = joined(
-        alloc,
-        &[
+        status: 0,
+        fetched: 2,
+    },
+    // Nothing is delivered.
+    Row {
+        words: REPLAY,
+        program: CALLS_WITH_5,
+        schedule: "",
+        written: &[TITLE, CALL, VIEWS, SERVER_UNCALLED, ROOT_WAITING],
+        status: 0,
+        fetched: 2,
+    },
+    // A call that comes again isn't performed again.
+    Row {
+        words: REPLAY,
+        program: CALLS_WITH_5,
+        schedule: "deliver 0\ndeliver 0\ndeliver 0\n",
+        written: &[
             TITLE,
             CALL,
             CALL_ACKNOWLEDGED,
@@ -235,92 +229,107 @@ fn a_call_that_comes_again_is_not_performed_again(rt: HostRuntime) -> Result<(),
             SERVER_CALLED,
             ROOT_WAITING,
         ],
-    )?;
-    assert_eq!(rt; ended.text(), wanted.as_str());
-    assert_eq!(rt; ended.status, 0);
+        status: 0,
+        fetched: 2,
+    },
+    Row {
+        words: REPLAY,
+        program: &[BEFORE_NUMBER, "65535", AFTER_NUMBER],
+        schedule: DELIVER_ALL,
+        written: &[GREATEST_CARRIED],
+        status: 0,
+        fetched: 2,
+    },
+    // A datagram that was not sent.
+    Row {
+        words: REPLAY,
+        program: CALLS_WITH_5,
+        schedule: "deliver 9",
+        written: &[TITLE, CALL, "schedule line 1: no datagram 9, 1 sent\n"],
+        status: 3,
+        fetched: 2,
+    },
+];
+
+const REFUSED: [Row; 5] = [
+    Row {
+        words: &[],
+        program: CALLS_WITH_5,
+        schedule: DELIVER_ALL,
+        written: &["circus: bad command line\n"],
+        status: 1,
+        fetched: 0,
+    },
+    Row {
+        words: &["replay", "absent", "s"],
+        program: CALLS_WITH_5,
+        schedule: DELIVER_ALL,
+        written: &["shelf fault: absent\n"],
+        status: 4,
+        fetched: 1,
+    },
+    Row {
+        words: &["stubs", "p"],
+        program: CALLS_WITH_5,
+        schedule: DELIVER_ALL,
+        written: &[NOT_BUILT],
+        status: 9,
+        fetched: 0,
+    },
+    Row {
+        words: REPLAY,
+        program: &["CIRCUS 1;\n"],
+        schedule: DELIVER_ALL,
+        written: &[NOT_BUILT],
+        status: 9,
+        fetched: 1,
+    },
+    Row {
+        words: REPLAY,
+        program: CALLS_WITH_5,
+        schedule: "tick m1\n",
+        written: &[NOT_BUILT],
+        status: 9,
+        fetched: 2,
+    },
+];
+
+// Runs the words of a row, and asserts what is left.
+fn leaves(rt: &impl Abort, alloc: Global, row: &Row) -> Result<(), NoMemory> {
+    let program = joined(alloc, row.program)?;
+    let files = files(alloc, program.as_str(), row.schedule)?;
+    let ended = run(alloc, row.words, files, Failing::new(alloc))?;
+    let written = joined(alloc, row.written)?;
+    assert_eq!(rt; ended.text(), written.as_str());
+    assert_eq!(rt; ended.status, row.status);
+    assert_eq!(rt; ended.fetched, row.fetched);
     Ok(())
 }
 
 #[test]
-fn a_datagram_that_was_not_sent_is_refused(rt: HostRuntime) -> Result<(), Fail> {
-    let alloc = rt.alloc();
-    let ended = replay(alloc, program(alloc, "5")?.as_str(), "deliver 9")?;
-    let cause = "schedule line 1: no datagram 9, 1 sent\n";
-    let wanted = joined(alloc, &[TITLE, CALL, cause])?;
-    assert_eq!(rt; ended.text(), wanted.as_str());
-    assert_eq!(rt; ended.status, 3);
+fn replays_are_reported(rt: HostRuntime) -> Result<(), Fail> {
+    for row in &REPLAYED {
+        leaves(&rt, rt.alloc(), row)?;
+    }
     Ok(())
 }
 
 #[test]
-fn the_greatest_number_is_carried(rt: HostRuntime) -> Result<(), Fail> {
-    let alloc = rt.alloc();
-    let ended = replay(alloc, program(alloc, "65535")?.as_str(), DELIVER_ALL)?;
-    assert_eq!(rt; ended.text(), GREATEST_CARRIED);
-    assert_eq!(rt; ended.status, 0);
+fn what_cannot_be_done_is_told(rt: HostRuntime) -> Result<(), Fail> {
+    for row in &REFUSED {
+        leaves(&rt, rt.alloc(), row)?;
+    }
     Ok(())
 }
 
 #[test]
 fn a_sink_that_fails_keeps_what_stands_before(rt: HostRuntime) -> Result<(), Fail> {
     let alloc = rt.alloc();
-    let files = files(alloc, program(alloc, "5")?.as_str(), DELIVER_ALL)?;
+    let program = joined(alloc, CALLS_WITH_5)?;
+    let files = files(alloc, program.as_str(), DELIVER_ALL)?;
     let mut failing = Failing::new(alloc);
     failing.push(1)?;
-    let ended = run(alloc, &["replay", "p", "s"], files, failing)?;
-    assert_eq!(rt; ended.text(), TITLE);
-    assert_eq!(rt; ended.status, 5);
-    Ok(())
-}
-
-#[test]
-fn no_words_are_no_command_line(rt: HostRuntime) -> Result<(), Fail> {
-    let alloc = rt.alloc();
-    let ended = run(alloc, &[], Files::new(alloc), Failing::new(alloc))?;
-    assert_eq!(rt; ended.text(), "circus: bad command line\n");
-    assert_eq!(rt; ended.status, 1);
-    assert_eq!(rt; ended.fetched, 0);
-    Ok(())
-}
-
-#[test]
-fn a_file_that_the_shelf_lacks_is_named(rt: HostRuntime) -> Result<(), Fail> {
-    let alloc = rt.alloc();
-    let words = ["replay", "absent", "s"];
-    let ended = run(alloc, &words, Files::new(alloc), Failing::new(alloc))?;
-    assert_eq!(rt; ended.text(), "shelf fault: absent\n");
-    assert_eq!(rt; ended.status, 4);
-    assert_eq!(rt; ended.fetched, 1);
-    Ok(())
-}
-
-#[test]
-fn another_form_is_not_built(rt: HostRuntime) -> Result<(), Fail> {
-    let alloc = rt.alloc();
-    let files = files(alloc, program(alloc, "5")?.as_str(), DELIVER_ALL)?;
-    let ended = run(alloc, &["stubs", "p"], files, Failing::new(alloc))?;
-    assert_eq!(rt; ended.text(), NOT_BUILT);
-    assert_eq!(rt; ended.status, 9);
-    assert_eq!(rt; ended.fetched, 0);
-    Ok(())
-}
-
-#[test]
-fn another_program_is_not_built(rt: HostRuntime) -> Result<(), Fail> {
-    let alloc = rt.alloc();
-    let ended = replay(alloc, "CIRCUS 1;\n", DELIVER_ALL)?;
-    assert_eq!(rt; ended.text(), NOT_BUILT);
-    assert_eq!(rt; ended.status, 9);
-    assert_eq!(rt; ended.fetched, 1);
-    Ok(())
-}
-
-#[test]
-fn another_schedule_is_not_built(rt: HostRuntime) -> Result<(), Fail> {
-    let alloc = rt.alloc();
-    let ended = replay(alloc, program(alloc, "5")?.as_str(), "tick m1\n")?;
-    assert_eq!(rt; ended.text(), NOT_BUILT);
-    assert_eq!(rt; ended.status, 9);
-    assert_eq!(rt; ended.fetched, 2);
+    let ended = run(alloc, REPLAY, files, failing)?;
+    assert_eq!(rt; (ended.text(), ended.status), (TITLE, 5));
     Ok(())
 }
