@@ -1,13 +1,15 @@
 -- What is read at a token, accepted or refused.
-use Rattle.std.proofs.Common.{◌≡◌, ℕ, ◌<◌, ◌≤◌, ◌⊎◌, inl, inr, Bool, true, false, List, [], ◌∷◌, ◌++◌, length, drop, refl, sym, ◌∙◌, ap, subst, arith, length-append, Option, Some, None}
+use Rattle.std.proofs.Common.{◌≡◌, ℕ, ◌<◌, ◌≤◌, ◌⊎◌, inl, inr, List, [], ◌∷◌, ◌++◌, length, drop, refl, sym, ◌∙◌, ap, subst, arith, length-append, Option, Some, None}
 use Rattle.std.specs.List.{AllByRecursion}
-use Rattle.std.specs.Prelude.{Contains, All, if◌then◌else◌}
+use Rattle.std.specs.Prelude.{Contains, All}
 use Rattle.std.proofs.lemmas.List.{length-map, length-drop}
 use Rattle.std.proofs.lemmas.List.Elements.{Contains-append_cases}
 use Rattle.circus_text.specs.declared.token.Token.{Token}
 use Rattle.circus_text.specs.Token.{IsTokenIn}
 use Rattle.circus_syntax.specs.declared.interface_reading.Read.{Read}
 use Rattle.circus_syntax.specs.declared.stopping.Stop.{Stop}
+use Rattle.circus_syntax.specs.declared.stopping.StopCause.{StopCause}
+use Rattle.circus_syntax.specs.declared.stopping.StopCause.TheVariants.{Unexpected, TooDeep}
 use Rattle.circus_syntax.specs.InterfaceTree.{InterfaceTree, interface_of}
 use Rattle.circus_syntax.specs.Placed.{Placed, placed_of, AreTokens}
 use Rattle.circus_syntax.specs.Read.{placed_from, Answers}
@@ -26,7 +28,7 @@ use Rattle.circus_idl.specs.declared.interface.Interface.{Interface}
 use Rattle.circus_idl.specs.Rank.{rank}
 use Rattle.circus_idl.specs.Least.{least_from}
 use Rattle.circus_idl.specs.Answer.{answer_at, answer_of}
-use Rattle.circus_idl.specs.Faults.{cut_of, interface_faults, stop_faults, read_faults}
+use Rattle.circus_idl.specs.Faults.{cut_of, interface_faults, stop_fault, stop_faults, read_faults}
 use Rattle.circus_idl.specs.Means.{Means}
 use Rattle.circus_idl.specs.ReadAt.{IsReadAt, IsTreeOf, IsRefused}
 use Rattle.circus_idl.proofs.Items.{none_in, of_each}
@@ -78,14 +80,14 @@ none_refused text ts at answer own rest tree whole spelled within none (inr refu
 -- What is refused.
 
 stop_place : (ts left : List Placed) (tree : InterfaceTree) (s : Stop) (end : ℕ) → AreTokens ts → interface most_levels (open_at ts end) ≡ (tree, record { rest = left; end = end; stop = Some s })
-    → (b : Bool) → s.deep ≡ b → s.place ≡ place_in left end
-stop_place ts left tree s end tokens is false flat = (interface_unexpected ts left tree s end tokens is flat).1
-stop_place ts left tree s end tokens is true deep = (interface_too_deep ts left tree s end tokens is deep).1
+    → (c : StopCause) → s.cause ≡ c → s.place ≡ place_in left end
+stop_place ts left tree s end tokens is Unexpected flat = (interface_unexpected ts left tree s end tokens is flat).1
+stop_place ts left tree s end tokens is TooDeep deep = (interface_too_deep ts left tree s end tokens is deep).1
 
 is_tree_of : (ts left : List Placed) (tree : InterfaceTree) (stop : Option Stop) (end : ℕ) → AreTokens ts → interface most_levels (open_at ts end) ≡ (tree, record { rest = left; end = end; stop = stop })
     → IsTreeOf ts end stop tree
 is_tree_of ts left tree None end tokens is = let (own, parts, spelled, within) = interface_whole ts left tree end tokens is in (own, left, parts, spelled, within)
-is_tree_of ts left tree (Some s) end tokens is = (left, interface_filled_in ts left tree s end tokens is, stop_place ts left tree s end tokens is s.deep refl)
+is_tree_of ts left tree (Some s) end tokens is = (left, interface_filled_in ts left tree s end tokens is, stop_place ts left tree s end tokens is s.cause refl)
 
 pub is_refused : (text : List ℕ) (ts : List Token) (at : ℕ) (read : Read) (answer : IdlFault) → All (IsTokenIn text) ts → Answers text ts at read
     → (answer ≡ NoMemory) ⊎ ((f : Fault) × (least_from None (read_faults read.stop (interface_of read.interface)) ≡ Some f) × (answer ≡ answer_of f))
@@ -122,12 +124,12 @@ record IsStop (stop : Option Stop) (f : Fault) : Type 0 where
   at : Stop
   stop_is : stop ≡ Some at
   place_is : f.place ≡ at.place
-  cause_is : f.cause ≡ (if at.deep then cause.Deep else cause.Expected)
+  cause_is : f.cause ≡ stop_fault at.cause
 
 stop_of : (stop : Option Stop) (f : Fault) → Contains (stop_faults stop) f → IsStop stop f
 stop_of None f there = absurd (of_each (λ _. ⊥) [] f tt there)
 stop_of (Some s) f there =
-    let only : Fault = record { place = s.place; cause = if s.deep then cause.Deep else cause.Expected } in
+    let only : Fault = record { place = s.place; cause = stop_fault s.cause } in
     let same : AllByRecursion (λ g. only ≡ g) (only ∷ []) = (refl, tt) in
     let is : f ≡ only =
     sym (of_each (λ g. only ≡ g) (only ∷ []) f same there) in
@@ -141,13 +143,13 @@ of_stop stop tree f reading there =
       | inr rules ↦ absurd (let of_rule : 1 < rank f.cause = of_each IsOfRule _ f (interface_rule (cut_of stop) tree) rules in omega arith)
     ]
 
-flat : (deep : Bool) → (if deep then cause.Deep else cause.Expected) ≡ cause.Expected → deep ≡ false
-flat false is = refl
-flat true is = absurd (cc)
+flat : (c : StopCause) → stop_fault c ≡ cause.Expected → c ≡ Unexpected
+flat Unexpected is = refl
+flat TooDeep is = absurd (cc)
 
-deep : (deep : Bool) → (if deep then cause.Deep else cause.Expected) ≡ cause.Deep → deep ≡ true
-deep true is = refl
-deep false is = absurd (cc)
+deep : (c : StopCause) → stop_fault c ≡ cause.Deep → c ≡ TooDeep
+deep TooDeep is = refl
+deep Unexpected is = absurd (cc)
 
 stopped_at : (text : List ℕ) (ts : List Token) (at : ℕ) (read : Read) (s : Stop) (answers : Answers text ts at read) → read.stop ≡ Some s
     → interface most_levels (open_at (placed_from text ts at) (length text)) ≡ (interface_of read.interface, record { rest = answers.left; end = length text; stop = Some s })
@@ -163,7 +165,7 @@ is_unexpected text ts at answer place tokens (inr refused) is =
     let s = of_stop read.stop (interface_of read.interface) f (omega (arith, ap rank because)) refused.least.found in
     let (unexpected, stands) =
     interface_unexpected (placed_from text ts at) refused.answers.left (interface_of read.interface) s.at (length text) (text_tokens text ts at tokens)
-    (stopped_at text ts at read s.at refused.answers s.stop_is) (flat s.at.deep (sym s.cause_is ∙ because)) in
+    (stopped_at text ts at read s.at refused.answers s.stop_is) (flat s.at.cause (sym s.cause_is ∙ because)) in
     (refused.answers.left, unexpected, sym where_is ∙ s.place_is ∙ stands)
 
 pub is_too_deep : (text : List ℕ) (ts : List Token) (at : ℕ) (answer : IdlFault) (place : ℕ) → All (IsTokenIn text) ts → (answer ≡ NoMemory) ⊎ IsRefused text ts at answer → answer ≡ Deep place
@@ -176,5 +178,5 @@ is_too_deep text ts at answer place tokens (inr refused) is =
     let s = of_stop read.stop (interface_of read.interface) f (omega (arith, ap rank because)) refused.least.found in
     let (too_deep, stands) =
     interface_too_deep (placed_from text ts at) refused.answers.left (interface_of read.interface) s.at (length text) (text_tokens text ts at tokens)
-    (stopped_at text ts at read s.at refused.answers s.stop_is) (deep s.at.deep (sym s.cause_is ∙ because)) in
+    (stopped_at text ts at read s.at refused.answers s.stop_is) (deep s.at.cause (sym s.cause_is ∙ because)) in
     (refused.answers.left, too_deep, sym where_is ∙ s.place_is ∙ stands)

@@ -1,12 +1,15 @@
 -- The faults of an interface as it is written, in the order of its declarations.
-use Rattle.std.specs.Prelude.{ℕ, ◌+◌, ◌*◌, min, Bool, true, false, ◌&&◌, ◌||◌, ◌==◌, not, nat_lt, List, [], ◌∷◌, ◌++◌, length, Option, Some, None, is_none, if◌then◌else◌}
+use Rattle.std.specs.Prelude.{ℕ, ◌+◌, ◌*◌, min, Bool, true, false, ◌&&◌, ◌||◌, ◌==◌, not, nat_lt, List, [], ◌∷◌, ◌++◌, length, Option, Some, None, is_none}
 use Rattle.circus_syntax.specs.declared.named.Named.{Named}
 use Rattle.circus_syntax.specs.declared.stopping.Stop.{Stop}
+use Rattle.circus_syntax.specs.declared.stopping.StopCause.{StopCause}
+use Rattle.circus_syntax.specs.declared.stopping.StopCause.TheVariants.{Unexpected, TooDeep}
 use Rattle.circus_syntax.specs.declared.interface_text.FieldsText.{FieldsText}
 use Rattle.circus_syntax.specs.TypeTree.{TypeTree, GroupTrees, boolean, cardinal, long_cardinal, integer, long_integer, text, enumeration, array, sequence, «record», choice, called, no_groups, more_groups, group_trees}
 use Rattle.circus_syntax.specs.InterfaceTree.{DeclaredTree, a_type, an_error, a_procedure, InterfaceTree}
 use Rattle.circus_idl.specs.declared.measure.Measure.{Measure}
 use Rattle.circus_idl.specs.declared.fault.Fault.{Fault}
+use Rattle.circus_idl.specs.declared.fault.Cause.{Cause}
 use Rattle.circus_idl.specs.declared.fault.Cause.TheVariants.{Expected, Deep, Unknown, TooLarge}
 use Rattle.circus_idl.specs.Least.{faults_if}
 use Rattle.circus_idl.specs.Inside.{no_name, no_number, also_name, also_number, repeated_name, repeated_number, repeated_names, above, group_names, inside, inside_groups}
@@ -162,10 +165,15 @@ abbrev pub interface_faults : Cut → InterfaceTree → List Fault
 interface_faults cut i =
     above 4294967295 i.number ++ above 65535 i.version ++ declarations_faults cut nothing i.declared
 
+-- what a stop of reading is a fault of
+abbrev pub stop_fault : StopCause → Cause
+stop_fault Unexpected = Expected
+stop_fault TooDeep = Deep
+
 -- where reading stopped
 abbrev pub stop_faults : Option Stop → List Fault
 stop_faults None = []
-stop_faults (Some s) = faults_if true s.place (if s.deep then Deep else Expected)
+stop_faults (Some s) = faults_if true s.place (stop_fault s.cause)
 
 -- all faults of what is read of a text
 abbrev pub read_faults : Option Stop → InterfaceTree → List Fault

@@ -22,7 +22,7 @@ use crate::measure::word;
 use crate::names::{Names, Numbers};
 use crate::scope::Scope;
 use crate::types::Types;
-use circus_syntax::{DeclaredText, InterfaceText, Stop};
+use circus_syntax::{DeclaredText, InterfaceText, Stop, StopCause};
 use circus_value::{Duplicate, NoMemory};
 use std::alloc::Global;
 
@@ -52,10 +52,9 @@ fn best_of(stop: &Option<Stop>) -> Best
 {
     let mut best = Best { fault: None };
     if let Some(stop) = stop {
-        let cause = if stop.deep {
-            Cause::Deep
-        } else {
-            Cause::Expected
+        let cause = match stop.cause {
+            StopCause::Unexpected => Cause::Expected,
+            StopCause::TooDeep => Cause::Deep,
         };
         best.note(true, stop.place, cause);
     }

@@ -7,6 +7,7 @@ use Rattle.circus_syntax.specs.declared.named.Numeral.{Numeral}
 use Rattle.circus_syntax.specs.declared.named.TypeName.{TypeName}
 use Rattle.circus_syntax.specs.declared.named.LabelText.{LabelText}
 use Rattle.circus_syntax.specs.declared.stopping.Stop.{Stop}
+use Rattle.circus_syntax.specs.declared.stopping.StopCause.TheVariants.{TooDeep}
 use Rattle.circus_syntax.specs.declared.reading.TypeStart.{TypeStart}
 use Rattle.circus_syntax.specs.declared.reading.TypeStart.TheVariants as begins
 use Rattle.circus_syntax.specs.TypeTree.{TypeTree, GroupTree, ArmTree, boolean, cardinal, integer, text, enumeration, array, sequence, «record», choice, called, group_trees, arm_trees}
@@ -267,11 +268,11 @@ unmarked_simple n r k x b start flat is same =
     ap (λ j. type_within n j r) (sym start) ∙ ap (λ (p : Reader → TypeTree × Reader). p r) (flat_simple k (sym flat ∙ is) n) ∙ same
 
 pub unmarked_deep : (n : ℕ) (r : Reader) (k : TypeStart) (b : Bool) → n ≡ 0 → k ≡ start_of_type (next r) → b ≡ nests k → b ≡ true
-    → unmarked_type n r ≡ (boolean (place r), stopped_by true r.stop r.rest r.end)
+    → unmarked_type n r ≡ (boolean (place r), stopped_by TooDeep r.stop r.rest r.end)
 unfolding unmarked_type too_deep
 unmarked_deep n r k b none start nested is = ap (λ m. type_within m (start_of_type (next r)) r) none ∙ ap (λ j. flat_type j r) (sym start) ∙ by_start k (sym nested ∙ is)
   where
-    by_start : (j : TypeStart) → nests j ≡ true → flat_type j r ≡ (boolean (place r), stopped_by true r.stop r.rest r.end)
+    by_start : (j : TypeStart) → nests j ≡ true → flat_type j r ≡ (boolean (place r), stopped_by TooDeep r.stop r.rest r.end)
     by_start begins.Array h = refl
     by_start begins.Sequence h = refl
     by_start begins.Record h = refl

@@ -3,6 +3,7 @@ use Rattle.std.proofs.Common.{◌≡◌, ℕ, Bool, true, false, List, [], ◌�
 use Rattle.std.specs.Prelude.{Option, Some, None}
 use Rattle.circus_text.specs.Token.{IsSpelling}
 use Rattle.circus_syntax.specs.declared.stopping.Stop.{Stop}
+use Rattle.circus_syntax.specs.declared.stopping.StopCause.TheVariants.{Unexpected}
 use Rattle.circus_syntax.specs.Placed.{Placed, first, AreTokens, Due, AreDue}
 use Rattle.circus_syntax.specs.Reader.{Reader, place_in, stop_at, token, nothing, both, mapped, cased}
 use Rattle.circus_syntax.specs.Stopping.{StandAt}
@@ -104,18 +105,18 @@ sound_token {A = A} test read fill spell Good reads filled = record {
   runs = runs;
 }
   where
-    at_end : (e : ℕ) (rest : List Placed) → first rest ≡ None → token test read fill (reader None rest e) ≡ (fill e, reader (Some (stop_at false e)) rest e)
+    at_end : (e : ℕ) (rest : List Placed) → first rest ≡ None → token test read fill (reader None rest e) ≡ (fill e, reader (Some (stop_at Unexpected e)) rest e)
     at_end e [] none = refl
     at_end e (t ∷ ts) none = cc
 
     seen : (t : Placed) (rest : List Placed) (e : ℕ) → test t ≡ true → token test read fill (reader None (t ∷ rest) e) ≡ (read t, reader None rest e)
     seen t rest e hit = rw hit refl
 
-    unseen : (t : Placed) (rest : List Placed) (e : ℕ) → test t ≡ false → first rest ≡ Some t → token test read fill (reader None rest e) ≡ (fill t.start, reader (Some (stop_at false t.start)) rest e)
+    unseen : (t : Placed) (rest : List Placed) (e : ℕ) → test t ≡ false → first rest ≡ Some t → token test read fill (reader None rest e) ≡ (fill t.start, reader (Some (stop_at Unexpected t.start)) rest e)
     unseen t [] e missed same = cc
     unseen t (u ∷ us) e missed same =
         let heads : t ≡ u = cc in
-        subst (λ (v : Placed). token test read fill (reader None (v ∷ us) e) ≡ (fill t.start, reader (Some (stop_at false t.start)) (v ∷ us) e)) heads (rw missed refl)
+        subst (λ (v : Placed). token test read fill (reader None (v ∷ us) e) ≡ (fill t.start, reader (Some (stop_at Unexpected t.start)) (v ∷ us) e)) heads (rw missed refl)
 
     tested : (t : Placed) (ts : List Placed) (e : ℕ) (b : Bool) → test t ≡ b → Ran (token test read fill) spell Good (t ∷ ts) e
     tested t ts e true hit = record {
@@ -134,7 +135,7 @@ sound_token {A = A} test read fill spell Good reads filled = record {
       tree = fill t.start;
       taken = [];
       left = t ∷ ts;
-      stop = Some (stop_at false t.start);
+      stop = Some (stop_at Unexpected t.start);
       more = (filled t.start).1 ∷ [];
       whole = refl;
       same = λ rest f. unseen t rest e missed f;
@@ -148,7 +149,7 @@ sound_token {A = A} test read fill spell Good reads filled = record {
       tree = fill e;
       taken = [];
       left = [];
-      stop = Some (stop_at false e);
+      stop = Some (stop_at Unexpected e);
       more = (filled e).1 ∷ [];
       whole = refl;
       same = λ rest f. at_end e rest f;

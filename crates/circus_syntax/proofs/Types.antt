@@ -6,10 +6,11 @@ use Rattle.circus_text.specs.declared.token.TokenKind.TheVariants.{Word}
 use Rattle.circus_text.specs.Token.{Lexeme}
 use Rattle.circus_syntax.specs.declared.named.Named.{Named}
 use Rattle.circus_syntax.specs.declared.named.TypeName.{TypeName}
+use Rattle.circus_syntax.specs.declared.stopping.StopCause.TheVariants.{TooDeep}
 use Rattle.circus_syntax.specs.declared.reading.TypeStart.{TypeStart}
 use Rattle.circus_syntax.specs.declared.reading.TypeStart.TheVariants as begins
 use Rattle.circus_syntax.specs.TypeTree.{TypeTree, GroupTree, ArmTree, boolean, cardinal, integer, text, enumeration, array, sequence, «record», choice, group_trees, arm_trees}
-use Rattle.circus_syntax.specs.Placed.{Placed, is_lexeme, is_name, is_number, word, sign, Due, due, due_at, due_name, due_number}
+use Rattle.circus_syntax.specs.Placed.{Placed, is_lexeme, is_number, word, sign, Due, due, due_at, due_name, due_number}
 use Rattle.circus_syntax.specs.Reader.{Reader, place_in, stop_at, mapped}
 use Rattle.circus_syntax.specs.Reading.{fixed_at, names, label, label_of, labels, type_name, name_of_type, start_of_type, long_of, is_long_integer, long, called_of, simple, too_deep, group, groups_with, arm, arm_of_parts, array_with, sequence_with, record_with, choice_with, type_with, flat_type, stop_in_type, type, groups}
 use Rattle.circus_syntax.specs.Spelling.{each, with_commas, comma, if_written, spelling_name, spelling_names, spelling_label, spelling_type_name, spelling_type, spelling_groups, spelling_more_groups, spelling_arms, spelling_more_arms, IsEach, IsListed, IfWritten, IsName, IsNumeral, IsLabel, IsType, AreGroups, AreArms, levels, group_levels, arm_levels}
@@ -242,10 +243,10 @@ sound_too_deep n = record {
     tree = boolean (place_in ts e);
     taken = [];
     left = ts;
-    stop = Some (stop_at true (place_in ts e));
+    stop = Some (stop_at TooDeep (place_in ts e));
     more = boolean_token (place_in ts e) ∷ [];
     whole = refl;
-    same = λ rest f. let here = place_first rest ts e f in λ i. (boolean (here i), reader (Some (stop_at true (here i))) rest e);
+    same = λ rest f. let here = place_first rest ts e f in λ i. (boolean (here i), reader (Some (stop_at TooDeep (here i))) rest e);
     ended = (refl, (refl, tt));
     good = λ a. (tt, omega arith);
     due = λ a. ((refl, refl, refl), tt);

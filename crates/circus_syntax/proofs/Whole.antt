@@ -1,5 +1,5 @@
 -- What reading an interface says of the tokens.
-use Rattle.std.proofs.Common.{drop, ◌≡◌, ℕ, ◌+◌, ◌<◌, ◌≤◌, true, false, List, [], ◌∷◌, ◌++◌, length, refl, sym, ◌∙◌, ap, subst, arith, append_assoc, append-nil, length-append}
+use Rattle.std.proofs.Common.{drop, ◌≡◌, ℕ, ◌+◌, ◌<◌, ◌≤◌, List, [], ◌∷◌, ◌++◌, length, refl, sym, ◌∙◌, ap, subst, arith, append_assoc, append-nil, length-append}
 use Rattle.std.specs.Prelude.{Option, Some, None}
 use Rattle.std.proofs.lemmas.List.{append_cancel_right}
 use Rattle.std.proofs.lemmas.List.{length-map, length-drop}
@@ -7,6 +7,7 @@ use Rattle.circus_text.specs.declared.token.Token.{Token}
 use Rattle.circus_syntax.specs.Read.{placed_from}
 use Rattle.circus_syntax.proofs.Repeats.{never_longer}
 use Rattle.circus_syntax.specs.declared.stopping.Stop.{Stop}
+use Rattle.circus_syntax.specs.declared.stopping.StopCause.TheVariants.{Unexpected, TooDeep}
 use Rattle.circus_syntax.specs.InterfaceTree.{DeclaredTree, InterfaceTree}
 use Rattle.circus_syntax.specs.Placed.{Placed, placed_of, first, AreTokens, AreDue}
 use Rattle.circus_syntax.specs.Reader.{Reader, place_in}
@@ -99,7 +100,7 @@ no_stop : (x y : InterfaceTree × Reader) (s : Stop) → x.1.stop ≡ None → y
 no_stop x y s going stopped same = let stops : None ≡ Some s = sym going ∙ ap (λ (z : InterfaceTree × Reader). z.1.stop) same ∙ stopped in cc
 
 -- an unexpected token is unexpected however many levels there may be
-stays_unexpected : (us left : List Placed) (tree : InterfaceTree) (s : Stop) (e n : ℕ) → most_levels < n → s.deep ≡ false
+stays_unexpected : (us left : List Placed) (tree : InterfaceTree) (s : Stop) (e n : ℕ) → most_levels < n → s.cause ≡ Unexpected
     → interface most_levels (reader None us e) ≡ (tree, reader (Some s) left e) → interface n (reader None us e) ≡ (tree, reader (Some s) left e)
 stays_unexpected us left tree s e n above flat is =
     let w : Wider (Some s) (tree, reader (Some s) left e) (interface n (reader None us e)) =
@@ -107,7 +108,7 @@ stays_unexpected us left tree s e n above flat is =
     subst (λ b. WiderBy b (tree, reader (Some s) left e) (interface n (reader None us e))) flat w
 
 pub interface_unexpected : (ts left : List Placed) (tree : InterfaceTree) (s : Stop) (e : ℕ) → AreTokens ts
-    → interface most_levels (reader None ts e) ≡ (tree, reader (Some s) left e) → s.deep ≡ false → IsUnexpected ts left × (s.place ≡ place_in left e)
+    → interface most_levels (reader None ts e) ≡ (tree, reader (Some s) left e) → s.cause ≡ Unexpected → IsUnexpected ts left × (s.place ≡ place_in left e)
 interface_unexpected ts left tree s e tokens is flat = (
   record {
     read = R.taken;
@@ -149,7 +150,7 @@ interface_unexpected ts left tree s e tokens is flat = (
         (sym there ∙ ap (λ l. interface n (reader None l e)) (append-nil ((R.taken ++ t ∷ []) ++ more) ∙ append_assoc R.taken (t ∷ []) more) ∙ here)
 
 -- with more levels the token that was too deep is read
-reads_further : (us left : List Placed) (tree : InterfaceTree) (s : Stop) (e n : ℕ) → most_levels < n → s.deep ≡ true
+reads_further : (us left : List Placed) (tree : InterfaceTree) (s : Stop) (e n : ℕ) → most_levels < n → s.cause ≡ TooDeep
     → interface most_levels (reader None us e) ≡ (tree, reader (Some s) left e)
     → (t : Placed) × (c : List Placed) × (left ≡ t ∷ (c ++ (interface n (reader None us e)).1.rest))
 reads_further us left tree s e n above deep is =
@@ -158,7 +159,7 @@ reads_further us left tree s e n above deep is =
     subst (λ b. WiderBy b (tree, reader (Some s) left e) (interface n (reader None us e))) deep w
 
 pub interface_too_deep : (ts left : List Placed) (tree : InterfaceTree) (s : Stop) (e : ℕ) → AreTokens ts
-    → interface most_levels (reader None ts e) ≡ (tree, reader (Some s) left e) → s.deep ≡ true → IsTooDeep ts left × (s.place ≡ place_in left e)
+    → interface most_levels (reader None ts e) ≡ (tree, reader (Some s) left e) → s.cause ≡ TooDeep → IsTooDeep ts left × (s.place ≡ place_in left e)
 interface_too_deep ts left tree s e tokens is deep = (
   record {
     read = R.taken;

@@ -2,6 +2,8 @@
 use Rattle.std.proofs.Common.{◌≡◌, ℕ, zero, suc, ◌<◌, ◌≤◌, Bool, true, false, List, [], ◌∷◌, ◌++◌, length, refl, sym, ◌∙◌, ap, subst, arith, append_assoc}
 use Rattle.std.specs.Prelude.{Option, Some, None, option_map, if◌then◌else◌}
 use Rattle.circus_syntax.specs.declared.stopping.Stop.{Stop}
+use Rattle.circus_syntax.specs.declared.stopping.StopCause.{StopCause}
+use Rattle.circus_syntax.specs.declared.stopping.StopCause.TheVariants.{Unexpected, TooDeep}
 use Rattle.circus_syntax.specs.Placed.{Placed, first, Due}
 use Rattle.circus_syntax.specs.Reader.{Reader, place_in, stop_at, passes, token, nothing, both, mapped, cased, either, either_case, optional, repeated, marked, marked_in}
 use Rattle.circus_syntax.proofs.Sound.{Sound, reader, ran_is, both_is}
@@ -11,13 +13,13 @@ use Rattle.circus_syntax.proofs.Repeats.{Shrinks, repeated_sees, repeated_none, 
 abbrev pub Further : {A : Type 0} → A × Reader → A × Reader → Type 0
 Further x y = (t : Placed) × (c : List Placed) × (x.1.rest ≡ t ∷ (c ++ y.1.rest))
 
-abbrev pub WiderBy : {A : Type 0} → Bool → A × Reader → A × Reader → Type 0
-WiderBy false x y = y ≡ x
-WiderBy true x y = Further x y
+abbrev pub WiderBy : {A : Type 0} → StopCause → A × Reader → A × Reader → Type 0
+WiderBy Unexpected x y = y ≡ x
+WiderBy TooDeep x y = Further x y
 
 abbrev pub Wider : {A : Type 0} → Option Stop → A × Reader → A × Reader → Type 0
 Wider None x y = y ≡ x
-Wider (Some s) x y = WiderBy s.deep x y
+Wider (Some s) x y = WiderBy s.cause x y
 
 pub record Widens {A : Type 0} (p q : Reader → A × Reader) : Type 0 where
   pub filled : (s : Stop) (ts : List Placed) (e : ℕ) → q (reader (Some s) ts e) ≡ p (reader (Some s) ts e)
@@ -68,11 +70,11 @@ wider_along {A} x x' y y' e f w =
 -- the same of what has the same reader
 wider_mapped : {A B : Type 0} (f : A → B) (stop : Option Stop) (x y : A × Reader) → Wider stop x y → Wider stop (f x.0, x.1) (f y.0, y.1)
 wider_mapped f None x y w = ap (λ z. (f z.0, z.1)) w
-wider_mapped {A} {B} f (Some s) x y w = by_deep s.deep w
+wider_mapped {A} {B} f (Some s) x y w = by_cause s.cause w
   where
-    by_deep : (deep : Bool) → WiderBy deep x y → WiderBy {A = B} deep (f x.0, x.1) (f y.0, y.1)
-    by_deep false w = ap (λ z. (f z.0, z.1)) w
-    by_deep true w = w
+    by_cause : (cause : StopCause) → WiderBy cause x y → WiderBy {A = B} cause (f x.0, x.1) (f y.0, y.1)
+    by_cause Unexpected w = ap (λ z. (f z.0, z.1)) w
+    by_cause TooDeep w = w
 
 pub widens_mapped : {A B : Type 0} (f : A → B) {p q : Reader → A × Reader} → Widens p q → Widens (mapped f p) (mapped f q)
 widens_mapped f {p} {q} W = record {
@@ -83,14 +85,14 @@ widens_mapped f {p} {q} W = record {
 pub widens_token : {A : Type 0} (test : Placed → Bool) (read : Placed → A) (fill : ℕ → A) → Widens (token test read fill) (token test read fill)
 widens_token {A = A} test read fill = record { filled = λ s ts e. refl; wider = wider }
   where
-    tested : (b : Bool) (x : A × Reader) (s : Stop) (a : A) (ts : List Placed) (e : ℕ) → x.1.stop ≡ None → s.deep ≡ false
+    tested : (b : Bool) (x : A × Reader) (s : Stop) (a : A) (ts : List Placed) (e : ℕ) → x.1.stop ≡ None → s.cause ≡ Unexpected
         → Wider (if b then x else (a, reader (Some s) ts e)).1.stop (if b then x else (a, reader (Some s) ts e)) (if b then x else (a, reader (Some s) ts e))
     tested true x s a ts e going flat = subst (λ (o : Option Stop). Wider o x x) (sym going) refl
-    tested false x s a ts e going flat = subst (λ (b : Bool). WiderBy b (a, reader (Some s) ts e) (a, reader (Some s) ts e)) (sym flat) refl
+    tested false x s a ts e going flat = subst (λ (b : StopCause). WiderBy b (a, reader (Some s) ts e) (a, reader (Some s) ts e)) (sym flat) refl
 
     wider : (ts : List Placed) (e : ℕ) → Wider (token test read fill (reader None ts e)).1.stop (token test read fill (reader None ts e)) (token test read fill (reader None ts e))
     wider [] e = refl
-    wider (t ∷ ts) e = tested (test t) (read t, reader None ts e) (stop_at false t.start) (fill t.start) (t ∷ ts) e refl refl
+    wider (t ∷ ts) e = tested (test t) (read t, reader None ts e) (stop_at Unexpected t.start) (fill t.start) (t ∷ ts) e refl refl
 
 pub widens_nothing : {A : Type 0} (a : A) → Widens (nothing a) (nothing a)
 widens_nothing a = record { filled = λ s ts e. refl; wider = λ ts e. refl }
@@ -104,16 +106,16 @@ both_at : {A B : Type 0} {q q' : Reader → B × Reader}
     → Wider {A = A × B} (q x.1).1.stop ((x.0, (q x.1).0), (q x.1).1) ((x'.0, (q' x'.1).0), (q' x'.1).1)
 both_at {A} {B} {q} {q'} filled calm calm' x x' w behind_w = by_stop x.1.stop w
   where
-    by_deep : (s : Stop) (deep : Bool) → s.deep ≡ deep → WiderBy {A = A} deep (x.0, reader (Some s) x.1.rest x.1.end) x'
+    by_cause : (s : Stop) (cause : StopCause) → s.cause ≡ cause → WiderBy {A = A} cause (x.0, reader (Some s) x.1.rest x.1.end) x'
         → Wider {A = A × B} (q (reader (Some s) x.1.rest x.1.end)).1.stop ((x.0, (q (reader (Some s) x.1.rest x.1.end)).0), (q (reader (Some s) x.1.rest x.1.end)).1) ((x'.0, (q' x'.1).0), (q' x'.1).1)
-    by_deep s false is same =
+    by_cause s Unexpected is same =
         let fill : B = calm.fill s x.1.end in
         let r : Reader = reader (Some s) x.1.rest x.1.end in
         wider_along {A = A × B} ((x.0, (q r).0), (q r).1) ((x.0, fill), r) ((x'.0, (q' x'.1).0), (q' x'.1).1) ((x.0, fill), r)
         (ap (λ z. ((x.0, z.0), z.1)) (calm.stays s x.1.end x.1.rest))
         (ap (λ z. ((z.0, (q' z.1).0), (q' z.1).1)) same ∙ ap (λ z. ((x.0, z.0), z.1)) (filled s x.1.rest x.1.end ∙ calm.stays s x.1.end x.1.rest))
-        (subst (λ (b : Bool). WiderBy {A = A × B} b ((x.0, fill), r) ((x.0, fill), r)) (sym is) refl)
-    by_deep s true is further =
+        (subst (λ (b : StopCause). WiderBy {A = A × B} b ((x.0, fill), r) ((x.0, fill), r)) (sym is) refl)
+    by_cause s TooDeep is further =
         let fill : B = calm.fill s x.1.end in
         let r : Reader = reader (Some s) x.1.rest x.1.end in
         let (t, c, taken) = further in
@@ -121,7 +123,7 @@ both_at {A} {B} {q} {q'} filled calm calm' x x' w behind_w = by_stop x.1.stop w
         wider_along {A = A × B} ((x.0, (q r).0), (q r).1) ((x.0, fill), r) ((x'.0, (q' x'.1).0), (q' x'.1).1) ((x'.0, (q' x'.1).0), (q' x'.1).1)
         (ap (λ z. ((x.0, z.0), z.1)) (calm.stays s x.1.end x.1.rest))
         refl
-        (subst (λ (b : Bool). WiderBy {A = A × B} b ((x.0, fill), r) ((x'.0, (q' x'.1).0), (q' x'.1).1)) (sym is)
+        (subst (λ (b : StopCause). WiderBy {A = A × B} b ((x.0, fill), r) ((x'.0, (q' x'.1).0), (q' x'.1).1)) (sym is)
         (t, c ++ d, taken ∙ ap (λ l. t ∷ (c ++ l)) left ∙ ap (λ l. t ∷ l) (sym (append_assoc c d (q' x'.1).1.rest))))
 
     by_stop : (stop : Option Stop) → Wider {A = A} stop (x.0, reader stop x.1.rest x.1.end) x'
@@ -132,7 +134,7 @@ both_at {A} {B} {q} {q'} filled calm calm' x x' w behind_w = by_stop x.1.stop w
         refl
         (ap (λ z. ((z.0, (q' z.1).0), (q' z.1).1)) same)
         (wider_mapped (λ b. (x.0, b)) (q r).1.stop (q r) (q' r) behind_w)
-    by_stop (Some s) w = by_deep s s.deep refl w
+    by_stop (Some s) w = by_cause s s.cause refl w
 
 pub widens_both : {A B : Type 0} {p p' : Reader → A × Reader} {q q' : Reader → B × Reader} → Widens p p' → Widens q q' → Calm p → Calm q → Calm q' → Widens (both p q) (both p' q')
 widens_both {p = p} {p' = p'} {q = q} {q' = q'} P Q C D D' = record {
@@ -185,17 +187,17 @@ widens_either test {p} {p'} {q} {q'} P Q = widens_cased (passes test) (either_ca
 pub widens_optional : {A : Type 0} (test : Placed → Bool) {p p' : Reader → A × Reader} → Widens p p' → Widens (optional test p) (optional test p')
 widens_optional test P = widens_either test (widens_mapped (λ x. Some x) P) (widens_nothing None)
 
-wider_marked : {A : Type 0} (mark : ℕ → Stop → Stop) → ((at : ℕ) (s : Stop) → (mark at s).deep ≡ s.deep) → (at : ℕ) (stop : Option Stop) (x y : A × Reader)
+wider_marked : {A : Type 0} (mark : ℕ → Stop → Stop) → ((at : ℕ) (s : Stop) → (mark at s).cause ≡ s.cause) → (at : ℕ) (stop : Option Stop) (x y : A × Reader)
     → Wider stop x y → Wider (option_map (mark at) stop) (marked_in mark None at x) (marked_in mark None at y)
 wider_marked mark keeps at None x y w = ap (marked_in mark None at) w
 wider_marked {A} mark keeps at (Some s) x y w =
-    subst (λ (b : Bool). WiderBy b (marked_in mark None at x) (marked_in mark None at y)) (sym (keeps at s)) (by_deep s.deep w)
+    subst (λ (b : StopCause). WiderBy b (marked_in mark None at x) (marked_in mark None at y)) (sym (keeps at s)) (by_cause s.cause w)
   where
-    by_deep : (deep : Bool) → WiderBy deep x y → WiderBy deep (marked_in mark None at x) (marked_in mark None at y)
-    by_deep false w = ap (marked_in mark None at) w
-    by_deep true w = w
+    by_cause : (cause : StopCause) → WiderBy cause x y → WiderBy cause (marked_in mark None at x) (marked_in mark None at y)
+    by_cause Unexpected w = ap (marked_in mark None at) w
+    by_cause TooDeep w = w
 
-pub widens_marked : {A : Type 0} (mark : ℕ → Stop → Stop) {p q : Reader → A × Reader} → ((at : ℕ) (s : Stop) → (mark at s).deep ≡ s.deep) → Widens p q → Widens (marked mark p) (marked mark q)
+pub widens_marked : {A : Type 0} (mark : ℕ → Stop → Stop) {p q : Reader → A × Reader} → ((at : ℕ) (s : Stop) → (mark at s).cause ≡ s.cause) → Widens p q → Widens (marked mark p) (marked mark q)
 widens_marked mark {p} {q} keeps W = record {
   filled = W.filled;
   wider = λ ts e. wider_marked mark keeps (place_in ts e) (p (reader None ts e)).1.stop (p (reader None ts e)) (q (reader None ts e)) (W.wider ts e);

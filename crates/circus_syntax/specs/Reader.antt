@@ -5,6 +5,8 @@ use Rattle.std.specs.Prelude.{ℕ, Bool, true, false, if◌then◌else◌, List,
 use Rattle.std.proofs.Common.{zero, suc}
 use Rattle.circus_syntax.specs.Placed.{Placed, first}
 use Rattle.circus_syntax.specs.declared.stopping.Stop.{Stop}
+use Rattle.circus_syntax.specs.declared.stopping.StopCause.{StopCause}
+use Rattle.circus_syntax.specs.declared.stopping.StopCause.TheVariants.{Unexpected}
 
 -- the tokens left, the length of their text, and where and why reading stopped
 pub record Reader : Type 0 where
@@ -46,8 +48,8 @@ abbrev pub sees : (Placed → Bool) → Reader → Bool
 sees test r = passes test (next r)
 
 -- a stop at a place: too many levels, or a token with which nothing goes on
-abbrev pub stop_at : Bool → ℕ → Stop
-stop_at deep at = record { place = at; deep = deep; within = None; list = None }
+abbrev pub stop_at : StopCause → ℕ → Stop
+stop_at cause at = record { place = at; cause = cause; within = None; list = None }
 
 -- the next token is left behind, unless reading stopped
 abbrev pub skipped_by : Option Stop → List Placed → ℕ → Reader
@@ -56,16 +58,16 @@ skipped_by None [] end = open_at [] end
 skipped_by None (t ∷ ts) end = open_at ts end
 
 -- reading stopped here, if it hasn't stopped before
-abbrev pub stopped_by : Bool → Option Stop → List Placed → ℕ → Reader
-stopped_by deep (Some s) ts end = record { rest = ts; end = end; stop = Some s }
-stopped_by deep None ts end = record { rest = ts; end = end; stop = Some (stop_at deep (place_in ts end)) }
+abbrev pub stopped_by : StopCause → Option Stop → List Placed → ℕ → Reader
+stopped_by cause (Some s) ts end = record { rest = ts; end = end; stop = Some s }
+stopped_by cause None ts end = record { rest = ts; end = end; stop = Some (stop_at cause (place_in ts end)) }
 
 -- a token that passes is read; else reading stops, and what its place gives is answered
 abbrev pub token_in : {A : Type 0} → (Placed → Bool) → (Placed → A) → (ℕ → A) → Option Stop → List Placed → ℕ → A × Reader
 token_in test read default (Some s) ts end = (default s.place, record { rest = ts; end = end; stop = Some s })
-token_in test read default None [] end = (default end, stopped_by false None [] end)
+token_in test read default None [] end = (default end, stopped_by Unexpected None [] end)
 token_in test read default None (t ∷ ts) end =
-    if test t then (read t, open_at ts end) else (default t.start, stopped_by false None (t ∷ ts) end)
+    if test t then (read t, open_at ts end) else (default t.start, stopped_by Unexpected None (t ∷ ts) end)
 
 abbrev pub token : {A : Type 0} → (Placed → Bool) → (Placed → A) → (ℕ → A) → Reader → A × Reader
 token test read default r = token_in test read default r.stop r.rest r.end

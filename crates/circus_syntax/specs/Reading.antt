@@ -9,6 +9,7 @@ use Rattle.circus_syntax.specs.declared.named.TypeName.{TypeName}
 use Rattle.circus_syntax.specs.declared.named.LabelText.{LabelText}
 use Rattle.circus_syntax.specs.declared.interface_text.FieldsText.{FieldsText}
 use Rattle.circus_syntax.specs.declared.stopping.Stop.{Stop}
+use Rattle.circus_syntax.specs.declared.stopping.StopCause.TheVariants.{TooDeep}
 use Rattle.circus_syntax.specs.declared.reading.TypeStart.{TypeStart}
 use Rattle.circus_syntax.specs.declared.reading.TypeStart.TheVariants as begins
 use Rattle.circus_syntax.specs.TypeTree.{TypeTree, GroupTree, ArmTree, boolean, cardinal, long_cardinal, integer, long_integer, text, enumeration, array, sequence, «record», choice, called, group_trees, arm_trees}
@@ -127,7 +128,7 @@ simple _ = mapped boolean (fixed_at (word (codes "BOOLEAN")))
 
 -- a type that would be a level too many
 unfoldable pub too_deep : Reader → TypeTree × Reader
-too_deep r = (boolean (place r), stopped_by true r.stop r.rest r.end)
+too_deep r = (boolean (place r), stopped_by TooDeep r.stop r.rest r.end)
 
 -- names and the type that they share
 abbrev pub group : (Reader → TypeTree × Reader) → Reader → GroupTree × Reader
@@ -182,7 +183,7 @@ flat_type begins.Choice = too_deep
 flat_type other = simple other
 
 abbrev pub stop_in_type : ℕ → Stop → Stop
-stop_in_type at s = record { place = s.place; deep = s.deep; within = Some at; list = s.list }
+stop_in_type at s = record { place = s.place; cause = s.cause; within = Some at; list = s.list }
 
 -- a type of at most so many levels
 unfoldable pub type : ℕ → Reader → TypeTree × Reader
@@ -232,7 +233,7 @@ unfoldable pub groups : ℕ → Reader → List GroupTree × Reader
 groups levels = groups_with (type levels)
 
 abbrev pub stop_in_list : ℕ → Stop → Stop
-stop_in_list at s = record { place = s.place; deep = s.deep; within = s.within; list = Some at }
+stop_in_list at s = record { place = s.place; cause = s.cause; within = s.within; list = Some at }
 
 -- a list of fields
 unfoldable pub fields : ℕ → Reader → FieldsText × Reader

@@ -37,7 +37,7 @@ pub struct Read {
 /// Reads an interface that begins at the token `at` of a text (docs/LANGUAGE.md, "Interfaces").
 ///
 /// Where there is one of at most 64 levels, it is read to its end. Else reading stops at the first token with
-/// which no interface goes on, or with `deep` at the token that begins a type that is a level too many.
+/// which no interface goes on, or as `TooDeep` at the token that begins a type that is a level too many.
 /// `NoMemory` is the only fault.
 pub fn read_interface_text(
     alloc: Global,

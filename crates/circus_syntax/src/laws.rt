@@ -1,8 +1,9 @@
 // What holds of every list of tokens.
-ghost use Rattle.std.specs.Prelude.{◌≡◌, ℕ, true, false, List, [], ◌++◌, Some, All};
+ghost use Rattle.std.specs.Prelude.{◌≡◌, ℕ, List, [], ◌++◌, Some, All};
 ghost use Rattle.circus_text.specs.declared.token.Token.{Token};
 ghost use Rattle.circus_text.specs.Token.{IsTokenIn};
 ghost use Rattle.circus_syntax.specs.declared.stopping.Stop.{Stop};
+ghost use Rattle.circus_syntax.specs.declared.stopping.StopCause.{StopCause};
 ghost use Rattle.circus_syntax.specs.InterfaceTree.{InterfaceTree};
 ghost use Rattle.circus_syntax.specs.Placed.{Placed, AreTokens};
 ghost use Rattle.circus_syntax.specs.Read.{placed_from};
@@ -43,7 +44,7 @@ pub fn stops_at_the_unexpected()
     ensures { (all left : List Placed) (tree : InterfaceTree) (stop : Stop) (end : ℕ) → AreTokens all
         → interface most_levels (open_at all end)
         ≡ (tree, record { rest = left; end = end; stop = Some stop })
-        → stop.deep ≡ false → IsUnexpected all left × (stop.place ≡ place_in left end) }
+        → stop.cause ≡ StopCause.Unexpected → IsUnexpected all left × (stop.place ≡ place_in left end) }
 {}
 
 /// Where reading stops and a type is too deep, the tokens so far begin an interface, and with the next one only
@@ -52,7 +53,7 @@ pub fn stops_at_the_too_deep()
     ensures { (all left : List Placed) (tree : InterfaceTree) (stop : Stop) (end : ℕ) → AreTokens all
         → interface most_levels (open_at all end)
         ≡ (tree, record { rest = left; end = end; stop = Some stop })
-        → stop.deep ≡ true → IsTooDeep all left × (stop.place ≡ place_in left end) }
+        → stop.cause ≡ StopCause.TooDeep → IsTooDeep all left × (stop.place ≡ place_in left end) }
 {}
 
 /// Where reading stops, the tree is that of an interface which the tokens so far begin. What it has besides them stands

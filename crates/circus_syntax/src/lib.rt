@@ -25,7 +25,7 @@ pub use laws::{
 };
 pub use named::{LabelText, Named, Numeral, TypeName};
 pub use reserved::is_reserved_word;
-pub use stopping::Stop;
+pub use stopping::{Stop, StopCause};
 pub use token_reader::Reader;
 pub use type_text::{ArmText, ArmTexts, ElementText, GroupText, GroupTexts, TypeKind, TypeText};
 

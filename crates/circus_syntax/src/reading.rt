@@ -6,7 +6,7 @@ ghost use Rattle.circus_syntax.specs.Reading.{label, labels, name_of_type, start
 
 use crate::{
     ArmText, ArmTexts, ElementText, GroupText, GroupTexts, LabelText, LabelTexts, Numeral, Reader,
-    TypeKind, TypeName, TypeText,
+    StopCause, TypeKind, TypeName, TypeText,
 };
 use circus_value::NoMemory;
 
@@ -183,7 +183,7 @@ impl Reader<'_> {
         Ok(TypeKind::Enumeration(labels))
     }
 
-    /// Reads a type of at most so many levels, or stops: `deep` at the first ARRAY, SEQUENCE, RECORD or
+    /// Reads a type of at most so many levels, or stops: `TooDeep` at the first ARRAY, SEQUENCE, RECORD or
     /// CHOICE that is one too many, and at the first other token with which no type goes on. `within` of
     /// the stop is then this type's place.
     #[cycle(reading)]
@@ -208,7 +208,7 @@ impl Reader<'_> {
             return self.simple_kind(start);
         }
         if levels == 0 {
-            self.stop_here(true);
+            self.stop_here(StopCause::TooDeep);
             return Ok(TypeKind::Boolean);
         }
         match start {

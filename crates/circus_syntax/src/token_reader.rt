@@ -7,7 +7,7 @@ ghost use Rattle.circus_syntax.specs.Reading.{fixed, name, number, names, stop_i
 ghost use Rattle.circus_text.specs.Form.{longest_text, number_value};
 
 use crate::reserved::is_reserved_word;
-use crate::{Named, Nameds, Numeral, Stop};
+use crate::{Named, Nameds, Numeral, Stop, StopCause};
 use circus_text::{Token, TokenKind};
 use circus_value::{Name, NoMemory};
 use std::alloc::Global;
@@ -153,14 +153,14 @@ impl<'a> Reader<'a> {
         }
     }
 
-    // Stops here, unless reading has stopped before.
-    pub(crate) fn stop_here(&mut self, deep: bool)
-        ensures { self.new ≡ stopped_by deep self.old.stop self.old.rest self.old.end }
+    /// Stops here, unless reading has stopped before.
+    pub fn stop_here(&mut self, cause: StopCause)
+        ensures { self.new ≡ stopped_by cause self.old.stop self.old.rest self.old.end }
     {
         if self.stop.is_none() {
             self.stop = Some(Stop {
                 place: self.place(),
-                deep,
+                cause,
                 within: None,
                 list: None,
             });
@@ -206,7 +206,7 @@ impl<'a> Reader<'a> {
         if self.sees(kind, bytes) {
             self.skip();
         } else {
-            self.stop_here(false);
+            self.stop_here(StopCause::Unexpected);
         }
     }
 
@@ -224,7 +224,7 @@ impl<'a> Reader<'a> {
             }
             None => {
                 name.append(b"x")?;
-                self.stop_here(false);
+                self.stop_here(StopCause::Unexpected);
             }
         }
         Ok(Named { name, at })
@@ -242,7 +242,7 @@ impl<'a> Reader<'a> {
                 Numeral { value, at }
             }
             None => {
-                self.stop_here(false);
+                self.stop_here(StopCause::Unexpected);
                 Numeral { value: 0, at }
             }
         }

@@ -1,7 +1,7 @@
 ghost use Rattle.std.specs.Prelude.{◌≤◌, length};
 ghost use Rattle.circus_text.specs.Form.{longest_text};
 
-use circus_syntax::{Stop, read_interface_text};
+use circus_syntax::{Stop, StopCause, read_interface_text};
 use circus_text::tokens;
 use std::alloc::Global;
 use std::process::Abort;
@@ -18,7 +18,7 @@ fn reads(rt: &impl Abort, alloc: Global, text: &[u8], next: usize, stop: Option<
 fn unexpected(place: u32, within: Option<u32>, list: Option<u32>) -> Option<Stop> {
     Some(Stop {
         place,
-        deep: false,
+        cause: StopCause::Unexpected,
         within,
         list,
     })
