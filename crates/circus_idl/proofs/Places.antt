@@ -7,7 +7,7 @@ use Rattle.circus_text.specs.Token.{Lexeme, IsSpelling, AreSpelled}
 use Rattle.circus_text.proofs.Numbers.{decimal_spelling}
 use Rattle.circus_syntax.specs.declared.named.Named.{Named}
 use Rattle.circus_syntax.specs.declared.named.Numeral.{Numeral}
-use Rattle.circus_syntax.specs.Placed.{Placed, Due, due, due_at, due_name, due_number, IsDue, AreDue}
+use Rattle.circus_syntax.specs.Placed.{Placed, Due, due, due_at, due_name, due_number, opened, IsDue, AreDue}
 use Rattle.circus_idl.specs.Lexemes.{word, number}
 use Rattle.circus_idl.specs.Obeys.{IsName}
 
@@ -59,6 +59,11 @@ are_spelled (more is spelled rest) = (spelled, are_spelled rest)
 pub shown_then : {ds es : List Due} {ls ms : List Lexeme} {ps : List ℕ} → AreShown ds ls ps → AreShown es ms (past ls ps) → AreShown (ds ++ es) (ls ++ ms) ps
 shown_then none back = back
 shown_then (more is spelled rest) back = more is spelled (shown_then rest back)
+
+-- so is a level of it
+pub level_shown : {ds : List Due} {ls : List Lexeme} {ps : List ℕ} → AreShown ds ls ps → AreShown (opened ds) ls ps
+level_shown none = none
+level_shown (more is spelled rest) = more is spelled (level_shown rest)
 
 abbrev pub named_at : List ℕ → List ℕ → Named
 named_at name ps = record { name = name; at = here ps }

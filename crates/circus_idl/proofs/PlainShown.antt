@@ -17,7 +17,7 @@ use Rattle.circus_idl.specs.declared.interface.Interface.{Interface}
 use Rattle.circus_idl.specs.Lexemes.{word, sign}
 use Rattle.circus_idl.specs.Shown.{label_lexemes, labels_lexemes, later_labels, type_lexemes, fields_inside, later_fields, arms_inside, later_arms, fields_lexemes, optional_fields, results_lexemes, later_names, reports_lexemes, number_lexemes, head_lexemes, declared_type, declared_error, declared_procedure, signature_lexemes, declared_lexemes, lexemes}
 use Rattle.circus_idl.specs.Obeys.{IsName, ObeysInside, ObeyFields, ObeyArmTypes, Obeys, field_names, arm_names, arm_numbers}
-use Rattle.circus_idl.proofs.Places.{here, next, past, named_at, numeral_at, AreShown, none, shown_then, name_then, number_then, fixed_then, first_then, a_word, a_sign}
+use Rattle.circus_idl.proofs.Places.{here, next, past, named_at, numeral_at, AreShown, none, shown_then, level_shown, name_then, number_then, fixed_then, first_then, a_word, a_sign}
 use Rattle.circus_idl.proofs.PlainTypes.{label_at, labels_at, type_at, groups_at, arms_at, by_arm, short_number}
 use Rattle.circus_idl.proofs.InsideObeys.{field_names_are}
 use Rattle.circus_idl.proofs.ObeysParts.{AreReports, TypeObeys, FieldsObey, ErrorObeys, ProcedureObeys, PartsObey, fields_obey, error_named}
@@ -59,7 +59,7 @@ brace_closes = fixed_then (a_sign (codes "}") refl) none
 -- the type of an arm
 arm_shown : (s : ShapeTree) (ps : List ℕ) → (s ≡ «record» no_fields) ⊎ ObeysInside s → (ObeysInside s → AreShown (spelling_type (type_at s ps)) (type_lexemes s) ps) → AreShown (spelling_type (type_at s ps)) (type_lexemes s) ps
 arm_shown s ps obeys shown =
-    by_arm (λ t. AreShown (spelling_type (type_at t ps)) (type_lexemes t) ps) s obeys (first_then record_word (fixed_then (a_sign (codes "[") refl) bracket_closes)) shown
+    by_arm (λ t. AreShown (spelling_type (type_at t ps)) (type_lexemes t) ps) s obeys (level_shown (first_then record_word (fixed_then (a_sign (codes "[") refl) bracket_closes))) shown
 
 mutual
   type_shown : (s : ShapeTree) (ps : List ℕ) → ObeysInside s → AreShown (spelling_type (type_at s ps)) (type_lexemes s) ps
@@ -72,14 +72,14 @@ mutual
   type_shown (enumeration labels) ps obeys =
       first_then (a_sign (codes "{") refl) (shown_then (labels_shown labels (next ps) obeys.named obeys.in_range) brace_closes)
   type_shown (array n s) ps obeys =
-      first_then (a_word (codes "ARRAY") (refl, refl) refl) (number_then (short_number n obeys.1) (of_then (type_shown s _ obeys.2)))
+      level_shown (first_then (a_word (codes "ARRAY") (refl, refl) refl) (number_then (short_number n obeys.1) (of_then (type_shown s _ obeys.2))))
   type_shown (sequence n s) ps obeys =
-      first_then (a_word (codes "SEQUENCE") (refl, refl) refl) (number_then (short_number n obeys.0) (of_then (type_shown s _ obeys.1)))
+      level_shown (first_then (a_word (codes "SEQUENCE") (refl, refl) refl) (number_then (short_number n obeys.0) (of_then (type_shown s _ obeys.1))))
   type_shown («record» fs) ps obeys =
-      first_then record_word (fixed_then (a_sign (codes "[") refl) (shown_then (fields_shown fs _ obeys.1.named obeys.2) bracket_closes))
+      level_shown (first_then record_word (fixed_then (a_sign (codes "[") refl) (shown_then (fields_shown fs _ obeys.1.named obeys.2) bracket_closes)))
   type_shown (choice arms) ps obeys =
-      first_then (a_word (codes "CHOICE") (refl, refl) refl)
-      (of_then (fixed_then (a_sign (codes "{") refl) (shown_then (arms_shown arms _ obeys.0.named obeys.0.in_range obeys.1) brace_closes)))
+      level_shown (first_then (a_word (codes "CHOICE") (refl, refl) refl)
+      (of_then (fixed_then (a_sign (codes "{") refl) (shown_then (arms_shown arms _ obeys.0.named obeys.0.in_range obeys.1) brace_closes))))
 
   fields_shown : (fs : FieldTrees) (ps : List ℕ) → AllByRecursion IsName (field_names fs) → ObeyFields fs → AreShown (spelling_groups (groups_at fs ps)) (fields_inside fs) ps
   fields_shown no_fields ps named obey = none

@@ -1,3 +1,4 @@
+pub mod Opened
 pub mod Sound
 pub mod Repeats
 pub mod Complete
@@ -7,6 +8,9 @@ pub mod TypesRead
 pub mod Interfaces
 pub mod Widens
 pub mod WidensInterfaces
+pub mod Levels
+pub mod Lawful
+pub mod TypeLevels
 pub mod Whole
 pub mod Viewed
 pub mod Loops

@@ -4,9 +4,10 @@ use Rattle.std.specs.Prelude.{Option, Some, None}
 use Rattle.circus_text.specs.Token.{IsSpelling}
 use Rattle.circus_syntax.specs.declared.stopping.Stop.{Stop}
 use Rattle.circus_syntax.specs.declared.stopping.StopCause.TheVariants.{Unexpected}
-use Rattle.circus_syntax.specs.Placed.{Placed, first, AreTokens, Due, AreDue}
+use Rattle.circus_syntax.specs.Placed.{Placed, first, AreTokens, Due, opened, AreDue}
 use Rattle.circus_syntax.specs.Reader.{Reader, place_in, stop_at, token, nothing, both, mapped, cased}
 use Rattle.circus_syntax.specs.Stopping.{StandAt}
+use Rattle.circus_syntax.proofs.Opened.{due_opened}
 
 pub AreDue-append : (ds es : List Due) (ts us : List Placed) → AreDue ds ts → AreDue es us → AreDue (ds ++ es) (ts ++ us)
 AreDue-append [] es [] us d e = e
@@ -277,6 +278,29 @@ pub sound_mapped : {A B : Type 0} {p : Reader → A × Reader} {sa : A → List 
 sound_mapped f sb gb spelled kept P = record {
   fills = λ s e. fills_mapped f sb gb spelled kept (P.fills s e);
   runs = λ ts e. ran_mapped f sb gb spelled kept (P.runs ts e);
+}
+
+-- A level deeper.
+
+pub sound_opened : {A : Type 0} {p : Reader → A × Reader} {spell : A → List Due} {Good : A → Type 0} → Sound p spell Good → Sound p (λ a. opened (spell a)) Good
+sound_opened {spell = spell} P = record {
+  fills = λ s e.
+      let F = P.fills s e in
+      record { tree = F.tree; more = F.more; stays = F.stays; good = F.good; due = due_opened (spell F.tree) F.more F.due; there = F.there };
+  runs = λ ts e.
+      let R = P.runs ts e in
+      record {
+        tree = R.tree;
+        taken = R.taken;
+        left = R.left;
+        stop = R.stop;
+        more = R.more;
+        whole = R.whole;
+        same = R.same;
+        ended = R.ended;
+        good = R.good;
+        due = λ a. due_opened (spell R.tree) (R.taken ++ R.more) (R.due a);
+      };
 }
 
 -- As another production at tokens with this first one.

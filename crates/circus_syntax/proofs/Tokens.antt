@@ -1,18 +1,20 @@
 -- Words, signs, names and numbers, and lists with commas.
-use Rattle.std.proofs.Common.{◌≡◌, ℕ, ◌<◌, Bool, true, false, not, List, [], ◌∷◌, ◌++◌, length, refl, ◌∙◌, ap, subst, arith}
+use Rattle.std.proofs.Common.{◌≡◌, ℕ, ◌-◌, ◌<◌, Bool, true, false, not, List, [], ◌∷◌, ◌++◌, length, take, refl, ◌∙◌, sym, ap, subst, arith, length-append}
 use Rattle.std.specs.Prelude.{Option, Some, None, codes, bytes_eq}
 use Rattle.std.proofs.lemmas.Bool.{and_parts, not-true, ltb-false}
+use Rattle.std.proofs.Math.Seq.{take-append_seam}
 use Rattle.std.proofs.lemmas.Slice.Eq.{bytes_eq-Decides}
 use Rattle.circus_text.specs.declared.token.TokenKind.{TokenKind}
 use Rattle.circus_text.specs.declared.token.TokenKind.TheVariants.{Word, Number, Quoted, Sign}
-use Rattle.circus_text.specs.Token.{Lexeme, IsSpelling}
+use Rattle.circus_text.specs.ByteClass.{quote}
+use Rattle.circus_text.specs.Token.{Lexeme, IsSpelling, content_of}
 use Rattle.circus_syntax.specs.declared.named.Named.{Named}
 use Rattle.circus_syntax.specs.declared.named.Numeral.{Numeral}
 use Rattle.circus_syntax.specs.Reserved.{is_reserved, reserved_words}
-use Rattle.circus_syntax.specs.Placed.{Placed, first, same_kind, is_lexeme, is_name, is_number, sign, Due, due, due_at, due_name, due_number, AreDue}
+use Rattle.circus_syntax.specs.Placed.{Placed, first, same_kind, is_lexeme, is_name, is_number, is_text, in_quotes, sign, Due, due, due_at, due_name, due_number, due_text, AreDue}
 use Rattle.circus_syntax.specs.Reader.{Reader, passes, next_of, token, token_in, both}
-use Rattle.circus_syntax.specs.Reading.{fixed, fixed_at, name, number, named_of, numeral_of, filled_name, filled_numeral, behind, listed}
-use Rattle.circus_syntax.specs.Spelling.{with_commas, comma, spelling_name, spelling_number, IsEach, IsListed, IsName, IsNumeral}
+use Rattle.circus_syntax.specs.Reading.{fixed, fixed_at, name, number, quoted, named_of, numeral_of, filled_name, filled_numeral, behind, listed}
+use Rattle.circus_syntax.specs.Spelling.{with_commas, comma, spelling_name, spelling_number, IsEach, IsListed, IsName, IsNumeral, IsText}
 use Rattle.circus_syntax.proofs.Sound.{Sound, sound_token, sound_mapped, sound_both}
 use Rattle.circus_syntax.proofs.Repeats.{Shrinks, never_longer, sound_repeated}
 use Rattle.circus_syntax.proofs.Complete.{Complete, Any, Opens, complete_token, complete_both, complete_then, complete_mapped, complete_repeated, stays_behind}
@@ -154,6 +156,51 @@ complete_number = complete_token is_number numeral_of filled_numeral spelling_nu
     back a [] good d = absurd d
     back a (t ∷ []) good d = (t, refl, rw d.0.0 refl, λ i. record { value = d.0.2 i; at = d.0.3 i })
     back a (t ∷ u ∷ ts) good d = absurd d.1
+
+-- Strings.
+
+abbrev pub spelling_quoted : List ℕ × ℕ → List Due
+spelling_quoted x = due_text x.0 x.1 ∷ []
+
+abbrev pub IsQuotedText : List ℕ × ℕ → Type 0
+IsQuotedText x = IsText x.0
+
+content_in : (content : List ℕ) → content_of (in_quotes content) ≡ content
+content_in content =
+    let long : length (in_quotes content) - 1 - 1 ≡ length content = omega (arith, length-append content (quote ∷ [])) in
+    ap (λ n. take n (content ++ quote ∷ [])) long ∙ take-append_seam content (quote ∷ [])
+
+quoted_is : (t : Placed) → IsSpelling Quoted t.bytes → t.bytes ≡ in_quotes (content_of t.bytes)
+quoted_is t spelled =
+    let (content, is, inside) = spelled.formed in
+    is ∙ ap in_quotes (sym (ap content_of is ∙ content_in content))
+
+no_text : IsText []
+no_text = record { formed = ([], refl, refl); no_bad_byte = refl; no_long_number = refl }
+
+pub sound_quoted : Sound quoted spelling_quoted IsQuotedText
+unfolding quoted
+sound_quoted =
+    sound_token is_text (λ t. (content_of t.bytes, t.start)) (λ at. ([], at)) spelling_quoted IsQuotedText
+    (λ t hit fine.
+    let kind = same_kind-is t.kind Quoted hit in
+    let spelled = subst (λ k. IsSpelling k t.bytes) kind fine in
+    (subst (IsSpelling Quoted) (quoted_is t spelled) spelled, ((kind, quoted_is t spelled, refl), tt)))
+    (λ at. (no_text, record { kind = Quoted; bytes = in_quotes []; start = at }, refl, ((refl, refl, refl), tt)))
+
+pub complete_quoted : Complete quoted spelling_quoted IsQuotedText Any
+unfolding quoted
+complete_quoted = complete_token is_text (λ t. (content_of t.bytes, t.start)) (λ at. ([], at)) spelling_quoted IsQuotedText back
+  where
+    back : (a : List ℕ × ℕ) (ts : List Placed) → IsQuotedText a → AreDue (due_text a.0 a.1 ∷ []) ts → (t : Placed) × (ts ≡ t ∷ []) × (is_text t ≡ true) × ((content_of t.bytes, t.start) ≡ a)
+    back a [] good d = absurd d
+    back a (t ∷ []) good d = (t, refl, rw d.0.0 refl, λ i. ((ap content_of d.0.1 ∙ content_in a.0) i, d.0.2 i))
+    back a (t ∷ u ∷ ts) good d = absurd d.1
+
+-- the due string passes
+pub opens_text : (content : List ℕ) (at : ℕ) (ds : List Due) (ts rest : List Placed) → AreDue (due_text content at ∷ ds) ts → passes is_text (first (ts ++ rest)) ≡ true
+opens_text content at ds [] rest d = absurd d
+opens_text content at ds (t ∷ ts) rest d = rw d.0.0 refl
 
 -- Which productions take a token.
 

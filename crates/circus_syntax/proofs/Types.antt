@@ -10,11 +10,11 @@ use Rattle.circus_syntax.specs.declared.stopping.StopCause.TheVariants.{TooDeep}
 use Rattle.circus_syntax.specs.declared.reading.TypeStart.{TypeStart}
 use Rattle.circus_syntax.specs.declared.reading.TypeStart.TheVariants as begins
 use Rattle.circus_syntax.specs.TypeTree.{TypeTree, GroupTree, ArmTree, boolean, cardinal, integer, text, enumeration, array, sequence, «record», choice, group_trees, arm_trees}
-use Rattle.circus_syntax.specs.Placed.{Placed, is_lexeme, is_number, word, sign, Due, due, due_at, due_name, due_number}
+use Rattle.circus_syntax.specs.Placed.{Placed, is_lexeme, is_number, word, sign, Due, due, due_at, due_name, due_number, opened}
 use Rattle.circus_syntax.specs.Reader.{Reader, place_in, stop_at, mapped}
 use Rattle.circus_syntax.specs.Reading.{fixed_at, names, label, label_of, labels, type_name, name_of_type, start_of_type, long_of, is_long_integer, long, called_of, simple, too_deep, group, groups_with, arm, arm_of_parts, array_with, sequence_with, record_with, choice_with, type_with, flat_type, stop_in_type, type, groups}
 use Rattle.circus_syntax.specs.Spelling.{each, with_commas, comma, if_written, spelling_name, spelling_names, spelling_label, spelling_type_name, spelling_type, spelling_groups, spelling_more_groups, spelling_arms, spelling_more_arms, IsEach, IsListed, IfWritten, IsName, IsNumeral, IsLabel, IsType, AreGroups, AreArms, levels, group_levels, arm_levels}
-use Rattle.circus_syntax.proofs.Sound.{Sound, reader, place_first, sound_nothing, sound_mapped, sound_both, sound_cased}
+use Rattle.circus_syntax.proofs.Sound.{Sound, reader, place_first, sound_nothing, sound_mapped, sound_both, sound_cased, sound_opened}
 use Rattle.circus_syntax.proofs.Repeats.{sound_marked, sound_either, sound_optional}
 use Rattle.circus_syntax.proofs.Tokens.{Always, sound_fixed, sound_fixed_at, sound_name, sound_number, sound_behind, sound_listed}
 
@@ -193,19 +193,19 @@ pub sound_array : (n : ℕ) {inner : Reader → TypeTree × Reader} → Sound in
 sound_array n T =
     sound_mapped (λ x. array x.0 x.1.0 x.1.1.1) spelling_type (IsTypeWithin (suc n)) (λ x. refl)
     (λ x g. ((g.1.0, g.1.1.1.0), omega (arith, g.1.1.1.1)))
-    (sound_both (sound_fixed_at (word (codes "ARRAY"))) (sound_both sound_number (sound_both (sound_fixed (word (codes "OF"))) T)))
+    (sound_opened (sound_both (sound_fixed_at (word (codes "ARRAY"))) (sound_both sound_number (sound_both (sound_fixed (word (codes "OF"))) T))))
 
 pub sound_sequence : (n : ℕ) {inner : Reader → TypeTree × Reader} → Sound inner spelling_type (IsTypeWithin n) → Sound (sequence_with inner) spelling_type (IsTypeWithin (suc n))
 sound_sequence n T =
     sound_mapped (λ x. sequence x.0 x.1.0 x.1.1.1) spelling_type (IsTypeWithin (suc n)) (λ x. refl)
     (λ x g. ((g.1.0, g.1.1.1.0), omega (arith, g.1.1.1.1)))
-    (sound_both (sound_fixed_at (word (codes "SEQUENCE"))) (sound_both (sound_optional is_number sound_number) (sound_both (sound_fixed (word (codes "OF"))) T)))
+    (sound_opened (sound_both (sound_fixed_at (word (codes "SEQUENCE"))) (sound_both (sound_optional is_number sound_number) (sound_both (sound_fixed (word (codes "OF"))) T))))
 
 pub sound_record : (n : ℕ) {inner : Reader → TypeTree × Reader} → Sound inner spelling_type (IsTypeWithin n) → Sound (record_with inner) spelling_type (IsTypeWithin (suc n))
 sound_record n T =
     sound_mapped (λ x. «record» x.0 (group_trees x.1.1.0)) spelling_type (IsTypeWithin (suc n)) (λ x. refl)
     (λ x g. (g.1.1.0.0, omega (arith, g.1.1.0.1)))
-    (sound_both (sound_fixed_at (word (codes "RECORD"))) (sound_both (sound_fixed (sign (codes "["))) (sound_both (sound_groups_with n T) (sound_fixed (sign (codes "]"))))))
+    (sound_opened (sound_both (sound_fixed_at (word (codes "RECORD"))) (sound_both (sound_fixed (sign (codes "["))) (sound_both (sound_groups_with n T) (sound_fixed (sign (codes "]")))))))
 
 choice_good : (n at : ℕ) (rest : List ArmTree) → IsListed (IsArmWithin n) rest → IsTypeWithin (suc n) (choice at (arm_trees rest))
 choice_good n at [] g = absurd g
@@ -214,12 +214,12 @@ choice_good n at (a ∷ rest) g = let good = arms_good n (a ∷ rest) g in (good
 pub sound_choice : (n : ℕ) {inner : Reader → TypeTree × Reader} → Sound inner spelling_type (IsTypeWithin n) → Sound (choice_with inner) spelling_type (IsTypeWithin (suc n))
 sound_choice n T =
     sound_mapped (λ x. choice x.0 (arm_trees x.1.1.1.0)) spelling_type (IsTypeWithin (suc n))
-    (λ x. ap (λ l. due_at (word (codes "CHOICE")) x.0 ∷ due (word (codes "OF")) ∷ due (sign (codes "{")) ∷ (l ++ due (sign (codes "}")) ∷ [])) (arms_spelled x.1.1.1.0))
+    (λ x. ap (λ l. opened (due_at (word (codes "CHOICE")) x.0 ∷ due (word (codes "OF")) ∷ due (sign (codes "{")) ∷ (l ++ due (sign (codes "}")) ∷ []))) (arms_spelled x.1.1.1.0))
     (λ x g. choice_good n x.0 x.1.1.1.0 g.1.1.1.0)
-    (sound_both (sound_fixed_at (word (codes "CHOICE"))) (sound_both (sound_fixed (word (codes "OF"))) (sound_both (sound_fixed (sign (codes "{")))
-    (sound_both (sound_listed (sound_arm n T)) (sound_fixed (sign (codes "}")))))))
+    (sound_opened (sound_both (sound_fixed_at (word (codes "CHOICE"))) (sound_both (sound_fixed (word (codes "OF"))) (sound_both (sound_fixed (sign (codes "{")))
+    (sound_both (sound_listed (sound_arm n T)) (sound_fixed (sign (codes "}"))))))))
 
-sound_type_with : (n : ℕ) {inner : Reader → TypeTree × Reader} → Sound inner spelling_type (IsTypeWithin n) → (k : TypeStart) → Sound (type_with inner k) spelling_type (IsTypeWithin (suc n))
+pub sound_type_with : (n : ℕ) {inner : Reader → TypeTree × Reader} → Sound inner spelling_type (IsTypeWithin n) → (k : TypeStart) → Sound (type_with inner k) spelling_type (IsTypeWithin (suc n))
 sound_type_with n T begins.Array = sound_array n T
 sound_type_with n T begins.Sequence = sound_sequence n T
 sound_type_with n T begins.Record = sound_record n T
@@ -253,7 +253,7 @@ sound_too_deep n = record {
   };
 }
 
-sound_flat_type : (k : TypeStart) → Sound (flat_type k) spelling_type (IsTypeWithin 0)
+pub sound_flat_type : (k : TypeStart) → Sound (flat_type k) spelling_type (IsTypeWithin 0)
 sound_flat_type begins.Array = sound_too_deep 0
 sound_flat_type begins.Sequence = sound_too_deep 0
 sound_flat_type begins.Record = sound_too_deep 0

@@ -13,10 +13,11 @@ use Rattle.circus_syntax.specs.declared.reading.TypeStart.{TypeStart}
 use Rattle.circus_syntax.specs.declared.reading.TypeStart.TheVariants as begins
 use Rattle.circus_syntax.specs.Reserved.{is_reserved, reserved_words}
 use Rattle.circus_syntax.specs.TypeTree.{TypeTree, GroupTree, ArmTree, GroupTrees, ArmTrees, boolean, cardinal, long_cardinal, integer, long_integer, text, enumeration, array, sequence, «record», choice, called, no_groups, more_groups, no_arms, more_arms, group_trees, arm_trees}
-use Rattle.circus_syntax.specs.Placed.{Placed, first, same_kind, is_lexeme, is_name, is_number, word, sign, Due, due, due_at, due_name, due_number, AreDue}
+use Rattle.circus_syntax.specs.Placed.{Placed, first, same_kind, is_lexeme, is_name, is_number, word, sign, Due, due, due_at, due_name, due_number, opened, AreDue}
 use Rattle.circus_syntax.specs.Reader.{Reader, passes, nothing, both, mapped, cased, either, either_case}
 use Rattle.circus_syntax.specs.Reading.{fixed, fixed_at, number, listed, names, label, label_of, labels, type_name, name_of_type, start_of_type, long_of, is_long_integer, long, called_of, type_name_place, simple, group, groups_with, arm, arm_of_parts, array_with, sequence_with, record_with, choice_with, type_with, flat_type, stop_in_type, type, groups}
 use Rattle.circus_syntax.specs.Spelling.{each, spelling_more_groups, with_commas, comma, if_written, spelling_name, spelling_number, spelling_names, spelling_label, spelling_type_name, spelling_type, spelling_groups, spelling_arms, IsEach, IsListed, IfWritten, IsName, IsNumeral, IsLabel, IsType, IsTypeNameAt, levels, arm_levels}
+use Rattle.circus_syntax.proofs.Opened.{opened_due}
 use Rattle.circus_syntax.proofs.Sound.{Sound, reader, AreDue-none}
 use Rattle.circus_syntax.proofs.Complete.{Complete, Any, complete_both, complete_then, complete_mapped, complete_marked, complete_optional, complete_weaker, cased_is}
 use Rattle.circus_syntax.proofs.Tokens.{Always, sound_name, complete_fixed, complete_fixed_at, complete_name, complete_number, complete_behind, complete_listed, is_comma, opens_due, opens_name, opens_number, lexeme_is}
@@ -314,7 +315,7 @@ array_is : (n : ℕ) {inner : Reader → TypeTree × Reader} → Complete inner 
 array_is n T at k t ts rest e number good d stays =
     ap (λ y. (array y.0.0 y.0.1.0 y.0.1.1.1, y.1))
     ((complete_then (complete_fixed_at (word (codes "ARRAY"))) (complete_then complete_number (complete_then (complete_fixed (word (codes "OF"))) T))).reads
-    (at, (k, (tt, t))) ts rest e (tt, (number, (tt, good))) d stays)
+    (at, (k, (tt, t))) ts rest e (tt, (number, (tt, good))) (opened_due (due_at (word (codes "ARRAY")) at ∷ due_number k ∷ due (word (codes "OF")) ∷ spelling_type t) ts d) stays)
 
 sequence_is : (n : ℕ) {inner : Reader → TypeTree × Reader} → Complete inner spelling_type (IsTypeWithin n) NotDot
     → (at : ℕ) (b : Option Numeral) (t : TypeTree) (ts rest : List Placed) (e : ℕ) → IfWritten IsNumeral b → IsTypeWithin n t → AreDue (spelling_type (sequence at b t)) ts → NotDot (first rest)
@@ -324,7 +325,8 @@ sequence_is n T at b t ts rest e bound good d stays =
     ((complete_then (complete_fixed_at (word (codes "SEQUENCE")))
     (complete_both (complete_optional is_number complete_number (λ k us rest g d. opens_number k [] us rest d)) (complete_then (complete_fixed (word (codes "OF"))) T)
     (λ x us rest g d stays. (tt, clash (word (codes "OF")) (spelling_type x.1) us rest is_number (λ s. refl) d)))).reads
-    (at, (b, (tt, t))) ts rest e (tt, (bound, (tt, good))) d stays)
+    (at, (b, (tt, t))) ts rest e (tt, (bound, (tt, good)))
+    (opened_due (due_at (word (codes "SEQUENCE")) at ∷ (if_written spelling_number b ++ due (word (codes "OF")) ∷ spelling_type t)) ts d) stays)
 
 record_is : (n : ℕ) {inner : Reader → TypeTree × Reader} → Sound inner spelling_type (IsTypeWithin n) → Complete inner spelling_type (IsTypeWithin n) NotDot
     → (at : ℕ) (gs : List GroupTree) (ts rest : List Placed) (e : ℕ) → AreGroupsWithin n gs → AreDue (spelling_type («record» at (group_trees gs))) ts
@@ -334,7 +336,8 @@ record_is n S T at gs ts rest e good d =
     ((complete_then (complete_fixed_at (word (codes "RECORD"))) (complete_then (complete_fixed (sign (codes "[")))
     (complete_both (complete_groups_with n S T) (complete_fixed (sign (codes "]")))
     (λ x us rest g d stays. (clash (sign (codes "]")) [] us rest is_dot (λ s. refl) d, clash (sign (codes "]")) [] us rest is_comma (λ s. refl) d, opens_due (sign (codes "]")) [] us rest d))))).reads
-    (at, (tt, (gs, tt))) ts rest e (tt, (tt, (good, tt))) d tt)
+    (at, (tt, (gs, tt))) ts rest e (tt, (tt, (good, tt)))
+    (opened_due (due_at (word (codes "RECORD")) at ∷ due (sign (codes "[")) ∷ (spelling_groups (group_trees gs) ++ due (sign (codes "]")) ∷ [])) ts d) tt)
 
 choice_is : (n : ℕ) {inner : Reader → TypeTree × Reader} → Sound inner spelling_type (IsTypeWithin n) → Complete inner spelling_type (IsTypeWithin n) NotDot
     → (at : ℕ) (others : List ArmTree) (ts rest : List Placed) (e : ℕ) → IsListed (IsArmWithin n) others
@@ -385,7 +388,8 @@ choice_read n {inner} S T at others ts rest e =
     subst (λ (os : ArmTrees). IsTypeWithin (suc n) (choice at os) → AreDue (spelling_type (choice at os)) ts → choice_with inner (reader None (ts ++ rest) e) ≡ (choice at os, reader None rest e))
     (arm_list_is others)
     (λ good d. choice_is n S T at (arm_list others) ts rest e (choice_each n at (arm_list others) good.0 (omega (arith, good.1)))
-    (subst (λ l. AreDue (due_at (word (codes "CHOICE")) at ∷ due (word (codes "OF")) ∷ due (sign (codes "{")) ∷ (l ++ due (sign (codes "}")) ∷ [])) ts) (arms_spelled (arm_list others)) d))
+    (subst (λ l. AreDue (due_at (word (codes "CHOICE")) at ∷ due (word (codes "OF")) ∷ due (sign (codes "{")) ∷ (l ++ due (sign (codes "}")) ∷ [])) ts) (arms_spelled (arm_list others))
+    (opened_due (due_at (word (codes "CHOICE")) at ∷ due (word (codes "OF")) ∷ due (sign (codes "{")) ∷ (spelling_arms (arm_trees (arm_list others)) ++ due (sign (codes "}")) ∷ [])) ts d)))
 
 type_reads : (n : ℕ) {inner : Reader → TypeTree × Reader} → Sound inner spelling_type (IsTypeWithin n) → Complete inner spelling_type (IsTypeWithin n) NotDot
     → (t : TypeTree) (ts rest : List Placed) (e : ℕ) → IsTypeWithin (suc n) t → AreDue (spelling_type t) ts → NotDot (first rest)
@@ -401,19 +405,19 @@ type_reads n {inner} S T t ts rest e good d stays = by_tree t good d
     by_tree : (u : TypeTree) → IsTypeWithin (suc n) u → AreDue (spelling_type u) ts → cased start_of_type (type_with inner) (reader None (ts ++ rest) e) ≡ (u, reader None rest e)
     by_tree (array at k u) good d =
         cased_is start_of_type (type_with inner) begins.Array (ts ++ rest) e (array at k u, reader None rest e)
-        (start_fixed (word (codes "ARRAY")) begins.Array at (due_number k ∷ due (word (codes "OF")) ∷ spelling_type u) ts rest (λ s. refl) d)
+        (start_fixed (word (codes "ARRAY")) begins.Array at (opened (due_number k ∷ due (word (codes "OF")) ∷ spelling_type u)) ts rest (λ s. refl) d)
         (array_is n T at k u ts rest e good.0.0 (good.0.1, omega (arith, good.1)) d stays)
     by_tree (sequence at b u) good d =
         cased_is start_of_type (type_with inner) begins.Sequence (ts ++ rest) e (sequence at b u, reader None rest e)
-        (start_fixed (word (codes "SEQUENCE")) begins.Sequence at (if_written spelling_number b ++ due (word (codes "OF")) ∷ spelling_type u) ts rest (λ s. refl) d)
+        (start_fixed (word (codes "SEQUENCE")) begins.Sequence at (opened (if_written spelling_number b ++ due (word (codes "OF")) ∷ spelling_type u)) ts rest (λ s. refl) d)
         (sequence_is n T at b u ts rest e good.0.0 (good.0.1, omega (arith, good.1)) d stays)
     by_tree («record» at gs) good d =
         cased_is start_of_type (type_with inner) begins.Record (ts ++ rest) e («record» at gs, reader None rest e)
-        (start_fixed (word (codes "RECORD")) begins.Record at (due (sign (codes "[")) ∷ (spelling_groups gs ++ due (sign (codes "]")) ∷ [])) ts rest (λ s. refl) d)
+        (start_fixed (word (codes "RECORD")) begins.Record at (opened (due (sign (codes "[")) ∷ (spelling_groups gs ++ due (sign (codes "]")) ∷ []))) ts rest (λ s. refl) d)
         (record_read n S T at gs ts rest e good d)
     by_tree (choice at os) good d =
         cased_is start_of_type (type_with inner) begins.Choice (ts ++ rest) e (choice at os, reader None rest e)
-        (start_fixed (word (codes "CHOICE")) begins.Choice at (due (word (codes "OF")) ∷ due (sign (codes "{")) ∷ (spelling_arms os ++ due (sign (codes "}")) ∷ [])) ts rest (λ s. refl) d)
+        (start_fixed (word (codes "CHOICE")) begins.Choice at (opened (due (word (codes "OF")) ∷ due (sign (codes "{")) ∷ (spelling_arms os ++ due (sign (codes "}")) ∷ []))) ts rest (λ s. refl) d)
         (choice_read n S T at os ts rest e good d)
     by_tree (boolean at) good d = simple_one (boolean at) (simply_read (boolean at) ts rest e refl good.0 d stays)
     by_tree (cardinal at) good d = simple_one (cardinal at) (simply_read (cardinal at) ts rest e refl good.0 d stays)

@@ -46,7 +46,7 @@ pub record Calm {A : Type 0} (p : Reader → A × Reader) : Type 0 where
 pub calm_of : {A : Type 0} {p : Reader → A × Reader} {spell : A → List Due} {Good : A → Type 0} → Sound p spell Good → Calm p
 calm_of P = record { fill = λ s e. (P.fills s e).tree; stays = λ s e ts. (P.fills s e).stays ts; leaves = suffix P }
 
-calm_both : {A B : Type 0} {p : Reader → A × Reader} {q : Reader → B × Reader} → Calm p → Calm q → Calm (both p q)
+pub calm_both : {A B : Type 0} {p : Reader → A × Reader} {q : Reader → B × Reader} → Calm p → Calm q → Calm (both p q)
 calm_both {p = p} {q = q} P Q = record {
   fill = λ s e. (P.fill s e, Q.fill s e);
   stays = λ s e ts. both_is p q _ _ _ (P.fill s e) (Q.fill s e) (P.stays s e ts) (Q.stays s e ts);
@@ -56,7 +56,7 @@ calm_both {p = p} {q = q} P Q = record {
       (c ++ d, front ∙ ap (λ l. c ++ l) back ∙ sym (append_assoc c d (q (p r).1).1.rest));
 }
 
-calm_mapped : {A B : Type 0} (f : A → B) {p : Reader → A × Reader} → Calm p → Calm (mapped f p)
+pub calm_mapped : {A B : Type 0} (f : A → B) {p : Reader → A × Reader} → Calm p → Calm (mapped f p)
 calm_mapped f P = record {
   fill = λ s e. f (P.fill s e);
   stays = λ s e ts. ap (λ z. (f z.0, z.1)) (P.stays s e ts);

@@ -72,6 +72,10 @@ token_in test read default None (t ∷ ts) end =
 abbrev pub token : {A : Type 0} → (Placed → Bool) → (Placed → A) → (ℕ → A) → Reader → A × Reader
 token test read default r = token_in test read default r.stop r.rest r.end
 
+-- reading stops here, and what the place gives is answered
+abbrev pub stopped : {A : Type 0} → StopCause → (ℕ → A) → Reader → A × Reader
+stopped cause default r = (default (place r), stopped_by cause r.stop r.rest r.end)
+
 -- nothing is read
 abbrev pub nothing : {A : Type 0} → A → Reader → A × Reader
 nothing a r = (a, r)

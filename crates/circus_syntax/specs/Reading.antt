@@ -2,7 +2,7 @@
 use Rattle.std.specs.Prelude.{ℕ, Bool, true, false, if◌then◌else◌, List, [], ◌∷◌, Option, Some, None, ◌⊎◌, codes}
 use Rattle.std.proofs.Common.{zero, suc, inl, inr}
 use Rattle.circus_text.specs.Form.{number_value}
-use Rattle.circus_text.specs.Token.{Lexeme}
+use Rattle.circus_text.specs.Token.{Lexeme, content_of}
 use Rattle.circus_syntax.specs.declared.named.Named.{Named}
 use Rattle.circus_syntax.specs.declared.named.Numeral.{Numeral}
 use Rattle.circus_syntax.specs.declared.named.TypeName.{TypeName}
@@ -14,8 +14,8 @@ use Rattle.circus_syntax.specs.declared.reading.TypeStart.{TypeStart}
 use Rattle.circus_syntax.specs.declared.reading.TypeStart.TheVariants as begins
 use Rattle.circus_syntax.specs.TypeTree.{TypeTree, GroupTree, ArmTree, boolean, cardinal, long_cardinal, integer, long_integer, text, enumeration, array, sequence, «record», choice, called, group_trees, arm_trees}
 use Rattle.circus_syntax.specs.InterfaceTree.{DeclaredTree, a_type, an_error, a_procedure, InterfaceTree}
-use Rattle.circus_syntax.specs.Placed.{Placed, word, sign, is_lexeme, is_name, is_number}
-use Rattle.circus_syntax.specs.Reader.{Reader, token, nothing, both, mapped, cased, either, optional, repeated, marked, place, stopped_by}
+use Rattle.circus_syntax.specs.Placed.{Placed, word, sign, is_lexeme, is_name, is_number, is_text}
+use Rattle.circus_syntax.specs.Reader.{Reader, token, nothing, both, mapped, cased, either, optional, repeated, marked, stopped}
 
 -- this word or sign
 unfoldable pub fixed : Lexeme → Reader → Unit {0} × Reader
@@ -43,6 +43,10 @@ name = token is_name named_of filled_name
 
 unfoldable pub number : Reader → Numeral × Reader
 number = token is_number numeral_of filled_numeral
+
+-- a string's content and its place
+unfoldable pub quoted : Reader → (List ℕ × ℕ) × Reader
+quoted = token is_text (λ t. (content_of t.bytes, t.start)) (λ at. ([], at))
 
 unfoldable pub number_if_any : Reader → Option Numeral × Reader
 number_if_any = optional is_number number
@@ -128,7 +132,7 @@ simple _ = mapped boolean (fixed_at (word (codes "BOOLEAN")))
 
 -- a type that would be a level too many
 unfoldable pub too_deep : Reader → TypeTree × Reader
-too_deep r = (boolean (place r), stopped_by TooDeep r.stop r.rest r.end)
+too_deep = stopped TooDeep boolean
 
 -- names and the type that they share
 abbrev pub group : (Reader → TypeTree × Reader) → Reader → GroupTree × Reader

@@ -1,15 +1,15 @@
 // A reader of tokens.
 ghost use Rattle.std.specs.Prelude.{◌≡◌, ℕ, ◌≤◌, true, false, length, map, All, MatchOption, IfOk, IsTrue, Some, option_map};
-ghost use Rattle.circus_text.specs.Token.{IsTokenIn, bytes_of};
-ghost use Rattle.circus_syntax.specs.Placed.{Placed, placed_of, is_lexeme, is_name, is_number, word, sign};
+ghost use Rattle.circus_text.specs.Token.{IsTokenIn, bytes_of, content_of};
+ghost use Rattle.circus_syntax.specs.Placed.{Placed, placed_of, is_lexeme, is_name, is_number, is_text, word, sign};
 ghost use Rattle.circus_syntax.specs.Reader.{open_at, place, next, sees, skipped_by, stopped_by};
-ghost use Rattle.circus_syntax.specs.Reading.{fixed, name, number, names, stop_in_type, stop_in_list};
+ghost use Rattle.circus_syntax.specs.Reading.{fixed, name, number, quoted, names, stop_in_type, stop_in_list};
 ghost use Rattle.circus_text.specs.Form.{longest_text, number_value};
 
 use crate::reserved::is_reserved_word;
 use crate::{Named, Nameds, Numeral, Stop, StopCause};
 use circus_text::{Token, TokenKind};
-use circus_value::{Name, NoMemory};
+use circus_value::{Name, NoMemory, Octets};
 use std::alloc::Global;
 use std::marker::Model;
 
@@ -120,6 +120,13 @@ impl<'a> Reader<'a> {
         self.next_number().is_some()
     }
 
+    /// Whether the next token is a string.
+    pub fn sees_text(&self) -> bool
+        ensures { result ≡ sees is_text self.now }
+    {
+        self.next_text().is_some()
+    }
+
     // The next token's bytes, if it is a name.
     fn next_name(&self) -> Option<&'a [u8]>
         ensures { MatchOption result (sees is_name self.now ≡ false)
@@ -142,8 +149,19 @@ impl<'a> Reader<'a> {
         }
     }
 
-    // Goes behind the next token, unless reading stopped.
-    fn skip(&mut self)
+    // What stands between the next token's quotes, if it is a string.
+    fn next_text(&self) -> Option<&'a [u8]>
+        ensures { MatchOption result (sees is_text self.now ≡ false)
+            (λ content. (t : Placed) × (next self.now ≡ Some t) × (is_text t ≡ true) × (content.now ≡ content_of t.bytes)) }
+    {
+        match (&self.stop, self.left.split_first()) {
+            (None, Some((token, _))) => text_in(self.text, token),
+            _ => None,
+        }
+    }
+
+    /// Goes behind the next token, unless reading stopped.
+    pub fn skip(&mut self)
         ensures { self.new ≡ skipped_by self.old.stop self.old.rest self.old.end }
     {
         if self.stop.is_none()
@@ -248,6 +266,23 @@ impl<'a> Reader<'a> {
         }
     }
 
+    /// Reads a string and answers what stands between its quotes, or stops and answers nothing between them.
+    /// `NoMemory` leaves the reader where it is.
+    #[tactic(auto, unfolding(crate::specs::Reading::quoted))]
+    pub fn text(&mut self) -> Result<Octets, NoMemory>
+        ensures { IfOk result (λ content. quoted self.old ≡ ((content, place self.old), self.new)) }
+    {
+        let mut content = Octets::new(self.alloc);
+        match self.next_text() {
+            Some(bytes) => {
+                content.append(bytes)?;
+                self.skip();
+            }
+            None => self.stop_here(StopCause::Unexpected),
+        }
+        Ok(content)
+    }
+
     /// Reads names with commas between them, at least one.
     #[tactic(auto, unfolding(crate::specs::Reading::names))]
     pub fn names(&mut self) -> Result<Nameds, NoMemory>
@@ -290,6 +325,18 @@ fn number_in(text: &[u8], token: &Token) -> Option<u64>
 {
     match token.kind {
         TokenKind::Number => Some(token.number(text)),
+        _ => None,
+    }
+}
+
+// What stands between the token's quotes, if it is a string.
+fn text_in<'a>(text: &'a [u8], token: &Token) -> Option<&'a [u8]>
+    requires { IsTokenIn text.now token.now }
+    ensures { MatchOption result (is_text (placed_of text.now token.now) ≡ false)
+        (λ content. (is_text (placed_of text.now token.now) ≡ true) × (content.now ≡ content_of (bytes_of text.now token.now))) }
+{
+    match token.kind {
+        TokenKind::Quoted => Some(token.content(text)),
         _ => None,
     }
 }
