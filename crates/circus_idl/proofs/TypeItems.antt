@@ -4,7 +4,7 @@ use Rattle.circus_syntax.specs.declared.type_text.GroupText.{GroupText}
 use Rattle.circus_syntax.specs.declared.type_text.ArmText.{ArmText}
 use Rattle.circus_syntax.specs.TypeOf.{tree_of, group_of, arm_of}
 use Rattle.circus_syntax.specs.TypeTree.{group_trees, arm_trees}
-use Rattle.circus_syntax.specs.TypeWeight.{weight, group_weights, arm_weights}
+use Rattle.circus_syntax.specs.Seen.TypeWeight.{weight, group_weights, arm_weights}
 
 group_lighter : (gs : List GroupText) (i : ℕ) (d : GroupText) → i < length gs → weight (tree_of (get_or gs i d).shape) + 2 ≤ group_weights (group_trees (map group_of gs))
 group_lighter [] i d below = omega arith

@@ -1,8 +1,5 @@
 pub mod TypeTree
-pub mod TypeCode
 pub mod TypeOf
-pub mod TypeWeight
-pub mod TypeFalls
 pub mod InterfaceTree
 pub mod Reserved
 pub mod Placed
@@ -11,3 +8,4 @@ pub mod Reading
 pub mod Spelling
 pub mod Stopping
 pub mod Read
+pub mod Seen

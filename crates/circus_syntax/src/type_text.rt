@@ -79,8 +79,8 @@ impl Model for GroupTexts {
     ghost use Rattle.std.specs.Coded.{coded_list};
     ghost use Rattle.std.proofs.Common.{arith};
     ghost use Rattle.circus_syntax.specs.TypeTree.{GroupTree, group_trees};
-    ghost use Rattle.circus_syntax.specs.TypeCode.{coded_group};
-    ghost use Rattle.circus_syntax.specs.TypeWeight.{group_weights};
+    ghost use Rattle.circus_syntax.specs.Seen.TypeCode.{coded_group};
+    ghost use Rattle.circus_syntax.specs.Seen.TypeWeight.{group_weights};
 
     ghost Value = { List GroupTree };
 
@@ -92,7 +92,7 @@ impl Model for GroupTexts {
 
     ghost size = { λ groups. group_weights (group_trees groups) };
 
-    ghost use Rattle.circus_syntax.specs.TypeFalls.{most_deep_le-group_weights};
+    ghost use Rattle.circus_syntax.specs.Seen.TypeFalls.{most_deep_le-group_weights};
 
     ghost size_decreases = { λ a h. Prim.omega (arith, most_deep_le-group_weights a.items.items) };
 }
@@ -102,8 +102,8 @@ impl Model for ArmTexts {
     ghost use Rattle.std.specs.Coded.{coded_list};
     ghost use Rattle.std.proofs.Common.{arith};
     ghost use Rattle.circus_syntax.specs.TypeTree.{ArmTree, arm_trees};
-    ghost use Rattle.circus_syntax.specs.TypeCode.{coded_arm};
-    ghost use Rattle.circus_syntax.specs.TypeWeight.{arm_weights};
+    ghost use Rattle.circus_syntax.specs.Seen.TypeCode.{coded_arm};
+    ghost use Rattle.circus_syntax.specs.Seen.TypeWeight.{arm_weights};
 
     ghost Value = { List ArmTree };
 
@@ -115,7 +115,7 @@ impl Model for ArmTexts {
 
     ghost size = { λ arms. arm_weights (arm_trees arms) };
 
-    ghost use Rattle.circus_syntax.specs.TypeFalls.{most_deep_le-arm_weights};
+    ghost use Rattle.circus_syntax.specs.Seen.TypeFalls.{most_deep_le-arm_weights};
 
     ghost size_decreases = { λ a h. Prim.omega (arith, most_deep_le-arm_weights a.items.items) };
 }
@@ -123,8 +123,8 @@ impl Model for ArmTexts {
 impl Model for ElementText {
     ghost use Rattle.std.proofs.Common.{arith};
     ghost use Rattle.circus_syntax.specs.TypeTree.{TypeTree};
-    ghost use Rattle.circus_syntax.specs.TypeCode.{coded_type};
-    ghost use Rattle.circus_syntax.specs.TypeWeight.{weight};
+    ghost use Rattle.circus_syntax.specs.Seen.TypeCode.{coded_type};
+    ghost use Rattle.circus_syntax.specs.Seen.TypeWeight.{weight};
 
     ghost Value = { TypeTree };
 
@@ -136,7 +136,7 @@ impl Model for ElementText {
 
     ghost size = { weight };
 
-    ghost use Rattle.circus_syntax.specs.TypeFalls.{deep_le-weight};
+    ghost use Rattle.circus_syntax.specs.Seen.TypeFalls.{deep_le-weight};
 
     ghost size_decreases = { λ a h. Prim.omega (arith, deep_le-weight a.shape.value) };
 }

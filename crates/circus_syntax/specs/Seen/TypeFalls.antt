@@ -4,7 +4,7 @@ use Rattle.std.proofs.Common.{arith}
 use denote.Param.Weighed.{most}
 use Rattle.circus_syntax.specs.TypeTree.{group_trees, arm_trees}
 use Rattle.circus_syntax.specs.TypeOf.{tree_at, tree_of, group_of, arm_of}
-use Rattle.circus_syntax.specs.TypeWeight.{weight, group_weights, arm_weights}
+use Rattle.circus_syntax.specs.Seen.TypeWeight.{weight, group_weights, arm_weights}
 use Rattle.circus_syntax.specs.declared.type_text.TypeKind.{TypeKind}
 use Rattle.circus_syntax.specs.declared.type_text.TypeKind.TheVariants as K
 use Rattle.circus_syntax.specs.declared.type_text.TypeText.{TypeText}
