@@ -7,10 +7,12 @@ use Rattle.circus_syntax.specs.declared.stopping.StopCause.TheVariants.{Unexpect
 use Rattle.circus_syntax.specs.declared.interface_text.FieldsText.{FieldsText}
 use Rattle.circus_syntax.specs.TypeTree.{TypeTree, GroupTrees, boolean, cardinal, long_cardinal, integer, long_integer, text, enumeration, array, sequence, «record», choice, called, no_groups, more_groups, group_trees}
 use Rattle.circus_syntax.specs.InterfaceTree.{DeclaredTree, a_type, an_error, a_procedure, InterfaceTree}
+use Rattle.circus_syntax.specs.Spelling.{most_levels}
 use Rattle.circus_idl.specs.declared.measure.Measure.{Measure}
 use Rattle.circus_idl.specs.declared.fault.Fault.{Fault}
 use Rattle.circus_idl.specs.declared.fault.Cause.{Cause}
 use Rattle.circus_idl.specs.declared.fault.Cause.TheVariants.{Expected, Deep, Unknown, TooLarge}
+use Rattle.circus_idl.specs.Limits.{greatest_word, greatest_error, greatest_program, most_parts, most_zero_bytes}
 use Rattle.circus_idl.specs.Least.{faults_if}
 use Rattle.circus_idl.specs.Inside.{no_name, no_number, also_name, also_number, repeated_name, repeated_number, repeated_names, above, group_names, inside, inside_groups}
 use Rattle.circus_value.specs.ShapeTree as shape
@@ -69,11 +71,11 @@ place_of (called at _) = at
 
 -- the parts of types with so many more of one size
 abbrev pub more_parts : ℕ → ℕ → Measure → ℕ
-more_parts parts n size = min (parts + n * size.parts) 16385
+more_parts parts n size = min (parts + n * size.parts) (1 + most_parts)
 
 -- a type of this size, with which there are so many parts, passes a limit
 abbrev pub is_over : ℕ → Measure → Bool
-is_over parts size = nat_lt 65536 size.zeros || nat_lt 64 size.levels || nat_lt 16384 parts
+is_over parts size = nat_lt most_zero_bytes size.zeros || nat_lt most_levels size.levels || nat_lt most_parts parts
 
 -- the size of a whole type is tested where it has no fault inside and reading didn't stop in it
 abbrev pub whole_faults : Cut → (List ℕ → Bool) → (List ℕ → Measure) → ℕ → ℕ → TypeTree → List Fault
@@ -110,7 +112,7 @@ abbrev pub together_faults : Cut → (List ℕ → Bool) → (List ℕ → Measu
 together_faults cut types sizes name None = []
 together_faults cut types sizes name (Some f) =
     faults_if (is_clean (repeated_names no_name (group_names (group_trees f.groups)) ++ inside_groups types (group_trees f.groups))
-    && not (is_place f.at cut.list) && nat_lt 65536 (measured_groups sizes (group_trees f.groups)).zeros) name.at TooLarge
+    && not (is_place f.at cut.list) && nat_lt most_zero_bytes (measured_groups sizes (group_trees f.groups)).zeros) name.at TooLarge
 
 -- the names of errors that aren't declared before
 abbrev pub unknown_errors : (List ℕ → Option ℕ) → List Named → List Fault
@@ -127,13 +129,13 @@ declared_faults cut before (a_type name t) =
     repeated_name before.names name ++ whole_faults cut before.types before.sizes before.parts 1 t
 declared_faults cut before (an_error e) =
     repeated_name before.names e.name ++ fields_faults cut before.types before.sizes before.parts e.arguments
-    ++ repeated_number before.error_numbers e.number ++ above 59999 e.number
+    ++ repeated_number before.error_numbers e.number ++ above greatest_error e.number
 declared_faults cut before (a_procedure p) =
     repeated_name before.names p.name ++ together_faults cut before.types before.sizes p.name p.arguments
     ++ fields_faults cut before.types before.sizes before.parts p.arguments
     ++ fields_faults cut before.types before.sizes (fields_parts before.sizes before.parts p.arguments) p.results
     ++ reports_faults before.errors p.reports
-    ++ repeated_number before.procedure_numbers p.number ++ above 65535 p.number
+    ++ repeated_number before.procedure_numbers p.number ++ above greatest_word p.number
 
 -- what is declared before the next declaration
 abbrev pub behind : Before → DeclaredTree → Before
@@ -163,7 +165,7 @@ declarations_faults cut before (d ∷ ds) = declared_faults cut before d ++ decl
 -- an interface: its numbers, and what it declares
 abbrev pub interface_faults : Cut → InterfaceTree → List Fault
 interface_faults cut i =
-    above 4294967295 i.number ++ above 65535 i.version ++ declarations_faults cut nothing i.declared
+    above greatest_program i.number ++ above greatest_word i.version ++ declarations_faults cut nothing i.declared
 
 -- what a stop of reading is a fault of
 abbrev pub stop_fault : StopCause → Cause

@@ -6,6 +6,7 @@ use Rattle.circus_syntax.specs.declared.named.LabelText.{LabelText}
 use Rattle.circus_syntax.specs.TypeTree.{TypeTree, GroupTrees, ArmTrees, boolean, cardinal, long_cardinal, integer, long_integer, text, enumeration, array, sequence, «record», choice, called, no_groups, more_groups, no_arms, more_arms}
 use Rattle.circus_idl.specs.declared.fault.Fault.{Fault}
 use Rattle.circus_idl.specs.declared.fault.Cause.TheVariants.{Unknown, Repeated, OutOfRange}
+use Rattle.circus_idl.specs.Limits.{greatest_word}
 use Rattle.circus_idl.specs.Least.{faults_if}
 
 -- no name and no number yet
@@ -48,7 +49,7 @@ repeated_names earlier (n ∷ ns) = repeated_name earlier n ++ repeated_names (a
 -- a label behind earlier ones
 abbrev pub label_faults : (List ℕ → Bool) → (ℕ → Bool) → Named → Numeral → List Fault
 label_faults names numbers name number =
-    repeated_name names name ++ repeated_number numbers number ++ above 65535 number
+    repeated_name names name ++ repeated_number numbers number ++ above greatest_word number
 
 -- labels behind earlier ones
 abbrev pub labels_faults : (List ℕ → Bool) → (ℕ → Bool) → List LabelText → List Fault
@@ -81,12 +82,12 @@ is_empty_record _ = false
 
 -- how many items an array may have
 abbrev pub length_faults : Numeral → List Fault
-length_faults n = faults_if ((n.value == 0) || nat_lt 65535 n.value) n.at OutOfRange
+length_faults n = faults_if ((n.value == 0) || nat_lt greatest_word n.value) n.at OutOfRange
 
 -- the bound of a sequence, where one is given
 abbrev pub bound_faults : Option Numeral → List Fault
 bound_faults None = []
-bound_faults (Some n) = above 65535 n
+bound_faults (Some n) = above greatest_word n
 
 -- the name of a type: one that is declared before, and none of another interface
 abbrev pub called_faults : (List ℕ → Bool) → Option Named → Named → List Fault

@@ -1,3 +1,4 @@
+pub mod Limits
 pub mod Distinct
 pub mod Written
 pub mod Whole

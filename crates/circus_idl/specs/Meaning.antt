@@ -7,14 +7,15 @@ use Rattle.circus_syntax.specs.declared.named.Named.{Named}
 use Rattle.circus_syntax.specs.declared.named.Numeral.{Numeral}
 use Rattle.circus_syntax.specs.declared.named.LabelText.{LabelText}
 use Rattle.circus_syntax.specs.TypeTree.{TypeTree, GroupTrees, ArmTrees, boolean, cardinal, long_cardinal, integer, long_integer, text, enumeration, array, sequence, «record», choice, called, no_groups, more_groups, no_arms, more_arms}
+use Rattle.circus_idl.specs.Limits.{greatest_word}
 
 -- a number of one word; one that is out of range, which is a fault, counts as the greatest
 abbrev pub word_of : Numeral → ℕ
-word_of n = min n.value 65535
+word_of n = min n.value greatest_word
 
--- the bound of a sequence, which is 65,535 where none is given
+-- the bound of a sequence, which is the greatest where none is given
 abbrev pub bound_of : Option Numeral → ℕ
-bound_of None = 65535
+bound_of None = greatest_word
 bound_of (Some n) = word_of n
 
 abbrev pub label_meant : LabelText → Label

@@ -12,6 +12,7 @@ use Rattle.circus_idl.specs.declared.interface.DeclaredType.{DeclaredType}
 use Rattle.circus_idl.specs.declared.interface.DeclaredError.{DeclaredError}
 use Rattle.circus_idl.specs.declared.interface.Procedure.{Procedure}
 use Rattle.circus_idl.specs.declared.interface.Interface.{Interface}
+use Rattle.circus_idl.specs.Limits.{greatest_word, greatest_program}
 use Rattle.circus_idl.specs.Meaning.{word_of, written, written_groups}
 use Rattle.circus_idl.specs.Known.{standing_for}
 
@@ -43,7 +44,7 @@ fields_meant form (Some f) = written_groups form (group_trees f.groups)
 
 -- the numbers of the errors of these names
 abbrev pub numbers_meant : (List ℕ → Option ℕ) → List Named → List ℕ
-numbers_meant errors names = map (λ (n : Named). min (unwrap_or (errors n.name) 0) 65535) names
+numbers_meant errors names = map (λ (n : Named). min (unwrap_or (errors n.name) 0) greatest_word) names
 
 abbrev pub reports_meant : (List ℕ → Option ℕ) → Option (List Named) → List ℕ
 reports_meant errors None = []
@@ -91,6 +92,6 @@ meant_of i = record { types = map named_shape i.types; errors = i.errors; proced
 -- the interface that a tree means: its name and numbers, and what is declared in it
 pub record Means (tree : InterfaceTree) (i : Interface) : Type 0 where
   pub name : i.name ≡ tree.name.name
-  pub number : i.number ≡ min tree.number.value 4294967295
+  pub number : i.number ≡ min tree.number.value greatest_program
   pub version : i.version ≡ word_of tree.version
   pub declared : meant_of i ≡ declarations_meant (λ _. boolean) (λ _. None) tree.declared

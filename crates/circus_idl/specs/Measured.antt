@@ -2,13 +2,15 @@
 use Rattle.std.specs.Prelude.{ℕ, ◌+◌, ◌*◌, min, max, cond, ◌==◌, List, length}
 use Rattle.circus_value.specs.ShapeTree.{ShapeTree}
 use Rattle.circus_syntax.specs.TypeTree.{TypeTree, GroupTrees, ArmTrees, boolean, cardinal, long_cardinal, integer, long_integer, text, enumeration, array, sequence, «record», choice, called, no_groups, more_groups, no_arms, more_arms}
+use Rattle.circus_syntax.specs.Spelling.{most_levels}
 use Rattle.circus_idl.specs.declared.measure.Measure.{Measure}
+use Rattle.circus_idl.specs.Limits.{most_parts, most_zero_bytes}
 use Rattle.circus_idl.specs.Written.{parts, levels, zero_size}
 use Rattle.circus_idl.specs.Meaning.{word_of}
 
 -- numbers that stop one above their limits
 abbrev pub measure : ℕ → ℕ → ℕ → Measure
-measure p l z = record { parts = min p 16385; levels = min l 65; zeros = min z 65537 }
+measure p l z = record { parts = min p (1 + most_parts); levels = min l (1 + most_levels); zeros = min z (1 + most_zero_bytes) }
 
 -- the size of a shape
 abbrev pub measure_of : ShapeTree → Measure

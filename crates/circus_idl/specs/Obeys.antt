@@ -4,11 +4,13 @@ use Rattle.std.specs.List.{AllByRecursion}
 use Rattle.circus_text.specs.declared.token.TokenKind.TheVariants.{Word}
 use Rattle.circus_text.specs.Token.{IsSpelling}
 use Rattle.circus_syntax.specs.Reserved.{is_reserved}
+use Rattle.circus_syntax.specs.Spelling.{most_levels}
 use Rattle.circus_value.specs.declared.shape.Label.{Label}
 use Rattle.circus_value.specs.ShapeTree.{ShapeTree, FieldTrees, ArmTrees, FieldTree, boolean, cardinal, long_cardinal, integer, long_integer, text, enumeration, array, sequence, «record», choice, no_fields, more_fields, no_arms, more_arms}
 use Rattle.circus_idl.specs.declared.interface.DeclaredError.{DeclaredError}
 use Rattle.circus_idl.specs.declared.interface.Procedure.{Procedure}
 use Rattle.circus_idl.specs.declared.interface.Interface.{Interface}
+use Rattle.circus_idl.specs.Limits.{greatest_word, greatest_error, greatest_program, most_parts, most_zero_bytes}
 use Rattle.circus_idl.specs.Distinct.{AreDistinct}
 use Rattle.circus_idl.specs.Written.{levels, zero_size}
 use Rattle.circus_idl.specs.Whole.{declared_names, names_of, whole_types, parts_of, zero_size_of}
@@ -23,7 +25,7 @@ pub record ObeyLabels (labels : List Label) : Type 0 where
   pub named : AllByRecursion (λ (l : Label). IsName l.name) labels
   pub names : AreDistinct (map (λ (l : Label). l.name) labels)
   pub numbers : AreDistinct (map (λ (l : Label). l.number) labels)
-  pub in_range : AllByRecursion (λ (l : Label). l.number ≤ 65535) labels
+  pub in_range : AllByRecursion (λ (l : Label). l.number ≤ greatest_word) labels
 
 -- the names of fields
 abbrev pub field_names : FieldTrees → List (List ℕ)
@@ -51,7 +53,7 @@ pub record ObeyArms (names : List (List ℕ)) (numbers : List ℕ) : Type 0 wher
   pub named : AllByRecursion IsName names
   pub distinct_names : AreDistinct names
   pub distinct_numbers : AreDistinct numbers
-  pub in_range : AllByRecursion (λ n. n ≤ 65535) numbers
+  pub in_range : AllByRecursion (λ n. n ≤ greatest_word) numbers
 
 abbrev mutual
   -- a type in which no rule is broken, its size aside
@@ -63,8 +65,8 @@ abbrev mutual
   ObeysInside long_integer = Unit {0}
   ObeysInside text = Unit {0}
   ObeysInside (enumeration labels) = ObeyLabels labels
-  ObeysInside (array n s) = (1 ≤ n) × (n ≤ 65535) × ObeysInside s
-  ObeysInside (sequence n s) = (n ≤ 65535) × ObeysInside s
+  ObeysInside (array n s) = (1 ≤ n) × (n ≤ greatest_word) × ObeysInside s
+  ObeysInside (sequence n s) = (n ≤ greatest_word) × ObeysInside s
   ObeysInside («record» fs) = (0 < length (field_names fs)) × AreFieldNames (field_names fs) × ObeyFields fs
   ObeysInside (choice arms) = ObeyArms (arm_names arms) (arm_numbers arms) × ObeyArmTypes arms
 
@@ -81,8 +83,8 @@ abbrev mutual
 -- a whole type
 pub record ObeysWhole (s : ShapeTree) : Type 0 where
   pub inside : ObeysInside s
-  pub small : zero_size s ≤ 65536
-  pub shallow : levels s ≤ 64
+  pub small : zero_size s ≤ most_zero_bytes
+  pub shallow : levels s ≤ most_levels
 
 -- the fields of an error or a procedure
 abbrev pub ObeyFieldList : List FieldTree → Type 0
@@ -90,22 +92,22 @@ ObeyFieldList fields = AreFieldNames (names_of fields)
 
 -- an error
 pub record ObeysError (e : DeclaredError) : Type 0 where
-  pub in_range : e.number ≤ 59999
+  pub in_range : e.number ≤ greatest_error
   pub arguments : ObeyFieldList e.arguments
 
 -- a procedure over these errors
 pub record ObeysProcedure (errors : List DeclaredError) (p : Procedure) : Type 0 where
-  pub in_range : p.number ≤ 65535
+  pub in_range : p.number ≤ greatest_word
   pub arguments : ObeyFieldList p.arguments
   pub results : ObeyFieldList p.results
-  pub small : zero_size_of p.arguments ≤ 65536
+  pub small : zero_size_of p.arguments ≤ most_zero_bytes
   pub reports : AllByRecursion (λ n. Contains (map (λ (e : DeclaredError). e.number) errors) n) p.reports
 
 -- an interface
 pub record Obeys (i : Interface) : Type 0 where
   pub named : IsName i.name
-  pub number : i.number ≤ 4294967295
-  pub version : i.version ≤ 65535
+  pub number : i.number ≤ greatest_program
+  pub version : i.version ≤ greatest_word
   pub declared_named : AllByRecursion IsName (declared_names i)
   pub names : AreDistinct (declared_names i)
   pub types : AllByRecursion ObeysWhole (whole_types i)
@@ -113,4 +115,4 @@ pub record Obeys (i : Interface) : Type 0 where
   pub error_numbers : AreDistinct (map (λ (e : DeclaredError). e.number) i.errors)
   pub procedures : AllByRecursion (ObeysProcedure i.errors) i.procedures
   pub procedure_numbers : AreDistinct (map (λ (p : Procedure). p.number) i.procedures)
-  pub parts : parts_of (whole_types i) ≤ 16384
+  pub parts : parts_of (whole_types i) ≤ most_parts

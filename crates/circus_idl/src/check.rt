@@ -4,6 +4,7 @@ ghost use Rattle.circus_value.specs.ShapeTree.{boolean};
 ghost use Rattle.circus_syntax.specs.InterfaceTree.{declared_of, interface_of};
 ghost use Rattle.circus_idl.specs.declared.fault.Fault.{Fault};
 ghost use Rattle.circus_idl.specs.declared.idl_fault.IdlFault.{IdlFault};
+ghost use Rattle.circus_idl.specs.Limits.{greatest_program};
 ghost use Rattle.circus_idl.specs.Least.{least_from};
 ghost use Rattle.circus_idl.specs.Seen.Tables.{name_value};
 ghost use Rattle.circus_idl.specs.Known.{type_form};
@@ -18,6 +19,7 @@ use crate::draft::Draft;
 use crate::fault::{Best, Cause, Fault};
 use crate::idl_fault::IdlFault;
 use crate::interface::{Declared, Errors, Interface, Procedures};
+use crate::limits::{GREATEST_PROGRAM, GREATEST_WORD};
 use crate::measure::word;
 use crate::names::{Names, Numbers};
 use crate::scope::Scope;
@@ -25,12 +27,6 @@ use crate::types::Types;
 use circus_syntax::{DeclaredText, InterfaceText, Stop, StopCause};
 use circus_value::{Duplicate, NoMemory};
 use std::alloc::Global;
-
-/// The most that the number of a program may be.
-const MOST_PROGRAM: u64 = 4_294_967_295;
-
-/// The most that a version may be.
-const MOST_VERSION: u64 = 65_535;
 
 fn answer(fault: Fault) -> IdlFault
     ensures { result ≡ answer_of fault }
@@ -127,8 +123,8 @@ pub fn check(
     ensures err { IfErr result (λ e. (e ≡ IdlFault.NoMemory) ⊎ ((f : Fault) × (least_from None (read_faults stop.now (interface_of tree.now)) ≡ Some f) × (e ≡ answer_of f))) }
 {
     let mut draft = start(alloc, stop);
-    draft.scope.best.note_above(MOST_PROGRAM, tree.number);
-    draft.scope.best.note_above(MOST_VERSION, tree.version);
+    draft.scope.best.note_above(GREATEST_PROGRAM, tree.number);
+    draft.scope.best.note_above(GREATEST_WORD, tree.version);
     declare_all(&mut draft, tree.declared.as_slice())?;
     match draft.scope.best.fault {
         Some(fault) => Err(answer(fault)),
@@ -140,12 +136,12 @@ pub fn check(
 fn named(tree: &InterfaceText, draft: Draft) -> Result<Interface, NoMemory>
     ensures declared { IfOk result (λ i. meant_of i ≡ drafted draft.entry) }
     ensures name { IfOk result (λ i. i.name ≡ tree.now.name.name) }
-    ensures number { IfOk result (λ i. i.number ≡ min tree.now.number.value 4294967295) }
+    ensures number { IfOk result (λ i. i.number ≡ min tree.now.number.value greatest_program) }
     ensures version { IfOk result (λ i. i.version ≡ word_of tree.now.version) }
 {
     Ok(Interface {
         name: tree.name.name.copy()?,
-        number: tree.number.value.min(MOST_PROGRAM) as u32,
+        number: tree.number.value.min(GREATEST_PROGRAM) as u32,
         version: word(tree.version),
         types: draft.types,
         errors: draft.errors,

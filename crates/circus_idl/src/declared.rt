@@ -8,16 +8,11 @@ ghost use Rattle.circus_idl.specs.Faults.{declared_faults, behind};
 ghost use Rattle.circus_idl.specs.Known.{type_form, tree_or, standing_for};
 ghost use Rattle.circus_idl.specs.Meaning.{written};
 
+use crate::limits::{GREATEST_ERROR, GREATEST_WORD};
 use crate::scope::Scope;
 use crate::written::written;
 use circus_syntax::{ErrorText, Named, ProcedureText, TypeText};
 use circus_value::{NoMemory, Shape};
-
-/// The most that the number of an error may be.
-const MOST_ERROR: u64 = 59_999;
-
-/// The most that the number of a procedure may be.
-const MOST_PROCEDURE: u64 = 65_535;
 
 impl<'a> Scope<'a> {
     /// Declares an error.
@@ -30,7 +25,7 @@ impl<'a> Scope<'a> {
         self.names.meet(&mut self.best, &error.name)?;
         self.fields(&error.arguments)?;
         self.error_numbers.meet(&mut self.best, error.number)?;
-        self.best.note_above(MOST_ERROR, error.number);
+        self.best.note_above(GREATEST_ERROR, error.number);
         self.errors
             .put(error.name.name.as_slice(), error.number.value as usize)?;
         Ok(())
@@ -50,7 +45,7 @@ impl<'a> Scope<'a> {
         self.reports(&procedure.reports);
         self.procedure_numbers
             .meet(&mut self.best, procedure.number)?;
-        self.best.note_above(MOST_PROCEDURE, procedure.number);
+        self.best.note_above(GREATEST_WORD, procedure.number);
         Ok(())
     }
 

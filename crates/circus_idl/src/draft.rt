@@ -11,6 +11,7 @@ ghost use Rattle.circus_idl.specs.Seen.Drafted.{drafted};
 ghost use Rattle.circus_idl.specs.Means.{and_then, fields_meant, reports_meant, numbers_meant, procedure_meant, declared_meant, forms_behind};
 
 use crate::interface::{Declared, DeclaredError, DeclaredType, Errors, Procedure, Procedures};
+use crate::limits::GREATEST_WORD;
 use crate::measure::word;
 use crate::names::Names;
 use crate::scope::Scope;
@@ -59,7 +60,7 @@ fn numbers_meant(alloc: Global, errors: &Names, names: &[Named]) -> Result<Numbe
     let mut numbers = Numbers::new(alloc);
     for name in names {
         let number = errors.get(name.name.as_slice()).unwrap_or(0);
-        numbers.push(number.min(65_535) as u16)?;
+        numbers.push(number.min(GREATEST_WORD as usize) as u16)?;
     }
     Ok(numbers)
 }

@@ -9,14 +9,12 @@ ghost use Rattle.circus_idl.specs.Inside.{also_name, also_names, also_number, no
 ghost use Rattle.circus_idl.specs.Inside as faults;
 
 use crate::fault::{Best, Cause};
+use crate::limits::GREATEST_WORD;
 use crate::names::{Names, Numbers};
 use crate::types::Types;
 use circus_syntax::{ArmText, GroupText, LabelText, Named, Numeral, TypeKind, TypeName, TypeText};
 use circus_value::NoMemory;
 use std::alloc::Global;
-
-/// The most that a label's number may be.
-const MOST_LABEL: u64 = 65_535;
 
 // A label behind others.
 fn meet_label<'a>(
@@ -32,7 +30,7 @@ fn meet_label<'a>(
 {
     names.meet(best, name)?;
     numbers.meet(best, number)?;
-    best.note_above(MOST_LABEL, number);
+    best.note_above(GREATEST_WORD, number);
     Ok(())
 }
 
@@ -111,7 +109,7 @@ pub fn inside(
         TypeKind::Enumeration(list) => labels(alloc, best, list.as_slice()),
         TypeKind::Array(len, element) => {
             best.note(
-                len.value == 0 || len.value > MOST_LABEL,
+                len.value == 0 || len.value > GREATEST_WORD,
                 len.at,
                 Cause::OutOfRange,
             );
@@ -142,7 +140,7 @@ fn bound_inside(best: &mut Best, bound: &Option<Numeral>)
     ensures { best.new.fault ≡ least_from best.old.fault (faults.bound_faults bound.now) }
 {
     if let Some(bound) = bound {
-        best.note_above(MOST_LABEL, *bound);
+        best.note_above(GREATEST_WORD, *bound);
     }
 }
 

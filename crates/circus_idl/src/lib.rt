@@ -3,7 +3,7 @@
 //! `interface` has an interface and its parts, and `idl_fault` what can be wrong with the text of one. `read`
 //! reads one: `check` goes over its tree, `draft` makes the interface from it, `declared` and `scope` keep what
 //! is declared before a place, `inside` finds the faults of a type, `measure` its size and `written` its shape;
-//! `types` and `names` are the tables for that, and `fault` the least fault so far. `show` writes an interface,
+//! `types` and `names` are the tables for that, `limits` has the limits, and `fault` the least fault so far. `show` writes an interface,
 //! token by token in `writer`, with the names of errors in `error_names`. `laws` has what holds of every text
 //! that is shown.
 #![tactic(auto)]
@@ -17,6 +17,7 @@ mod idl_fault;
 mod inside;
 mod interface;
 mod laws;
+mod limits;
 mod measure;
 mod names;
 mod read;

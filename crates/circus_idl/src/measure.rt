@@ -6,17 +6,18 @@ ghost use Rattle.circus_idl.specs.Meaning as meant;
 ghost use Rattle.circus_idl.specs.Measured as size;
 ghost use Rattle.circus_idl.specs.Known.{type_measure};
 
+use crate::limits::{GREATEST_WORD, MOST_PARTS, MOST_ZERO_BYTES};
 use crate::types::Types;
-use circus_syntax::{ArmText, GroupText, Numeral, TypeKind, TypeText};
+use circus_syntax::{ArmText, GroupText, MOST_LEVELS, Numeral, TypeKind, TypeText};
 
-/// The size of a type.
+/// The size of a type, each number up to one above its limit.
 #[derive(Clone, Copy, Debug, PartialEq, Eq)]
 pub struct Measure {
-    /// Its types, fields, labels and arms, at most 16,385.
+    /// Its types, fields, labels and arms.
     pub parts: u32,
-    /// Its levels, at most 65.
+    /// Its levels.
     pub levels: u32,
-    /// The bytes of its zero value in external form, at most 65,537.
+    /// The bytes of its zero value in external form.
     pub zeros: u32,
 }
 
@@ -25,9 +26,9 @@ impl Measure {
         ensures { result ≡ size.measure parts levels zeros }
     {
         Measure {
-            parts: parts.min(16_385) as u32,
-            levels: levels.min(65) as u32,
-            zeros: zeros.min(65_537) as u32,
+            parts: parts.min(u64::from(MOST_PARTS + 1)) as u32,
+            levels: levels.min(u64::from(MOST_LEVELS + 1)) as u32,
+            zeros: zeros.min(u64::from(MOST_ZERO_BYTES + 1)) as u32,
         }
     }
 
@@ -108,7 +109,7 @@ impl Measure {
 pub fn word(number: Numeral) -> u16
     ensures { result ≡ meant.word_of number }
 {
-    number.value.min(65_535) as u16
+    number.value.min(GREATEST_WORD) as u16
 }
 
 /// The size of a type.

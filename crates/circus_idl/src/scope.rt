@@ -12,10 +12,11 @@ ghost use Rattle.circus_idl.specs.Faults as whole;
 
 use crate::fault::{Best, Cause};
 use crate::inside::{field_names, inside, inside_groups};
+use crate::limits::{MOST_PARTS, MOST_ZERO_BYTES};
 use crate::measure::{Measure, measured, measured_groups};
 use crate::names::{Names, Numbers};
 use crate::types::Types;
-use circus_syntax::{FieldsText, GroupText, Named, Nameds, TypeText};
+use circus_syntax::{FieldsText, GroupText, MOST_LEVELS, Named, Nameds, TypeText};
 use circus_value::NoMemory;
 use std::alloc::Global;
 
@@ -33,7 +34,7 @@ pub struct Scope<'a> {
     pub errors: Names<'a>,
     pub error_numbers: Numbers,
     pub procedure_numbers: Numbers,
-    /// The parts of the types so far, at most 16,385.
+    /// The parts of the types so far, at most one more than there may be.
     pub parts: u32,
 }
 
@@ -62,14 +63,16 @@ fn more_parts(parts: u32, count: usize, size: Measure) -> u32
     ensures { result ≡ whole.more_parts parts count size }
 {
     let more = (count as u64).saturating_mul(u64::from(size.parts));
-    u64::from(parts).saturating_add(more).min(16_385) as u32
+    u64::from(parts)
+        .saturating_add(more)
+        .min(u64::from(MOST_PARTS + 1)) as u32
 }
 
 // Whether a type of this size, with which there are so many parts, passes a limit.
 fn is_over(parts: u32, size: Measure) -> bool
     ensures { result ≡ whole.is_over parts size }
 {
-    size.zeros > 65_536 || size.levels > 64 || parts > 16_384
+    size.zeros > MOST_ZERO_BYTES || size.levels > u32::from(MOST_LEVELS) || parts > MOST_PARTS
 }
 
 impl<'a> Scope<'a> {
@@ -128,8 +131,7 @@ impl<'a> Scope<'a> {
             let clean = are_clean(self.alloc, &self.types, groups)?;
             let tested = clean && self.list != Some(fields.at);
             let zeros = measured_groups(&self.types, groups).zeros;
-            self.best
-                .note(tested && zeros > 65_536, name.at, Cause::TooLarge);
+            self.best.note(tested && zeros > MOST_ZERO_BYTES, name.at, Cause::TooLarge);
         }
         Ok(())
     }
