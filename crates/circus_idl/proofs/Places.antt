@@ -7,8 +7,8 @@ use Rattle.circus_text.specs.Token.{Lexeme, IsSpelling, AreSpelled}
 use Rattle.circus_text.proofs.Numbers.{decimal_spelling}
 use Rattle.circus_syntax.specs.declared.named.Named.{Named}
 use Rattle.circus_syntax.specs.declared.named.Numeral.{Numeral}
-use Rattle.circus_syntax.specs.Placed.{Placed, Due, due, due_at, due_name, due_number, opened, IsDue, AreDue}
-use Rattle.circus_idl.specs.Lexemes.{word, number}
+use Rattle.circus_syntax.specs.Placed.{word, Placed, Due, due, due_at, due_name, due_number, opened, IsDue, AreDue}
+use Rattle.circus_idl.specs.Lexemes.{number}
 use Rattle.circus_idl.specs.Obeys.{IsName}
 
 -- the first of the places, and those behind it

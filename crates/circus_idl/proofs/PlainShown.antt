@@ -14,7 +14,7 @@ use Rattle.circus_idl.specs.declared.interface.DeclaredType.{DeclaredType}
 use Rattle.circus_idl.specs.declared.interface.DeclaredError.{DeclaredError}
 use Rattle.circus_idl.specs.declared.interface.Procedure.{Procedure}
 use Rattle.circus_idl.specs.declared.interface.Interface.{Interface}
-use Rattle.circus_idl.specs.Lexemes.{word, sign}
+use Rattle.circus_syntax.specs.Placed.{word, sign}
 use Rattle.circus_idl.specs.Shown.{label_lexemes, labels_lexemes, later_labels, type_lexemes, fields_inside, later_fields, arms_inside, later_arms, fields_lexemes, optional_fields, results_lexemes, later_names, reports_lexemes, number_lexemes, head_lexemes, declared_type, declared_error, declared_procedure, signature_lexemes, declared_lexemes, lexemes}
 use Rattle.circus_idl.specs.Obeys.{IsName, ObeysInside, ObeyFields, ObeyArmTypes, Obeys, field_names, arm_names, arm_numbers}
 use Rattle.circus_idl.proofs.Places.{here, next, past, named_at, numeral_at, AreShown, none, shown_then, level_shown, name_then, number_then, fixed_then, first_then, a_word, a_sign}

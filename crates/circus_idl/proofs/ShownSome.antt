@@ -3,7 +3,8 @@ use Rattle.std.proofs.Common.{◌≡◌, ℕ, ◌+◌, ◌<◌, drop, get_or, Li
 use Rattle.std.specs.Prelude.{codes, OnOk}
 use Rattle.circus_value.specs.ShapeTree.{FieldTree}
 use Rattle.circus_idl.specs.declared.interface.DeclaredError.{DeclaredError}
-use Rattle.circus_idl.specs.Lexemes.{word, led}
+use Rattle.circus_syntax.specs.Placed.{word}
+use Rattle.circus_idl.specs.Lexemes.{led}
 use Rattle.circus_idl.specs.Shown.{results_lexemes, fields_lexemes, reports_lexemes, names_lexemes}
 use Rattle.circus_text.specs.Token.{Lexeme, spaced}
 use Rattle.std.proofs.lemmas.Grind.{flat_map-append}

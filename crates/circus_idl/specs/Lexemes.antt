@@ -5,14 +5,6 @@ use Rattle.std.specs.List.{flat_map}
 use Rattle.circus_text.specs.declared.token.TokenKind.TheVariants as kind
 use Rattle.circus_text.specs.Token.{Lexeme}
 
--- a word by its bytes
-abbrev pub word : List ℕ → Lexeme
-word bytes = record { kind = kind.Word; bytes = bytes }
-
--- a sign by its bytes
-abbrev pub sign : List ℕ → Lexeme
-sign bytes = record { kind = kind.Sign; bytes = bytes }
-
 -- a number, without leading zeros
 abbrev pub number : ℕ → Lexeme
 number n = record { kind = kind.Number; bytes = decimal n }

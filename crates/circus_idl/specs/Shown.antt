@@ -2,6 +2,7 @@
 use Rattle.std.specs.Prelude.{ℕ, Bool, ◌==◌, List, [], ◌∷◌, ◌++◌, cond, codes}
 use Rattle.std.specs.List.{flat_map}
 use Rattle.circus_text.specs.Token.{Lexeme}
+use Rattle.circus_syntax.specs.Placed.{word, sign}
 use Rattle.circus_value.specs.declared.shape.Label.{Label}
 use Rattle.circus_value.specs.ShapeTree.{ShapeTree, FieldTrees, ArmTrees, FieldTree, ArmTree, field_trees, arm_trees, boolean, cardinal, long_cardinal, integer, long_integer, text, enumeration, array, sequence, «record», choice, no_fields, more_fields, no_arms, more_arms}
 use Rattle.circus_value.specs.ShapeOf.{tree_of}
@@ -9,7 +10,7 @@ use Rattle.circus_idl.specs.declared.interface.DeclaredType.{DeclaredType}
 use Rattle.circus_idl.specs.declared.interface.DeclaredError.{DeclaredError}
 use Rattle.circus_idl.specs.declared.interface.Procedure.{Procedure}
 use Rattle.circus_idl.specs.declared.interface.Interface.{Interface}
-use Rattle.circus_idl.specs.Lexemes.{word, sign, number}
+use Rattle.circus_idl.specs.Lexemes.{number}
 
 -- what stands between brackets of this kind
 abbrev pub enclosed : List ℕ → List Lexeme → List ℕ → List Lexeme

@@ -3,7 +3,7 @@ ghost use Rattle.std.specs.Prelude.{◌≡◌, List, [], ◌∷◌, ◌++◌, On
 ghost use Rattle.std.specs.List.{flat_map};
 ghost use Rattle.circus_value.specs.ShapeOf.{tree_of, field_of, arm_of};
 ghost use Rattle.circus_value.specs.ShapeTree.{enumeration, field_trees, arm_trees};
-ghost use Rattle.circus_idl.specs.Lexemes.{led, word};
+ghost use Rattle.circus_idl.specs.Lexemes.{led};
 ghost use Rattle.circus_idl.specs.Lexemes as lexeme;
 ghost use Rattle.circus_idl.specs.Shown as shown;
 
