@@ -17,6 +17,7 @@ use Rattle.circus_idl.specs.Faults.{cut_of, interface_faults}
 use Rattle.circus_idl.specs.Means.{Means}
 use Rattle.circus_idl.specs.Obeys.{Obeys}
 use Rattle.circus_idl.specs.Shown.{lexemes}
+use Rattle.circus_idl.specs.ReadAgain.{IsReadAs}
 use Rattle.circus_idl.proofs.Places.{placed, lexeme_in, placed_is, are_due, are_spelled}
 use Rattle.circus_idl.proofs.ObeysParts.{parts_obey}
 use Rattle.circus_idl.proofs.PlainDeclared.{interface_at}
@@ -42,6 +43,10 @@ placed_lexemes text (t ∷ ts) = ap (λ ls. lexeme_of text t ∷ ls) (placed_lex
 placed_at : (ts : List Placed) (ls : List Lexeme) → map lexeme_in ts ≡ ls → ts ≡ placed ls (map (λ (t : Placed). t.start) ts)
 placed_at ts ls same = placed_is ts ∙ ap (λ ms. placed ms (map (λ (t : Placed). t.start) ts)) same
 
+-- the lexemes may stand in a text
+shown_spelled : (i : Interface) → Obeys i → AreSpelled (lexemes i)
+shown_spelled i obeys = are_spelled (interface_shown i [] obeys (parts_obey i obeys))
+
 pub shown_again : (i : Interface) (found : List Token) → Obeys i → AreTokensOf (spaced (lexemes i)) found
     → (tree : InterfaceTree) × IsInterface (placed_from (spaced (lexemes i)) found 0) tree × IsWithin most_levels tree
     × (interface_faults (cut_of None) tree ≡ [])
@@ -61,6 +66,13 @@ shown_again i found obeys are =
       means,
       λ j other. one_meant tree i j means other,
     )
+
+-- the text has tokens, and they are the interface again
+pub shown_read : (i : Interface) → Obeys i → IsReadAs (spaced (lexemes i)) i
+shown_read i obeys =
+    let (found, are, shown) = spaced_read (lexemes i) (shown_spelled i obeys) in
+    let (tree, spelled, within, clean, means, only) = shown_again i found obeys are in
+    record { found = found; tokens = are; shown = shown; tree = tree; spelled = spelled; within = within; faultless = clean; means = means; only = only }
 
 -- what is read from these tokens is the interface, and nothing is left
 pub shown_whole : (i j : Interface) (found : List Token) (own rest : List Placed) (tree : InterfaceTree) → Obeys i → AreTokensOf (spaced (lexemes i)) found

@@ -15,4 +15,5 @@ pub mod Answer
 pub mod ReadAt
 pub mod Lexemes
 pub mod Shown
+pub mod ReadAgain
 pub mod Seen

@@ -10,7 +10,13 @@ ghost use Rattle.circus_idl.specs.declared.interface.Interface.{Interface};
 ghost use Rattle.circus_idl.specs.Faults.{cut_of, interface_faults};
 ghost use Rattle.circus_idl.specs.Means.{Means};
 ghost use Rattle.circus_idl.specs.Obeys.{Obeys};
+ghost use Rattle.circus_idl.specs.ReadAgain.{IsReadAs};
 ghost use Rattle.circus_idl.specs.Shown.{lexemes};
+
+/// The text of an interface that obeys the rules has tokens, which are that interface and no other.
+pub fn shown_has_tokens()
+    ensures { (i : Interface) → Obeys i → IsReadAs (spaced (lexemes i)) i }
+{}
 
 /// The tokens of an interface's text are that interface again: they break no rule, and mean it and no other.
 pub fn shown_is_read()

@@ -1,12 +1,22 @@
-use Rattle.std.proofs.Common.{ap, ◌++◌, ◌∙◌}
+use Rattle.std.proofs.Common.{◌≡◌, ◌++◌, ◌∙◌, ap, sym, subst}
 use Rattle.std.specs.Prelude.{codes}
+use Rattle.circus_text.specs.Token.{spaced}
 use Rattle.circus_idl.specs.Lexemes.{led}
-use Rattle.circus_idl.specs.Shown.{heading, declared_lexemes}
+use Rattle.circus_idl.specs.ReadAgain.{IsReadAs}
+use Rattle.circus_idl.specs.Shown.{heading, declared_lexemes, lexemes}
+use Rattle.circus_idl.proofs.ShownAgain.{shown_read}
 use Rattle.circus_idl.proofs.ShownSome.{spaced_led, whole}
 use Rattle.circus_idl.proofs.show.show_interface.Goals as goal
+use Rattle.circus_idl.proofs.show.show_interface.Goals.{After-text}
 
-pub returns : goal.returns
-returns c =
+is_spaced : (c : After-text) → c.text.result ≡ spaced (lexemes c.args.interface.now)
+is_spaced c =
     let i = c.args.interface.now in
     rw spaced_led
     (c.text.ensures ∙ c.in_ok-words.ensures ∙ ap (λ w. w ++ codes " END .") (c.in_ok-declared.ensures ∙ ap (λ w. w ++ led (declared_lexemes i)) (c.in_ok-heading.ensures ∙ ap (λ w. w ++ led (heading i)) c.in_ok-writer.ensures)) ∙ whole i.name (heading i) (declared_lexemes i) _)
+
+pub returns-clause-text : goal.returns-clause-text
+returns-clause-text = is_spaced
+
+pub returns-clause-again : goal.returns-clause-again
+returns-clause-again c = λ obeys. subst (λ t. IsReadAs t c.args.interface.now) (sym (is_spaced c)) (shown_read c.args.interface.now obeys)
