@@ -6,11 +6,13 @@ use Rattle.circus_syntax.proofs.Tokens.{bytes_eq-refl}
 use Rattle.circus_value.specs.ShapeTree.{ShapeTree}
 use Rattle.circus_value.specs.ShapeOf.{tree_of}
 use Rattle.circus_idl.specs.declared.fault.Fault.{Fault}
+use Rattle.circus_idl.specs.declared.measure.Measure.{Measure}
 use Rattle.circus_idl.specs.declared.interface.DeclaredType.{DeclaredType}
-use Rattle.circus_idl.specs.Known.{standing_for}
+use Rattle.circus_idl.specs.Meaning.{standing_for}
 use Rattle.circus_idl.specs.Means.{named_shape, Meant, and_then, declared_meant, declarations_meant, forms_behind, errors_behind}
 use Rattle.circus_idl.specs.Least.{least_from}
 use Rattle.circus_idl.specs.Faults.{Before, behind}
+use Rattle.circus_idl.specs.Seen.Measured.{cut_off}
 use Rattle.circus_syntax.specs.InterfaceTree.{DeclaredTree, a_type, an_error, a_procedure}
 use Rattle.circus_idl.proofs.ScopeMore.{kept_is_some}
 use Rattle.std.proofs.Common.{is_none, append_assoc}
@@ -53,16 +55,16 @@ and_then_assoc m o p = λ i. record {
   procedures = append_assoc m.procedures o.procedures p.procedures i;
 }
 
-pub behind_errors : (before : Before) (d : DeclaredTree) → (behind before d).errors ≡ errors_behind before.errors d
+pub behind_errors : (before : Before Measure) (d : DeclaredTree) → (behind cut_off before d).errors ≡ errors_behind before.errors d
 behind_errors before (a_type name t) = refl
 behind_errors before (an_error e) = refl
 behind_errors before (a_procedure p) = refl
 
 -- what the declarations behind this one mean
-pub meant_step : (form form' : List ℕ → ShapeTree) (before before' : Before) (d : DeclaredTree) (ds : List DeclaredTree) (old new whole : Meant) → form' ≡ forms_behind form d → before' ≡ behind before d → new ≡ and_then old (declared_meant form before.errors d) → and_then old (declarations_meant form before.errors (d ∷ ds)) ≡ whole → and_then new (declarations_meant form' before'.errors ds) ≡ whole
+pub meant_step : (form form' : List ℕ → ShapeTree) (before before' : Before Measure) (d : DeclaredTree) (ds : List DeclaredTree) (old new whole : Meant) → form' ≡ forms_behind form d → before' ≡ behind cut_off before d → new ≡ and_then old (declared_meant form before.errors d) → and_then old (declarations_meant form before.errors (d ∷ ds)) ≡ whole → and_then new (declarations_meant form' before'.errors ds) ≡ whole
 meant_step form form' before before' d ds old new whole formed behind_is one rest =
     ap (λ f. and_then new (declarations_meant f before'.errors ds)) formed
-    ∙ ap (λ e. and_then new (declarations_meant (forms_behind form d) e ds)) (ap (λ (b : Before). b.errors) behind_is ∙ behind_errors before d)
+    ∙ ap (λ e. and_then new (declarations_meant (forms_behind form d) e ds)) (ap (λ (b : Before Measure). b.errors) behind_is ∙ behind_errors before d)
     ∙ ap (λ m. and_then m (declarations_meant (forms_behind form d) (errors_behind before.errors d) ds)) one
     ∙ and_then_assoc old (declared_meant form before.errors d) (declarations_meant (forms_behind form d) (errors_behind before.errors d) ds)
     ∙ rest

@@ -5,7 +5,7 @@ use Rattle.std.specs.List.{AllByRecursion}
 use Rattle.circus_idl.specs.declared.interface.DeclaredError.{DeclaredError}
 use Rattle.circus_idl.specs.Distinct.{AreDistinct}
 use Rattle.circus_idl.specs.Shown.{error_name}
-use Rattle.circus_idl.specs.Known.{standing_for}
+use Rattle.circus_idl.specs.Meaning.{standing_for}
 use Rattle.circus_idl.proofs.DraftMore.{standing_here}
 use Rattle.circus_idl.proofs.PlainRules.{bytes_differ}
 use Rattle.circus_idl.proofs.ObeysParts.{AreReports, error_names, error_numbers, ErrorObeys, found_error}

@@ -11,17 +11,19 @@ mod ScopeMore
 mod DraftMore
 mod Items
 mod Sizes
+mod CutOff
 mod NoFaults
 mod InsideObeys
 mod WholeObeys
 mod Obeying
+mod FoundWhole
 mod LeastIs
 mod RuleFaults
 mod ReadIs
 mod Places
 mod PlainTypes
 mod PlainRules
-mod PlainSizes
+mod PlainWritten
 pub mod ObeysParts
 mod PlainDeclared
 mod ErrorsFound

@@ -1,5 +1,5 @@
 -- An interface whose tree has no fault obeys the rules.
-use Rattle.std.proofs.Common.{◌≡◌, ℕ, ◌+◌, ◌≤◌, Bool, true, false, cond, List, [], ◌∷◌, ◌++◌, map, refl, sym, ◌∙◌, ap, subst, arith, append_assoc, Option, Some, None, min, unwrap_or, is_none, bytes_eq}
+use Rattle.std.proofs.Common.{◌≡◌, ℕ, ◌+◌, ◌≤◌, Bool, true, false, cond, List, [], ◌∷◌, ◌++◌, map, refl, sym, ap, subst, arith, append_assoc, Option, Some, None, min, unwrap_or, is_none, bytes_eq}
 use Rattle.std.specs.Prelude.{Contains, ◌||◌}
 use Rattle.std.specs.List.{AllByRecursion, flat_map}
 use Rattle.std.proofs.lemmas.List.Sums.{sum_by-append, sum_by-cons}
@@ -18,10 +18,9 @@ use Rattle.circus_idl.specs.declared.interface.DeclaredError.{DeclaredError}
 use Rattle.circus_idl.specs.declared.interface.Procedure.{Procedure}
 use Rattle.circus_idl.specs.declared.interface.Interface.{Interface}
 use Rattle.circus_idl.specs.Written.{parts}
-use Rattle.circus_idl.specs.Measured.{measure_of, measured}
+use Rattle.circus_idl.specs.Scale.{written_out}
 use Rattle.circus_idl.specs.Meaning.{word_of, written}
-use Rattle.circus_idl.specs.Means.{NamedShape, named_shape, Meant, and_then, fields_meant, numbers_meant, reports_meant, declared_meant, forms_behind, errors_behind, declarations_meant, meant_of, Means}
-use Rattle.circus_idl.specs.Known.{standing_for}
+use Rattle.circus_idl.specs.Means.{NamedShape, named_shape, Meant, and_then, fields_meant, numbers_meant, reports_meant, declared_meant, errors_behind, declarations_meant, meant_of, Means}
 use Rattle.circus_idl.specs.Inside.{also_name, also_number, repeated_name, repeated_number, above}
 use Rattle.circus_idl.specs.Faults.{Before, nothing, cut_of, whole_faults, fields_faults, fields_parts, together_faults, unknown_errors, reports_faults, declared_faults, behind, declarations_faults, interface_faults}
 use Rattle.circus_idl.specs.Distinct.{AreDistinct}
@@ -30,7 +29,7 @@ use Rattle.circus_idl.specs.Obeys as rule
 use Rattle.circus_idl.specs.Obeys.{ObeysInside, ObeysWhole, ObeysError, ObeysProcedure, Obeys}
 use Rattle.circus_idl.proofs.Items.{none_in, all_appended, all_with, distinct_with, contains_first, contains_later}
 use Rattle.circus_idl.proofs.NoFaults.{no_fault, names_apart, numbers_apart, within, word_is}
-use Rattle.circus_idl.proofs.WholeObeys.{uncut, AreWhole, size_is, whole_obeys, fields_whole, together_small}
+use Rattle.circus_idl.proofs.WholeObeys.{uncut, AreWhole, whole_obeys, fields_whole, together_small}
 
 -- names that stand before nothing yet, and no two of which are equal
 record AreNew (earlier : List ℕ → Bool) (names : List (List ℕ)) : Type 0 where
@@ -79,7 +78,7 @@ abbrev error_numbers : List DeclaredError → List ℕ
 error_numbers errors = map (λ (e : DeclaredError). e.number) errors
 
 -- what is declared obeys the rules behind what is declared before, where these are all errors
-record Follows (all : List DeclaredError) (before : Before) (m : Meant) : Type 0 where
+record Follows (all : List DeclaredError) (before : Before ShapeTree) (m : Meant) : Type 0 where
   names : AreNew before.names (type_names m ++ error_names m ++ procedure_names m)
   types : AllByRecursion ObeysWhole (type_shapes m)
   error_types : AllByRecursion ObeysWhole (error_shapes m)
@@ -91,9 +90,8 @@ record Follows (all : List DeclaredError) (before : Before) (m : Meant) : Type 0
   procedure_numbers : AreNewNumbers before.procedure_numbers (map (λ (p : Procedure). p.number) m.procedures)
 
 -- what is known of the names that are declared before, where these are all errors
-record Linked (all : List DeclaredError) (before : Before) (form : List ℕ → ShapeTree) : Type 0 where
-  sized : before.sizes ≡ (λ n. measure_of (form n))
-  known : (n : List ℕ) → before.types n ≡ true → ObeysInside (form n)
+record Linked (all : List DeclaredError) (before : Before ShapeTree) : Type 0 where
+  known : (n : List ℕ) → before.types n ≡ true → ObeysInside (before.sizes n)
   reported : (n : List ℕ) (k : ℕ) → before.errors n ≡ Some k → Contains (error_numbers all) (min k 65535)
   few : before.parts ≤ 16384
 
@@ -101,42 +99,32 @@ record Linked (all : List DeclaredError) (before : Before) (form : List ℕ → 
 Declares : List DeclaredError → List DeclaredError → Type 0
 Declares all errors = (k : ℕ) → Contains (error_numbers errors) k → Contains (error_numbers all) k
 
-module _ (all : List DeclaredError) (before : Before) (form : List ℕ → ShapeTree) (linked : Linked all before form) where
+module _ (all : List DeclaredError) (before : Before ShapeTree) (linked : Linked all before) where
   -- A type.
 
-  type_linked : (name : Named) (t : TypeTree) → IsType t → whole_faults uncut before.types before.sizes before.parts 1 t ≡ [] → Linked all (behind before (a_type name t)) (forms_behind form (a_type name t))
+  type_linked : (name : Named) (t : TypeTree) → IsType t → whole_faults written_out uncut before.types before.sizes before.parts 1 t ≡ [] → Linked all (behind written_out before (a_type name t))
   type_linked name t good clean =
-      let (none, obeys, counted, few) = whole_obeys before.types before.sizes form linked.sized linked.known before.parts 1 t good clean in
+      let (none, obeys, few) = whole_obeys before.types before.sizes linked.known before.parts 1 t good clean in
       record {
-        sized = λ i n. (sized n) i;
         known = λ n is. known obeys n (bytes_eq name.name n) is;
         reported = linked.reported;
-        few = omega (arith, counted, few);
+        few = omega (arith, few);
       }
     where
-      pulled : (b : Bool) (s u : ShapeTree) → cond b (measure_of s) (measure_of u) ≡ measure_of (cond b s u)
-      pulled true s u = refl
-      pulled false s u = refl
-
-      sized : (n : List ℕ) → standing_for name.name (measured before.sizes t) before.sizes n ≡ measure_of (standing_for name.name (written form t) form n)
-      sized n =
-          (λ i. cond (bytes_eq name.name n) (size_is before.types before.sizes form linked.sized linked.known t i) (linked.sized i n))
-          ∙ pulled (bytes_eq name.name n) (written form t) (form n)
-
-      known : ObeysWhole (written form t) → (n : List ℕ) (b : Bool) → (b || before.types n) ≡ true → ObeysInside (cond b (written form t) (form n))
+      known : ObeysWhole (written before.sizes t) → (n : List ℕ) (b : Bool) → (b || before.types n) ≡ true → ObeysInside (cond b (written before.sizes t) (before.sizes n))
       known obeys n true is = obeys.inside
       known obeys n false is = linked.known n is
 
-  type_follows : (name : Named) (t : TypeTree) (m : Meant) → IsName name → IsType t → declared_faults uncut before (a_type name t) ≡ [] → Follows all (behind before (a_type name t)) m → Follows all before (and_then (declared_meant form before.errors (a_type name t)) m)
+  type_follows : (name : Named) (t : TypeTree) (m : Meant) → IsName name → IsType t → declared_faults written_out uncut before (a_type name t) ≡ [] → Follows all (behind written_out before (a_type name t)) m → Follows all before (and_then (declared_meant before.sizes before.errors (a_type name t)) m)
   type_follows name t m named good clean rest =
       let (repeated, whole) = none_in (repeated_name before.names name) _ clean in
-      let (none, obeys, counted, few) = whole_obeys before.types before.sizes form linked.sized linked.known before.parts 1 t good whole in
+      let (none, obeys, few) = whole_obeys before.types before.sizes linked.known before.parts 1 t good whole in
       record {
         names = one_more before.names [] name (type_names m ++ error_names m ++ procedure_names m) named repeated rest.names;
         types = (obeys, rest.types);
         error_types = rest.error_types;
         procedure_types = rest.procedure_types;
-        few = omega (arith, rest.few, counted, sum_by-cons parts (written form t) (type_shapes m));
+        few = omega (arith, rest.few, sum_by-cons parts (written before.sizes t) (type_shapes m));
         errors = rest.errors;
         error_numbers = rest.error_numbers;
         procedures = rest.procedures;
@@ -145,19 +133,18 @@ module _ (all : List DeclaredError) (before : Before) (form : List ℕ → Shape
 
   -- An error.
 
-  error_fields : (e : ErrorText) → IsDeclared (an_error e) → declared_faults uncut before (an_error e) ≡ []
-      → (repeated_name before.names e.name ≡ []) × rule.ObeyFieldList (fields_meant form e.arguments) × AreWhole before.parts (fields_parts before.sizes before.parts e.arguments) (fields_meant form e.arguments)
+  error_fields : (e : ErrorText) → IsDeclared (an_error e) → declared_faults written_out uncut before (an_error e) ≡ []
+      → (repeated_name before.names e.name ≡ []) × rule.ObeyFieldList (fields_meant before.sizes e.arguments) × AreWhole before.parts (fields_parts written_out before.sizes before.parts e.arguments) (fields_meant before.sizes e.arguments)
       × (before.error_numbers e.number.value ≡ false) × (e.number.value ≤ 59999)
   error_fields e good clean =
-      let (first, high) = none_in (repeated_name before.names e.name ++ fields_faults uncut before.types before.sizes before.parts e.arguments ++ repeated_number before.error_numbers e.number) (above 59999 e.number) clean in
-      let (two, number) = none_in (repeated_name before.names e.name ++ fields_faults uncut before.types before.sizes before.parts e.arguments) (repeated_number before.error_numbers e.number) first in
-      let (name, fields) = none_in (repeated_name before.names e.name) (fields_faults uncut before.types before.sizes before.parts e.arguments) two in
-      let (names, whole) = fields_whole before.types before.sizes form linked.sized linked.known before.parts e.arguments linked.few good.1 fields in
+      let (first, high) = none_in (repeated_name before.names e.name ++ fields_faults written_out uncut before.types before.sizes before.parts e.arguments ++ repeated_number before.error_numbers e.number) (above 59999 e.number) clean in
+      let (two, number) = none_in (repeated_name before.names e.name ++ fields_faults written_out uncut before.types before.sizes before.parts e.arguments) (repeated_number before.error_numbers e.number) first in
+      let (name, fields) = none_in (repeated_name before.names e.name) (fields_faults written_out uncut before.types before.sizes before.parts e.arguments) two in
+      let (names, whole) = fields_whole before.types before.sizes linked.known before.parts e.arguments linked.few good.1 fields in
       (name, names, whole, no_fault _ _ _ number, within 59999 e.number high)
 
-  error_linked : (e : ErrorText) → Contains (error_numbers all) (word_of e.number) → fields_parts before.sizes before.parts e.arguments ≤ 16384 → Linked all (behind before (an_error e)) form
+  error_linked : (e : ErrorText) → Contains (error_numbers all) (word_of e.number) → fields_parts written_out before.sizes before.parts e.arguments ≤ 16384 → Linked all (behind written_out before (an_error e))
   error_linked e there few = record {
-    sized = linked.sized;
     known = linked.known;
     reported = λ n k. reported n k (bytes_eq e.name.name n);
     few = few;
@@ -167,10 +154,10 @@ module _ (all : List DeclaredError) (before : Before) (form : List ℕ → Shape
       reported n k true is = let same : e.number.value ≡ k = cc in subst (λ v. Contains (error_numbers all) (min v 65535)) same there
       reported n k false is = linked.reported n k is
 
-  error_follows : (e : ErrorText) (m : Meant) → IsDeclared (an_error e) → declared_faults uncut before (an_error e) ≡ [] → Follows all (behind before (an_error e)) m → Follows all before (and_then (declared_meant form before.errors (an_error e)) m)
+  error_follows : (e : ErrorText) (m : Meant) → IsDeclared (an_error e) → declared_faults written_out uncut before (an_error e) ≡ [] → Follows all (behind written_out before (an_error e)) m → Follows all before (and_then (declared_meant before.sizes before.errors (an_error e)) m)
   error_follows e m good clean rest =
       let (name, names, whole, number, small) = error_fields e good clean in
-      let own = shapes_of (fields_meant form e.arguments) in
+      let own = shapes_of (fields_meant before.sizes e.arguments) in
       record {
         names =
             subst (AreNew before.names) (sym (append_assoc (type_names m) (e.name.name ∷ error_names m) (procedure_names m)))
@@ -207,22 +194,22 @@ module _ (all : List DeclaredError) (before : Before) (form : List ℕ → Shape
   -- what a procedure without a fault is
   record IsClean (p : ProcedureText) : Type 0 where
     name : repeated_name before.names p.name ≡ []
-    arguments : rule.ObeyFieldList (fields_meant form p.arguments)
-    whole_arguments : AreWhole before.parts (fields_parts before.sizes before.parts p.arguments) (fields_meant form p.arguments)
-    results : rule.ObeyFieldList (fields_meant form p.results)
-    whole_results : AreWhole (fields_parts before.sizes before.parts p.arguments) (fields_parts before.sizes (fields_parts before.sizes before.parts p.arguments) p.results) (fields_meant form p.results)
-    small : zero_size_of (fields_meant form p.arguments) ≤ 65536
+    arguments : rule.ObeyFieldList (fields_meant before.sizes p.arguments)
+    whole_arguments : AreWhole before.parts (fields_parts written_out before.sizes before.parts p.arguments) (fields_meant before.sizes p.arguments)
+    results : rule.ObeyFieldList (fields_meant before.sizes p.results)
+    whole_results : AreWhole (fields_parts written_out before.sizes before.parts p.arguments) (fields_parts written_out before.sizes (fields_parts written_out before.sizes before.parts p.arguments) p.results) (fields_meant before.sizes p.results)
+    small : zero_size_of (fields_meant before.sizes p.arguments) ≤ 65536
     reports : AllByRecursion (Contains (error_numbers all)) (reports_meant before.errors p.reports)
     number : before.procedure_numbers p.number.value ≡ false
     in_range : p.number.value ≤ 65535
 
-  procedure_clean : (p : ProcedureText) → IsDeclared (a_procedure p) → declared_faults uncut before (a_procedure p) ≡ [] → IsClean p
+  procedure_clean : (p : ProcedureText) → IsDeclared (a_procedure p) → declared_faults written_out uncut before (a_procedure p) ≡ [] → IsClean p
   procedure_clean p good clean =
-      let parts = fields_parts before.sizes before.parts p.arguments in
+      let parts = fields_parts written_out before.sizes before.parts p.arguments in
       let name = repeated_name before.names p.name in
-      let together = together_faults uncut before.types before.sizes p.name p.arguments in
-      let arguments = fields_faults uncut before.types before.sizes before.parts p.arguments in
-      let results = fields_faults uncut before.types before.sizes parts p.results in
+      let together = together_faults written_out uncut before.types before.sizes p.name p.arguments in
+      let arguments = fields_faults written_out uncut before.types before.sizes before.parts p.arguments in
+      let results = fields_faults written_out uncut before.types before.sizes parts p.results in
       let reports = reports_faults before.errors p.reports in
       let number = repeated_number before.procedure_numbers p.number in
       let (six, high) = none_in (name ++ together ++ arguments ++ results ++ reports ++ number) (above 65535 p.number) clean in
@@ -231,27 +218,27 @@ module _ (all : List DeclaredError) (before : Before) (form : List ℕ → Shape
       let (three, no_results) = none_in (name ++ together ++ arguments) results four in
       let (two, no_arguments) = none_in (name ++ together) arguments three in
       let (no_name, no_together) = none_in name together two in
-      let (argument_names, whole_arguments) = fields_whole before.types before.sizes form linked.sized linked.known before.parts p.arguments linked.few good.1 no_arguments in
-      let (result_names, whole_results) = fields_whole before.types before.sizes form linked.sized linked.known parts p.results whole_arguments.few good.2 no_results in
+      let (argument_names, whole_arguments) = fields_whole before.types before.sizes linked.known before.parts p.arguments linked.few good.1 no_arguments in
+      let (result_names, whole_results) = fields_whole before.types before.sizes linked.known parts p.results whole_arguments.few good.2 no_results in
       record {
         name = no_name;
         arguments = argument_names;
         whole_arguments = whole_arguments;
         results = result_names;
         whole_results = whole_results;
-        small = together_small before.types before.sizes form linked.sized linked.known before.parts p.name p.arguments linked.few good.1 no_arguments no_together;
+        small = together_small before.types before.sizes linked.known before.parts p.name p.arguments linked.few good.1 no_arguments no_together;
         reports = reports_obey p.reports no_reports;
         number = no_fault _ _ _ no_number;
         in_range = within 65535 p.number high;
       }
 
-  procedure_linked : (p : ProcedureText) → IsClean p → Linked all (behind before (a_procedure p)) form
-  procedure_linked p clean = record { sized = linked.sized; known = linked.known; reported = linked.reported; few = clean.whole_results.few }
+  procedure_linked : (p : ProcedureText) → IsClean p → Linked all (behind written_out before (a_procedure p))
+  procedure_linked p clean = record { known = linked.known; reported = linked.reported; few = clean.whole_results.few }
 
-  procedure_follows : (p : ProcedureText) (m : Meant) → IsDeclared (a_procedure p) → IsClean p → Follows all (behind before (a_procedure p)) m → Follows all before (and_then (declared_meant form before.errors (a_procedure p)) m)
+  procedure_follows : (p : ProcedureText) (m : Meant) → IsDeclared (a_procedure p) → IsClean p → Follows all (behind written_out before (a_procedure p)) m → Follows all before (and_then (declared_meant before.sizes before.errors (a_procedure p)) m)
   procedure_follows p m good clean rest =
-      let arguments = shapes_of (fields_meant form p.arguments) in
-      let results = shapes_of (fields_meant form p.results) in
+      let arguments = shapes_of (fields_meant before.sizes p.arguments) in
+      let results = shapes_of (fields_meant before.sizes p.results) in
       record {
         names = one_more before.names (type_names m ++ error_names m) p.name (procedure_names m) good.0 clean.name rest.names;
         types = rest.types;
@@ -272,10 +259,10 @@ module _ (all : List DeclaredError) (before : Before) (form : List ℕ → Shape
 
 -- Declarations one behind the other.
 
-follow : (all : List DeclaredError) (before : Before) (form : List ℕ → ShapeTree) (ds : List DeclaredTree) → Linked all before form → IsEach IsDeclared ds → declarations_faults uncut before ds ≡ []
-    → Declares all (declarations_meant form before.errors ds).errors → Follows all before (declarations_meant form before.errors ds)
+follow : (all : List DeclaredError) (before : Before ShapeTree) (ds : List DeclaredTree) → Linked all before → IsEach IsDeclared ds → declarations_faults written_out uncut before ds ≡ []
+    → Declares all (declarations_meant before.sizes before.errors ds).errors → Follows all before (declarations_meant before.sizes before.errors ds)
 unfolding Declares
-follow all before form [] linked good clean declares = record {
+follow all before [] linked good clean declares = record {
   names = record { fresh = tt; distinct = tt; named = tt };
   types = tt;
   error_types = tt;
@@ -286,24 +273,24 @@ follow all before form [] linked good clean declares = record {
   procedures = tt;
   procedure_numbers = record { fresh = tt; distinct = tt };
 }
-follow all before form (a_type name t ∷ ds) linked good clean declares =
-    let (own, rest) = none_in (declared_faults uncut before (a_type name t)) (declarations_faults uncut (behind before (a_type name t)) ds) clean in
-    let (repeated, whole) = none_in (repeated_name before.names name) (whole_faults uncut before.types before.sizes before.parts 1 t) own in
-    type_follows all before form linked name t _ good.0.0 good.0.1 own
-    (follow all (behind before (a_type name t)) (forms_behind form (a_type name t)) ds (type_linked all before form linked name t good.0.1 whole) good.1 rest declares)
-follow all before form (an_error e ∷ ds) linked good clean declares =
-    let (own, rest) = none_in (declared_faults uncut before (an_error e)) (declarations_faults uncut (behind before (an_error e)) ds) clean in
-    let fields = error_fields all before form linked e good.0 own in
-    let others = (declarations_meant form (errors_behind before.errors (an_error e)) ds).errors in
-    error_follows all before form linked e _ good.0 own
-    (follow all (behind before (an_error e)) form ds
-    (error_linked all before form linked e (declares (word_of e.number) (contains_first (word_of e.number) (error_numbers others))) fields.2.few)
+follow all before (a_type name t ∷ ds) linked good clean declares =
+    let (own, rest) = none_in (declared_faults written_out uncut before (a_type name t)) (declarations_faults written_out uncut (behind written_out before (a_type name t)) ds) clean in
+    let (repeated, whole) = none_in (repeated_name before.names name) (whole_faults written_out uncut before.types before.sizes before.parts 1 t) own in
+    type_follows all before linked name t _ good.0.0 good.0.1 own
+    (follow all (behind written_out before (a_type name t)) ds (type_linked all before linked name t good.0.1 whole) good.1 rest declares)
+follow all before (an_error e ∷ ds) linked good clean declares =
+    let (own, rest) = none_in (declared_faults written_out uncut before (an_error e)) (declarations_faults written_out uncut (behind written_out before (an_error e)) ds) clean in
+    let fields = error_fields all before linked e good.0 own in
+    let others = (declarations_meant before.sizes (errors_behind before.errors (an_error e)) ds).errors in
+    error_follows all before linked e _ good.0 own
+    (follow all (behind written_out before (an_error e)) ds
+    (error_linked all before linked e (declares (word_of e.number) (contains_first (word_of e.number) (error_numbers others))) fields.2.few)
     good.1 rest (λ k there. declares k (contains_later (word_of e.number) (error_numbers others) k there)))
-follow all before form (a_procedure p ∷ ds) linked good clean declares =
-    let (own, rest) = none_in (declared_faults uncut before (a_procedure p)) (declarations_faults uncut (behind before (a_procedure p)) ds) clean in
-    let is = procedure_clean all before form linked p good.0 own in
-    procedure_follows all before form linked p _ good.0 is
-    (follow all (behind before (a_procedure p)) form ds (procedure_linked all before form linked p is) good.1 rest declares)
+follow all before (a_procedure p ∷ ds) linked good clean declares =
+    let (own, rest) = none_in (declared_faults written_out uncut before (a_procedure p)) (declarations_faults written_out uncut (behind written_out before (a_procedure p)) ds) clean in
+    let is = procedure_clean all before linked p good.0 own in
+    procedure_follows all before linked p _ good.0 is
+    (follow all (behind written_out before (a_procedure p)) ds (procedure_linked all before linked p is) good.1 rest declares)
 
 -- The interface.
 
@@ -319,10 +306,10 @@ pub meant_obeys : (tree : InterfaceTree) (i : Interface) → IsGrammatical tree 
 unfolding Declares
 meant_obeys tree i good clean means =
     let meant = declarations_meant (λ _. boolean) (λ _. None) tree.declared in
-    let (numbers, rest) = none_in (above 4294967295 tree.number ++ above 65535 tree.version) (declarations_faults uncut nothing tree.declared) clean in
-    let linked : Linked meant.errors nothing (λ _. boolean) = record { sized = refl; known = λ n is. absurd (cc); reported = λ n k is. absurd (cc); few = omega arith } in
-    let follows : Follows i.errors nothing (meant_of i) =
-    subst (λ (m : Meant). Follows m.errors nothing m) (sym means.declared) (follow meant.errors nothing (λ _. boolean) tree.declared linked good.3 rest (λ k there. there)) in
+    let (numbers, rest) = none_in (above 4294967295 tree.number ++ above 65535 tree.version) (declarations_faults written_out uncut (nothing written_out) tree.declared) clean in
+    let linked : Linked meant.errors (nothing written_out) = record { known = λ n is. absurd (cc); reported = λ n k is. absurd (cc); few = omega arith } in
+    let follows : Follows i.errors (nothing written_out) (meant_of i) =
+    subst (λ (m : Meant). Follows m.errors (nothing written_out) m) (sym means.declared) (follow meant.errors (nothing written_out) tree.declared linked good.3 rest (λ k there. there)) in
     let names = ap (λ ns. ns ++ map (λ (e : DeclaredError). e.name) i.errors ++ map (λ (p : Procedure). p.name) i.procedures) (type_names_are i.types) in
     let shapes = type_shapes_are i.types in
     let types : AllByRecursion ObeysWhole (map (λ (t : DeclaredType). tree_of t.shape) i.types) = subst (AllByRecursion ObeysWhole) shapes follows.types in

@@ -15,7 +15,7 @@ use Rattle.circus_idl.specs.Distinct.{AreDistinct}
 use Rattle.circus_idl.specs.Obeys.{Obeys}
 use Rattle.circus_idl.proofs.Places.{next}
 use Rattle.circus_idl.proofs.PlainTypes.{groups_at}
-use Rattle.circus_idl.proofs.PlainSizes.{word_meant, type_written, groups_written}
+use Rattle.circus_idl.proofs.PlainWritten.{word_meant, type_written, groups_written}
 use Rattle.circus_value.proofs.ShapeBack.{fields_in, fields_back, shape_in, shape_back}
 use Rattle.circus_idl.proofs.ObeysParts.{error_names, errors_distinct, TypeObeys, FieldsObey, ErrorObeys, ProcedureObeys, PartsObey, fields_obey}
 use Rattle.circus_idl.proofs.ErrorsFound.{errors_after, IsReported, are_reported}

@@ -1,6 +1,7 @@
 -- Of the rules' faults none is one of reading.
-use Rattle.std.proofs.Common.{ℕ, ◌<◌, Bool, true, false, cond, List, [], ◌∷◌, ◌++◌, length, arith, Option, Some, None, is_none}
+use Rattle.std.proofs.Common.{ℕ, ◌+◌, ◌*◌, ◌<◌, Bool, true, false, cond, List, [], ◌∷◌, ◌++◌, length, arith, Option, Some, None, is_none}
 use Rattle.std.specs.List.{AllByRecursion}
+use Rattle.circus_value.specs.ShapeTree.{ShapeTree}
 use Rattle.circus_syntax.specs.declared.named.Named.{Named}
 use Rattle.circus_syntax.specs.declared.named.Numeral.{Numeral}
 use Rattle.circus_syntax.specs.declared.named.LabelText.{LabelText}
@@ -10,12 +11,13 @@ use Rattle.circus_syntax.specs.InterfaceTree.{DeclaredTree, a_type, an_error, a_
 use Rattle.circus_idl.specs.declared.fault.Fault.{Fault}
 use Rattle.circus_idl.specs.declared.fault.Cause.{Cause}
 use Rattle.circus_idl.specs.declared.fault.Cause.TheVariants.{Unknown, OutOfRange}
-use Rattle.circus_idl.specs.declared.measure.Measure.{Measure}
 use Rattle.circus_idl.specs.Rank.{rank}
 use Rattle.circus_idl.specs.Least.{faults_if}
 use Rattle.circus_idl.specs.Inside.{repeated_name, repeated_number, repeated_names, above, label_faults, labels_faults, group_names, arm_label_faults, length_faults, bound_faults, called_faults, is_bare, is_empty_record, inside, inside_groups, inside_arms, no_name, no_number, also_name, also_number}
-use Rattle.circus_idl.specs.Measured.{measured}
-use Rattle.circus_idl.specs.Faults.{Before, Cut, nothing, more_parts, whole_faults, groups_faults, fields_faults, fields_parts, together_faults, unknown_errors, reports_faults, declared_faults, behind, declarations_faults, interface_faults}
+use Rattle.circus_idl.specs.Written.{parts as shape_parts}
+use Rattle.circus_idl.specs.Meaning.{written}
+use Rattle.circus_idl.specs.Scale.{written_out}
+use Rattle.circus_idl.specs.Faults.{Before, Cut, nothing, whole_faults, groups_faults, fields_faults, fields_parts, together_faults, unknown_errors, reports_faults, declared_faults, behind, declarations_faults, interface_faults}
 use Rattle.circus_idl.proofs.Items.{all_appended}
 
 -- a rule is broken
@@ -93,23 +95,23 @@ module _ (types : List ℕ → Bool) where
         and (cond (is_empty_record t) [] (inside types t)) (inside_arms types arms) (unless (is_empty_record t) (inside types t) (inside_rule t)) (arms_inside_rule arms)
 
 module _ (cut : Cut) where
-  whole_rule : (types : List ℕ → Bool) (sizes : List ℕ → Measure) (parts n : ℕ) (t : TypeTree) → OfRules (whole_faults cut types sizes parts n t)
-  whole_rule types sizes parts n t = and (inside types t) _ (inside_rule types t) (one_of _ _ _ (omega arith))
+  whole_rule : (types : List ℕ → Bool) (forms : List ℕ → ShapeTree) (parts n : ℕ) (t : TypeTree) → OfRules (whole_faults written_out cut types forms parts n t)
+  whole_rule types forms parts n t = and (inside types t) _ (inside_rule types t) (one_of _ _ _ (omega arith))
 
-  groups_rule : (types : List ℕ → Bool) (sizes : List ℕ → Measure) (parts : ℕ) (groups : GroupTrees) → OfRules (groups_faults cut types sizes parts groups)
-  groups_rule types sizes parts no_groups = tt
-  groups_rule types sizes parts (more_groups names t groups) =
-      and (whole_faults cut types sizes parts (length names) t) _ (whole_rule types sizes parts (length names) t)
-      (groups_rule types sizes (more_parts parts (length names) (measured sizes t)) groups)
+  groups_rule : (types : List ℕ → Bool) (forms : List ℕ → ShapeTree) (parts : ℕ) (groups : GroupTrees) → OfRules (groups_faults written_out cut types forms parts groups)
+  groups_rule types forms parts no_groups = tt
+  groups_rule types forms parts (more_groups names t groups) =
+      and (whole_faults written_out cut types forms parts (length names) t) _ (whole_rule types forms parts (length names) t)
+      (groups_rule types forms (parts + length names * shape_parts (written forms t)) groups)
 
-  fields_rule : (types : List ℕ → Bool) (sizes : List ℕ → Measure) (parts : ℕ) (fields : Option FieldsText) → OfRules (fields_faults cut types sizes parts fields)
-  fields_rule types sizes parts None = tt
-  fields_rule types sizes parts (Some f) =
-      and (repeated_names no_name (group_names (group_trees f.groups))) _ (names_rule no_name (group_names (group_trees f.groups))) (groups_rule types sizes parts (group_trees f.groups))
+  fields_rule : (types : List ℕ → Bool) (forms : List ℕ → ShapeTree) (parts : ℕ) (fields : Option FieldsText) → OfRules (fields_faults written_out cut types forms parts fields)
+  fields_rule types forms parts None = tt
+  fields_rule types forms parts (Some f) =
+      and (repeated_names no_name (group_names (group_trees f.groups))) _ (names_rule no_name (group_names (group_trees f.groups))) (groups_rule types forms parts (group_trees f.groups))
 
-  together_rule : (types : List ℕ → Bool) (sizes : List ℕ → Measure) (name : Named) (fields : Option FieldsText) → OfRules (together_faults cut types sizes name fields)
-  together_rule types sizes name None = tt
-  together_rule types sizes name (Some f) = one_of _ _ _ (omega arith)
+  together_rule : (types : List ℕ → Bool) (forms : List ℕ → ShapeTree) (name : Named) (fields : Option FieldsText) → OfRules (together_faults written_out cut types forms name fields)
+  together_rule types forms name None = tt
+  together_rule types forms name (Some f) = one_of _ _ _ (omega arith)
 
   errors_rule : (errors : List ℕ → Option ℕ) (ns : List Named) → OfRules (unknown_errors errors ns)
   errors_rule errors [] = tt
@@ -119,10 +121,10 @@ module _ (cut : Cut) where
   reports_rule errors None = tt
   reports_rule errors (Some ns) = errors_rule errors ns
 
-  declared_rule : (before : Before) (d : DeclaredTree) → OfRules (declared_faults cut before d)
+  declared_rule : (before : Before ShapeTree) (d : DeclaredTree) → OfRules (declared_faults written_out cut before d)
   declared_rule before (a_type name t) = and (repeated_name before.names name) _ (one_of _ _ _ (omega arith)) (whole_rule before.types before.sizes before.parts 1 t)
   declared_rule before (an_error e) =
-      let fields = fields_faults cut before.types before.sizes before.parts e.arguments in
+      let fields = fields_faults written_out cut before.types before.sizes before.parts e.arguments in
       and (repeated_name before.names e.name ++ fields ++ repeated_number before.error_numbers e.number) (above 59999 e.number)
       (and (repeated_name before.names e.name ++ fields) (repeated_number before.error_numbers e.number)
       (and (repeated_name before.names e.name) fields (one_of _ _ _ (omega arith)) (fields_rule before.types before.sizes before.parts e.arguments))
@@ -130,10 +132,10 @@ module _ (cut : Cut) where
       (one_of _ _ _ (omega arith))
   declared_rule before (a_procedure p) =
       let name = repeated_name before.names p.name in
-      let together = together_faults cut before.types before.sizes p.name p.arguments in
-      let arguments = fields_faults cut before.types before.sizes before.parts p.arguments in
-      let parts = fields_parts before.sizes before.parts p.arguments in
-      let results = fields_faults cut before.types before.sizes parts p.results in
+      let together = together_faults written_out cut before.types before.sizes p.name p.arguments in
+      let arguments = fields_faults written_out cut before.types before.sizes before.parts p.arguments in
+      let parts = fields_parts written_out before.sizes before.parts p.arguments in
+      let results = fields_faults written_out cut before.types before.sizes parts p.results in
       let reports = reports_faults before.errors p.reports in
       let number = repeated_number before.procedure_numbers p.number in
       and (name ++ together ++ arguments ++ results ++ reports ++ number) (above 65535 p.number)
@@ -148,12 +150,12 @@ module _ (cut : Cut) where
       (one_of _ _ _ (omega arith)))
       (one_of _ _ _ (omega arith))
 
-  declarations_rule : (before : Before) (ds : List DeclaredTree) → OfRules (declarations_faults cut before ds)
+  declarations_rule : (before : Before ShapeTree) (ds : List DeclaredTree) → OfRules (declarations_faults written_out cut before ds)
   declarations_rule before [] = tt
-  declarations_rule before (d ∷ ds) = and (declared_faults cut before d) _ (declared_rule before d) (declarations_rule (behind before d) ds)
+  declarations_rule before (d ∷ ds) = and (declared_faults written_out cut before d) _ (declared_rule before d) (declarations_rule (behind written_out before d) ds)
 
   pub interface_rule : (tree : InterfaceTree) → OfRules (interface_faults cut tree)
   interface_rule tree =
-      and (above 4294967295 tree.number ++ above 65535 tree.version) (declarations_faults cut nothing tree.declared)
+      and (above 4294967295 tree.number ++ above 65535 tree.version) (declarations_faults written_out cut (nothing written_out) tree.declared)
       (and (above 4294967295 tree.number) (above 65535 tree.version) (one_of _ _ _ (omega arith)) (one_of _ _ _ (omega arith)))
-      (declarations_rule nothing tree.declared)
+      (declarations_rule (nothing written_out) tree.declared)

@@ -4,6 +4,7 @@ use Rattle.std.proofs.lemmas.Bool.{cases_lt}
 use Rattle.std.proofs.lemmas.Grind.{common_steps}
 use Rattle.std.specs.Prelude.{◌==◌}
 use Rattle.std.proofs.lemmas.List.{length-map}
+use Rattle.std.proofs.lemmas.List.Sums.{sum_by-cons}
 use Rattle.circus_value.specs.ShapeTree.{ShapeTree, FieldTrees, ArmTrees, FieldTree, field_trees, arm_trees, no_arms, more_arms}
 use Rattle.circus_value.specs.ShapeTree as shape
 use Rattle.circus_value.specs.ValueTree.{ValueTree}
@@ -13,8 +14,9 @@ use Rattle.circus_syntax.specs.TypeTree.{TypeTree, GroupTrees, boolean, cardinal
 use Rattle.circus_syntax.specs.TypeTree as syntax
 use Rattle.circus_idl.specs.declared.measure.Measure.{Measure}
 use Rattle.circus_idl.specs.Written.{parts, field_parts, arm_parts, levels, field_levels, arm_levels, zero_size, zero_value, zero_values, copies}
+use Rattle.circus_idl.specs.Whole.{shapes_of, zero_size_of}
 use Rattle.circus_idl.specs.Meaning.{word_of, bound_of, label_meant, fields_named, written, written_groups, written_arms}
-use Rattle.circus_idl.specs.Measured.{measure, measure_of, items_measure, sequence_measure, group_measure, arm_measure, record_measure, choice_measure, measured, measured_groups, measured_arms}
+use Rattle.circus_idl.specs.Seen.Measured.{measure, measure_of, items_measure, sequence_measure, group_measure, arm_measure, record_measure, choice_measure, measured, measured_groups, measured_arms}
 
 -- the size of fields together
 abbrev pub fields_measure : FieldTrees → Measure
@@ -44,7 +46,7 @@ stopped_again limit n = omega arith
 stopped_more : (limit m n : ℕ) → min (m + min n limit) limit ≡ min (m + n) limit
 stopped_more limit m n = omega arith
 
-stopped_times : (limit n z : ℕ) → min (n * min z limit) limit ≡ min (n * z) limit
+pub stopped_times : (limit n z : ℕ) → min (n * min z limit) limit ≡ min (n * z) limit
 stopped_times limit zero z = omega arith
 stopped_times limit (suc n) z = by_order (cases_lt limit z)
   where
@@ -57,6 +59,11 @@ stopped_parts n p q = omega (arith, stopped_times 16385 n p)
 
 stopped_zeros : (n z y : ℕ) → min (n * min z 65537 + min y 65537) 65537 ≡ min (n * z + y) 65537
 stopped_zeros n z y = omega (arith, stopped_times 65537 n z)
+
+-- the zero values of fields together
+pub zeros_together : (fields : List FieldTree) → zero_size_of fields ≡ external_sizes (zero_values (field_trees fields))
+zeros_together [] = refl
+zeros_together (f ∷ fields) = omega (arith, sum_by-cons zero_size f.shape (shapes_of fields), zeros_together fields)
 
 -- Fields that share a type.
 

@@ -1,5 +1,5 @@
 -- The faults of an interface as it is written, in the order of its declarations.
-use Rattle.std.specs.Prelude.{ℕ, ◌+◌, ◌*◌, min, Bool, true, false, ◌&&◌, ◌||◌, ◌==◌, not, nat_lt, List, [], ◌∷◌, ◌++◌, length, Option, Some, None, is_none}
+use Rattle.std.specs.Prelude.{ℕ, Bool, true, false, ◌&&◌, ◌==◌, not, List, [], ◌∷◌, ◌++◌, length, Option, Some, None, is_none}
 use Rattle.circus_syntax.specs.declared.named.Named.{Named}
 use Rattle.circus_syntax.specs.declared.stopping.Stop.{Stop}
 use Rattle.circus_syntax.specs.declared.stopping.StopCause.{StopCause}
@@ -7,33 +7,29 @@ use Rattle.circus_syntax.specs.declared.stopping.StopCause.TheVariants.{Unexpect
 use Rattle.circus_syntax.specs.declared.interface_text.FieldsText.{FieldsText}
 use Rattle.circus_syntax.specs.TypeTree.{TypeTree, GroupTrees, boolean, cardinal, long_cardinal, integer, long_integer, text, enumeration, array, sequence, «record», choice, called, no_groups, more_groups, group_trees}
 use Rattle.circus_syntax.specs.InterfaceTree.{DeclaredTree, a_type, an_error, a_procedure, InterfaceTree}
-use Rattle.circus_syntax.specs.Spelling.{most_levels}
-use Rattle.circus_idl.specs.declared.measure.Measure.{Measure}
 use Rattle.circus_idl.specs.declared.fault.Fault.{Fault}
 use Rattle.circus_idl.specs.declared.fault.Cause.{Cause}
 use Rattle.circus_idl.specs.declared.fault.Cause.TheVariants.{Expected, Deep, Unknown, TooLarge}
-use Rattle.circus_idl.specs.Limits.{greatest_word, greatest_error, greatest_program, most_parts, most_zero_bytes}
+use Rattle.circus_idl.specs.Limits.{greatest_word, greatest_error, greatest_program}
 use Rattle.circus_idl.specs.Least.{faults_if}
 use Rattle.circus_idl.specs.Inside.{no_name, no_number, also_name, also_number, repeated_name, repeated_number, repeated_names, above, group_names, inside, inside_groups}
-use Rattle.circus_value.specs.ShapeTree as shape
-use Rattle.circus_idl.specs.Measured.{measure_of, measured, measured_groups}
-use Rattle.circus_idl.specs.Known.{standing_for}
+use Rattle.circus_idl.specs.Meaning.{standing_for}
+use Rattle.circus_idl.specs.Scale.{Scale, written_out}
 
--- what is declared before a place: the names, which of them are types and how large these are, the numbers
--- of errors by their names, the numbers of errors and procedures, and the parts of types, counted up to
--- one above their limit
-pub record Before : Type 0 where
+-- what is declared before a place: the names, which of them are types and what these come to, the numbers of errors by
+-- their names, the numbers of errors and procedures, and the parts of types
+pub record Before (S : Type 0) : Type 0 where
   pub names : List ℕ → Bool
   pub types : List ℕ → Bool
-  pub sizes : List ℕ → Measure
+  pub sizes : List ℕ → S
   pub errors : List ℕ → Option ℕ
   pub error_numbers : ℕ → Bool
   pub procedure_numbers : ℕ → Bool
   pub parts : ℕ
 
 -- where the first declaration stands
-abbrev pub nothing : Before
-nothing = record { names = no_name; types = no_name; sizes = λ _. measure_of shape.boolean; errors = λ _. None; error_numbers = no_number; procedure_numbers = no_number; parts = 0 }
+abbrev pub nothing : {S : Type 0} → Scale S → Before S
+nothing scale = record { names = no_name; types = no_name; sizes = λ _. scale.of_none; errors = λ _. None; error_numbers = no_number; procedure_numbers = no_number; parts = 0 }
 
 -- where reading stopped: in a type, in a list of fields
 pub record Cut : Type 0 where
@@ -69,50 +65,42 @@ place_of («record» at _) = at
 place_of (choice at _) = at
 place_of (called at _) = at
 
--- the parts of types with so many more of one size
-abbrev pub more_parts : ℕ → ℕ → Measure → ℕ
-more_parts parts n size = min (parts + n * size.parts) (1 + most_parts)
-
--- a type of this size, with which there are so many parts, passes a limit
-abbrev pub is_over : ℕ → Measure → Bool
-is_over parts size = nat_lt most_zero_bytes size.zeros || nat_lt most_levels size.levels || nat_lt most_parts parts
-
 -- the size of a whole type is tested where it has no fault inside and reading didn't stop in it
-abbrev pub whole_faults : Cut → (List ℕ → Bool) → (List ℕ → Measure) → ℕ → ℕ → TypeTree → List Fault
-whole_faults cut types sizes parts n t =
+abbrev pub whole_faults : {S : Type 0} → Scale S → Cut → (List ℕ → Bool) → (List ℕ → S) → ℕ → ℕ → TypeTree → List Fault
+whole_faults scale cut types sizes parts n t =
     inside types t
-    ++ faults_if (is_clean (inside types t) && not (is_place (place_of t) cut.within) && is_over (more_parts parts n (measured sizes t)) (measured sizes t)) (place_of t) TooLarge
+    ++ faults_if (is_clean (inside types t) && not (is_place (place_of t) cut.within) && scale.is_over (scale.parts_with parts n (scale.of_type sizes t)) (scale.of_type sizes t)) (place_of t) TooLarge
 
 -- the whole types of fields, each of which several names may share
-abbrev pub groups_faults : Cut → (List ℕ → Bool) → (List ℕ → Measure) → ℕ → GroupTrees → List Fault
-groups_faults cut types sizes parts no_groups = []
-groups_faults cut types sizes parts (more_groups names t groups) =
-    whole_faults cut types sizes parts (length names) t
-    ++ groups_faults cut types sizes (more_parts parts (length names) (measured sizes t)) groups
+abbrev pub groups_faults : {S : Type 0} → Scale S → Cut → (List ℕ → Bool) → (List ℕ → S) → ℕ → GroupTrees → List Fault
+groups_faults scale cut types sizes parts no_groups = []
+groups_faults scale cut types sizes parts (more_groups names t groups) =
+    whole_faults scale cut types sizes parts (length names) t
+    ++ groups_faults scale cut types sizes (scale.parts_with parts (length names) (scale.of_type sizes t)) groups
 
 -- the parts of types with those of fields
-abbrev pub groups_parts : (List ℕ → Measure) → ℕ → GroupTrees → ℕ
-groups_parts sizes parts no_groups = parts
-groups_parts sizes parts (more_groups names t groups) =
-    groups_parts sizes (more_parts parts (length names) (measured sizes t)) groups
+abbrev pub groups_parts : {S : Type 0} → Scale S → (List ℕ → S) → ℕ → GroupTrees → ℕ
+groups_parts scale sizes parts no_groups = parts
+groups_parts scale sizes parts (more_groups names t groups) =
+    groups_parts scale sizes (scale.parts_with parts (length names) (scale.of_type sizes t)) groups
 
 -- a list of fields
-abbrev pub fields_faults : Cut → (List ℕ → Bool) → (List ℕ → Measure) → ℕ → Option FieldsText → List Fault
-fields_faults cut types sizes parts None = []
-fields_faults cut types sizes parts (Some f) =
-    repeated_names no_name (group_names (group_trees f.groups)) ++ groups_faults cut types sizes parts (group_trees f.groups)
+abbrev pub fields_faults : {S : Type 0} → Scale S → Cut → (List ℕ → Bool) → (List ℕ → S) → ℕ → Option FieldsText → List Fault
+fields_faults scale cut types sizes parts None = []
+fields_faults scale cut types sizes parts (Some f) =
+    repeated_names no_name (group_names (group_trees f.groups)) ++ groups_faults scale cut types sizes parts (group_trees f.groups)
 
-abbrev pub fields_parts : (List ℕ → Measure) → ℕ → Option FieldsText → ℕ
-fields_parts sizes parts None = parts
-fields_parts sizes parts (Some f) = groups_parts sizes parts (group_trees f.groups)
+abbrev pub fields_parts : {S : Type 0} → Scale S → (List ℕ → S) → ℕ → Option FieldsText → ℕ
+fields_parts scale sizes parts None = parts
+fields_parts scale sizes parts (Some f) = groups_parts scale sizes parts (group_trees f.groups)
 
 -- the arguments of a procedure together, at its name: tested where they have no fault inside and reading
 -- didn't stop in their list
-abbrev pub together_faults : Cut → (List ℕ → Bool) → (List ℕ → Measure) → Named → Option FieldsText → List Fault
-together_faults cut types sizes name None = []
-together_faults cut types sizes name (Some f) =
+abbrev pub together_faults : {S : Type 0} → Scale S → Cut → (List ℕ → Bool) → (List ℕ → S) → Named → Option FieldsText → List Fault
+together_faults scale cut types sizes name None = []
+together_faults scale cut types sizes name (Some f) =
     faults_if (is_clean (repeated_names no_name (group_names (group_trees f.groups)) ++ inside_groups types (group_trees f.groups))
-    && not (is_place f.at cut.list) && nat_lt most_zero_bytes (measured_groups sizes (group_trees f.groups)).zeros) name.at TooLarge
+    && not (is_place f.at cut.list) && scale.are_over sizes (group_trees f.groups)) name.at TooLarge
 
 -- the names of errors that aren't declared before
 abbrev pub unknown_errors : (List ℕ → Option ℕ) → List Named → List Fault
@@ -124,48 +112,48 @@ reports_faults errors None = []
 reports_faults errors (Some names) = unknown_errors errors names
 
 -- one declaration
-abbrev pub declared_faults : Cut → Before → DeclaredTree → List Fault
-declared_faults cut before (a_type name t) =
-    repeated_name before.names name ++ whole_faults cut before.types before.sizes before.parts 1 t
-declared_faults cut before (an_error e) =
-    repeated_name before.names e.name ++ fields_faults cut before.types before.sizes before.parts e.arguments
+abbrev pub declared_faults : {S : Type 0} → Scale S → Cut → Before S → DeclaredTree → List Fault
+declared_faults scale cut before (a_type name t) =
+    repeated_name before.names name ++ whole_faults scale cut before.types before.sizes before.parts 1 t
+declared_faults scale cut before (an_error e) =
+    repeated_name before.names e.name ++ fields_faults scale cut before.types before.sizes before.parts e.arguments
     ++ repeated_number before.error_numbers e.number ++ above greatest_error e.number
-declared_faults cut before (a_procedure p) =
-    repeated_name before.names p.name ++ together_faults cut before.types before.sizes p.name p.arguments
-    ++ fields_faults cut before.types before.sizes before.parts p.arguments
-    ++ fields_faults cut before.types before.sizes (fields_parts before.sizes before.parts p.arguments) p.results
+declared_faults scale cut before (a_procedure p) =
+    repeated_name before.names p.name ++ together_faults scale cut before.types before.sizes p.name p.arguments
+    ++ fields_faults scale cut before.types before.sizes before.parts p.arguments
+    ++ fields_faults scale cut before.types before.sizes (fields_parts scale before.sizes before.parts p.arguments) p.results
     ++ reports_faults before.errors p.reports
     ++ repeated_number before.procedure_numbers p.number ++ above greatest_word p.number
 
 -- what is declared before the next declaration
-abbrev pub behind : Before → DeclaredTree → Before
-behind before (a_type name t) = record before {
+abbrev pub behind : {S : Type 0} → Scale S → Before S → DeclaredTree → Before S
+behind scale before (a_type name t) = record before {
   names = also_name name.name before.names;
   types = also_name name.name before.types;
-  sizes = standing_for name.name (measured before.sizes t) before.sizes;
-  parts = more_parts before.parts 1 (measured before.sizes t);
+  sizes = standing_for name.name (scale.of_type before.sizes t) before.sizes;
+  parts = scale.parts_with before.parts 1 (scale.of_type before.sizes t);
 }
-behind before (an_error e) = record before {
+behind scale before (an_error e) = record before {
   names = also_name e.name.name before.names;
   errors = standing_for e.name.name (Some e.number.value) before.errors;
   error_numbers = also_number e.number.value before.error_numbers;
-  parts = fields_parts before.sizes before.parts e.arguments;
+  parts = fields_parts scale before.sizes before.parts e.arguments;
 }
-behind before (a_procedure p) = record before {
+behind scale before (a_procedure p) = record before {
   names = also_name p.name.name before.names;
   procedure_numbers = also_number p.number.value before.procedure_numbers;
-  parts = fields_parts before.sizes (fields_parts before.sizes before.parts p.arguments) p.results;
+  parts = fields_parts scale before.sizes (fields_parts scale before.sizes before.parts p.arguments) p.results;
 }
 
 -- declarations one behind the other
-abbrev pub declarations_faults : Cut → Before → List DeclaredTree → List Fault
-declarations_faults cut before [] = []
-declarations_faults cut before (d ∷ ds) = declared_faults cut before d ++ declarations_faults cut (behind before d) ds
+abbrev pub declarations_faults : {S : Type 0} → Scale S → Cut → Before S → List DeclaredTree → List Fault
+declarations_faults scale cut before [] = []
+declarations_faults scale cut before (d ∷ ds) = declared_faults scale cut before d ++ declarations_faults scale cut (behind scale before d) ds
 
--- an interface: its numbers, and what it declares
+-- an interface: its numbers, and what it declares, its types written out
 abbrev pub interface_faults : Cut → InterfaceTree → List Fault
 interface_faults cut i =
-    above greatest_program i.number ++ above greatest_word i.version ++ declarations_faults cut nothing i.declared
+    above greatest_program i.number ++ above greatest_word i.version ++ declarations_faults written_out cut (nothing written_out) i.declared
 
 -- what a stop of reading is a fault of
 abbrev pub stop_fault : StopCause → Cause

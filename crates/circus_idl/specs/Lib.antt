@@ -4,12 +4,11 @@ pub mod Written
 pub mod Whole
 pub mod Obeys
 pub mod Meaning
+pub mod Scale
 pub mod Means
 pub mod Rank
 pub mod Least
 pub mod Inside
-pub mod Measured
-pub mod Known
 pub mod Faults
 pub mod Answer
 pub mod ReadAt

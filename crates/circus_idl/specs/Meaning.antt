@@ -1,5 +1,5 @@
 -- What a type means: the shape in which every name is written out.
-use Rattle.std.specs.Prelude.{ℕ, min, List, [], ◌∷◌, ◌++◌, map, Option, Some, None}
+use Rattle.std.specs.Prelude.{ℕ, min, cond, bytes_eq, List, [], ◌∷◌, ◌++◌, map, Option, Some, None}
 use Rattle.circus_value.specs.declared.shape.Label.{Label}
 use Rattle.circus_value.specs.ShapeTree.{ShapeTree, FieldTree, ArmTree, field_trees, arm_trees}
 use Rattle.circus_value.specs.ShapeTree as shape
@@ -50,3 +50,7 @@ abbrev mutual
   written_arms form no_arms = []
   written_arms form (more_arms name number t arms) =
       record { name = name.name; number = word_of number; shape = written form t } ∷ written_arms form arms
+
+-- this name stands for this, and others for what they stood for
+abbrev pub standing_for : {A : Type 0} → List ℕ → A → (List ℕ → A) → List ℕ → A
+standing_for name a earlier other = cond (bytes_eq name other) a (earlier other)

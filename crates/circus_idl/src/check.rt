@@ -7,7 +7,8 @@ ghost use Rattle.circus_idl.specs.declared.idl_fault.IdlFault.{IdlFault};
 ghost use Rattle.circus_idl.specs.Limits.{greatest_program};
 ghost use Rattle.circus_idl.specs.Least.{least_from};
 ghost use Rattle.circus_idl.specs.Seen.Tables.{name_value};
-ghost use Rattle.circus_idl.specs.Known.{type_form};
+ghost use Rattle.circus_idl.specs.Seen.Known.{type_form};
+ghost use Rattle.circus_idl.specs.Seen.Measured.{cut_off};
 ghost use Rattle.circus_idl.specs.Seen.Scoped.{before_of, cut_in};
 ghost use Rattle.circus_idl.specs.Seen.Drafted.{drafted};
 ghost use Rattle.circus_idl.specs.Answer.{answer_of};
@@ -78,7 +79,7 @@ fn list(stop: &Option<Stop>) -> Option<u32>
 fn start<'a>(alloc: Global, stop: &Option<Stop>) -> Draft<'a>
     ensures found { result.scope.best.fault ≡ least_from None (stop_faults stop.now) }
     ensures cut { cut_in result.scope ≡ cut_of stop.now }
-    ensures before { before_of result.scope ≡ nothing }
+    ensures before { before_of result.scope ≡ nothing cut_off }
     ensures formed { type_form result.scope.types ≡ (λ _. boolean) }
     ensures drafted { drafted result ≡ nothing_meant }
 {
@@ -103,7 +104,7 @@ fn start<'a>(alloc: Global, stop: &Option<Stop>) -> Draft<'a>
 }
 
 fn declare_all<'a>(draft: &mut Draft<'a>, declared: &'a [DeclaredText]) -> Result<(), NoMemory>
-    ensures found { OnOk result (draft.new.scope.best.fault ≡ least_from draft.old.scope.best.fault (declarations_faults (cut_in draft.old.scope) (before_of draft.old.scope) (map declared_of declared.now))) }
+    ensures found { OnOk result (draft.new.scope.best.fault ≡ least_from draft.old.scope.best.fault (declarations_faults cut_off (cut_in draft.old.scope) (before_of draft.old.scope) (map declared_of declared.now))) }
     ensures meant { OnOk result (IfNone draft.new.scope.best.fault (drafted draft.new ≡ and_then (drafted draft.old) (declarations_meant (type_form draft.old.scope.types) (name_value draft.old.scope.errors) (map declared_of declared.now)))) }
 {
     for item in declared {

@@ -5,8 +5,9 @@ ghost use Rattle.circus_syntax.specs.TypeOf.{tree_of};
 ghost use Rattle.circus_idl.specs.Least.{least_from};
 ghost use Rattle.circus_idl.specs.Seen.Scoped.{before_of, cut_in};
 ghost use Rattle.circus_idl.specs.Faults.{declared_faults, behind};
-ghost use Rattle.circus_idl.specs.Known.{type_form, tree_or, standing_for};
-ghost use Rattle.circus_idl.specs.Meaning.{written};
+ghost use Rattle.circus_idl.specs.Seen.Known.{type_form, tree_or};
+ghost use Rattle.circus_idl.specs.Seen.Measured.{cut_off};
+ghost use Rattle.circus_idl.specs.Meaning.{written, standing_for};
 
 use crate::limits::{GREATEST_ERROR, GREATEST_WORD};
 use crate::scope::Scope;
@@ -17,8 +18,8 @@ use circus_value::{NoMemory, Shape};
 impl<'a> Scope<'a> {
     /// Declares an error.
     pub fn error(&mut self, error: &'a ErrorText) -> Result<(), NoMemory>
-        ensures found { OnOk result (self.new.best.fault ≡ least_from self.old.best.fault (declared_faults (cut_in self.old) (before_of self.old) (an_error error.now))) }
-        ensures behind { OnOk result (before_of self.new ≡ behind (before_of self.old) (an_error error.now)) }
+        ensures found { OnOk result (self.new.best.fault ≡ least_from self.old.best.fault (declared_faults cut_off (cut_in self.old) (before_of self.old) (an_error error.now))) }
+        ensures behind { OnOk result (before_of self.new ≡ behind cut_off (before_of self.old) (an_error error.now)) }
         ensures cut { OnOk result (cut_in self.new ≡ cut_in self.old) }
         ensures types { OnOk result (self.new.types ≡ self.old.types) }
     {
@@ -33,8 +34,8 @@ impl<'a> Scope<'a> {
 
     /// Declares a procedure.
     pub fn procedure(&mut self, procedure: &'a ProcedureText) -> Result<(), NoMemory>
-        ensures found { OnOk result (self.new.best.fault ≡ least_from self.old.best.fault (declared_faults (cut_in self.old) (before_of self.old) (a_procedure procedure.now))) }
-        ensures behind { OnOk result (before_of self.new ≡ behind (before_of self.old) (a_procedure procedure.now)) }
+        ensures found { OnOk result (self.new.best.fault ≡ least_from self.old.best.fault (declared_faults cut_off (cut_in self.old) (before_of self.old) (a_procedure procedure.now))) }
+        ensures behind { OnOk result (before_of self.new ≡ behind cut_off (before_of self.old) (a_procedure procedure.now)) }
         ensures cut { OnOk result (cut_in self.new ≡ cut_in self.old) }
         ensures types { OnOk result (self.new.types ≡ self.old.types) }
     {
@@ -51,8 +52,8 @@ impl<'a> Scope<'a> {
 
     /// Declares a type.
     pub fn declared_type(&mut self, name: &'a Named, shape: &'a TypeText) -> Result<(), NoMemory>
-        ensures found { OnOk result (self.new.best.fault ≡ least_from self.old.best.fault (declared_faults (cut_in self.old) (before_of self.old) (a_type name.now (tree_of shape.now)))) }
-        ensures behind { OnOk result (before_of self.new ≡ behind (before_of self.old) (a_type name.now (tree_of shape.now))) }
+        ensures found { OnOk result (self.new.best.fault ≡ least_from self.old.best.fault (declared_faults cut_off (cut_in self.old) (before_of self.old) (a_type name.now (tree_of shape.now)))) }
+        ensures behind { OnOk result (before_of self.new ≡ behind cut_off (before_of self.old) (a_type name.now (tree_of shape.now))) }
         ensures cut { OnOk result (cut_in self.new ≡ cut_in self.old) }
 
         // While no fault is found the type's shape is kept.

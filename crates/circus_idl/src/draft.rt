@@ -4,7 +4,8 @@ ghost use Rattle.circus_syntax.specs.InterfaceTree.{declared_of, a_type, an_erro
 ghost use Rattle.circus_syntax.specs.TypeOf.{tree_of};
 ghost use Rattle.circus_idl.specs.Least.{least_from};
 ghost use Rattle.circus_idl.specs.Seen.Tables.{name_value};
-ghost use Rattle.circus_idl.specs.Known.{type_form};
+ghost use Rattle.circus_idl.specs.Seen.Known.{type_form};
+ghost use Rattle.circus_idl.specs.Seen.Measured.{cut_off};
 ghost use Rattle.circus_idl.specs.Seen.Scoped.{before_of, cut_in};
 ghost use Rattle.circus_idl.specs.Faults.{declared_faults, behind};
 ghost use Rattle.circus_idl.specs.Seen.Drafted.{drafted};
@@ -67,8 +68,8 @@ fn numbers_meant(alloc: Global, errors: &Names, names: &[Named]) -> Result<Numbe
 
 impl<'a> Draft<'a> {
     fn add_type(&mut self, name: &'a Named, shape: &'a TypeText) -> Result<(), NoMemory>
-        ensures found { OnOk result (self.new.scope.best.fault ≡ least_from self.old.scope.best.fault (declared_faults (cut_in self.old.scope) (before_of self.old.scope) (a_type name.now (tree_of shape.now)))) }
-        ensures behind { OnOk result (before_of self.new.scope ≡ behind (before_of self.old.scope) (a_type name.now (tree_of shape.now))) }
+        ensures found { OnOk result (self.new.scope.best.fault ≡ least_from self.old.scope.best.fault (declared_faults cut_off (cut_in self.old.scope) (before_of self.old.scope) (a_type name.now (tree_of shape.now)))) }
+        ensures behind { OnOk result (before_of self.new.scope ≡ behind cut_off (before_of self.old.scope) (a_type name.now (tree_of shape.now))) }
         ensures cut { OnOk result (cut_in self.new.scope ≡ cut_in self.old.scope) }
         ensures formed { OnOk result (IfNone self.new.scope.best.fault (type_form self.new.scope.types ≡ forms_behind (type_form self.old.scope.types) (a_type name.now (tree_of shape.now)))) }
         ensures meant { OnOk result (IfNone self.new.scope.best.fault (drafted self.new ≡ and_then (drafted self.old) (declared_meant (type_form self.old.scope.types) (name_value self.old.scope.errors) (a_type name.now (tree_of shape.now))))) }
@@ -84,8 +85,8 @@ impl<'a> Draft<'a> {
     }
 
     fn add_error(&mut self, error: &'a ErrorText) -> Result<(), NoMemory>
-        ensures found { OnOk result (self.new.scope.best.fault ≡ least_from self.old.scope.best.fault (declared_faults (cut_in self.old.scope) (before_of self.old.scope) (an_error error.now))) }
-        ensures behind { OnOk result (before_of self.new.scope ≡ behind (before_of self.old.scope) (an_error error.now)) }
+        ensures found { OnOk result (self.new.scope.best.fault ≡ least_from self.old.scope.best.fault (declared_faults cut_off (cut_in self.old.scope) (before_of self.old.scope) (an_error error.now))) }
+        ensures behind { OnOk result (before_of self.new.scope ≡ behind cut_off (before_of self.old.scope) (an_error error.now)) }
         ensures cut { OnOk result (cut_in self.new.scope ≡ cut_in self.old.scope) }
         ensures formed { OnOk result (type_form self.new.scope.types ≡ type_form self.old.scope.types) }
         ensures meant { OnOk result (IfNone self.new.scope.best.fault (drafted self.new ≡ and_then (drafted self.old) (declared_meant (type_form self.old.scope.types) (name_value self.old.scope.errors) (an_error error.now)))) }
@@ -102,8 +103,8 @@ impl<'a> Draft<'a> {
     }
 
     fn add_procedure(&mut self, procedure: &'a ProcedureText) -> Result<(), NoMemory>
-        ensures found { OnOk result (self.new.scope.best.fault ≡ least_from self.old.scope.best.fault (declared_faults (cut_in self.old.scope) (before_of self.old.scope) (a_procedure procedure.now))) }
-        ensures behind { OnOk result (before_of self.new.scope ≡ behind (before_of self.old.scope) (a_procedure procedure.now)) }
+        ensures found { OnOk result (self.new.scope.best.fault ≡ least_from self.old.scope.best.fault (declared_faults cut_off (cut_in self.old.scope) (before_of self.old.scope) (a_procedure procedure.now))) }
+        ensures behind { OnOk result (before_of self.new.scope ≡ behind cut_off (before_of self.old.scope) (a_procedure procedure.now)) }
         ensures cut { OnOk result (cut_in self.new.scope ≡ cut_in self.old.scope) }
         ensures formed { OnOk result (type_form self.new.scope.types ≡ type_form self.old.scope.types) }
         ensures meant { OnOk result (IfNone self.new.scope.best.fault (drafted self.new ≡ and_then (drafted self.old) (declared_meant (type_form self.old.scope.types) (name_value self.old.scope.errors) (a_procedure procedure.now)))) }
@@ -118,8 +119,8 @@ impl<'a> Draft<'a> {
 
     /// One more declaration.
     pub fn add(&mut self, declared: &'a DeclaredText) -> Result<(), NoMemory>
-        ensures found { OnOk result (self.new.scope.best.fault ≡ least_from self.old.scope.best.fault (declared_faults (cut_in self.old.scope) (before_of self.old.scope) (declared_of declared.now))) }
-        ensures behind { OnOk result (before_of self.new.scope ≡ behind (before_of self.old.scope) (declared_of declared.now)) }
+        ensures found { OnOk result (self.new.scope.best.fault ≡ least_from self.old.scope.best.fault (declared_faults cut_off (cut_in self.old.scope) (before_of self.old.scope) (declared_of declared.now))) }
+        ensures behind { OnOk result (before_of self.new.scope ≡ behind cut_off (before_of self.old.scope) (declared_of declared.now)) }
         ensures cut { OnOk result (cut_in self.new.scope ≡ cut_in self.old.scope) }
         ensures formed { OnOk result (IfNone self.new.scope.best.fault (type_form self.new.scope.types ≡ forms_behind (type_form self.old.scope.types) (declared_of declared.now))) }
         ensures meant { OnOk result (IfNone self.new.scope.best.fault (drafted self.new ≡ and_then (drafted self.old) (declared_meant (type_form self.old.scope.types) (name_value self.old.scope.errors) (declared_of declared.now)))) }

@@ -4,7 +4,7 @@ ghost use Rattle.circus_syntax.specs.TypeTree.{group_trees, arm_trees};
 ghost use Rattle.circus_syntax.specs.TypeOf.{tree_of, group_of, arm_of};
 ghost use Rattle.circus_idl.specs.Least.{least_from};
 ghost use Rattle.circus_idl.specs.Seen.Tables.{holds_name, holds_number};
-ghost use Rattle.circus_idl.specs.Known.{is_known};
+ghost use Rattle.circus_idl.specs.Seen.Known.{is_known};
 ghost use Rattle.circus_idl.specs.Inside.{also_name, also_names, also_number, no_name, no_number, label_faults, labels_faults, arm_label_faults, repeated_names, group_names, called_faults};
 ghost use Rattle.circus_idl.specs.Inside as faults;
 

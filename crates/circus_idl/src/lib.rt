@@ -31,6 +31,6 @@ pub use idl_fault::IdlFault;
 pub use interface::{
     Declared, DeclaredError, DeclaredType, Errors, Interface, Procedure, Procedures,
 };
-pub use laws::{shown_has_tokens, shown_is_read};
+pub use laws::{shown_has_tokens, shown_is_read, sizes_are_cut_off};
 pub use read::read_interface;
 pub use show::show_interface;

@@ -3,8 +3,8 @@ ghost use Rattle.std.specs.Prelude.{◌≡◌, map};
 ghost use Rattle.circus_syntax.specs.TypeOf.{tree_of, group_of, arm_of};
 ghost use Rattle.circus_syntax.specs.TypeTree.{group_trees, arm_trees};
 ghost use Rattle.circus_idl.specs.Meaning as meant;
-ghost use Rattle.circus_idl.specs.Measured as size;
-ghost use Rattle.circus_idl.specs.Known.{type_measure};
+ghost use Rattle.circus_idl.specs.Seen.Measured as size;
+ghost use Rattle.circus_idl.specs.Seen.Known.{type_measure};
 
 use crate::limits::{GREATEST_WORD, MOST_PARTS, MOST_ZERO_BYTES};
 use crate::types::Types;

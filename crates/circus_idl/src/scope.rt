@@ -4,8 +4,8 @@ ghost use Rattle.circus_syntax.specs.TypeOf.{tree_of, group_of};
 ghost use Rattle.circus_syntax.specs.TypeTree.{group_trees};
 ghost use Rattle.circus_idl.specs.Least.{least_from};
 ghost use Rattle.circus_idl.specs.Seen.Tables.{name_value};
-ghost use Rattle.circus_idl.specs.Measured as size;
-ghost use Rattle.circus_idl.specs.Known.{is_known, type_measure};
+ghost use Rattle.circus_idl.specs.Seen.Measured.{measured, more_parts, is_over, cut_off};
+ghost use Rattle.circus_idl.specs.Seen.Known.{is_known, type_measure};
 ghost use Rattle.circus_idl.specs.Inside as faults;
 ghost use Rattle.circus_idl.specs.Seen.Scoped.{cut_in};
 ghost use Rattle.circus_idl.specs.Faults as whole;
@@ -60,7 +60,7 @@ fn are_clean(alloc: Global, types: &Types, groups: &[GroupText]) -> Result<bool,
 
 // The parts of types with so many more of one size.
 fn more_parts(parts: u32, count: usize, size: Measure) -> u32
-    ensures { result ≡ whole.more_parts parts count size }
+    ensures { result ≡ more_parts parts count size }
 {
     let more = (count as u64).saturating_mul(u64::from(size.parts));
     u64::from(parts)
@@ -70,7 +70,7 @@ fn more_parts(parts: u32, count: usize, size: Measure) -> u32
 
 // Whether a type of this size, with which there are so many parts, passes a limit.
 fn is_over(parts: u32, size: Measure) -> bool
-    ensures { result ≡ whole.is_over parts size }
+    ensures { result ≡ is_over parts size }
 {
     size.zeros > MOST_ZERO_BYTES || size.levels > u32::from(MOST_LEVELS) || parts > MOST_PARTS
 }
@@ -79,9 +79,9 @@ impl<'a> Scope<'a> {
     /// A whole type that so many names share. It answers the type's size.
     pub fn whole(&mut self, count: usize, shape: &TypeText) -> Result<Measure, NoMemory>
         ensures found { OnOk result (self.new.best.fault ≡ least_from self.old.best.fault
-            (whole.whole_faults (cut_in self.old) (is_known self.old.types) (type_measure self.old.types) self.old.parts count (tree_of shape.now))) }
-        ensures others { OnOk result (self.new ≡ record self.old { best = self.new.best; parts = whole.more_parts self.old.parts count (size.measured (type_measure self.old.types) (tree_of shape.now)) }) }
-        ensures sized { IfOk result (λ measure. measure ≡ size.measured (type_measure self.old.types) (tree_of shape.now)) }
+            (whole.whole_faults cut_off (cut_in self.old) (is_known self.old.types) (type_measure self.old.types) self.old.parts count (tree_of shape.now))) }
+        ensures others { OnOk result (self.new ≡ record self.old { best = self.new.best; parts = more_parts self.old.parts count (measured (type_measure self.old.types) (tree_of shape.now)) }) }
+        ensures sized { IfOk result (λ measure. measure ≡ measured (type_measure self.old.types) (tree_of shape.now)) }
     {
         inside(self.alloc, &self.types, &mut self.best, shape)?;
         let clean = is_clean(self.alloc, &self.types, shape)?;
@@ -98,8 +98,8 @@ impl<'a> Scope<'a> {
 
     fn groups(&mut self, groups: &[GroupText]) -> Result<(), NoMemory>
         ensures found { OnOk result (self.new.best.fault ≡ least_from self.old.best.fault
-            (whole.groups_faults (cut_in self.old) (is_known self.old.types) (type_measure self.old.types) self.old.parts (group_trees (map group_of groups.now)))) }
-        ensures others { OnOk result (self.new ≡ record self.old { best = self.new.best; parts = whole.groups_parts (type_measure self.old.types) self.old.parts (group_trees (map group_of groups.now)) }) }
+            (whole.groups_faults cut_off (cut_in self.old) (is_known self.old.types) (type_measure self.old.types) self.old.parts (group_trees (map group_of groups.now)))) }
+        ensures others { OnOk result (self.new ≡ record self.old { best = self.new.best; parts = whole.groups_parts cut_off (type_measure self.old.types) self.old.parts (group_trees (map group_of groups.now)) }) }
     {
         for group in groups {
             self.whole(group.names.len(), &group.shape)?;
@@ -110,8 +110,8 @@ impl<'a> Scope<'a> {
     /// A list of fields, where it is written.
     pub fn fields(&mut self, fields: &Option<FieldsText>) -> Result<(), NoMemory>
         ensures found { OnOk result (self.new.best.fault ≡ least_from self.old.best.fault
-            (whole.fields_faults (cut_in self.old) (is_known self.old.types) (type_measure self.old.types) self.old.parts fields.now)) }
-        ensures others { OnOk result (self.new ≡ record self.old { best = self.new.best; parts = whole.fields_parts (type_measure self.old.types) self.old.parts fields.now }) }
+            (whole.fields_faults cut_off (cut_in self.old) (is_known self.old.types) (type_measure self.old.types) self.old.parts fields.now)) }
+        ensures others { OnOk result (self.new ≡ record self.old { best = self.new.best; parts = whole.fields_parts cut_off (type_measure self.old.types) self.old.parts fields.now }) }
     {
         if let Some(fields) = fields {
             field_names(self.alloc, &mut self.best, fields.groups.as_slice())?;
@@ -123,7 +123,7 @@ impl<'a> Scope<'a> {
     /// The arguments of a procedure together.
     pub fn together(&mut self, name: &Named, fields: &Option<FieldsText>) -> Result<(), NoMemory>
         ensures found { OnOk result (self.new.best.fault ≡ least_from self.old.best.fault
-            (whole.together_faults (cut_in self.old) (is_known self.old.types) (type_measure self.old.types) name.now fields.now)) }
+            (whole.together_faults cut_off (cut_in self.old) (is_known self.old.types) (type_measure self.old.types) name.now fields.now)) }
         ensures others { OnOk result (self.new ≡ record self.old { best = self.new.best }) }
     {
         if let Some(fields) = fields {

@@ -2,9 +2,10 @@
 ghost use Rattle.std.specs.Prelude.{◌≡◌, IfOk, OnOk};
 ghost use Rattle.circus_value.specs.ShapeOf.{tree_of};
 ghost use Rattle.circus_value.specs.ShapeTree.{boolean};
-ghost use Rattle.circus_idl.specs.Measured.{measure_of};
+ghost use Rattle.circus_idl.specs.Seen.Measured.{measure_of};
 ghost use Rattle.circus_idl.specs.Inside.{also_name, no_name};
-ghost use Rattle.circus_idl.specs.Known.{is_known, type_measure, type_form, tree_or, standing_for};
+ghost use Rattle.circus_idl.specs.Seen.Known.{is_known, type_measure, type_form, tree_or};
+ghost use Rattle.circus_idl.specs.Meaning.{standing_for};
 
 use crate::measure::Measure;
 use circus_value::{Duplicate, NoMemory, Shape};

@@ -4,7 +4,7 @@ ghost use Rattle.circus_value.specs.ShapeOf as shapes;
 ghost use Rattle.circus_syntax.specs.TypeOf.{tree_of, group_of, arm_of};
 ghost use Rattle.circus_syntax.specs.TypeTree.{group_trees, arm_trees};
 ghost use Rattle.circus_idl.specs.Meaning as meant;
-ghost use Rattle.circus_idl.specs.Known.{type_form};
+ghost use Rattle.circus_idl.specs.Seen.Known.{type_form};
 
 use crate::measure::word;
 use crate::types::Types;

@@ -1,11 +1,12 @@
 -- What the tables of a scope say.
+use Rattle.circus_idl.specs.declared.measure.Measure.{Measure}
 use Rattle.circus_idl.specs.declared.scope.Scope.{Scope}
 use Rattle.circus_idl.specs.Seen.Tables.{name_value, holds_name, holds_number}
-use Rattle.circus_idl.specs.Known.{is_known, type_measure}
+use Rattle.circus_idl.specs.Seen.Known.{is_known, type_measure}
 use Rattle.circus_idl.specs.Faults.{Before, Cut}
 
 -- what is declared so far
-abbrev pub before_of : Scope → Before
+abbrev pub before_of : Scope → Before Measure
 before_of s = record {
   names = holds_name s.names;
   types = is_known s.types;

@@ -2,11 +2,12 @@ use Rattle.std.proofs.Common.{◌≡◌, ◌+◌, ◌∙◌, ap, sym, map, drop}
 use Rattle.circus_syntax.specs.InterfaceTree.{declared_of}
 use Rattle.circus_idl.specs.Least.{least_from}
 use Rattle.circus_idl.specs.Seen.Tables.{name_value}
-use Rattle.circus_idl.specs.Known.{type_form}
+use Rattle.circus_idl.specs.Seen.Known.{type_form}
 use Rattle.circus_idl.specs.Seen.Scoped.{before_of, cut_in}
 use Rattle.circus_idl.specs.Seen.Drafted.{drafted}
 use Rattle.circus_idl.specs.Faults.{behind, declared_faults, declarations_faults}
 use Rattle.circus_idl.specs.Means.{and_then, declared_meant, declarations_meant, forms_behind}
+use Rattle.circus_idl.specs.Seen.Measured.{cut_off}
 use Rattle.circus_idl.proofs.Dropped.{drop_more}
 use Rattle.circus_idl.proofs.LeastMore.{least_step}
 use Rattle.circus_idl.proofs.DraftMore.{by_none, holds_of_none, none_before, meant_step}
@@ -23,15 +24,15 @@ loop-item-preserved c =
     let cut = cut_in old.scope in
     let before = before_of old.scope in
     let form = type_form old.scope.types in
-    let this = declared_faults cut before d in
-    let rest = declarations_faults cut (behind before d) ds in
+    let this = declared_faults cut_off cut before d in
+    let rest = declarations_faults cut_off cut (behind cut_off before d) ds in
     let found = c.in_ok-add.ensures.found in
     record {
       found =
-          ap (λ k. least_from new.scope.best.fault (declarations_faults k (before_of new.scope) ds)) c.in_ok-add.ensures.cut
-          ∙ ap (λ b. least_from new.scope.best.fault (declarations_faults cut b ds)) c.in_ok-add.ensures.behind
+          ap (λ k. least_from new.scope.best.fault (declarations_faults cut_off k (before_of new.scope) ds)) c.in_ok-add.ensures.cut
+          ∙ ap (λ b. least_from new.scope.best.fault (declarations_faults cut_off cut b ds)) c.in_ok-add.ensures.behind
           ∙ least_step new.scope.best.fault old.scope.best.fault _ this rest found
-          (ap (λ xs. least_from old.scope.best.fault (declarations_faults cut before xs)) (sym left) ∙ c.loop-item.invariant.found);
+          (ap (λ xs. least_from old.scope.best.fault (declarations_faults cut_off cut before xs)) (sym left) ∙ c.loop-item.invariant.found);
       meant = by_none new.scope.best.fault _ (λ none.
           let none_old = none_before old.scope.best.fault this (sym found ∙ none) in
           let formed = holds_of_none new.scope.best.fault (type_form new.scope.types ≡ forms_behind form d) none c.in_ok-add.ensures.formed in

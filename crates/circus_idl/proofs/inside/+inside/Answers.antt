@@ -5,7 +5,7 @@ use Rattle.circus_idl.specs.declared.fault.Cause.TheVariants.{OutOfRange}
 use Rattle.circus_syntax.specs.TypeTree.{group_trees, arm_trees}
 use Rattle.circus_syntax.specs.TypeOf.{tree_of, tree_at, group_of, arm_of}
 use Rattle.circus_idl.specs.Least.{least_from, faults_if}
-use Rattle.circus_idl.specs.Known.{is_known}
+use Rattle.circus_idl.specs.Seen.Known.{is_known}
 use Rattle.circus_idl.specs.Inside as faults
 use Rattle.circus_idl.proofs.Dropped.{drop_more}
 use Rattle.circus_idl.proofs.LeastMore.{least_more, least_step, onward_least, bare_is}

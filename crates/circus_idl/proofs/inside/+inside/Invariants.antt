@@ -3,7 +3,7 @@ use Rattle.circus_syntax.specs.TypeTree.{group_trees, arm_trees}
 use Rattle.circus_syntax.specs.TypeOf.{tree_of, group_of, arm_of}
 use Rattle.circus_syntax.specs.Seen.TypeWeight.{weight, group_weights, arm_weights}
 use Rattle.circus_idl.specs.Least.{least_from}
-use Rattle.circus_idl.specs.Known.{is_known}
+use Rattle.circus_idl.specs.Seen.Known.{is_known}
 use Rattle.circus_idl.specs.Inside as faults
 use Rattle.circus_idl.proofs.inside.+inside.Given as goal
 

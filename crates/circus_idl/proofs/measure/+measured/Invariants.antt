@@ -2,8 +2,8 @@ use Rattle.std.proofs.Common.{◌≡◌, ◌≤◌, length, drop, map}
 use Rattle.circus_syntax.specs.TypeTree.{group_trees, arm_trees}
 use Rattle.circus_syntax.specs.TypeOf.{tree_of, group_of, arm_of}
 use Rattle.circus_syntax.specs.Seen.TypeWeight.{weight, group_weights, arm_weights}
-use Rattle.circus_idl.specs.Known.{type_measure}
-use Rattle.circus_idl.specs.Measured as size
+use Rattle.circus_idl.specs.Seen.Known.{type_measure}
+use Rattle.circus_idl.specs.Seen.Measured as size
 use Rattle.circus_idl.proofs.measure.+measured.Given as goal
 
 -- the size of the groups from a place on

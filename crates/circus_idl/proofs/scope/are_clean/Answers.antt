@@ -2,7 +2,7 @@ use Rattle.std.proofs.Common.{◌∙◌, ap, sym, is_none, map, None}
 use Rattle.circus_syntax.specs.TypeOf.{group_of}
 use Rattle.circus_syntax.specs.TypeTree.{group_trees}
 use Rattle.circus_idl.specs.Least.{least_from}
-use Rattle.circus_idl.specs.Known.{is_known}
+use Rattle.circus_idl.specs.Seen.Known.{is_known}
 use Rattle.circus_idl.specs.Inside.{repeated_names, no_name, group_names, inside_groups}
 use Rattle.circus_idl.proofs.LeastMore.{least_more}
 use Rattle.circus_idl.proofs.ScopeMore.{clean_is, none_result}

@@ -2,7 +2,7 @@ use Rattle.std.proofs.Common.{◌≡◌, ◌++◌, drop, map}
 use Rattle.circus_syntax.specs.TypeTree.{group_trees, arm_trees}
 use Rattle.circus_syntax.specs.TypeOf.{tree_of, group_of, arm_of}
 use Rattle.circus_syntax.specs.Seen.TypeWeight.{weight, group_weights, arm_weights}
-use Rattle.circus_idl.specs.Known.{type_form}
+use Rattle.circus_idl.specs.Seen.Known.{type_form}
 use Rattle.circus_idl.specs.Meaning as meant
 use Rattle.circus_idl.proofs.written.+written.Given as goal
 

@@ -1,7 +1,8 @@
 use Rattle.std.proofs.Common.{◌≡◌, ◌∙◌, ap, sym, map, None}
 use Rattle.circus_value.specs.ShapeOf as shapes
 use Rattle.circus_syntax.specs.TypeOf.{tree_of}
-use Rattle.circus_idl.specs.Known.{type_form, standing_for}
+use Rattle.circus_idl.specs.Seen.Known.{type_form}
+use Rattle.circus_idl.specs.Meaning.{standing_for}
 use Rattle.circus_idl.specs.Meaning.{written}
 use Rattle.circus_idl.specs.Means.{named_shape}
 use Rattle.std.proofs.lemmas.List.{append-nil}

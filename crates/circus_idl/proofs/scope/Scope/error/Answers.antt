@@ -5,6 +5,7 @@ use Rattle.circus_idl.specs.Seen.Tables.{holds_number}
 use Rattle.circus_idl.specs.Seen.Scoped.{before_of, cut_in}
 use Rattle.circus_idl.specs.Inside.{repeated_name, repeated_number, above}
 use Rattle.circus_idl.specs.Faults.{fields_faults}
+use Rattle.circus_idl.specs.Seen.Measured.{cut_off}
 use Rattle.circus_idl.proofs.LeastMore.{least_then}
 use Rattle.circus_idl.proofs.scope.Scope.error.Goals as goal
 
@@ -15,7 +16,7 @@ returns-clause-found c =
     let before = before_of s in
     let best = s.best.fault in
     let name = repeated_name before.names e.name in
-    let fields = fields_faults (cut_in s) before.types before.sizes before.parts e.arguments in
+    let fields = fields_faults cut_off (cut_in s) before.types before.sizes before.parts e.arguments in
     let number = repeated_number before.error_numbers e.number in
     least_then best c.meet-2.new.best.fault c.note_above.new.self.fault (name ++ fields ++ number) (above 59999 e.number)
     (least_then best c.fields.new.self.best.fault c.meet-2.new.best.fault (name ++ fields) number

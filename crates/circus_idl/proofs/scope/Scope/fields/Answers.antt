@@ -1,10 +1,11 @@
 use Rattle.std.proofs.Common.{◌∙◌, ap, sym}
 use Rattle.circus_syntax.specs.TypeTree.{group_trees}
 use Rattle.circus_idl.specs.Least.{least_from}
-use Rattle.circus_idl.specs.Known.{is_known, type_measure}
+use Rattle.circus_idl.specs.Seen.Known.{is_known, type_measure}
 use Rattle.circus_idl.specs.Inside.{repeated_names, no_name, group_names}
 use Rattle.circus_idl.specs.Seen.Scoped.{cut_in}
 use Rattle.circus_idl.specs.Faults.{groups_faults, fields_faults}
+use Rattle.circus_idl.specs.Seen.Measured.{cut_off}
 use Rattle.circus_idl.proofs.LeastMore.{least_more}
 use Rattle.circus_idl.proofs.scope.Scope.fields.Goals as goal
 
@@ -14,9 +15,9 @@ returns-in_ok-groups-clause-found c =
     let best = s.best.fault in
     let groups = group_trees c.in-Some.fields.groups in
     let names = repeated_names no_name (group_names groups) in
-    let types = groups_faults (cut_in s) (is_known s.types) (type_measure s.types) s.parts groups in
+    let types = groups_faults cut_off (cut_in s) (is_known s.types) (type_measure s.types) s.parts groups in
     c.in_ok-groups.ensures.found
-    ∙ ap (λ ts. least_from c.field_names.new.best.fault (groups_faults (cut_in s) (is_known s.types) (type_measure s.types) s.parts (group_trees ts))) c.as_slice-in-Some.ensures
+    ∙ ap (λ ts. least_from c.field_names.new.best.fault (groups_faults cut_off (cut_in s) (is_known s.types) (type_measure s.types) s.parts (group_trees ts))) c.as_slice-in-Some.ensures
     ∙ ap (λ b. least_from b types) (c.in_ok-field_names.ensures ∙ ap (λ ts. least_from best (repeated_names no_name (group_names (group_trees ts)))) c.as_slice.ensures)
     ∙ sym (least_more best names types)
-    ∙ ap (λ o. least_from best (fields_faults (cut_in s) (is_known s.types) (type_measure s.types) s.parts o)) (sym c.in-Some.is)
+    ∙ ap (λ o. least_from best (fields_faults cut_off (cut_in s) (is_known s.types) (type_measure s.types) s.parts o)) (sym c.in-Some.is)

@@ -3,10 +3,11 @@ use Rattle.circus_idl.specs.declared.fault.Fault.{Fault}
 use Rattle.circus_idl.specs.declared.scope.Scope.{Scope}
 use Rattle.circus_idl.specs.Least.{least_from}
 use Rattle.circus_idl.specs.Seen.Tables.{name_value, holds_number}
-use Rattle.circus_idl.specs.Known.{is_known, type_measure}
+use Rattle.circus_idl.specs.Seen.Known.{is_known, type_measure}
 use Rattle.circus_idl.specs.Seen.Scoped.{before_of, cut_in}
 use Rattle.circus_idl.specs.Inside.{repeated_name, repeated_number, above}
 use Rattle.circus_idl.specs.Faults.{together_faults, fields_faults, fields_parts, reports_faults}
+use Rattle.circus_idl.specs.Seen.Measured.{cut_off}
 use Rattle.circus_idl.proofs.LeastMore.{least_then}
 use Rattle.circus_idl.proofs.scope.Scope.procedure.Goals as goal
 
@@ -17,15 +18,15 @@ returns-clause-found c =
     let before = before_of s in
     let best = s.best.fault in
     let name = repeated_name before.names p.name in
-    let together = together_faults (cut_in s) before.types before.sizes p.name p.arguments in
-    let arguments = fields_faults (cut_in s) before.types before.sizes before.parts p.arguments in
-    let results = fields_faults (cut_in s) before.types before.sizes (fields_parts before.sizes before.parts p.arguments) p.results in
+    let together = together_faults cut_off (cut_in s) before.types before.sizes p.name p.arguments in
+    let arguments = fields_faults cut_off (cut_in s) before.types before.sizes before.parts p.arguments in
+    let results = fields_faults cut_off (cut_in s) before.types before.sizes (fields_parts cut_off before.sizes before.parts p.arguments) p.results in
     let reports = reports_faults before.errors p.reports in
     let number = repeated_number before.procedure_numbers p.number in
-    let found : Scope → List Fault = λ t. fields_faults (cut_in t) (is_known t.types) (type_measure t.types) t.parts p.arguments in
-    let found_results : Scope → List Fault = λ t. fields_faults (cut_in t) (is_known t.types) (type_measure t.types) t.parts p.results in
+    let found : Scope → List Fault = λ t. fields_faults cut_off (cut_in t) (is_known t.types) (type_measure t.types) t.parts p.arguments in
+    let found_results : Scope → List Fault = λ t. fields_faults cut_off (cut_in t) (is_known t.types) (type_measure t.types) t.parts p.results in
     let kept = c.in_ok-fields.ensures.others
-    ∙ ap (λ (t : Scope). record t { best = c.fields.new.self.best; parts = fields_parts (type_measure t.types) t.parts p.arguments }) c.in_ok-together.ensures.others in
+    ∙ ap (λ (t : Scope). record t { best = c.fields.new.self.best; parts = fields_parts cut_off (type_measure t.types) t.parts p.arguments }) c.in_ok-together.ensures.others in
     let errors = ap (λ (t : Scope). name_value t.errors) c.in_ok-fields-2.ensures.others ∙ ap (λ (t : Scope). name_value t.errors) kept in
     let numbers = ap (λ (t : Scope). holds_number t.procedure_numbers) c.reports.ensures.others
     ∙ ap (λ (t : Scope). holds_number t.procedure_numbers) c.in_ok-fields-2.ensures.others

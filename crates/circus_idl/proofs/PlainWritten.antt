@@ -1,16 +1,13 @@
--- The tree of a shape that obeys the rules means the shape and is as large.
-use Rattle.std.proofs.Common.{◌≡◌, ℕ, ◌≤◌, List, [], ◌∷◌, refl, ◌∙◌, ap, ap₂, arith, min}
+-- The tree of a shape that obeys the rules means the shape.
+use Rattle.std.proofs.Common.{◌≡◌, ℕ, ◌≤◌, List, [], ◌∷◌, refl, ap, ap₂, arith, min}
 use Rattle.std.specs.Prelude.{map}
 use Rattle.std.specs.List.{AllByRecursion}
 use Rattle.circus_value.specs.declared.shape.Label.{Label}
 use Rattle.circus_value.specs.ShapeTree as shape
 use Rattle.circus_value.specs.ShapeTree.{ShapeTree, FieldTrees, no_fields, more_fields, field_trees, arm_trees}
-use Rattle.circus_idl.specs.declared.measure.Measure.{Measure}
 use Rattle.circus_idl.specs.Meaning.{label_meant, written, written_groups, written_arms}
-use Rattle.circus_idl.specs.Measured.{measure_of, items_measure, sequence_measure, group_measure, arm_measure, record_measure, choice_measure, measured, measured_groups, measured_arms}
 use Rattle.circus_idl.specs.Obeys.{ObeysInside, ObeyFields, ObeyArmTypes, arm_numbers}
 use Rattle.circus_idl.proofs.PlainTypes.{labels_at, type_at, groups_at, arms_at, by_arm}
-use Rattle.circus_idl.proofs.Sizes.{fields_measure, measured_is, groups_measured}
 
 -- a number of one word is meant as it stands
 pub word_meant : (n : ℕ) → n ≤ 65535 → min n 65535 ≡ n
@@ -44,37 +41,3 @@ mutual
   arms_written (shape.more_arms name n s arms) ps form fit obey =
       let inner = by_arm (λ t. (qs : List ℕ) → written form (type_at t qs) ≡ t) s obey.0 (λ qs. refl) (λ obeys qs. type_written s qs form obeys) in
       ap₂ (λ (more : shape.ArmTrees → shape.ArmTrees) others. more others) (ap₂ (λ m t others. shape.more_arms name m t others) (word_meant n fit.0) (inner _)) (arms_written arms _ form fit.1 obey.1)
-
-mutual
-  -- a tree that names no type is as large whatever names stand for
-  alike : (s : ShapeTree) (ps : List ℕ) (sizes others : List ℕ → Measure) → measured sizes (type_at s ps) ≡ measured others (type_at s ps)
-  alike shape.boolean ps sizes others = refl
-  alike shape.cardinal ps sizes others = refl
-  alike shape.long_cardinal ps sizes others = refl
-  alike shape.integer ps sizes others = refl
-  alike shape.long_integer ps sizes others = refl
-  alike shape.text ps sizes others = refl
-  alike (shape.enumeration labels) ps sizes others = refl
-  alike (shape.array n s) ps sizes others = ap (items_measure (min n 65535)) (alike s _ sizes others)
-  alike (shape.sequence n s) ps sizes others = ap sequence_measure (alike s _ sizes others)
-  alike (shape.«record» fs) ps sizes others = ap record_measure (fields_alike fs _ sizes others)
-  alike (shape.choice arms) ps sizes others = ap choice_measure (arms_alike arms _ sizes others)
-
-  fields_alike : (fs : FieldTrees) (ps : List ℕ) (sizes others : List ℕ → Measure) → measured_groups sizes (groups_at fs ps) ≡ measured_groups others (groups_at fs ps)
-  fields_alike no_fields ps sizes others = refl
-  fields_alike (more_fields name s fs) ps sizes others = ap₂ (group_measure 1) (alike s _ sizes others) (fields_alike fs _ sizes others)
-
-  arms_alike : (arms : shape.ArmTrees) (ps : List ℕ) (sizes others : List ℕ → Measure) → measured_arms sizes (arms_at arms ps) ≡ measured_arms others (arms_at arms ps)
-  arms_alike shape.no_arms ps sizes others = refl
-  arms_alike (shape.more_arms name n s arms) ps sizes others = ap₂ arm_measure (alike s _ sizes others) (arms_alike arms _ sizes others)
-
--- the tree is as large as the shape
-pub type_measured : (s : ShapeTree) (ps : List ℕ) (sizes : List ℕ → Measure) → ObeysInside s → measured sizes (type_at s ps) ≡ measure_of s
-type_measured s ps sizes obeys =
-    alike s ps sizes (λ n. measure_of shape.boolean) ∙ measured_is (λ n. shape.boolean) (type_at s ps)
-    ∙ ap measure_of (type_written s ps (λ n. shape.boolean) obeys)
-
-pub fields_measured : (fs : FieldTrees) (ps : List ℕ) (sizes : List ℕ → Measure) → ObeyFields fs → measured_groups sizes (groups_at fs ps) ≡ fields_measure fs
-fields_measured fs ps sizes obey =
-    fields_alike fs ps sizes (λ n. measure_of shape.boolean) ∙ groups_measured (λ n. shape.boolean) (groups_at fs ps)
-    ∙ ap fields_measure (groups_written fs ps (λ n. shape.boolean) obey)

@@ -1,5 +1,5 @@
 -- What a table of declared types says of a name.
-use Rattle.std.specs.Prelude.{ℕ, Bool, cond, bytes_eq, List, Option, Some, None, unwrap_or, option_map, is_some}
+use Rattle.std.specs.Prelude.{ℕ, Bool, List, Option, Some, None, unwrap_or, option_map, is_some}
 use Rattle.std.specs.Ordering.{nat_cmp}
 use Rattle.std.specs.Cmp.Lexicographic.{slice_cmp}
 use Rattle.std.specs.BTreeMap.{get_by}
@@ -9,7 +9,7 @@ use Rattle.circus_value.specs.ShapeOf.{tree_of}
 use Rattle.circus_idl.specs.declared.measure.Measure.{Measure}
 use Rattle.circus_idl.specs.declared.types.KnownType.{KnownType}
 use Rattle.circus_idl.specs.declared.types.Types.{Types}
-use Rattle.circus_idl.specs.Measured.{measure_of}
+use Rattle.circus_idl.specs.Seen.Measured.{measure_of}
 
 -- the type that a name stands for
 abbrev pub type_named : Types → List ℕ → Option KnownType
@@ -31,7 +31,3 @@ tree_or (Some s) = tree_of s
 -- its shape
 abbrev pub type_form : Types → List ℕ → ShapeTree
 type_form types name = unwrap_or (option_map (λ (t : KnownType). tree_or t.shape) (type_named types name)) boolean
-
--- this name stands for this, and others for what they stood for
-abbrev pub standing_for : {A : Type 0} → List ℕ → A → (List ℕ → A) → List ℕ → A
-standing_for name a earlier other = cond (bytes_eq name other) a (earlier other)

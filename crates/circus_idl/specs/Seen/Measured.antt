@@ -1,12 +1,14 @@
--- How large a type is, from how large the types are that it names.
-use Rattle.std.specs.Prelude.{ℕ, ◌+◌, ◌*◌, min, max, cond, ◌==◌, List, length}
+-- How large a type is, with numbers that stop above their limits.
+use Rattle.std.specs.Prelude.{ℕ, ◌+◌, ◌*◌, min, max, cond, Bool, ◌==◌, ◌||◌, nat_lt, List, length}
 use Rattle.circus_value.specs.ShapeTree.{ShapeTree}
+use Rattle.circus_value.specs.ShapeTree as shape
 use Rattle.circus_syntax.specs.TypeTree.{TypeTree, GroupTrees, ArmTrees, boolean, cardinal, long_cardinal, integer, long_integer, text, enumeration, array, sequence, «record», choice, called, no_groups, more_groups, no_arms, more_arms}
 use Rattle.circus_syntax.specs.Spelling.{most_levels}
 use Rattle.circus_idl.specs.declared.measure.Measure.{Measure}
 use Rattle.circus_idl.specs.Limits.{most_parts, most_zero_bytes}
 use Rattle.circus_idl.specs.Written.{parts, levels, zero_size}
 use Rattle.circus_idl.specs.Meaning.{word_of}
+use Rattle.circus_idl.specs.Scale.{Scale}
 
 -- numbers that stop one above their limits
 abbrev pub measure : ℕ → ℕ → ℕ → Measure
@@ -64,3 +66,21 @@ abbrev mutual
   pub measured_arms : (List ℕ → Measure) → ArmTrees → Measure
   measured_arms known no_arms = measure 0 0 0
   measured_arms known (more_arms _ _ t arms) = arm_measure (measured known t) (measured_arms known arms)
+
+-- the parts so far with those of so many more types of one size
+abbrev pub more_parts : ℕ → ℕ → Measure → ℕ
+more_parts so_far n size = min (so_far + n * size.parts) (1 + most_parts)
+
+-- a type of this size, with which there are so many parts, passes a limit
+abbrev pub is_over : ℕ → Measure → Bool
+is_over so_far size = nat_lt most_zero_bytes size.zeros || nat_lt most_levels size.levels || nat_lt most_parts so_far
+
+-- sizes that stop above their limits
+abbrev pub cut_off : Scale Measure
+cut_off = record {
+  of_type = measured;
+  of_none = measure_of shape.boolean;
+  parts_with = more_parts;
+  is_over = is_over;
+  are_over = λ sizes groups. nat_lt most_zero_bytes (measured_groups sizes groups).zeros;
+}

@@ -1,0 +1,33 @@
+-- How large types are told to be.
+use Rattle.std.specs.Prelude.{ℕ, ◌+◌, ◌*◌, Bool, ◌||◌, nat_lt, List}
+use Rattle.circus_value.specs.ShapeTree.{ShapeTree, boolean}
+use Rattle.circus_syntax.specs.Spelling.{most_levels}
+use Rattle.circus_syntax.specs.TypeTree.{TypeTree, GroupTrees}
+use Rattle.circus_idl.specs.Limits.{most_parts, most_zero_bytes}
+use Rattle.circus_idl.specs.Written.{levels, parts, zero_size}
+use Rattle.circus_idl.specs.Whole.{zero_size_of}
+use Rattle.circus_idl.specs.Meaning.{written, written_groups}
+
+-- what a type comes to, where this is what each name comes to; what a name comes to that no type has; the parts so
+-- far with those of so many more types that come to this; whether a type with which there are so many parts passes a
+-- limit; and whether fields together do
+pub record Scale (S : Type 0) : Type 0 where
+  pub of_type : (List ℕ → S) → TypeTree → S
+  pub of_none : S
+  pub parts_with : ℕ → ℕ → S → ℕ
+  pub is_over : ℕ → S → Bool
+  pub are_over : (List ℕ → S) → GroupTrees → Bool
+
+-- a type with which there are so many parts passes a limit
+abbrev pub is_large : ℕ → ShapeTree → Bool
+is_large so_far s = nat_lt most_zero_bytes (zero_size s) || nat_lt most_levels (levels s) || nat_lt most_parts so_far
+
+-- types written out
+abbrev pub written_out : Scale ShapeTree
+written_out = record {
+  of_type = written;
+  of_none = boolean;
+  parts_with = λ so_far n s. so_far + n * parts s;
+  is_over = is_large;
+  are_over = λ forms groups. nat_lt most_zero_bytes (zero_size_of (written_groups forms groups));
+}
