@@ -1,0 +1,19 @@
+-- Who is expected to say a value.
+use Rattle.std.specs.Prelude.{ℕ, Bool, false, nat_le, List, map, filter}
+use Rattle.circus_collate.specs.declared.view.Since.{Since}
+use Rattle.circus_collate.specs.declared.view.Since.TheVariants.{Joining, From}
+use Rattle.circus_collate.specs.declared.view.Entry.{Entry}
+use Rattle.circus_collate.specs.declared.view.View.{View}
+use Rattle.circus_collate.specs.declared.view.Expected.{Expected}
+
+-- a member performs an index itself
+abbrev pub performs : Since → ℕ → Bool
+performs Joining index = false
+performs (From first) index = nat_le first index
+
+-- the nodes of the entries that perform an index themselves, in view order
+unfoldable pub expected_nodes : View → ℕ → List ℕ
+expected_nodes view index = map (λ (e : Entry). e.node) (filter (λ (e : Entry). performs e.since index) view.entries)
+
+abbrev pub nodes_of : Expected → List ℕ
+nodes_of expected = expected_nodes expected.view.now expected.index

@@ -1,0 +1,4 @@
+pub mod Expecting
+pub mod Giving
+pub mod Collating
+pub mod Deployment
