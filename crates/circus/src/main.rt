@@ -1,7 +1,5 @@
 //! The command `circus`: it fetches the files of the folder that it is called in, and writes to the
 //! standard output. No datagram arrives at its link, which is one in memory.
-//!
-//! `tests` has whole runs over the forms in memory, and what two pairs say to each other.
 #![tactic(auto)]
 
 use circus_outside::{Arrivals, DirShelf, Failing, MemLink, StdSink};
@@ -10,9 +8,6 @@ use circus_value::NoMemory;
 use std::alloc::Global;
 use std::process::ExitCode;
 use std::{env, io};
-
-#[cfg(test)]
-mod tests;
 
 fn main(rt: HostRuntime) -> ExitCode {
     let alloc = rt.alloc();

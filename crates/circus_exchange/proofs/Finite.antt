@@ -20,16 +20,16 @@ back : {X : Type 0} (b : Bool) (v x : Option X) → (b ≡ true → x ≡ None) 
 back true v x h = sym (h refl)
 back false v x h = refl
 
-is_equal : (r : Ordering) → is_eq r ≡ true → r ≡ Equal
+pub is_equal : (r : Ordering) → is_eq r ≡ true → r ≡ Equal
 is_equal Less e = absurd cc
 is_equal Equal e = refl
 is_equal Greater e = absurd cc
 
-turned : {K : Type 0} (R : K → K → Ordering) (o : IsTotalOrder R) (q k : K) → eq_by_cmp R q k ≡ true → R k q ≡ Equal
+pub turned : {K : Type 0} (R : K → K → Ordering) (o : IsTotalOrder R) (q k : K) → eq_by_cmp R q k ≡ true → R k q ≡ Equal
 turned R o q k e = is_equal (R k q) (sym ((eq_by_cmp_equiv o).symm q k) ∙ e)
 
 module _ {K X : Type 0} (R : K → K → Ordering) (o : IsTotalOrder R) where
-  find_entry : (es : List (K × X)) (q : K) → find R q es ≡ lookup (is_at (R q)) es
+  pub find_entry : (es : List (K × X)) (q : K) → find R q es ≡ lookup (is_at (R q)) es
   find_entry [] q = refl
   find_entry (e ∷ es) q = ap (cond (is_at (R q) e.0) (Some e.1)) (find_entry es q)
 

@@ -1,17 +1,14 @@
 -- How many segments of a message are there without a gap, and what is joined.
-use Rattle.std.proofs.Common.{◌≡◌, ℕ, zero, suc, ◌+◌, ◌≤◌, ◌⊎◌, inl, inr, Bool, true, false, cond, ◌&&◌, ◌||◌, eqb, List, refl, sym, ap, subst, ◌∙◌, add-one, arith}
-use Rattle.std.proofs.lemmas.Bool.{cases_lt, ne_eqb}
-use Rattle.std.specs.Prelude.{nat_le}
-use Rattle.std.proofs.Common.{not}
-use Rattle.std.specs.FinMap.{FinMap, contains_key, insert, remove}
-use Rattle.circus_exchange.specs.declared.held.Place.{Place}
+use Rattle.std.proofs.Common.{◌≡◌, ◌≢◌, ℕ, zero, suc, ◌+◌, ◌≤◌, ◌⊎◌, inl, inr, Bool, true, false, cond, not, ◌&&◌, ◌||◌, eqb, Option, None, List, [], ◌++◌, refl, sym, ap, subst, ◌∙◌, add-one, arith}
+use Rattle.std.proofs.lemmas.Bool.{cases_lt, eq-eqb, ne_eqb}
+use Rattle.std.specs.Prelude.{nat_le, is_some, unwrap_or}
+use Rattle.std.specs.Ordering.{nat_cmp}
+use Rattle.std.specs.Cmp.{nat_cmp_total}
+use Rattle.std.specs.FinMap.{FinMap, get, insert, remove, nat_cmp-IsAntisymmetric}
 use Rattle.circus_exchange.specs.declared.progress.Progress.{Progress}
-use Rattle.circus_exchange.specs.declared.inbox.Inbox.{Inbox}
-use Rattle.circus_segment.specs.Segment.{Piece}
-use Rattle.circus_exchange.specs.Place.{place_cmp}
-use Rattle.circus_exchange.specs.Inbox.{front, known, has, is_new, has_with, count_with, parts_with, without, added}
+use Rattle.circus_segment.specs.Segment.{Piece, has_data}
 use Rattle.circus_exchange.proofs.Finite.{put_back}
-use Rattle.circus_exchange.proofs.Places.{places_total, exact_places}
+use Rattle.circus_exchange.specs.Inbox.{Arriving, part_of, with_part, is_there, front, known, has, is_new, has_with, count_with, completes, data_with, joined, parts_with, added}
 
 -- the numbers 1 to a pass
 abbrev pub PassTo : (ℕ → Bool) → ℕ → Type 0
@@ -49,54 +46,67 @@ front_is passes m a le h end = elim end [
 new_parts : (full low there : Bool) → (full && not (low || there)) ≡ true → (low ≡ false) × (there ≡ false)
 new_parts full low there h = grind arith
 
--- with new data a message had less than that number, and all up to there is still there
-pub new_counts : (box : Inbox) (s : Piece) (p : Progress) → p ≡ known box s → is_new box s ≡ true → s.number ≤ s.total → (p.count ≤ s.total) × PassTo (has_with box s) p.count
-unfolding is_new has has_with
-new_counts box s p is new within =
-    let counts : p.count ≡ (known box s).count = ap (λ (q : Progress). q.count) is in
-    let low : nat_le s.number (known box s).count ≡ false = (new_parts _ _ _ new).0 in
-    (grind arith, λ k one le. grind arith)
+-- ---- a segment that comes, of a message of which this much is known
 
--- the place of new data is free
-pub new_place : (box : Inbox) (s : Piece) → is_new box s ≡ true → contains_key box.parts (record { call = s.call; number = s.number }) ≡ false
+pub is_new_is : (box : Arriving) (s : Piece) (p : Progress) (o : Option (FinMap nat_cmp (List ℕ))) → p ≡ known box s → o ≡ get box.parts s.call → (has_data s && not (is_there p o s.number)) ≡ is_new box s
 unfolding is_new has
-new_place box s new = (new_parts _ _ _ new).1
+is_new_is box s p o is parts = ap (λ (q : Progress). has_data s && not (is_there q o s.number)) is ∙ ap (λ x. has_data s && not (is_there (known box s) x s.number)) parts
 
-pub count_of_new : (box : Inbox) (s : Piece) (a : ℕ) → is_new box s ≡ true → a ≤ s.total → PassTo (has_with box s) a → ((a ≡ s.total) ⊎ (has_with box s (a + 1) ≡ false)) → a ≡ count_with box s
-unfolding count_with
-count_of_new box s a new le h end = rw new (sym (front_is (has_with box s) s.total a le h end))
+pub count_of_new : (box : Arriving) (s : Piece) (p : Progress) (o : Option (FinMap nat_cmp (List ℕ))) → p ≡ known box s → o ≡ get box.parts s.call → is_new box s ≡ true → front (λ number. is_there p o number || eqb number s.number) s.total ≡ count_with box s
+unfolding count_with has_with has
+count_of_new box s p o is parts new =
+    ap (λ (q : Progress). front (λ number. is_there q o number || eqb number s.number) s.total) is
+    ∙ ap (λ x. front (λ number. is_there (known box s) x number || eqb number s.number) s.total) parts
+    ∙ sym (ap (λ b. cond b (front (λ number. is_there (known box s) (get box.parts s.call) number || eqb number s.number) s.total) (known box s).count) new)
 
-pub count_of_old : (box : Inbox) (s : Piece) (p : Progress) → p ≡ known box s → is_new box s ≡ false → p.count ≡ count_with box s
+pub count_of_old : (box : Arriving) (s : Piece) (p : Progress) → p ≡ known box s → is_new box s ≡ false → p.count ≡ count_with box s
 unfolding count_with
 count_of_old box s p is old = rw old (ap (λ (q : Progress). q.count) is)
 
-pub added_old : (box : Inbox) (s : Piece) (count : ℕ) → is_new box s ≡ false → count ≡ count_with box s → record { progress = insert box.progress s.call (record { total = s.total; count = count }); parts = box.parts } ≡ added box s
-unfolding added parts_with
-added_old box s count old is = rw (is, old) refl
+pub completes_is : (box : Arriving) (s : Piece) (new : Bool) (count : ℕ) → new ≡ is_new box s → count ≡ count_with box s → (new && eqb count s.total) ≡ completes box s
+unfolding completes
+completes_is box s new count is counted = ap (λ b. b && eqb count s.total) is ∙ ap (λ n. is_new box s && eqb n s.total) counted
 
-pub added_whole : (box : Inbox) (s : Piece) (count : ℕ) → is_new box s ≡ true → count ≡ count_with box s → count ≡ s.total → record { progress = insert box.progress s.call (record { total = s.total; count = count }); parts = without box.parts s.call s.total } ≡ added box s
-unfolding added parts_with
-added_whole box s count new is whole =
-    let end : eqb (count_with box s) s.total ≡ true = grind arith in
-    rw (is, new, end) refl
+-- with new data a message had less than that number
+pub new_low : (p : Progress) (o : Option (FinMap nat_cmp (List ℕ))) (s : Piece) → (has_data s && not (is_there p o s.number)) ≡ true → s.number ≤ s.total → p.count ≤ s.total
+new_low p o s new within = (let low : nat_le s.number p.count ≡ false = (new_parts _ _ _ new).0 in grind arith)
 
-added_part : (box : Inbox) (s : Piece) (count : ℕ) → is_new box s ≡ true → count ≡ count_with box s → (count ≡ s.total → ⊥) → record { progress = insert box.progress s.call (record { total = s.total; count = count }); parts = insert box.parts (record { call = s.call; number = s.number }) s.part } ≡ added box s
-unfolding added parts_with
-added_part box s count new is part =
-    let end : eqb (count_with box s) s.total ≡ false = ne_eqb _ _ (λ e. part (is ∙ e)) in
-    rw (is, new, end) refl
+-- the numbers up to the count are there
+pub there_at_first : (p : Progress) (o : Option (FinMap nat_cmp (List ℕ))) (number : ℕ) → PassTo (λ k. is_there p o k || eqb k number) p.count
+there_at_first p o number k one le = grind arith
 
--- a part that was put and taken out again leaves all as it was
-pub undone : (box new : Inbox) (kept taken : FinMap place_cmp (List ℕ)) (k : Place) (v : List ℕ) → contains_key box.parts k ≡ false → kept ≡ insert box.parts k v → new ≡ record { progress = box.progress; parts = kept } → taken ≡ remove new.parts k → ◌≡◌ {A = Inbox} (record { progress = new.progress; parts = taken }) box
-undone box new kept taken k v free put same out =
-    ap (λ (p : FinMap place_cmp (List ℕ)). record { progress = new.progress; parts = p }) out
-    ∙ ap (λ (b : Inbox). record { progress = b.progress; parts = remove b.parts k }) same
-    ∙ ap (λ (p : FinMap place_cmp (List ℕ)). record { progress = box.progress; parts = remove p k }) put
-    ∙ ap (λ (p : FinMap place_cmp (List ℕ)). record { progress = box.progress; parts = p }) (put_back place_cmp places_total exact_places box.parts k v free)
+-- ---- a segment that is added
 
--- a part that is kept
-pub kept_part : (box new : Inbox) (s : Piece) (count : ℕ) (kept : FinMap place_cmp (List ℕ)) (v : List ℕ) → is_new box s ≡ true → count ≡ count_with box s → (count ≡ s.total → ⊥) → v ≡ s.part → kept ≡ insert box.parts (record { call = s.call; number = s.number }) v → new ≡ record { progress = insert box.progress s.call (record { total = s.total; count = count }); parts = kept } → new ≡ added box s
-kept_part box new s count kept v new_data is part bytes put same =
-    same
-    ∙ ap (λ (p : FinMap place_cmp (List ℕ)). record { progress = insert box.progress s.call (record { total = s.total; count = count }); parts = p }) (put ∙ ap (insert box.parts (record { call = s.call; number = s.number })) bytes)
-    ∙ added_part box s count new_data is part
+pub parts_old : (box : Arriving) (s : Piece) → is_new box s ≡ false → parts_with box s ≡ box.parts
+unfolding parts_with
+parts_old box s old = rw old refl
+
+pub parts_whole : (box : Arriving) (s : Piece) → is_new box s ≡ true → count_with box s ≡ s.total → parts_with box s ≡ remove box.parts s.call
+unfolding parts_with
+parts_whole box s new whole = rw (new, eq-eqb (count_with box s) s.total whole) refl
+
+pub parts_part : (box : Arriving) (s : Piece) → is_new box s ≡ true → count_with box s ≢ s.total → parts_with box s ≡ with_part box.parts s.call s.number s.part
+unfolding parts_with
+parts_part box s new open_ = rw (new, ne_eqb (count_with box s) s.total open_) refl
+
+pub added_is : (box : Arriving) (s : Piece) (count : ℕ) (noted : FinMap nat_cmp Progress) (parts : FinMap nat_cmp (FinMap nat_cmp (List ℕ))) → count ≡ count_with box s → noted ≡ insert box.progress s.call (record { total = s.total; count = count }) → parts ≡ parts_with box s → ◌≡◌ {A = Arriving} (record { progress = noted; parts = parts }) (added box s)
+unfolding added
+added_is box s count noted parts is note part =
+    ap (λ (m : FinMap nat_cmp Progress). record { progress = m; parts = parts }) note
+    ∙ ap (λ (n : ℕ). record { progress = insert box.progress s.call (record { total = s.total; count = n }); parts = parts }) is
+    ∙ ap (λ (m : FinMap nat_cmp (FinMap nat_cmp (List ℕ))). record { progress = insert box.progress s.call (record { total = s.total; count = count_with box s }); parts = m }) part
+
+-- a part that was put and given up again leaves all as it was
+pub undone : (parts kept taken : FinMap nat_cmp (FinMap nat_cmp (List ℕ))) (call number : ℕ) (part : List ℕ) → get parts call ≡ None → kept ≡ with_part parts call number part → taken ≡ remove kept call → taken ≡ parts
+undone parts kept taken call number part free put out =
+    out ∙ ap (λ (m : FinMap nat_cmp (FinMap nat_cmp (List ℕ))). remove m call) put
+    ∙ put_back nat_cmp nat_cmp_total nat_cmp-IsAntisymmetric parts call _ (ap is_some free)
+
+-- ---- a message that is joined
+
+pub data_is : (box : Arriving) (s : Piece) (o : Option (FinMap nat_cmp (List ℕ))) (number : ℕ) → o ≡ get box.parts s.call → cond (eqb number s.number) s.part (unwrap_or (part_of o number) []) ≡ data_with box s number
+unfolding data_with
+data_is box s o number is = ap (λ x. cond (eqb number s.number) s.part (unwrap_or (part_of x number) [])) is
+
+pub joined_more : (f : ℕ → List ℕ) (n : ℕ) (message data_ : List ℕ) → message ≡ joined f n → data_ ≡ f (n + 1) → message ++ data_ ≡ joined f (n + 1)
+joined_more f n message data_ before here = rw (before, here, add-one) refl

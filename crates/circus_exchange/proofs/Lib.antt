@@ -1,6 +1,9 @@
+pub mod Endings
 pub mod Finite
+pub mod Holding
 pub mod Inboxes
+pub mod Knowing
+pub mod Numbering
 pub mod Outboxes
-pub mod Places
 pub mod Rising
 pub mod Ties

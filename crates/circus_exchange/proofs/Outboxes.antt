@@ -10,20 +10,8 @@ use Rattle.std.specs.Ordering.{nat_cmp}
 use Rattle.std.specs.FinMap.{FinMap, nat_cmp-IsAntisymmetric, get, insert, remove, entries, entries_sorted, is_sorted}
 use Rattle.std.specs.FinMap.Entries.{below_all}
 use Rattle.circus_exchange.specs.declared.progress.Progress.{Progress}
-use Rattle.circus_exchange.specs.declared.outbox.Outbox.{Outbox}
-use Rattle.circus_exchange.specs.Outbox.{handed, reminder_of, reminder, reminders}
-use Rattle.circus_exchange.proofs.Finite.{put_back}
+use Rattle.circus_exchange.specs.Outbox.{HandedOver, reminder_of, reminder, reminders}
 use Rattle.circus_exchange.proofs.Rising.{left, right, rising}
-
--- a message that found no memory leaves all as it was
-pub handed_back : (box : Outbox) (noted taken : FinMap nat_cmp Progress) (messages : FinMap nat_cmp (List ℕ)) (call : ℕ) (p : Progress) → get box.progress call ≡ None → noted ≡ insert box.progress call p → taken ≡ remove noted call → messages ≡ box.messages → ◌≡◌ {A = Outbox} (record { progress = taken; messages = messages }) box
-handed_back box noted taken messages call p free put out same =
-    ap (λ (m : FinMap nat_cmp (List ℕ)). record { progress = taken; messages = m }) same
-    ∙ ap (λ (m : FinMap nat_cmp Progress). record { progress = m; messages = box.messages }) (out ∙ ap (λ (m : FinMap nat_cmp Progress). remove m call) put ∙ put_back nat_cmp nat_cmp_total nat_cmp-IsAntisymmetric box.progress call p (ap is_some free))
-
-pub handed_is : (box : Outbox) (noted : FinMap nat_cmp Progress) (messages : FinMap nat_cmp (List ℕ)) (call total : ℕ) (message : List ℕ) → noted ≡ insert box.progress call (record { total = total; count = 0 }) → messages ≡ insert box.messages call message → ◌≡◌ {A = Outbox} (record { progress = noted; messages = messages }) (handed box call total message)
-unfolding handed
-handed_is box noted messages call total message a b i = record { progress = a i; messages = b i }
 
 -- the datagrams of no messages
 pub reminded_none : (sent : List (List ℕ)) → sent ≡ sent ++ []
@@ -42,12 +30,12 @@ reminded_more f sent old new es x before after =
 
 -- ---- a walk that ends at the first number past a limit
 
-pub reminded_below : (box : Outbox) (format kind limit number : ℕ) (message : List ℕ) → number < limit → reminder_of format kind number message (get box.progress number) ≡ reminder box format kind limit (number, message)
+pub reminded_below : (box : HandedOver) (format kind limit number : ℕ) (message : List ℕ) → number < limit → reminder_of format kind number message (get box.progress number) ≡ reminder box format kind limit (number, message)
 unfolding reminder
 reminded_below box format kind limit number message less = sym (ap (λ b. cond b (reminder_of format kind number message (get box.progress number)) []) (lt-ltb number limit less))
 
 -- from a number on that is past the limit nothing is sent
-none_past : (box : Outbox) (format kind limit number : ℕ) (es : List (ℕ × List ℕ)) → limit ≤ number → T (below_all nat_cmp number es) → flat_map (reminder box format kind limit) es ≡ []
+none_past : (box : HandedOver) (format kind limit number : ℕ) (es : List (ℕ × List ℕ)) → limit ≤ number → T (below_all nat_cmp number es) → flat_map (reminder box format kind limit) es ≡ []
 unfolding reminder
 none_past box format kind limit number [] past rises = refl
 none_past box format kind limit number (e ∷ es) past rises =
@@ -59,7 +47,7 @@ later_sorted : (seen rest : List (ℕ × List ℕ)) → T (is_sorted nat_cmp (se
 later_sorted [] rest sorted = sorted
 later_sorted (e ∷ seen) rest sorted = later_sorted seen rest (right _ _ sorted)
 
-pub reminded_all : (box : Outbox) (format kind limit : ℕ) (sent now : List (List ℕ)) (seen : List (ℕ × List ℕ)) (number : ℕ) (message : List ℕ) (rest : List (ℕ × List ℕ)) → entries box.messages ≡ seen ++ (number, message) ∷ rest → limit ≤ number → now ≡ sent ++ flat_map (reminder box format kind limit) seen → now ≡ sent ++ reminders box format kind limit
+pub reminded_all : (box : HandedOver) (format kind limit : ℕ) (sent now : List (List ℕ)) (seen : List (ℕ × List ℕ)) (number : ℕ) (message : List ℕ) (rest : List (ℕ × List ℕ)) → entries box.messages ≡ seen ++ (number, message) ∷ rest → limit ≤ number → now ≡ sent ++ flat_map (reminder box format kind limit) seen → now ≡ sent ++ reminders box format kind limit
 unfolding reminders reminder
 reminded_all box format kind limit sent now seen number message rest is past so_far =
     let sorted : T (is_sorted nat_cmp ((number, message) ∷ rest)) = later_sorted seen ((number, message) ∷ rest) (subst (λ es. T (is_sorted nat_cmp es)) is (entries_sorted box.messages)) in

@@ -1,5 +1,5 @@
 -- Which keys of a table tie.
-use Rattle.std.proofs.Common.{◌≡◌, ℕ, Bool, true, false, ◌&&◌, eqb, refl, sym, ap, subst, ◌∙◌, inl, inr}
+use Rattle.std.proofs.Common.{◌≡◌, ℕ, Bool, true, false, eqb, refl, sym, subst, ◌∙◌, inl, inr}
 use Rattle.std.specs.Cmp.{nat_cmp_total, eq_by_cmp_equiv}
 use Rattle.std.specs.Ordering.{nat_cmp, eq_by_cmp, is_eq}
 use Rattle.std.specs.declared.cmp.Ordering.{Ordering}
@@ -7,9 +7,6 @@ use Rattle.std.specs.declared.cmp.Ordering.TheVariants.{Less, Equal, Greater}
 use Rattle.std.specs.FinMap.{nat_cmp-IsAntisymmetric}
 use Rattle.std.proofs.lemmas.Bool.{eqb-true, ne_eqb}
 use Rattle.std.proofs.lemmas.Bool.Decides.{eqb_tells}
-use Rattle.circus_exchange.specs.declared.held.Place.{Place}
-use Rattle.circus_exchange.specs.Place.{place_cmp}
-use Rattle.circus_exchange.proofs.Places.{places_total, exact_places}
 
 tie : (r : Ordering) → is_eq r ≡ true → r ≡ Equal
 tie Less e = absurd cc
@@ -34,18 +31,3 @@ nat_ties q k = alike _ _
 -- another number does not
 pub other_key : (q k : ℕ) → (q ≡ k → ⊥) → eq_by_cmp nat_cmp q k ≡ false
 other_key q k differ = nat_ties q k ∙ ne_eqb q k differ
-
-both : (a b : Bool) → (a && b) ≡ true → (a ≡ true) × (b ≡ true)
-both true b h = (refl, h)
-both false b h = absurd cc
-
--- places tie where call and number do
-pub places_tie : (q j n k : ℕ) → eq_by_cmp place_cmp (record { call = q; number = j }) (record { call = n; number = k }) ≡ (eqb q n && eqb j k)
-places_tie q j n k = alike _ _
-    (λ h. let same : ◌≡◌ {A = Place} (record { call = q; number = j }) (record { call = n; number = k }) = exact_places _ _ (tie _ h) in
-    let calls : q ≡ n = ap (λ (p : Place). p.call) same in
-    let numbers : j ≡ k = ap (λ (p : Place). p.number) same in
-    subst (λ x. (eqb q x && eqb j k) ≡ true) calls (subst (λ y. (eqb q q && eqb j y) ≡ true) numbers (rw (equal q) (equal j))))
-    (λ h. let parts = both (eqb q n) (eqb j k) h in
-    subst (λ x. eq_by_cmp place_cmp (record { call = q; number = j }) (record { call = x; number = k }) ≡ true) (eqb-true q n parts.0)
-    (subst (λ y. eq_by_cmp place_cmp (record { call = q; number = j }) (record { call = q; number = y }) ≡ true) (eqb-true j k parts.1) ((eq_by_cmp_equiv places_total).refl (record { call = q; number = j }))))

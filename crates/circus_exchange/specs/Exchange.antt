@@ -6,20 +6,19 @@ use Rattle.circus_exchange.specs.declared.progress.Progress.{Progress}
 use Rattle.circus_exchange.specs.declared.exchange.Exchange.{Exchange}
 use Rattle.circus_exchange.specs.declared.taken.Arrived.{Arrived}
 use Rattle.circus_exchange.specs.declared.taken.Arrived.TheVariants.{Nothing, ArrivedCall, ArrivedReturn}
-use Rattle.circus_segment.specs.Segment.{Piece, most_segments, is_acknowledgement}
+use Rattle.circus_segment.specs.Segment.{Piece, part_size, most_segments, is_acknowledgement}
 use Rattle.circus_segment.specs.Cut.{Outgoing, segment_count, whole}
+use Rattle.circus_exchange.specs.Limits.{window, patience}
 use Rattle.circus_exchange.specs.Inbox.{fits, completes, data_with, joined, acknowledgement, added}
 use Rattle.circus_exchange.specs.Outbox.{agrees, outgoing_at, whole_of, handed, reached, becomes_whole, emptied, forgotten, reminders}
 
 -- a message that can be sent in a format
 abbrev pub IsSendable : ℕ → List ℕ → Type 0
-IsSendable format message = (0 < length message) × (length message ≤ 1024 * most_segments format)
+IsSendable format message = (0 < length message) × (length message ≤ part_size * most_segments format)
 
 -- an end before anything happened
-abbrev pub start : ℕ → ℕ → ℕ → ℕ → Exchange
-start local remote number format = record {
-  local = local;
-  remote = remote;
+abbrev pub start : ℕ → ℕ → Exchange
+start number format = record {
   format = format;
   next = number;
   sent = number;
@@ -36,7 +35,7 @@ start local remote number format = record {
 
 -- a call that is handed over is sent at once
 unfoldable pub sends_at_once : Exchange → Bool
-sends_at_once e = nat_lt e.in_flight 64 && (e.sent == e.next)
+sends_at_once e = nat_lt e.in_flight window && (e.sent == e.next)
 
 unfoldable pub called : Exchange → List ℕ → Exchange
 called e message = record e {
@@ -86,7 +85,7 @@ takes e s =
 
 -- a call that waits may go
 unfoldable pub lets_go : Exchange → ℕ → Bool
-lets_go e in_flight = not e.stopped && (nat_lt in_flight 64 && nat_lt e.sent e.next)
+lets_go e in_flight = not e.stopped && (nat_lt in_flight window && nat_lt e.sent e.next)
 
 -- with the first call that waits sent, if it may go
 unfoldable pub let_go : Exchange → Exchange
@@ -168,10 +167,10 @@ abbrev pub is_waiting : Exchange → Bool
 is_waiting e = not (len e.calls.messages == 0)
 
 unfoldable pub ticked : Exchange → Exchange
-ticked e = record e { ticks = if is_waiting e && nat_lt e.ticks 8 then e.ticks + 1 else e.ticks }
+ticked e = record e { ticks = if is_waiting e && nat_lt e.ticks patience then e.ticks + 1 else e.ticks }
 
 unfoldable pub is_suspect : Exchange → Bool
-is_suspect e = is_waiting e && (e.ticks == 7)
+is_suspect e = is_waiting e && (e.ticks + 1 == patience)
 
 unfoldable pub datagrams_of_tick : Exchange → List (List ℕ)
 datagrams_of_tick e = reminders e.calls e.format 0 e.sent ++ reminders e.returns e.format 1 (2 ^ 32)

@@ -1,10 +1,14 @@
 -- Messages of one kind that come in.
-use Rattle.std.specs.Prelude.{ℕ, zero, suc, Bool, not, ◌&&◌, ◌||◌, List, [], ◌∷◌, ◌++◌, unwrap_or, nat_lt, nat_le, ◌==◌, if◌then◌else◌}
-use Rattle.std.specs.FinMap.{FinMap, get, contains_key, insert, remove}
+use Rattle.std.specs.Prelude.{ℕ, zero, suc, Bool, not, ◌&&◌, ◌||◌, List, [], ◌∷◌, ◌++◌, Option, None, Some, is_some, unwrap_or, nat_lt, nat_le, ◌==◌, if◌then◌else◌}
+use Rattle.std.specs.Ordering.{nat_cmp}
+use Rattle.std.specs.FinMap.{FinMap, empty, get, insert, remove}
 use Rattle.circus_exchange.specs.declared.progress.Progress.{Progress}
-use Rattle.circus_exchange.specs.declared.inbox.Inbox.{Inbox}
 use Rattle.circus_segment.specs.Segment.{Piece, has_data, spelling}
-use Rattle.circus_exchange.specs.Place.{place_cmp}
+
+-- how far each message has come, by the number of its call, and the data of those that are begun and not whole, by the numbers of their segments
+pub record Arriving : Type 0 where
+  pub progress : FinMap nat_cmp Progress
+  pub parts : FinMap nat_cmp (FinMap nat_cmp (List ℕ))
 
 -- how many of the numbers 1 to m pass, from 1 on without a gap
 abbrev pub front : (ℕ → Bool) → ℕ → ℕ
@@ -12,65 +16,71 @@ front passes zero = 0
 front passes (suc m) = if (front passes m == m) && passes (suc m) then suc m else front passes m
 
 -- what is known of the message of a segment: what the first of its segments said
-unfoldable pub known : Inbox → Piece → Progress
+unfoldable pub known : Arriving → Piece → Progress
 known box s = unwrap_or (get box.progress s.call) (record { total = s.total; count = 0 })
 
 -- the segment has the total of its message
-unfoldable pub fits : Inbox → Piece → Bool
+unfoldable pub fits : Arriving → Piece → Bool
 fits box s = (known box s).total == s.total
 
+abbrev pub part_of : Option (FinMap nat_cmp (List ℕ)) → ℕ → Option (List ℕ)
+part_of None number = None
+part_of (Some parts) number = get parts number
+
+-- the data of a number is there, of a message that has come so far and of which these parts are there
+abbrev pub is_there : Progress → Option (FinMap nat_cmp (List ℕ)) → ℕ → Bool
+is_there progress parts number = nat_le number progress.count || is_some (part_of parts number)
+
 -- the data of a number of its message is there already
-unfoldable pub has : Inbox → Piece → ℕ → Bool
-has box s number = nat_le number (known box s).count || contains_key box.parts (record { call = s.call; number = number })
+unfoldable pub has : Arriving → Piece → ℕ → Bool
+has box s number = is_there (known box s) (get box.parts s.call) number
 
 -- the segment has data that is not there yet
-unfoldable pub is_new : Inbox → Piece → Bool
+unfoldable pub is_new : Arriving → Piece → Bool
 is_new box s = has_data s && not (has box s s.number)
 
 -- the data of a number is there with this segment
-unfoldable pub has_with : Inbox → Piece → ℕ → Bool
+unfoldable pub has_with : Arriving → Piece → ℕ → Bool
 has_with box s number = has box s number || number == s.number
 
 -- how many segments of its message are there with this one, from the first on without a gap
-unfoldable pub count_with : Inbox → Piece → ℕ
+unfoldable pub count_with : Arriving → Piece → ℕ
 count_with box s = if is_new box s then front (has_with box s) s.total else (known box s).count
 
 -- the segment is the last that its message lacked
-unfoldable pub completes : Inbox → Piece → Bool
+unfoldable pub completes : Arriving → Piece → Bool
 completes box s = is_new box s && (count_with box s == s.total)
 
 -- the data of a number of its message, with this segment
-unfoldable pub data_with : Inbox → Piece → ℕ → List ℕ
-data_with box s number = if number == s.number then s.part else unwrap_or (get box.parts (record { call = s.call; number = number })) []
+unfoldable pub data_with : Arriving → Piece → ℕ → List ℕ
+data_with box s number = if number == s.number then s.part else unwrap_or (part_of (get box.parts s.call) number) []
 
 -- the data of the numbers 1 to m, joined
 abbrev pub joined : (ℕ → List ℕ) → ℕ → List ℕ
 joined data_at zero = []
 joined data_at (suc m) = joined data_at m ++ data_at (suc m)
 
--- parts without those of a call's numbers 1 to m
-abbrev pub without : FinMap place_cmp (List ℕ) → ℕ → ℕ → FinMap place_cmp (List ℕ)
-without parts call zero = parts
-without parts call (suc m) = remove (without parts call m) (record { call = call; number = suc m })
+-- parts with one more, of a segment of a call
+abbrev pub with_part : FinMap nat_cmp (FinMap nat_cmp (List ℕ)) → ℕ → ℕ → List ℕ → FinMap nat_cmp (FinMap nat_cmp (List ℕ))
+with_part parts call number part = insert parts call (insert (unwrap_or (get parts call) empty) number part)
 
 -- the parts once a segment was added: those of a message that is whole are given up
-unfoldable pub parts_with : Inbox → Piece → FinMap place_cmp (List ℕ)
+unfoldable pub parts_with : Arriving → Piece → FinMap nat_cmp (FinMap nat_cmp (List ℕ))
 parts_with box s =
     if is_new box s
-    then (if count_with box s == s.total then without box.parts s.call s.total else insert box.parts (record { call = s.call; number = s.number }) s.part)
+    then (if count_with box s == s.total then remove box.parts s.call else with_part box.parts s.call s.number s.part)
     else box.parts
 
 -- with one more segment
-unfoldable pub added : Inbox → Piece → Inbox
+unfoldable pub added : Arriving → Piece → Arriving
 added box s = record { progress = insert box.progress s.call (record { total = s.total; count = count_with box s }); parts = parts_with box s }
 
--- the acknowledgement that a segment gets
-abbrev pub answer : Inbox → Piece → Piece
-answer box s = record { format = s.format; kind = s.kind; control = 1; total = s.total; number = count_with box s; call = s.call; part = [] }
+-- the acknowledgement that a segment gets which completes its message or doesn't, and with which so many are there from the first on without a gap: where it asks for one, completes its message, or leaves a smaller number missing, and the other end isn't down
+unfoldable pub acknowledged : Bool → Piece → Bool → ℕ → List (List ℕ)
+acknowledged stopped s complete count =
+    if not stopped && (s.control == 2 || (complete || nat_lt count s.number))
+    then spelling (record { format = s.format; kind = s.kind; control = 1; total = s.total; number = count; call = s.call; part = [] }) ∷ []
+    else []
 
--- it asks for one, completes its message, or leaves a smaller number missing
-unfoldable pub is_owed : Inbox → Piece → Bool
-is_owed box s = s.control == 2 || (completes box s || nat_lt (count_with box s) s.number)
-
-unfoldable pub acknowledgement : Bool → Inbox → Piece → List (List ℕ)
-acknowledgement stopped box s = if not stopped && is_owed box s then spelling (answer box s) ∷ [] else []
+abbrev pub acknowledgement : Bool → Arriving → Piece → List (List ℕ)
+acknowledgement stopped box s = acknowledged stopped s (completes box s) (count_with box s)

@@ -1,4 +1,5 @@
-pub mod Exchange
+pub mod Limits
 pub mod Inbox
 pub mod Outbox
-pub mod Place
+pub mod Exchange
+pub mod Seen

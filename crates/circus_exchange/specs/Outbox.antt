@@ -3,16 +3,20 @@ use Rattle.std.specs.Prelude.{ℕ, ◌+◌, Bool, false, ◌&&◌, List, [], ◌
 use Rattle.std.specs.FinMap.{FinMap, get, contains_key, insert, remove, entries}
 use Rattle.std.specs.Ordering.{nat_cmp}
 use Rattle.circus_exchange.specs.declared.progress.Progress.{Progress}
-use Rattle.circus_exchange.specs.declared.outbox.Outbox.{Outbox}
 use Rattle.circus_segment.specs.Segment.{Piece, spelling}
 use Rattle.circus_segment.specs.Cut.{Outgoing, segment_of, whole}
+
+-- how far each message has come that was handed over, by the number of its call, and those that may have to be sent again; of a call that waits for its return and is acknowledged whole an empty one
+pub record HandedOver : Type 0 where
+  pub progress : FinMap nat_cmp Progress
+  pub messages : FinMap nat_cmp (List ℕ)
 
 abbrev pub has_total : Option Progress → ℕ → Bool
 has_total None total = false
 has_total (Some p) total = p.total == total
 
 -- the segment speaks of a message that was handed over, and has its total
-unfoldable pub agrees : Outbox → Piece → Bool
+unfoldable pub agrees : HandedOver → Piece → Bool
 agrees box s = has_total (get box.progress s.call) s.total
 
 abbrev pub on_its_way : ℕ → ℕ → ℕ → Option Progress → Option (List ℕ) → Option Outgoing
@@ -21,7 +25,7 @@ on_its_way format kind call (Some p) None = None
 on_its_way format kind call None message = None
 
 -- the message of a call on its way
-unfoldable pub outgoing_at : Outbox → ℕ → ℕ → ℕ → Option Outgoing
+unfoldable pub outgoing_at : HandedOver → ℕ → ℕ → ℕ → Option Outgoing
 outgoing_at box format kind call = on_its_way format kind call (get box.progress call) (get box.messages call)
 
 abbrev pub whole_of : Option Outgoing → List (List ℕ)
@@ -29,7 +33,7 @@ whole_of None = []
 whole_of (Some m) = whole m
 
 -- with a message handed over
-unfoldable pub handed : Outbox → ℕ → ℕ → List ℕ → Outbox
+unfoldable pub handed : HandedOver → ℕ → ℕ → List ℕ → HandedOver
 handed box call total message = record { progress = insert box.progress call (record { total = total; count = 0 }); messages = insert box.messages call message }
 
 abbrev pub raised : FinMap nat_cmp Progress → ℕ → Option Progress → ℕ → FinMap nat_cmp Progress
@@ -37,7 +41,7 @@ raised progress call None count = progress
 raised progress call (Some p) count = if nat_lt p.count count then insert progress call (record { total = p.total; count = count }) else progress
 
 -- once the segments 1 to count are acknowledged
-unfoldable pub reached : Outbox → ℕ → ℕ → Outbox
+unfoldable pub reached : HandedOver → ℕ → ℕ → HandedOver
 reached box call count = record box { progress = raised box.progress call (get box.progress call) count }
 
 abbrev pub whole_by : Option Progress → ℕ → Bool
@@ -45,15 +49,15 @@ whole_by None count = false
 whole_by (Some p) count = nat_lt p.count count && (p.total == count)
 
 -- that makes the message acknowledged whole, which it wasn't
-unfoldable pub becomes_whole : Outbox → ℕ → ℕ → Bool
+unfoldable pub becomes_whole : HandedOver → ℕ → ℕ → Bool
 becomes_whole box call count = whole_by (get box.progress call) count
 
 -- without the bytes of a message, whose call still waits for its return
-unfoldable pub emptied : Outbox → ℕ → Outbox
+unfoldable pub emptied : HandedOver → ℕ → HandedOver
 emptied box call = record box { messages = if contains_key box.messages call then insert box.messages call [] else box.messages }
 
 -- without a message
-unfoldable pub forgotten : Outbox → ℕ → Outbox
+unfoldable pub forgotten : HandedOver → ℕ → HandedOver
 forgotten box call = record box { messages = remove box.messages call }
 
 -- the probe of a call
@@ -68,9 +72,9 @@ reminder_of format kind call message (Some p) =
     else if kind == 0 then spelling (probe format kind p.total call) ∷ [] else []
 
 -- what a tick sends for a message whose call is below a limit: its first segment that isn't acknowledged, or the probe of a call that is acknowledged whole
-unfoldable pub reminder : Outbox → ℕ → ℕ → ℕ → ℕ × List ℕ → List (List ℕ)
+unfoldable pub reminder : HandedOver → ℕ → ℕ → ℕ → ℕ × List ℕ → List (List ℕ)
 reminder box format kind limit entry = if nat_lt entry.0 limit then reminder_of format kind entry.0 entry.1 (get box.progress entry.0) else []
 
 -- what a tick sends for all messages, by the numbers of their calls
-unfoldable pub reminders : Outbox → ℕ → ℕ → ℕ → List (List ℕ)
+unfoldable pub reminders : HandedOver → ℕ → ℕ → ℕ → List (List ℕ)
 reminders box format kind limit = flat_map (reminder box format kind limit) (entries box.messages)

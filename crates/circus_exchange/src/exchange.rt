@@ -1,14 +1,16 @@
 //! One end of an exchange of calls and returns with another node.
 ghost use Rattle.std.specs.Prelude.{◌≡◌, ◌≢◌, ◌+◌, ◌≤◌, ◌<◌, ◌++◌, length, not, true, false, if◌then◌else◌, IfOk, OnOk, OnErr};
 ghost use Rattle.std.specs.FinMap as map;
-ghost use Rattle.circus_segment.specs.Segment.{piece, is_acknowledgement, reading};
+ghost use Rattle.circus_segment.specs.Segment.{part_size, most_segments, is_acknowledgement, reading};
+ghost use Rattle.circus_exchange.specs.Limits.{window, never_used};
+ghost use Rattle.circus_segment.specs.Seen.Pieces.{piece};
 ghost use Rattle.circus_exchange.specs.declared.taken.Arrived.TheVariants.{Nothing};
 
 use crate::inbox::Inbox;
 use crate::outbox::Outbox;
 use crate::taken::{Arrived, Taken, Ticked};
 use bytes::Bytes;
-use circus_segment::{CALL, Cut, Datagrams, RETURN, Segment, segment_count};
+use circus_segment::{CALL, Cut, Datagrams, LONGEST, RETURN, Segment, segment_count};
 use circus_value::{Message, NoMemory};
 use std::alloc::Global;
 
@@ -18,11 +20,12 @@ pub const WINDOW: u32 = 64;
 /// Ticks after which a silent node is suspected.
 pub const PATIENCE: u8 = 8;
 
+/// The number that no call has.
+pub const NEVER_USED: u32 = 4_294_967_295;
+
 /// What one end knows of its calls and returns with another node.
 #[derive(Drop)]
 pub struct Exchange {
-    pub local: u16,
-    pub remote: u16,
     pub format: u8,
     /// The number of the next call.
     pub next: u32,
@@ -43,20 +46,18 @@ pub struct Exchange {
 impl Exchange {
     ghost use Rattle.circus_exchange.specs.Exchange.{start, called, datagrams_of_call, returned, datagrams_of_return, awaits_return, was_sent, takes, lets_go, let_go, datagrams_let_go, in_flight_after, call_reached, return_reached, total_of, ended, return_added, after_taken, after, datagrams_of_taken, datagrams_after, arrived_of_taken, arrived_after, ticked, is_suspect, datagrams_of_tick, stopped, sends_at_once};
 
-    pub fn new(alloc: Global, local: u16, remote: u16, number: u32, format: u8) -> Self
-        ensures { result ≡ start local remote number format }
+    pub fn new(alloc: Global, number: u32, format: u8) -> Self
+        ensures { result ≡ start number format }
     {
         Exchange {
-            local,
-            remote,
             format,
             next: number,
             sent: number,
             in_flight: 0,
-            calls: Outbox::new(alloc),
-            returns: Outbox::new(alloc),
-            arriving_calls: Inbox::new(alloc),
-            arriving_returns: Inbox::new(alloc),
+            calls: Outbox::new(alloc, number),
+            returns: Outbox::new(alloc, 0),
+            arriving_calls: Inbox::new(alloc, 0),
+            arriving_returns: Inbox::new(alloc, number),
             ticks: 0,
             stopped: false,
         }
@@ -65,14 +66,14 @@ impl Exchange {
     #[tactic(auto, unfolding(crate::specs::Exchange::sends_at_once))]
     fn sends_at_once(&self) -> bool
         ensures value { result ≡ sends_at_once self.now }
-        ensures room { result ≡ true → (self.now.in_flight < 64) × (self.now.sent ≡ self.now.next) }
+        ensures room { result ≡ true → (self.now.in_flight < window) × (self.now.sent ≡ self.now.next) }
     {
         self.in_flight < WINDOW && self.sent == self.next
     }
 
     #[tactic(auto, unfolding(crate::specs::Exchange::datagrams_of_call))]
     fn datagrams_of_call(&self, alloc: Global, message: &[u8]) -> Result<Datagrams, NoMemory>
-        requires { length message.now ≤ 1049600 }
+        requires { length message.now ≤ LONGEST }
         ensures { IfOk result (λ datagrams. datagrams ≡ datagrams_of_call self.now message.now) }
     {
         let mut datagrams = Datagrams::new(alloc);
@@ -92,8 +93,8 @@ impl Exchange {
     /// Hands a call over. After `NoMemory` nothing has changed.
     #[tactic(auto, unfolding(crate::specs::Exchange::called))]
     pub fn send_call(&mut self, alloc: Global, message: Message) -> Result<Datagrams, NoMemory>
-        requires long { length message ≤ 1049600 }
-        requires number { self.old.next < 4294967295 }
+        requires long { length message ≤ LONGEST }
+        requires number { self.old.next < never_used }
         requires fresh { map.get self.old.calls.progress self.old.next ≡ None }
         ensures datagrams { IfOk result (λ datagrams. datagrams ≡ datagrams_of_call self.old message) }
         ensures state { OnOk result (self.new ≡ called self.old message) }
@@ -101,7 +102,7 @@ impl Exchange {
     {
         let datagrams = self.datagrams_of_call(alloc, message.as_slice())?;
         let at_once = self.sends_at_once();
-        let idle = self.calls.messages.is_empty();
+        let idle = self.calls.is_empty();
         let total = segment_count(message.as_slice());
         self.calls.hand(self.next, total, message)?;
         self.count_call(at_once, idle);
@@ -110,8 +111,8 @@ impl Exchange {
 
     // Notes that a call was handed over, which is sent at once or not, where no other call waited or one did.
     fn count_call(&mut self, at_once: bool, idle: bool)
-        requires number { self.old.next < 4294967295 }
-        requires at_once { at_once ≡ true → (self.old.in_flight < 64) × (self.old.sent ≡ self.old.next) }
+        requires number { self.old.next < never_used }
+        requires at_once { at_once ≡ true → (self.old.in_flight < window) × (self.old.sent ≡ self.old.next) }
         ensures { self.new ≡ record self.old { next = self.old.next + 1; sent = if at_once then self.old.sent + 1 else self.old.sent; in_flight = if at_once then self.old.in_flight + 1 else self.old.in_flight; ticks = if idle then 0 else self.old.ticks } }
     {
         if at_once {
@@ -132,7 +133,7 @@ impl Exchange {
         call: u32,
         message: Message,
     ) -> Result<Datagrams, NoMemory>
-        requires long { length message ≤ 1049600 }
+        requires long { length message ≤ LONGEST }
         requires fresh { map.get self.old.returns.progress call ≡ None }
         ensures datagrams { IfOk result (λ datagrams. datagrams ≡ datagrams_of_return self.old call message) }
         ensures state { OnOk result (self.new ≡ returned self.old call message) }
@@ -156,7 +157,7 @@ impl Exchange {
     fn was_sent(&self, call: u32) -> bool
         ensures { result ≡ was_sent self.now call }
     {
-        call < self.sent && self.calls.progress.get(call).is_some()
+        call < self.sent && self.calls.progress_of(call).is_some()
     }
 
     /// Whether a segment is taken, and not dropped.
@@ -262,7 +263,7 @@ impl Exchange {
     fn total_of(&self, call: u32) -> u16
         ensures { result ≡ total_of self.now call }
     {
-        match self.calls.progress.get(call) {
+        match self.calls.progress_of(call) {
             Some(progress) => progress.total,
             None => 0,
         }
@@ -369,26 +370,24 @@ impl Exchange {
         requires data_segment { is_acknowledgement (piece segment.now) ≡ false }
         requires call { segment.now.kind ≡ 0 }
         requires within { segment.now.number ≤ segment.now.total }
-        requires total { segment.now.total ≤ 1025 }
+        requires total { segment.now.total ≤ most_segments 2 }
         requires part { part ≡ segment.now.part.now }
-        requires short { length part ≤ 1024 }
+        requires short { length part ≤ part_size }
         ensures datagrams { IfOk result (λ t. t.0 ≡ datagrams_of_taken self.old (piece segment.now)) }
         ensures arrived { IfOk result (λ t. t.1 ≡ arrived_of_taken self.old (piece segment.now)) }
         ensures state { OnOk result (self.new ≡ after_taken self.old (piece segment.now)) }
         ensures err { OnErr result (self.new ≡ self.old) }
     {
-        let count = self.arriving_calls.count_with(segment);
-        let datagrams = self
-            .arriving_calls
-            .acknowledgement(alloc, self.stopped, segment)?;
+        let advance = self.arriving_calls.advance(segment);
+        let datagrams = advance.acknowledgement(alloc, self.stopped, segment)?;
         let arrived = match self
             .arriving_calls
-            .message_completed(alloc, segment, &part)?
+            .message_completed(alloc, segment, advance, &part)?
         {
             Some(message) => Arrived::ArrivedCall(segment.call, message),
             None => Arrived::Nothing,
         };
-        self.arriving_calls.add(segment, count, part)?;
+        self.arriving_calls.add(alloc, segment, advance, part)?;
         self.ticks = 0;
         Ok((datagrams, arrived))
     }
@@ -403,32 +402,29 @@ impl Exchange {
         requires data_segment { is_acknowledgement (piece segment.now) ≡ false }
         requires return_kind { segment.now.kind ≢ 0 }
         requires within { segment.now.number ≤ segment.now.total }
-        requires total { segment.now.total ≤ 1025 }
+        requires total { segment.now.total ≤ most_segments 2 }
         requires part { part ≡ segment.now.part.now }
-        requires short { length part ≤ 1024 }
+        requires short { length part ≤ part_size }
         ensures datagrams { IfOk result (λ t. t.0 ≡ datagrams_of_taken self.old (piece segment.now)) }
         ensures arrived { IfOk result (λ t. t.1 ≡ arrived_of_taken self.old (piece segment.now)) }
         ensures state { OnOk result (self.new ≡ after_taken self.old (piece segment.now)) }
         ensures err { OnErr result (self.new ≡ self.old) }
     {
         let total = self.total_of(segment.call);
-        let count = self.arriving_returns.count_with(segment);
-        let complete = self.arriving_returns.completes(segment);
-        let mut datagrams = self
-            .arriving_returns
-            .acknowledgement(alloc, self.stopped, segment)?;
+        let advance = self.arriving_returns.advance(segment);
+        let mut datagrams = advance.acknowledgement(alloc, self.stopped, segment)?;
         let in_flight = self.in_flight_after(segment.call, total);
         self.send_let_go(alloc, in_flight, &mut datagrams)?;
         let arrived = match self
             .arriving_returns
-            .message_completed(alloc, segment, &part)?
+            .message_completed(alloc, segment, advance, &part)?
         {
             Some(message) => Arrived::ArrivedReturn(segment.call, message),
             None => Arrived::Nothing,
         };
-        self.arriving_returns.add(segment, count, part)?;
+        self.arriving_returns.add(alloc, segment, advance, part)?;
         self.reach_call(alloc, segment.call, total);
-        self.end_call(segment.call, complete);
+        self.end_call(segment.call, advance.completes(segment));
         self.let_go();
         self.ticks = 0;
         Ok((datagrams, arrived))
@@ -439,9 +435,9 @@ impl Exchange {
     pub fn awaits_return(&self, call: u32) -> bool
         ensures { result ≡ awaits_return self.now call }
     {
-        match self.arriving_calls.progress.get(call) {
+        match self.arriving_calls.progress_of(call) {
             Some(progress) => {
-                progress.count == progress.total && self.returns.progress.get(call).is_none()
+                progress.count == progress.total && self.returns.progress_of(call).is_none()
             }
             None => false,
         }
@@ -475,7 +471,7 @@ impl Exchange {
         ensures suspect { result ≡ is_suspect self.old }
         ensures state { self.new ≡ ticked self.old }
     {
-        if self.calls.messages.is_empty() || self.ticks >= PATIENCE {
+        if self.calls.is_empty() || self.ticks >= PATIENCE {
             return false;
         }
         self.ticks += 1;
@@ -494,7 +490,7 @@ impl Exchange {
 fn part_of(segment: &Segment<'_>, datagram: &Bytes) -> Result<Bytes, NoMemory>
     requires { reading datagram.now ≡ Ok (piece segment.now) }
     ensures part { IfOk result (λ part. part ≡ segment.now.part.now) }
-    ensures short { IfOk result (λ part. length part ≤ 1024) }
+    ensures short { IfOk result (λ part. length part ≤ part_size) }
 {
     datagram.slice(datagram.len() - segment.part.len()..)
 }

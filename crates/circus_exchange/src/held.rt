@@ -1,40 +1,70 @@
 //! Parts of messages that have not arrived whole.
-ghost use Rattle.std.specs.Prelude.{◌≡◌, ◌≤◌, length, IfSome, OnOk, OnErr, option_copied};
+ghost use Rattle.std.specs.Prelude.{◌≡◌, ◌≤◌, length, IfOk, OnOk, OnErr, option_copied};
 ghost use Rattle.std.specs.FinMap as map;
+ghost use Rattle.circus_segment.specs.Segment.{part_size};
+ghost use Rattle.circus_exchange.specs.Inbox.{with_part};
 
+use crate::series::Series;
 use bytes::Bytes;
 use circus_value::NoMemory;
 use std::alloc::Global;
 use std::collections::BTreeMap;
 use std::marker::Model;
 
-/// Where a part stands: the number of its call, and of its segment.
-#[derive(Clone, Copy, Debug, PartialEq, Eq, PartialOrd, Ord)]
-pub struct Place {
-    pub call: u32,
-    pub number: u16,
+/// The data of one segment, shared with its datagram: at most 1,024 bytes. Clauses see the bytes.
+#[derive(Drop)]
+pub struct Part {
+    bytes: Bytes,
 }
 
-/// Parts of at most 1,024 bytes by their places. Clauses see the finite map.
+impl Model for Part {
+    ghost use Rattle.std.specs.Prelude.{ℕ, ◌≤◌, List, length};
+    ghost use Rattle.std.specs.Coded.{coded_ℕ, coded_list};
+    ghost use Rattle.circus_segment.specs.Segment.{part_size};
+
+    ghost Value = { List ℕ };
+
+    ghost coded = { coded_list coded_ℕ };
+
+    ghost view = { λ a. a.bytes };
+
+    ghost invariant = { λ a. length a.bytes ≤ part_size };
+}
+
+impl Part {
+    pub fn of(bytes: Bytes) -> Part
+        requires { length bytes ≤ part_size }
+        ensures { result ≡ bytes }
+    {
+        Part { bytes }
+    }
+
+    /// The bytes, shared once more.
+    pub fn shared(&self) -> Result<Bytes, NoMemory>
+        ensures value { IfOk result (λ bytes. bytes ≡ self.now) }
+        ensures short { IfOk result (λ bytes. length bytes ≤ part_size) }
+    {
+        self.bytes.clone()
+    }
+}
+
+/// The parts of messages by the numbers of their calls, and of their segments. Clauses see the finite maps.
 #[derive(Drop)]
 pub struct Held {
-    parts: BTreeMap<Place, Bytes>,
+    messages: BTreeMap<u32, Series<Part>>,
 }
 
 impl Model for Held {
-    ghost use Rattle.std.specs.Prelude.{ℕ, ◌≤◌, List, All, length};
+    ghost use Rattle.std.specs.Prelude.{ℕ, List};
+    ghost use Rattle.std.specs.Ordering.{nat_cmp};
     ghost use Rattle.std.specs.FinMap as map;
-    ghost use Rattle.std.specs.BTreeMap.{values};
     ghost use Rattle.std.specs.Coded.{coded_ℕ, coded_list};
-    ghost use Rattle.circus_exchange.specs.Place.{place_cmp, coded_place};
 
-    ghost Value = { map.FinMap place_cmp (List ℕ) };
+    ghost Value = { map.FinMap nat_cmp (map.FinMap nat_cmp (List ℕ)) };
 
-    ghost coded = { map.code coded_place (coded_list coded_ℕ) };
+    ghost coded = { map.code coded_ℕ (map.code coded_ℕ (coded_list coded_ℕ)) };
 
-    ghost view = { λ a. map.from_entries a.parts.entries };
-
-    ghost invariant = { λ a. All (λ part. length part ≤ 1024) (values a.parts) };
+    ghost view = { λ a. map.from_entries a.messages.entries };
 }
 
 impl Held {
@@ -42,34 +72,46 @@ impl Held {
         ensures { result ≡ map.empty }
     {
         Held {
-            parts: BTreeMap::new(alloc),
+            messages: BTreeMap::new(alloc),
         }
     }
 
-    /// The part at a place, of at most 1,024 bytes.
-    pub fn get(&self, place: Place) -> Option<&Bytes>
-        ensures value { option_copied result ≡ map.get self.now place }
-        ensures short { IfSome result (λ part. length part.now ≤ 1024) }
+    /// The parts of a message.
+    pub fn of(&self, call: u32) -> Option<&Series<Part>>
+        ensures { option_copied result ≡ map.get self.now call }
     {
-        self.parts.get(&place)
+        self.messages.get(&call)
     }
 
-    /// Puts a part at a place. After `NoMemory` nothing has changed.
-    pub fn insert(&mut self, place: Place, part: Bytes) -> Result<(), NoMemory>
-        requires { length part ≤ 1024 }
-        ensures ok { OnOk result (self.new ≡ map.insert self.old place part) }
+    /// Adds a part of a message. After `NoMemory` nothing has changed.
+    pub fn add(&mut self, alloc: Global, call: u32, number: u16, part: Part) -> Result<(), NoMemory>
+        ensures ok { OnOk result (self.new ≡ with_part self.old call number part) }
         ensures err { OnErr result (self.new ≡ self.old) }
     {
-        match self.parts.insert(place, part) {
+        match self.messages.get_mut(&call) {
+            Some(parts) => parts.insert(u32::from(number), part),
+            None => self.begin(alloc, call, number, part),
+        }
+    }
+
+    // Adds the first part of a message.
+    fn begin(&mut self, alloc: Global, call: u32, number: u16, part: Part) -> Result<(), NoMemory>
+        requires { map.get self.old call ≡ None }
+        ensures ok { OnOk result (self.new ≡ with_part self.old call number part) }
+        ensures err { OnErr result (self.new ≡ self.old) }
+    {
+        let mut parts = Series::new(alloc, 1);
+        parts.insert(u32::from(number), part)?;
+        match self.messages.insert(call, parts) {
             Ok(_) => Ok(()),
             Err(_) => Err(NoMemory {}),
         }
     }
 
-    /// Takes out what stands at a place, if anything does.
-    pub fn remove(&mut self, place: Place)
-        ensures { self.new ≡ map.remove self.old place }
+    /// Gives up the parts of a message, if there are any.
+    pub fn forget(&mut self, call: u32)
+        ensures { self.new ≡ map.remove self.old call }
     {
-        let _ = self.parts.remove(&place);
+        let _ = self.messages.remove(&call);
     }
 }

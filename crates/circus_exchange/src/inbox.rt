@@ -1,43 +1,74 @@
 //! Messages of one kind that come in, and their parts.
-ghost use Rattle.std.specs.Prelude.{◌≡◌, ◌≤◌, length, if◌then◌else◌, IfOk, OnOk, OnErr};
+ghost use Rattle.std.specs.Prelude.{◌≡◌, ◌≤◌, not, ◌||◌, ◌&&◌, ◌==◌, length, [], option_copied, unwrap_or, if◌then◌else◌, IfOk, OnOk, OnErr};
 ghost use Rattle.std.specs.FinMap as map;
-ghost use Rattle.circus_segment.specs.Segment.{piece};
+ghost use Rattle.circus_segment.specs.Segment.{part_size, most_segments, has_data};
+ghost use Rattle.circus_segment.specs.Seen.Pieces.{piece};
+ghost use Rattle.circus_exchange.specs.Inbox.{front, part_of, is_there};
 
-use crate::held::{Held, Place};
+use crate::advance::Advance;
+use crate::held::{Held, Part};
 use crate::progress::Progress;
-use crate::table::Table;
+use crate::series::Series;
 use bytes::Bytes;
-use circus_segment::{ACKNOWLEDGEMENT, Datagrams, PLEASE_ACKNOWLEDGE, Segment};
+use circus_segment::Segment;
 use circus_value::{NoMemory, Parts};
 use std::alloc::Global;
+use std::marker::Model;
 
 /// What came of the messages of one kind. Of a message that is whole only its total is kept.
 #[derive(Drop)]
 pub struct Inbox {
-    pub progress: Table<Progress>,
-    pub parts: Held,
+    progress: Series<Progress>,
+    parts: Held,
+}
+
+impl Model for Inbox {
+    ghost use Rattle.std.specs.Prelude.{ℕ, List, refl};
+    ghost use Rattle.std.specs.Ordering.{nat_cmp};
+    ghost use Rattle.std.specs.FinMap as map;
+    ghost use Rattle.std.specs.Coded.{coded_ℕ, coded_list, coded×, code_by};
+    ghost use Rattle.circus_exchange.specs.declared.progress.Progress.{Progress};
+    ghost use Rattle.circus_exchange.specs.contracts.progress.Progress as progress_model;
+    ghost use Rattle.circus_exchange.specs.Inbox.{Arriving};
+    ghost use Rattle.circus_exchange.specs.Seen.Known.{AreKnown};
+
+    ghost Value = { Arriving };
+
+    ghost coded = { code_by (map.FinMap nat_cmp Progress × map.FinMap nat_cmp (map.FinMap nat_cmp (List ℕ))) (coded× (map.code coded_ℕ progress_model.the_row.coded) (map.code coded_ℕ (map.code coded_ℕ (coded_list coded_ℕ)))) (λ a. (a.progress, a.parts)) (λ p. record { progress = p.0; parts = p.1 }) (λ _. refl) };
+
+    ghost view = { λ a. record { progress = a.progress; parts = a.parts } };
+
+    ghost invariant = { λ a. AreKnown a.progress a.parts };
 }
 
 impl Inbox {
-    ghost use Rattle.circus_exchange.specs.Inbox.{known, fits, has, is_new, has_with, count_with, completes, data_with, joined, without, is_owed, acknowledgement, added};
+    ghost use Rattle.circus_exchange.specs.Inbox.{known, fits, is_new, count_with, completes, data_with, joined, added};
 
-    pub fn new(alloc: Global) -> Self
+    /// No messages; that of this number is expected first.
+    pub fn new(alloc: Global, first: u32) -> Self
         ensures progress { result.progress ≡ map.empty }
         ensures parts { result.parts ≡ map.empty }
     {
         Inbox {
-            progress: Table::new(alloc),
+            progress: Series::new(alloc, first),
             parts: Held::new(alloc),
         }
     }
 
-    /// What is known of the message of a segment.
+    /// How far the message of a call has come.
+    pub fn progress_of(&self, call: u32) -> Option<Progress>
+        ensures { result ≡ map.get self.now.progress call }
+    {
+        self.progress.get(call).copied()
+    }
+
+    // What is known of the message of a segment.
     #[tactic(auto, unfolding(crate::specs::Inbox::known))]
-    pub fn known(&self, segment: &Segment<'_>) -> Progress
+    fn known(&self, segment: &Segment<'_>) -> Progress
         ensures { result ≡ known self.now (piece segment.now) }
     {
-        match self.progress.get(segment.call) {
-            Some(progress) => *progress,
+        match self.progress_of(segment.call) {
+            Some(progress) => progress,
             None => Progress {
                 total: segment.total,
                 count: 0,
@@ -53,199 +84,161 @@ impl Inbox {
         self.known(segment).total == segment.total
     }
 
-    #[tactic(auto, unfolding(crate::specs::Inbox::has))]
-    fn has(&self, segment: &Segment<'_>, number: u16) -> bool
-        ensures { result ≡ has self.now (piece segment.now) number }
+    /// How far a segment brings its message.
+    pub fn advance(&self, segment: &Segment<'_>) -> Advance
+        requires within { segment.now.number ≤ segment.now.total }
+        ensures is_new { result.is_new ≡ is_new self.now (piece segment.now) }
+        ensures count { result.count ≡ count_with self.now (piece segment.now) }
+        ensures completes { (result.is_new && (result.count == segment.now.total)) ≡ completes self.now (piece segment.now) }
     {
-        let place = Place {
-            call: segment.call,
-            number,
+        let known = self.known(segment);
+        let parts = self.parts.of(segment.call);
+        let is_new = is_new(known, parts, segment);
+        let count = if is_new {
+            count_with(known, parts, segment)
+        } else {
+            known.count
         };
-        number <= self.known(segment).count || self.parts.get(place).is_some()
+        Advance { is_new, count }
     }
 
-    /// Whether a segment has data that is not there yet.
-    #[tactic(auto, unfolding(crate::specs::Inbox::is_new))]
-    pub fn is_new(&self, segment: &Segment<'_>) -> bool
-        ensures { result ≡ is_new self.now (piece segment.now) }
-    {
-        !(segment.is_acknowledgement() || segment.is_probe()) && !self.has(segment, segment.number)
-    }
-
-    #[tactic(auto, unfolding(crate::specs::Inbox::has_with))]
-    fn has_with(&self, segment: &Segment<'_>, number: u16) -> bool
-        ensures { result ≡ has_with self.now (piece segment.now) number }
-    {
-        self.has(segment, number) || number == segment.number
-    }
-
-    /// How many segments of its message are there with this one, from the first on without a gap.
-    pub fn count_with(&self, segment: &Segment<'_>) -> u16
-        requires within { segment.now.number ≤ segment.now.total }
-        ensures { result ≡ count_with self.now (piece segment.now) }
-    {
-        let mut count = self.known(segment).count;
-        if !self.is_new(segment) {
-            return count;
-        }
-        while count < segment.total && self.has_with(segment, count + 1) {
-            count += 1;
-        }
-        count
-    }
-
-    /// Whether a segment is the last that its message lacked.
-    #[tactic(auto, unfolding(crate::specs::Inbox::completes))]
-    pub fn completes(&self, segment: &Segment<'_>) -> bool
-        requires within { segment.now.number ≤ segment.now.total }
-        ensures { result ≡ completes self.now (piece segment.now) }
-    {
-        self.is_new(segment) && self.count_with(segment) == segment.total
-    }
-
-    // The data of a number of its message, with a segment.
-    #[tactic(auto, unfolding(crate::specs::Inbox::data_with))]
-    fn data_with(&self, segment: &Segment<'_>, part: &Bytes, number: u16) -> Result<Bytes, NoMemory>
+    /// The message that a segment completes, if it completes one, its parts shared.
+    pub fn message_completed(
+        &self,
+        alloc: Global,
+        segment: &Segment<'_>,
+        advance: Advance,
+        part: &Bytes,
+    ) -> Result<Option<Parts>, NoMemory>
         requires part { part.now ≡ segment.now.part.now }
-        requires short { length part.now ≤ 1024 }
-        ensures value { IfOk result (λ bytes. bytes ≡ data_with self.now (piece segment.now) number) }
-        ensures short { IfOk result (λ bytes. length bytes ≤ 1024) }
+        requires short { length part.now ≤ part_size }
+        requires total { segment.now.total ≤ most_segments 2 }
+        requires completes { (advance.is_new && (advance.count == segment.now.total)) ≡ completes self.now (piece segment.now) }
+        ensures { IfOk result (λ message. message ≡ (if completes self.now (piece segment.now) then Some (joined (data_with self.now (piece segment.now)) segment.now.total) else None)) }
     {
-        if number == segment.number {
-            return part.clone();
+        if !advance.completes(segment) {
+            return Ok(None);
         }
-        let place = Place {
-            call: segment.call,
-            number,
-        };
-        match self.parts.get(place) {
-            Some(data) => data.clone(),
-            None => Ok(Bytes::new()),
-        }
+        Ok(Some(self.message(alloc, segment, part)?))
     }
 
-    /// The message that a segment completes, its parts shared.
-    pub fn message(
+    fn message(
         &self,
         alloc: Global,
         segment: &Segment<'_>,
         part: &Bytes,
     ) -> Result<Parts, NoMemory>
         requires part { part.now ≡ segment.now.part.now }
-        requires short { length part.now ≤ 1024 }
-        requires total { segment.now.total ≤ 1025 }
+        requires short { length part.now ≤ part_size }
+        requires total { segment.now.total ≤ most_segments 2 }
         ensures { IfOk result (λ message. message ≡ joined (data_with self.now (piece segment.now)) segment.now.total) }
     {
+        let parts = self.parts.of(segment.call);
         let mut message = Parts::new(alloc);
         for before in 0..segment.total {
-            let data = self.data_with(segment, part, before + 1)?;
-            message.add(data)?;
+            message.add(data_with(parts, segment, part, before + 1)?)?;
         }
         Ok(message)
     }
 
-    // Gives up the parts of a call's numbers up to a total.
-    fn clear(&mut self, call: u32, total: u16)
-        ensures { self.new ≡ record self.old { parts = without self.old.parts call total } }
-    {
-        for before in 0..total {
-            self.parts.remove(Place {
-                call,
-                number: before + 1,
-            });
-        }
-    }
-
-    /// Adds a segment of which the count is known. After `NoMemory` nothing has changed.
-    pub fn add(&mut self, segment: &Segment<'_>, count: u16, part: Bytes) -> Result<(), NoMemory>
+    /// Adds a segment. After `NoMemory` nothing has changed.
+    pub fn add(
+        &mut self,
+        alloc: Global,
+        segment: &Segment<'_>,
+        advance: Advance,
+        part: Bytes,
+    ) -> Result<(), NoMemory>
         requires part { part ≡ segment.now.part.now }
-        requires short { length part ≤ 1024 }
-        requires count { count ≡ count_with self.old (piece segment.now) }
+        requires short { length part ≤ part_size }
+        requires is_new { advance.is_new ≡ is_new self.old (piece segment.now) }
+        requires count { advance.count ≡ count_with self.old (piece segment.now) }
         ensures ok { OnOk result (self.new ≡ added self.old (piece segment.now)) }
-        ensures err { OnErr result (self.new ≡ self.old) }
-    {
-        if !self.is_new(segment) {
-            return self.note(segment, count);
-        }
-        if count == segment.total {
-            self.note(segment, count)?;
-            self.clear(segment.call, segment.total);
-            return Ok(());
-        }
-        let place = Place {
-            call: segment.call,
-            number: segment.number,
-        };
-        self.parts.insert(place, part)?;
-        let noted = self.note(segment, count);
-        if noted.is_err() {
-            self.parts.remove(place);
-        }
-        noted
-    }
-
-    // Notes how far the message of a segment has come.
-    fn note(&mut self, segment: &Segment<'_>, count: u16) -> Result<(), NoMemory>
-        ensures ok { OnOk result (self.new ≡ record self.old { progress = map.insert self.old.progress segment.now.call (record { total = segment.now.total; count = count }) }) }
         ensures err { OnErr result (self.new ≡ self.old) }
     {
         let progress = Progress {
             total: segment.total,
-            count,
+            count: advance.count,
         };
-        self.progress.insert(segment.call, progress)
-    }
-
-    /// The message that a segment completes, if it completes one.
-    pub fn message_completed(
-        &self,
-        alloc: Global,
-        segment: &Segment<'_>,
-        part: &Bytes,
-    ) -> Result<Option<Parts>, NoMemory>
-        requires within { segment.now.number ≤ segment.now.total }
-        requires part { part.now ≡ segment.now.part.now }
-        requires short { length part.now ≤ 1024 }
-        requires total { segment.now.total ≤ 1025 }
-        ensures { IfOk result (λ message. message ≡ (if completes self.now (piece segment.now) then Some (joined (data_with self.now (piece segment.now)) segment.now.total) else None)) }
-    {
-        if !self.completes(segment) {
-            return Ok(None);
+        if !advance.is_new {
+            return self.progress.insert(segment.call, progress);
         }
-        Ok(Some(self.message(alloc, segment, part)?))
-    }
-
-    #[tactic(auto, unfolding(crate::specs::Inbox::is_owed))]
-    fn is_owed(&self, segment: &Segment<'_>) -> bool
-        requires within { segment.now.number ≤ segment.now.total }
-        ensures { result ≡ is_owed self.now (piece segment.now) }
-    {
-        segment.control == PLEASE_ACKNOWLEDGE
-            || self.completes(segment)
-            || self.count_with(segment) < segment.number
-    }
-
-    /// The acknowledgement that a segment gets, if it gets one and the other end is not down.
-    #[tactic(auto, unfolding(crate::specs::Inbox::acknowledgement))]
-    pub fn acknowledgement(
-        &self,
-        alloc: Global,
-        stopped: bool,
-        segment: &Segment<'_>,
-    ) -> Result<Datagrams, NoMemory>
-        requires within { segment.now.number ≤ segment.now.total }
-        ensures { IfOk result (λ datagrams. datagrams ≡ acknowledgement stopped self.now (piece segment.now)) }
-    {
-        let mut datagrams = Datagrams::new(alloc);
-        if !stopped && self.is_owed(segment) {
-            let answer = Segment {
-                control: ACKNOWLEDGEMENT,
-                number: self.count_with(segment),
-                part: &[],
-                ..*segment
-            };
-            datagrams.push(answer.spelled(alloc)?)?;
+        if advance.completes(segment) {
+            self.progress.insert(segment.call, progress)?;
+            self.parts.forget(segment.call);
+            return Ok(());
         }
-        Ok(datagrams)
+        self.parts
+            .add(alloc, segment.call, segment.number, Part::of(part))?;
+        let noted = self.progress.insert(segment.call, progress);
+        if noted.is_err() {
+            self.parts.forget(segment.call);
+        }
+        noted
+    }
+}
+
+// Whether the data of a number is there, of a message of which this much is known.
+fn has(known: Progress, parts: Option<&Series<Part>>, number: u16) -> bool
+    ensures { result ≡ is_there known (option_copied parts.entry) number }
+{
+    number <= known.count || part_at(parts, number).is_some()
+}
+
+// Whether a segment has data that is not there yet.
+fn is_new(known: Progress, parts: Option<&Series<Part>>, segment: &Segment<'_>) -> bool
+    ensures { result ≡ (has_data (piece segment.now) && not (is_there known (option_copied parts.entry) segment.now.number)) }
+{
+    segment.has_data() && !has(known, parts, segment.number)
+}
+
+// Whether it is there with a segment.
+fn has_with(
+    known: Progress,
+    parts: Option<&Series<Part>>,
+    segment: &Segment<'_>,
+    number: u16,
+) -> bool
+    ensures { result ≡ (is_there known (option_copied parts.entry) number || number == segment.now.number) }
+{
+    has(known, parts, number) || number == segment.number
+}
+
+// How many segments are there with one, from the first on without a gap.
+fn count_with(known: Progress, parts: Option<&Series<Part>>, segment: &Segment<'_>) -> u16
+    requires { known.count ≤ segment.now.total }
+    ensures { result ≡ front (λ number. is_there known (option_copied parts.entry) number || number == segment.now.number) segment.now.total }
+{
+    let mut count = known.count;
+    while count < segment.total && has_with(known, parts, segment, count + 1) {
+        count += 1;
+    }
+    count
+}
+
+fn part_at<'a>(parts: Option<&'a Series<Part>>, number: u16) -> Option<&'a Part>
+    ensures { option_copied result ≡ part_of (option_copied parts.entry) number }
+{
+    parts?.get(u32::from(number))
+}
+
+// The data of a number, with a segment.
+fn data_with(
+    parts: Option<&Series<Part>>,
+    segment: &Segment<'_>,
+    part: &Bytes,
+    number: u16,
+) -> Result<Bytes, NoMemory>
+    requires part { part.now ≡ segment.now.part.now }
+    requires short { length part.now ≤ part_size }
+    ensures value { IfOk result (λ bytes. bytes ≡ (if number == segment.now.number then segment.now.part.now else unwrap_or (part_of (option_copied parts.entry) number) [])) }
+    ensures short { IfOk result (λ bytes. length bytes ≤ part_size) }
+{
+    if number == segment.number {
+        return part.clone();
+    }
+    match part_at(parts, number) {
+        Some(part) => part.shared(),
+        None => Ok(Bytes::new()),
     }
 }

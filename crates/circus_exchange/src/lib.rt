@@ -1,22 +1,24 @@
 //! One end of an exchange of calls and returns with another node, as a state and what each act does to it.
 //!
-//! `table` and `held` keep values by number and parts by place; `progress` is how far a message has come. `inbox` keeps
-//! messages of one kind that come in, `outbox` those that are sent, and `exchange` puts both directions together.
-//! `taken` is what its calls answer.
+//! `series` keeps values under numbers of which most follow each other, `table` values in order, `held` the parts of
+//! messages; `progress` is how far a message has come, and `advance` how far a segment brings it. `inbox` keeps messages
+//! of one kind that come in, `outbox` those that are sent, and `exchange` puts both directions together. `taken` is what
+//! its calls answer.
 #![tactic(auto)]
 
+mod advance;
 mod exchange;
 mod held;
 mod inbox;
 mod outbox;
 mod progress;
+mod series;
 mod table;
 mod taken;
 
-pub use exchange::{Exchange, PATIENCE, WINDOW};
-pub use held::{Held, Place};
+pub use advance::Advance;
+pub use exchange::{Exchange, NEVER_USED, PATIENCE, WINDOW};
 pub use inbox::Inbox;
 pub use outbox::Outbox;
 pub use progress::Progress;
-pub use table::Table;
 pub use taken::{Arrived, Taken, Ticked};

@@ -1,34 +1,70 @@
 //! Messages of one kind that are handed over and sent.
-ghost use Rattle.std.specs.Prelude.{◌≡◌, ◌≤◌, ◌<◌, ◌++◌, option_map, IfOk, OnOk, OnErr};
+ghost use Rattle.std.specs.Prelude.{◌≡◌, ◌≤◌, ◌<◌, ◌++◌, option_map, ◌==◌, IfOk, OnOk, OnErr};
 ghost use Rattle.std.specs.FinMap as map;
-ghost use Rattle.circus_segment.specs.Segment.{piece};
+ghost use Rattle.circus_segment.specs.Seen.Pieces.{piece};
 
 use crate::progress::Progress;
+use crate::series::Series;
 use crate::table::Table;
 use circus_segment::{CALL, Cut, Datagrams, PLEASE_ACKNOWLEDGE, Segment};
 use circus_value::{Message, NoMemory};
 use std::alloc::Global;
+use std::marker::Model;
 
 /// What was handed over under the numbers of calls. The bytes of a message are kept while they may be sent
 /// again, and of a call an empty message until its return has come.
 #[derive(Drop)]
 pub struct Outbox {
-    pub progress: Table<Progress>,
-    pub messages: Table<Message>,
+    progress: Series<Progress>,
+    messages: Table<Message>,
+}
+
+impl Model for Outbox {
+    ghost use Rattle.std.specs.Prelude.{ℕ, List, refl};
+    ghost use Rattle.std.specs.Ordering.{nat_cmp};
+    ghost use Rattle.std.specs.FinMap as map;
+    ghost use Rattle.std.specs.Coded.{coded_ℕ, coded_list, coded×, code_by};
+    ghost use Rattle.circus_exchange.specs.declared.progress.Progress.{Progress};
+    ghost use Rattle.circus_exchange.specs.contracts.progress.Progress as progress_model;
+    ghost use Rattle.circus_exchange.specs.Outbox.{HandedOver};
+    ghost use Rattle.circus_exchange.specs.Seen.Known.{AreKnown};
+
+    ghost Value = { HandedOver };
+
+    ghost coded = { code_by (map.FinMap nat_cmp Progress × map.FinMap nat_cmp (List ℕ)) (coded× (map.code coded_ℕ progress_model.the_row.coded) (map.code coded_ℕ (coded_list coded_ℕ))) (λ a. (a.progress, a.messages)) (λ p. record { progress = p.0; messages = p.1 }) (λ _. refl) };
+
+    ghost view = { λ a. record { progress = a.progress; messages = a.messages } };
+
+    ghost invariant = { λ a. AreKnown a.progress a.messages };
 }
 
 impl Outbox {
-    ghost use Rattle.circus_segment.specs.Outgoing.{outgoing};
+    ghost use Rattle.circus_segment.specs.Seen.Outgoing.{outgoing};
     ghost use Rattle.circus_exchange.specs.Outbox.{agrees, outgoing_at, handed, reached, becomes_whole, emptied, forgotten, reminder_of, reminders};
 
-    pub fn new(alloc: Global) -> Self
+    /// No messages; that of this number is expected first.
+    pub fn new(alloc: Global, first: u32) -> Self
         ensures progress { result.progress ≡ map.empty }
         ensures messages { result.messages ≡ map.empty }
     {
         Outbox {
-            progress: Table::new(alloc),
+            progress: Series::new(alloc, first),
             messages: Table::new(alloc),
         }
+    }
+
+    /// How far the message of a call is acknowledged.
+    pub fn progress_of(&self, call: u32) -> Option<Progress>
+        ensures { result ≡ map.get self.now.progress call }
+    {
+        self.progress.get(call).copied()
+    }
+
+    /// Whether no message may have to be sent again, and no call waits for its return.
+    pub fn is_empty(&self) -> bool
+        ensures { result ≡ (map.len self.now.messages == 0) }
+    {
+        self.messages.is_empty()
     }
 
     /// Whether a segment speaks of a message that was handed over, and has its total.
@@ -36,7 +72,7 @@ impl Outbox {
     pub fn agrees(&self, segment: &Segment<'_>) -> bool
         ensures { result ≡ agrees self.now (piece segment.now) }
     {
-        match self.progress.get(segment.call) {
+        match self.progress_of(segment.call) {
             Some(progress) => progress.total == segment.total,
             None => false,
         }
@@ -47,7 +83,7 @@ impl Outbox {
     pub fn outgoing(&self, format: u8, kind: u8, call: u32) -> Option<Cut<'_>>
         ensures { option_map outgoing result ≡ outgoing_at self.now format kind call }
     {
-        match (self.progress.get(call), self.messages.get(call)) {
+        match (self.progress_of(call), self.messages.get(call)) {
             (Some(progress), Some(message)) => Some(Cut {
                 format,
                 kind,
@@ -65,12 +101,12 @@ impl Outbox {
         ensures ok { OnOk result (self.new ≡ handed self.old call total message) }
         ensures err { OnErr result (self.new ≡ self.old) }
     {
-        self.progress.insert(call, Progress { total, count: 0 })?;
-        let handed = self.messages.insert(call, message);
-        if handed.is_err() {
-            self.progress.remove(call);
+        self.messages.insert(call, message)?;
+        let noted = self.progress.insert(call, Progress { total, count: 0 });
+        if noted.is_err() {
+            self.messages.remove(call);
         }
-        handed
+        noted
     }
 
     /// Whether the acknowledgement of segments up to a count makes a message acknowledged whole.
@@ -78,7 +114,7 @@ impl Outbox {
     pub fn becomes_whole(&self, call: u32, count: u16) -> bool
         ensures { result ≡ becomes_whole self.now call count }
     {
-        match self.progress.get(call) {
+        match self.progress_of(call) {
             Some(progress) => progress.count < count && progress.total == count,
             None => false,
         }
@@ -89,7 +125,7 @@ impl Outbox {
     pub fn reach(&mut self, call: u32, count: u16)
         ensures { self.new ≡ reached self.old call count }
     {
-        if let Some(progress) = self.progress.get(call) {
+        if let Some(progress) = self.progress_of(call) {
             if progress.count < count {
                 let total = progress.total;
                 self.progress.set(call, Progress { total, count });
@@ -124,10 +160,9 @@ impl Outbox {
     ) -> Result<(), NoMemory>
         ensures { OnOk result (datagrams.new ≡ datagrams.old ++ reminder_of cut.now.format cut.now.kind cut.now.call cut.now.message.now (map.get self.now.progress cut.now.call)) }
     {
-        let Some(progress) = self.progress.get(cut.call) else {
+        let Some(progress) = self.progress_of(cut.call) else {
             return Ok(());
         };
-        let progress = *progress;
         if progress.count < progress.total {
             let cut = Cut {
                 total: progress.total,

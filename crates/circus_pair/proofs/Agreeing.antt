@@ -13,11 +13,11 @@ use Rattle.circus_pair.specs.declared.two_ends.Act.{Act}
 use Rattle.circus_pair.specs.declared.two_ends.Act.TheVariants.{Call, Return, Deliver, Tick}
 use Rattle.circus_segment.specs.Segment.{Piece, IsSegment, is_acknowledgement, reading, spelling}
 use Rattle.circus_segment.specs.Cut.{segment_count}
-use Rattle.circus_exchange.specs.Exchange.{IsSendable, awaits_return}
+use Rattle.circus_exchange.specs.Exchange.{start, IsSendable, awaits_return}
 use Rattle.circus_pair.specs.Taken.{is_of, first_of, total_in, count_in, is_reached, has_arrived, AreOf}
 use Rattle.circus_pair.specs.Acts.{Act as OneAct, Call as Calls, Return as Returns, Came, Tick as Ticks, Stop as Stops, Acts, more, taken_by, end_after}
 use Rattle.circus_pair.specs.Handed.{made, call_at, return_at, says, reached_in}
-use Rattle.circus_pair.specs.TwoEnds.{History, begun, then_came, Arrival, Both, end_at, both_after, coming, delivered, is_same, with_act, start_of, acts_of, sent_by, taken_at, arrived_at, arrived_in, handed_over, Agrees, Agree, Talk, silent, at_first, at_second, acts_at_first, acts_at_second, WasSent, IsTalk, MayFollow, AreLawful, CanBeSent, names_none, has_no_number}
+use Rattle.circus_pair.specs.TwoEnds.{History, begun, then_came, Arrival, Both, end_at, both_after, coming, delivered, is_same, with_act, acts_of, sent_by, taken_at, arrived_at, arrived_in, handed_over, Agrees, Agree, Talk, silent, at_first, at_second, acts_at_first, acts_at_second, WasSent, IsTalk, MayFollow, AreLawful, CanBeSent, names_none, has_no_number}
 use Rattle.circus_pair.specs.Lawful.{is_stopped_after, MayFollow as MayCome, AreLawful as IsLawfulEnd}
 use Rattle.circus_pair.proofs.Handing.{told_out, awaits_is}
 use Rattle.circus_segment.proofs.Spellings.{read_again}
@@ -25,7 +25,7 @@ use Rattle.circus_pair.proofs.Growing.{count_le}
 use Rattle.circus_pair.proofs.Each.{Each, each_at}
 use Rattle.circus_pair.proofs.Sayings.{IsSaid, Tells, count_bounds}
 use Rattle.circus_pair.proofs.Speaking.{Fine}
-use Rattle.circus_pair.proofs.Dialogue.{started, keeping, are_of, found, Sound, turned, sound_act, sound_start}
+use Rattle.circus_pair.proofs.Dialogue.{keeping, are_of, found, Sound, turned, sound_act, sound_start}
 
 -- ---- every list of acts
 
@@ -33,24 +33,24 @@ use Rattle.circus_pair.proofs.Dialogue.{started, keeping, are_of, found, Sound, 
 number_fits : (format : ℕ) (acts : Acts) (ots ts : List Piece) (call : ℕ) → Each (IsSaid 0 format acts ots) ts → has_arrived ts 0 call ≡ true → call < 2 ^ 32
 number_fits format acts ots ts call each h = (let f = found (IsSaid 0 format acts ots) ts 0 call each h in subst (λ n. n < 2 ^ 32) f.part.call_is f.is.segment.call)
 
-sound_return : (local remote format : ℕ) (here there : Acts) (call : ℕ) (message : List ℕ) → Sound local remote format here there → IsSendable format message × (has_arrived (taken_by (started local remote format) here) 0 call ≡ true) × (return_at here call ≡ None) → Sound local remote format (more here (Returns call message)) there
-sound_return local remote format here there call message sound may =
-    sound_act local remote format here there (Returns call message) sound (may.0, number_fits format there _ (taken_by (started local remote format) here) call sound.hears_there.heard may.1, may.1, may.2) tt
+sound_return : (format : ℕ) (here there : Acts) (call : ℕ) (message : List ℕ) → Sound format here there → IsSendable format message × (has_arrived (taken_by (start 0 format) here) 0 call ≡ true) × (return_at here call ≡ None) → Sound format (more here (Returns call message)) there
+sound_return format here there call message sound may =
+    sound_act format here there (Returns call message) sound (may.0, number_fits format there _ (taken_by (start 0 format) here) call sound.hears_there.heard may.1, may.1, may.2) tt
 
-sound_datagram : (local remote format : ℕ) (here there : Acts) (bytes : List ℕ) → Sound local remote format here there → Tells 0 format there (taken_by (started remote local format) there) bytes → Sound local remote format (with_act here (coming (reading bytes))) there
-sound_datagram local remote format here there bytes sound tells =
+sound_datagram : (format : ℕ) (here there : Acts) (bytes : List ℕ) → Sound format here there → Tells 0 format there (taken_by (start 0 format) there) bytes → Sound format (with_act here (coming (reading bytes))) there
+sound_datagram format here there bytes sound tells =
     let read : reading bytes ≡ Ok tells.said = ap reading tells.bytes_are ∙ read_again tells.said tells.is.segment in
-    subst (λ (r : Result Piece SegmentFault). Sound local remote format (with_act here (coming r)) there) (sym read)
-    (sound_act local remote format here there (Came tells.said) sound tells.is.segment tells.is)
+    subst (λ (r : Result Piece SegmentFault). Sound format (with_act here (coming r)) there) (sym read)
+    (sound_act format here there (Came tells.said) sound tells.is.segment tells.is)
 
-sound_delivered : (local remote format : ℕ) (here there : Acts) (o : Option (List ℕ)) → Sound local remote format here there → ((bytes : List ℕ) → o ≡ Some bytes → Tells 0 format there (taken_by (started remote local format) there) bytes) → Sound local remote format (with_act here (delivered o)) there
-sound_delivered local remote format here there None sound tells = sound
-sound_delivered local remote format here there (Some bytes) sound tells = sound_datagram local remote format here there bytes sound (tells bytes refl)
+sound_delivered : (format : ℕ) (here there : Acts) (o : Option (List ℕ)) → Sound format here there → ((bytes : List ℕ) → o ≡ Some bytes → Tells 0 format there (taken_by (start 0 format) there) bytes) → Sound format (with_act here (delivered o)) there
+sound_delivered format here there None sound tells = sound
+sound_delivered format here there (Some bytes) sound tells = sound_datagram format here there bytes sound (tells bytes refl)
 
-sound_deliver : (local remote format : ℕ) (here there : Acts) (number : ℕ) → Sound local remote format here there → Sound local remote format (with_act here (delivered (slice_get (sent_by (started remote local format) there) number))) there
-sound_deliver local remote format here there number sound =
-    sound_delivered local remote format here there (slice_get (sent_by (started remote local format) there) number) sound
-    (λ bytes is. each_at _ (sent_by (started remote local format) there) number bytes sound.good_there.tells is)
+sound_deliver : (format : ℕ) (here there : Acts) (number : ℕ) → Sound format here there → Sound format (with_act here (delivered (slice_get (sent_by (start 0 format) there) number))) there
+sound_deliver format here there number sound =
+    sound_delivered format here there (slice_get (sent_by (start 0 format) there) number) sound
+    (λ bytes is. each_at _ (sent_by (start 0 format) there) number bytes sound.good_there.tells is)
 
 -- the ends that are put together are never stopped
 up_delivered : (acts : Acts) (r : Result Piece SegmentFault) → is_stopped_after acts ≡ false → is_stopped_after (with_act acts (coming r)) ≡ false
@@ -70,65 +70,65 @@ up_after end format begun = refl
 up_after end format (then_came history (Call at message)) = up_chosen (acts_of end format history) (is_same end at) (Some (Calls message)) (up_after end format history) (up_after end format history)
 up_after end format (then_came history (Return at call message)) = up_chosen (acts_of end format history) (is_same end at) (Some (Returns call message)) (up_after end format history) (up_after end format history)
 up_after end format (then_came history (Deliver at number)) =
-    up_chosen (acts_of end format history) (is_same end at) (delivered (slice_get (sent_by (start_of (not end) format) (acts_of (not end) format history)) number)) (up_after end format history)
-    (up_found (acts_of end format history) (slice_get (sent_by (start_of (not end) format) (acts_of (not end) format history)) number) (up_after end format history))
+    up_chosen (acts_of end format history) (is_same end at) (delivered (slice_get (sent_by (start 0 format) (acts_of (not end) format history)) number)) (up_after end format history)
+    (up_found (acts_of end format history) (slice_get (sent_by (start 0 format) (acts_of (not end) format history)) number) (up_after end format history))
 up_after end format (then_came history (Tick at)) = up_chosen (acts_of end format history) (is_same end at) (Some Ticks) (up_after end format history) (up_after end format history)
 
-sound_own : (local remote format : ℕ) (here there : Acts) (act : OneAct) → Sound local remote format here there → MayCome local remote 0 format here act → WasSent (sent_by (started remote local format) there) act → Sound local remote format (more here act) there
-sound_own local remote format here there (Calls message) sound may was = sound_act local remote format here there (Calls message) sound may tt
-sound_own local remote format here there (Returns call message) sound may was = sound_return local remote format here there call message sound may
-sound_own local remote format here there (Came s) sound may was =
-    let tells = each_at _ (sent_by (started remote local format) there) was.0 (spelling s) sound.good_there.tells was.1 in
+sound_own : (format : ℕ) (here there : Acts) (act : OneAct) → Sound format here there → MayCome 0 format here act → WasSent (sent_by (start 0 format) there) act → Sound format (more here act) there
+sound_own format here there (Calls message) sound may was = sound_act format here there (Calls message) sound may tt
+sound_own format here there (Returns call message) sound may was = sound_return format here there call message sound may
+sound_own format here there (Came s) sound may was =
+    let tells = each_at _ (sent_by (start 0 format) there) was.0 (spelling s) sound.good_there.tells was.1 in
     let read : ◌≡◌ {A = Result Piece SegmentFault} (Ok tells.said) (Ok s) = sym (read_again tells.said tells.is.segment) ∙ ap reading (sym tells.bytes_are) ∙ read_again s may in
     let same : tells.said ≡ s = cc in
-    sound_act local remote format here there (Came s) sound may (subst (IsSaid 0 format there (taken_by (started remote local format) there)) same tells.is)
-sound_own local remote format here there Ticks sound may was = sound_act local remote format here there Ticks sound may tt
-sound_own local remote format here there Stops sound may was = sound_act local remote format here there Stops sound may tt
+    sound_act format here there (Came s) sound may (subst (IsSaid 0 format there (taken_by (start 0 format) there)) same tells.is)
+sound_own format here there Ticks sound may was = sound_act format here there Ticks sound may tt
+sound_own format here there Stops sound may was = sound_act format here there Stops sound may tt
 
-sound_talk : (local remote format : ℕ) (talk : Talk) → (format ≡ 1) ⊎ (format ≡ 2) → IsTalk local remote format talk → Sound local remote format (acts_at_first talk) (acts_at_second talk)
-sound_talk local remote format silent known is = sound_start local remote format known
-sound_talk local remote format (at_first talk act) known is = sound_own local remote format _ _ act (sound_talk local remote format talk known is.0) is.1 is.2
-sound_talk local remote format (at_second talk act) known is = turned remote local format _ _ (sound_own remote local format _ _ act (turned local remote format _ _ (sound_talk local remote format talk known is.0)) is.1 is.2)
+sound_talk : (format : ℕ) (talk : Talk) → (format ≡ 1) ⊎ (format ≡ 2) → IsTalk format talk → Sound format (acts_at_first talk) (acts_at_second talk)
+sound_talk format silent known is = sound_start format known
+sound_talk format (at_first talk act) known is = sound_own format _ _ act (sound_talk format talk known is.0) is.1 is.2
+sound_talk format (at_second talk act) known is = turned format _ _ (sound_own format _ _ act (turned format _ _ (sound_talk format talk known is.0)) is.1 is.2)
 
-sound_call : (local remote format : ℕ) (here there : Acts) (message : List ℕ) → is_stopped_after here ≡ false → Sound local remote format here there → IsSendable format message × (made here < 4294967295) → Sound local remote format (more here (Calls message)) there
-sound_call local remote format here there message up sound may = (let low : made here < 4294967295 = may.1 in sound_act local remote format here there (Calls message) sound (may.0, omega arith, up) tt)
+sound_call : (format : ℕ) (here there : Acts) (message : List ℕ) → is_stopped_after here ≡ false → Sound format here there → IsSendable format message × (made here < 4294967295) → Sound format (more here (Calls message)) there
+sound_call format here there message up sound may = (let low : made here < 4294967295 = may.1 in sound_act format here there (Calls message) sound (may.0, omega arith, up) tt)
 
-sound_tick : (local remote format : ℕ) (here there : Acts) → is_stopped_after here ≡ false → Sound local remote format here there → Sound local remote format (more here Ticks) there
-sound_tick local remote format here there up sound = sound_act local remote format here there Ticks sound up tt
+sound_tick : (format : ℕ) (here there : Acts) → is_stopped_after here ≡ false → Sound format here there → Sound format (more here Ticks) there
+sound_tick format here there up sound = sound_act format here there Ticks sound up tt
 
-sound_after : (format : ℕ) (history : History) → (format ≡ 1) ⊎ (format ≡ 2) → AreLawful format history → Sound 0 1 format (acts_of false format history) (acts_of true format history)
-sound_after format begun known lawful = sound_start 0 1 format known
-sound_after format (then_came history (Call false message)) known lawful = sound_call 0 1 format _ _ message (up_after false format history) (sound_after format history known lawful.0) lawful.1
-sound_after format (then_came history (Call true message)) known lawful = turned 1 0 format _ _ (sound_call 1 0 format _ _ message (up_after true format history) (turned 0 1 format _ _ (sound_after format history known lawful.0)) lawful.1)
-sound_after format (then_came history (Return false call message)) known lawful = sound_return 0 1 format _ _ call message (sound_after format history known lawful.0) lawful.1
-sound_after format (then_came history (Return true call message)) known lawful = turned 1 0 format _ _ (sound_return 1 0 format _ _ call message (turned 0 1 format _ _ (sound_after format history known lawful.0)) lawful.1)
-sound_after format (then_came history (Deliver false number)) known lawful = sound_deliver 0 1 format _ _ number (sound_after format history known lawful.0)
-sound_after format (then_came history (Deliver true number)) known lawful = turned 1 0 format _ _ (sound_deliver 1 0 format _ _ number (turned 0 1 format _ _ (sound_after format history known lawful.0)))
-sound_after format (then_came history (Tick false)) known lawful = sound_tick 0 1 format _ _ (up_after false format history) (sound_after format history known lawful.0)
-sound_after format (then_came history (Tick true)) known lawful = turned 1 0 format _ _ (sound_tick 1 0 format _ _ (up_after true format history) (turned 0 1 format _ _ (sound_after format history known lawful.0)))
+sound_after : (format : ℕ) (history : History) → (format ≡ 1) ⊎ (format ≡ 2) → AreLawful format history → Sound format (acts_of false format history) (acts_of true format history)
+sound_after format begun known lawful = sound_start format known
+sound_after format (then_came history (Call false message)) known lawful = sound_call format _ _ message (up_after false format history) (sound_after format history known lawful.0) lawful.1
+sound_after format (then_came history (Call true message)) known lawful = turned format _ _ (sound_call format _ _ message (up_after true format history) (turned format _ _ (sound_after format history known lawful.0)) lawful.1)
+sound_after format (then_came history (Return false call message)) known lawful = sound_return format _ _ call message (sound_after format history known lawful.0) lawful.1
+sound_after format (then_came history (Return true call message)) known lawful = turned format _ _ (sound_return format _ _ call message (turned format _ _ (sound_after format history known lawful.0)) lawful.1)
+sound_after format (then_came history (Deliver false number)) known lawful = sound_deliver format _ _ number (sound_after format history known lawful.0)
+sound_after format (then_came history (Deliver true number)) known lawful = turned format _ _ (sound_deliver format _ _ number (turned format _ _ (sound_after format history known lawful.0)))
+sound_after format (then_came history (Tick false)) known lawful = sound_tick format _ _ (up_after false format history) (sound_after format history known lawful.0)
+sound_after format (then_came history (Tick true)) known lawful = turned format _ _ (sound_tick format _ _ (up_after true format history) (turned format _ _ (sound_after format history known lawful.0)))
 
 -- what holds of two ends seen from either holds of each of them
-turned_after : (format : ℕ) (history : History) → (format ≡ 1) ⊎ (format ≡ 2) → AreLawful format history → Sound 1 0 format (acts_of true format history) (acts_of false format history)
-turned_after format history known lawful = turned 0 1 format _ _ (sound_after format history known lawful)
+turned_after : (format : ℕ) (history : History) → (format ≡ 1) ⊎ (format ≡ 2) → AreLawful format history → Sound format (acts_of true format history) (acts_of false format history)
+turned_after format history known lawful = turned format _ _ (sound_after format history known lawful)
 
 -- ---- what happens at each of them
 
-pub low_lawful : (format : ℕ) (history : History) → (format ≡ 1) ⊎ (format ≡ 2) → AreLawful format history → IsLawfulEnd 0 1 0 format (acts_of false format history)
+pub low_lawful : (format : ℕ) (history : History) → (format ≡ 1) ⊎ (format ≡ 2) → AreLawful format history → IsLawfulEnd 0 format (acts_of false format history)
 low_lawful format history known lawful = (sound_after format history known lawful).good_here.lawful
 
-pub high_lawful : (format : ℕ) (history : History) → (format ≡ 1) ⊎ (format ≡ 2) → AreLawful format history → IsLawfulEnd 1 0 0 format (acts_of true format history)
+pub high_lawful : (format : ℕ) (history : History) → (format ≡ 1) ⊎ (format ≡ 2) → AreLawful format history → IsLawfulEnd 0 format (acts_of true format history)
 high_lawful format history known lawful = (sound_after format history known lawful).good_there.lawful
 
 -- ---- what is sent
 
-read_of : (local remote format : ℕ) (here there : Acts) → Sound local remote format here there → (number : ℕ) (datagram : List ℕ) → slice_get (sent_by (started local remote format) here) number ≡ Some datagram → (s : Piece) × (reading datagram ≡ Ok s) × IsSegment s × (s.format ≡ format)
-read_of local remote format here there sound number datagram is =
-    let tells = each_at (Tells 0 format here (taken_by (started local remote format) here)) (sent_by (started local remote format) here) number datagram sound.good_here.tells is in
+read_of : (format : ℕ) (here there : Acts) → Sound format here there → (number : ℕ) (datagram : List ℕ) → slice_get (sent_by (start 0 format) here) number ≡ Some datagram → (s : Piece) × (reading datagram ≡ Ok s) × IsSegment s × (s.format ≡ format)
+read_of format here there sound number datagram is =
+    let tells = each_at (Tells 0 format here (taken_by (start 0 format) here)) (sent_by (start 0 format) here) number datagram sound.good_here.tells is in
     (tells.said, ap reading tells.bytes_are ∙ read_again tells.said tells.is.segment, tells.is.segment, tells.is.format_is)
 
-pub datagrams_read : (format : ℕ) (history : History) (end : Bool) (number : ℕ) (datagram : List ℕ) → (format ≡ 1) ⊎ (format ≡ 2) → AreLawful format history → slice_get (sent_by (start_of end format) (acts_of end format history)) number ≡ Some datagram → (s : Piece) × (reading datagram ≡ Ok s) × IsSegment s × (s.format ≡ format)
-datagrams_read format history false number datagram known lawful = read_of 0 1 format _ _ (sound_after format history known lawful) number datagram
-datagrams_read format history true number datagram known lawful = read_of 1 0 format _ _ (turned_after format history known lawful) number datagram
+pub datagrams_read : (format : ℕ) (history : History) (end : Bool) (number : ℕ) (datagram : List ℕ) → (format ≡ 1) ⊎ (format ≡ 2) → AreLawful format history → slice_get (sent_by (start 0 format) (acts_of end format history)) number ≡ Some datagram → (s : Piece) × (reading datagram ≡ Ok s) × IsSegment s × (s.format ≡ format)
+datagrams_read format history false number datagram known lawful = read_of format _ _ (sound_after format history known lawful) number datagram
+datagrams_read format history true number datagram known lawful = read_of format _ _ (turned_after format history known lawful) number datagram
 
 -- ---- what arrives
 
@@ -213,10 +213,10 @@ some_segments format acts ts kind call m fine handed =
     (let sendable : IsSendable format m = (elim (eqb kind 0) as (λ b. cond b (call_at 0 acts call) (return_at acts call) ≡ Some m → IsSendable format m) [ true ↦ λ h. (fine.calls call m h).0 | false ↦ λ h. (fine.returns call m h).0 ]) handed in
     (count_bounds (length m) _ (segment_count m) refl sendable.0 sendable.1).0)
 
-acknowledged_of : (local remote format : ℕ) (here there : Acts) → Sound local remote format here there → (kind call : ℕ) (m : List ℕ) → handed_over 0 here kind call ≡ Some m → reached_in (taken_by (started local remote format) here) kind call (segment_count m) ≡ segment_count m → has_arrived (taken_by (started remote local format) there) kind call ≡ true
-acknowledged_of local remote format here there sound kind call m handed reached =
-    let tsh = taken_by (started local remote format) here in
-    let tst = taken_by (started remote local format) there in
+acknowledged_of : (format : ℕ) (here there : Acts) → Sound format here there → (kind call : ℕ) (m : List ℕ) → handed_over 0 here kind call ≡ Some m → reached_in (taken_by (start 0 format) here) kind call (segment_count m) ≡ segment_count m → has_arrived (taken_by (start 0 format) there) kind call ≡ true
+acknowledged_of format here there sound kind call m handed reached =
+    let tsh = taken_by (start 0 format) here in
+    let tst = taken_by (start 0 format) there in
     let some = some_segments format here tsh kind call m sound.good_here.fine handed in
     let s = said_by (IsSaid 0 format there tst) tsh kind call (segment_count m) (segment_count m) sound.hears_there.heard some (let e : reached_in tsh kind call (segment_count m) ≡ segment_count m = reached in omega arith) in
     elim (is_acknowledgement s.piece) as (λ b. is_acknowledgement s.piece ≡ b → segment_count m ≤ cond b (cond (eqb s.piece.kind kind && eqb s.piece.call call) s.piece.number 0) (cond (eqb kind 0 && (eqb s.piece.kind 1 && eqb s.piece.call call)) (segment_count m) 0) → has_arrived tst kind call ≡ true) [
@@ -226,25 +226,25 @@ acknowledged_of local remote format here there sound kind call m handed reached 
 
 -- ---- both together
 
-agrees_of : (local remote format : ℕ) (here there : Acts) → Sound local remote format here there → Agrees local remote format here there
-agrees_of local remote format here there sound = record {
-  once = λ kind call. subst (λ n. n ≤ 1) (sym (sound.hears_there.once kind call)) (one_most (has_arrived (taken_by (started local remote format) here) kind call));
-  sent = each_all _ (arrived_in (started local remote format) here) sound.hears_there.messages;
-  acknowledged = acknowledged_of local remote format here there sound;
+agrees_of : (format : ℕ) (here there : Acts) → Sound format here there → Agrees format here there
+agrees_of format here there sound = record {
+  once = λ kind call. subst (λ n. n ≤ 1) (sym (sound.hears_there.once kind call)) (one_most (has_arrived (taken_by (start 0 format) here) kind call));
+  sent = each_all _ (arrived_in (start 0 format) here) sound.hears_there.messages;
+  acknowledged = acknowledged_of format here there sound;
 }
   where
     one_most : (b : Bool) → cond b 1 0 ≤ 1
     one_most true = omega arith
     one_most false = omega arith
 
-agree_of : (local remote format : ℕ) (here there : Acts) → Sound local remote format here there → Agree local remote format here there
-agree_of local remote format here there sound = (agrees_of local remote format here there sound, agrees_of remote local format there here (turned local remote format here there sound))
+agree_of : (format : ℕ) (here there : Acts) → Sound format here there → Agree format here there
+agree_of format here there sound = (agrees_of format here there sound, agrees_of format there here (turned format here there sound))
 
-pub talk_agrees : (local remote format : ℕ) (talk : Talk) → (format ≡ 1) ⊎ (format ≡ 2) → IsTalk local remote format talk → Agree local remote format (acts_at_first talk) (acts_at_second talk)
-talk_agrees local remote format talk known is = agree_of local remote format _ _ (sound_talk local remote format talk known is)
+pub talk_agrees : (format : ℕ) (talk : Talk) → (format ≡ 1) ⊎ (format ≡ 2) → IsTalk format talk → Agree format (acts_at_first talk) (acts_at_second talk)
+talk_agrees format talk known is = agree_of format _ _ (sound_talk format talk known is)
 
-pub agree_more : (r : Result Arrived TwoFault) (format : ℕ) (history : History) (act : Act) → (format ≡ 1) ⊎ (format ≡ 2) → OnOk r (AreLawful format (then_came history act)) → OnOk r (Agree 0 1 format (acts_of false format (then_came history act)) (acts_of true format (then_came history act)))
-agree_more (Ok x) format history act known lawful = agree_of 0 1 format _ _ (sound_after format (then_came history act) known lawful)
+pub agree_more : (r : Result Arrived TwoFault) (format : ℕ) (history : History) (act : Act) → (format ≡ 1) ⊎ (format ≡ 2) → OnOk r (AreLawful format (then_came history act)) → OnOk r (Agree format (acts_of false format (then_came history act)) (acts_of true format (then_came history act)))
+agree_more (Ok x) format history act known lawful = agree_of format _ _ (sound_after format (then_came history act) known lawful)
 agree_more (Err fault) format history act known lawful = tt
 
 -- ---- what an end keeps of it
@@ -256,33 +256,33 @@ progress_whole (Some m) c p is whole =
     (let same : record { total = segment_count m; count = c (segment_count m) } ≡ p = cc in
     (m, refl, ap (λ (x : Progress). x.count) same ∙ whole ∙ sym (ap (λ (x : Progress). x.total) same)))
 
-kept_of : (local remote format : ℕ) (here there : Acts) → Sound local remote format here there → (kind call : ℕ) (p : Progress) → told_out (handed_over 0 here kind call) (reached_in (taken_by (started local remote format) here) kind call) ≡ Some p → p.count ≡ p.total → has_arrived (taken_by (started remote local format) there) kind call ≡ true
-kept_of local remote format here there sound kind call p is whole =
-    (let so = progress_whole (handed_over 0 here kind call) (reached_in (taken_by (started local remote format) here) kind call) p is whole in
-    acknowledged_of local remote format here there sound kind call so.0 so.1 so.2)
+kept_of : (format : ℕ) (here there : Acts) → Sound format here there → (kind call : ℕ) (p : Progress) → told_out (handed_over 0 here kind call) (reached_in (taken_by (start 0 format) here) kind call) ≡ Some p → p.count ≡ p.total → has_arrived (taken_by (start 0 format) there) kind call ≡ true
+kept_of format here there sound kind call p is whole =
+    (let so = progress_whole (handed_over 0 here kind call) (reached_in (taken_by (start 0 format) here) kind call) p is whole in
+    acknowledged_of format here there sound kind call so.0 so.1 so.2)
 
-call_kept_of : (local remote format : ℕ) (here there : Acts) → Sound local remote format here there → (call : ℕ) (p : Progress) → get (end_after (started local remote format) here).calls.progress call ≡ Some p → p.count ≡ p.total → has_arrived (taken_by (started remote local format) there) 0 call ≡ true
-call_kept_of local remote format here there sound call p is = kept_of local remote format here there sound 0 call p (sym ((keeping local remote format here sound.good_here).hands.calls call) ∙ is)
+call_kept_of : (format : ℕ) (here there : Acts) → Sound format here there → (call : ℕ) (p : Progress) → get (end_after (start 0 format) here).calls.progress call ≡ Some p → p.count ≡ p.total → has_arrived (taken_by (start 0 format) there) 0 call ≡ true
+call_kept_of format here there sound call p is = kept_of format here there sound 0 call p (sym ((keeping format here sound.good_here).hands.calls call) ∙ is)
 
-return_kept_of : (local remote format : ℕ) (here there : Acts) → Sound local remote format here there → (call : ℕ) (p : Progress) → get (end_after (started local remote format) here).returns.progress call ≡ Some p → p.count ≡ p.total → has_arrived (taken_by (started remote local format) there) 1 call ≡ true
-return_kept_of local remote format here there sound call p is = kept_of local remote format here there sound 1 call p (sym ((keeping local remote format here sound.good_here).hands.returns call) ∙ is)
+return_kept_of : (format : ℕ) (here there : Acts) → Sound format here there → (call : ℕ) (p : Progress) → get (end_after (start 0 format) here).returns.progress call ≡ Some p → p.count ≡ p.total → has_arrived (taken_by (start 0 format) there) 1 call ≡ true
+return_kept_of format here there sound call p is = kept_of format here there sound 1 call p (sym ((keeping format here sound.good_here).hands.returns call) ∙ is)
 
 pub call_kept : (format : ℕ) (history : History) (end : Bool) (call : ℕ) (p : Progress) → (format ≡ 1) ⊎ (format ≡ 2) → AreLawful format history → get (end_at (both_after format history) end).exchange.calls.progress call ≡ Some p → p.count ≡ p.total → has_arrived (taken_at (not end) format history) 0 call ≡ true
-call_kept format history false call p known lawful = call_kept_of 0 1 format _ _ (sound_after format history known lawful) call p
-call_kept format history true call p known lawful = call_kept_of 1 0 format _ _ (turned_after format history known lawful) call p
+call_kept format history false call p known lawful = call_kept_of format _ _ (sound_after format history known lawful) call p
+call_kept format history true call p known lawful = call_kept_of format _ _ (turned_after format history known lawful) call p
 
 pub return_kept : (format : ℕ) (history : History) (end : Bool) (call : ℕ) (p : Progress) → (format ≡ 1) ⊎ (format ≡ 2) → AreLawful format history → get (end_at (both_after format history) end).exchange.returns.progress call ≡ Some p → p.count ≡ p.total → has_arrived (taken_at (not end) format history) 1 call ≡ true
-return_kept format history false call p known lawful = return_kept_of 0 1 format _ _ (sound_after format history known lawful) call p
-return_kept format history true call p known lawful = return_kept_of 1 0 format _ _ (turned_after format history known lawful) call p
+return_kept format history false call p known lawful = return_kept_of format _ _ (sound_after format history known lawful) call p
+return_kept format history true call p known lawful = return_kept_of format _ _ (turned_after format history known lawful) call p
 
 -- ---- which returns may follow
 
-awaits_of : (local remote format : ℕ) (here there : Acts) → Sound local remote format here there → (call : ℕ) → awaits_return (end_after (started local remote format) here) call ≡ (has_arrived (taken_by (started local remote format) here) 0 call && not (is_some (return_at here call)))
-awaits_of local remote format here there sound call = (let k = keeping local remote format here sound.good_here in awaits_is 0 here _ _ call k.stands k.hands)
+awaits_of : (format : ℕ) (here there : Acts) → Sound format here there → (call : ℕ) → awaits_return (end_after (start 0 format) here) call ≡ (has_arrived (taken_by (start 0 format) here) 0 call && not (is_some (return_at here call)))
+awaits_of format here there sound call = (let k = keeping format here sound.good_here in awaits_is 0 here _ _ call k.stands k.hands)
 
 pub awaited : (format : ℕ) (history : History) (end : Bool) (call : ℕ) → (format ≡ 1) ⊎ (format ≡ 2) → AreLawful format history → awaits_return (end_at (both_after format history) end).exchange call ≡ (has_arrived (taken_at end format history) 0 call && not (is_some (return_at (acts_of end format history) call)))
-awaited format history false call known lawful = awaits_of 0 1 format _ _ (sound_after format history known lawful) call
-awaited format history true call known lawful = awaits_of 1 0 format _ _ (turned_after format history known lawful) call
+awaited format history false call known lawful = awaits_of format _ _ (sound_after format history known lawful) call
+awaited format history true call known lawful = awaits_of format _ _ (turned_after format history known lawful) call
 
 -- ---- an act that happens might come
 
@@ -294,28 +294,28 @@ nothing_there : (o : Option (List ℕ)) → not (is_some o) ≡ true → o ≡ N
 nothing_there None h = refl
 nothing_there (Some m) h = absurd cc
 
-may_call : (local remote format : ℕ) (here there : Acts) (message : List ℕ) → Sound local remote format here there → IsSendable (end_after (started local remote format) here).format message → eqb (end_after (started local remote format) here).next 4294967295 ≡ false → IsSendable format message × (made here < 4294967295)
-may_call local remote format here there message sound sendable left =
-    let k = keeping local remote format here sound.good_here in
-    let next : (end_after (started local remote format) here).next ≡ 0 + made here = k.hands.next in
+may_call : (format : ℕ) (here there : Acts) (message : List ℕ) → Sound format here there → IsSendable (end_after (start 0 format) here).format message → eqb (end_after (start 0 format) here).next 4294967295 ≡ false → IsSendable format message × (made here < 4294967295)
+may_call format here there message sound sendable left =
+    let k = keeping format here sound.good_here in
+    let next : (end_after (start 0 format) here).next ≡ 0 + made here = k.hands.next in
     let few : made here ≤ 4294967295 = sound.good_here.few in
-    let ne : (end_after (started local remote format) here).next ≡ 4294967295 → ⊥ = eqb-false (end_after (started local remote format) here).next 4294967295 left in
-    (subst (λ f. IsSendable f message) k.format_is sendable, below (end_after (started local remote format) here).next (made here) next few ne)
+    let ne : (end_after (start 0 format) here).next ≡ 4294967295 → ⊥ = eqb-false (end_after (start 0 format) here).next 4294967295 left in
+    (subst (λ f. IsSendable f message) k.format_is sendable, below (end_after (start 0 format) here).next (made here) next few ne)
   where
     below : (n m : ℕ) → n ≡ 0 + m → m ≤ 4294967295 → (n ≡ 4294967295 → ⊥) → m < 4294967295
     below n m is le ne = omega arith
 
-may_return : (local remote format : ℕ) (here there : Acts) (call : ℕ) (message : List ℕ) → Sound local remote format here there → IsSendable (end_after (started local remote format) here).format message → not (awaits_return (end_after (started local remote format) here) call) ≡ false → IsSendable format message × (has_arrived (taken_by (started local remote format) here) 0 call ≡ true) × (return_at here call ≡ None)
-may_return local remote format here there call message sound sendable awaits =
-    let k = keeping local remote format here sound.good_here in
-    let both = both_true (has_arrived (taken_by (started local remote format) here) 0 call) _ (sym (awaits_of local remote format here there sound call) ∙ not_false _ awaits) in
+may_return : (format : ℕ) (here there : Acts) (call : ℕ) (message : List ℕ) → Sound format here there → IsSendable (end_after (start 0 format) here).format message → not (awaits_return (end_after (start 0 format) here) call) ≡ false → IsSendable format message × (has_arrived (taken_by (start 0 format) here) 0 call ≡ true) × (return_at here call ≡ None)
+may_return format here there call message sound sendable awaits =
+    let k = keeping format here sound.good_here in
+    let both = both_true (has_arrived (taken_by (start 0 format) here) 0 call) _ (sym (awaits_of format here there sound call) ∙ not_false _ awaits) in
     (subst (λ f. IsSendable f message) k.format_is sendable, both.0, nothing_there _ both.1)
 
 may_follow : (format : ℕ) (history : History) (act : Act) → (format ≡ 1) ⊎ (format ≡ 2) → AreLawful format history → CanBeSent (both_after format history) act → names_none (both_after format history) act ≡ false → has_no_number (both_after format history) act ≡ false → MayFollow format history act
-may_follow format history (Call false message) known lawful sendable such left = may_call 0 1 format _ _ message (sound_after format history known lawful) sendable left
-may_follow format history (Call true message) known lawful sendable such left = may_call 1 0 format _ _ message (turned_after format history known lawful) sendable left
-may_follow format history (Return false call message) known lawful sendable such left = may_return 0 1 format _ _ call message (sound_after format history known lawful) sendable such
-may_follow format history (Return true call message) known lawful sendable such left = may_return 1 0 format _ _ call message (turned_after format history known lawful) sendable such
+may_follow format history (Call false message) known lawful sendable such left = may_call format _ _ message (sound_after format history known lawful) sendable left
+may_follow format history (Call true message) known lawful sendable such left = may_call format _ _ message (turned_after format history known lawful) sendable left
+may_follow format history (Return false call message) known lawful sendable such left = may_return format _ _ call message (sound_after format history known lawful) sendable such
+may_follow format history (Return true call message) known lawful sendable such left = may_return format _ _ call message (turned_after format history known lawful) sendable such
 may_follow format history (Deliver false number) known lawful sendable such left = ltb-true number _ (not_false _ such)
 may_follow format history (Deliver true number) known lawful sendable such left = ltb-true number _ (not_false _ such)
 may_follow format history (Tick at) known lawful sendable such left = tt

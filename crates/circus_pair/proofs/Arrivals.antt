@@ -3,17 +3,15 @@ use Rattle.std.proofs.Common.{◌≡◌, ℕ, zero, suc, ◌<◌, ◌≤◌, ◌
 use Rattle.std.specs.Prelude.{is_some, unwrap_or, nat_le}
 use Rattle.std.specs.Cmp.{nat_cmp_total}
 use Rattle.std.specs.Ordering.{nat_cmp}
-use Rattle.std.specs.FinMap.{FinMap, get, empty, insert, get-empty, get-insert, get-remove}
+use Rattle.std.specs.FinMap.{FinMap, get, empty, insert, remove, get-empty, get-insert, get-remove}
 use Rattle.std.proofs.lemmas.Bool.{cases_lt, ne_eqb, eqb-true}
 use Rattle.std.proofs.lemmas.Bool.Decides.{eqb_tells}
 use Rattle.circus_exchange.specs.declared.progress.Progress.{Progress}
-use Rattle.circus_exchange.specs.declared.inbox.Inbox.{Inbox}
+use Rattle.circus_exchange.specs.Inbox.{Arriving}
 use Rattle.circus_segment.specs.Segment.{Piece, is_acknowledgement, has_data}
-use Rattle.circus_exchange.specs.Place.{place_cmp}
-use Rattle.circus_exchange.specs.Inbox.{front, joined, known, has, is_new, has_with, count_with, completes, data_with, parts_with, without, added}
-use Rattle.circus_pair.specs.Taken.{is_of, first_of, total_in, first_part, data_in, is_there, count_in, is_reached, has_arrived, message_in, IsTotal, MayFollow, AreTaken}
-use Rattle.circus_exchange.proofs.Places.{places_total}
-use Rattle.circus_exchange.proofs.Ties.{equal, nat_ties, places_tie}
+use Rattle.circus_exchange.specs.Inbox.{part_of, with_part, front, joined, known, has, is_new, has_with, count_with, completes, data_with, parts_with, added}
+use Rattle.circus_pair.specs.Taken.{is_of, first_of, total_in, first_part, data_in, is_there, count_in, is_reached, has_arrived, message_in, IsTotal, MayFollow}
+use Rattle.circus_exchange.proofs.Ties.{equal, nat_ties}
 
 -- ---- how far a message has come, on numbers alone
 
@@ -136,15 +134,15 @@ told None count_to = None
 told (Some total) count_to = Some (record { total = total; count = count_to total })
 
 -- of each message its total and its front, and its data while it is not whole
-pub record Keeps (kind : ℕ) (ts : List Piece) (box : Inbox) : Type 0 where
+pub record Keeps (kind : ℕ) (ts : List Piece) (box : Arriving) : Type 0 where
   pub progress : (call : ℕ) → get box.progress call ≡ told (total_in ts kind call) (count_in ts kind call)
-  pub parts : (call number : ℕ) → get box.parts (record { call = call; number = number }) ≡ cond (has_arrived ts kind call) None (data_in ts kind call number)
+  pub parts : (call number : ℕ) → part_of (get box.parts call) number ≡ cond (has_arrived ts kind call) None (data_in ts kind call number)
 
 unwrapped : (o : Option ℕ) (c : ℕ → ℕ) (t : ℕ) → IsTotal o t → (o ≡ None → c t ≡ 0) → unwrap_or (told o c) (record { total = t; count = 0 }) ≡ record { total = t; count = c t }
 unwrapped None c t h none = ap (λ (n : ℕ). record { total = t; count = n }) (sym (none refl))
 unwrapped (Some x) c t h none = ap (λ (n : ℕ). record { total = n; count = c n }) h
 
-pub known_is : (s : Piece) (ts : List Piece) (box : Inbox) → Keeps s.kind ts box → MayFollow ts s → is_acknowledgement s ≡ false → known box s ≡ record { total = s.total; count = count_in ts s.kind s.call s.total }
+pub known_is : (s : Piece) (ts : List Piece) (box : Arriving) → Keeps s.kind ts box → MayFollow ts s → is_acknowledgement s ≡ false → known box s ≡ record { total = s.total; count = count_in ts s.kind s.call s.total }
 unfolding known
 known_is s ts box keeps may plain =
     ap (λ o. unwrap_or o (record { total = s.total; count = 0 })) (keeps.progress s.call)
@@ -165,11 +163,11 @@ has_cases false true o there whole = absurd (let h : false ≡ true = whole refl
 has_cases false false o there whole = refl
 
 -- the data of a number is there in the inbox where it is there among the segments
-pub has_is : (s : Piece) (ts : List Piece) (box : Inbox) → Keeps s.kind ts box → MayFollow ts s → is_acknowledgement s ≡ false → (number : ℕ) → 1 ≤ number → number ≤ s.total → has box s number ≡ is_there ts s.kind s.call number
+pub has_is : (s : Piece) (ts : List Piece) (box : Arriving) → Keeps s.kind ts box → MayFollow ts s → is_acknowledgement s ≡ false → (number : ℕ) → 1 ≤ number → number ≤ s.total → has box s number ≡ is_there ts s.kind s.call number
 unfolding has is_there count_in
 has_is s ts box keeps may plain number one le =
     let count = count_in ts s.kind s.call s.total in
-    ap (λ (p : Progress). nat_le number p.count || is_some (get box.parts (record { call = s.call; number = number }))) (known_is s ts box keeps may plain)
+    ap (λ (p : Progress). nat_le number p.count || is_some (part_of (get box.parts s.call) number)) (known_is s ts box keeps may plain)
     ∙ ap (λ o. nat_le number count || is_some o) (keeps.parts s.call number)
     ∙ has_cases (nat_le number count) (has_arrived ts s.kind s.call) (data_in ts s.kind s.call number)
     (λ low. front_passes (is_there ts s.kind s.call) s.total number one (below number count low))
@@ -182,7 +180,7 @@ has_is s ts box keeps may plain number one le =
     above a b h = grind arith
 
 -- a segment is new where it has data that was not there
-pub new_is : (s : Piece) (ts : List Piece) (box : Inbox) → Keeps s.kind ts box → MayFollow ts s → is_acknowledgement s ≡ false → is_new box s ≡ (has_data s && not (is_there ts s.kind s.call s.number))
+pub new_is : (s : Piece) (ts : List Piece) (box : Arriving) → Keeps s.kind ts box → MayFollow ts s → is_acknowledgement s ≡ false → is_new box s ≡ (has_data s && not (is_there ts s.kind s.call s.number))
 unfolding is_new
 new_is s ts box keeps may plain =
     elim (has_data s) as (λ b. has_data s ≡ b → (b && not (has box s s.number)) ≡ (b && not (is_there ts s.kind s.call s.number))) [
@@ -221,7 +219,7 @@ there_old s ts number plain old =
     subst (λ n. is_there ts s.kind s.call n ≡ true) same (old_there (has_data s) _ old full))
 
 -- the count is that of all segments
-pub count_is : (s : Piece) (ts : List Piece) (box : Inbox) → Keeps s.kind ts box → MayFollow ts s → is_acknowledgement s ≡ false → count_with box s ≡ count_in (s ∷ ts) s.kind s.call s.total
+pub count_is : (s : Piece) (ts : List Piece) (box : Arriving) → Keeps s.kind ts box → MayFollow ts s → is_acknowledgement s ≡ false → count_with box s ≡ count_in (s ∷ ts) s.kind s.call s.total
 unfolding count_with count_in has_with
 count_is s ts box keeps may plain =
     let new = new_is s ts box keeps may plain in
@@ -277,7 +275,7 @@ apart true = refl
 apart false = refl
 
 -- a segment completes its message exactly where the message arrives by it
-pub completes_is : (s : Piece) (ts : List Piece) (box : Inbox) → Keeps s.kind ts box → MayFollow ts s → is_acknowledgement s ≡ false → completes box s ≡ (has_arrived (s ∷ ts) s.kind s.call && not (has_arrived ts s.kind s.call))
+pub completes_is : (s : Piece) (ts : List Piece) (box : Arriving) → Keeps s.kind ts box → MayFollow ts s → is_acknowledgement s ≡ false → completes box s ≡ (has_arrived (s ∷ ts) s.kind s.call && not (has_arrived ts s.kind s.call))
 unfolding completes
 completes_is s ts box keeps may plain =
     let new = new_is s ts box keeps may plain in
@@ -344,7 +342,7 @@ chosen true x o = refl
 chosen false x o = refl
 
 -- the message that a segment completes is the joined data of its segments
-pub message_is : (s : Piece) (ts : List Piece) (box : Inbox) → Keeps s.kind ts box → MayFollow ts s → is_acknowledgement s ≡ false → is_new box s ≡ true → joined (data_with box s) s.total ≡ message_in (s ∷ ts) s.kind s.call s.total
+pub message_is : (s : Piece) (ts : List Piece) (box : Arriving) → Keeps s.kind ts box → MayFollow ts s → is_acknowledgement s ≡ false → is_new box s ≡ true → joined (data_with box s) s.total ≡ message_in (s ∷ ts) s.kind s.call s.total
 unfolding message_in data_with
 message_is s ts box keeps may plain yes_ =
     let cases = new_cases (has_data s) _ (sym (new_is s ts box keeps may plain) ∙ yes_) in
@@ -354,62 +352,35 @@ message_is s ts box keeps may plain yes_ =
 
 -- ---- one segment more
 
-get_put : (parts : FinMap place_cmp (List ℕ)) (n k : ℕ) (v : List ℕ) (q j : ℕ) → get (insert parts (record { call = n; number = k }) v) (record { call = q; number = j }) ≡ cond (eqb q n && eqb j k) (Some v) (get parts (record { call = q; number = j }))
+unwrapped_part : (o : Option (FinMap nat_cmp (List ℕ))) (j : ℕ) → get (unwrap_or o empty) j ≡ part_of o j
+unwrapped_part None j = get-empty nat_cmp j
+unwrapped_part (Some parts) j = refl
+
+get_put : (parts : FinMap nat_cmp (FinMap nat_cmp (List ℕ))) (n k : ℕ) (v : List ℕ) (q j : ℕ) → part_of (get (with_part parts n k v) q) j ≡ cond (eqb q n && eqb j k) (Some v) (part_of (get parts q) j)
 get_put parts n k v q j =
-    get-insert places_total parts (record { call = n; number = k }) v (record { call = q; number = j })
-    ∙ ap (λ b. cond b (Some v) (get parts (record { call = q; number = j }))) (places_tie q j n k)
-
--- other calls keep their parts
-without_other : (parts : FinMap place_cmp (List ℕ)) (n m q j : ℕ) → eqb q n ≡ false → get (without parts n m) (record { call = q; number = j }) ≡ get parts (record { call = q; number = j })
-without_other parts n zero q j other = refl
-without_other parts n (suc m) q j other =
-    get-remove places_total (without parts n m) (record { call = n; number = suc m }) (record { call = q; number = j })
-    ∙ ap (λ b. cond b None (get (without parts n m) (record { call = q; number = j }))) (places_tie q j n (suc m) ∙ ap (λ b. b && eqb j (suc m)) other)
-    ∙ without_other parts n m q j other
-
-without_here : (parts : FinMap place_cmp (List ℕ)) (n m j : ℕ) → ((j ≡ 0) ⊎ (m < j) → get parts (record { call = n; number = j }) ≡ None) → get (without parts n m) (record { call = n; number = j }) ≡ None
-without_here parts n zero j out = out (elim (cases_lt 0 j) [ inl above ↦ inr above | inr zero_ ↦ inl (omega arith) ])
-without_here parts n (suc m) j out =
-    get-remove places_total (without parts n m) (record { call = n; number = suc m }) (record { call = n; number = j })
-    ∙ ap (λ b. cond b None (get (without parts n m) (record { call = n; number = j }))) (places_tie n j n (suc m) ∙ ap (λ b. b && eqb j (suc m)) (equal n))
-    ∙ elim (eqb_tells j (suc m)) [
-      | inl same ↦ ap (λ b. cond b None (get (without parts n m) (record { call = n; number = j }))) same.0
+    ap (λ o. part_of o j) (get-insert nat_cmp_total parts n (insert (unwrap_or (get parts n) empty) k v) q
+    ∙ ap (λ b. cond b (Some (insert (unwrap_or (get parts n) empty) k v)) (get parts q)) (nat_ties q n))
+    ∙ elim (eqb_tells q n) [
+      | inl same ↦
+          ap (λ b. part_of (cond b (Some (insert (unwrap_or (get parts n) empty) k v)) (get parts q)) j) same.0
+          ∙ get-insert nat_cmp_total (unwrap_or (get parts n) empty) k v j
+          ∙ ap (λ b. cond b (Some v) (get (unwrap_or (get parts n) empty) j)) (nat_ties j k)
+          ∙ ap (cond (eqb j k) (Some v)) (unwrapped_part (get parts n) j ∙ ap (λ m. part_of (get parts m) j) (sym same.1))
+          ∙ sym (ap (λ b. cond (b && eqb j k) (Some v) (part_of (get parts q) j)) same.0)
       | inr differ ↦
-          ap (λ b. cond b None (get (without parts n m) (record { call = n; number = j }))) differ.0
-          ∙ without_here parts n m j (λ far. out (elim far [ inl zero_ ↦ inl zero_ | inr beyond ↦ (let ne : j ≢ suc m = differ.1 in inr (omega arith)) ]))
+          ap (λ b. part_of (cond b (Some (insert (unwrap_or (get parts n) empty) k v)) (get parts q)) j) differ.0
+          ∙ sym (ap (λ b. cond (b && eqb j k) (Some v) (part_of (get parts q) j)) differ.0)
     ]
 
--- a number that no segment of a message of some total has
-abbrev Beyond : Option ℕ → ℕ → Type 0
-Beyond None j = Unit {0}
-Beyond (Some t) j = (j ≡ 0) ⊎ (t < j)
-
-outside : (t j : ℕ) → (j ≡ 0) ⊎ (t < j) → 1 ≤ j → j ≤ t → ⊥
-outside t j out low high = elim out [ inl zero_ ↦ absurd (omega arith) | inr past ↦ absurd (omega arith) ]
-
-beyond_more : (o : Option ℕ) (b : Bool) (x : ℕ) (d : Option (List ℕ)) (c : Bool) (part : List ℕ) (j : ℕ) → Beyond (first_of o b x) j → (Beyond o j → d ≡ None) → (b ≡ true → IsTotal o x) → (b ≡ true → c ≡ true → (1 ≤ j) × (j ≤ x)) → first_part d (b && c) part ≡ None
-beyond_more None false x d c part j out rest total range = first_part_none d part ∙ rest tt
-beyond_more (Some t) false x d c part j out rest total range = first_part_none d part ∙ rest out
-beyond_more None true x d true part j out rest total range = absurd (let r = range refl refl in outside x j out r.0 r.1)
-beyond_more None true x d false part j out rest total range = first_part_none d part ∙ rest tt
-beyond_more (Some t) true x d true part j out rest total range = absurd (let r = range refl refl in let same : t ≡ x = total refl in outside t j out r.0 (let le : j ≤ x = r.1 in omega arith))
-beyond_more (Some t) true x d false part j out rest total range = first_part_none d part ∙ rest out
-
-both_true : (a b : Bool) → (a && b) ≡ true → (a ≡ true) × (b ≡ true)
-both_true true b h = (refl, h)
-both_true false b h = absurd cc
-
--- data has a number within its message
-data_range : (ts : List Piece) (kind call j : ℕ) → AreTaken ts → Beyond (total_in ts kind call) j → data_in ts kind call j ≡ None
-unfolding total_in data_in
-data_range [] kind call j taken out = refl
-data_range (s ∷ ts) kind call j taken out =
-    beyond_more (total_in ts kind call) (is_of kind call s) s.total (data_in ts kind call j) (has_data s && eqb s.number j) s.part j out
-    (λ before. data_range ts kind call j taken.1 before)
-    (λ of_it. let kinds = both_true (eqb s.kind kind) _ of_it in let calls = both_true (eqb s.call call) _ kinds.1 in
-    subst (λ q. IsTotal (total_in ts kind q) s.total) (eqb-true s.call call calls.0) (subst (λ k. IsTotal (total_in ts k s.call) s.total) (eqb-true s.kind kind kinds.0) (taken.0.total calls.1)))
-    (λ of_it has_it. let numbers = both_true (has_data s) _ has_it in let same : s.number ≡ j = eqb-true s.number j numbers.1 in
-    let low : 0 < s.number = taken.0.numbered numbers.0 in let high : s.number ≤ s.total = taken.0.within in (omega arith, omega arith))
+-- other calls keep their parts
+without : (parts : FinMap nat_cmp (FinMap nat_cmp (List ℕ))) (n q j : ℕ) → part_of (get (remove parts n) q) j ≡ cond (eqb q n) None (part_of (get parts q) j)
+without parts n q j =
+    ap (λ o. part_of o j) (get-remove nat_cmp_total parts n q ∙ ap (λ b. cond b None (get parts q)) (nat_ties q n))
+    ∙ taken_out (eqb q n) (get parts q)
+  where
+    taken_out : (b : Bool) (o : Option (FinMap nat_cmp (List ℕ))) → part_of (cond b None o) j ≡ cond b None (part_of o j)
+    taken_out true o = refl
+    taken_out false o = refl
 
 told_alike : (o : Option ℕ) (f g : ℕ → ℕ) → ((t : ℕ) → f t ≡ g t) → told o f ≡ told o g
 told_alike None f g h = refl
@@ -426,24 +397,24 @@ parts_other s ts kind call j other =
     ∙ ap (λ d. cond (has_arrived (s ∷ ts) kind call) None d) (sym (data_other s ts kind call j other))
 
 -- a segment of another kind, or an acknowledgement, leaves an inbox as it is
-pub keeps_other : (s : Piece) (ts : List Piece) (kind : ℕ) (box : Inbox) → ((call : ℕ) → is_of kind call s ≡ false) → Keeps kind ts box → Keeps kind (s ∷ ts) box
+pub keeps_other : (s : Piece) (ts : List Piece) (kind : ℕ) (box : Arriving) → ((call : ℕ) → is_of kind call s ≡ false) → Keeps kind ts box → Keeps kind (s ∷ ts) box
 keeps_other s ts kind box other keeps = record {
   progress = λ call. keeps.progress call ∙ told_other s ts kind call (other call);
   parts = λ call j. keeps.parts call j ∙ parts_other s ts kind call j (other call);
 }
 
 -- an inbox in which nothing has come
-pub keeps_nothing : (kind : ℕ) (box : Inbox) → box.progress ≡ empty → box.parts ≡ empty → Keeps kind [] box
+pub keeps_nothing : (kind : ℕ) (box : Arriving) → box.progress ≡ empty → box.parts ≡ empty → Keeps kind [] box
 unfolding total_in data_in has_arrived
 keeps_nothing kind box progress parts = record {
   progress = λ call. ap (λ (m : FinMap nat_cmp Progress). get m call) progress ∙ get-empty nat_cmp call;
-  parts = λ call j. ap (λ (m : FinMap place_cmp (List ℕ)). get m (record { call = call; number = j })) parts ∙ get-empty place_cmp (record { call = call; number = j });
+  parts = λ call j. ap (λ (m : FinMap nat_cmp (FinMap nat_cmp (List ℕ))). part_of (get m call) j) parts ∙ ap (λ (o : Option (FinMap nat_cmp (List ℕ))). part_of o j) (get-empty nat_cmp call);
 }
 
 another : (s : Piece) (call : ℕ) → (call ≡ s.call → ⊥) → is_of s.kind call s ≡ false
 another s call differ = rw (equal s.kind, ne_eqb s.call call (λ e. differ (sym e))) refl
 
-progress_more : (s : Piece) (ts : List Piece) (box : Inbox) → Keeps s.kind ts box → MayFollow ts s → is_acknowledgement s ≡ false → (call : ℕ) → get (added box s).progress call ≡ told (total_in (s ∷ ts) s.kind call) (count_in (s ∷ ts) s.kind call)
+progress_more : (s : Piece) (ts : List Piece) (box : Arriving) → Keeps s.kind ts box → MayFollow ts s → is_acknowledgement s ≡ false → (call : ℕ) → get (added box s).progress call ≡ told (total_in (s ∷ ts) s.kind call) (count_in (s ∷ ts) s.kind call)
 unfolding added
 progress_more s ts box keeps may plain call =
     get-insert nat_cmp_total box.progress s.call (record { total = s.total; count = count_with box s }) call
@@ -459,38 +430,31 @@ progress_more s ts box keeps may plain call =
           ∙ keeps.progress call ∙ told_other s ts s.kind call (another s call differ.1)
     ]
 
-parts_elsewhere : (s : Piece) (box : Inbox) (q j : ℕ) → eqb q s.call ≡ false → get (parts_with box s) (record { call = q; number = j }) ≡ get box.parts (record { call = q; number = j })
+parts_elsewhere : (s : Piece) (box : Arriving) (q j : ℕ) → eqb q s.call ≡ false → part_of (get (parts_with box s) q) j ≡ part_of (get box.parts q) j
 unfolding parts_with
 parts_elsewhere s box q j other =
-    elim (is_new box s) as (λ b. get (cond b (cond (eqb (count_with box s) s.total) (without box.parts s.call s.total) (insert box.parts (record { call = s.call; number = s.number }) s.part)) box.parts) (record { call = q; number = j }) ≡ get box.parts (record { call = q; number = j })) [
-      | true ↦ elim (eqb (count_with box s) s.total) as (λ b. get (cond b (without box.parts s.call s.total) (insert box.parts (record { call = s.call; number = s.number }) s.part)) (record { call = q; number = j }) ≡ get box.parts (record { call = q; number = j })) [
-        | true ↦ without_other box.parts s.call s.total q j other
-        | false ↦ get_put box.parts s.call s.number s.part q j ∙ ap (λ b. cond (b && eqb j s.number) (Some s.part) (get box.parts (record { call = q; number = j }))) other
+    elim (is_new box s) as (λ b. part_of (get (cond b (cond (eqb (count_with box s) s.total) (remove box.parts s.call) (with_part box.parts s.call s.number s.part)) box.parts) q) j ≡ part_of (get box.parts q) j) [
+      | true ↦ elim (eqb (count_with box s) s.total) as (λ b. part_of (get (cond b (remove box.parts s.call) (with_part box.parts s.call s.number s.part)) q) j ≡ part_of (get box.parts q) j) [
+        | true ↦ without box.parts s.call q j ∙ ap (λ b. cond b None (part_of (get box.parts q) j)) other
+        | false ↦ get_put box.parts s.call s.number s.part q j ∙ ap (λ b. cond (b && eqb j s.number) (Some s.part) (part_of (get box.parts q) j)) other
       ]
       | false ↦ refl
     ]
 
-out_of_it : (s : Piece) (ts : List Piece) (j : ℕ) → MayFollow ts s → is_acknowledgement s ≡ false → (j ≡ 0) ⊎ (s.total < j) → Beyond (total_in ts s.kind s.call) j
-out_of_it s ts j may plain out = go (total_in ts s.kind s.call) (may.total (ap not plain))
-  where
-    go : (o : Option ℕ) → IsTotal o s.total → Beyond o j
-    go None h = tt
-    go (Some t) h = subst (λ n. (j ≡ 0) ⊎ (n < j)) (sym h) out
-
-parts_here : (s : Piece) (ts : List Piece) (box : Inbox) → Keeps s.kind ts box → AreTaken ts → MayFollow ts s → is_acknowledgement s ≡ false → (j : ℕ) → get (parts_with box s) (record { call = s.call; number = j }) ≡ cond (has_arrived (s ∷ ts) s.kind s.call) None (data_in (s ∷ ts) s.kind s.call j)
+parts_here : (s : Piece) (ts : List Piece) (box : Arriving) → Keeps s.kind ts box → MayFollow ts s → is_acknowledgement s ≡ false → (j : ℕ) → part_of (get (parts_with box s) s.call) j ≡ cond (has_arrived (s ∷ ts) s.kind s.call) None (data_in (s ∷ ts) s.kind s.call j)
 unfolding parts_with
-parts_here s ts box keeps taken may plain j =
+parts_here s ts box keeps may plain j =
     let new = new_is s ts box keeps may plain in
     let whole : has_arrived (s ∷ ts) s.kind s.call ≡ eqb (count_with box s) s.total = arrives_at s ts may plain ∙ ap (λ n. eqb n s.total) (sym (count_is s ts box keeps may plain)) in
-    elim (is_new box s) as (λ b. is_new box s ≡ b → get (cond b (cond (eqb (count_with box s) s.total) (without box.parts s.call s.total) (insert box.parts (record { call = s.call; number = s.number }) s.part)) box.parts) (record { call = s.call; number = j }) ≡ cond (has_arrived (s ∷ ts) s.kind s.call) None (data_in (s ∷ ts) s.kind s.call j)) [
+    elim (is_new box s) as (λ b. is_new box s ≡ b → part_of (get (cond b (cond (eqb (count_with box s) s.total) (remove box.parts s.call) (with_part box.parts s.call s.number s.part)) box.parts) s.call) j ≡ cond (has_arrived (s ∷ ts) s.kind s.call) None (data_in (s ∷ ts) s.kind s.call j)) [
       | true ↦ λ is_so. (
           let cases = new_cases (has_data s) _ (sym new ∙ is_so) in
-          let before : (k : ℕ) → get box.parts (record { call = s.call; number = k }) ≡ data_in ts s.kind s.call k = λ k. keeps.parts s.call k ∙ ap (λ b. cond b None (data_in ts s.kind s.call k)) (not_before s ts may plain cases.0 cases.1) in
-          elim (eqb (count_with box s) s.total) as (λ b. eqb (count_with box s) s.total ≡ b → get (cond b (without box.parts s.call s.total) (insert box.parts (record { call = s.call; number = s.number }) s.part)) (record { call = s.call; number = j }) ≡ cond (has_arrived (s ∷ ts) s.kind s.call) None (data_in (s ∷ ts) s.kind s.call j)) [
-            | true ↦ λ end. without_here box.parts s.call s.total j (λ out. before j ∙ data_range ts s.kind s.call j taken (out_of_it s ts j may plain out)) ∙ ap (λ b. cond b None (data_in (s ∷ ts) s.kind s.call j)) (sym (whole ∙ end))
+          let before : (k : ℕ) → part_of (get box.parts s.call) k ≡ data_in ts s.kind s.call k = λ k. keeps.parts s.call k ∙ ap (λ b. cond b None (data_in ts s.kind s.call k)) (not_before s ts may plain cases.0 cases.1) in
+          elim (eqb (count_with box s) s.total) as (λ b. eqb (count_with box s) s.total ≡ b → part_of (get (cond b (remove box.parts s.call) (with_part box.parts s.call s.number s.part)) s.call) j ≡ cond (has_arrived (s ∷ ts) s.kind s.call) None (data_in (s ∷ ts) s.kind s.call j)) [
+            | true ↦ λ end. without box.parts s.call s.call j ∙ ap (λ b. cond b None (part_of (get box.parts s.call) j)) (equal s.call) ∙ ap (λ b. cond b None (data_in (s ∷ ts) s.kind s.call j)) (sym (whole ∙ end))
             | false ↦ λ open_. (
                 get_put box.parts s.call s.number s.part s.call j
-                ∙ ap (λ b. cond (b && eqb j s.number) (Some s.part) (get box.parts (record { call = s.call; number = j }))) (equal s.call)
+                ∙ ap (λ b. cond (b && eqb j s.number) (Some s.part) (part_of (get box.parts s.call) j)) (equal s.call)
                 ∙ ap (λ d. cond (eqb j s.number) (Some s.part) d) (before j)
                 ∙ sym (data_new s ts j plain cases.0 cases.1)
                 ∙ ap (λ b. cond b None (data_in (s ∷ ts) s.kind s.call j)) (sym (whole ∙ open_)))
@@ -502,12 +466,12 @@ parts_here s ts box keeps taken may plain j =
     ] refl
 
 -- an inbox keeps what one segment more says
-pub keeps_more : (s : Piece) (ts : List Piece) (box : Inbox) → Keeps s.kind ts box → AreTaken ts → MayFollow ts s → is_acknowledgement s ≡ false → Keeps s.kind (s ∷ ts) (added box s)
+pub keeps_more : (s : Piece) (ts : List Piece) (box : Arriving) → Keeps s.kind ts box → MayFollow ts s → is_acknowledgement s ≡ false → Keeps s.kind (s ∷ ts) (added box s)
 unfolding added
-keeps_more s ts box keeps taken may plain = record {
+keeps_more s ts box keeps may plain = record {
   progress = progress_more s ts box keeps may plain;
   parts = λ call j. elim (eqb_tells call s.call) [
-    | inl same ↦ subst (λ q. get (parts_with box s) (record { call = q; number = j }) ≡ cond (has_arrived (s ∷ ts) s.kind q) None (data_in (s ∷ ts) s.kind q j)) (sym same.1) (parts_here s ts box keeps taken may plain j)
+    | inl same ↦ subst (λ q. part_of (get (parts_with box s) q) j ≡ cond (has_arrived (s ∷ ts) s.kind q) None (data_in (s ∷ ts) s.kind q j)) (sym same.1) (parts_here s ts box keeps may plain j)
     | inr differ ↦ parts_elsewhere s box call j differ.0 ∙ keeps.parts call j ∙ parts_other s ts s.kind call j (another s call differ.1)
   ];
 }

@@ -26,33 +26,30 @@ use Rattle.circus_pair.proofs.Speaking.{Fine, Keeping, MayDo, is_first, fine_act
 
 -- ---- one end
 
-abbrev pub started : ℕ → ℕ → ℕ → Exchange
-started local remote format = start local remote 0 format
-
-pub record Good (local remote format : ℕ) (acts : Acts) : Type 0 where
+pub record Good (format : ℕ) (acts : Acts) : Type 0 where
   pub known : (format ≡ 1) ⊎ (format ≡ 2)
-  pub lawful : AreLawful local remote 0 format acts
+  pub lawful : AreLawful 0 format acts
   pub few : made acts ≤ 4294967295
-  pub fine : Fine 0 format acts (taken_by (started local remote format) acts)
-  pub tells : Each (Tells 0 format acts (taken_by (started local remote format) acts)) (sent_by (started local remote format) acts)
+  pub fine : Fine 0 format acts (taken_by (start 0 format) acts)
+  pub tells : Each (Tells 0 format acts (taken_by (start 0 format) acts)) (sent_by (start 0 format) acts)
 
-pub keeping : (local remote format : ℕ) (acts : Acts) → Good local remote format acts → Keeping 0 format acts (taken_by (started local remote format) acts) (end_after (started local remote format) acts)
-keeping local remote format acts good = record {
+pub keeping : (format : ℕ) (acts : Acts) → Good format acts → Keeping 0 format acts (taken_by (start 0 format) acts) (end_after (start 0 format) acts)
+keeping format acts good = record {
   known = good.known;
-  format_is = format_stays (started local remote format) acts;
-  hands = hands_lawful local remote 0 format acts good.lawful;
-  stands = stands_after local remote 0 format acts (lawful_acts local remote 0 format acts good.lawful);
-  kept = kept_after local remote 0 format acts good.lawful;
-  unsaid = (flows_after local remote 0 format acts good.lawful).unsaid;
+  format_is = format_stays (start 0 format) acts;
+  hands = hands_lawful 0 format acts good.lawful;
+  stands = stands_after 0 format acts (lawful_acts 0 format acts good.lawful);
+  kept = kept_after 0 format acts good.lawful;
+  unsaid = (flows_after 0 format acts good.lawful).unsaid;
   fine = good.fine;
 }
 
-lawful_act : (local remote format : ℕ) (acts : Acts) (act : Act) → MayDo 0 format acts (taken_by (started local remote format) acts) act → MayFollow local remote 0 format acts act
-lawful_act local remote format acts (Call message) may = may
-lawful_act local remote format acts (Return call message) may = (may.0, may.2, may.3)
-lawful_act local remote format acts (Came s) may = may
-lawful_act local remote format acts Tick may = may
-lawful_act local remote format acts Stop may = may
+lawful_act : (format : ℕ) (acts : Acts) (act : Act) → MayDo 0 format acts (taken_by (start 0 format) acts) act → MayFollow 0 format acts act
+lawful_act format acts (Call message) may = may
+lawful_act format acts (Return call message) may = (may.0, may.2, may.3)
+lawful_act format acts (Came s) may = may
+lawful_act format acts Tick may = may
+lawful_act format acts Stop may = may
 
 few_act : (format : ℕ) (acts : Acts) (ts : List Piece) (act : Act) → MayDo 0 format acts ts act → made acts ≤ 4294967295 → made (more acts act) ≤ 4294967295
 unfolding made
@@ -62,31 +59,31 @@ few_act format acts ts (Came s) may few = few
 few_act format acts ts Tick may few = few
 few_act format acts ts Stop may few = few
 
-grown : (local remote format : ℕ) (acts : Acts) (act : Act) → Good local remote format acts → MayDo 0 format acts (taken_by (started local remote format) acts) act → Grows 0 acts (more acts act) (taken_by (started local remote format) acts) (taken_by (started local remote format) (more acts act))
-grown local remote format acts act good may =
-    grows_act 0 acts (taken_by (started local remote format) acts) (end_after (started local remote format) acts) act (keeping local remote format acts good).hands (is_first 0 format acts (taken_by (started local remote format) acts) act may)
+grown : (format : ℕ) (acts : Acts) (act : Act) → Good format acts → MayDo 0 format acts (taken_by (start 0 format) acts) act → Grows 0 acts (more acts act) (taken_by (start 0 format) acts) (taken_by (start 0 format) (more acts act))
+grown format acts act good may =
+    grows_act 0 acts (taken_by (start 0 format) acts) (end_after (start 0 format) acts) act (keeping format acts good).hands (is_first 0 format acts (taken_by (start 0 format) acts) act may)
 
-good_act : (local remote format : ℕ) (acts : Acts) (act : Act) → Good local remote format acts → MayDo 0 format acts (taken_by (started local remote format) acts) act → Good local remote format (more acts act)
-good_act local remote format acts act good may =
-    let ts = taken_by (started local remote format) acts in
-    let e = end_after (started local remote format) acts in
-    let k = keeping local remote format acts good in
+good_act : (format : ℕ) (acts : Acts) (act : Act) → Good format acts → MayDo 0 format acts (taken_by (start 0 format) acts) act → Good format (more acts act)
+good_act format acts act good may =
+    let ts = taken_by (start 0 format) acts in
+    let e = end_after (start 0 format) acts in
+    let k = keeping format acts good in
     record {
       known = good.known;
-      lawful = (good.lawful, lawful_act local remote format acts act may);
+      lawful = (good.lawful, lawful_act format acts act may);
       few = few_act format acts ts act may good.few;
       fine = fine_act 0 format acts ts e act k.hands good.fine may;
       tells = each_append _ _ _
-          (each_map _ _ (sent_by (started local remote format) acts) (λ bytes. tells_later 0 format acts (more acts act) ts (with_taken e act ts) bytes (grown local remote format acts act good may)) good.tells)
+          (each_map _ _ (sent_by (start 0 format) acts) (λ bytes. tells_later 0 format acts (more acts act) ts (with_taken e act ts) bytes (grown format acts act good may)) good.tells)
           (says_act 0 format acts ts e act k may);
     }
 
 none_handed : {X : Type 0} (m : X) → ◌≡◌ {A = Option X} None (Some m) → ⊥
 none_handed m h = cc
 
-good_start : (local remote format : ℕ) → (format ≡ 1) ⊎ (format ≡ 2) → Good local remote format none_yet
+good_start : (format : ℕ) → (format ≡ 1) ⊎ (format ≡ 2) → Good format none_yet
 unfolding made call_at return_at
-good_start local remote format known = record {
+good_start format known = record {
   known = known;
   lawful = tt;
   few = omega arith;
@@ -288,24 +285,24 @@ hears_act format own_acts ts arrived acts ots e Stop stands grows is hears = hea
 
 -- ---- both ends
 
-pub record Sound (local remote format : ℕ) (here there : Acts) : Type 0 where
-  pub good_here : Good local remote format here
-  pub good_there : Good remote local format there
-  pub hears_there : Hears format (taken_by (started local remote format) here) (arrived_in (started local remote format) here) there (taken_by (started remote local format) there)
-  pub hears_here : Hears format (taken_by (started remote local format) there) (arrived_in (started remote local format) there) here (taken_by (started local remote format) here)
+pub record Sound (format : ℕ) (here there : Acts) : Type 0 where
+  pub good_here : Good format here
+  pub good_there : Good format there
+  pub hears_there : Hears format (taken_by (start 0 format) here) (arrived_in (start 0 format) here) there (taken_by (start 0 format) there)
+  pub hears_here : Hears format (taken_by (start 0 format) there) (arrived_in (start 0 format) there) here (taken_by (start 0 format) here)
 
-pub turned : (local remote format : ℕ) (here there : Acts) → Sound local remote format here there → Sound remote local format there here
-turned local remote format here there sound = record { good_here = sound.good_there; good_there = sound.good_here; hears_there = sound.hears_here; hears_here = sound.hears_there }
+pub turned : (format : ℕ) (here there : Acts) → Sound format here there → Sound format there here
+turned format here there sound = record { good_here = sound.good_there; good_there = sound.good_here; hears_there = sound.hears_here; hears_here = sound.hears_there }
 
-pub sound_act : (local remote format : ℕ) (here there : Acts) (act : Act) → Sound local remote format here there → MayDo 0 format here (taken_by (started local remote format) here) act → IsHeard format there (taken_by (started remote local format) there) act → Sound local remote format (more here act) there
-sound_act local remote format here there act sound may is =
-    let ts = taken_by (started local remote format) here in
-    let e = end_after (started local remote format) here in
-    let grows = grown local remote format here act sound.good_here may in
+pub sound_act : (format : ℕ) (here there : Acts) (act : Act) → Sound format here there → MayDo 0 format here (taken_by (start 0 format) here) act → IsHeard format there (taken_by (start 0 format) there) act → Sound format (more here act) there
+sound_act format here there act sound may is =
+    let ts = taken_by (start 0 format) here in
+    let e = end_after (start 0 format) here in
+    let grows = grown format here act sound.good_here may in
     record {
-      good_here = good_act local remote format here act sound.good_here may;
+      good_here = good_act format here act sound.good_here may;
       good_there = sound.good_there;
-      hears_there = hears_act format here ts (arrived_in (started local remote format) here) there (taken_by (started remote local format) there) e act (keeping local remote format here sound.good_here).stands grows is sound.hears_there;
+      hears_there = hears_act format here ts (arrived_in (start 0 format) here) there (taken_by (start 0 format) there) e act (keeping format here sound.good_here).stands grows is sound.hears_there;
       hears_here = hears_later format _ _ here (more here act) ts (with_taken e act ts) grows sound.hears_here;
     }
 
@@ -313,10 +310,10 @@ hears_nothing : (format : ℕ) → Hears format [] [] none_yet []
 unfolding has_arrived total_in
 hears_nothing format = record { heard = tt; messages = tt; once = λ kind call. refl }
 
-pub sound_start : (local remote format : ℕ) → (format ≡ 1) ⊎ (format ≡ 2) → Sound local remote format none_yet none_yet
-sound_start local remote format known = record {
-  good_here = good_start local remote format known;
-  good_there = good_start remote local format known;
+pub sound_start : (format : ℕ) → (format ≡ 1) ⊎ (format ≡ 2) → Sound format none_yet none_yet
+sound_start format known = record {
+  good_here = good_start format known;
+  good_there = good_start format known;
   hears_there = hears_nothing format;
   hears_here = hears_nothing format;
 }

@@ -418,9 +418,9 @@ moves_called first acts ts e message hands flows full running =
       ]
     ]
 
-flows_start : (local remote first format : ℕ) → Flows 64 first none_yet [] (start local remote first format)
+flows_start : (first format : ℕ) → Flows 64 first none_yet [] (start first format)
 unfolding made call_at reached_in total_in is_open
-flows_start local remote first format = record {
+flows_start first format = record {
   low = omega arith;
   high = omega arith;
   next = omega arith;
@@ -433,17 +433,17 @@ flows_start local remote first format = record {
 }
 
 -- what an act lets go, after a lawful list of acts
-moves_act : (local remote first format : ℕ) (acts : Acts) (act : Act) → AreLawful local remote first format (more acts act) → Flows 64 first acts (taken_by (start local remote first format) acts) (end_after (start local remote first format) acts) → Moves first (more acts act) (taken_by (start local remote first format) (more acts act)) (end_after (start local remote first format) acts).sent (end_after (start local remote first format) (more acts act))
+moves_act : (first format : ℕ) (acts : Acts) (act : Act) → AreLawful first format (more acts act) → Flows 64 first acts (taken_by (start first format) acts) (end_after (start first format) acts) → Moves first (more acts act) (taken_by (start first format) (more acts act)) (end_after (start first format) acts).sent (end_after (start first format) (more acts act))
 unfolding made call_at returned ticked
-moves_act local remote first format acts (Call message) lawful flows = moves_called first acts _ _ message (hands_lawful local remote first format acts lawful.0) flows lawful.1.0.0 lawful.1.2
-moves_act local remote first format acts (Return call message) lawful flows = record { flows = flows_same 64 first acts (Return call message) _ _ _ refl refl refl (λ up. up) flows.stopped refl (λ q. refl) flows; goes = inl refl }
-moves_act local remote first format acts (Came s) lawful flows = moves_came first acts _ _ s (hands_lawful local remote first format acts lawful.0) (stands_after local remote first format acts (lawful_acts local remote first format acts lawful.0)) (kept_after local remote first format acts lawful.0) flows lawful.1
-moves_act local remote first format acts Tick lawful flows = record { flows = flows_same 64 first acts Tick _ _ _ refl refl refl (λ up. up) flows.stopped refl (λ q. refl) flows; goes = inl refl }
-moves_act local remote first format acts Stop lawful flows = record { flows = flows_same 64 first acts Stop _ _ _ refl refl refl (λ up. absurd (let no_ : true ≡ false = up in cc)) refl refl (λ q. refl) flows; goes = inl refl }
+moves_act first format acts (Call message) lawful flows = moves_called first acts _ _ message (hands_lawful first format acts lawful.0) flows lawful.1.0.0 lawful.1.2
+moves_act first format acts (Return call message) lawful flows = record { flows = flows_same 64 first acts (Return call message) _ _ _ refl refl refl (λ up. up) flows.stopped refl (λ q. refl) flows; goes = inl refl }
+moves_act first format acts (Came s) lawful flows = moves_came first acts _ _ s (hands_lawful first format acts lawful.0) (stands_after first format acts (lawful_acts first format acts lawful.0)) (kept_after first format acts lawful.0) flows lawful.1
+moves_act first format acts Tick lawful flows = record { flows = flows_same 64 first acts Tick _ _ _ refl refl refl (λ up. up) flows.stopped refl (λ q. refl) flows; goes = inl refl }
+moves_act first format acts Stop lawful flows = record { flows = flows_same 64 first acts Stop _ _ _ refl refl refl (λ up. absurd (let no_ : true ≡ false = up in cc)) refl refl (λ q. refl) flows; goes = inl refl }
 
-pub flows_after : (local remote first format : ℕ) (acts : Acts) → AreLawful local remote first format acts → Flows 64 first acts (taken_by (start local remote first format) acts) (end_after (start local remote first format) acts)
-flows_after local remote first format none_yet lawful = flows_start local remote first format
-flows_after local remote first format (more acts act) lawful = (moves_act local remote first format acts act lawful (flows_after local remote first format acts lawful.0)).flows
+pub flows_after : (first format : ℕ) (acts : Acts) → AreLawful first format acts → Flows 64 first acts (taken_by (start first format) acts) (end_after (start first format) acts)
+flows_after first format none_yet lawful = flows_start first format
+flows_after first format (more acts act) lawful = (moves_act first format acts act lawful (flows_after first format acts lawful.0)).flows
 
 -- ---- which calls were sent
 
@@ -489,32 +489,32 @@ sent_more first acts next ts sent f call was flows goes high grows is =
     never false b h = refl
 
 -- after every lawful list of acts the calls below the first that waits were sent
-pub sent_after : (local remote first format : ℕ) (acts : Acts) (call : ℕ) → AreLawful local remote first format acts → sent_below (end_after (start local remote first format) acts).sent first acts call ≡ is_sent (start local remote first format) acts call
+pub sent_after : (first format : ℕ) (acts : Acts) (call : ℕ) → AreLawful first format acts → sent_below (end_after (start first format) acts).sent first acts call ≡ is_sent (start first format) acts call
 unfolding is_sent call_at
-sent_after local remote first format none_yet call lawful = nothing (ltb call first)
+sent_after first format none_yet call lawful = nothing (ltb call first)
   where
     nothing : (b : Bool) → (b && false) ≡ false
     nothing true = refl
     nothing false = refl
-sent_after local remote first format (more acts act) call lawful =
-    let flows = flows_after local remote first format acts lawful.0 in
-    let moves = moves_act local remote first format acts act lawful flows in
-    let high : (end_after (start local remote first format) acts).sent ≤ (end_after (start local remote first format) acts).next = flows.high in
-    let next : (end_after (start local remote first format) acts).next ≡ first + made acts = flows.next in
-    sent_more first acts (more acts act) _ _ _ call _ moves.flows moves.goes (omega arith) (made_grows acts act) (sym (sent_after local remote first format acts call lawful.0))
+sent_after first format (more acts act) call lawful =
+    let flows = flows_after first format acts lawful.0 in
+    let moves = moves_act first format acts act lawful flows in
+    let high : (end_after (start first format) acts).sent ≤ (end_after (start first format) acts).next = flows.high in
+    let next : (end_after (start first format) acts).next ≡ first + made acts = flows.next in
+    sent_more first acts (more acts act) _ _ _ call _ moves.flows moves.goes (omega arith) (made_grows acts act) (sym (sent_after first format acts call lawful.0))
 
 -- at most 64 calls are sent and not acknowledged whole
-pub window_after : (local remote first format : ℕ) (acts : Acts) → AreLawful local remote first format acts → count_below (λ call. is_sent (start local remote first format) acts call && not (call_is_whole first acts (taken_by (start local remote first format) acts) call)) (first + made acts) ≤ 64
+pub window_after : (first format : ℕ) (acts : Acts) → AreLawful first format acts → count_below (λ call. is_sent (start first format) acts call && not (call_is_whole first acts (taken_by (start first format) acts) call)) (first + made acts) ≤ 64
 unfolding is_open
-window_after local remote first format acts lawful =
-    let b = start local remote first format in
+window_after first format acts lawful =
+    let b = start first format in
     let e = end_after b acts in
     let ts = taken_by b acts in
-    let flows = flows_after local remote first format acts lawful in
+    let flows = flows_after first format acts lawful in
     let high : e.sent ≤ e.next = flows.high in
     let next : e.next ≡ first + made acts = flows.next in
     let most : e.in_flight ≤ 64 = flows.most in
-    let sent : (k : ℕ) → is_sent b acts k ≡ (ltb k e.sent && is_some (call_at first acts k)) = λ k. sym (sent_after local remote first format acts k lawful) in
+    let sent : (k : ℕ) → is_sent b acts k ≡ (ltb k e.sent && is_some (call_at first acts k)) = λ k. sym (sent_after first format acts k lawful) in
     let counted : count_below (λ call. is_sent b acts call && not (call_is_whole first acts ts call)) (first + made acts) ≡ e.in_flight
     = count_upto _ e.sent (first + made acts) (omega arith) (λ k low less. ap (λ x. x && not (call_is_whole first acts ts k)) (sent k ∙ ap (λ x. x && is_some (call_at first acts k)) (le-ltb k e.sent low)))
     ∙ count_alike _ _ e.sent (λ k le. ap (λ x. x && not (call_is_whole first acts ts k)) (sent k ∙ ap (λ x. x && is_some (call_at first acts k)) (lt-ltb k e.sent le)))

@@ -14,8 +14,8 @@ use Rattle.circus_exchange.specs.Exchange.{start, called, returned, is_whole, aw
 use Rattle.circus_pair.specs.Fresh.{IsFresh}
 use Rattle.circus_exchange.proofs.Ties.{other_key}
 
-pub fresh_start : (local remote number format : ℕ) → IsFresh (start local remote number format)
-fresh_start local remote number format q le = get-empty nat_cmp q
+pub fresh_start : (number format : ℕ) → IsFresh (start number format)
+fresh_start number format q le = get-empty nat_cmp q
 
 pub fresh_called : (e : Exchange) (m : List ℕ) → IsFresh e → IsFresh (called e m)
 unfolding called handed

@@ -7,7 +7,7 @@ use Rattle.std.specs.FinMap.{FinMap, get, insert, get-empty, get-insert}
 use Rattle.std.proofs.lemmas.Bool.{ne_eqb, eqb-true, eqb-false, ltb-false, ltb-true}
 use Rattle.std.proofs.lemmas.Bool.Decides.{eqb_tells}
 use Rattle.circus_exchange.specs.declared.progress.Progress.{Progress}
-use Rattle.circus_exchange.specs.declared.outbox.Outbox.{Outbox}
+use Rattle.circus_exchange.specs.Outbox.{HandedOver}
 use Rattle.circus_exchange.specs.declared.exchange.Exchange.{Exchange}
 use Rattle.circus_segment.specs.Segment.{Piece, IsSegment, is_acknowledgement}
 use Rattle.circus_segment.specs.Cut.{segment_count}
@@ -17,7 +17,7 @@ use Rattle.circus_exchange.specs.Exchange.{start, called, returned, is_whole, aw
 use Rattle.circus_pair.specs.Taken.{total_in}
 use Rattle.circus_pair.specs.Acts.{Act, Call, Return, Came, Tick, Stop, Acts, none_yet, more, happens, end_after, taken_by, AreActs}
 use Rattle.circus_pair.specs.Handed.{made, call_at, return_at, says, reached_in, agrees_with, fits_with, sent_below, is_taken, ReturnsOnce}
-use Rattle.circus_exchange.specs.declared.inbox.Inbox.{Inbox}
+use Rattle.circus_exchange.specs.Inbox.{Arriving}
 use Rattle.circus_pair.specs.Taken.{count_in, is_reached, has_arrived}
 use Rattle.circus_pair.proofs.Arrivals.{Keeps, told}
 use Rattle.circus_pair.proofs.Lasting.{lasts_called, lasts_returned, lasts_after, lasts_ticked}
@@ -39,7 +39,7 @@ let_go_tables : (e : Exchange) (calls returns : FinMap nat_cmp Progress) → Tab
 unfolding let_go
 let_go_tables e calls returns t = tables_cond (lets_go e e.in_flight) _ _ _ _ (λ yes_. record { calls_are = t.calls_are; returns_are = t.returns_are }) (λ no_. t)
 
-same_progress : (b : Bool) (x y : Outbox) (p : FinMap nat_cmp Progress) → x.progress ≡ p → y.progress ≡ p → (cond b x y).progress ≡ p
+same_progress : (b : Bool) (x y : HandedOver) (p : FinMap nat_cmp Progress) → x.progress ≡ p → y.progress ≡ p → (cond b x y).progress ≡ p
 same_progress true x y p f g = f
 same_progress false x y p f g = g
 
@@ -374,9 +374,9 @@ hands_stopped : (first : ℕ) (acts : Acts) (ts : List Piece) (e : Exchange) →
 unfolding made call_at return_at
 hands_stopped first acts ts e hands = record { next = hands.next; calls = hands.calls; returns = hands.returns; no_call = hands.no_call; no_return = hands.no_return; later = hands.later }
 
-hands_start : (local remote first format : ℕ) → Hands first none_yet [] (start local remote first format)
+hands_start : (first format : ℕ) → Hands first none_yet [] (start first format)
 unfolding made call_at return_at reached_in
-hands_start local remote first format = record {
+hands_start first format = record {
   next = omega arith;
   calls = λ q. get-empty nat_cmp q;
   returns = λ q. get-empty nat_cmp q;
@@ -386,13 +386,13 @@ hands_start local remote first format = record {
 }
 
 -- after every list of acts that returns no call twice
-pub hands_after : (local remote first format : ℕ) (acts : Acts) → AreActs acts → ReturnsOnce acts → Hands first acts (taken_by (start local remote first format) acts) (end_after (start local remote first format) acts)
-hands_after local remote first format none_yet are once = hands_start local remote first format
-hands_after local remote first format (more acts (Call message)) are once = hands_called first acts _ _ message (hands_after local remote first format acts are.0 once)
-hands_after local remote first format (more acts (Return call message)) are once = hands_returned first acts _ _ call message (hands_after local remote first format acts are.0 once.0) once.1
-hands_after local remote first format (more acts (Came s)) are once = hands_came first acts _ _ s (hands_after local remote first format acts are.0 once) are.1
-hands_after local remote first format (more acts Tick) are once = hands_ticked first acts _ _ (hands_after local remote first format acts are.0 once)
-hands_after local remote first format (more acts Stop) are once = hands_stopped first acts _ _ (hands_after local remote first format acts are.0 once)
+pub hands_after : (first format : ℕ) (acts : Acts) → AreActs acts → ReturnsOnce acts → Hands first acts (taken_by (start first format) acts) (end_after (start first format) acts)
+hands_after first format none_yet are once = hands_start first format
+hands_after first format (more acts (Call message)) are once = hands_called first acts _ _ message (hands_after first format acts are.0 once)
+hands_after first format (more acts (Return call message)) are once = hands_returned first acts _ _ call message (hands_after first format acts are.0 once.0) once.1
+hands_after first format (more acts (Came s)) are once = hands_came first acts _ _ s (hands_after first format acts are.0 once) are.1
+hands_after first format (more acts Tick) are once = hands_ticked first acts _ _ (hands_after first format acts are.0 once)
+hands_after first format (more acts Stop) are once = hands_stopped first acts _ _ (hands_after first format acts are.0 once)
 
 -- ---- which segments are taken
 
@@ -419,7 +419,7 @@ told_fits : (o : Option ℕ) (c : ℕ → ℕ) (t : ℕ) → eqb (unwrap_or {T =
 told_fits None c t = equal t
 told_fits (Some x) c t = refl
 
-box_fits : (kind : ℕ) (ts : List Piece) (s : Piece) (box : Inbox) → Keeps kind ts box → fits box s ≡ fits_with (total_in ts kind s.call) s.total
+box_fits : (kind : ℕ) (ts : List Piece) (s : Piece) (box : Arriving) → Keeps kind ts box → fits box s ≡ fits_with (total_in ts kind s.call) s.total
 unfolding fits known
 box_fits kind ts s box keeps =
     ap (λ (o : Option Progress). eqb (unwrap_or {T = Progress} o (record { total = s.total; count = 0 })).total s.total) (keeps.progress s.call)
@@ -448,9 +448,9 @@ taken_is first format acts ts e s same hands stands segment =
     ∙ ap (λ b. eqb s.format format && cond (is_acknowledgement s) b (cond (eqb s.kind 0) (fits e.arriving_calls s) (was_sent e s.call && fits e.arriving_returns s))) acknowledged
     ∙ ap (λ b. eqb s.format format && cond (is_acknowledgement s) (cond (eqb s.kind 0) (sent_below e.sent first acts s.call && agrees_with (call_at first acts s.call) s.total) (agrees_with (return_at acts s.call) s.total)) b) plain
 
-pub taken_after : (local remote first format : ℕ) (acts : Acts) (s : Piece) → AreActs acts → ReturnsOnce acts → IsSegment s → takes (end_after (start local remote first format) acts) s ≡ is_taken first format acts (taken_by (start local remote first format) acts) (sent_below (end_after (start local remote first format) acts).sent first acts) s
-taken_after local remote first format acts s are once segment =
-    taken_is first format acts _ _ s (format_stays (start local remote first format) acts) (hands_after local remote first format acts are once) (stands_after local remote first format acts are) segment
+pub taken_after : (first format : ℕ) (acts : Acts) (s : Piece) → AreActs acts → ReturnsOnce acts → IsSegment s → takes (end_after (start first format) acts) s ≡ is_taken first format acts (taken_by (start first format) acts) (sent_below (end_after (start first format) acts).sent first acts) s
+taken_after first format acts s are once segment =
+    taken_is first format acts _ _ s (format_stays (start first format) acts) (hands_after first format acts are once) (stands_after first format acts are) segment
 
 -- ---- which calls wait for a return
 

@@ -7,7 +7,7 @@ use Rattle.std.specs.FinMap.{FinMap, get, insert, remove, get-empty, get-insert,
 use Rattle.std.proofs.lemmas.Bool.{ne_eqb, eq-eqb, eqb-true, lt-ltb}
 use Rattle.std.proofs.lemmas.Bool.Decides.{eqb_tells}
 use Rattle.circus_exchange.specs.declared.progress.Progress.{Progress}
-use Rattle.circus_exchange.specs.declared.outbox.Outbox.{Outbox}
+use Rattle.circus_exchange.specs.Outbox.{HandedOver}
 use Rattle.circus_exchange.specs.declared.exchange.Exchange.{Exchange}
 use Rattle.circus_segment.specs.Segment.{Piece, IsSegment, is_acknowledgement}
 use Rattle.circus_segment.specs.Cut.{segment_count}
@@ -25,24 +25,24 @@ use Rattle.circus_exchange.proofs.Ties.{equal, nat_ties}
 
 -- ---- lawful acts
 
-pub lawful_acts : (local remote first format : ℕ) (acts : Acts) → AreLawful local remote first format acts → AreActs acts
-lawful_acts local remote first format none_yet lawful = tt
-lawful_acts local remote first format (more acts (Call message)) lawful = (lawful_acts local remote first format acts lawful.0, tt)
-lawful_acts local remote first format (more acts (Return call message)) lawful = (lawful_acts local remote first format acts lawful.0, tt)
-lawful_acts local remote first format (more acts (Came s)) lawful = (lawful_acts local remote first format acts lawful.0, lawful.1)
-lawful_acts local remote first format (more acts Tick) lawful = (lawful_acts local remote first format acts lawful.0, tt)
-lawful_acts local remote first format (more acts Stop) lawful = (lawful_acts local remote first format acts lawful.0, tt)
+pub lawful_acts : (first format : ℕ) (acts : Acts) → AreLawful first format acts → AreActs acts
+lawful_acts first format none_yet lawful = tt
+lawful_acts first format (more acts (Call message)) lawful = (lawful_acts first format acts lawful.0, tt)
+lawful_acts first format (more acts (Return call message)) lawful = (lawful_acts first format acts lawful.0, tt)
+lawful_acts first format (more acts (Came s)) lawful = (lawful_acts first format acts lawful.0, lawful.1)
+lawful_acts first format (more acts Tick) lawful = (lawful_acts first format acts lawful.0, tt)
+lawful_acts first format (more acts Stop) lawful = (lawful_acts first format acts lawful.0, tt)
 
-pub lawful_once : (local remote first format : ℕ) (acts : Acts) → AreLawful local remote first format acts → ReturnsOnce acts
-lawful_once local remote first format none_yet lawful = tt
-lawful_once local remote first format (more acts (Call message)) lawful = lawful_once local remote first format acts lawful.0
-lawful_once local remote first format (more acts (Return call message)) lawful = (lawful_once local remote first format acts lawful.0, lawful.1.2)
-lawful_once local remote first format (more acts (Came s)) lawful = lawful_once local remote first format acts lawful.0
-lawful_once local remote first format (more acts Tick) lawful = lawful_once local remote first format acts lawful.0
-lawful_once local remote first format (more acts Stop) lawful = lawful_once local remote first format acts lawful.0
+pub lawful_once : (first format : ℕ) (acts : Acts) → AreLawful first format acts → ReturnsOnce acts
+lawful_once first format none_yet lawful = tt
+lawful_once first format (more acts (Call message)) lawful = lawful_once first format acts lawful.0
+lawful_once first format (more acts (Return call message)) lawful = (lawful_once first format acts lawful.0, lawful.1.2)
+lawful_once first format (more acts (Came s)) lawful = lawful_once first format acts lawful.0
+lawful_once first format (more acts Tick) lawful = lawful_once first format acts lawful.0
+lawful_once first format (more acts Stop) lawful = lawful_once first format acts lawful.0
 
-pub hands_lawful : (local remote first format : ℕ) (acts : Acts) → AreLawful local remote first format acts → Hands first acts (taken_by (start local remote first format) acts) (end_after (start local remote first format) acts)
-hands_lawful local remote first format acts lawful = hands_after local remote first format acts (lawful_acts local remote first format acts lawful) (lawful_once local remote first format acts lawful)
+pub hands_lawful : (first format : ℕ) (acts : Acts) → AreLawful first format acts → Hands first acts (taken_by (start first format) acts) (end_after (start first format) acts)
+hands_lawful first format acts lawful = hands_after first format acts (lawful_acts first format acts lawful) (lawful_once first format acts lawful)
 
 -- ---- the messages as functions of the numbers
 
@@ -189,7 +189,7 @@ let_go_letters : (e : Exchange) (calls returns : FinMap nat_cmp (List ℕ)) → 
 unfolding let_go
 let_go_letters e calls returns t = letters_cond (lets_go e e.in_flight) _ _ _ _ (λ yes_. record { calls_are = t.calls_are; returns_are = t.returns_are }) (λ no_. t)
 
-messages_cond : (b : Bool) (x y : Outbox) → (cond b x y).messages ≡ cond b x.messages y.messages
+messages_cond : (b : Bool) (x y : HandedOver) → (cond b x y).messages ≡ cond b x.messages y.messages
 messages_cond true x y = refl
 messages_cond false x y = refl
 
@@ -514,9 +514,9 @@ kept_stopped : (first : ℕ) (acts : Acts) (ts : List Piece) (e : Exchange) → 
 unfolding call_at return_at
 kept_stopped first acts ts e kept = record { calls = kept.calls; returns = kept.returns; calls_within = kept.calls_within; returns_within = kept.returns_within; no_call = kept.no_call }
 
-kept_start : (local remote first format : ℕ) → Kept first none_yet [] (start local remote first format)
+kept_start : (first format : ℕ) → Kept first none_yet [] (start first format)
 unfolding call_at return_at total_in
-kept_start local remote first format = record {
+kept_start first format = record {
   calls = λ q. get-empty nat_cmp q;
   returns = λ q. get-empty nat_cmp q;
   calls_within = λ q. tt;
@@ -525,10 +525,10 @@ kept_start local remote first format = record {
 }
 
 -- after every lawful list of acts
-pub kept_after : (local remote first format : ℕ) (acts : Acts) → AreLawful local remote first format acts → Kept first acts (taken_by (start local remote first format) acts) (end_after (start local remote first format) acts)
-kept_after local remote first format none_yet lawful = kept_start local remote first format
-kept_after local remote first format (more acts (Call message)) lawful = kept_called first acts _ _ message (hands_lawful local remote first format acts lawful.0) (kept_after local remote first format acts lawful.0) lawful.1.0.0
-kept_after local remote first format (more acts (Return call message)) lawful = kept_returned first acts _ _ call message (hands_lawful local remote first format acts lawful.0) (kept_after local remote first format acts lawful.0) lawful.1.0.0 lawful.1.2
-kept_after local remote first format (more acts (Came s)) lawful = kept_came first acts _ _ s (hands_lawful local remote first format acts lawful.0) (stands_after local remote first format acts (lawful_acts local remote first format acts lawful.0)) (kept_after local remote first format acts lawful.0) lawful.1
-kept_after local remote first format (more acts Tick) lawful = kept_ticked first acts _ _ (kept_after local remote first format acts lawful.0)
-kept_after local remote first format (more acts Stop) lawful = kept_stopped first acts _ _ (kept_after local remote first format acts lawful.0)
+pub kept_after : (first format : ℕ) (acts : Acts) → AreLawful first format acts → Kept first acts (taken_by (start first format) acts) (end_after (start first format) acts)
+kept_after first format none_yet lawful = kept_start first format
+kept_after first format (more acts (Call message)) lawful = kept_called first acts _ _ message (hands_lawful first format acts lawful.0) (kept_after first format acts lawful.0) lawful.1.0.0
+kept_after first format (more acts (Return call message)) lawful = kept_returned first acts _ _ call message (hands_lawful first format acts lawful.0) (kept_after first format acts lawful.0) lawful.1.0.0 lawful.1.2
+kept_after first format (more acts (Came s)) lawful = kept_came first acts _ _ s (hands_lawful first format acts lawful.0) (stands_after first format acts (lawful_acts first format acts lawful.0)) (kept_after first format acts lawful.0) lawful.1
+kept_after first format (more acts Tick) lawful = kept_ticked first acts _ _ (kept_after first format acts lawful.0)
+kept_after first format (more acts Stop) lawful = kept_stopped first acts _ _ (kept_after first format acts lawful.0)

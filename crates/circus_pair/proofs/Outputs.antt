@@ -6,7 +6,7 @@ use Rattle.std.proofs.lemmas.List.{append-nil}
 use Rattle.std.proofs.lemmas.Bool.{ne_eqb, eq-eqb, eqb-true, lt-ltb, le-ltb, cases_lt}
 use Rattle.std.proofs.lemmas.Bool.Decides.{eqb_tells}
 use Rattle.circus_exchange.specs.declared.progress.Progress.{Progress}
-use Rattle.circus_exchange.specs.declared.outbox.Outbox.{Outbox}
+use Rattle.circus_exchange.specs.Outbox.{HandedOver}
 use Rattle.circus_exchange.specs.declared.exchange.Exchange.{Exchange}
 use Rattle.circus_segment.specs.Segment.{Piece, IsSegment, is_acknowledgement, spelling}
 use Rattle.circus_segment.specs.Cut.{segment_count, segment_of, whole}
@@ -60,20 +60,20 @@ sent_now first acts next sent low high =
     ∙ ap (λ b. not (b && is_some (call_at first acts sent))) (le-ltb sent sent (omega arith))
 
 -- what an act lets go: the first call that waited, or none
-gone : (local remote first format : ℕ) (acts : Acts) (act : Act) (went : Bool) → AreLawful local remote first format (more acts act) → (end_after (start local remote first format) (more acts act)).sent ≡ cond went ((end_after (start local remote first format) acts).sent + 1) (end_after (start local remote first format) acts).sent → in_order (let_go_by (start local remote first format) acts act) (first + made (more acts act)) ≡ cond went (whole_call (start local remote first format) (end_after (start local remote first format) acts).sent (call_at first (more acts act) (end_after (start local remote first format) acts).sent)) []
+gone : (first format : ℕ) (acts : Acts) (act : Act) (went : Bool) → AreLawful first format (more acts act) → (end_after (start first format) (more acts act)).sent ≡ cond went ((end_after (start first format) acts).sent + 1) (end_after (start first format) acts).sent → in_order (let_go_by (start first format) acts act) (first + made (more acts act)) ≡ cond went (whole_call (start first format) (end_after (start first format) acts).sent (call_at first (more acts act) (end_after (start first format) acts).sent)) []
 unfolding let_go_by
-gone local remote first format acts act went lawful is =
-    let b = start local remote first format in
+gone first format acts act went lawful is =
+    let b = start first format in
     let e = end_after b acts in
     let f = end_after b (more acts act) in
-    let flows = flows_after local remote first format acts lawful.0 in
-    let flows_next = flows_after local remote first format (more acts act) lawful in
+    let flows = flows_after first format acts lawful.0 in
+    let flows_next = flows_after first format (more acts act) lawful in
     let low : first ≤ e.sent = flows.low in
     let high : e.sent ≤ e.next = flows.high in
     let next : e.next ≡ first + made acts = flows.next in
     let high_next : f.sent ≤ f.next = flows_next.high in
     let next_next : f.next ≡ first + made (more acts act) = flows_next.next in
-    let test : (k : ℕ) → (is_sent b (more acts act) k && not (is_sent b acts k)) ≡ (sent_below f.sent first (more acts act) k && not (sent_below e.sent first acts k)) = λ k. ap (λ x. x && not (is_sent b acts k)) (sym (sent_after local remote first format (more acts act) k lawful)) ∙ ap (λ x. sent_below f.sent first (more acts act) k && not x) (sym (sent_after local remote first format acts k lawful.0)) in
+    let test : (k : ℕ) → (is_sent b (more acts act) k && not (is_sent b acts k)) ≡ (sent_below f.sent first (more acts act) k && not (sent_below e.sent first acts k)) = λ k. ap (λ x. x && not (is_sent b acts k)) (sym (sent_after first format (more acts act) k lawful)) ∙ ap (λ x. sent_below f.sent first (more acts act) k && not x) (sym (sent_after first format acts k lawful.0)) in
     let off : (k : ℕ) → (sent_below f.sent first (more acts act) k && not (sent_below e.sent first acts k)) ≡ false → let_go_by b acts act k ≡ [] = λ k no_. ap (λ x. cond x (whole_call b k (call_at first (more acts act) k)) []) (test k ∙ no_) in
     elim went as (λ w. f.sent ≡ cond w (e.sent + 1) e.sent → in_order (let_go_by b acts act) (first + made (more acts act)) ≡ cond w (whole_call b e.sent (call_at first (more acts act) e.sent)) []) [
       | true ↦ λ one.
@@ -90,8 +90,8 @@ gone local remote first format acts act went lawful is =
 
 -- ---- a call and a return
 
-format_is : (local remote first format : ℕ) (acts : Acts) → (end_after (start local remote first format) acts).format ≡ format
-format_is local remote first format acts = format_stays (start local remote first format) acts
+format_is : (first format : ℕ) (acts : Acts) → (end_after (start first format) acts).format ≡ format
+format_is first format acts = format_stays (start first format) acts
 
 -- a call that is sent at once is the first that waits
 at_once : (first : ℕ) (acts : Acts) (ts : List Piece) (e : Exchange) (message : List ℕ) → Flows 64 first acts ts e → sends_at_once e ≡ true → (e.sent ≡ e.next) × (call_at first (more acts (Call message)) e.sent ≡ Some message)
@@ -111,26 +111,26 @@ call_whole e b o message same at =
       | false ↦ λ waits. refl
     ] refl
 
-pub call_sends : (local remote first format : ℕ) (acts : Acts) (message : List ℕ) → AreLawful local remote first format (more acts (Call message)) → datagrams_of_call (end_after (start local remote first format) acts) message ≡ outputs (start local remote first format) acts (Call message)
+pub call_sends : (first format : ℕ) (acts : Acts) (message : List ℕ) → AreLawful first format (more acts (Call message)) → datagrams_of_call (end_after (start first format) acts) message ≡ outputs (start first format) acts (Call message)
 unfolding datagrams_of_call outputs called
-call_sends local remote first format acts message lawful =
-    let b = start local remote first format in
+call_sends first format acts message lawful =
+    let b = start first format in
     let e = end_after b acts in
-    call_whole e b (call_at first (more acts (Call message))) message (format_is local remote first format acts) (at_once first acts _ e message (flows_after local remote first format acts lawful.0))
-    ∙ sym (gone local remote first format acts (Call message) (sends_at_once e) lawful refl)
+    call_whole e b (call_at first (more acts (Call message))) message (format_is first format acts) (at_once first acts _ e message (flows_after first format acts lawful.0))
+    ∙ sym (gone first format acts (Call message) (sends_at_once e) lawful refl)
 
-pub return_sends : (local remote first format : ℕ) (acts : Acts) (call : ℕ) (message : List ℕ) → datagrams_of_return (end_after (start local remote first format) acts) call message ≡ outputs (start local remote first format) acts (Return call message)
+pub return_sends : (first format : ℕ) (acts : Acts) (call : ℕ) (message : List ℕ) → datagrams_of_return (end_after (start first format) acts) call message ≡ outputs (start first format) acts (Return call message)
 unfolding datagrams_of_return outputs
-return_sends local remote first format acts call message = ap (λ (f : ℕ). whole (record { format = f; kind = 1; call = call; total = segment_count message; message = message })) (format_is local remote first format acts)
+return_sends first format acts call message = ap (λ (f : ℕ). whole (record { format = f; kind = 1; call = call; total = segment_count message; message = message })) (format_is first format acts)
 
 -- ---- a segment
 
 -- which segments are taken, by the acts alone
-pub taken_is : (local remote first format : ℕ) (acts : Acts) (s : Piece) → AreLawful local remote first format acts → IsSegment s → takes (end_after (start local remote first format) acts) s ≡ takes_after (start local remote first format) acts s
-taken_is local remote first format acts s lawful segment =
-    let ts = taken_by (start local remote first format) acts in
-    taken_after local remote first format acts s (lawful_acts local remote first format acts lawful) (lawful_once local remote first format acts lawful) segment
-    ∙ ap (λ sent. eqb s.format format && cond (is_acknowledgement s) (cond (eqb s.kind 0) (sent && agrees_with (call_at first acts s.call) s.total) (agrees_with (return_at acts s.call) s.total)) (cond (eqb s.kind 0) (fits_with (total_in ts s.kind s.call) s.total) (sent && fits_with (total_in ts s.kind s.call) s.total))) (sent_after local remote first format acts s.call lawful)
+pub taken_is : (first format : ℕ) (acts : Acts) (s : Piece) → AreLawful first format acts → IsSegment s → takes (end_after (start first format) acts) s ≡ takes_after (start first format) acts s
+taken_is first format acts s lawful segment =
+    let ts = taken_by (start first format) acts in
+    taken_after first format acts s (lawful_acts first format acts lawful) (lawful_once first format acts lawful) segment
+    ∙ ap (λ sent. eqb s.format format && cond (is_acknowledgement s) (cond (eqb s.kind 0) (sent && agrees_with (call_at first acts s.call) s.total) (agrees_with (return_at acts s.call) s.total)) (cond (eqb s.kind 0) (fits_with (total_in ts s.kind s.call) s.total) (sent && fits_with (total_in ts s.kind s.call) s.total))) (sent_after first format acts s.call lawful)
 
 -- the first call that waits, where it is kept
 waiting_out : (b : Exchange) (call : ℕ) (o : Option (List ℕ)) (c : ℕ → ℕ) (finished : Bool) → IsWithin o c → ((t : ℕ) → c t ≡ 0) → finished ≡ false → whole_of (on_its_way b.format 0 call (told_out o c) (kept_call o c finished)) ≡ whole_call b call o
@@ -141,16 +141,16 @@ waiting_out b call (Some m) c finished within none open_ =
     ap (λ f. whole_of (on_its_way b.format 0 call (told_out (Some m) c) (kept_call (Some m) c f))) open_
     ∙ ap (λ x. whole_of (on_its_way b.format 0 call (told_out (Some m) c) (cond x (Some []) (Some m)))) (ne_eqb (c (segment_count m)) (segment_count m) (λ e. absurd (omega arith)))
 
-waiting : (local remote first format : ℕ) (acts : Acts) (x : ℕ) → AreLawful local remote first format acts → datagrams_let_go (end_after (start local remote first format) acts) x ≡ cond (lets_go (end_after (start local remote first format) acts) x) (whole_call (start local remote first format) (end_after (start local remote first format) acts).sent (call_at first acts (end_after (start local remote first format) acts).sent)) []
+waiting : (first format : ℕ) (acts : Acts) (x : ℕ) → AreLawful first format acts → datagrams_let_go (end_after (start first format) acts) x ≡ cond (lets_go (end_after (start first format) acts) x) (whole_call (start first format) (end_after (start first format) acts).sent (call_at first acts (end_after (start first format) acts).sent)) []
 unfolding datagrams_let_go outgoing_at
-waiting local remote first format acts x lawful =
-    let b = start local remote first format in
+waiting first format acts x lawful =
+    let b = start first format in
     let e = end_after b acts in
-    let hands = hands_lawful local remote first format acts lawful in
-    let kept = kept_after local remote first format acts lawful in
-    let flows = flows_after local remote first format acts lawful in
+    let hands = hands_lawful first format acts lawful in
+    let kept = kept_after first format acts lawful in
+    let flows = flows_after first format acts lawful in
     ap (λ d. cond (lets_go e x) d [])
-    (ap (λ (f : ℕ). whole_of (on_its_way f 0 e.sent (get e.calls.progress e.sent) (get e.calls.messages e.sent))) (format_is local remote first format acts)
+    (ap (λ (f : ℕ). whole_of (on_its_way f 0 e.sent (get e.calls.progress e.sent) (get e.calls.messages e.sent))) (format_is first format acts)
     ∙ ap (λ (p : Option Progress). whole_of (on_its_way format 0 e.sent p (get e.calls.messages e.sent))) (hands.calls e.sent)
     ∙ ap (λ m. whole_of (on_its_way format 0 e.sent (told_out (call_at first acts e.sent) (reached_in (taken_by b acts) 0 e.sent)) m)) (kept.calls e.sent)
     ∙ waiting_out b e.sent (call_at first acts e.sent) (reached_in (taken_by b acts) 0 e.sent) (has_arrived (taken_by b acts) 1 e.sent) (kept.calls_within e.sent) (λ t. flows.unsaid e.sent t (omega arith)) (none_arrived (taken_by b acts) e.sent (flows.unreturned e.sent (omega arith))))
@@ -182,20 +182,20 @@ unfolding after_taken return_added ended call_reached lets_go in_flight_after to
 sent_return_segment e s plain return_ = sent_of (is_acknowledgement s) _ _ _ (λ ack. absurd (true_false _ ack plain)) (λ same. sent_of (eqb s.kind 0) _ _ _ (λ call. absurd (true_false _ call return_)) (λ yes_. sent_let_go (return_added e s)))
 
 -- what a segment sends that is taken
-taken_sends : (local remote first format : ℕ) (acts : Acts) (s : Piece) → AreLawful local remote first format (more acts (Came s)) → takes (end_after (start local remote first format) acts) s ≡ true → datagrams_of_taken (end_after (start local remote first format) acts) s ≡ cond (not (is_acknowledgement s)) (acknowledged_by (is_stopped_after acts) (taken_by (start local remote first format) acts) s) [] ++ in_order (let_go_by (start local remote first format) acts (Came s)) (first + made acts)
+taken_sends : (first format : ℕ) (acts : Acts) (s : Piece) → AreLawful first format (more acts (Came s)) → takes (end_after (start first format) acts) s ≡ true → datagrams_of_taken (end_after (start first format) acts) s ≡ cond (not (is_acknowledgement s)) (acknowledged_by (is_stopped_after acts) (taken_by (start first format) acts) s) [] ++ in_order (let_go_by (start first format) acts (Came s)) (first + made acts)
 unfolding datagrams_of_taken made call_at
-taken_sends local remote first format acts s lawful h =
-    let b = start local remote first format in
+taken_sends first format acts s lawful h =
+    let b = start first format in
     let e = end_after b acts in
     let ts = taken_by b acts in
-    let stands = stands_after local remote first format acts (lawful_acts local remote first format acts lawful.0) in
-    let up : e.stopped ≡ is_stopped_after acts = (flows_after local remote first format acts lawful.0).stopped in
+    let stands = stands_after first format acts (lawful_acts first format acts lawful.0) in
+    let up : e.stopped ≡ is_stopped_after acts = (flows_after first format acts lawful.0).stopped in
     let after_is : (end_after b (more acts (Came s))).sent ≡ (after_taken e s).sent = ap (λ x. (cond x (after_taken e s) e).sent) h in
-    let out : (went : Bool) → (after_taken e s).sent ≡ cond went (e.sent + 1) e.sent → in_order (let_go_by b acts (Came s)) (first + made acts) ≡ cond went (whole_call b e.sent (call_at first acts e.sent)) [] = λ went is. gone local remote first format acts (Came s) went lawful (after_is ∙ is) in
+    let out : (went : Bool) → (after_taken e s).sent ≡ cond went (e.sent + 1) e.sent → in_order (let_go_by b acts (Came s)) (first + made acts) ≡ cond went (whole_call b e.sent (call_at first acts e.sent)) [] = λ went is. gone first format acts (Came s) went lawful (after_is ∙ is) in
     let answered : (kind : List (List ℕ)) → kind ≡ acknowledged_by e.stopped ts s → kind ≡ acknowledged_by (is_stopped_after acts) ts s = λ kind is. is ∙ ap (λ x. acknowledged_by x ts s) up in
     elim (is_acknowledgement s) as (λ x. is_acknowledgement s ≡ x → cond x (cond (eqb s.kind 0) (datagrams_let_go e (in_flight_after e s.call s.number)) []) (cond (eqb s.kind 0) (acknowledgement e.stopped e.arriving_calls s) (acknowledgement e.stopped e.arriving_returns s ++ datagrams_let_go e (in_flight_after e s.call (total_of e s.call)))) ≡ cond (not x) (acknowledged_by (is_stopped_after acts) ts s) [] ++ in_order (let_go_by b acts (Came s)) (first + made acts)) [
       | true ↦ λ ack. elim (eqb s.kind 0) as (λ x. eqb s.kind 0 ≡ x → cond x (datagrams_let_go e (in_flight_after e s.call s.number)) [] ≡ in_order (let_go_by b acts (Came s)) (first + made acts)) [
-        | true ↦ λ call. waiting local remote first format acts (in_flight_after e s.call s.number) lawful.0 ∙ sym (out (lets_go e (in_flight_after e s.call s.number)) (sent_call_acknowledged e s ack call))
+        | true ↦ λ call. waiting first format acts (in_flight_after e s.call s.number) lawful.0 ∙ sym (out (lets_go e (in_flight_after e s.call s.number)) (sent_call_acknowledged e s ack call))
         | false ↦ λ return_. sym (out false (sent_return_acknowledged e s ack return_))
       ] refl
       | false ↦ λ plain. elim (eqb s.kind 0) as (λ x. eqb s.kind 0 ≡ x → cond x (acknowledgement e.stopped e.arriving_calls s) (acknowledgement e.stopped e.arriving_returns s ++ datagrams_let_go e (in_flight_after e s.call (total_of e s.call))) ≡ acknowledged_by (is_stopped_after acts) ts s ++ in_order (let_go_by b acts (Came s)) (first + made acts)) [
@@ -205,25 +205,25 @@ taken_sends local remote first format acts s lawful h =
             ∙ ap (λ d. acknowledged_by (is_stopped_after acts) ts s ++ d) (sym (out false (sent_call_segment e s plain call)))
         | false ↦ λ return_.
             ap (λ d. d ++ datagrams_let_go e (in_flight_after e s.call (total_of e s.call))) (answered _ (return_acknowledged ts e s stands lawful.1 h plain (eqb-true s.kind 1 (return_kind s lawful.1 return_))))
-            ∙ ap (λ d. acknowledged_by (is_stopped_after acts) ts s ++ d) (waiting local remote first format acts (in_flight_after e s.call (total_of e s.call)) lawful.0 ∙ sym (out (lets_go e (in_flight_after e s.call (total_of e s.call))) (sent_return_segment e s plain return_)))
+            ∙ ap (λ d. acknowledged_by (is_stopped_after acts) ts s ++ d) (waiting first format acts (in_flight_after e s.call (total_of e s.call)) lawful.0 ∙ sym (out (lets_go e (in_flight_after e s.call (total_of e s.call))) (sent_return_segment e s plain return_)))
       ] refl
     ] refl
 
-pub came_sends : (local remote first format : ℕ) (acts : Acts) (s : Piece) → AreLawful local remote first format (more acts (Came s)) → datagrams_after (end_after (start local remote first format) acts) s ≡ outputs (start local remote first format) acts (Came s)
+pub came_sends : (first format : ℕ) (acts : Acts) (s : Piece) → AreLawful first format (more acts (Came s)) → datagrams_after (end_after (start first format) acts) s ≡ outputs (start first format) acts (Came s)
 unfolding outputs made
-came_sends local remote first format acts s lawful =
-    let b = start local remote first format in
+came_sends first format acts s lawful =
+    let b = start first format in
     let e = end_after b acts in
     let answer = acknowledged_by (is_stopped_after acts) (taken_by b acts) s in
     elim (takes e s) as (λ x. takes e s ≡ x → cond x (datagrams_of_taken e s) [] ≡ cond (x && not (is_acknowledgement s)) answer [] ++ in_order (let_go_by b acts (Came s)) (first + made acts)) [
-      | true ↦ λ h. taken_sends local remote first format acts s lawful h
-      | false ↦ λ h. sym (gone local remote first format acts (Came s) false lawful (ap (λ x. (cond x (after_taken e s) e).sent) h))
+      | true ↦ λ h. taken_sends first format acts s lawful h
+      | false ↦ λ h. sym (gone first format acts (Came s) false lawful (ap (λ x. (cond x (after_taken e s) e).sent) h))
     ] refl
-    ∙ ap (λ x. cond (x && not (is_acknowledgement s)) answer [] ++ in_order (let_go_by b acts (Came s)) (first + made acts)) (taken_is local remote first format acts s lawful.0 lawful.1)
+    ∙ ap (λ x. cond (x && not (is_acknowledgement s)) answer [] ++ in_order (let_go_by b acts (Came s)) (first + made acts)) (taken_is first format acts s lawful.0 lawful.1)
 
 -- ---- a tick
 
-found_at : (format kind k : ℕ) (box : Outbox) (o : Option (List ℕ)) → found (λ e. reminder_of format kind e.0 e.1 (get box.progress e.0)) k o ≡ found (λ e. reminder_of format kind e.0 e.1 (get box.progress k)) k o
+found_at : (format kind k : ℕ) (box : HandedOver) (o : Option (List ℕ)) → found (λ e. reminder_of format kind e.0 e.1 (get box.progress e.0)) k o ≡ found (λ e. reminder_of format kind e.0 e.1 (get box.progress k)) k o
 found_at format kind k box None = refl
 found_at format kind k box (Some m) = refl
 
@@ -275,19 +275,19 @@ unsent_quiet : (b : Exchange) (acts : Acts) (k : ℕ) (o : Option (List ℕ)) �
 unsent_quiet b acts k None unsent = refl
 unsent_quiet b acts k (Some m) unsent = ap (λ x. cond (x && not (has_arrived (taken_by b acts) 1 k)) (cond (call_is_whole b.next acts (taken_by b acts) k) (spelling (probe b.format 0 (segment_count m) k) ∷ []) (first_open b 0 k m (reached_in (taken_by b acts) 0 k (segment_count m)))) []) unsent
 
-calls_reminded : (local remote first format : ℕ) (acts : Acts) → AreLawful local remote first format acts → reminders (end_after (start local remote first format) acts).calls (end_after (start local remote first format) acts).format 0 (end_after (start local remote first format) acts).sent ≡ in_order (λ call. call_again (start local remote first format) acts call (call_at first acts call)) (first + made acts)
+calls_reminded : (first format : ℕ) (acts : Acts) → AreLawful first format acts → reminders (end_after (start first format) acts).calls (end_after (start first format) acts).format 0 (end_after (start first format) acts).sent ≡ in_order (λ call. call_again (start first format) acts call (call_at first acts call)) (first + made acts)
 unfolding reminders reminder
-calls_reminded local remote first format acts lawful =
-    let b = start local remote first format in
+calls_reminded first format acts lawful =
+    let b = start first format in
     let e = end_after b acts in
     let ts = taken_by b acts in
-    let hands = hands_lawful local remote first format acts lawful in
-    let kept = kept_after local remote first format acts lawful in
-    let flows = flows_after local remote first format acts lawful in
+    let hands = hands_lawful first format acts lawful in
+    let kept = kept_after first format acts lawful in
+    let flows = flows_after first format acts lawful in
     let high : e.sent ≤ e.next = flows.high in
     let next : e.next ≡ first + made acts = flows.next in
-    let sent : (k : ℕ) → is_sent b acts k ≡ (ltb k e.sent && is_some (call_at first acts k)) = λ k. sym (sent_after local remote first format acts k lawful) in
-    ap (λ (f : ℕ). flat_map (λ (x : ℕ × List ℕ). cond (ltb x.0 e.sent) (reminder_of f 0 x.0 x.1 (get e.calls.progress x.0)) []) (entries e.calls.messages)) (format_is local remote first format acts)
+    let sent : (k : ℕ) → is_sent b acts k ≡ (ltb k e.sent && is_some (call_at first acts k)) = λ k. sym (sent_after first format acts k lawful) in
+    ap (λ (f : ℕ). flat_map (λ (x : ℕ × List ℕ). cond (ltb x.0 e.sent) (reminder_of f 0 x.0 x.1 (get e.calls.progress x.0)) []) (entries e.calls.messages)) (format_is first format acts)
     ∙ map_in_order (λ x. reminder_of format 0 x.0 x.1 (get e.calls.progress x.0)) e.sent e.calls.messages
     ∙ order_alike _ _ e.sent (λ k le.
     found_at format 0 k e.calls (get e.calls.messages k)
@@ -296,15 +296,15 @@ calls_reminded local remote first format acts lawful =
     ∙ call_reminded b acts k (call_at first acts k) refl (kept.calls_within k) (λ some. sent k ∙ ap (λ x. x && is_some (call_at first acts k)) (lt-ltb k e.sent le) ∙ some))
     ∙ sym (order_upto (λ call. call_again b acts call (call_at first acts call)) e.sent (first + made acts) (omega arith) (λ k low le. unsent_quiet b acts k (call_at first acts k) (sent k ∙ ap (λ x. x && is_some (call_at first acts k)) (le-ltb k e.sent low))))
 
-returns_reminded : (local remote first format : ℕ) (acts : Acts) (limit : ℕ) → AreLawful local remote first format acts → reminders (end_after (start local remote first format) acts).returns (end_after (start local remote first format) acts).format 1 limit ≡ in_order (λ call. return_again (start local remote first format) acts call (return_at acts call)) limit
+returns_reminded : (first format : ℕ) (acts : Acts) (limit : ℕ) → AreLawful first format acts → reminders (end_after (start first format) acts).returns (end_after (start first format) acts).format 1 limit ≡ in_order (λ call. return_again (start first format) acts call (return_at acts call)) limit
 unfolding reminders reminder
-returns_reminded local remote first format acts limit lawful =
-    let b = start local remote first format in
+returns_reminded first format acts limit lawful =
+    let b = start first format in
     let e = end_after b acts in
     let ts = taken_by b acts in
-    let hands = hands_lawful local remote first format acts lawful in
-    let kept = kept_after local remote first format acts lawful in
-    ap (λ (f : ℕ). flat_map (λ (x : ℕ × List ℕ). cond (ltb x.0 limit) (reminder_of f 1 x.0 x.1 (get e.returns.progress x.0)) []) (entries e.returns.messages)) (format_is local remote first format acts)
+    let hands = hands_lawful first format acts lawful in
+    let kept = kept_after first format acts lawful in
+    ap (λ (f : ℕ). flat_map (λ (x : ℕ × List ℕ). cond (ltb x.0 limit) (reminder_of f 1 x.0 x.1 (get e.returns.progress x.0)) []) (entries e.returns.messages)) (format_is first format acts)
     ∙ map_in_order (λ x. reminder_of format 1 x.0 x.1 (get e.returns.progress x.0)) limit e.returns.messages
     ∙ order_alike _ _ limit (λ k le.
     found_at format 1 k e.returns (get e.returns.messages k)
@@ -312,10 +312,10 @@ returns_reminded local remote first format acts limit lawful =
     ∙ ap (λ m. found (λ x. reminder_of format 1 x.0 x.1 (told_out (return_at acts k) (reached_in ts 1 k))) k m) (kept.returns k)
     ∙ return_reminded b acts k (return_at acts k) refl (kept.returns_within k))
 
-pub tick_sends : (local remote first format : ℕ) (acts : Acts) → AreLawful local remote first format acts → datagrams_of_tick (end_after (start local remote first format) acts) ≡ outputs (start local remote first format) acts Tick
+pub tick_sends : (first format : ℕ) (acts : Acts) → AreLawful first format acts → datagrams_of_tick (end_after (start first format) acts) ≡ outputs (start first format) acts Tick
 unfolding datagrams_of_tick outputs again_after
-tick_sends local remote first format acts lawful =
-    let b = start local remote first format in
+tick_sends first format acts lawful =
+    let b = start first format in
     let e = end_after b acts in
-    ap (λ d. d ++ reminders e.returns e.format 1 (2 ^ 32)) (calls_reminded local remote first format acts lawful)
-    ∙ ap (λ d. in_order (λ call. call_again b acts call (call_at first acts call)) (first + made acts) ++ d) (returns_reminded local remote first format acts (2 ^ 32) lawful)
+    ap (λ d. d ++ reminders e.returns e.format 1 (2 ^ 32)) (calls_reminded first format acts lawful)
+    ∙ ap (λ d. in_order (λ call. call_again b acts call (call_at first acts call)) (first + made acts) ++ d) (returns_reminded first format acts (2 ^ 32) lawful)

@@ -3,12 +3,12 @@ use Rattle.std.proofs.Common.{◌≡◌, ℕ, ◌+◌, ◌<◌, ◌≤◌, Bool,
 use Rattle.std.specs.Prelude.{unwrap_or}
 use Rattle.std.proofs.lemmas.Bool.{ne_eqb, eqb-true, eqb-false}
 use Rattle.circus_exchange.specs.declared.progress.Progress.{Progress}
-use Rattle.circus_exchange.specs.declared.inbox.Inbox.{Inbox}
+use Rattle.circus_exchange.specs.Inbox.{Arriving}
 use Rattle.circus_exchange.specs.declared.exchange.Exchange.{Exchange}
 use Rattle.circus_exchange.specs.declared.taken.Arrived.{Arrived}
 use Rattle.circus_exchange.specs.declared.taken.Arrived.TheVariants.{Nothing, ArrivedCall, ArrivedReturn}
 use Rattle.circus_segment.specs.Segment.{Piece, IsSegment, is_acknowledgement, spelling}
-use Rattle.circus_exchange.specs.Inbox.{known, fits, completes, joined, data_with, is_new, count_with, is_owed, acknowledgement, added}
+use Rattle.circus_exchange.specs.Inbox.{known, fits, completes, joined, data_with, is_new, count_with, acknowledged, acknowledgement, added}
 use Rattle.circus_exchange.specs.Exchange.{start, called, returned, takes, was_sent, let_go, lets_go, call_reached, return_reached, ended, return_added, after_taken, after, arrived_of_taken, arrived_after, ticked}
 use Rattle.circus_pair.specs.Taken.{is_of, total_in, count_in, has_arrived, message_in, IsTotal, MayFollow, AreTaken}
 use Rattle.circus_pair.specs.Acts.{Act, Call, Return, Came, Tick, Stop, Acts, none_yet, more, happens, end_after, with_taken, taken_by, IsAct, AreActs, arrival_by, acknowledged_by}
@@ -30,15 +30,15 @@ let_go_returns : (e : Exchange) → (let_go e).arriving_returns ≡ e.arriving_r
 unfolding let_go
 let_go_returns e = elim (lets_go e e.in_flight) as (λ b. (cond b (record e { sent = e.sent + 1; in_flight = e.in_flight + 1 }) e).arriving_returns ≡ e.arriving_returns) [ true ↦ refl | false ↦ refl ]
 
-pub record Boxes (e : Exchange) (calls returns : Inbox) : Type 0 where
+pub record Boxes (e : Exchange) (calls returns : Arriving) : Type 0 where
   pub calls_are : e.arriving_calls ≡ calls
   pub returns_are : e.arriving_returns ≡ returns
 
-boxes_cond : (b : Bool) (x y : Exchange) (calls returns : Inbox) → (b ≡ true → Boxes x calls returns) → (b ≡ false → Boxes y calls returns) → Boxes (cond b x y) calls returns
+boxes_cond : (b : Bool) (x y : Exchange) (calls returns : Arriving) → (b ≡ true → Boxes x calls returns) → (b ≡ false → Boxes y calls returns) → Boxes (cond b x y) calls returns
 boxes_cond true x y calls returns f g = f refl
 boxes_cond false x y calls returns f g = g refl
 
-let_go_boxes : (e : Exchange) (calls returns : Inbox) → Boxes e calls returns → Boxes (let_go e) calls returns
+let_go_boxes : (e : Exchange) (calls returns : Arriving) → Boxes e calls returns → Boxes (let_go e) calls returns
 let_go_boxes e calls returns b = record { calls_are = let_go_calls e ∙ b.calls_are; returns_are = let_go_returns e ∙ b.returns_are }
 
 reached_boxes : (e : Exchange) (call count : ℕ) → Boxes (call_reached e call count) e.arriving_calls e.arriving_returns
@@ -53,7 +53,7 @@ return_added_boxes : (e : Exchange) (s : Piece) → Boxes (return_added e s) e.a
 unfolding return_added ended call_reached
 return_added_boxes e s = record { calls_are = refl; returns_are = refl }
 
-quiet : (e : Exchange) (calls returns : Inbox) → Boxes e calls returns → Boxes (record e { ticks = 0 }) calls returns
+quiet : (e : Exchange) (calls returns : Arriving) → Boxes e calls returns → Boxes (record e { ticks = 0 }) calls returns
 quiet e calls returns b = record { calls_are = b.calls_are; returns_are = b.returns_are }
 
 true_false : (b : Bool) → b ≡ true → b ≡ false → ⊥
@@ -89,7 +89,7 @@ told_total : (o : Option ℕ) (c : ℕ → ℕ) (t : ℕ) → eqb (unwrap_or {T 
 told_total None c t h = tt
 told_total (Some x) c t h = eqb-true x t h
 
-fit_total : (kind : ℕ) (ts : List Piece) (s : Piece) (box : Inbox) → Keeps kind ts box → fits box s ≡ true → IsTotal (total_in ts kind s.call) s.total
+fit_total : (kind : ℕ) (ts : List Piece) (s : Piece) (box : Arriving) → Keeps kind ts box → fits box s ≡ true → IsTotal (total_in ts kind s.call) s.total
 unfolding fits known
 fit_total kind ts s box keeps h =
     told_total (total_in ts kind s.call) (count_in ts kind s.call) s.total
@@ -154,7 +154,7 @@ no_part false b = refl
 pub acknowledges : (s : Piece) (kind : ℕ) → is_acknowledgement s ≡ true → (call : ℕ) → is_of kind call s ≡ false
 acknowledges s kind ack call = ap (λ b. eqb s.kind kind && (eqb s.call call && not b)) ack ∙ no_part (eqb s.kind kind) (eqb s.call call)
 
-kept : (kind : ℕ) (ts : List Piece) (a b : Inbox) → a ≡ b → Keeps kind ts b → Keeps kind ts a
+kept : (kind : ℕ) (ts : List Piece) (a b : Arriving) → a ≡ b → Keeps kind ts b → Keeps kind ts a
 kept kind ts a b same keeps = subst (λ x. Keeps kind ts x) (sym same) keeps
 
 stands_taken : (ts : List Piece) (e : Exchange) (s : Piece) → Stands ts e → IsSegment s → takes e s ≡ true → Stands (s ∷ ts) (after_taken e s)
@@ -168,13 +168,13 @@ stands_taken ts e s stands segment h =
       })
       | false ↦ λ plain. elim (eqb s.kind 0) as (λ b. eqb s.kind 0 ≡ b → Stands (s ∷ ts) (after_taken e s)) [
         | true ↦ λ call. (let boxes = call_boxes e s plain call in let zero_ : 0 ≡ s.kind = kind_call s call in record {
-          calls = kept 0 (s ∷ ts) _ _ boxes.calls_are (subst (λ k. Keeps k (s ∷ ts) (added e.arriving_calls s)) (sym zero_) (keeps_more s ts e.arriving_calls (subst (λ k. Keeps k ts e.arriving_calls) zero_ stands.calls) stands.taken may plain));
+          calls = kept 0 (s ∷ ts) _ _ boxes.calls_are (subst (λ k. Keeps k (s ∷ ts) (added e.arriving_calls s)) (sym zero_) (keeps_more s ts e.arriving_calls (subst (λ k. Keeps k ts e.arriving_calls) zero_ stands.calls) may plain));
           returns = kept 1 (s ∷ ts) _ _ boxes.returns_are (keeps_other s ts 1 e.arriving_returns (other_kind s 1 (λ one. absurd (omega arith))) stands.returns);
           taken = (may, stands.taken);
         })
         | false ↦ λ return_. (let boxes = return_boxes e s plain return_ in let one : 1 ≡ s.kind = kind_return s segment return_ in record {
           calls = kept 0 (s ∷ ts) _ _ boxes.calls_are (keeps_other s ts 0 e.arriving_calls (other_kind s 0 (λ zero_. absurd (omega arith))) stands.calls);
-          returns = kept 1 (s ∷ ts) _ _ boxes.returns_are (subst (λ k. Keeps k (s ∷ ts) (added e.arriving_returns s)) (sym one) (keeps_more s ts e.arriving_returns (subst (λ k. Keeps k ts e.arriving_returns) one stands.returns) stands.taken may plain));
+          returns = kept 1 (s ∷ ts) _ _ boxes.returns_are (subst (λ k. Keeps k (s ∷ ts) (added e.arriving_returns s)) (sym one) (keeps_more s ts e.arriving_returns (subst (λ k. Keeps k ts e.arriving_returns) one stands.returns) may plain));
           taken = (may, stands.taken);
         })
       ] refl
@@ -203,14 +203,14 @@ stands_act ts e Tick stands is = same_boxes ts e _ refl refl stands
 stands_act ts e Stop stands is = same_boxes ts e _ refl refl stands
 
 -- after every list of acts
-pub stands_after : (local remote number format : ℕ) (acts : Acts) → AreActs acts → Stands (taken_by (start local remote number format) acts) (end_after (start local remote number format) acts)
-stands_after local remote number format none_yet are = record { calls = keeps_nothing 0 _ refl refl; returns = keeps_nothing 1 _ refl refl; taken = tt }
-stands_after local remote number format (more acts act) are =
-    stands_act (taken_by (start local remote number format) acts) (end_after (start local remote number format) acts) act (stands_after local remote number format acts are.0) are.1
+pub stands_after : (number format : ℕ) (acts : Acts) → AreActs acts → Stands (taken_by (start number format) acts) (end_after (start number format) acts)
+stands_after number format none_yet are = record { calls = keeps_nothing 0 _ refl refl; returns = keeps_nothing 1 _ refl refl; taken = tt }
+stands_after number format (more acts act) are =
+    stands_act (taken_by (start number format) acts) (end_after (start number format) acts) act (stands_after number format acts are.0) are.1
 
 -- ---- what arrives
 
-completed_new : (box : Inbox) (s : Piece) → completes box s ≡ true → is_new box s ≡ true
+completed_new : (box : Arriving) (s : Piece) → completes box s ≡ true → is_new box s ≡ true
 unfolding completes
 completed_new box s h = first (is_new box s) _ h
   where
@@ -218,7 +218,7 @@ completed_new box s h = first (is_new box s) _ h
     first true b k = refl
     first false b k = absurd cc
 
-arrived_in : (s : Piece) (ts : List Piece) (box : Inbox) (message : List ℕ → Arrived) → Keeps s.kind ts box → MayFollow ts s → is_acknowledgement s ≡ false → cond (completes box s) (message (joined (data_with box s) s.total)) Nothing ≡ cond (has_arrived (s ∷ ts) s.kind s.call && not (has_arrived ts s.kind s.call)) (message (message_in (s ∷ ts) s.kind s.call s.total)) Nothing
+arrived_in : (s : Piece) (ts : List Piece) (box : Arriving) (message : List ℕ → Arrived) → Keeps s.kind ts box → MayFollow ts s → is_acknowledgement s ≡ false → cond (completes box s) (message (joined (data_with box s) s.total)) Nothing ≡ cond (has_arrived (s ∷ ts) s.kind s.call && not (has_arrived ts s.kind s.call)) (message (message_in (s ∷ ts) s.kind s.call s.total)) Nothing
 arrived_in s ts box message keeps may plain =
     elim (completes box s) as (λ b. completes box s ≡ b → cond b (message (joined (data_with box s) s.total)) Nothing ≡ cond b (message (message_in (s ∷ ts) s.kind s.call s.total)) Nothing) [
       | true ↦ λ h. ap message (message_is s ts box keeps may plain (completed_new box s h))
@@ -241,8 +241,8 @@ arrival_is ts e s stands segment h =
     ] refl
 
 -- the acknowledgement of a segment by what the segments say that were taken
-pub acknowledged_is : (s : Piece) (ts : List Piece) (box : Inbox) (is_down : Bool) → Keeps s.kind ts box → MayFollow ts s → is_acknowledgement s ≡ false → acknowledgement is_down box s ≡ acknowledged_by is_down ts s
-unfolding acknowledgement is_owed
+pub acknowledged_is : (s : Piece) (ts : List Piece) (box : Arriving) (is_down : Bool) → Keeps s.kind ts box → MayFollow ts s → is_acknowledgement s ≡ false → acknowledgement is_down box s ≡ acknowledged_by is_down ts s
+unfolding acknowledged
 acknowledged_is s ts box is_down keeps may plain =
     let answer_of : ℕ → List (List ℕ) = λ n. spelling (record { format = s.format; kind = s.kind; control = 1; total = s.total; number = n; call = s.call; part = [] }) ∷ [] in
     ap (λ b. cond (not is_down && (eqb s.control 2 || (b || ltb (count_with box s) s.number))) (answer_of (count_with box s)) []) (completes_is s ts box keeps may plain)

@@ -43,13 +43,13 @@ empty_is messages passes limit knows beyond = alike _ _
       | inr past ↦ beyond k past ∙ sym (get-empty nat_cmp k)
     ]) in eq-eqb (len messages) 0 (ap (λ (m : FinMap nat_cmp (List ℕ)). len m) bare ∙ len-empty nat_cmp (List ℕ)))
 
-waits_is : (local remote first format : ℕ) (acts : Acts) → AreLawful local remote first format acts → is_waiting (end_after (start local remote first format) acts) ≡ waits_after (start local remote first format) acts
+waits_is : (first format : ℕ) (acts : Acts) → AreLawful first format acts → is_waiting (end_after (start first format) acts) ≡ waits_after (start first format) acts
 unfolding is_unfinished
-waits_is local remote first format acts lawful =
-    let e = end_after (start local remote first format) acts in
-    let ts = taken_by (start local remote first format) acts in
-    let hands = hands_lawful local remote first format acts lawful in
-    let kept = kept_after local remote first format acts lawful in
+waits_is first format acts lawful =
+    let e = end_after (start first format) acts in
+    let ts = taken_by (start first format) acts in
+    let hands = hands_lawful first format acts lawful in
+    let kept = kept_after first format acts lawful in
     let next : e.next ≡ first + made acts = hands.next in
     ap not (empty_is e.calls.messages (is_unfinished first acts ts) (first + made acts)
     (λ k. ap is_some (kept.calls k) ∙ kept_some (call_at first acts k) (reached_in ts 0 k) (has_arrived ts 1 k))
@@ -64,44 +64,44 @@ unfolding after_taken
 ticks_came e s true ticks is same = ap (λ b. (cond b (after_taken e s) e).ticks) is
 ticks_came e s false ticks is same = ap (λ b. (cond b (after_taken e s) e).ticks) is ∙ same
 
-pub ticks_are : (local remote first format : ℕ) (acts : Acts) → AreLawful local remote first format acts → (end_after (start local remote first format) acts).ticks ≡ ticks_after (start local remote first format) acts
+pub ticks_are : (first format : ℕ) (acts : Acts) → AreLawful first format acts → (end_after (start first format) acts).ticks ≡ ticks_after (start first format) acts
 unfolding ticks_after called returned ticked
-ticks_are local remote first format none_yet lawful = refl
-ticks_are local remote first format (more acts (Call message)) lawful =
-    let b = start local remote first format in
+ticks_are first format none_yet lawful = refl
+ticks_are first format (more acts (Call message)) lawful =
+    let b = start first format in
     let e = end_after b acts in
     turned (eqb (len e.calls.messages) 0) 0 e.ticks
-    ∙ ap (λ w. cond w e.ticks 0) (waits_is local remote first format acts lawful.0)
-    ∙ ap (λ (n : ℕ). cond (waits_after b acts) n 0) (ticks_are local remote first format acts lawful.0)
-ticks_are local remote first format (more acts (Return call message)) lawful = ticks_are local remote first format acts lawful.0
-ticks_are local remote first format (more acts (Came s)) lawful =
-    ticks_came (end_after (start local remote first format) acts) s _ _ (taken_is local remote first format acts s lawful.0 lawful.1) (ticks_are local remote first format acts lawful.0)
-ticks_are local remote first format (more acts Tick) lawful =
-    let b = start local remote first format in
+    ∙ ap (λ w. cond w e.ticks 0) (waits_is first format acts lawful.0)
+    ∙ ap (λ (n : ℕ). cond (waits_after b acts) n 0) (ticks_are first format acts lawful.0)
+ticks_are first format (more acts (Return call message)) lawful = ticks_are first format acts lawful.0
+ticks_are first format (more acts (Came s)) lawful =
+    ticks_came (end_after (start first format) acts) s _ _ (taken_is first format acts s lawful.0 lawful.1) (ticks_are first format acts lawful.0)
+ticks_are first format (more acts Tick) lawful =
+    let b = start first format in
     let e = end_after b acts in
-    ap (λ w. cond (w && ltb e.ticks 8) (e.ticks + 1) e.ticks) (waits_is local remote first format acts lawful.0)
-    ∙ ap (λ n. cond (waits_after b acts && ltb n 8) (n + 1) n) (ticks_are local remote first format acts lawful.0)
-ticks_are local remote first format (more acts Stop) lawful = ticks_are local remote first format acts lawful.0
+    ap (λ w. cond (w && ltb e.ticks 8) (e.ticks + 1) e.ticks) (waits_is first format acts lawful.0)
+    ∙ ap (λ n. cond (waits_after b acts && ltb n 8) (n + 1) n) (ticks_are first format acts lawful.0)
+ticks_are first format (more acts Stop) lawful = ticks_are first format acts lawful.0
 
-becomes_eight : (waits : Bool) (n : ℕ) → (waits && eqb n 7) ≡ (ltb n 8 && eqb (cond (waits && ltb n 8) (n + 1) n) 8)
+becomes_eight : (waits : Bool) (n : ℕ) → (waits && eqb (n + 1) 8) ≡ (ltb n 8 && eqb (cond (waits && ltb n 8) (n + 1) n) 8)
 becomes_eight waits n = elim (cases_lt n 8) [
   | inl low ↦ sym (ap (λ b. b && eqb (cond (waits && b) (n + 1) n) 8) (lt-ltb n 8 low) ∙ eight waits n low)
   | inr high ↦ never waits n high ∙ sym (ap (λ b. b && eqb (cond (waits && b) (n + 1) n) 8) (le-ltb n 8 high))
 ]
   where
-    eight : (waits : Bool) (n : ℕ) → n < 8 → eqb (cond (waits && true) (n + 1) n) 8 ≡ (waits && eqb n 7)
-    eight true n low = alike _ _ (λ h. let at : n + 1 ≡ 8 = eqb-true (n + 1) 8 h in eq-eqb n 7 (omega arith)) (λ h. let at : n ≡ 7 = eqb-true n 7 h in eq-eqb (n + 1) 8 (omega arith))
+    eight : (waits : Bool) (n : ℕ) → n < 8 → eqb (cond (waits && true) (n + 1) n) 8 ≡ (waits && eqb (n + 1) 8)
+    eight true n low = refl
     eight false n low = ne_eqb n 8 (λ e. absurd (omega arith))
 
-    never : (waits : Bool) (n : ℕ) → 8 ≤ n → (waits && eqb n 7) ≡ false
-    never true n high = ne_eqb n 7 (λ e. absurd (omega arith))
+    never : (waits : Bool) (n : ℕ) → 8 ≤ n → (waits && eqb (n + 1) 8) ≡ false
+    never true n high = ne_eqb (n + 1) 8 (λ e. absurd (omega arith))
     never false n high = refl
 
-pub suspicion_is : (local remote first format : ℕ) (acts : Acts) → AreLawful local remote first format acts → is_suspect (end_after (start local remote first format) acts) ≡ suspects_after (start local remote first format) acts
+pub suspicion_is : (first format : ℕ) (acts : Acts) → AreLawful first format acts → is_suspect (end_after (start first format) acts) ≡ suspects_after (start first format) acts
 unfolding is_suspect ticks_after
-suspicion_is local remote first format acts lawful =
-    let b = start local remote first format in
+suspicion_is first format acts lawful =
+    let b = start first format in
     let e = end_after b acts in
-    ap (λ w. w && eqb e.ticks 7) (waits_is local remote first format acts lawful)
-    ∙ ap (λ n. waits_after b acts && eqb n 7) (ticks_are local remote first format acts lawful)
+    ap (λ w. w && eqb (e.ticks + 1) 8) (waits_is first format acts lawful)
+    ∙ ap (λ n. waits_after b acts && eqb (n + 1) 8) (ticks_are first format acts lawful)
     ∙ becomes_eight (waits_after b acts) (ticks_after b acts)

@@ -9,7 +9,8 @@ use Rattle.circus_pair.specs.declared.two_ends.Act.{Act}
 use Rattle.circus_pair.specs.declared.two_ends.Act.TheVariants.{Call, Return, Deliver, Tick}
 use Rattle.circus_pair.specs.Acts.{Act as OneAct, Acts}
 use Rattle.circus_pair.proofs.Handing.{format_act}
-use Rattle.circus_pair.specs.TwoEnds.{History, then_came, act_at, with_act, start_of, acts_of, sent_by, noted, arrived_by, arrived_in, arrived_at, End, Both, end_at, end_of, both_after, moved, stepped, arrives, acting}
+use Rattle.circus_exchange.specs.Exchange.{start}
+use Rattle.circus_pair.specs.TwoEnds.{History, then_came, act_at, with_act, acts_of, sent_by, noted, arrived_by, arrived_in, arrived_at, End, Both, end_at, end_of, both_after, moved, stepped, arrives, acting}
 
 -- ---- both ends after an act more
 
@@ -24,8 +25,8 @@ pub stepped_is : (format : ℕ) (history : History) (act : Act) → stepped (bot
 unfolding stepped
 stepped_is format history act =
     same_both _ _ _ _
-    (moved_is (start_of false format) (acts_of false format history) (act_at false (sent_by (start_of true format) (acts_of true format history)) act))
-    (moved_is (start_of true format) (acts_of true format history) (act_at true (sent_by (start_of false format) (acts_of false format history)) act))
+    (moved_is (start 0 format) (acts_of false format history) (act_at false (sent_by (start 0 format) (acts_of true format history)) act))
+    (moved_is (start 0 format) (acts_of true format history) (act_at true (sent_by (start 0 format) (acts_of false format history)) act))
 
 -- whichever way a step ends
 pub stands_more : (r : Result Arrived TwoFault) (old new : Both) (act : Act) (format : ℕ) (history : History) → OnOk r (new ≡ stepped old act) → old ≡ both_after format history → OnOk r (new ≡ both_after format (then_came history act))
@@ -68,8 +69,8 @@ heard_tick false format history = refl
 heard_is : (format : ℕ) (history : History) (act : Act) → arrived_at (acting act) format (then_came history act) ≡ arrived_at (acting act) format history ++ noted (arrives (both_after format history) act)
 heard_is format history (Call at message) = heard_call at format history message
 heard_is format history (Return at call message) = heard_return at format history call message
-heard_is format history (Deliver true number) = arrived_more (start_of true format) (acts_of true format history) _
-heard_is format history (Deliver false number) = arrived_more (start_of false format) (acts_of false format history) _
+heard_is format history (Deliver true number) = arrived_more (start 0 format) (acts_of true format history) _
+heard_is format history (Deliver false number) = arrived_more (start 0 format) (acts_of false format history) _
 heard_is format history (Tick at) = heard_tick at format history
 
 pub heard_more : (r : Result Arrived TwoFault) (old : Both) (act : Act) (format : ℕ) (history : History) → IfOk r (λ arrived. arrived ≡ arrives old act) → old ≡ both_after format history → IfOk r (λ arrived. arrived_at (acting act) format (then_came history act) ≡ arrived_at (acting act) format history ++ noted arrived)

@@ -13,14 +13,14 @@ is_stopped_after (more acts Stop) = true
 is_stopped_after (more acts act) = is_stopped_after acts
 
 -- an act may come after these: messages can be sent, a number is left for a call, a return answers a call that has arrived and had none, a datagram that comes is a segment, and no call and no tick comes after a stop
-abbrev pub MayFollow : ℕ → ℕ → ℕ → ℕ → Acts → Act → Type 0
-MayFollow local remote first format acts (Call message) = IsSendable format message × (first + made acts < 4294967295) × (is_stopped_after acts ≡ false)
-MayFollow local remote first format acts (Return call message) = IsSendable format message × (has_arrived (taken_by (start local remote first format) acts) 0 call ≡ true) × (return_at acts call ≡ None)
-MayFollow local remote first format acts (Came s) = IsSegment s
-MayFollow local remote first format acts Tick = is_stopped_after acts ≡ false
-MayFollow local remote first format acts Stop = Unit {0}
+abbrev pub MayFollow : ℕ → ℕ → Acts → Act → Type 0
+MayFollow first format acts (Call message) = IsSendable format message × (first + made acts < 4294967295) × (is_stopped_after acts ≡ false)
+MayFollow first format acts (Return call message) = IsSendable format message × (has_arrived (taken_by (start first format) acts) 0 call ≡ true) × (return_at acts call ≡ None)
+MayFollow first format acts (Came s) = IsSegment s
+MayFollow first format acts Tick = is_stopped_after acts ≡ false
+MayFollow first format acts Stop = Unit {0}
 
 -- each act may come after those before it
-abbrev pub AreLawful : ℕ → ℕ → ℕ → ℕ → Acts → Type 0
-AreLawful local remote first format none_yet = Unit {0}
-AreLawful local remote first format (more acts act) = AreLawful local remote first format acts × MayFollow local remote first format acts act
+abbrev pub AreLawful : ℕ → ℕ → Acts → Type 0
+AreLawful first format none_yet = Unit {0}
+AreLawful first format (more acts act) = AreLawful first format acts × MayFollow first format acts act

@@ -88,15 +88,10 @@ abbrev pub with_act : Acts → Option OneAct → Acts
 with_act acts None = acts
 with_act acts (Some act) = more acts act
 
--- an end before anything happened: node 0 is the end that false names, and node 1 the one that true names
-abbrev pub start_of : Bool → ℕ → Exchange
-start_of false format = start 0 1 0 format
-start_of true format = start 1 0 0 format
-
 -- what has happened at an end
 abbrev pub acts_of : Bool → ℕ → History → Acts
 acts_of end format begun = none_yet
-acts_of end format (then_came history act) = with_act (acts_of end format history) (act_at end (sent_by (start_of (not end) format) (acts_of (not end) format history)) act)
+acts_of end format (then_came history act) = with_act (acts_of end format history) (act_at end (sent_by (start 0 format) (acts_of (not end) format history)) act)
 
 -- ---- both ends
 
@@ -120,8 +115,8 @@ end_of e acts = record { exchange = end_after e acts; sent = sent_by e acts }
 -- both ends after these acts
 abbrev pub both_after : ℕ → History → Both
 both_after format history = record {
-  low = end_of (start_of false format) (acts_of false format history);
-  high = end_of (start_of true format) (acts_of true format history);
+  low = end_of (start 0 format) (acts_of false format history);
+  high = end_of (start 0 format) (acts_of true format history);
 }
 
 -- ---- one act more
@@ -181,17 +176,17 @@ has_no_number both (Tick at) = false
 
 -- the segments that an end has taken, the newest first
 abbrev pub taken_at : Bool → ℕ → History → List Piece
-taken_at end format history = taken_by (start_of end format) (acts_of end format history)
+taken_at end format history = taken_by (start 0 format) (acts_of end format history)
 
 -- the messages that have arrived at an end, oldest first
 abbrev pub arrived_at : Bool → ℕ → History → List Arrival
-arrived_at end format history = arrived_in (start_of end format) (acts_of end format history)
+arrived_at end format history = arrived_in (start 0 format) (acts_of end format history)
 
 -- an act may come after these: messages can be sent, a number is left for a call, a return answers a call that has arrived and had none, and a datagram was sent
 abbrev pub MayFollow : ℕ → History → Act → Type 0
 MayFollow format history (Call at message) = IsSendable format message × (made (acts_of at format history) < 4294967295)
 MayFollow format history (Return at call message) = IsSendable format message × (has_arrived (taken_at at format history) 0 call ≡ true) × (return_at (acts_of at format history) call ≡ None)
-MayFollow format history (Deliver at number) = number < length (sent_by (start_of (not at) format) (acts_of (not at) format history))
+MayFollow format history (Deliver at number) = number < length (sent_by (start 0 format) (acts_of (not at) format history))
 MayFollow format history (Tick at) = Unit {0}
 
 -- each act may come after those before it
@@ -202,14 +197,14 @@ AreLawful format (then_came history act) = AreLawful format history × MayFollow
 -- ---- what two ends owe each other
 
 -- between an end after its acts and the other one after its own: each message has arrived here at most once, and is the one that was handed over there; one counts here as acknowledged whole only where it has arrived there
-pub record Agrees (local remote format : ℕ) (here there : Acts) : Type 0 where
-  pub once : (kind call : ℕ) → count_by (λ a. (a.kind == kind) && (a.call == call)) (arrived_in (start local remote 0 format) here) ≤ 1
-  pub sent : All (λ a. handed_over 0 there a.kind a.call ≡ Some a.message) (arrived_in (start local remote 0 format) here)
-  pub acknowledged : (kind call : ℕ) (message : List ℕ) → handed_over 0 here kind call ≡ Some message → reached_in (taken_by (start local remote 0 format) here) kind call (segment_count message) ≡ segment_count message → has_arrived (taken_by (start remote local 0 format) there) kind call ≡ true
+pub record Agrees (format : ℕ) (here there : Acts) : Type 0 where
+  pub once : (kind call : ℕ) → count_by (λ a. (a.kind == kind) && (a.call == call)) (arrived_in (start 0 format) here) ≤ 1
+  pub sent : All (λ a. handed_over 0 there a.kind a.call ≡ Some a.message) (arrived_in (start 0 format) here)
+  pub acknowledged : (kind call : ℕ) (message : List ℕ) → handed_over 0 here kind call ≡ Some message → reached_in (taken_by (start 0 format) here) kind call (segment_count message) ≡ segment_count message → has_arrived (taken_by (start 0 format) there) kind call ≡ true
 
 -- both ways
-abbrev pub Agree : ℕ → ℕ → ℕ → Acts → Acts → Type 0
-Agree local remote format here there = Agrees local remote format here there × Agrees remote local format there here
+abbrev pub Agree : ℕ → Acts → Acts → Type 0
+Agree format here there = Agrees format here there × Agrees format there here
 
 -- what happens at two ends, oldest first: an act at the first one, or at the second
 pub data Talk : Type 0 where
@@ -236,7 +231,7 @@ WasSent sent Ticks = Unit {0}
 WasSent sent Stops = Unit {0}
 
 -- each act may come at its end after those before it
-abbrev pub IsTalk : ℕ → ℕ → ℕ → Talk → Type 0
-IsTalk local remote format silent = Unit {0}
-IsTalk local remote format (at_first talk act) = IsTalk local remote format talk × MayCome local remote 0 format (acts_at_first talk) act × WasSent (sent_by (start remote local 0 format) (acts_at_second talk)) act
-IsTalk local remote format (at_second talk act) = IsTalk local remote format talk × MayCome remote local 0 format (acts_at_second talk) act × WasSent (sent_by (start local remote 0 format) (acts_at_first talk)) act
+abbrev pub IsTalk : ℕ → Talk → Type 0
+IsTalk format silent = Unit {0}
+IsTalk format (at_first talk act) = IsTalk format talk × MayCome 0 format (acts_at_first talk) act × WasSent (sent_by (start 0 format) (acts_at_second talk)) act
+IsTalk format (at_second talk act) = IsTalk format talk × MayCome 0 format (acts_at_second talk) act × WasSent (sent_by (start 0 format) (acts_at_first talk)) act

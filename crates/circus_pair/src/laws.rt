@@ -15,51 +15,51 @@ ghost use Rattle.circus_pair.specs.Ticking.{ticks_after, suspects_after};
 /// What arrives by a segment that is taken is what the segments taken until then say: nothing, unless it is the
 /// last that its message lacked; then the joined data, number by number, of the first segments taken.
 pub fn arrivals_follow_the_segments()
-    ensures { (local remote number format : ℕ) (acts : Acts) (s : Piece) → AreActs acts → IsSegment s
-        → takes (end_after (start local remote number format) acts) s ≡ true
-        → arrived_after (end_after (start local remote number format) acts) s
-        ≡ arrival_by (taken_by (start local remote number format) acts) s }
+    ensures { (number format : ℕ) (acts : Acts) (s : Piece) → AreActs acts → IsSegment s
+        → takes (end_after (start number format) acts) s ≡ true
+        → arrived_after (end_after (start number format) acts) s
+        ≡ arrival_by (taken_by (start number format) acts) s }
 {}
 
 /// The acknowledgement that a segment of a call gets, if it gets one, says how many segments of its message were
 /// taken from the first on without a gap; likewise that of a return.
 pub fn acknowledgements_count_the_segments()
-    ensures calls { (local remote number format : ℕ) (acts : Acts) (s : Piece) → AreActs acts → IsSegment s
-        → takes (end_after (start local remote number format) acts) s ≡ true
+    ensures calls { (number format : ℕ) (acts : Acts) (s : Piece) → AreActs acts → IsSegment s
+        → takes (end_after (start number format) acts) s ≡ true
         → is_acknowledgement s ≡ false → s.kind ≡ 0
-        → let e = end_after (start local remote number format) acts in
+        → let e = end_after (start number format) acts in
         acknowledgement e.stopped e.arriving_calls s
-        ≡ acknowledged_by e.stopped (taken_by (start local remote number format) acts) s }
-    ensures returns { (local remote number format : ℕ) (acts : Acts) (s : Piece) → AreActs acts → IsSegment s
-        → takes (end_after (start local remote number format) acts) s ≡ true
+        ≡ acknowledged_by e.stopped (taken_by (start number format) acts) s }
+    ensures returns { (number format : ℕ) (acts : Acts) (s : Piece) → AreActs acts → IsSegment s
+        → takes (end_after (start number format) acts) s ≡ true
         → is_acknowledgement s ≡ false → s.kind ≡ 1
-        → let e = end_after (start local remote number format) acts in
+        → let e = end_after (start number format) acts in
         acknowledgement e.stopped e.arriving_returns s
-        ≡ acknowledged_by e.stopped (taken_by (start local remote number format) acts) s }
+        ≡ acknowledged_by e.stopped (taken_by (start number format) acts) s }
 {}
 
 /// A segment is taken exactly where it has the format and: an acknowledgement speaks of a message that was sent,
 /// with its total; another one has the total of the first segment taken for its message, and a segment of a
 /// return answers a call that was sent.
 pub fn segments_are_taken_by_the_rules()
-    ensures { (local remote first format : ℕ) (acts : Acts) (s : Piece) → AreLawful local remote first format acts
+    ensures { (first format : ℕ) (acts : Acts) (s : Piece) → AreLawful first format acts
         → IsSegment s
-        → let began = start local remote first format in
+        → let began = start first format in
         takes (end_after began acts) s ≡ is_taken first format acts (taken_by began acts) (is_sent began acts) s }
 {}
 
 /// What an end knows of its acts: its format, the number of its next call, whether the other end was declared down, and
 /// which calls wait for a return, which are those that have arrived whole and had none.
 pub fn ends_know_their_acts()
-    ensures format { (local remote first format : ℕ) (acts : Acts)
-        → (end_after (start local remote first format) acts).format ≡ format }
-    ensures next { (local remote first format : ℕ) (acts : Acts) → AreLawful local remote first format acts
-        → (end_after (start local remote first format) acts).next ≡ first + made acts }
-    ensures down { (local remote first format : ℕ) (acts : Acts) → AreLawful local remote first format acts
-        → (end_after (start local remote first format) acts).stopped ≡ is_stopped_after acts }
-    ensures awaits { (local remote first format : ℕ) (acts : Acts) (call : ℕ)
-        → AreLawful local remote first format acts
-        → let began = start local remote first format in
+    ensures format { (first format : ℕ) (acts : Acts)
+        → (end_after (start first format) acts).format ≡ format }
+    ensures next { (first format : ℕ) (acts : Acts) → AreLawful first format acts
+        → (end_after (start first format) acts).next ≡ first + made acts }
+    ensures down { (first format : ℕ) (acts : Acts) → AreLawful first format acts
+        → (end_after (start first format) acts).stopped ≡ is_stopped_after acts }
+    ensures awaits { (first format : ℕ) (acts : Acts) (call : ℕ)
+        → AreLawful first format acts
+        → let began = start first format in
         awaits_return (end_after began acts) call
         ≡ (has_arrived (taken_by began acts) 0 call && not (is_some (return_at acts call))) }
 {}
@@ -81,12 +81,12 @@ pub fn sent_messages_arrive()
 /// other end was declared down: where fewer than 64 calls of smaller numbers were not acknowledged whole. So at
 /// most 64 calls are sent and not acknowledged whole (docs/PROTOCOL.md, "The window").
 pub fn calls_are_sent_in_time()
-    ensures sent { (local remote first format : ℕ) (acts : Acts) (call : ℕ)
-        → AreLawful local remote first format acts
-        → let began = start local remote first format in
+    ensures sent { (first format : ℕ) (acts : Acts) (call : ℕ)
+        → AreLawful first format acts
+        → let began = start first format in
         sent_below (end_after began acts).sent first acts call ≡ is_sent began acts call }
-    ensures window { (local remote first format : ℕ) (acts : Acts) → AreLawful local remote first format acts
-        → let began = start local remote first format in
+    ensures window { (first format : ℕ) (acts : Acts) → AreLawful first format acts
+        → let began = start first format in
         count_below (λ call. is_sent began acts call && not (call_is_whole first acts (taken_by began acts) call))
         (first + made acts) ≤ 64 }
 {}
@@ -96,21 +96,21 @@ pub fn calls_are_sent_in_time()
 /// sends the first open segment of each message that was sent and is not acknowledged whole, or the probe of a
 /// call that has no return yet (docs/PROTOCOL.md, "The window" to "Ticks").
 pub fn acts_send_what_is_owed()
-    ensures calls { (local remote first format : ℕ) (acts : Acts) (message : List ℕ)
-        → AreLawful local remote first format (more acts (Call message))
-        → let began = start local remote first format in
+    ensures calls { (first format : ℕ) (acts : Acts) (message : List ℕ)
+        → AreLawful first format (more acts (Call message))
+        → let began = start first format in
         datagrams_of_call (end_after began acts) message ≡ outputs began acts (Call message) }
-    ensures returns { (local remote first format : ℕ) (acts : Acts) (call : ℕ) (message : List ℕ)
-        → AreLawful local remote first format (more acts (Return call message))
-        → let began = start local remote first format in
+    ensures returns { (first format : ℕ) (acts : Acts) (call : ℕ) (message : List ℕ)
+        → AreLawful first format (more acts (Return call message))
+        → let began = start first format in
         datagrams_of_return (end_after began acts) call message ≡ outputs began acts (Return call message) }
-    ensures segments { (local remote first format : ℕ) (acts : Acts) (s : Piece)
-        → AreLawful local remote first format (more acts (Came s))
-        → let began = start local remote first format in
+    ensures segments { (first format : ℕ) (acts : Acts) (s : Piece)
+        → AreLawful first format (more acts (Came s))
+        → let began = start first format in
         datagrams_after (end_after began acts) s ≡ outputs began acts (Came s) }
-    ensures ticks { (local remote first format : ℕ) (acts : Acts)
-        → AreLawful local remote first format (more acts Tick)
-        → let began = start local remote first format in
+    ensures ticks { (first format : ℕ) (acts : Acts)
+        → AreLawful first format (more acts Tick)
+        → let began = start first format in
         datagrams_of_tick (end_after began acts) ≡ outputs began acts Tick }
 {}
 
@@ -118,10 +118,10 @@ pub fn acts_send_what_is_owed()
 /// calls were unfinished, up to 8. The other end is suspected at the tick that makes them 8
 /// (docs/PROTOCOL.md, "Ticks").
 pub fn ticks_are_counted()
-    ensures count { (local remote first format : ℕ) (acts : Acts) → AreLawful local remote first format acts
-        → let began = start local remote first format in
+    ensures count { (first format : ℕ) (acts : Acts) → AreLawful first format acts
+        → let began = start first format in
         (end_after began acts).ticks ≡ ticks_after began acts }
-    ensures suspicion { (local remote first format : ℕ) (acts : Acts) → AreLawful local remote first format acts
-        → let began = start local remote first format in
+    ensures suspicion { (first format : ℕ) (acts : Acts) → AreLawful first format acts
+        → let began = start first format in
         is_suspect (end_after began acts) ≡ suspects_after began acts }
 {}

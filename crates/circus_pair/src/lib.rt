@@ -33,7 +33,3 @@ pub use two_laws::{
     returns_answer_arrived_calls, two_ends_agree, whole_messages_have_arrived,
 };
 
-#[cfg(test)]
-mod tests;
-#[cfg(test)]
-mod two_tests;

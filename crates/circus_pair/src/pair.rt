@@ -1,6 +1,7 @@
 //! A pair: one end of the paired messages between two nodes.
 ghost use Rattle.std.specs.Prelude.{◌≡◌, ◌⊎◌, not, true, false, IfOk, OnOk, OnErr, Ok, Err};
-ghost use Rattle.circus_segment.specs.Segment.{piece, reading};
+ghost use Rattle.circus_segment.specs.Segment.{reading};
+ghost use Rattle.circus_segment.specs.Seen.Pieces.{piece};
 ghost use Rattle.circus_pair.specs.declared.fault.PairFault.TheVariants.{Spent};
 ghost use Rattle.circus_exchange.specs.declared.exchange.Exchange.{Exchange};
 ghost use Rattle.circus_pair.specs.Acts.{Call, Return, Came, Tick, Stop, Acts, more, end_after};
@@ -43,21 +44,21 @@ impl Pair {
     ghost use Rattle.circus_exchange.specs.Exchange.{IsSendable, start, called, datagrams_of_call, returned, datagrams_of_return, awaits_return, takes, after, datagrams_after, arrived_after, ticked, is_suspect, datagrams_of_tick, stopped};
 
     /// An end before any call, in segment format 1 or 2. It takes no memory.
-    pub fn new(alloc: Global, local: u16, remote: u16, format: u8) -> Pair
+    pub fn new(alloc: Global, format: u8) -> Pair
         requires { (format ≡ 1) ⊎ (format ≡ 2) }
-        ensures { result ≡ start local remote 0 format }
+        ensures { result ≡ start 0 format }
     {
-        Pair::starting_at(alloc, local, remote, 0, format)
+        Pair::starting_at(alloc, 0, format)
     }
 
     /// An end whose first call has a number of its own. It takes no memory.
-    pub fn starting_at(alloc: Global, local: u16, remote: u16, number: u32, format: u8) -> Pair
+    pub fn starting_at(alloc: Global, number: u32, format: u8) -> Pair
         requires { (format ≡ 1) ⊎ (format ≡ 2) }
-        ensures { result ≡ start local remote number format }
+        ensures { result ≡ start number format }
     {
         Pair {
             alloc,
-            exchange: Exchange::new(alloc, local, remote, number, format),
+            exchange: Exchange::new(alloc, number, format),
         }
     }
 

@@ -43,13 +43,13 @@ impl Model for Side {
 
 impl Side {
     /// An end before any call. It takes no memory.
-    pub fn new(alloc: Global, local: u16, remote: u16, format: u8) -> Side
+    pub fn new(alloc: Global, format: u8) -> Side
         requires { (format ≡ 1) ⊎ (format ≡ 2) }
-        ensures exchange { result.exchange ≡ start local remote 0 format }
+        ensures exchange { result.exchange ≡ start 0 format }
         ensures sent { result.sent ≡ [] }
     {
         Side {
-            pair: Pair::new(alloc, local, remote, format),
+            pair: Pair::new(alloc, format),
             next: 0,
             sent: Sent::new(alloc),
         }

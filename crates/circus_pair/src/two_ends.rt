@@ -69,8 +69,8 @@ impl TwoEnds {
         ensures { result ≡ both_after format begun }
     {
         TwoEnds {
-            low: Side::new(alloc, 0, 1, format),
-            high: Side::new(alloc, 1, 0, format),
+            low: Side::new(alloc, format),
+            high: Side::new(alloc, format),
         }
     }
 
@@ -94,7 +94,7 @@ impl TwoEnds {
         ensures lawful { (format : ℕ) (history : History) → (format ≡ 1) ⊎ (format ≡ 2) → AreLawful format history → self.old ≡ both_after format history → OnOk result (AreLawful format (then_came history act)) }
         // Then each message has arrived at most once, and as it was sent, and counts as acknowledged whole only where
         // it has arrived.
-        ensures agree { (format : ℕ) (history : History) → (format ≡ 1) ⊎ (format ≡ 2) → AreLawful format history → self.old ≡ both_after format history → OnOk result (Agree 0 1 format (acts_of false format (then_came history act)) (acts_of true format (then_came history act))) }
+        ensures agree { (format : ℕ) (history : History) → (format ≡ 1) ⊎ (format ≡ 2) → AreLawful format history → self.old ≡ both_after format history → OnOk result (Agree format (acts_of false format (then_came history act)) (acts_of true format (then_came history act))) }
         ensures low_format { self.new.low.exchange.format ≡ self.old.low.exchange.format }
         ensures high_format { self.new.high.exchange.format ≡ self.old.high.exchange.format }
         ensures heard { (format : ℕ) (history : History) → self.old ≡ both_after format history → IfOk result (λ arrived. arrived_at (acting act) format (then_came history act) ≡ arrived_at (acting act) format history ++ noted arrived) }

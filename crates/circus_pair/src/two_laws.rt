@@ -3,18 +3,18 @@ ghost use Rattle.std.specs.Prelude.{◌≡◌, ◌⊎◌, ℕ, Bool, not, true, 
 ghost use Rattle.std.specs.FinMap.{get};
 ghost use Rattle.circus_exchange.specs.declared.progress.Progress.{Progress};
 ghost use Rattle.circus_segment.specs.Segment.{Piece, IsSegment, reading};
-ghost use Rattle.circus_exchange.specs.Exchange.{awaits_return};
+ghost use Rattle.circus_exchange.specs.Exchange.{start, awaits_return};
 ghost use Rattle.circus_pair.specs.Taken.{has_arrived};
 ghost use Rattle.circus_pair.specs.Handed.{return_at};
 ghost use Rattle.circus_pair.specs.Lawful.{AreLawful as IsLawfulEnd};
-ghost use Rattle.circus_pair.specs.TwoEnds.{History, Talk, acts_at_first, acts_at_second, IsTalk, Agree, AreLawful, start_of, acts_of, taken_at, sent_by, arrived_at, end_at, both_after};
+ghost use Rattle.circus_pair.specs.TwoEnds.{History, Talk, acts_at_first, acts_at_second, IsTalk, Agree, AreLawful, acts_of, taken_at, sent_by, arrived_at, end_at, both_after};
 
 /// Whatever is handed over at two ends, however datagrams are lost, repeated and reordered on their way between them, and
 /// whenever one is told that the other is down: a message arrives at most once and as it was handed over, and counts as
 /// acknowledged whole only where it has arrived (docs/PROTOCOL.md, "Segments").
 pub fn two_ends_agree()
-    ensures { (local remote format : ℕ) (talk : Talk) → (format ≡ 1) ⊎ (format ≡ 2) → IsTalk local remote format talk
-        → Agree local remote format (acts_at_first talk) (acts_at_second talk) }
+    ensures { (format : ℕ) (talk : Talk) → (format ≡ 1) ⊎ (format ≡ 2) → IsTalk format talk
+        → Agree format (acts_at_first talk) (acts_at_second talk) }
 {}
 
 /// A message has arrived at an end exactly where all its segments were taken (docs/PROTOCOL.md, "Segments").
@@ -43,9 +43,9 @@ pub fn acknowledged_messages_have_arrived()
 /// What has happened at either of two ends is lawful there, so that the laws of one end hold of it.
 pub fn each_end_is_lawful()
     ensures low { (format : ℕ) (history : History) → (format ≡ 1) ⊎ (format ≡ 2) → AreLawful format history
-        → IsLawfulEnd 0 1 0 format (acts_of false format history) }
+        → IsLawfulEnd 0 format (acts_of false format history) }
     ensures high { (format : ℕ) (history : History) → (format ≡ 1) ⊎ (format ≡ 2) → AreLawful format history
-        → IsLawfulEnd 1 0 0 format (acts_of true format history) }
+        → IsLawfulEnd 0 format (acts_of true format history) }
 {}
 
 /// Each datagram that an end has sent is a segment of its format, and is read as that, so a delivery drops none for
@@ -53,7 +53,7 @@ pub fn each_end_is_lawful()
 pub fn datagrams_are_segments()
     ensures { (format : ℕ) (history : History) (end : Bool) (number : ℕ) (datagram : List ℕ) → (format ≡ 1) ⊎ (format ≡ 2)
         → AreLawful format history
-        → slice_get (sent_by (start_of end format) (acts_of end format history)) number ≡ Some datagram
+        → slice_get (sent_by (start 0 format) (acts_of end format history)) number ≡ Some datagram
         → (s : Piece) × (reading datagram ≡ Ok s) × IsSegment s × (s.format ≡ format) }
 {}
 

@@ -18,8 +18,8 @@ const ACTS: u64 = 6;
 fn main(rt: HostRuntime) -> io::Result<()> {
     let word = env::args(&rt)?.nth(1);
     let calls = word.and_then(|word| word.parse::<u64>().ok()).unwrap_or(0);
-    let mut client = Pair::new(rt.alloc(), 0, 1, 1);
-    let mut server = Pair::new(rt.alloc(), 1, 0, 1);
+    let mut client = Pair::new(rt.alloc(), 1);
+    let mut server = Pair::new(rt.alloc(), 1);
     measure(&rt, calls, &mut client, &mut server)
 }
 

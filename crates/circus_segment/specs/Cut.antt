@@ -1,14 +1,14 @@
 -- How a message is cut into segments.
 use Rattle.std.specs.Prelude.{ℕ, zero, suc, ◌+◌, ◌-◌, ◌*◌, ◌/◌, List, [], ◌∷◌, ◌++◌, length, take, drop}
-use Rattle.circus_segment.specs.Segment.{Piece, spelling}
+use Rattle.circus_segment.specs.Segment.{Piece, part_size, spelling}
 
 -- how many segments a message has
 abbrev pub segment_count : List ℕ → ℕ
-segment_count message = (length message + 1023) / 1024
+segment_count message = (length message + (part_size - 1)) / part_size
 
 -- the data of a segment by its number, which counts from 1
 unfoldable pub part_at : List ℕ → ℕ → List ℕ
-part_at message number = take 1024 (drop (1024 * (number - 1)) message)
+part_at message number = take part_size (drop (part_size * (number - 1)) message)
 
 -- a message on its way: in which format, of which kind, under which call's number, in how many segments
 pub record Outgoing : Type 0 where

@@ -1,3 +1,3 @@
-pub mod Cut
-pub mod Outgoing
 pub mod Segment
+pub mod Cut
+pub mod Seen

@@ -1,7 +1,6 @@
 -- Segments, their bytes, and what bytes are none.
 use Rattle.std.specs.Prelude.{◌≡◌, ℕ, ◌+◌, ◌-◌, ◌^◌, ◌<◌, ◌≤◌, ◌⊎◌, Bool, false, not, ◌&&◌, ◌||◌, List, [], ◌∷◌, ◌++◌, length, drop, slice_index, Option, Some, None, Result, Ok, Err, nat_lt, ◌==◌, if◌then◌else◌}
 use Rattle.std.specs.Int.{w8, w16, w32, from_be_bytes, to_be_bytes}
-use Rattle.circus_segment.specs.declared.segment.Segment.{Segment}
 use Rattle.circus_segment.specs.declared.fault.SegmentFault.{SegmentFault}
 use Rattle.circus_segment.specs.declared.fault.SegmentFault.TheVariants.{Short, TooLong, BadKind, BadNumber, BadPart}
 
@@ -15,9 +14,6 @@ pub record Piece : Type 0 where
   pub call : ℕ
   pub part : List ℕ
 
-abbrev pub piece : Segment → Piece
-piece s = record { format = s.format; kind = s.kind; control = s.control; total = s.total; number = s.number; call = s.call; part = s.part.now }
-
 -- the header of a segment: in format 1 total and number have one byte each, in format 2 two, and the kinds are 2 and 3
 unfoldable pub header : Piece → List ℕ
 header s =
@@ -28,6 +24,10 @@ header s =
 -- the bytes of a segment
 unfoldable pub spelling : Piece → List ℕ
 spelling s = header s ++ s.part
+
+-- how many bytes of data a segment has that is not the last of its message
+abbrev pub part_size : ℕ
+part_size = 1024
 
 -- how many segments a message has at most in a format
 abbrev pub most_segments : ℕ → ℕ
@@ -46,13 +46,13 @@ has_data s = not (is_acknowledgement s || is_probe s)
 
 -- no message has this total, or no segment of it this number
 abbrev pub has_bad_number : Piece → Bool
-has_bad_number s = s.total == 0 || (nat_lt 1025 s.total || (nat_lt s.total s.number || (s.number == 0 && has_data s)))
+has_bad_number s = s.total == 0 || (nat_lt (most_segments 2) s.total || (nat_lt s.total s.number || (s.number == 0 && has_data s)))
 
 -- each segment before the last has 1,024 bytes, the last 1 to 1,024, acknowledgements and probes none
 abbrev pub has_bad_part : Piece → Bool
 has_bad_part s =
     if has_data s
-    then length s.part == 0 || (nat_lt s.number s.total && not (length s.part == 1024))
+    then length s.part == 0 || (nat_lt s.number s.total && not (length s.part == part_size))
     else nat_lt 0 (length s.part)
 
 -- what a segment may say
@@ -63,7 +63,7 @@ pub record IsSegment (s : Piece) : Type 0 where
   pub total : s.total ≤ most_segments s.format
   pub numbered : has_bad_number s ≡ false
   pub call : s.call < 2 ^ 32
-  pub at_most : length s.part ≤ 1024
+  pub at_most : length s.part ≤ part_size
   pub part : has_bad_part s ≡ false
 
 -- byte 0 is a kind of format 2
@@ -91,7 +91,7 @@ fields_of bytes =
 unfoldable pub header_refusal : List ℕ → Option SegmentFault
 header_refusal bytes =
     if nat_lt (length bytes) (header_len bytes) then Some Short
-    else if nat_lt (header_len bytes + 1024) (length bytes) then Some TooLong
+    else if nat_lt (header_len bytes + part_size) (length bytes) then Some TooLong
     else if nat_lt 3 (slice_index bytes 0) || nat_lt 2 (slice_index bytes 1) then Some BadKind
     else None
 
@@ -114,8 +114,3 @@ or_refused (Some fault) s = Err fault
 -- the segment that a datagram is, or why it is none
 abbrev pub reading : List ℕ → Result Piece SegmentFault
 reading bytes = or_refused (refusal bytes) (fields_of bytes)
-
--- the code's answer is this one
-abbrev pub Reads : Result Segment SegmentFault → Result Piece SegmentFault → Type 0
-Reads (Ok s) read = read ≡ Ok (piece s)
-Reads (Err fault) read = read ≡ Err fault

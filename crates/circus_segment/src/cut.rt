@@ -3,7 +3,7 @@ ghost use Rattle.std.specs.Prelude.{◌≡◌, ◌≤◌, ◌++◌, [], ◌∷�
 ghost use Rattle.circus_segment.specs.Segment.{spelling};
 ghost use Rattle.circus_segment.specs.Cut.{segment_count, part_at, segment_of, first_datagrams, whole};
 
-use crate::segment::{DATA, PART, Segment};
+use crate::segment::{DATA, MOST_SEGMENTS, PART, Segment};
 use circus_value::{ListOf, Message, NoMemory};
 use std::alloc::Global;
 
@@ -11,7 +11,7 @@ use std::alloc::Global;
 pub type Datagrams = ListOf<Message>;
 
 /// Bytes of a message at most, in format 2.
-pub const LONGEST: usize = 1_049_600;
+pub const LONGEST: usize = PART * MOST_SEGMENTS as usize;
 
 /// A message on its way.
 #[derive(Clone, Copy, Debug)]
@@ -45,7 +45,7 @@ fn part_at(message: &[u8], number: u16) -> &[u8]
 }
 
 impl Cut<'_> {
-    ghost use Rattle.circus_segment.specs.Outgoing.{outgoing};
+    ghost use Rattle.circus_segment.specs.Seen.Outgoing.{outgoing};
 
     /// The datagram of one segment.
     pub fn datagram(&self, alloc: Global, control: u8, number: u16) -> Result<Message, NoMemory>

@@ -15,6 +15,3 @@ pub use laws::spelled_is_read;
 pub use segment::{
     ACKNOWLEDGEMENT, CALL, DATA, PART, PLEASE_ACKNOWLEDGE, RETURN, Segment, read_segment,
 };
-
-#[cfg(test)]
-mod tests;

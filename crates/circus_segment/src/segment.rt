@@ -1,6 +1,7 @@
 //! Segments: what a datagram says of a message, and its bytes.
 ghost use Rattle.std.specs.Prelude.{◌≡◌, ◌≤◌, ◌++◌, IfOk, OnOk, MatchResult, length, true, false};
-ghost use Rattle.circus_segment.specs.Segment.{Piece, piece, is_second, header_refusal, field_refusal, fields_of, spelling, IsSegment, reading, Reads};
+ghost use Rattle.circus_segment.specs.Segment.{Piece, is_second, header_refusal, field_refusal, fields_of, spelling, IsSegment, reading};
+ghost use Rattle.circus_segment.specs.Seen.Pieces.{piece, Reads};
 
 use crate::SegmentFault;
 use circus_value::{Message, NoMemory};
@@ -26,6 +27,11 @@ pub const PART: usize = 1024;
 
 /// Segments of a message at most, in format 2.
 pub const MOST_SEGMENTS: u16 = 1025;
+
+// Bytes of a header in format 1, and in format 2.
+const FIRST_HEADER: usize = 8;
+
+const SECOND_HEADER: usize = 10;
 
 /// What a datagram says (docs/FORMATS.md, "Segments").
 #[derive(Clone, Copy, Debug)]
@@ -69,7 +75,7 @@ fn fields(bytes: &[u8]) -> Result<Segment<'_>, SegmentFault>
     ensures { MatchResult result (λ s. (header_refusal bytes.now ≡ None) × (piece s ≡ fields_of bytes.now)) (λ fault. header_refusal bytes.now ≡ Some fault) }
 {
     let second = is_second(bytes);
-    let header = if second { 10 } else { 8 };
+    let header = if second { SECOND_HEADER } else { FIRST_HEADER };
     if bytes.len() < header {
         return Err(SegmentFault::Short);
     }
@@ -128,7 +134,7 @@ fn second_fields(bytes: &[u8]) -> Segment<'_>
 }
 
 impl Segment<'_> {
-    ghost use Rattle.circus_segment.specs.Segment.{header, is_acknowledgement, is_probe};
+    ghost use Rattle.circus_segment.specs.Segment.{header, is_acknowledgement, is_probe, has_data};
 
     /// Says how far a message has arrived, and has no data.
     pub fn is_acknowledgement(&self) -> bool
@@ -144,11 +150,18 @@ impl Segment<'_> {
         self.kind == CALL && self.control == PLEASE_ACKNOWLEDGE && self.number == 0
     }
 
+    /// Has bytes of a message.
+    pub fn has_data(&self) -> bool
+        ensures { result ≡ has_data (piece self.now) }
+    {
+        !(self.is_acknowledgement() || self.is_probe())
+    }
+
     // Why the fields are those of no segment.
     fn refusal(&self) -> Option<SegmentFault>
         ensures { result ≡ field_refusal (piece self.now) }
     {
-        let data = !(self.is_acknowledgement() || self.is_probe());
+        let data = self.has_data();
         if self.total == 0
             || self.total > MOST_SEGMENTS
             || self.number > self.total
@@ -174,34 +187,23 @@ impl Segment<'_> {
     pub fn spelled(&self, alloc: Global) -> Result<Message, NoMemory>
         ensures { IfOk result (λ bytes. bytes ≡ spelling (piece self.now)) }
     {
-        let mut bytes = self.header(alloc)?;
-        bytes.append(self.part)?;
-        Ok(bytes)
+        let mut bytes = Vec::with_capacity(alloc, self.part.len().saturating_add(SECOND_HEADER))?;
+        self.add_header(&mut bytes)?;
+        bytes.extend_from_slice(self.part)?;
+        Ok(Message::of(bytes))
     }
 
     #[tactic(auto, unfolding(crate::specs::Segment::header))]
-    fn header(&self, alloc: Global) -> Result<Message, NoMemory>
-        ensures { IfOk result (λ bytes. bytes ≡ header (piece self.now)) }
+    fn add_header(&self, bytes: &mut Vec<u8>) -> Result<(), NoMemory>
+        ensures { OnOk result (bytes.new.items ≡ bytes.old.items ++ header (piece self.now)) }
     {
         let [t, total] = self.total.to_be_bytes();
         let [n, number] = self.number.to_be_bytes();
         let [a, b, c, d] = self.call.to_be_bytes();
         if self.format == 1 {
-            return message_of(alloc, &[self.kind, self.control, total, number, a, b, c, d]);
+            return bytes.extend_from_slice(&[self.kind, self.control, total, number, a, b, c, d]);
         }
         let kind = if self.kind == CALL { 2 } else { 3 };
-        message_of(
-            alloc,
-            &[kind, self.control, t, total, n, number, a, b, c, d],
-        )
+        bytes.extend_from_slice(&[kind, self.control, t, total, n, number, a, b, c, d])
     }
-}
-
-// A message of these bytes.
-fn message_of(alloc: Global, part: &[u8]) -> Result<Message, NoMemory>
-    ensures { IfOk result (λ bytes. bytes ≡ part.now) }
-{
-    let mut bytes = Message::new(alloc);
-    bytes.append(part)?;
-    Ok(bytes)
 }

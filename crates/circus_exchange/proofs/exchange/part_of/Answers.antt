@@ -1,6 +1,6 @@
 use Rattle.std.proofs.Common.{◌≤◌, length, sym, subst, ◌∙◌, arith}
 use Rattle.std.proofs.lemmas.Result.{IfOk-weaker}
-use Rattle.circus_segment.specs.Segment.{piece}
+use Rattle.circus_segment.specs.Seen.Pieces.{piece}
 use Rattle.circus_segment.proofs.Spellings.{part_bounds, part_slice}
 use Rattle.circus_exchange.proofs.exchange.part_of.Goals as goal
 

@@ -6,14 +6,14 @@ use Rattle.circus_pair.proofs.Standing.{stands_after}
 use Rattle.circus_pair.proofs.laws.ends_know_their_acts.Goals as goal
 
 pub returns-clause-format : goal.returns-clause-format
-returns-clause-format c local remote first format acts = format_stays (start local remote first format) acts
+returns-clause-format c first format acts = format_stays (start first format) acts
 
 pub returns-clause-next : goal.returns-clause-next
-returns-clause-next c local remote first format acts lawful = (hands_lawful local remote first format acts lawful).next
+returns-clause-next c first format acts lawful = (hands_lawful first format acts lawful).next
 
 pub returns-clause-down : goal.returns-clause-down
-returns-clause-down c local remote first format acts lawful = (flows_after local remote first format acts lawful).stopped
+returns-clause-down c first format acts lawful = (flows_after first format acts lawful).stopped
 
 pub returns-clause-awaits : goal.returns-clause-awaits
-returns-clause-awaits c local remote first format acts call lawful =
-    awaits_is first acts _ _ call (stands_after local remote first format acts (lawful_acts local remote first format acts lawful)) (hands_lawful local remote first format acts lawful)
+returns-clause-awaits c first format acts call lawful =
+    awaits_is first acts _ _ call (stands_after first format acts (lawful_acts first format acts lawful)) (hands_lawful first format acts lawful)

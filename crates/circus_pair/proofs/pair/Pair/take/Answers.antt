@@ -1,4 +1,4 @@
-use Rattle.circus_segment.specs.Segment.{piece}
+use Rattle.circus_segment.specs.Seen.Pieces.{piece}
 use Rattle.circus_pair.proofs.Lasting.{lasts_after, lasts_either}
 use Rattle.circus_pair.proofs.Freshness.{fresh_after, fresh_either}
 use Rattle.circus_pair.proofs.pair.Pair.take.Goals as goal

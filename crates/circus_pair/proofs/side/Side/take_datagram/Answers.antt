@@ -1,6 +1,6 @@
 use Rattle.std.proofs.Common.{ap, sym, ◌∙◌}
 use Rattle.circus_exchange.specs.declared.exchange.Exchange.{Exchange}
-use Rattle.circus_segment.specs.Segment.{piece}
+use Rattle.circus_segment.specs.Seen.Pieces.{piece}
 use Rattle.circus_pair.proofs.Sides.{next_after}
 use Rattle.circus_pair.proofs.side.Side.take_datagram.Goals as goal
 

@@ -1,4 +1,4 @@
-use Rattle.circus_segment.specs.Outgoing.{outgoing}
+use Rattle.circus_segment.specs.Seen.Outgoing.{outgoing}
 use Rattle.circus_segment.proofs.Cuts.{none_yet, sent_more}
 use Rattle.circus_segment.proofs.cut.Cut.send_whole.Goals as goal
 

@@ -1,6 +1,6 @@
 use Rattle.std.proofs.Common.{◌≡◌, ◌++◌}
 use Rattle.circus_segment.specs.Cut.{first_datagrams}
-use Rattle.circus_segment.specs.Outgoing.{outgoing}
+use Rattle.circus_segment.specs.Seen.Outgoing.{outgoing}
 use Rattle.circus_segment.proofs.cut.Cut.send_whole.Given as goal
 
 abbrev pub invariant-loop-before : goal.invariant-loop-before
