@@ -1,0 +1,2 @@
+pub mod ConditionTree
+pub mod Obeys
