@@ -122,12 +122,7 @@ impl Inbox {
         Ok(Some(self.message(alloc, segment, part)?))
     }
 
-    fn message(
-        &self,
-        alloc: Global,
-        segment: &Segment<'_>,
-        part: &Bytes,
-    ) -> Result<Parts, NoMemory>
+    fn message(&self, alloc: Global, segment: &Segment<'_>, part: &Bytes) -> Result<Parts, NoMemory>
         requires part { part.now ≡ segment.now.part.now }
         requires short { length part.now ≤ part_size }
         requires total { segment.now.total ≤ most_segments 2 }

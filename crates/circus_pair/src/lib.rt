@@ -32,4 +32,3 @@ pub use two_laws::{
     acknowledged_messages_have_arrived, datagrams_are_segments, each_end_is_lawful,
     returns_answer_arrived_calls, two_ends_agree, whole_messages_have_arrived,
 };
-

@@ -8,8 +8,8 @@ ghost use Rattle.circus_program.specs.Names.{names};
 ghost use Rattle.circus_program.specs.Report.{line, rest_text, members_lines, view_line, view_lines};
 ghost use Rattle.circus_program.specs.Replay.{founded, founded_views, member_of, members_of, report_of, refusal_text, cause_text, replayed};
 
-use crate::names::{name_of_node, name_of_troupe};
 use crate::Status;
+use crate::names::{name_of_node, name_of_troupe};
 use crate::report::{append_all_sent, append_member, append_words};
 use circus_value::NoMemory;
 use circus_world::{BootFault, Cause, Line, World, WorldFault};

@@ -13,8 +13,8 @@ mod number;
 mod scan;
 mod token;
 
-pub use laws::{decimal_numbers, one_answer, spaced_tokens, tokens_lie};
 use circus_value::ListOf;
+pub use laws::{decimal_numbers, one_answer, spaced_tokens, tokens_lie};
 pub use lex_fault::LexFault;
 pub use scan::tokens;
 pub use token::{Token, TokenKind};
