@@ -1,9 +1,9 @@
 //! Interfaces, and what reading each of them answers.
-ghost use Rattle.std.specs.Prelude.{◌≤◌, length};
-ghost use Rattle.circus_text.specs.Form.{longest_text};
+ghost use Rattle.std.specs.Prelude.{◌≡◌, IfOk, IfErr, IfSome};
+ghost use Rattle.circus_idl.specs.Obeys.{Obeys};
 
-use circus_idl::{IdlFault, read_interface, show_interface};
-use circus_text::{LONGEST_TEXT, tokens};
+use circus_idl::{IdlFault, Interface, read_interface, show_interface};
+use circus_text::{LONGEST_TEXT, LexFault, tokens};
 use circus_value::{NoMemory, Octets};
 use std::alloc::Global;
 use std::test::Fail;
@@ -206,7 +206,44 @@ const BROKEN_OFF: [Row; 4] = [
     (b"A: ERROR = 60000; C", Some(IdlFault::OutOfRange(42))),
 ];
 
-const READ: [Row; 12] = [
+// A type, and a list of fields, in which reading stops.
+const CUT: [Row; 9] = [
+    (
+        b"P: PROCEDURE [a: ARRAY 32768 OF CARDINAL, b: CARDINAL C",
+        Some(IdlFault::Expected(85)),
+    ),
+    (
+        b"P: PROCEDURE [a: ARRAY 32768 OF CARDINAL, b: CARDINAL] C",
+        Some(IdlFault::TooLarge(31)),
+    ),
+    (
+        b"P: PROCEDURE [a: ARRAY 32769 OF CARDINAL, b: 5",
+        Some(IdlFault::TooLarge(48)),
+    ),
+    (
+        b"P: PROCEDURE [a: ARRAY 32769 OF 5",
+        Some(IdlFault::Expected(63)),
+    ),
+    (
+        b"P: PROCEDURE RETURNS [a: ARRAY 32769 OF CARDINAL C",
+        Some(IdlFault::TooLarge(56)),
+    ),
+    (
+        b"E: ERROR [a: RECORD [b: ARRAY 40000 OF CARDINAL, c 5",
+        Some(IdlFault::Expected(82)),
+    ),
+    (
+        b"A: TYPE = RECORD [a: ARRAY 40000 OF CARDINAL] 5",
+        Some(IdlFault::TooLarge(41)),
+    ),
+    (b"A: TYPE = RECORD [a: B, c 5", Some(IdlFault::Unknown(52))),
+    (
+        b"A: TYPE = RECORD [a, a: CARDINAL, b 5",
+        Some(IdlFault::Repeated(52)),
+    ),
+];
+
+const READ: [Row; 13] = [
     (b"", None),
     (b"A: ERROR = 1; B: PROCEDURE = 1;", None),
     (b"A: ERROR = 59999; B: PROCEDURE = 65535;", None),
@@ -231,6 +268,7 @@ const READ: [Row; 12] = [
         b"A: TYPE = CHOICE OF {x(1) => CARDINAL, y(2) => ARRAY 65535 OF LONG CARDINAL};",
         None,
     ),
+    (b"A: TYPE = SEQUENCE OF ARRAY 32769 OF CARDINAL;", None),
 ];
 
 // Whole texts.
@@ -332,25 +370,48 @@ fn parted(alloc: Global, levels: u8) -> Result<Octets, NoMemory> {
     Ok(declared)
 }
 
-fn shown(alloc: Global, text: &[u8]) -> Result<Octets, Fail>
-    requires { length text.now ≤ longest_text }
+// The one fault that the tokens of a shown text may have.
+fn no_memory(fault: LexFault) -> IdlFault
+    requires { fault ≡ LexFault.NoMemory }
+    ensures { result ≡ IdlFault.NoMemory }
 {
-    let found = tokens(alloc, text)?;
-    let (interface, _) = read_interface(alloc, text, &found, 0)?;
-    Ok(show_interface(alloc, &interface)?)
+    match fault {
+        LexFault::NoMemory => IdlFault::NoMemory,
+        _ => unreachable!(),
+    }
 }
 
-// Whether the shown text of an interface is shown as itself.
+// The interface that the shown text of one reads as, or `None` where the text is too long.
+fn read_back(alloc: Global, interface: &Interface) -> Result<Option<Interface>, IdlFault>
+    requires { Obeys interface.now }
+    ensures same { IfOk result (λ read. IfSome read (λ again. again ≡ interface.now)) }
+    ensures only { IfErr result (λ e. e ≡ IdlFault.NoMemory) }
+{
+    let text = show_interface(alloc, interface)?;
+    if text.len() > LONGEST_TEXT {
+        return Ok(None);
+    }
+    let found = match tokens(alloc, text.as_slice()) {
+        Ok(found) => found,
+        Err(fault) => return Err(no_memory(fault)),
+    };
+    let (again, _) = read_interface(alloc, text.as_slice(), &found, 0)?;
+    Ok(Some(again))
+}
+
+// Whether the interface of a text is shown as it is once its shown text is read.
 fn is_shown_again(alloc: Global, text: &[u8]) -> Result<bool, Fail> {
     if text.len() > LONGEST_TEXT {
         return Ok(false);
     }
-    let once = shown(alloc, text)?;
-    if once.len() > LONGEST_TEXT {
+    let found = tokens(alloc, text)?;
+    let (interface, _) = read_interface(alloc, text, &found, 0)?;
+    let Some(again) = read_back(alloc, &interface)? else {
         return Ok(false);
-    }
-    let again = shown(alloc, once.as_slice())?;
-    Ok(once.as_slice() == again.as_slice())
+    };
+    let once = show_interface(alloc, &interface)?;
+    let twice = show_interface(alloc, &again)?;
+    Ok(once.as_slice() == twice.as_slice())
 }
 
 #[test]
@@ -386,6 +447,12 @@ fn refuses_unexpected_tokens(rt: HostRuntime) -> Result<(), Fail> {
 #[test]
 fn tests_what_is_broken_off(rt: HostRuntime) -> Result<(), Fail> {
     assert!(rt; all_declared_give(rt.alloc(), &BROKEN_OFF)?);
+    Ok(())
+}
+
+#[test]
+fn tests_what_a_stop_leaves_whole(rt: HostRuntime) -> Result<(), Fail> {
+    assert!(rt; all_declared_give(rt.alloc(), &CUT)?);
     Ok(())
 }
 
