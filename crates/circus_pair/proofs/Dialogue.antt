@@ -93,11 +93,11 @@ good_start format known = record {
 
 -- ---- segments of one message
 
-both_true : (a b : Bool) → (a && b) ≡ true → (a ≡ true) × (b ≡ true)
+pub both_true : (a b : Bool) → (a && b) ≡ true → (a ≡ true) × (b ≡ true)
 both_true true b h = (refl, h)
 both_true false b h = absurd cc
 
-not_true : (b : Bool) → not b ≡ true → b ≡ false
+pub not_true : (b : Bool) → not b ≡ true → b ≡ false
 not_true true h = absurd cc
 not_true false h = refl
 
@@ -193,7 +193,7 @@ level false true up h = sym (up refl)
 level false false up h = refl
 
 -- a segment by which nothing arrives
-no_arrival : (s : Piece) (ts : List Piece) → (has_arrived ts s.kind s.call ≡ true → has_arrived (s ∷ ts) s.kind s.call ≡ true) → arrives_by ts s ≡ false → (kind call : ℕ) → has_arrived ts kind call ≡ has_arrived (s ∷ ts) kind call
+pub no_arrival : (s : Piece) (ts : List Piece) → (has_arrived ts s.kind s.call ≡ true → has_arrived (s ∷ ts) s.kind s.call ≡ true) → arrives_by ts s ≡ false → (kind call : ℕ) → has_arrived ts kind call ≡ has_arrived (s ∷ ts) kind call
 no_arrival s ts up none kind call =
     elim (is_of kind call s) as (λ b. is_of kind call s ≡ b → has_arrived ts kind call ≡ has_arrived (s ∷ ts) kind call) [
       | false ↦ λ other. sym (arrived_other s ts kind call other)
@@ -204,7 +204,7 @@ no_arrival s ts up none kind call =
     ] refl
 
 -- a segment by which its message arrives
-counted_more : (s : Piece) (ts : List Piece) (arrived : List Arrival) (message : List ℕ) → has_arrived (s ∷ ts) s.kind s.call ≡ true → has_arrived ts s.kind s.call ≡ false → ((kind call : ℕ) → count_by (is_this kind call) arrived ≡ one_if (has_arrived ts kind call)) → (kind call : ℕ) → count_by (is_this kind call) (arrived ++ (record { kind = s.kind; call = s.call; message = message }) ∷ []) ≡ one_if (has_arrived (s ∷ ts) kind call)
+pub counted_more : (s : Piece) (ts : List Piece) (arrived : List Arrival) (message : List ℕ) → has_arrived (s ∷ ts) s.kind s.call ≡ true → has_arrived ts s.kind s.call ≡ false → ((kind call : ℕ) → count_by (is_this kind call) arrived ≡ one_if (has_arrived ts kind call)) → (kind call : ℕ) → count_by (is_this kind call) (arrived ++ (record { kind = s.kind; call = s.call; message = message }) ∷ []) ≡ one_if (has_arrived (s ∷ ts) kind call)
 counted_more s ts arrived message now before once kind call =
     sum_by_push (λ a. cond (is_this kind call a) 1 0) arrived (record { kind = s.kind; call = s.call; message = message })
     ∙ ap (λ n. n + cond (eqb s.kind kind && eqb s.call call) 1 0) (once kind call)
@@ -222,7 +222,7 @@ counted_more s ts arrived message now before once kind call =
     plus_none : (n : ℕ) → n + 0 ≡ n
     plus_none n = omega arith
 
-noted_is : (s : Piece) (message : List ℕ) → IsSegment s → noted (cond (eqb s.kind 0) (ArrivedCall s.call message) (ArrivedReturn s.call message)) ≡ (record { kind = s.kind; call = s.call; message = message }) ∷ []
+pub noted_is : (s : Piece) (message : List ℕ) → IsSegment s → noted (cond (eqb s.kind 0) (ArrivedCall s.call message) (ArrivedReturn s.call message)) ≡ (record { kind = s.kind; call = s.call; message = message }) ∷ []
 noted_is s message segment = elim (eqb s.kind 0) as (λ b. eqb s.kind 0 ≡ b → noted (cond b (ArrivedCall s.call message) (ArrivedReturn s.call message)) ≡ (record { kind = s.kind; call = s.call; message = message }) ∷ []) [
   | true ↦ λ call. ap (λ (k : ℕ). let a : List Arrival = record { kind = k; call = s.call; message = message } ∷ [] in a) (sym (eqb-true s.kind 0 call))
   | false ↦ λ return_. (let le : s.kind ≤ 1 = segment.kind in let ne : s.kind ≡ 0 → ⊥ = eqb-false s.kind 0 return_ in let one : 1 ≡ s.kind = omega arith in ap (λ (k : ℕ). let a : List Arrival = record { kind = k; call = s.call; message = message } ∷ [] in a) one)
@@ -258,7 +258,7 @@ hears_taken format ts arrived acts ots e s stands h up said hears =
       })
     ] refl
 
-dropped : (e : Exchange) (s : Piece) → takes e s ≡ false → arrived_after e s ≡ Nothing
+pub dropped : (e : Exchange) (s : Piece) → takes e s ≡ false → arrived_after e s ≡ Nothing
 dropped e s h = ap (λ b. cond (b && not (is_acknowledgement s)) (arrived_of_taken e s) Nothing) h
 
 hears_came : (format : ℕ) (ts : List Piece) (arrived : List Arrival) (acts : Acts) (ots : List Piece) (e : Exchange) (s : Piece) → Stands ts e → (has_arrived ts s.kind s.call ≡ true → has_arrived (cond (takes e s) (s ∷ ts) ts) s.kind s.call ≡ true) → IsSaid 0 format acts ots s → Hears format ts arrived acts ots → Hears format (cond (takes e s) (s ∷ ts) ts) (arrived ++ noted (arrived_after e s)) acts ots

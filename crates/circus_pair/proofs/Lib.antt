@@ -4,12 +4,14 @@ pub mod Counting
 pub mod Dialogue
 pub mod Each
 pub mod Flowing
+pub mod Following
 pub mod Freshness
 pub mod Growing
 pub mod Handing
 pub mod Joins
 pub mod Keeping
 pub mod Lasting
+pub mod OneEnd
 pub mod Orders
 pub mod Outputs
 pub mod Sayings

@@ -3,6 +3,7 @@ pub mod Fresh
 pub mod Handed
 pub mod Lawful
 pub mod Sending
+pub mod Standing
 pub mod Taken
 pub mod Ticking
 pub mod TwoEnds

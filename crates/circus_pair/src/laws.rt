@@ -1,16 +1,19 @@
 //! What holds of an end after every list of acts.
-ghost use Rattle.std.specs.Prelude.{◌≡◌, ℕ, ◌+◌, ◌≤◌, true, false, not, ◌&&◌, List, is_some};
+ghost use Rattle.std.specs.Prelude.{◌≡◌, ℕ, ◌+◌, ◌≤◌, true, false, not, ◌&&◌, ◌==◌, List, [], Some, is_some, count_by, if◌then◌else◌};
+ghost use Rattle.circus_exchange.specs.declared.taken.Arrived.TheVariants.{ArrivedCall};
 ghost use Rattle.circus_segment.specs.Segment.{Piece, IsSegment, is_acknowledgement, reading, spelling};
 ghost use Rattle.circus_exchange.specs.Exchange.{start, awaits_return, takes, arrived_after, datagrams_of_call, datagrams_of_return, datagrams_after, datagrams_of_tick, is_suspect};
-ghost use Rattle.circus_pair.specs.Handed.{made, return_at, is_taken, sent_below};
+ghost use Rattle.circus_pair.specs.Handed.{made, call_at, return_at, is_taken, sent_below};
 ghost use Rattle.circus_segment.specs.Cut.{segment_count, part_at};
 ghost use Rattle.circus_exchange.specs.Inbox.{acknowledgement, joined};
 ghost use Rattle.circus_pair.specs.Taken.{total_in, has_arrived, message_in, AreTaken, AreOf};
-ghost use Rattle.circus_pair.specs.Acts.{Acts, more, Call, Return, Came, Tick, AreActs, end_after, taken_by, arrival_by, acknowledged_by};
+ghost use Rattle.circus_pair.specs.Acts.{Act, Acts, more, Call, Return, Came, Tick, AreActs, end_after, taken_by, arrival_by, acknowledged_by};
 ghost use Rattle.circus_pair.specs.Lawful.{is_stopped_after, AreLawful};
-ghost use Rattle.circus_pair.specs.Window.{count_below, call_is_whole};
-ghost use Rattle.circus_pair.specs.Sending.{is_sent, outputs};
+ghost use Rattle.circus_pair.specs.Window.{is_open, count_below, call_is_whole};
+ghost use Rattle.circus_pair.specs.Sending.{is_sent, let_go_by, outputs};
 ghost use Rattle.circus_pair.specs.Ticking.{ticks_after, suspects_after};
+ghost use Rattle.circus_pair.specs.TwoEnds.{arrived_in};
+ghost use Rattle.circus_exchange.specs.Limits.{window};
 
 /// What arrives by a segment that is taken is what the segments taken until then say: nothing, unless it is the
 /// last that its message lacked; then the joined data, number by number, of the first segments taken.
@@ -124,4 +127,58 @@ pub fn ticks_are_counted()
     ensures suspicion { (first format : ℕ) (acts : Acts) → AreLawful first format acts
         → let began = start first format in
         is_suspect (end_after began acts) ≡ suspects_after began acts }
+{}
+
+/// What is there stays as acts are added: that a message has arrived and which total it has, the messages that were
+/// handed over, and that a call was sent.
+pub fn what_is_there_stays()
+    ensures arrived { (first format : ℕ) (acts : Acts) (act : Act) (kind call : ℕ)
+        → AreLawful first format (more acts act)
+        → let began = start first format in
+        has_arrived (taken_by began acts) kind call ≡ true
+        → has_arrived (taken_by began (more acts act)) kind call ≡ true }
+    ensures totals { (first format : ℕ) (acts : Acts) (act : Act) (kind call total : ℕ)
+        → AreLawful first format (more acts act)
+        → let began = start first format in
+        total_in (taken_by began acts) kind call ≡ Some total
+        → total_in (taken_by began (more acts act)) kind call ≡ Some total }
+    ensures calls { (first format : ℕ) (acts : Acts) (act : Act) (call : ℕ) (message : List ℕ)
+        → AreLawful first format (more acts act)
+        → call_at first acts call ≡ Some message → call_at first (more acts act) call ≡ Some message }
+    ensures returns { (first format : ℕ) (acts : Acts) (act : Act) (call : ℕ) (message : List ℕ)
+        → AreLawful first format (more acts act)
+        → return_at acts call ≡ Some message → return_at (more acts act) call ≡ Some message }
+    ensures sent { (first format : ℕ) (acts : Acts) (act : Act) (call : ℕ)
+        → let began = start first format in
+        is_sent began acts call ≡ true → is_sent began (more acts act) call ≡ true }
+{}
+
+/// A message of each kind and number arrives at most once at an end, whatever comes: once where all its segments were
+/// taken. The segments that are taken are such as `sent_messages_arrive` speaks of, and a call that arrives awaits its
+/// return.
+pub fn messages_arrive_once()
+    ensures once { (first format : ℕ) (acts : Acts) → AreLawful first format acts
+        → let began = start first format in
+        (kind call : ℕ) → count_by (λ a. (a.kind == kind) && (a.call == call)) (arrived_in began acts)
+        ≡ (if has_arrived (taken_by began acts) kind call then 1 else 0) }
+    ensures taken { (first format : ℕ) (acts : Acts) → AreLawful first format acts
+        → AreTaken (taken_by (start first format) acts) }
+    ensures awaited { (first format : ℕ) (acts : Acts) (s : Piece) (call : ℕ) (message : List ℕ)
+        → AreLawful first format (more acts (Came s))
+        → let began = start first format in
+        arrived_after (end_after began acts) s ≡ ArrivedCall call message
+        → awaits_return (end_after began (more acts (Came s))) call ≡ true }
+{}
+
+/// An act that sends a call is the only one that does, and a call that is not sent, while the other end was not declared
+/// down, has 64 calls of smaller numbers before it that are not acknowledged whole (docs/PROTOCOL.md, "The window").
+pub fn calls_are_sent_once()
+    ensures once { (first format : ℕ) (acts : Acts) (act : Act) (call : ℕ)
+        → let began = start first format in
+        is_sent began acts call ≡ true → let_go_by began acts act call ≡ [] }
+    ensures waits { (first format : ℕ) (acts : Acts) (call : ℕ)
+        → is_some (call_at first acts call) ≡ true → is_stopped_after acts ≡ false
+        → let began = start first format in
+        is_sent began acts call ≡ false
+        → window ≤ count_below (is_open first acts (taken_by began acts)) call }
 {}

@@ -1,14 +1,20 @@
 //! A pair: one end of the paired messages between two nodes.
-ghost use Rattle.std.specs.Prelude.{◌≡◌, ◌⊎◌, not, true, false, IfOk, OnOk, OnErr, Ok, Err};
+ghost use Rattle.std.specs.Prelude.{◌≡◌, ◌⊎◌, ℕ, ◌+◌, ◌<◌, not, ◌&&◌, is_some, true, false, IfOk, OnOk, OnErr, Ok, Err};
 ghost use Rattle.circus_segment.specs.Segment.{reading};
 ghost use Rattle.circus_segment.specs.Seen.Pieces.{piece};
 ghost use Rattle.circus_pair.specs.declared.fault.PairFault.TheVariants.{Spent};
-ghost use Rattle.circus_exchange.specs.declared.exchange.Exchange.{Exchange};
-ghost use Rattle.circus_pair.specs.Acts.{Call, Return, Came, Tick, Stop, Acts, more, end_after};
+ghost use Rattle.circus_segment.specs.Segment.{IsSegment};
+ghost use Rattle.circus_exchange.specs.Limits.{never_used};
+ghost use Rattle.circus_pair.specs.Acts.{Call, Return, Came, Tick, Stop, Acts, none_yet, more, taken_by};
+ghost use Rattle.circus_pair.specs.Handed.{made, return_at};
+ghost use Rattle.circus_pair.specs.Taken.{has_arrived};
+ghost use Rattle.circus_pair.specs.Sending.{outputs, takes_after};
+ghost use Rattle.circus_pair.specs.Ticking.{suspects_after};
+ghost use Rattle.circus_pair.specs.Standing.{StandsFor, arrival_after};
 
 use crate::fault::PairFault;
 use bytes::Bytes;
-use circus_exchange::{Exchange, Taken, Ticked};
+use circus_exchange::{Exchange, NEVER_USED, Taken, Ticked};
 use circus_segment::{Datagrams, Segment};
 use circus_value::{Message, NoMemory};
 use std::alloc::Global;
@@ -18,7 +24,7 @@ use std::marker::Model;
 /// sent and not acknowledged, what has come and is not whole, and how long the other end has been silent.
 ///
 /// Clauses see what the end knows; `specs/Exchange.antt` says what each call does to it. Where a pair stands for
-/// a list of acts (`specs/Acts.antt`), each call adds its act: `stands` says so.
+/// a lawful list of acts (`specs/Standing.antt`), each call adds its act, and what it answers is what is owed.
 #[derive(Drop)]
 pub struct Pair {
     alloc: Global,
@@ -46,7 +52,8 @@ impl Pair {
     /// An end before any call, in segment format 1 or 2. It takes no memory.
     pub fn new(alloc: Global, format: u8) -> Pair
         requires { (format ≡ 1) ⊎ (format ≡ 2) }
-        ensures { result ≡ start 0 format }
+        ensures value { result ≡ start 0 format }
+        ensures stands { StandsFor result 0 format none_yet }
     {
         Pair::starting_at(alloc, 0, format)
     }
@@ -54,7 +61,8 @@ impl Pair {
     /// An end whose first call has a number of its own. It takes no memory.
     pub fn starting_at(alloc: Global, number: u32, format: u8) -> Pair
         requires { (format ≡ 1) ⊎ (format ≡ 2) }
-        ensures { result ≡ start number format }
+        ensures value { result ≡ start number format }
+        ensures stands { StandsFor result number format none_yet }
     {
         Pair {
             alloc,
@@ -68,20 +76,40 @@ impl Pair {
     pub fn send_call(&mut self, message: Message) -> Result<(u32, Datagrams), PairFault>
         requires sendable { IsSendable self.old.format message }
         requires up { self.old.stopped ≡ false }
+        ensures stands { (first format : ℕ) (acts : Acts) → StandsFor self.old first format acts → OnOk result (StandsFor self.new first format (more acts (Call message))) }
+        ensures numbered { (first format : ℕ) (acts : Acts) → StandsFor self.old first format acts → IfOk result (λ sent. sent.0 ≡ first + made acts) }
+        ensures owed { (first format : ℕ) (acts : Acts) → StandsFor self.old first format acts → IfOk result (λ sent. sent.1 ≡ outputs (start first format) acts (Call message)) }
+
+        // By what the end knows.
         ensures number { IfOk result (λ sent. sent.0 ≡ self.old.next) }
         ensures datagrams { IfOk result (λ sent. sent.1 ≡ datagrams_of_call self.old message) }
         ensures state { OnOk result (self.new ≡ called self.old message) }
-        ensures stands { (first : Exchange) (acts : Acts) → self.old ≡ end_after first acts → OnOk result (self.new ≡ end_after first (more acts (Call message))) }
         ensures err { OnErr result (self.new ≡ self.old) }
         ensures format { self.new.format ≡ self.old.format }
         ensures down { self.new.stopped ≡ self.old.stopped }
 
         // Where no number is left, and only there.
-        ensures spent { self.old.next ≡ 4294967295 → result ≡ Err Spent }
-        ensures spent_only { result ≡ Err Spent → self.old.next ≡ 4294967295 }
+        ensures spent { self.old.next ≡ never_used → result ≡ Err Spent }
+        ensures spent_only { result ≡ Err Spent → self.old.next ≡ never_used }
+    {
+        self.hand_call(message)
+    }
+
+    fn hand_call(&mut self, message: Message) -> Result<(u32, Datagrams), PairFault>
+        requires sendable { IsSendable self.old.format message }
+        requires up { self.old.stopped ≡ false }
+        ensures left { OnOk result (self.old.next < never_used) }
+        ensures number { IfOk result (λ sent. sent.0 ≡ self.old.next) }
+        ensures datagrams { IfOk result (λ sent. sent.1 ≡ datagrams_of_call self.old message) }
+        ensures state { OnOk result (self.new ≡ called self.old message) }
+        ensures err { OnErr result (self.new ≡ self.old) }
+        ensures format { self.new.format ≡ self.old.format }
+        ensures down { self.new.stopped ≡ self.old.stopped }
+        ensures spent { self.old.next ≡ never_used → result ≡ Err Spent }
+        ensures spent_only { result ≡ Err Spent → self.old.next ≡ never_used }
     {
         let number = self.exchange.next;
-        if number == u32::MAX {
+        if number == NEVER_USED {
             return Err(PairFault::Spent);
         }
         match self.exchange.send_call(self.alloc, message) {
@@ -97,7 +125,8 @@ impl Pair {
         requires awaited { awaits_return self.old call ≡ true }
         ensures datagrams { IfOk result (λ datagrams. datagrams ≡ datagrams_of_return self.old call message) }
         ensures state { OnOk result (self.new ≡ returned self.old call message) }
-        ensures stands { (first : Exchange) (acts : Acts) → self.old ≡ end_after first acts → OnOk result (self.new ≡ end_after first (more acts (Return call message))) }
+        ensures stands { (first format : ℕ) (acts : Acts) → StandsFor self.old first format acts → OnOk result (StandsFor self.new first format (more acts (Return call message))) }
+        ensures owed { (first format : ℕ) (acts : Acts) → StandsFor self.old first format acts → IfOk result (λ datagrams. datagrams ≡ outputs (start first format) acts (Return call message)) }
         ensures err { OnErr result (self.new ≡ self.old) }
         ensures format { self.new.format ≡ self.old.format }
         ensures down { self.new.stopped ≡ self.old.stopped }
@@ -113,7 +142,10 @@ impl Pair {
         ensures arrived { IfOk result (λ taken. taken.arrived ≡ arrived_after self.old (piece segment.now)) }
         ensures dropped { IfOk result (λ taken. taken.dropped ≡ not (takes self.old (piece segment.now))) }
         ensures state { OnOk result (self.new ≡ after self.old (piece segment.now)) }
-        ensures stands { (first : Exchange) (acts : Acts) → self.old ≡ end_after first acts → OnOk result (self.new ≡ end_after first (more acts (Came (piece segment.now)))) }
+        ensures stands { (first format : ℕ) (acts : Acts) → StandsFor self.old first format acts → IsSegment (piece segment.now) → OnOk result (StandsFor self.new first format (more acts (Came (piece segment.now)))) }
+        ensures owed { (first format : ℕ) (acts : Acts) → StandsFor self.old first format acts → IsSegment (piece segment.now) → IfOk result (λ taken. taken.datagrams ≡ outputs (start first format) acts (Came (piece segment.now))) }
+        ensures heard { (first format : ℕ) (acts : Acts) → StandsFor self.old first format acts → IsSegment (piece segment.now) → IfOk result (λ taken. taken.arrived ≡ arrival_after (start first format) acts (piece segment.now)) }
+        ensures drops { (first format : ℕ) (acts : Acts) → StandsFor self.old first format acts → IsSegment (piece segment.now) → IfOk result (λ taken. taken.dropped ≡ not (takes_after (start first format) acts (piece segment.now))) }
         ensures err { OnErr result (self.new ≡ self.old) }
         ensures format { self.new.format ≡ self.old.format }
         ensures down { self.new.stopped ≡ self.old.stopped }
@@ -128,7 +160,9 @@ impl Pair {
         ensures datagrams { IfOk result (λ tick. tick.datagrams ≡ datagrams_of_tick self.old) }
         ensures suspect { IfOk result (λ tick. tick.suspect ≡ is_suspect self.old) }
         ensures state { OnOk result (self.new ≡ ticked self.old) }
-        ensures stands { (first : Exchange) (acts : Acts) → self.old ≡ end_after first acts → OnOk result (self.new ≡ end_after first (more acts Tick)) }
+        ensures stands { (first format : ℕ) (acts : Acts) → StandsFor self.old first format acts → OnOk result (StandsFor self.new first format (more acts Tick)) }
+        ensures owed { (first format : ℕ) (acts : Acts) → StandsFor self.old first format acts → IfOk result (λ tick. tick.datagrams ≡ outputs (start first format) acts Tick) }
+        ensures suspects { (first format : ℕ) (acts : Acts) → StandsFor self.old first format acts → IfOk result (λ tick. tick.suspect ≡ suspects_after (start first format) acts) }
         ensures err { OnErr result (self.new ≡ self.old) }
         ensures format { self.new.format ≡ self.old.format }
         ensures down { self.new.stopped ≡ self.old.stopped }
@@ -139,15 +173,24 @@ impl Pair {
     /// The other end was declared down: nothing is acknowledged any more, and no call that waits is sent.
     pub fn stop(&mut self)
         ensures state { self.new ≡ stopped self.old }
-        ensures stands { (first : Exchange) (acts : Acts) → self.old ≡ end_after first acts → self.new ≡ end_after first (more acts Stop) }
+        ensures stands { (first format : ℕ) (acts : Acts) → StandsFor self.old first format acts → StandsFor self.new first format (more acts Stop) }
         ensures format { self.new.format ≡ self.old.format }
     {
         self.exchange.stop();
     }
 
+    /// The number of the next call; where it is 4,294,967,295, which is never used, no call can be handed over any more.
+    pub fn next_number(&self) -> u32
+        ensures value { result ≡ self.now.next }
+        ensures counted { (first format : ℕ) (acts : Acts) → StandsFor self.now first format acts → result ≡ first + made acts }
+    {
+        self.exchange.next
+    }
+
     /// Whether a call has arrived whole and has had no return.
     pub fn awaits_return(&self, call: u32) -> bool
-        ensures { result ≡ awaits_return self.now call }
+        ensures value { result ≡ awaits_return self.now call }
+        ensures owed { (first format : ℕ) (acts : Acts) → StandsFor self.now first format acts → result ≡ (has_arrived (taken_by (start first format) acts) 0 call && not (is_some (return_at acts call))) }
     {
         self.exchange.awaits_return(call)
     }
