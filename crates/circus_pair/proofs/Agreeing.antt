@@ -23,7 +23,8 @@ use Rattle.circus_pair.proofs.Handing.{told_out, awaits_is}
 use Rattle.circus_segment.proofs.Spellings.{read_again}
 use Rattle.circus_pair.proofs.Growing.{count_le}
 use Rattle.circus_pair.proofs.Each.{Each, each_at}
-use Rattle.circus_pair.proofs.Sayings.{IsSaid, Tells, count_bounds}
+use Rattle.circus_pair.proofs.Sayings.{Tells, count_bounds}
+use Rattle.circus_pair.specs.Saying.{IsSaid}
 use Rattle.circus_pair.proofs.Speaking.{Fine}
 use Rattle.circus_pair.proofs.Dialogue.{keeping, are_of, found, Sound, turned, sound_act, sound_start}
 
@@ -279,10 +280,6 @@ return_kept format history true call p known lawful = return_kept_of format _ _ 
 
 awaits_of : (format : ℕ) (here there : Acts) → Sound format here there → (call : ℕ) → awaits_return (end_after (start 0 format) here) call ≡ (has_arrived (taken_by (start 0 format) here) 0 call && not (is_some (return_at here call)))
 awaits_of format here there sound call = (let k = keeping format here sound.good_here in awaits_is 0 here _ _ call k.stands k.hands)
-
-pub awaited : (format : ℕ) (history : History) (end : Bool) (call : ℕ) → (format ≡ 1) ⊎ (format ≡ 2) → AreLawful format history → awaits_return (end_at (both_after format history) end).exchange call ≡ (has_arrived (taken_at end format history) 0 call && not (is_some (return_at (acts_of end format history) call)))
-awaited format history false call known lawful = awaits_of format _ _ (sound_after format history known lawful) call
-awaited format history true call known lawful = awaits_of format _ _ (turned_after format history known lawful) call
 
 -- ---- an act that happens might come
 

@@ -21,7 +21,8 @@ use Rattle.circus_pair.proofs.Growing.{Grows, grows_act, arrived_grows}
 use Rattle.circus_pair.proofs.Keeping.{lawful_acts, hands_lawful, kept_after}
 use Rattle.circus_pair.proofs.Flowing.{flows_after}
 use Rattle.circus_pair.proofs.Each.{Each, each_append, each_map}
-use Rattle.circus_pair.proofs.Sayings.{IsSaid, IsOfSome, Tells, said_later, tells_later}
+use Rattle.circus_pair.specs.Saying.{IsSaid, IsOfSome}
+use Rattle.circus_pair.proofs.Sayings.{Tells, said_later, tells_later}
 use Rattle.circus_pair.proofs.Speaking.{Fine, Keeping, MayDo, is_first, fine_act, says_act}
 
 -- ---- one end

@@ -19,4 +19,5 @@ pub mod Sides
 pub mod Speaking
 pub mod Standing
 pub mod Ticks
+pub mod Told
 pub mod TwoSteps

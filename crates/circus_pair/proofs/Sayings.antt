@@ -2,27 +2,16 @@
 use Rattle.std.proofs.Common.{◌≡◌, ℕ, zero, suc, ◌+◌, ◌-◌, ◌*◌, ◌/◌, ◌^◌, ◌<◌, ◌≤◌, ◌⊎◌, Bool, true, false, cond, not, ◌&&◌, ◌||◌, eqb, ltb, List, length, Option, None, Some, refl, sym, ap, subst, ◌∙◌, arith, length-take, length-drop}
 use Rattle.std.specs.Prelude.{min}
 use Rattle.std.proofs.lemmas.Bool.{ne_eqb}
-use Rattle.circus_segment.specs.Segment.{Piece, IsSegment, most_segments, is_acknowledgement, spelling}
+use Rattle.circus_segment.specs.Segment.{Piece, most_segments, spelling}
 use Rattle.circus_segment.specs.Cut.{segment_count, part_at, segment_of, first_datagrams, whole}
 use Rattle.circus_exchange.specs.Exchange.{IsSendable}
-use Rattle.circus_pair.specs.Taken.{total_in, count_in, has_arrived, IsOf}
+use Rattle.circus_pair.specs.Taken.{count_in, has_arrived}
 use Rattle.circus_pair.specs.Acts.{Acts}
 use Rattle.circus_exchange.specs.Outbox.{probe}
 use Rattle.circus_pair.specs.TwoEnds.{handed_over}
+use Rattle.circus_pair.specs.Saying.{IsOfSome, IsSaid}
 use Rattle.circus_pair.proofs.Each.{Each, each_append}
 use Rattle.circus_pair.proofs.Growing.{Grows, arrived_grows}
-
-abbrev pub IsOfSome : Option (List ℕ) → Piece → Type 0
-IsOfSome None p = ⊥
-IsOfSome (Some m) p = IsOf m p
-
--- what an end may say: how much it has taken of a message, or what a message says that was handed over to it
-pub record IsSaid (first format : ℕ) (acts : Acts) (ts : List Piece) (p : Piece) : Type 0 where
-  pub segment : IsSegment p
-  pub format_is : p.format ≡ format
-  pub acknowledges : is_acknowledgement p ≡ true → (total_in ts p.kind p.call ≡ Some p.total) × (p.number ≤ count_in ts p.kind p.call p.total)
-  pub speaks : is_acknowledgement p ≡ false → IsOfSome (handed_over first acts p.kind p.call) p
-  pub answers : is_acknowledgement p ≡ false → p.kind ≡ 1 → has_arrived ts 0 p.call ≡ true
 
 -- a datagram that says so
 pub record Tells (first format : ℕ) (acts : Acts) (ts : List Piece) (bytes : List ℕ) : Type 0 where

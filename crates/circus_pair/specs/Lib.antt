@@ -2,6 +2,7 @@ pub mod Acts
 pub mod Fresh
 pub mod Handed
 pub mod Lawful
+pub mod Saying
 pub mod Sending
 pub mod Standing
 pub mod Taken

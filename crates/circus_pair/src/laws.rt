@@ -1,5 +1,5 @@
 //! What holds of an end after every list of acts.
-ghost use Rattle.std.specs.Prelude.{◌≡◌, ℕ, ◌+◌, ◌≤◌, true, false, not, ◌&&◌, ◌==◌, List, [], Some, is_some, count_by, if◌then◌else◌};
+ghost use Rattle.std.specs.Prelude.{◌≡◌, ◌⊎◌, ℕ, ◌+◌, ◌≤◌, true, false, not, ◌&&◌, ◌==◌, List, [], Some, Ok, is_some, count_by, slice_get, if◌then◌else◌};
 ghost use Rattle.circus_exchange.specs.declared.taken.Arrived.TheVariants.{ArrivedCall};
 ghost use Rattle.circus_segment.specs.Segment.{Piece, IsSegment, is_acknowledgement, reading, spelling};
 ghost use Rattle.circus_exchange.specs.Exchange.{start, awaits_return, takes, arrived_after, datagrams_of_call, datagrams_of_return, datagrams_after, datagrams_of_tick, is_suspect};
@@ -12,7 +12,8 @@ ghost use Rattle.circus_pair.specs.Lawful.{is_stopped_after, AreLawful};
 ghost use Rattle.circus_pair.specs.Window.{is_open, count_below, call_is_whole};
 ghost use Rattle.circus_pair.specs.Sending.{is_sent, let_go_by, outputs};
 ghost use Rattle.circus_pair.specs.Ticking.{ticks_after, suspects_after};
-ghost use Rattle.circus_pair.specs.TwoEnds.{arrived_in};
+ghost use Rattle.circus_pair.specs.TwoEnds.{arrived_in, datagrams_by};
+ghost use Rattle.circus_pair.specs.Saying.{IsSaid};
 ghost use Rattle.circus_exchange.specs.Limits.{window};
 
 /// What arrives by a segment that is taken is what the segments taken until then say: nothing, unless it is the
@@ -181,4 +182,16 @@ pub fn calls_are_sent_once()
         → let began = start first format in
         is_sent began acts call ≡ false
         → window ≤ count_below (is_open first acts (taken_by began acts)) call }
+{}
+
+/// Each datagram that an act sends is read as a segment of the format: an acknowledgement of no more segments than were
+/// taken of that message from the first on, with its total; or a segment that has its total, place and bytes in a message
+/// that was handed over, a return to a call that has arrived; a probe has no bytes (docs/PROTOCOL.md, "Segments").
+/// Which acts send which of them is said by `acts_send_what_is_owed`.
+pub fn datagrams_say_what_is_known()
+    ensures { (first format : ℕ) (acts : Acts) (act : Act) (number : ℕ) (datagram : List ℕ)
+        → (format ≡ 1) ⊎ (format ≡ 2) → AreLawful first format (more acts act)
+        → let began = start first format in
+        slice_get (datagrams_by (end_after began acts) act) number ≡ Some datagram
+        → (s : Piece) × (reading datagram ≡ Ok s) × IsSaid first format (more acts act) (taken_by began (more acts act)) s }
 {}

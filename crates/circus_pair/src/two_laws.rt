@@ -1,11 +1,10 @@
 //! What holds of two ends after every lawful list of acts, in which datagrams are lost, repeated and reordered.
-ghost use Rattle.std.specs.Prelude.{◌≡◌, ◌⊎◌, ℕ, Bool, not, true, false, List, Some, Ok, is_some, ◌&&◌, ◌==◌, if◌then◌else◌, count_by, slice_get};
+ghost use Rattle.std.specs.Prelude.{◌≡◌, ◌⊎◌, ℕ, Bool, not, true, false, List, Some, Ok, ◌&&◌, ◌==◌, if◌then◌else◌, count_by, slice_get};
 ghost use Rattle.std.specs.FinMap.{get};
 ghost use Rattle.circus_exchange.specs.declared.progress.Progress.{Progress};
 ghost use Rattle.circus_segment.specs.Segment.{Piece, IsSegment, reading};
-ghost use Rattle.circus_exchange.specs.Exchange.{start, awaits_return};
+ghost use Rattle.circus_exchange.specs.Exchange.{start};
 ghost use Rattle.circus_pair.specs.Taken.{has_arrived};
-ghost use Rattle.circus_pair.specs.Handed.{return_at};
 ghost use Rattle.circus_pair.specs.Lawful.{AreLawful as IsLawfulEnd};
 ghost use Rattle.circus_pair.specs.TwoEnds.{History, Talk, acts_at_first, acts_at_second, IsTalk, Agree, AreLawful, acts_of, taken_at, sent_by, arrived_at, end_at, both_after};
 
@@ -55,13 +54,4 @@ pub fn datagrams_are_segments()
         → AreLawful format history
         → slice_get (sent_by (start 0 format) (acts_of end format history)) number ≡ Some datagram
         → (s : Piece) × (reading datagram ≡ Ok s) × IsSegment s × (s.format ≡ format) }
-{}
-
-/// A call waits for its return at an end exactly where it has arrived whole there and no return to it was handed
-/// over (docs/PROTOCOL.md, "Returns").
-pub fn returns_answer_arrived_calls()
-    ensures { (format : ℕ) (history : History) (end : Bool) (call : ℕ) → (format ≡ 1) ⊎ (format ≡ 2)
-        → AreLawful format history
-        → awaits_return (end_at (both_after format history) end).exchange call
-        ≡ (has_arrived (taken_at end format history) 0 call && not (is_some (return_at (acts_of end format history) call))) }
 {}
