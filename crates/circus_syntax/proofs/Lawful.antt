@@ -176,18 +176,18 @@ sound_stopped cause fill spell Good filled = record {
       };
 }
 
-without_level : (ds : List Due) → StandsDeeper 0 ds [] → AreWithin 0 ds → ⊥
+pub without_level : (ds : List Due) → StandsDeeper 0 ds [] → AreWithin 0 ds → ⊥
 without_level [] deep within = deep
 without_level (d ∷ ds) deep within = omega (arith, deep, within.0)
 
 -- no level is left
 pub lawful_too_deep : {A : Type 0} (test : Placed → Bool) (fill : ℕ → A) {q : Reader → A × Reader} {spell : A → List Due} {Good : A → Type 0} {Stays : Option Placed → Type 0}
-    → Sound (stopped TooDeep fill) spell Good → Sound q spell Good → Shrinks test q → Deep spell → LawfulAt test 0 (stopped TooDeep fill) q spell Good Stays
-lawful_too_deep test fill {spell = spell} S S' shrinks deep = record {
+    → Sound (stopped TooDeep fill) spell Good → Sound q spell Good → Shrinks test q → Deep q spell → ((a : A) → Good a → StandsDeeper 0 (spell a) []) → LawfulAt test 0 (stopped TooDeep fill) q spell Good Stays
+lawful_too_deep test fill {spell = spell} S S' shrinks answers deep = record {
   narrow = S;
   wide = S';
-  complete = record { reads = λ a ts rest e good d stays. absurd (without_level (spell a) (deep a) good.1) };
-  levels = levels_too_deep test fill S (calm_of S') shrinks deep;
+  complete = record { reads = λ a ts rest e good d stays. absurd (without_level (spell a) (deep a good.0) good.1) };
+  levels = levels_too_deep test fill S (calm_of S') shrinks answers;
 }
 
 -- The next token decides.
@@ -229,14 +229,14 @@ branch_at class k test n Good good begins L = record {
 pub lawful_cased : {K A : Type 0} (class : Option Placed → K) (n : ℕ) (p q : K → Reader → A × Reader) {spell : A → List Due} {Good : A → Type 0} (Is : K → A → Type 0) {Stays : Option Placed → Type 0}
     → ((k : K) → Branch class k n (p k) (q k) spell Good (Is k) Stays)
     → ((s : Stop) (ts : List Placed) (e : ℕ) → q (class None) (reader (Some s) ts e) ≡ p (class None) (reader (Some s) ts e))
-    → ((a : A) (ts rest : List Placed) → Good a → AreDue (spell a) ts → (k : K) × (class (first (ts ++ rest)) ≡ k) × Is k a)
+    → ((a : A) (ts rest : List Placed) → Good a → AreDue (spell a) ts → Stays (first rest) → (k : K) × (class (first (ts ++ rest)) ≡ k) × Is k a)
     → Lawful n (cased class p) (cased class q) spell Good Stays
 lawful_cased class n p q {spell} {Good} Is branches filled begins = record {
   narrow = narrow;
   wide = wide;
   complete = record {
     reads = λ a ts rest e good d stays.
-        let (k, is, such) = begins a ts rest good.0 d in
+        let (k, is, such) = begins a ts rest good.0 d stays in
         cased_is class p k (ts ++ rest) e (a, reader None rest e) is ((branches k).complete.reads a ts rest e (such, good.1) d stays);
   };
   levels = levels_cased class n p q (calm_of narrow) (calm_of wide) filled (λ k. (branches k).reaches);

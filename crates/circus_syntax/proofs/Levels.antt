@@ -285,13 +285,13 @@ further_of test {q} fill shrinks calm ts e hit =
     taken [] leaves less = let same = ap length leaves in absurd (omega arith)
     taken (t ∷ d) leaves less = (t, d, leaves)
 
--- what is spelled begins with a level
-abbrev pub Deep : {A : Type 0} → (A → List Due) → Type 0
-Deep {A} spell = (a : A) → StandsDeeper 0 (spell a) []
+-- what is answered begins with a level
+abbrev pub Deep : {A : Type 0} → (Reader → A × Reader) → (A → List Due) → Type 0
+Deep q spell = (r : Reader) → StandsDeeper 0 (spell (q r).0) []
 
 -- no level is left
 pub levels_too_deep : {A : Type 0} (test : Placed → Bool) (fill : ℕ → A) {q : Reader → A × Reader} {spell : A → List Due} {Good : A → Type 0}
-    → Sound (stopped TooDeep fill) spell Good → Calm q → Shrinks test q → Deep spell → LevelsAt test 0 (stopped TooDeep fill) q spell
+    → Sound (stopped TooDeep fill) spell Good → Calm q → Shrinks test q → Deep q spell → LevelsAt test 0 (stopped TooDeep fill) q spell
 levels_too_deep test fill {q} {spell} S calm shrinks deep = record {
   narrow = calm_of S;
   wide = calm;
@@ -301,7 +301,7 @@ levels_too_deep test fill {q} {spell} S calm shrinks deep = record {
     fits = omega arith;
     full = λ none. cc;
     within = tt;
-    further = (further_of test fill shrinks calm ts e hit, deep (q (reader None ts e)).0);
+    further = (further_of test fill shrinks calm ts e hit, deep (reader None ts e));
   };
 }
 

@@ -216,6 +216,10 @@ pub shrinks_fixed : (l : Lexeme) → Shrinks (is_lexeme l) (fixed l)
 unfolding fixed
 shrinks_fixed l = shrinks_token (is_lexeme l) (λ t. tt) (λ at. tt)
 
+pub shrinks_at : (l : Lexeme) → Shrinks (is_lexeme l) (fixed_at l)
+unfolding fixed_at
+shrinks_at l = shrinks_token (is_lexeme l) (λ t. t.start) (λ at. at)
+
 pub shrinks_name : Shrinks is_name name
 unfolding name
 shrinks_name = shrinks_token is_name named_of filled_name

@@ -14,7 +14,7 @@ use Rattle.circus_syntax.proofs.Opened.{StandsDeeper, within_opened, within_fron
 use Rattle.circus_syntax.proofs.Sound.{Sound, reader, sound_nothing, sound_both, sound_cased}
 use Rattle.circus_syntax.proofs.Repeats.{Shrinks, sound_optional, sound_marked}
 use Rattle.circus_syntax.proofs.Complete.{Any}
-use Rattle.circus_syntax.proofs.Tokens.{Always, sound_fixed, sound_number, sound_listed, shrinks_both, shrinks_token, opens_due, opens_number}
+use Rattle.circus_syntax.proofs.Tokens.{Always, sound_fixed, sound_number, sound_listed, shrinks_both, shrinks_at, opens_due, opens_number}
 use Rattle.circus_syntax.proofs.Types.{IsTypeWithin, type_name_spelled, spelling_long, spelling_group, groups_spelled, spelling_arm, arms_spelled, sound_is_long_integer, sound_group, sound_arm, sound_array, sound_sequence, sound_record, sound_choice, sound_groups_with, sound_type_with, sound_flat_type, sound_type}
 use Rattle.circus_syntax.proofs.TypesRead.{NotDot, NotComma, complete_type}
 use Rattle.circus_syntax.proofs.Widens.{calm_of}
@@ -232,10 +232,6 @@ holds_first k l (t ∷ ts) is differs holds = holds t (subst (λ (j : TypeStart)
 none_starts : start_of_type None ≡ begins.Other
 unfolding start_of_type
 none_starts = refl
-
-shrinks_at : (l : Lexeme) → Shrinks (is_lexeme l) (fixed_at l)
-unfolding fixed_at
-shrinks_at l = shrinks_token (is_lexeme l) (λ t. t.start) (λ at. at)
 
 -- what is read where a type with others in it was too deep
 reaches_deep : (l : Lexeme) {q : Reader → TypeTree × Reader} {Good : TypeTree → Type 0} → Shrinks (is_lexeme l) q → Sound q spelling_type Good → ((ts : List Placed) (e : ℕ) → StandsDeeper 0 (spelling_type (q (reader None ts e)).0) [])
