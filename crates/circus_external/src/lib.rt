@@ -21,7 +21,7 @@ pub use laws::{
     no_spelling_begins_another, one_answer, read_is_spelled, reading_answers, spelled_is_read,
     spellings_are_counted, spellings_are_octets,
 };
-pub use piece::{read_word, write_content, write_long, write_word};
+pub use piece::{read_long, read_word, write_content, write_long, write_word};
 pub use proper::is_proper;
 pub use reading::{read_fields, read_from};
 pub use source::{ByteSource, copied, long_at, word_at};

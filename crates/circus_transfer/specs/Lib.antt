@@ -1,0 +1,5 @@
+pub mod Snapshot
+pub mod Restoring
+pub mod Joining
+pub mod Faults
+pub mod Seen
