@@ -17,4 +17,3 @@ pub record IsSaid (first format : ℕ) (acts : Acts) (ts : List Piece) (p : Piec
   pub acknowledges : is_acknowledgement p ≡ true → (total_in ts p.kind p.call ≡ Some p.total) × (p.number ≤ count_in ts p.kind p.call p.total)
   pub speaks : is_acknowledgement p ≡ false → IsOfSome (handed_over first acts p.kind p.call) p
   pub answers : is_acknowledgement p ≡ false → p.kind ≡ 1 → has_arrived ts 0 p.call ≡ true
-

@@ -23,13 +23,13 @@ pub use circus_segment::{
 pub use fault::PairFault;
 pub use laws::{
     acknowledgements_count_the_segments, acts_send_what_is_owed, arrivals_follow_the_segments,
-    calls_are_sent_in_time, calls_are_sent_once, cut_messages_join, datagrams_say_what_is_known, ends_know_their_acts,
-    messages_arrive_once, segments_are_taken_by_the_rules, sent_messages_arrive, ticks_are_counted,
-    what_is_there_stays,
+    calls_are_sent_in_time, calls_are_sent_once, cut_messages_join, datagrams_say_what_is_known,
+    ends_know_their_acts, messages_arrive_once, segments_are_taken_by_the_rules,
+    sent_messages_arrive, ticks_are_counted, what_is_there_stays,
 };
 pub use pair::Pair;
 pub use two_ends::{Act, TwoEnds, TwoFault};
 pub use two_laws::{
-    acknowledged_messages_have_arrived, datagrams_are_segments, each_end_is_lawful,
-    two_ends_agree, whole_messages_have_arrived,
+    acknowledged_messages_have_arrived, datagrams_are_segments, each_end_is_lawful, two_ends_agree,
+    whole_messages_have_arrived,
 };
