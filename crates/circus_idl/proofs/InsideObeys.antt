@@ -16,7 +16,7 @@ use Rattle.circus_syntax.specs.Spelling.{IsEach, IsListed, IsName, IsLabel, IsTy
 use Rattle.circus_idl.specs.declared.fault.Fault.{Fault}
 use Rattle.circus_idl.specs.declared.fault.Cause.TheVariants.{OutOfRange}
 use Rattle.circus_idl.specs.Least.{faults_if}
-use Rattle.circus_idl.specs.Inside.{no_name, no_number, repeated_names, labels_faults, label_faults, group_names, arm_label_faults, is_bare, is_empty_record, length_faults, bound_faults, called_faults, inside, inside_groups, inside_arms, also_name, also_number}
+use Rattle.circus_idl.specs.Inside.{no_name, no_number, repeated_names, labels_faults, group_names, arm_labels, is_bare, is_empty_record, length_faults, bound_faults, called_faults, inside, inside_groups, inside_arms}
 use Rattle.circus_idl.specs.Meaning.{word_of, bound_of, label_meant, fields_named, written, written_groups, written_arms}
 use Rattle.circus_idl.specs.Distinct.{AreDistinct}
 use Rattle.circus_idl.specs.Whole.{names_of}
@@ -51,24 +51,12 @@ labels_obey ls listed clean =
 
 -- Arms have labels too.
 
-labels_of : ArmTrees → List LabelText
-labels_of no_arms = []
-labels_of (more_arms name number _ arms) = record { name = name; number = number } ∷ labels_of arms
-
-arm_labels_are : (names : List ℕ → Bool) (numbers : ℕ → Bool) (arms : ArmTrees) → arm_label_faults names numbers arms ≡ labels_faults names numbers (labels_of arms)
-unfolding labels_of
-arm_labels_are names numbers no_arms = refl
-arm_labels_are names numbers (more_arms name number t arms) =
-    ap (λ fs. label_faults names numbers name number ++ fs) (arm_labels_are (also_name name.name names) (also_number number.value numbers) arms)
-
 module _ (form : List ℕ → ShapeTree) where
-  arm_names_are : (arms : ArmTrees) → map (λ (l : Label). l.name) (map label_meant (labels_of arms)) ≡ arm_names (arm_trees (written_arms form arms))
-  unfolding labels_of
+  arm_names_are : (arms : ArmTrees) → map (λ (l : Label). l.name) (map label_meant (arm_labels arms)) ≡ arm_names (arm_trees (written_arms form arms))
   arm_names_are no_arms = refl
   arm_names_are (more_arms name number t arms) = ap (λ ns. name.name ∷ ns) (arm_names_are arms)
 
-  arm_numbers_are : (arms : ArmTrees) → map (λ (l : Label). l.number) (map label_meant (labels_of arms)) ≡ arm_numbers (arm_trees (written_arms form arms))
-  unfolding labels_of
+  arm_numbers_are : (arms : ArmTrees) → map (λ (l : Label). l.number) (map label_meant (arm_labels arms)) ≡ arm_numbers (arm_trees (written_arms form arms))
   arm_numbers_are no_arms = refl
   arm_numbers_are (more_arms name number t arms) = ap (λ ns. word_of number ∷ ns) (arm_numbers_are arms)
 
@@ -84,11 +72,11 @@ module _ (form : List ℕ → ShapeTree) where
   some_arms at no_arms good = absurd good
   some_arms at (more_arms name number t arms) good = (omega arith, good)
 
-  arm_labels_obey : (at : ℕ) (arms : ArmTrees) → IsType (choice at arms) → arm_label_faults no_name no_number arms ≡ []
+  arm_labels_obey : (at : ℕ) (arms : ArmTrees) → IsType (choice at arms) → labels_faults no_name no_number (arm_labels arms) ≡ []
       → ObeyArms (arm_names (arm_trees (written_arms form arms))) (arm_numbers (arm_trees (written_arms form arms)))
   arm_labels_obey at arms good clean =
       let (some, each) = some_arms at arms good in
-      let labels = labels_clean no_name no_number (labels_of arms) (sym (arm_labels_are no_name no_number arms) ∙ clean) in
+      let labels = labels_clean no_name no_number (arm_labels arms) clean in
       record {
         some = some;
         named = arms_named arms each;
@@ -201,7 +189,7 @@ module _ (types : List ℕ → Bool) (form : List ℕ → ShapeTree) (known : (n
           groups_obey groups good rest,
         )
     inside_obeys (choice at arms) good clean =
-        let (own, rest) = none_in (arm_label_faults no_name no_number arms) (inside_arms types arms) clean in
+        let (own, rest) = none_in (labels_faults no_name no_number (arm_labels arms)) (inside_arms types arms) clean in
         (arm_labels_obey form at arms good own, arms_obey arms (some_arms form at arms good).1 rest)
     inside_obeys (called at name) good clean = known name.name.name (known_name types name.«module» name.name clean)
 

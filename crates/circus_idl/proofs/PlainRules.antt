@@ -18,7 +18,7 @@ use Rattle.circus_idl.specs.declared.fault.Cause.{Cause}
 use Rattle.circus_idl.specs.Least.{faults_if}
 use Rattle.circus_idl.specs.Written.{levels, field_levels, arm_levels}
 use Rattle.circus_idl.specs.Distinct.{AreDistinct}
-use Rattle.circus_idl.specs.Inside.{no_name, no_number, also_name, also_number, repeated_names, above, label_faults, labels_faults, group_names, arm_label_faults, is_bare, is_empty_record, length_faults, inside, inside_groups, inside_arms}
+use Rattle.circus_idl.specs.Inside.{no_name, no_number, also_name, also_number, repeated_names, above, label_faults, labels_faults, group_names, arm_labels, is_bare, is_empty_record, length_faults, inside, inside_groups, inside_arms}
 use Rattle.circus_idl.specs.Obeys.{IsName, ObeysInside, ObeyFields, ObeyArmTypes, ObeyLabels, field_names, arm_names, arm_numbers}
 use Rattle.circus_idl.proofs.Places.{here}
 use Rattle.circus_idl.proofs.PlainTypes.{labels_at, type_at, groups_at, arms_at, by_arm, short_number}
@@ -68,7 +68,7 @@ labels_clean (l ∷ ls) ps names numbers new distinct new_numbers distinct_numbe
 
 arm_labels_clean : (arms : shape.ArmTrees) (ps : List ℕ) (names : List ℕ → Bool) (numbers : ℕ → Bool)
     → AreNew names (arm_names arms) → AreDistinct (arm_names arms) → AreNew numbers (arm_numbers arms) → AreDistinct (arm_numbers arms)
-    → AllByRecursion (λ n. n ≤ 65535) (arm_numbers arms) → arm_label_faults names numbers (arms_at arms ps) ≡ []
+    → AllByRecursion (λ n. n ≤ 65535) (arm_numbers arms) → labels_faults names numbers (arm_labels (arms_at arms ps)) ≡ []
 arm_labels_clean shape.no_arms ps names numbers new distinct new_numbers distinct_numbers fit = refl
 arm_labels_clean (shape.more_arms name n s arms) ps names numbers new distinct new_numbers distinct_numbers fit =
     none_then _ _ (label_clean names numbers _ _ new.0 new_numbers.0 fit.0)

@@ -13,7 +13,7 @@ use Rattle.circus_idl.specs.declared.fault.Cause.{Cause}
 use Rattle.circus_idl.specs.declared.fault.Cause.TheVariants.{Unknown, OutOfRange}
 use Rattle.circus_idl.specs.Rank.{rank}
 use Rattle.circus_idl.specs.Least.{faults_if}
-use Rattle.circus_idl.specs.Inside.{repeated_name, repeated_number, repeated_names, above, label_faults, labels_faults, group_names, arm_label_faults, length_faults, bound_faults, called_faults, is_bare, is_empty_record, inside, inside_groups, inside_arms, no_name, no_number, also_name, also_number}
+use Rattle.circus_idl.specs.Inside.{repeated_name, repeated_number, repeated_names, above, label_faults, labels_faults, group_names, arm_labels, length_faults, bound_faults, called_faults, is_bare, is_empty_record, inside, inside_groups, inside_arms, no_name, no_number, also_name, also_number}
 use Rattle.circus_idl.specs.Written.{parts as shape_parts}
 use Rattle.circus_idl.specs.Meaning.{written}
 use Rattle.circus_idl.specs.Scale.{written_out}
@@ -49,11 +49,6 @@ labels_rule names numbers [] = tt
 labels_rule names numbers (l ∷ ls) =
     and (label_faults names numbers l.name l.number) _ (label_rule names numbers l.name l.number) (labels_rule (also_name l.name.name names) (also_number l.number.value numbers) ls)
 
-arm_labels_rule : (names : List ℕ → Bool) (numbers : ℕ → Bool) (arms : ArmTrees) → OfRules (arm_label_faults names numbers arms)
-arm_labels_rule names numbers no_arms = tt
-arm_labels_rule names numbers (more_arms name number t arms) =
-    and (label_faults names numbers name number) _ (label_rule names numbers name number) (arm_labels_rule (also_name name.name names) (also_number number.value numbers) arms)
-
 bound_rule : (bound : Option Numeral) → OfRules (bound_faults bound)
 bound_rule None = tt
 bound_rule (Some n) = one_of _ _ _ (omega arith)
@@ -82,7 +77,7 @@ module _ (types : List ℕ → Bool) where
         and (faults_if (is_bare groups) at OutOfRange ++ repeated_names no_name (group_names groups)) (inside_groups types groups)
         (and (faults_if (is_bare groups) at OutOfRange) (repeated_names no_name (group_names groups)) (one_of _ _ _ (omega arith)) (names_rule no_name (group_names groups)))
         (groups_inside_rule groups)
-    inside_rule (choice _ arms) = and (arm_label_faults no_name no_number arms) (inside_arms types arms) (arm_labels_rule no_name no_number arms) (arms_inside_rule arms)
+    inside_rule (choice _ arms) = and (labels_faults no_name no_number (arm_labels arms)) (inside_arms types arms) (labels_rule no_name no_number (arm_labels arms)) (arms_inside_rule arms)
     inside_rule (called _ t) = called_rule types t.«module» t.name
 
     groups_inside_rule : (groups : GroupTrees) → OfRules (inside_groups types groups)

@@ -63,12 +63,10 @@ abbrev pub group_names : GroupTrees → List Named
 group_names no_groups = []
 group_names (more_groups names _ groups) = names ++ group_names groups
 
--- the labels of arms behind earlier ones
-abbrev pub arm_label_faults : (List ℕ → Bool) → (ℕ → Bool) → ArmTrees → List Fault
-arm_label_faults names numbers no_arms = []
-arm_label_faults names numbers (more_arms name number _ arms) =
-    label_faults names numbers name number
-    ++ arm_label_faults (also_name name.name names) (also_number number.value numbers) arms
+-- the labels of arms
+abbrev pub arm_labels : ArmTrees → List LabelText
+arm_labels no_arms = []
+arm_labels (more_arms name number _ arms) = record { name = name; number = number } ∷ arm_labels arms
 
 -- no groups
 abbrev pub is_bare : GroupTrees → Bool
@@ -108,7 +106,7 @@ abbrev mutual
   inside is_known (sequence _ bound t) = bound_faults bound ++ inside is_known t
   inside is_known («record» at groups) =
       faults_if (is_bare groups) at OutOfRange ++ repeated_names no_name (group_names groups) ++ inside_groups is_known groups
-  inside is_known (choice _ arms) = arm_label_faults no_name no_number arms ++ inside_arms is_known arms
+  inside is_known (choice _ arms) = labels_faults no_name no_number (arm_labels arms) ++ inside_arms is_known arms
   inside is_known (called _ t) = called_faults is_known t.«module» t.name
 
   -- of the types of fields, each once for a group

@@ -8,17 +8,20 @@ use Rattle.circus_idl.specs.Written.{levels, parts, zero_size}
 use Rattle.circus_idl.specs.Whole.{zero_size_of}
 use Rattle.circus_idl.specs.Meaning.{written, written_groups}
 
--- what a type comes to, where this is what each name comes to; what a name comes to that no type has; the parts so
--- far with those of so many more types that come to this; whether a type with which there are so many parts passes a
--- limit; and whether fields together do
+-- a way to tell it
 pub record Scale (S : Type 0) : Type 0 where
+  -- what a type comes to, where this is what each name comes to
   pub of_type : (List ℕ → S) → TypeTree → S
+  -- what a name comes to that stands for no type
   pub of_none : S
+  -- the parts so far with those of so many more types that come to this
   pub parts_with : ℕ → ℕ → S → ℕ
+  -- a type that comes to this passes a limit, or with it there are too many parts
   pub is_over : ℕ → S → Bool
+  -- fields together pass a limit
   pub are_over : (List ℕ → S) → GroupTrees → Bool
 
--- a type with which there are so many parts passes a limit
+-- a type passes a limit, or with it there are so many parts that they do
 abbrev pub is_large : ℕ → ShapeTree → Bool
 is_large so_far s = nat_lt most_zero_bytes (zero_size s) || nat_lt most_levels (levels s) || nat_lt most_parts so_far
 

@@ -5,7 +5,7 @@ ghost use Rattle.circus_syntax.specs.TypeOf.{tree_of, group_of, arm_of};
 ghost use Rattle.circus_idl.specs.Least.{least_from};
 ghost use Rattle.circus_idl.specs.Seen.Tables.{holds_name, holds_number};
 ghost use Rattle.circus_idl.specs.Seen.Known.{is_known};
-ghost use Rattle.circus_idl.specs.Inside.{also_name, also_names, also_number, no_name, no_number, label_faults, labels_faults, arm_label_faults, repeated_names, group_names, called_faults};
+ghost use Rattle.circus_idl.specs.Inside.{also_name, also_names, also_number, no_name, no_number, label_faults, labels_faults, arm_labels, repeated_names, group_names, called_faults};
 ghost use Rattle.circus_idl.specs.Inside as faults;
 
 use crate::fault::{Best, Cause};
@@ -46,7 +46,7 @@ fn labels(alloc: Global, best: &mut Best, labels: &[LabelText]) -> Result<(), No
 }
 
 fn arm_labels(alloc: Global, best: &mut Best, arms: &[ArmText]) -> Result<(), NoMemory>
-    ensures { OnOk result (best.new.fault ≡ least_from best.old.fault (arm_label_faults no_name no_number (arm_trees (map arm_of arms.now)))) }
+    ensures { OnOk result (best.new.fault ≡ least_from best.old.fault (labels_faults no_name no_number (arm_labels (arm_trees (map arm_of arms.now))))) }
 {
     let mut names = Names::new(alloc);
     let mut numbers = Numbers::new(alloc);

@@ -54,10 +54,10 @@ inside-returns-in_ok-arm_labels-in-Choice t c =
     let best = c.args.best.now.fault in
     let at = c.args.shape.now.at in
     let arms = c.in-Choice.arms in
-    let labels = faults.arm_label_faults faults.no_name faults.no_number (arm_trees arms) in
+    let labels = faults.labels_faults faults.no_name faults.no_number (faults.arm_labels (arm_trees arms)) in
     let first : c.arm_labels.new.best.fault ≡ least_from best labels =
     c.in_ok-arm_labels-in-Choice.ensures
-    ∙ ap (λ ts. least_from best (faults.arm_label_faults faults.no_name faults.no_number (arm_trees ts))) c.as_slice-in-Choice.ensures in
+    ∙ ap (λ ts. least_from best (faults.labels_faults faults.no_name faults.no_number (faults.arm_labels (arm_trees ts)))) c.as_slice-in-Choice.ensures in
     let second = subst (λ ts. OnOk c.inside_arms.result (c.inside_arms.new.best.fault ≡ least_from c.arm_labels.new.best.fault (faults.inside_arms known (arm_trees ts)))) c.as_slice-in-Choice-2.ensures c.inside_arms.ensures in
     subst (λ k. OnOk c.inside_arms.result (c.inside_arms.new.best.fault ≡ least_from best (faults.inside known (tree_at at k)))) (sym c.in-Choice.is)
     (onward_least c.inside_arms.result c.inside_arms.new.best.fault c.arm_labels.new.best.fault best labels (faults.inside_arms known (arm_trees arms)) first second)
