@@ -2,6 +2,7 @@
 use Rattle.std.specs.Prelude.{ℕ, ◌+◌, Bool, not, ◌&&◌, List, is_some, nat_lt, ◌==◌, if◌then◌else◌}
 use Rattle.circus_exchange.specs.declared.exchange.Exchange.{Exchange}
 use Rattle.circus_segment.specs.Segment.{Piece}
+use Rattle.circus_exchange.specs.Limits.{patience}
 use Rattle.circus_pair.specs.Taken.{has_arrived}
 use Rattle.circus_pair.specs.Acts.{Acts, none_yet, more, Call, Return, Came, Tick, Stop, taken_by}
 use Rattle.circus_pair.specs.Handed.{made, call_at}
@@ -22,9 +23,9 @@ ticks_after e none_yet = 0
 ticks_after e (more acts (Call message)) = if waits_after e acts then ticks_after e acts else 0
 ticks_after e (more acts (Return call message)) = ticks_after e acts
 ticks_after e (more acts (Came s)) = if takes_after e acts s then 0 else ticks_after e acts
-ticks_after e (more acts Tick) = if waits_after e acts && nat_lt (ticks_after e acts) 8 then ticks_after e acts + 1 else ticks_after e acts
+ticks_after e (more acts Tick) = if waits_after e acts && nat_lt (ticks_after e acts) patience then ticks_after e acts + 1 else ticks_after e acts
 ticks_after e (more acts Stop) = ticks_after e acts
 
 -- a tick after these acts makes them 8
 abbrev pub suspects_after : Exchange → Acts → Bool
-suspects_after e acts = nat_lt (ticks_after e acts) 8 && (ticks_after e (more acts Tick) == 8)
+suspects_after e acts = nat_lt (ticks_after e acts) patience && (ticks_after e (more acts Tick) == patience)

@@ -8,6 +8,7 @@ use Rattle.circus_pair.specs.declared.two_ends.Act.{Act}
 use Rattle.circus_pair.specs.declared.two_ends.Act.TheVariants.{Call, Return, Deliver, Tick}
 use Rattle.circus_segment.specs.Segment.{Piece, reading, spelling}
 use Rattle.circus_exchange.specs.Exchange.{start, IsSendable, datagrams_of_call, datagrams_of_return, datagrams_after, datagrams_of_tick, arrived_after, awaits_return}
+use Rattle.circus_exchange.specs.Limits.{never_used}
 use Rattle.circus_pair.specs.Acts.{Act as OneAct, Call as Calls, Return as Returns, Came, Tick as Ticks, Stop as Stops, Acts, none_yet, more, happens, end_after, taken_by}
 use Rattle.circus_pair.specs.Taken.{has_arrived}
 use Rattle.circus_segment.specs.Cut.{segment_count}
@@ -167,7 +168,7 @@ names_none both (Tick at) = false
 
 -- an act is a call for which no number is left
 abbrev pub has_no_number : Both → Act → Bool
-has_no_number both (Call at message) = (end_at both at).exchange.next == 4294967295
+has_no_number both (Call at message) = (end_at both at).exchange.next == never_used
 has_no_number both (Return at call message) = false
 has_no_number both (Deliver at number) = false
 has_no_number both (Tick at) = false
@@ -184,7 +185,7 @@ arrived_at end format history = arrived_in (start 0 format) (acts_of end format 
 
 -- an act may come after these: messages can be sent, a number is left for a call, a return answers a call that has arrived and had none, and a datagram was sent
 abbrev pub MayFollow : ℕ → History → Act → Type 0
-MayFollow format history (Call at message) = IsSendable format message × (made (acts_of at format history) < 4294967295)
+MayFollow format history (Call at message) = IsSendable format message × (made (acts_of at format history) < never_used)
 MayFollow format history (Return at call message) = IsSendable format message × (has_arrived (taken_at at format history) 0 call ≡ true) × (return_at (acts_of at format history) call ≡ None)
 MayFollow format history (Deliver at number) = number < length (sent_by (start 0 format) (acts_of (not at) format history))
 MayFollow format history (Tick at) = Unit {0}

@@ -2,6 +2,7 @@
 use Rattle.std.specs.Prelude.{ℕ, zero, suc, ◌+◌, Bool, false, not, ◌&&◌, List, Option, None, Some, is_some, nat_lt, ◌==◌, if◌then◌else◌}
 use Rattle.circus_segment.specs.Segment.{Piece}
 use Rattle.circus_segment.specs.Cut.{segment_count}
+use Rattle.circus_exchange.specs.Limits.{window}
 use Rattle.circus_pair.specs.Acts.{Acts}
 use Rattle.circus_pair.specs.Handed.{call_at, return_at, reached_in}
 
@@ -29,4 +30,4 @@ count_below passes (suc n) = if passes n then count_below passes n + 1 else coun
 
 -- the window lets a call go: fewer than 64 calls of smaller numbers are so
 abbrev pub may_go : ℕ → Acts → List Piece → ℕ → Bool
-may_go first acts ts call = nat_lt (count_below (is_open first acts ts) call) 64
+may_go first acts ts call = nat_lt (count_below (is_open first acts ts) call) window

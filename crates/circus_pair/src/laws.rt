@@ -92,7 +92,7 @@ pub fn calls_are_sent_in_time()
     ensures window { (first format : ℕ) (acts : Acts) → AreLawful first format acts
         → let began = start first format in
         count_below (λ call. is_sent began acts call && not (call_is_whole first acts (taken_by began acts) call))
-        (first + made acts) ≤ 64 }
+        (first + made acts) ≤ window }
 {}
 
 /// What an act sends is what is owed: a call is sent whole by the act that lets it go, and a return by the act

@@ -4,6 +4,7 @@ ghost use Rattle.circus_pair.specs.declared.two_ends.TwoFault.TheVariants.{NoSuc
 ghost use Rattle.circus_pair.specs.Acts.{Call, Return, Tick};
 ghost use Rattle.circus_segment.specs.Segment.{reading};
 ghost use Rattle.circus_exchange.specs.Exchange.{start, IsSendable, awaits_return};
+ghost use Rattle.circus_exchange.specs.Limits.{never_used};
 ghost use Rattle.circus_pair.specs.TwoEnds.{moved, coming, delivered, arrived_by};
 
 use crate::pair::Pair;
@@ -60,8 +61,8 @@ impl Side {
         requires { IsSendable self.old.exchange.format message }
         ensures state { OnOk result (self.new ≡ moved self.old (Some (Call message))) }
         ensures err { OnErr result (self.new ≡ self.old) }
-        ensures spent { self.old.exchange.next ≡ 4294967295 → result ≡ Err Spent }
-        ensures spent_only { result ≡ Err Spent → self.old.exchange.next ≡ 4294967295 }
+        ensures spent { self.old.exchange.next ≡ never_used → result ≡ Err Spent }
+        ensures spent_only { result ≡ Err Spent → self.old.exchange.next ≡ never_used }
         ensures such { result ≡ Err NoSuch → ⊥ }
     {
         if self.next == u32::MAX {
