@@ -20,12 +20,6 @@ module _ (passes : ℕ → Bool) where
       (λ j. joined (subst (λ k. first_place passes k ≡ None) same none j) (subst (λ k. passes k ≡ true) same here j) n) ∙ ap Some (sym same))
       (cases_lt i n)
 
-  -- nothing before a place passes, and neither does it
-  pub first_place-past : (i : ℕ) → first_place passes i ≡ None → passes i ≡ false → first_place passes (i + 1) ≡ None
-  first_place-past i none here =
-      let next : i + 1 ≡ suc i = omega arith in
-      ap (first_place passes) next ∙ (λ j. joined (none j) (here j) i)
-
   -- it is below the bound, passes, and none before it does
   pub record IsFirst (i n : ℕ) : Type 0 where
     pub below : i < n

@@ -17,12 +17,6 @@ module _ {V : Type 0} where
     unfolding votes
     votes_le said nodes value = count_by-le-length (λ node. option_map_or (eq value) (first_from said node) false) nodes
 
-    pub equal_at : (said : List (Said V)) (one other : ℕ) (d e : Said V) → one < length said → other < length said
-        → have_equal eq said one other ≡ eq (get_or said one d).value (get_or said other e).value
-    unfolding have_equal
-    equal_at said one other d e below too =
-        passes_read said (λ x. passes_at said (λ y. eq x.value y.value) other) one d below ∙ passes_read said (λ y. eq (get_or said one d).value y.value) other e too
-
     less_than_half : (n v : ℕ) → v ≤ n → ltb (n - v) v ≡ ltb n (2 * v)
     less_than_half n v few = grind (arith, nat_tests)
 

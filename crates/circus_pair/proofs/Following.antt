@@ -115,6 +115,3 @@ module _ (pair : Exchange) (first format : ℕ) (acts : Acts) (stands : StandsFo
 
   pub suspects_as_owed : is_suspect pair ≡ suspects_after (start first format) acts
   suspects_as_owed = ap is_suspect stands.is ∙ suspicion_is first format acts stands.lawful
-
-  pub stands_stopped : (new : Exchange) → new ≡ stopped pair → StandsFor new first format (more acts Stop)
-  stands_stopped new is = record { lawful = (stands.lawful, tt); is = is ∙ ap (λ (e : Exchange). stopped e) stands.is }

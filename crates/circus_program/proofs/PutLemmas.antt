@@ -37,18 +37,6 @@ no_end : (s : Status) → is_end s ≡ false → IsTrue (is_end s) → ⊥
 no_end s is_none is_one = cc
 
 module _ (shelf : Option (List ℕ → Option (List ℕ))) (words : List (List ℕ)) (fetched : Option (List (List ℕ))) (ShelfRose : Type 0) (old new : Option (List ℕ)) (SinkRose : Type 0) where
-  -- where there was no memory before anything was written
-  pub answer-unwritten : new ≡ old → IsAnswer shelf words fetched ShelfRose old new SinkRose NoMemory
-  answer-unwritten e =
-      record {
-        ended = λ is_one. absurd (no_end NoMemory refl is_one);
-        lacked = λ same. cc;
-        shelf_rose = λ same. cc;
-        stopped = λ same. cc;
-        sink_rose = λ same. cc;
-        no_memory = λ same. inr e;
-      }
-
   -- a part of a text that is due was written, and the sink failed
   answer-stopped : (text : List ℕ) → IsText shelf words fetched ShelfRose text → WritesPart old new text → SinkRose → IsAnswer shelf words fetched ShelfRose old new SinkRose SinkFault
   answer-stopped text due part rose =

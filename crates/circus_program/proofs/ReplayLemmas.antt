@@ -14,37 +14,14 @@ use Rattle.circus_program.specs.declared.status.Status.TheVariants.{BadSchedule}
 use Rattle.circus_program.specs.Report.{Names, Member, member_lines, members_lines}
 use Rattle.circus_program.specs.Replay.{Ending, replayed, refused, refusal_text, is_legal}
 
--- what the test says of a legal line
-is_legal-legal : (w : WorldView) (line : Line) → IsLegal w line → is_legal w line ≡ true
-is_legal-legal w (Deliver number) legal = grind (arith, common_steps)
-
--- and of another
+-- what the test says of a line that is not legal
 is_legal-refused : (w : WorldView) (line : Line) → (IsLegal w line → ⊥) → is_legal w line ≡ false
 is_legal-refused w (Deliver number) refused = grind (arith, common_steps)
-
--- a legal line is stepped, and the replay goes on
-pub replayed-legal : (number : ℕ) (w : WorldView) (line : Line) (lines : List Line) → IsLegal w line → replayed number w (line ∷ lines) ≡ replayed (number + 1) (stepped w line) lines
-replayed-legal number w line lines legal =
-    ap (λ b. cond b (replayed (number + 1) (stepped w line) lines) (refused number w line)) (is_legal-legal w line legal)
 
 -- another line ends the replay
 pub replayed-refused : (number : ℕ) (w : WorldView) (line : Line) (lines : List Line) → (IsLegal w line → ⊥) → replayed number w (line ∷ lines) ≡ refused number w line
 replayed-refused number w line lines not_legal =
     ap (λ b. cond b (replayed (number + 1) (stepped w line) lines) (refused number w line)) (is_legal-refused w line not_legal)
-
--- handling a datagram counts no step
-handled-steps : (a b : Bool) (w : WorldView) → (cond a (performed_now w) (cond b (answered_now w) w)).steps ≡ w.steps
-handled-steps true b w = refl
-handled-steps false true w = refl
-handled-steps false false w = refl
-
--- a line counts at most one step
-pub stepped-steps : (w : WorldView) (line : Line) → (stepped w line).steps ≤ w.steps + 1
-stepped-steps w (Deliver number) =
-    elim (slice_get w.sent number) as (λ s. (taken w s).steps ≤ w.steps + 1) [
-      | None ↦ omega arith
-      | Some sent ↦ omega (arith, handled-steps (is_piece 0 sent.bytes && is_none w.performed) (is_piece 1 sent.bytes && is_none w.answered) (next_step w))
-    ]
 
 -- the replay of a line that is refused ends with the refusal of what is handed back
 pub replayed-refusal : (number : ℕ) (w world : WorldView) (lines : List Line) (cause : Cause) (end whole : Ending) (i : ℕ) (other : Line) → i < length lines → IsRefusal w (get_or lines i other) (Illegal world cause) → replayed number w (drop i lines) ≡ whole → end ≡ record { status = BadSchedule; text = refusal_text number world cause } → end ≡ whole
