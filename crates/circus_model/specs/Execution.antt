@@ -1,25 +1,30 @@
 -- What a program does when nothing is replicated.
-use Rattle.std.specs.Prelude.{ℕ, ◌+◌, ◌<◌, nat_lt, Bool, cond, List, [], ◌∷◌, ◌++◌, length, sum, map, replicate, slice_get, slice_index, slice_index_or, slice_set, zero, suc, fold}
+use Rattle.std.specs.Prelude.{ℕ, zero, suc, ◌+◌, Bool, cond, nat_le, List, [], ◌∷◌, ◌++◌, length, sum, map, fold, slice_get, slice_index, slice_index_or, slice_set}
 use Rattle.std.specs.Option.{option_map_or}
 use Rattle.circus_value.specs.ValueTree.{ValueTree}
+use Rattle.circus_model.specs.LanguageError.{number_of}
+use Rattle.circus_model.specs.declared.language_error.LanguageError.TheVariants.{ThreadSpent}
 use Rattle.circus_value.specs.declared.outcome.Outcome.{Outcome}
-use Rattle.circus_value.specs.declared.outcome.Outcome.TheVariants.{Raised}
-use Rattle.circus_model.specs.declared.signature.Signature.{Signature}
+use Rattle.circus_value.specs.declared.outcome.Outcome.TheVariants.{Returned, Raised}
 use Rattle.circus_model.specs.declared.history.Ask.{Ask}
 use Rattle.circus_model.specs.declared.history.Run.{Run}
+use Rattle.circus_model.specs.Limits.{most_asks, most_calls}
 use Rattle.circus_model.specs.NextTurn.{NextTurn, asks, ends}
-
--- a module as *Execution* sees it
-pub record Behaviour : Type 0 where
-  pub declared : Signature
-  pub turn : List ValueTree → ℕ → List ValueTree → List Outcome → NextTurn
-  pub first : List ValueTree
+use Rattle.circus_model.specs.Behaviour.{Behaviour}
 
 -- one root's thread: the state of each module, the calls made to each so far, and the runs of each that have ended
 pub record Thread : Type 0 where
   pub store : List (List ValueTree)
   pub clock : List ℕ
   pub runs : List (List Run)
+
+-- who calls what: the root, the call path, the module, its procedure and the arguments
+pub record Order : Type 0 where
+  pub root : ℕ
+  pub path : List ℕ
+  pub callee : ℕ
+  pub procedure : ℕ
+  pub arguments : List ValueTree
 
 -- what a call leaves: the thread, and what the procedure ended with
 pub record Performed : Type 0 where
@@ -31,22 +36,6 @@ pub record Finished : Type 0 where
   pub thread : Thread
   pub made : List Ask
   pub outcome : Outcome
-
--- who calls what: the root, the call path, the module, its procedure and the arguments
-pub record Order : Type 0 where
-  pub root : ℕ
-  pub path : List ℕ
-  pub callee : ℕ
-  pub procedure : ℕ
-  pub arguments : List ValueTree
-
--- the most calls that a thread makes
-abbrev pub calls_per_thread : ℕ
-calls_per_thread = 16777216
-
--- the most asks of one execution, and the turn after them
-abbrev pub turns_per_execution : ℕ
-turns_per_execution = 65536
 
 -- the thread with this state of the module
 abbrev pub stored : Thread → ℕ → List ValueTree → Thread
@@ -60,12 +49,16 @@ counted t m = record t { clock = slice_set t.clock m (slice_index t.clock m + 1)
 abbrev pub noted : Thread → ℕ → Run → Thread
 noted t m run = record t { runs = slice_set t.runs m (slice_index_or t.runs m [] ++ run ∷ []) }
 
+-- a thread with this clock has made all its calls
+abbrev pub is_spent : List ℕ → Bool
+is_spent clock = nat_le most_calls (sum clock)
+
 -- the reply to a call, and the thread after it, where `call` performs calls; a thread that is spent gets an error
 unfoldable pub answered : (Thread → Order → Performed) → Thread → Order → Performed
 answered call t o =
-    cond (nat_lt (sum t.clock) calls_per_thread)
+    cond (is_spent t.clock)
+    (record { thread = t; outcome = Raised (number_of ThreadSpent) [] })
     (call (counted t o.callee) o)
-    (record { thread = t; outcome = Raised 60007 [] })
 
 -- an order of the run that is under way, for its next ask
 abbrev pub next_order : Order → List Ask → ℕ → ℕ → List ValueTree → Order
@@ -86,38 +79,47 @@ ask_of asked state t p =
     }
 
 -- the run after this turn: it ends, or its ask is answered and it goes on
-abbrev pub turned : (Thread → Order → Performed) → Order → (List Outcome → List Ask → Thread → Finished) → List Outcome → List Ask → Thread → NextTurn → Finished
-turned call o go_on replies made t (ends outcome state) =
+abbrev pub turned : (Thread → Order → Performed) → Order → (List Ask → Thread → Finished) → List Ask → Thread → NextTurn → Finished
+turned call o go_on made t (ends outcome state) =
     record { thread = stored t o.callee state; made = made; outcome = outcome }
-turned call o go_on replies made t (asks callee procedure arguments state) =
+turned call o go_on made t (asks callee procedure arguments state) =
     let before = stored t o.callee state in
     let asked = next_order o made callee procedure arguments in
     let p = answered call before asked in
-    go_on (replies ++ p.outcome ∷ []) (made ++ ask_of asked state before p ∷ []) p.thread
+    go_on (made ++ ask_of asked state before p ∷ []) p.thread
 
--- the run with at most so many turns, from its replies and asks so far; `turn` is that of its module, state, procedure and arguments
-unfoldable pub performed_on : (Thread → Order → Performed) → Order → (List Outcome → NextTurn) → ℕ → List Outcome → List Ask → Thread → Finished
-performed_on call o turn zero replies made t = record { thread = t; made = made; outcome = Raised 60006 [] }
-performed_on call o turn (suc left) replies made t =
-    turned call o (performed_on call o turn left) replies made t (turn replies)
+-- the replies that these asks had
+abbrev pub replies_of : List Ask → List Outcome
+replies_of made = map (λ ask. ask.reply) made
 
--- the run's record, and what its caller gets
-abbrev pub recorded : Order → Thread → Finished → Performed
-recorded o entered f =
+-- what stands here where no program whose modules agree comes
+abbrev pub never : Outcome
+never = Returned []
+
+-- the run with at most so many turns, from the asks that it has made; `turn` is that of its module, state, procedure and arguments
+unfoldable pub performed_on : (Thread → Order → Performed) → Order → (List Outcome → NextTurn) → ℕ → List Ask → Thread → Finished
+performed_on call o turn zero made t = record { thread = t; made = made; outcome = never }
+performed_on call o turn (suc left) made t =
+    turned call o (performed_on call o turn left) made t (turn (replies_of made))
+
+-- the record of an ordered run, which began on a thread and left this
+abbrev pub run_of : Order → Thread → Finished → Run
+run_of o entered f =
     record {
-      thread = noted f.thread o.callee (record {
-        path = o.path;
-        root = o.root;
-        procedure = o.procedure;
-        arguments = o.arguments;
-        entry = entered.clock;
-        asks = f.made;
-        outcome = f.outcome;
-        state = slice_index_or f.thread.store o.callee [];
-        end = f.thread.clock;
-      });
+      path = o.path;
+      root = o.root;
+      procedure = o.procedure;
+      arguments = o.arguments;
+      entry = entered.clock;
+      asks = f.made;
       outcome = f.outcome;
+      state = slice_index_or f.thread.store o.callee [];
+      end = f.thread.clock;
     }
+
+-- the thread with that record, and what the caller gets
+abbrev pub recorded : Order → Thread → Finished → Performed
+recorded o entered f = record { thread = noted f.thread o.callee (run_of o entered f); outcome = f.outcome }
 
 -- the turns of the ordered call
 abbrev pub turns_of : List Behaviour → Thread → Order → List Outcome → NextTurn
@@ -125,24 +127,26 @@ turns_of program t o replies =
     option_map_or
     (λ b. b.turn (slice_index_or t.store o.callee []) o.procedure o.arguments replies)
     (slice_get program o.callee)
-    (ends (Raised 60006 []) [])
+    (ends never [])
 
--- an order performed to its end, where modules call earlier ones alone and so nest at most `depth` deep
+-- an order performed to its end, where modules call earlier ones alone and so nest at most `depth` deep; each ask is a turn, and the end is one
 unfoldable pub perform : List Behaviour → ℕ → Thread → Order → Performed
-perform program zero t o = record { thread = t; outcome = Raised 60006 [] }
+perform program zero t o = record { thread = t; outcome = never }
 perform program (suc depth) t o =
-    recorded o t (performed_on (perform program depth) o (turns_of program t o) turns_per_execution [] [] t)
+    recorded o t (performed_on (perform program depth) o (turns_of program t o) (most_asks + 1) [] t)
 
 -- a thread that has done nothing
 abbrev pub fresh : List Behaviour → Thread
 fresh program =
     record { store = map (λ b. b.first) program; clock = map (λ _. 0) program; runs = map (λ _. []) program }
 
+-- the first call of a root's thread
+abbrev pub main_order : ℕ → Order
+main_order root = record { root = root; path = []; callee = root; procedure = 0; arguments = [] }
+
 -- what a root's thread does
-abbrev pub thread_of : List Behaviour → ℕ → Performed
-thread_of program root =
-    perform program (length program) (fresh program)
-    (record { root = root; path = []; callee = root; procedure = 0; arguments = [] })
+unfoldable pub thread_of : List Behaviour → ℕ → Thread
+thread_of program root = (perform program (length program) (fresh program) (main_order root)).thread
 
 -- the places of the roots, the first module having this place
 abbrev pub roots_from : ℕ → List Behaviour → List ℕ
@@ -158,4 +162,5 @@ joined (runs ∷ before) (more ∷ others) = (runs ++ more) ∷ joined before ot
 
 -- for each module the runs that it performs, in order
 unfoldable pub history_of : List Behaviour → List (List Run)
-history_of program = fold (λ history root. joined history (thread_of program root).thread.runs) (map (λ _. []) program) (roots_from 0 program)
+history_of program =
+    fold (λ history root. joined history (thread_of program root).runs) (map (λ _. []) program) (roots_from 0 program)

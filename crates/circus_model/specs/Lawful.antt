@@ -1,15 +1,17 @@
 -- What every module keeps to: when a procedure may be started and resumed, and what its turns may be.
-use Rattle.std.specs.Prelude.{ℕ, ◌≤◌, ◌<◌, Bool, false, ◌&&◌, ◌||◌, ◌==◌, nat_le, List, [], ◌∷◌, ◌++◌, length, Option, find, IsTrue}
+use Rattle.std.specs.Prelude.{ℕ, ◌≤◌, ◌<◌, Bool, false, ◌||◌, ◌==◌, List, [], ◌∷◌, ◌++◌, Option, find, IsTrue}
 use Rattle.std.specs.Option.{option_map_or}
 use Rattle.circus_value.specs.ValueTree.{ValueTree}
 use Rattle.circus_value.specs.Fits.{all_fit}
 use Rattle.circus_value.specs.ExternalSize.{size_of_values}
+use Rattle.circus_model.specs.LanguageError.{is_language_error}
 use Rattle.circus_value.specs.declared.outcome.Outcome.{Outcome}
 use Rattle.circus_value.specs.declared.outcome.Outcome.TheVariants.{Returned, Raised}
 use Rattle.circus_model.specs.declared.signature.Signature.{Signature}
 use Rattle.circus_model.specs.declared.signature.Import.{Import}
 use Rattle.circus_model.specs.declared.signature.ProcedureShape.{ProcedureShape}
 use Rattle.circus_model.specs.declared.signature.ErrorShape.{ErrorShape}
+use Rattle.circus_model.specs.Limits.{most_asks, most_bytes}
 use Rattle.circus_model.specs.NextTurn.{NextTurn, asks, ends}
 
 -- the procedure with a number
@@ -30,16 +32,16 @@ abbrev pub is_reported : List ErrorShape → ℕ → List ValueTree → Bool
 is_reported errors number values =
     option_map_or (λ e. all_fit e.arguments values) (find (λ e. e.number == number) errors) false
 
--- one of the errors of the language and its runtime, which have no values
-abbrev pub is_language_error : ℕ → List ValueTree → Bool
-is_language_error number [] = nat_le 60001 number && nat_le number 60009
-is_language_error _ (_ ∷ _) = false
+-- an error of the language is raised, which has no values
+abbrev pub is_raised_by_language : ℕ → List ValueTree → Bool
+is_raised_by_language number [] = is_language_error number
+is_raised_by_language _ (_ ∷ _) = false
 
 -- a procedure of this shape may end so
 abbrev pub outcome_fits : ProcedureShape → Outcome → Bool
 outcome_fits procedure (Returned results) = all_fit procedure.results results
 outcome_fits procedure (Raised number values) =
-    is_reported procedure.errors number values || is_language_error number values
+    is_reported procedure.errors number values || is_raised_by_language number values
 
 -- the results, or the error's values
 abbrev pub values_of : Outcome → List ValueTree
@@ -55,7 +57,7 @@ pub record IsState (signature : Signature) (state : List ValueTree) : Type 0 whe
 pub record CanStart (signature : Signature) (state : List ValueTree) (procedure : ℕ) (arguments : List ValueTree) : Type 0 where
   pub from_state : IsState signature state
   pub fit : IsTrue (arguments_fit signature.procedures procedure arguments)
-  pub within : size_of_values arguments ≤ 1048576
+  pub within : size_of_values arguments ≤ most_bytes
 
 -- an imported procedure may answer so
 abbrev pub import_answers : List Import → ℕ → ℕ → Outcome → Bool
@@ -81,9 +83,9 @@ abbrev pub import_takes : List Import → ℕ → ℕ → List ValueTree → Boo
 import_takes imports callee procedure arguments =
     option_map_or (λ i. arguments_fit i.procedures procedure arguments) (import_of callee imports) false
 
--- an ask goes to an import, with arguments that fit, within the limit, at most 65,535 times
+-- an ask goes to an import, with arguments that fit, within the limit, while asks are left
 pub record IsLawfulAsk (signature : Signature) (replies callee procedure : ℕ) (arguments : List ValueTree) : Type 0 where
-  pub few : replies < 65535
+  pub few : replies < most_asks
   pub fit : IsTrue (import_takes signature.imports callee procedure arguments)
   pub within : size_of_values arguments ≤ signature.limit
 

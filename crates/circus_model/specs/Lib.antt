@@ -1,4 +1,9 @@
+pub mod Limits
+pub mod LanguageError
 pub mod NextTurn
 pub mod Lawful
 pub mod Gives
+pub mod Behaviour
+pub mod Agree
 pub mod Execution
+pub mod History

@@ -7,7 +7,7 @@ use Rattle.circus_value.specs.Fits.{all_fit}
 use Rattle.circus_value.specs.declared.outcome.Outcome.{Outcome}
 use Rattle.circus_value.specs.declared.outcome.Outcome.TheVariants.{Returned, Raised}
 use Rattle.circus_model.specs.declared.signature.ProcedureShape.{ProcedureShape}
-use Rattle.circus_model.specs.Lawful.{IsState, CanStart, RepliesFit, IsLawful, IsLawfulEnd, outcome_fits, import_answers, is_language_error, values_of}
+use Rattle.circus_model.specs.Lawful.{IsState, CanStart, RepliesFit, IsLawful, IsLawfulEnd, outcome_fits, import_answers, is_raised_by_language, values_of}
 use Rattle.circus_world.specs.Record.{one}
 use Rattle.circus_world.specs.CallerTurn.{caller_signature, caller_turn, caller_end, passed_on}
 use Rattle.circus_world.specs.OneNumberLaws.{one_fits, number_fits, still_found}
@@ -28,7 +28,7 @@ passed_fits error h = by_test (nat_le 60001 error) refl
     by_test false e = refl
 
 -- so is what is raised for a reply that an import may give
-raised_fits : (error : ℕ) (values : List ValueTree) → is_language_error error values ≡ true → outcome_fits main (Raised (passed_on error) []) ≡ true
+raised_fits : (error : ℕ) (values : List ValueTree) → is_raised_by_language error values ≡ true → outcome_fits main (Raised (passed_on error) []) ≡ true
 raised_fits error [] h = passed_fits error h
 raised_fits error (_ ∷ _) h = cc
 

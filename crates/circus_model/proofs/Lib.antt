@@ -1,0 +1,9 @@
+pub mod Lookups
+pub mod Ready
+pub mod Turning
+pub mod Going
+pub mod Counting
+pub mod Logging
+pub mod Keeping
+pub mod Histories
+pub mod Paths
