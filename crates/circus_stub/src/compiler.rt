@@ -91,9 +91,18 @@ fn add_arms(alloc: Global, operations: &mut Operations, arms: &Arms) -> Result<(
 {
     for arm in arms.as_slice() {
         let at = operations.len();
-        operations.push(Operation::Arm(arm.number, 0))?;
+        operations.push(Operation::Arm {
+            number: arm.number,
+            end: 0,
+        })?;
         add_shape(alloc, operations, &arm.shape)?;
-        operations.set(at, Operation::Arm(arm.number, operations.len()));
+        operations.set(
+            at,
+            Operation::Arm {
+                number: arm.number,
+                end: operations.len(),
+            },
+        );
     }
     Ok(())
 }
@@ -113,27 +122,60 @@ fn add_shape(alloc: Global, operations: &mut Operations, shape: &Shape) -> Resul
         Shape::Text => operations.push(Operation::Text),
         Shape::Enumeration(labels) => add_numbers(alloc, operations, labels.as_slice()),
         Shape::Array(len, element) => {
-            operations.push(Operation::Array(*len, 0))?;
+            operations.push(Operation::Array { len: *len, end: 0 })?;
             add_shape(alloc, operations, element.shape())?;
-            operations.set(at, Operation::Array(*len, operations.len()));
+            operations.set(
+                at,
+                Operation::Array {
+                    len: *len,
+                    end: operations.len(),
+                },
+            );
             Ok(())
         }
         Shape::Sequence(bound, element) => {
-            operations.push(Operation::Sequence(*bound, 0))?;
+            operations.push(Operation::Sequence {
+                bound: *bound,
+                end: 0,
+            })?;
             add_shape(alloc, operations, element.shape())?;
-            operations.set(at, Operation::Sequence(*bound, operations.len()));
+            operations.set(
+                at,
+                Operation::Sequence {
+                    bound: *bound,
+                    end: operations.len(),
+                },
+            );
             Ok(())
         }
         Shape::Record(fields) => {
-            operations.push(Operation::Record(fields.len(), 0))?;
+            operations.push(Operation::Record {
+                fields: fields.len(),
+                end: 0,
+            })?;
             add_fields(alloc, operations, fields)?;
-            operations.set(at, Operation::Record(fields.len(), operations.len()));
+            operations.set(
+                at,
+                Operation::Record {
+                    fields: fields.len(),
+                    end: operations.len(),
+                },
+            );
             Ok(())
         }
         Shape::Choice(arms) => {
-            operations.push(Operation::Choice(arms.len(), 0))?;
+            operations.push(Operation::Choice {
+                arms: arms.len(),
+                end: 0,
+            })?;
             add_arms(alloc, operations, arms)?;
-            operations.set(at, Operation::Choice(arms.len(), operations.len()));
+            operations.set(
+                at,
+                Operation::Choice {
+                    arms: arms.len(),
+                    end: operations.len(),
+                },
+            );
             Ok(())
         }
     }

@@ -4,7 +4,7 @@ ghost use Rattle.std.specs.Prelude.{◌≡◌};
 use circus_value::{Duplicate, NoMemory, Numbers};
 
 /// One step of packing or unpacking a value. Where a step has a part of its own, the part's operations
-/// stand behind it, and its last number is the place behind them.
+/// stand behind it, and `end` is the place behind them.
 #[derive(Debug, Drop)]
 pub enum Operation {
     Boolean,
@@ -15,16 +15,16 @@ pub enum Operation {
     Text,
     /// A number that is one of these.
     Enumeration(Numbers),
-    /// So many times the part.
-    Array(u16, usize),
-    /// At most so many times the part, with their count before them.
-    Sequence(u16, usize),
-    /// So many values, one behind another.
-    Record(usize, usize),
+    /// `len` times the part.
+    Array { len: u16, end: usize },
+    /// At most `bound` times the part, with their count before them.
+    Sequence { bound: u16, end: usize },
+    /// So many values as there are fields, one behind another.
+    Record { fields: usize, end: usize },
     /// One of so many arms, with its number before it.
-    Choice(usize, usize),
+    Choice { arms: usize, end: usize },
     /// The part that a choice has under a number.
-    Arm(u16, usize),
+    Arm { number: u16, end: usize },
 }
 
 impl Operation {
@@ -35,9 +35,9 @@ impl Operation {
         ensures { result ≡ part_end self.now }
     {
         match self {
-            Operation::Array(_, end) | Operation::Sequence(_, end) => Some(*end),
-            Operation::Record(_, end) | Operation::Choice(_, end) => Some(*end),
-            Operation::Arm(_, end) => Some(*end),
+            Operation::Array { end, .. } | Operation::Sequence { end, .. } => Some(*end),
+            Operation::Record { end, .. } | Operation::Choice { end, .. } => Some(*end),
+            Operation::Arm { end, .. } => Some(*end),
             Operation::Boolean | Operation::Cardinal | Operation::LongCardinal => None,
             Operation::Integer | Operation::LongInteger | Operation::Text => None,
             Operation::Enumeration(_) => None,
@@ -55,11 +55,26 @@ impl Duplicate for Operation {
             Operation::LongInteger => Operation::LongInteger,
             Operation::Text => Operation::Text,
             Operation::Enumeration(numbers) => Operation::Enumeration(numbers.copy()?),
-            Operation::Array(len, end) => Operation::Array(*len, *end),
-            Operation::Sequence(bound, end) => Operation::Sequence(*bound, *end),
-            Operation::Record(fields, end) => Operation::Record(*fields, *end),
-            Operation::Choice(arms, end) => Operation::Choice(*arms, *end),
-            Operation::Arm(number, end) => Operation::Arm(*number, *end),
+            Operation::Array { len, end } => Operation::Array {
+                len: *len,
+                end: *end,
+            },
+            Operation::Sequence { bound, end } => Operation::Sequence {
+                bound: *bound,
+                end: *end,
+            },
+            Operation::Record { fields, end } => Operation::Record {
+                fields: *fields,
+                end: *end,
+            },
+            Operation::Choice { arms, end } => Operation::Choice {
+                arms: *arms,
+                end: *end,
+            },
+            Operation::Arm { number, end } => Operation::Arm {
+                number: *number,
+                end: *end,
+            },
         })
     }
 }

@@ -29,7 +29,10 @@ pub(crate) fn arm_place(
     let mut here = place;
     while here < end {
         match &operations[here] {
-            Operation::Arm(number, behind) => {
+            Operation::Arm {
+                number,
+                end: behind,
+            } => {
                 if *number == wanted {
                     return Some(here + 1);
                 }

@@ -35,20 +35,27 @@ fn read_value<S: ByteSource>(
         Operation::LongInteger => read_from(alloc, source, at, &Shape::LongInteger),
         Operation::Text => read_from(alloc, source, at, &Shape::Text),
         Operation::Enumeration(numbers) => read_listed(source, at, numbers.as_slice()),
-        Operation::Array(len, _) => {
+        Operation::Array { len, .. } => {
             let (items, next) = read_items(alloc, source, at, *len, operations, place + 1)?;
             Ok((Value::Array(items), next))
         }
-        Operation::Sequence(bound, _) => {
+        Operation::Sequence { bound, .. } => {
             let (items, next) = read_sequence(alloc, source, at, *bound, operations, place + 1)?;
             Ok((Value::Sequence(items), next))
         }
-        Operation::Record(_, end) => {
+        Operation::Record { end, .. } => {
             let (items, next) = read_values(alloc, source, at, operations, place + 1, *end)?;
             Ok((Value::Record(items), next))
         }
-        Operation::Choice(_, end) => read_choice(alloc, source, at, operations, place + 1, *end),
-        Operation::Arm(_, _) => unreachable!(),
+        Operation::Choice { end, .. } => read_choice(
+            alloc,
+            source,
+            at,
+            operations,
+            place + 1,
+            *end,
+        ),
+        Operation::Arm { .. } => unreachable!(),
     }
 }
 

@@ -205,10 +205,10 @@ fn add_value(
         Operation::LongInteger => text.append(b" long-integer"),
         Operation::Text => text.append(b" string"),
         Operation::Enumeration(numbers) => add_enumeration(alloc, text, numbers.as_slice()),
-        Operation::Array(len, _) => {
+        Operation::Array { len, .. } => {
             add_part(alloc, text, b" array", u64::from(*len), operations, next)
         }
-        Operation::Sequence(bound, _) => {
+        Operation::Sequence { bound, .. } => {
             add_part(
                 alloc,
                 text,
@@ -218,13 +218,13 @@ fn add_value(
                 next,
             )
         }
-        Operation::Record(fields, end) => {
+        Operation::Record { fields, end } => {
             add_record(alloc, text, *fields as u64, operations, next, *end)
         }
-        Operation::Choice(arms, end) => {
+        Operation::Choice { arms, end } => {
             add_choice(alloc, text, *arms as u64, operations, next, *end)
         }
-        Operation::Arm(_, _) => unreachable!(),
+        Operation::Arm { .. } => unreachable!(),
     }
 }
 
@@ -345,7 +345,10 @@ fn add_arms(
     let mut here = place;
     while here < end {
         match &operations[here] {
-            Operation::Arm(number, behind) => {
+            Operation::Arm {
+                number,
+                end: behind,
+            } => {
                 add_part(
                     alloc,
                     text,

@@ -45,18 +45,18 @@ fn write_value(
         Operation::LongInteger => write_long(kinds::long_integer(value).cast_unsigned(), out),
         Operation::Text => write_text(kinds::text(value), out),
         Operation::Enumeration(_) => write_word(kinds::label(value), out),
-        Operation::Array(_, _) => write_items(kinds::array(value), operations, place + 1, out),
-        Operation::Sequence(bound, _) => {
+        Operation::Array { .. } => write_items(kinds::array(value), operations, place + 1, out),
+        Operation::Sequence { bound, .. } => {
             write_sequence(kinds::sequence(value), *bound, operations, place + 1, out)
         }
-        Operation::Record(_, end) => {
+        Operation::Record { end, .. } => {
             write_values(kinds::parts(value), operations, place + 1, *end, out)
         }
-        Operation::Choice(_, end) => {
+        Operation::Choice { end, .. } => {
             let (number, chosen) = kinds::choice(value);
             write_choice(number, chosen, operations, place + 1, *end, out)
         }
-        Operation::Arm(_, _) => unreachable!(),
+        Operation::Arm { .. } => unreachable!(),
     }
 }
 

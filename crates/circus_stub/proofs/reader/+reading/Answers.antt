@@ -55,80 +55,80 @@ pub read_value-unreachable-requires : goal.read_value-unreachable-requires
 read_value-unreachable-requires g t c =
     let standing = c.requires.standing in
     let first = sym (first_stands c.args.operations.now c.args.place c.index-operations-place.result standing.0 standing.1) ∙ sym c.index-operations-place.is ∙ c.in-Arm.is in
-    no_arm_of standing.0 c.args.place c.in-Arm.field-0 c.in-Arm.field-1 first
+    no_arm_of standing.0 c.args.place c.in-Arm.number c.in-Arm.end first
 
 pub read_value-read_items-requires : goal.read_value-read_items-requires
 read_value-read_items-requires g t c κs within =
     let standing = c.requires.standing in
-    let st = array_stands c.args.operations.now c.args.place c.in-Array.len c.in-Array.field-1 c.index-operations-place.result standing.0 (sym c.index-operations-place.is ∙ c.in-Array.is) standing.1 in
+    let st = array_stands c.args.operations.now c.args.place c.in-Array.len c.in-Array.end c.index-operations-place.result standing.0 (sym c.index-operations-place.is ∙ c.in-Array.is) standing.1 in
     (omega (arith, standing.1.within, c.decreases), (within, (c.requires.within, (st.0, st.2))))
 
 pub read_value-returns-in_err-items-in-Array : goal.read_value-returns-in_err-items-in-Array
 read_value-returns-in_err-items-in-Array g t c = λ shape standing.
     let p = err_from_is_err_and c.from_residual.result c.from_residual.ensures.1 in
     let bytes = g.S.ByteSource.octets c.args.source.now in
-    let st = array_stands c.args.operations.now c.args.place c.in-Array.len c.in-Array.field-1 c.index-operations-place.result shape (sym c.index-operations-place.is ∙ c.in-Array.is) standing in
+    let st = array_stands c.args.operations.now c.args.place c.in-Array.len c.in-Array.end c.index-operations-place.result shape (sym c.index-operations-place.is ∙ c.in-Array.is) standing in
     rw (p.1, p.2)
     (fault_mapped (λ ts. ts) values.tree_of bytes c.in_err-items-in-Array.field-0.0 (items_read (reading st.0) c.in-Array.len c.args.at (drop c.args.at bytes)) (reading shape c.args.at (drop c.args.at bytes)) (λ ts. V.array (value_trees ts)) (c.in_err-items-in-Array.ensures st.0 st.2) (ap (λ s. reading s c.args.at (drop c.args.at bytes)) st.1))
 
 pub read_value-returns-in_ok-items-in-Array : goal.read_value-returns-in_ok-items-in-Array
 read_value-returns-in_ok-items-in-Array g t c = λ shape standing.
     let bytes = g.S.ByteSource.octets c.args.source.now in
-    let st = array_stands c.args.operations.now c.args.place c.in-Array.len c.in-Array.field-1 c.index-operations-place.result shape (sym c.index-operations-place.is ∙ c.in-Array.is) standing in
+    let st = array_stands c.args.operations.now c.args.place c.in-Array.len c.in-Array.end c.index-operations-place.result shape (sym c.index-operations-place.is ∙ c.in-Array.is) standing in
     let items = c.in_ok-items-in-Array.ensures st.0 st.2 in
     (items.0, ap (λ s. reading s c.args.at (drop c.args.at bytes)) st.1 ∙ ap (answer_map (λ ts. V.array (value_trees ts))) items.1)
 
 pub read_value-read_sequence-requires : goal.read_value-read_sequence-requires
 read_value-read_sequence-requires g t c κs within =
     let standing = c.requires.standing in
-    let st = sequence_stands c.args.operations.now c.args.place c.in-Sequence.bound c.in-Sequence.field-1 c.index-operations-place.result standing.0 (sym c.index-operations-place.is ∙ c.in-Sequence.is) standing.1 in
+    let st = sequence_stands c.args.operations.now c.args.place c.in-Sequence.bound c.in-Sequence.end c.index-operations-place.result standing.0 (sym c.index-operations-place.is ∙ c.in-Sequence.is) standing.1 in
     (omega (arith, standing.1.within, c.decreases), (within, (c.requires.within, (st.0, st.2))))
 
 pub read_value-returns-in_err-items-in-Sequence : goal.read_value-returns-in_err-items-in-Sequence
 read_value-returns-in_err-items-in-Sequence g t c = λ shape standing.
     let p = err_from_is_err_and c.from_residual-in_err-items-in-Sequence.result c.from_residual-in_err-items-in-Sequence.ensures.1 in
     let bytes = g.S.ByteSource.octets c.args.source.now in
-    let st = sequence_stands c.args.operations.now c.args.place c.in-Sequence.bound c.in-Sequence.field-1 c.index-operations-place.result shape (sym c.index-operations-place.is ∙ c.in-Sequence.is) standing in
+    let st = sequence_stands c.args.operations.now c.args.place c.in-Sequence.bound c.in-Sequence.end c.index-operations-place.result shape (sym c.index-operations-place.is ∙ c.in-Sequence.is) standing in
     rw (p.1, p.2)
     (fault_mapped (λ ts. ts) values.tree_of bytes c.in_err-items-in-Sequence.field-0.0 (sequence_read (reading st.0) c.in-Sequence.bound c.args.at (drop c.args.at bytes)) (reading shape c.args.at (drop c.args.at bytes)) (λ ts. V.sequence (value_trees ts)) (c.in_err-items-in-Sequence.ensures st.0 st.2) (ap (λ s. reading s c.args.at (drop c.args.at bytes)) st.1))
 
 pub read_value-returns-in_ok-items-in-Sequence : goal.read_value-returns-in_ok-items-in-Sequence
 read_value-returns-in_ok-items-in-Sequence g t c = λ shape standing.
     let bytes = g.S.ByteSource.octets c.args.source.now in
-    let st = sequence_stands c.args.operations.now c.args.place c.in-Sequence.bound c.in-Sequence.field-1 c.index-operations-place.result shape (sym c.index-operations-place.is ∙ c.in-Sequence.is) standing in
+    let st = sequence_stands c.args.operations.now c.args.place c.in-Sequence.bound c.in-Sequence.end c.index-operations-place.result shape (sym c.index-operations-place.is ∙ c.in-Sequence.is) standing in
     let items = c.in_ok-items-in-Sequence.ensures st.0 st.2 in
     (items.0, ap (λ s. reading s c.args.at (drop c.args.at bytes)) st.1 ∙ ap (answer_map (λ ts. V.sequence (value_trees ts))) items.1)
 
 pub read_value-read_values-requires : goal.read_value-read_values-requires
 read_value-read_values-requires g t c κs within =
     let standing = c.requires.standing in
-    let st = record_stands c.args.operations.now c.args.place c.in-Record.field-0 c.in-Record.end c.index-operations-place.result standing.0 (sym c.index-operations-place.is ∙ c.in-Record.is) standing.1 in
+    let st = record_stands c.args.operations.now c.args.place c.in-Record.fields c.in-Record.end c.index-operations-place.result standing.0 (sym c.index-operations-place.is ∙ c.in-Record.is) standing.1 in
     (omega (arith, standing.1.within, c.decreases), (within, (c.requires.within, (st.0, st.2))))
 
 pub read_value-returns-in_err-items-in-Record : goal.read_value-returns-in_err-items-in-Record
 read_value-returns-in_err-items-in-Record g t c = λ shape standing.
     let p = err_from_is_err_and c.from_residual-in_err-items-in-Record.result c.from_residual-in_err-items-in-Record.ensures.1 in
     let bytes = g.S.ByteSource.octets c.args.source.now in
-    let st = record_stands c.args.operations.now c.args.place c.in-Record.field-0 c.in-Record.end c.index-operations-place.result shape (sym c.index-operations-place.is ∙ c.in-Record.is) standing in
+    let st = record_stands c.args.operations.now c.args.place c.in-Record.fields c.in-Record.end c.index-operations-place.result shape (sym c.index-operations-place.is ∙ c.in-Record.is) standing in
     rw (p.1, p.2)
     (fault_mapped (λ ts. ts) values.tree_of bytes c.in_err-items-in-Record.field-0.0 (fields_reading st.0 c.args.at (drop c.args.at bytes)) (reading shape c.args.at (drop c.args.at bytes)) (λ ts. V.«record» (value_trees ts)) (c.in_err-items-in-Record.ensures st.0 st.2) (ap (λ s. reading s c.args.at (drop c.args.at bytes)) st.1))
 
 pub read_value-returns-in_ok-items-in-Record : goal.read_value-returns-in_ok-items-in-Record
 read_value-returns-in_ok-items-in-Record g t c = λ shape standing.
     let bytes = g.S.ByteSource.octets c.args.source.now in
-    let st = record_stands c.args.operations.now c.args.place c.in-Record.field-0 c.in-Record.end c.index-operations-place.result shape (sym c.index-operations-place.is ∙ c.in-Record.is) standing in
+    let st = record_stands c.args.operations.now c.args.place c.in-Record.fields c.in-Record.end c.index-operations-place.result shape (sym c.index-operations-place.is ∙ c.in-Record.is) standing in
     let items = c.in_ok-items-in-Record.ensures st.0 st.2 in
     (items.0, ap (λ s. reading s c.args.at (drop c.args.at bytes)) st.1 ∙ ap (answer_map (λ ts. V.«record» (value_trees ts))) items.1)
 
 pub read_value-read_choice-requires : goal.read_value-read_choice-requires
 read_value-read_choice-requires g t c κs within =
     let standing = c.requires.standing in
-    let st = choice_stands c.args.operations.now c.args.place c.in-Choice.field-0 c.in-Choice.end c.index-operations-place.result standing.0 (sym c.index-operations-place.is ∙ c.in-Choice.is) standing.1 in
+    let st = choice_stands c.args.operations.now c.args.place c.in-Choice.arms c.in-Choice.end c.index-operations-place.result standing.0 (sym c.index-operations-place.is ∙ c.in-Choice.is) standing.1 in
     (omega (arith, standing.1.within, c.decreases), (within, (c.requires.within, (st.0, st.2))))
 
 pub read_value-returns-in-Choice : goal.read_value-returns-in-Choice
 read_value-returns-in-Choice g t c = λ shape standing.
-    let st = choice_stands c.args.operations.now c.args.place c.in-Choice.field-0 c.in-Choice.end c.index-operations-place.result shape (sym c.index-operations-place.is ∙ c.in-Choice.is) standing in
+    let st = choice_stands c.args.operations.now c.args.place c.in-Choice.arms c.in-Choice.end c.index-operations-place.result shape (sym c.index-operations-place.is ∙ c.in-Choice.is) standing in
     rw st.1 (c.read_choice.ensures st.0 st.2)
 
 -- ---- items

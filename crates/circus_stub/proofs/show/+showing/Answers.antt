@@ -51,26 +51,26 @@ add_value-returns-in-Enumeration t c = λ shape standing.
 pub add_value-unreachable-requires : goal.add_value-unreachable-requires
 add_value-unreachable-requires t c =
     let first = sym (first_stands c.args.operations.now c.args.place c.index-operations-place.result c.requires.0 c.requires.1) ∙ sym c.index-operations-place.is ∙ c.in-Arm.is in
-    no_arm_of c.requires.0 c.args.place c.in-Arm.field-0 c.in-Arm.field-1 first
+    no_arm_of c.requires.0 c.args.place c.in-Arm.number c.in-Arm.end first
 
 pub add_value-add_part-requires : goal.add_value-add_part-requires
 add_value-add_part-requires t c =
-    let st = array_stands c.args.operations.now c.args.place c.in-Array.len c.in-Array.field-1 c.index-operations-place.result c.requires.0 (sym c.index-operations-place.is ∙ c.in-Array.is) c.requires.1 in
+    let st = array_stands c.args.operations.now c.args.place c.in-Array.len c.in-Array.end c.index-operations-place.result c.requires.0 (sym c.index-operations-place.is ∙ c.in-Array.is) c.requires.1 in
     (omega (arith, c.requires.1.within, c.decreases), (st.0, st.2))
 
 pub add_value-returns-in-Array : goal.add_value-returns-in-Array
 add_value-returns-in-Array t c = λ shape standing.
-    let st = array_stands c.args.operations.now c.args.place c.in-Array.len c.in-Array.field-1 c.index-operations-place.result shape (sym c.index-operations-place.is ∙ c.in-Array.is) standing in
+    let st = array_stands c.args.operations.now c.args.place c.in-Array.len c.in-Array.end c.index-operations-place.result shape (sym c.index-operations-place.is ∙ c.in-Array.is) standing in
     rw st.1 (rw c.from.ensures at (c.add_part.ensures st.0 st.2))
 
 pub add_value-add_part-requires-in-Sequence : goal.add_value-add_part-requires-in-Sequence
 add_value-add_part-requires-in-Sequence t c =
-    let st = sequence_stands c.args.operations.now c.args.place c.in-Sequence.bound c.in-Sequence.field-1 c.index-operations-place.result c.requires.0 (sym c.index-operations-place.is ∙ c.in-Sequence.is) c.requires.1 in
+    let st = sequence_stands c.args.operations.now c.args.place c.in-Sequence.bound c.in-Sequence.end c.index-operations-place.result c.requires.0 (sym c.index-operations-place.is ∙ c.in-Sequence.is) c.requires.1 in
     (omega (arith, c.requires.1.within, c.decreases), (st.0, st.2))
 
 pub add_value-returns-in-Sequence : goal.add_value-returns-in-Sequence
 add_value-returns-in-Sequence t c = λ shape standing.
-    let st = sequence_stands c.args.operations.now c.args.place c.in-Sequence.bound c.in-Sequence.field-1 c.index-operations-place.result shape (sym c.index-operations-place.is ∙ c.in-Sequence.is) standing in
+    let st = sequence_stands c.args.operations.now c.args.place c.in-Sequence.bound c.in-Sequence.end c.index-operations-place.result shape (sym c.index-operations-place.is ∙ c.in-Sequence.is) standing in
     rw st.1 (rw c.from-in-Sequence.ensures at (c.add_part-in-Sequence.ensures st.0 st.2))
 
 pub add_value-add_record-requires : goal.add_value-add_record-requires

@@ -52,47 +52,47 @@ write_value-label-requires t c =
 pub write_value-unreachable-requires : goal.write_value-unreachable-requires
 write_value-unreachable-requires t c =
     let first = sym (first_stands c.args.operations.now c.args.place c.index-operations-place.result c.requires.0 c.requires.1) ∙ sym c.index-operations-place.is ∙ c.in-Arm.is in
-    no_arm_of c.requires.0 c.args.place c.in-Arm.field-0 c.in-Arm.field-1 first
+    no_arm_of c.requires.0 c.args.place c.in-Arm.number c.in-Arm.end first
 
 pub write_value-array-requires : goal.write_value-array-requires
 write_value-array-requires t c =
-    let st = array_stands c.args.operations.now c.args.place c.in-Array.field-0 c.in-Array.field-1 c.index-operations-place.result c.requires.0 (sym c.index-operations-place.is ∙ c.in-Array.is) c.requires.1 in
-    (c.in-Array.field-0, fits st.0, subst (λ s. fits s (values.tree_of c.args.value.now) ≡ true) st.1 c.requires.2)
+    let st = array_stands c.args.operations.now c.args.place c.in-Array.len c.in-Array.end c.index-operations-place.result c.requires.0 (sym c.index-operations-place.is ∙ c.in-Array.is) c.requires.1 in
+    (c.in-Array.len, fits st.0, subst (λ s. fits s (values.tree_of c.args.value.now) ≡ true) st.1 c.requires.2)
 
 pub write_value-write_items-requires : goal.write_value-write_items-requires
 write_value-write_items-requires t c =
-    let st = array_stands c.args.operations.now c.args.place c.in-Array.field-0 c.in-Array.field-1 c.index-operations-place.result c.requires.0 (sym c.index-operations-place.is ∙ c.in-Array.is) c.requires.1 in
+    let st = array_stands c.args.operations.now c.args.place c.in-Array.len c.in-Array.end c.index-operations-place.result c.requires.0 (sym c.index-operations-place.is ∙ c.in-Array.is) c.requires.1 in
     let fit = same_fits c.requires.0 _ (values.tree_of c.args.value.now) _ st.1 c.array.ensures c.requires.2 in
     (omega (arith, c.requires.1.within, c.decreases), (st.0, st.2, (and_both _ (every (fits st.0) (value_trees c.array.result.now)) fit).1))
 
 pub write_value-sequence-requires : goal.write_value-sequence-requires
 write_value-sequence-requires t c =
-    let st = sequence_stands c.args.operations.now c.args.place c.in-Sequence.bound c.in-Sequence.field-1 c.index-operations-place.result c.requires.0 (sym c.index-operations-place.is ∙ c.in-Sequence.is) c.requires.1 in
+    let st = sequence_stands c.args.operations.now c.args.place c.in-Sequence.bound c.in-Sequence.end c.index-operations-place.result c.requires.0 (sym c.index-operations-place.is ∙ c.in-Sequence.is) c.requires.1 in
     (c.in-Sequence.bound, fits st.0, subst (λ s. fits s (values.tree_of c.args.value.now) ≡ true) st.1 c.requires.2)
 
 pub write_value-write_sequence-requires : goal.write_value-write_sequence-requires
 write_value-write_sequence-requires t c =
-    let st = sequence_stands c.args.operations.now c.args.place c.in-Sequence.bound c.in-Sequence.field-1 c.index-operations-place.result c.requires.0 (sym c.index-operations-place.is ∙ c.in-Sequence.is) c.requires.1 in
+    let st = sequence_stands c.args.operations.now c.args.place c.in-Sequence.bound c.in-Sequence.end c.index-operations-place.result c.requires.0 (sym c.index-operations-place.is ∙ c.in-Sequence.is) c.requires.1 in
     (omega (arith, c.requires.1.within, c.decreases), (st.0, st.2, same_fits c.requires.0 _ (values.tree_of c.args.value.now) _ st.1 c.sequence.ensures c.requires.2))
 
 pub write_value-parts-requires : goal.write_value-parts-requires
 write_value-parts-requires t c =
-    let st = record_stands c.args.operations.now c.args.place c.in-Record.field-0 c.in-Record.end c.index-operations-place.result c.requires.0 (sym c.index-operations-place.is ∙ c.in-Record.is) c.requires.1 in
+    let st = record_stands c.args.operations.now c.args.place c.in-Record.fields c.in-Record.end c.index-operations-place.result c.requires.0 (sym c.index-operations-place.is ∙ c.in-Record.is) c.requires.1 in
     (fields_fit st.0, subst (λ s. fits s (values.tree_of c.args.value.now) ≡ true) st.1 c.requires.2)
 
 pub write_value-write_values-requires : goal.write_value-write_values-requires
 write_value-write_values-requires t c =
-    let st = record_stands c.args.operations.now c.args.place c.in-Record.field-0 c.in-Record.end c.index-operations-place.result c.requires.0 (sym c.index-operations-place.is ∙ c.in-Record.is) c.requires.1 in
+    let st = record_stands c.args.operations.now c.args.place c.in-Record.fields c.in-Record.end c.index-operations-place.result c.requires.0 (sym c.index-operations-place.is ∙ c.in-Record.is) c.requires.1 in
     (omega (arith, c.requires.1.within, c.decreases), (st.0, st.2, same_fits c.requires.0 _ (values.tree_of c.args.value.now) _ st.1 c.parts.ensures c.requires.2))
 
 pub write_value-choice-number-requires : goal.write_value-choice-number-requires
 write_value-choice-number-requires t c =
-    let st = choice_stands c.args.operations.now c.args.place c.in-Choice.field-0 c.in-Choice.end c.index-operations-place.result c.requires.0 (sym c.index-operations-place.is ∙ c.in-Choice.is) c.requires.1 in
+    let st = choice_stands c.args.operations.now c.args.place c.in-Choice.arms c.in-Choice.end c.index-operations-place.result c.requires.0 (sym c.index-operations-place.is ∙ c.in-Choice.is) c.requires.1 in
     (arm_fits st.0, subst (λ s. fits s (values.tree_of c.args.value.now) ≡ true) st.1 c.requires.2)
 
 pub write_value-write_choice-requires : goal.write_value-write_choice-requires
 write_value-write_choice-requires t c =
-    let st = choice_stands c.args.operations.now c.args.place c.in-Choice.field-0 c.in-Choice.end c.index-operations-place.result c.requires.0 (sym c.index-operations-place.is ∙ c.in-Choice.is) c.requires.1 in
+    let st = choice_stands c.args.operations.now c.args.place c.in-Choice.arms c.in-Choice.end c.index-operations-place.result c.requires.0 (sym c.index-operations-place.is ∙ c.in-Choice.is) c.requires.1 in
     (omega (arith, c.requires.1.within, c.decreases), (st.0, st.2, same_fits c.requires.0 _ (values.tree_of c.args.value.now) _ st.1 c.choice-number.ensures c.requires.2))
 
 -- ---- sequences
