@@ -32,14 +32,26 @@ words_of (settle program deliveries) = codes "settle" ∷ program ∷ decimal de
 words_of (place placing) = codes "place" ∷ placing ∷ []
 words_of (audit program «record») = codes "audit" ∷ program ∷ «record» ∷ []
 
+-- a node takes at most so many datagrams
+abbrev pub most_turns : ℕ
+most_turns = 100000
+
+-- at most so many steps are drawn; a schedule has at most so many lines
+abbrev pub most_steps : ℕ
+most_steps = 200000
+
+-- at most so many datagrams are delivered to settle a program
+abbrev pub most_deliveries : ℕ
+most_deliveries = 1000000
+
 -- files have names, and numbers are in their ranges
 abbrev pub IsInRange : Form → Type 0
 IsInRange (stubs program) = program ≢ []
 IsInRange (run program) = program ≢ []
 IsInRange (replay program schedule) = (program ≢ []) × (schedule ≢ [])
-IsInRange (node program name turns) = (program ≢ []) × (turns ≤ 100000)
-IsInRange (sample program seed steps) = (program ≢ []) × (seed < 2 ^ 64) × (steps ≤ 200000)
-IsInRange (settle program deliveries) = (program ≢ []) × (deliveries ≤ 1000000)
+IsInRange (node program name turns) = (program ≢ []) × (turns ≤ most_turns)
+IsInRange (sample program seed steps) = (program ≢ []) × (seed < 2 ^ 64) × (steps ≤ most_steps)
+IsInRange (settle program deliveries) = (program ≢ []) × (deliveries ≤ most_deliveries)
 IsInRange (place placing) = placing ≢ []
 IsInRange (audit program «record») = (program ≢ []) × («record» ≢ [])
 

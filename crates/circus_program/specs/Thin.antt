@@ -3,6 +3,7 @@ use Rattle.std.specs.Prelude.{ℕ, ◌≡◌, ◌<◌, ◌≤◌, ◌^◌, ◌�
 use Rattle.std.specs.Fmt.{decimal}
 use Rattle.circus_world.specs.declared.line.Line.{Line}
 use Rattle.circus_world.specs.declared.line.Line.TheVariants.{Deliver}
+use Rattle.circus_program.specs.Form.{most_steps}
 use Rattle.circus_program.specs.declared.thin.TheConstants.{BEFORE_NUMBER, AFTER_NUMBER}
 
 -- the program's text with this number as the argument of its call
@@ -31,4 +32,4 @@ IsLineInRange (Deliver number) = number < 2 ^ 64
 pub record IsThinSchedule (bytes : List ℕ) (lines : List Line) : Type 0 where
   pub spelled : (bytes ≡ lines_text lines) ⊎ (bytes ++ 10 ∷ [] ≡ lines_text lines)
   pub in_range : All IsLineInRange lines
-  pub few : length lines ≤ 200000
+  pub few : length lines ≤ most_steps
