@@ -1,9 +1,12 @@
 //! The Ringmaster: a view of each troupe, changed by requests.
 //!
-//! `requests` has how one view is changed, and `ring` the views of all troupes.
+//! `requests` has how one view is changed, `ring` the views of all troupes, and `laws` what holds of them after every
+//! list of requests.
 #![tactic(auto)]
 
+mod laws;
 mod requests;
 mod ring;
 
+pub use laws::answers_show_the_views;
 pub use ring::Ring;
