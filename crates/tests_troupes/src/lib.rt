@@ -1,9 +1,12 @@
-//! Tests of the parts of a member: what collators answer, snapshots, and how a node joins.
+//! Tests of the parts of a member: what collators answer, the Ringmaster's requests, snapshots, and how a node
+//! joins.
 #![tactic(auto)]
 
 #[cfg(test)]
 mod collators;
 #[cfg(test)]
 mod joiners;
+#[cfg(test)]
+mod requests;
 #[cfg(test)]
 mod snapshots;

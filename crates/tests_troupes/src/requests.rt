@@ -1,0 +1,187 @@
+// What the Ringmaster answers, and its views afterwards, in tables.
+use circus_collate::RingResult::{Done, Full, NotSpare, RootTroupe};
+use circus_collate::Since::{From, Joining};
+use circus_collate::{Deployment, Entry, Kind, RingResult, Since, Table, Troupe};
+use circus_header::Request::{self, Active, Gone, Join, Lookup};
+use circus_ring::Ring;
+use circus_value::{ListOf, NoMemory, Nodes};
+use std::alloc::Global;
+use std::test::Fail;
+
+// A request, how it is taken, and the incarnation and the entries of its troupe's view afterwards.
+type Row<'a> = (Request, RingResult, u32, &'a [(u16, Since)]);
+
+fn nodes(alloc: Global, first: u16, last: u16) -> Result<Nodes, NoMemory> {
+    let mut nodes = ListOf::new(alloc);
+    for node in first..last {
+        nodes.push(node)?;
+    }
+    Ok(nodes)
+}
+
+// A troupe whose members stand at the nodes from one on, and its spares at those from another on.
+fn troupe(alloc: Global, root: bool, from: u16, spares: u16, end: u16) -> Result<Troupe, NoMemory> {
+    Ok(Troupe {
+        root,
+        calls: Kind::First,
+        replies: Kind::First,
+        founders: nodes(alloc, from, spares)?,
+        spares: nodes(alloc, spares, end)?,
+    })
+}
+
+// Troupe 0 is a root's, at node 1. Troupe 1 has nodes 2 and 3 and the spares 4 and 5, and troupe 2 the nodes 6 to
+// 20 and the spares 21 and 22.
+fn ring(alloc: Global) -> Result<Ring, NoMemory> {
+    let mut troupes = ListOf::new(alloc);
+    troupes.push(troupe(alloc, true, 1, 2, 2)?)?;
+    troupes.push(troupe(alloc, false, 2, 4, 6)?)?;
+    troupes.push(troupe(alloc, false, 6, 21, 23)?)?;
+    let deployment = Deployment {
+        troupes,
+        nodes: ListOf::new(alloc),
+        format: 1,
+    };
+    Ring::new(alloc, &deployment)
+}
+
+fn is_entry(entry: &Entry, member: &(u16, Since)) -> bool {
+    entry.node == member.0 && entry.since == member.1
+}
+
+fn is_table(table: &Table, row: &Row<'_>) -> bool {
+    let (_, taken, incarnation, members) = row;
+    let entries = table.view.entries.as_slice();
+    table.result == *taken
+        && table.view.incarnation == *incarnation
+        && entries.len() == members.len()
+        && entries
+            .iter()
+            .zip(members.iter())
+            .all(|(entry, member)| is_entry(entry, member))
+}
+
+// Whether the table is that of the row, and its view the one that is kept.
+fn is_answered(ring: &mut Ring, row: &Row<'_>) -> Result<bool, NoMemory> {
+    if !ring.is_about_one(&row.0) {
+        return Ok(false);
+    }
+    let table = ring.perform(&row.0)?;
+    let kept = match ring.views().get(usize::from(table.view.troupe)) {
+        Some(view) => *view == table.view,
+        None => false,
+    };
+    Ok(kept && is_table(&table, row))
+}
+
+// The number of the first row that is answered otherwise, or of no row.
+fn wrong_row(ring: &mut Ring, rows: &[Row<'_>]) -> Result<usize, NoMemory> {
+    for (number, row) in rows.iter().enumerate() {
+        if !is_answered(ring, row)? {
+            return Ok(number);
+        }
+    }
+    Ok(rows.len())
+}
+
+#[test]
+fn lookups_and_refusals(rt: HostRuntime) -> Result<(), Fail> {
+    let rows: [Row<'_>; 5] = [
+        (Lookup(0), Done, 1, &[(1, From(0))]),
+        (Lookup(1), Done, 1, &[(2, From(0)), (3, From(0))]),
+        (Join(0, 4), RootTroupe, 1, &[(1, From(0))]),
+        (Join(1, 9), NotSpare, 1, &[(2, From(0)), (3, From(0))]),
+        (Join(1, 2), NotSpare, 1, &[(2, From(0)), (3, From(0))]),
+    ];
+    let mut ring = ring(rt.alloc())?;
+    assert_eq!(rt; wrong_row(&mut ring, &rows)?, 5);
+    Ok(())
+}
+
+#[test]
+fn a_member_comes(rt: HostRuntime) -> Result<(), Fail> {
+    let rows: [Row<'_>; 6] = [
+        (Active(1, 4, 7), Done, 1, &[(2, From(0)), (3, From(0))]),
+        (
+            Join(1, 4),
+            Done,
+            2,
+            &[(2, From(0)), (3, From(0)), (4, Joining)],
+        ),
+        (
+            Join(1, 4),
+            Done,
+            2,
+            &[(2, From(0)), (3, From(0)), (4, Joining)],
+        ),
+        (
+            Active(1, 4, 7),
+            Done,
+            3,
+            &[(2, From(0)), (3, From(0)), (4, From(7))],
+        ),
+        (
+            Active(1, 4, 9),
+            Done,
+            3,
+            &[(2, From(0)), (3, From(0)), (4, From(7))],
+        ),
+        (
+            Active(1, 2, 9),
+            Done,
+            3,
+            &[(2, From(0)), (3, From(0)), (4, From(7))],
+        ),
+    ];
+    let mut ring = ring(rt.alloc())?;
+    assert_eq!(rt; wrong_row(&mut ring, &rows)?, 6);
+    Ok(())
+}
+
+#[test]
+fn members_go(rt: HostRuntime) -> Result<(), Fail> {
+    let rows: [Row<'_>; 6] = [
+        (Gone(1, 5), Done, 1, &[(2, From(0)), (3, From(0))]),
+        (
+            Join(1, 5),
+            Done,
+            2,
+            &[(2, From(0)), (3, From(0)), (5, Joining)],
+        ),
+        (Gone(1, 2), Done, 3, &[(3, From(0)), (5, Joining)]),
+        (Gone(1, 5), Done, 4, &[(3, From(0))]),
+        (Gone(1, 3), Done, 5, &[]),
+        (Join(1, 4), Done, 6, &[(4, Joining)]),
+    ];
+    let mut ring = ring(rt.alloc())?;
+    assert_eq!(rt; wrong_row(&mut ring, &rows)?, 6);
+    Ok(())
+}
+
+// How a request is taken, and how many entries the view of its troupe has afterwards.
+fn taken(ring: &mut Ring, request: Request) -> Result<Option<(RingResult, usize)>, NoMemory> {
+    if !ring.is_about_one(&request) {
+        return Ok(None);
+    }
+    let table = ring.perform(&request)?;
+    Ok(Some((table.result, table.view.entries.len())))
+}
+
+#[test]
+fn sixteen_entries_are_most(rt: HostRuntime) -> Result<(), Fail> {
+    let rows = [
+        (Join(2, 21), Done, 16),
+        (Join(2, 22), Full, 16),
+        (Join(2, 21), Done, 16),
+        (Join(2, 4), NotSpare, 16),
+        (Gone(2, 6), Done, 15),
+        (Join(2, 22), Done, 16),
+        (Join(0, 4), RootTroupe, 1),
+    ];
+    let mut ring = ring(rt.alloc())?;
+    for (request, result, entries) in rows {
+        assert_eq!(rt; taken(&mut ring, request)?, Some((result, entries)));
+    }
+    assert_eq!(rt; taken(&mut ring, Lookup(3))?, None);
+    Ok(())
+}
