@@ -49,12 +49,12 @@ added_behind kept troupes requests request troupe view table has_troupe has_view
 
 -- ---- the views afterwards
 
-get_set_same : {X : Type 0} (xs : List X) (i : ℕ) (y : X) → i < length xs → slice_get (slice_set xs i y) i ≡ Some y
+pub get_set_same : {X : Type 0} (xs : List X) (i : ℕ) (y : X) → i < length xs → slice_get (slice_set xs i y) i ≡ Some y
 get_set_same xs i y few =
     let there : i < length (slice_set xs i y) = subst (λ n. i < n) (sym (length-set xs i y)) few in
     slice_get-get_or (slice_set xs i y) i y there ∙ ap Some (get_or-set_same xs i y y few)
 
-get_set_other : {X : Type 0} (xs : List X) (i j : ℕ) (y : X) → j ≢ i → slice_get (slice_set xs i y) j ≡ slice_get xs j
+pub get_set_other : {X : Type 0} (xs : List X) (i j : ℕ) (y : X) → j ≢ i → slice_get (slice_set xs i y) j ≡ slice_get xs j
 get_set_other {X} xs i j y other =
     elim (cases_lt j (length xs)) [
       | inl few ↦
@@ -65,17 +65,24 @@ get_set_other {X} xs i j y other =
           slice_get_past (slice_set xs i y) j past_too ∙ sym (slice_get_past xs j past)
     ]
 
-has_a_view : (o : Option Troupe) (p : Option View) (request : Request) (table : Table)
-    → option_map_or (λ (t : Troupe). option_map_or (λ v. Some (table_for t.root t.spares v request)) p None) o None ≡ Some table → (view : View) × (p ≡ Some view)
-has_a_view None p request table is = cc
-has_a_view (Some t) None request table is = cc
-has_a_view (Some t) (Some v) request table is = (v, refl)
+both_there : (o : Option Troupe) (p : Option View) (request : Request) (table : Table)
+    → option_map_or (λ (t : Troupe). option_map_or (λ v. Some (table_for t.root t.spares v request)) p None) o None ≡ Some table
+    → (troupe : Troupe) × (view : View) × (o ≡ Some troupe) × (p ≡ Some view) × (table ≡ table_for troupe.root troupe.spares view request)
+both_there None p request table is = cc
+both_there (Some t) None request table is = cc
+both_there (Some t) (Some v) request table is = (t, v, refl, refl, cc)
+
+-- the troupe and the view that a table is made of
+pub has_both : (kept : Kept) (request : Request) (table : Table) → table_by kept request ≡ Some table
+    → (troupe : Troupe) × (view : View) × (slice_get kept.troupes (troupe_of request) ≡ Some troupe) × (slice_get kept.views (troupe_of request) ≡ Some view)
+    × (table ≡ table_for troupe.root troupe.spares view request)
+unfolding table_by
+has_both kept request table is = both_there (slice_get kept.troupes (troupe_of request)) (slice_get kept.views (troupe_of request)) request table is
 
 within : (kept : Kept) (request : Request) (table : Table) → table_by kept request ≡ Some table → troupe_of request < length kept.views
-unfolding table_by
 within kept request table is =
-    let has = has_a_view (slice_get kept.troupes (troupe_of request)) (slice_get kept.views (troupe_of request)) request table is in
-    slice_get_within kept.views (troupe_of request) has.0 has.1
+    let both = has_both kept request table is in
+    slice_get_within kept.views (troupe_of request) both.1 both.3
 
 behind : (troupes : List Troupe) (requests : List Request) (request : Request) → kept_after troupes (requests ++ request ∷ []) ≡ kept_by (kept_after troupes requests) request
 behind troupes requests request = fold-append kept_by (record { troupes = troupes; views = boot_views troupes }) requests (request ∷ [])

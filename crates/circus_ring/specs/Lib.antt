@@ -1,1 +1,2 @@
 pub mod RingTable
+pub mod ViewOf

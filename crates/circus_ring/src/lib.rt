@@ -8,5 +8,5 @@ mod laws;
 mod requests;
 mod ring;
 
-pub use laws::answers_show_the_views;
+pub use laws::{answers_show_the_views, views_are_of_their_troupes};
 pub use ring::Ring;
