@@ -12,7 +12,7 @@ use Rattle.circus_model.specs.NextTurn.{NextTurn, asks, ends}
 use Rattle.circus_model.specs.Behaviour.{Behaviour}
 use Rattle.circus_model.specs.Agree.{IsAt, AreModules, Agree}
 use Rattle.circus_model.specs.Execution.{Thread, Order, Performed, stored, counted, answered, is_spent, next_order, ask_of, replies_of, never, turned, performed_on, recorded, turns_of, perform}
-use Rattle.circus_model.proofs.Ready.{IsThread, IsOrder}
+use Rattle.circus_model.specs.Seen.Ready.{IsThread, IsOrder}
 use Rattle.circus_model.proofs.Turning.{turns, IsUnderWay, Fits, IsCalling, IsEnding, IsPerformed, calling, ending, begins, goes_on, ends_so, refusal_fits, stored_thread, counted_thread}
 
 -- what a thread that is spent answers
@@ -44,7 +44,7 @@ module _ (program : List Behaviour) (agree : Agree program) (lawful : AreModules
         let before = stored u o.callee v in
         Open o b t (made ++ ask_of (next_order o made c q a) v before p ∷ []) p.thread × IsUnderWay program o b t (made ++ ask_of (next_order o made c q a) v before p ∷ []) p.thread
 
-    asked : (u : Thread) (made : List Ask) (c q : ℕ) (a v : List ValueTree) → IsUnderWay program o b t made u → turns b o t (replies_of made) ≡ asks c q a v → IsCalling program o b made c q a v → Open o b t made u → Asked made u c q a v (answered (perform program depth) (stored u o.callee v) (next_order o made c q a))
+    pub asked : (u : Thread) (made : List Ask) (c q : ℕ) (a v : List ValueTree) → IsUnderWay program o b t made u → turns b o t (replies_of made) ≡ asks c q a v → IsCalling program o b made c q a v → Open o b t made u → Asked made u c q a v (answered (perform program depth) (stored u o.callee v) (next_order o made c q a))
     unfolding answered
     asked u made c q a v h is call holds = by_clock (is_spent u.clock) refl
       where

@@ -10,7 +10,7 @@ use Rattle.circus_model.specs.Behaviour.{Behaviour}
 use Rattle.circus_model.specs.Agree.{IsAt, IsRoot, Reaches, itself, AreModules, Agree}
 use Rattle.circus_model.specs.Execution.{Performed, fresh, main_order, perform, thread_of, roots_from, joined, history_of}
 use Rattle.circus_model.specs.History.{runs_of, run_at, IsMain, HasMaker}
-use Rattle.circus_model.proofs.Ready.{IsThread, IsOrder}
+use Rattle.circus_model.specs.Seen.Ready.{IsThread, IsOrder}
 use Rattle.circus_model.proofs.Lookups.{old_or_added, within, in_either}
 use Rattle.circus_model.proofs.Going.{perform_leaves}
 use Rattle.circus_model.proofs.Counting.{Extends}

@@ -1,5 +1,4 @@
 pub mod Lookups
-pub mod Ready
 pub mod Turning
 pub mod Going
 pub mod Counting
@@ -7,3 +6,5 @@ pub mod Logging
 pub mod Keeping
 pub mod Histories
 pub mod Paths
+pub mod Threads
+pub mod Roots

@@ -21,7 +21,7 @@ use Rattle.circus_model.specs.Lawful.{IsState, CanStart, ReplyFits, RepliesFit, 
 use Rattle.circus_model.specs.Behaviour.{Behaviour}
 use Rattle.circus_model.specs.Agree.{IsAt, AreModules, Agree}
 use Rattle.circus_model.specs.Execution.{Thread, Order, Performed, stored, counted, noted, next_order, replies_of, recorded}
-use Rattle.circus_model.proofs.Ready.{IsThread, IsOrder}
+use Rattle.circus_model.specs.Seen.Ready.{IsThread, IsOrder}
 use Rattle.circus_model.proofs.Lookups.{found}
 
 -- the turns of an ordered call

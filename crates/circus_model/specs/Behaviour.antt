@@ -1,5 +1,5 @@
 -- What a module does, seen from outside.
-use Rattle.std.specs.Prelude.{ℕ, List, [], length}
+use Rattle.std.specs.Prelude.{ℕ, List, [], length, map}
 use Rattle.circus_value.specs.ValueTree.{ValueTree}
 use Rattle.circus_value.specs.declared.outcome.Outcome.{Outcome}
 use Rattle.circus_model.specs.declared.signature.Signature.{Signature}
@@ -11,6 +11,11 @@ pub record Behaviour : Type 0 where
   pub declared : Signature
   pub turn : List ValueTree → ℕ → List ValueTree → List Outcome → NextTurn
   pub first : List ValueTree
+
+-- what each of these modules does, by what it declares, its turns and its first state
+abbrev pub behaviours : {M : Type 0} → (M → Signature) → (M → List ValueTree → ℕ → List ValueTree → List Outcome → NextTurn) → (M → List ValueTree) → List M → List Behaviour
+behaviours declared turn first modules =
+    map (λ m. record { declared = declared m; turn = turn m; first = first m }) modules
 
 -- the laws that every module keeps to
 pub record IsModule (b : Behaviour) : Type 0 where

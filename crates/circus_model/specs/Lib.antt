@@ -7,3 +7,4 @@ pub mod Behaviour
 pub mod Agree
 pub mod Execution
 pub mod History
+pub mod Seen

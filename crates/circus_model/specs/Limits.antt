@@ -1,5 +1,9 @@
--- How much a thread, an execution and a module may have.
+-- How much a program, a thread, an execution and a module may have.
 use Rattle.std.specs.Prelude.{ℕ}
+
+-- the most modules of a program
+abbrev pub most_modules : ℕ
+most_modules = 32
 
 -- the most asks of an execution
 abbrev pub most_asks : ℕ
