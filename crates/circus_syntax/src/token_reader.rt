@@ -1,6 +1,6 @@
 // A reader of tokens.
-ghost use Rattle.std.specs.Prelude.{◌≡◌, ℕ, ◌≤◌, true, false, length, map, All, MatchOption, IfOk, IsTrue, Some, option_map};
-ghost use Rattle.circus_text.specs.Token.{IsTokenIn, bytes_of, content_of};
+ghost use Rattle.std.specs.Prelude.{◌≡◌, ℕ, ◌≤◌, true, false, length, map, All, MatchOption, IfOk, IsTrue, Some, None, option_map};
+ghost use Rattle.circus_text.specs.Token.{IsTokenIn, IsSpelling, bytes_of, content_of};
 ghost use Rattle.circus_syntax.specs.Placed.{Placed, placed_of, is_lexeme, is_name, is_number, is_text, word, sign};
 ghost use Rattle.circus_syntax.specs.Reader.{open_at, place, next, sees, skipped_by, stopped_by};
 ghost use Rattle.circus_syntax.specs.Reading.{fixed, name, number, quoted, names, stop_in_type, stop_in_list};
@@ -156,6 +156,17 @@ impl<'a> Reader<'a> {
     {
         match (&self.stop, self.left.split_first()) {
             (None, Some((token, _))) => text_in(self.text, token),
+            _ => None,
+        }
+    }
+
+    /// The next token's kind and its bytes, unless reading stopped: with it a grammar reads words of its own.
+    pub fn next_token(&self) -> Option<(TokenKind, &'a [u8])>
+        ensures { MatchOption result (next self.now ≡ None)
+            (λ seen. (t : Placed) × (next self.now ≡ Some t) × (seen.0 ≡ t.kind) × (seen.1.now ≡ t.bytes) × IsSpelling t.kind t.bytes) }
+    {
+        match (&self.stop, self.left.split_first()) {
+            (None, Some((token, _))) => Some((token.kind, token.bytes(self.text))),
             _ => None,
         }
     }
