@@ -7,8 +7,9 @@ use Rattle.std.proofs.lemmas.List.{take-append-le}
 use Rattle.std.proofs.lemmas.List.Folds.{find-append}
 use Rattle.std.proofs.lemmas.Bool.{false≢true}
 use Rattle.circus_value.proofs.PartLemmas.{slice_get-append_left}
+use Rattle.circus_value.specs.Among.{is_among}
 use Rattle.circus_collate.specs.declared.giving.Said.{Said}
-use Rattle.circus_collate.specs.Giving.{is_among, is_from, passes_at, first_from, counts, votes, have_equal}
+use Rattle.circus_collate.specs.Giving.{is_from, passes_at, first_from, counts, votes, have_equal}
 use Rattle.circus_collate.proofs.Counting.{count_by-le, count_by-apart}
 
 -- the parts of a test of two

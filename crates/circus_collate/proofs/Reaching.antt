@@ -7,8 +7,9 @@ use Rattle.std.proofs.lemmas.Bool.{lt-ltb, le-leb, false≢true, cases_lt, eq-eq
 use borrow.Author.Tests.{leb-true, eqb-true}
 use Rattle.std.proofs.lemmas.List.{take_all, take-append-drop}
 use Rattle.std.proofs.lemmas.List.Folds.{find-append}
+use Rattle.circus_value.specs.Among.{is_among}
 use Rattle.circus_collate.specs.declared.giving.Said.{Said}
-use Rattle.circus_collate.specs.Giving.{first_place, is_among, is_from, passes_at, first_from, counts, votes, have_equal, has_majority, has_number, majority, reached, at_least}
+use Rattle.circus_collate.specs.Giving.{first_place, is_from, passes_at, first_from, counts, votes, have_equal, has_majority, has_number, majority, reached, at_least}
 use Rattle.circus_collate.proofs.Places.{IsFirst, first_place-is, first_place-only, first_place-none, both_pass}
 use Rattle.circus_collate.proofs.Counting.{count_by-le-among, count_by-some}
 use Rattle.circus_collate.proofs.Later.{parts_of, votes-append, votes-congr}

@@ -2,6 +2,7 @@
 use Rattle.std.specs.Prelude.{ℕ, zero, suc, ◌+◌, ◌*◌, Bool, true, false, not, ◌&&◌, ◌||◌, ◌==◌, nat_lt, nat_le, if◌then◌else◌, List, length, take, count_by, find, Option, None, Some, is_none, option_map, option_and_then, slice_get}
 use Rattle.std.specs.List.{list_any, list_all}
 use Rattle.std.specs.Option.{option_map_or}
+use Rattle.circus_value.specs.Among.{is_among}
 use Rattle.circus_collate.specs.declared.giving.Said.{Said}
 use Rattle.circus_collate.specs.declared.kind.Kind.{Kind}
 use Rattle.circus_collate.specs.declared.kind.Kind.TheVariants.{First, Majority, Unanimous, AtLeast, Watchdog}
@@ -10,10 +11,6 @@ use Rattle.circus_collate.specs.declared.kind.Kind.TheVariants.{First, Majority,
 abbrev pub first_place : (ℕ → Bool) → ℕ → Option ℕ
 first_place passes zero = None
 first_place passes (suc n) = option_map_or Some (first_place passes n) (if passes n then Some n else None)
-
--- the node is one of these
-abbrev pub is_among : List ℕ → ℕ → Bool
-is_among nodes node = list_any (λ n. n == node) nodes
 
 module _ {V : Type 0} where
   -- it was said by the node

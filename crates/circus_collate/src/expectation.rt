@@ -1,7 +1,7 @@
 // Whose word counts for a value.
 ghost use Rattle.std.specs.Prelude.{◌≡◌, ℕ, ◌&&◌, ◌==◌, List, length};
 ghost use Rattle.circus_collate.specs.Expecting as expecting;
-ghost use Rattle.circus_collate.specs.Giving as giving;
+ghost use Rattle.circus_value.specs.Among.{is_among};
 
 use crate::{Entry, Expected, Since};
 
@@ -56,7 +56,7 @@ impl Expected<'_> {
     /// Whether a member at this node is expected.
     #[tactic(auto, using(crate::proofs::Entries::any_expected))]
     pub(crate) fn has(&self, node: u16) -> bool
-        ensures { result ≡ giving.is_among (expecting.nodes_of self.now) node }
+        ensures { result ≡ is_among (expecting.nodes_of self.now) node }
     {
         let entries = self.view.entries.as_slice();
         for entry in entries {

@@ -2,11 +2,12 @@
 ghost use Rattle.std.specs.Prelude.{◌≡◌, ◌<◌, ◌||◌, not, false, length, IfSome};
 ghost use Rattle.std.specs.List.{list_any};
 ghost use Rattle.std.specs.Option.{option_map_or};
+ghost use Rattle.circus_value.specs.Among.{is_among};
 ghost use Rattle.circus_collate.specs.Expecting.{nodes_of, performs};
 ghost use Rattle.circus_collate.specs.Giving as giving;
 
 use crate::{Entry, Expectation, Expected, Kind};
-use circus_value::Nodes;
+use circus_value::{Nodes, is_among};
 
 /// What arrived from a node.
 #[derive(Debug, Drop)]
@@ -193,15 +194,9 @@ pub(crate) fn all_have_said<V>(said: &[Said<V>], down: &Nodes, expected: &Expect
 
 // Whether a member isn't expected, is down, or has said something.
 fn is_done<V>(said: &[Said<V>], down: &Nodes, expected: &Expected<'_>, entry: &Entry) -> bool
-    ensures { result ≡ (not (performs entry.now.since expected.now.index) || (giving.is_among down.now entry.now.node || list_any (giving.is_from entry.now.node) said.now)) }
+    ensures { result ≡ (not (performs entry.now.since expected.now.index) || (is_among down.now entry.now.node || list_any (giving.is_from entry.now.node) said.now)) }
 {
-    !expected.expects(entry) || is_among(down, entry.node) || has_said(said, entry.node)
-}
-
-fn is_among(nodes: &Nodes, node: u16) -> bool
-    ensures { result ≡ giving.is_among nodes.now node }
-{
-    nodes.as_slice().iter().any(|number| *number == node)
+    !expected.expects(entry) || is_among(down.as_slice(), entry.node) || has_said(said, entry.node)
 }
 
 // Whether the values at two places are equal.

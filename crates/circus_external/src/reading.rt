@@ -9,7 +9,7 @@ ghost use Rattle.circus_external.specs.Reading.{one_word, two_words, text_read, 
 
 use crate::piece::{read_content, read_long, read_word};
 use crate::{ByteSource, ExternalFault};
-use circus_value::{Arms, Chosen, Fields, Label, Octets, Shape, Value, Values};
+use circus_value::{Arms, Chosen, Fields, Label, Octets, Shape, Value, Values, has_label};
 use std::alloc::Global;
 
 /// The value of a shape whose bytes stand at a place, and the place behind them (docs/FORMATS.md,
@@ -84,17 +84,11 @@ fn read_label<S: ByteSource>(
     ensures { Gives values.tree_of (S.octets source.now) result (one_word (label_of labels.now) at (drop at (S.octets source.now))) }
 {
     let (number, next) = read_word(source, at)?;
-    if is_listed(number, labels) {
+    if has_label(labels, number) {
         Ok((Value::Enumeration(number), next))
     } else {
         Err(ExternalFault::NotAValue(at as u64))
     }
-}
-
-fn is_listed(number: u16, labels: &[Label]) -> bool
-    ensures { result ≡ list_any (λ l. l.number == number) labels.now }
-{
-    labels.iter().any(|label| label.number == number)
 }
 
 fn read_text<S: ByteSource>(

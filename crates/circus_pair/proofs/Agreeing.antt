@@ -17,8 +17,8 @@ use Rattle.circus_exchange.specs.Exchange.{start, IsSendable, awaits_return}
 use Rattle.circus_pair.specs.Taken.{is_of, first_of, total_in, count_in, is_reached, has_arrived, AreOf}
 use Rattle.circus_pair.specs.Acts.{Act as OneAct, Call as Calls, Return as Returns, Came, Tick as Ticks, Stop as Stops, Acts, more, taken_by, end_after}
 use Rattle.circus_pair.specs.Handed.{made, call_at, return_at, says, reached_in}
-use Rattle.circus_pair.specs.TwoEnds.{History, begun, then_came, Arrival, Both, end_at, both_after, coming, delivered, is_same, with_act, acts_of, sent_by, taken_at, arrived_at, arrived_in, handed_over, Agrees, Agree, Talk, silent, at_first, at_second, acts_at_first, acts_at_second, WasSent, IsTalk, MayFollow, AreLawful, CanBeSent, names_none, has_no_number}
-use Rattle.circus_pair.specs.Lawful.{is_stopped_after, MayFollow as MayCome, AreLawful as IsLawfulEnd}
+use Rattle.circus_pair.specs.TwoEnds.{History, begun, then_came, Arrival, Both, end_at, both_after, coming, delivered, is_same, with_act, acts_of, sent_by, taken_at, arrived_at, arrived_in, handed_over, Agrees, Agree, Talk, silent, at_first, at_second, acts_at_first, acts_at_second, WasSent, IsTalk, MayHappen, IsLawfulHistory, CanBeSent, names_none, has_no_number}
+use Rattle.circus_pair.specs.Lawful.{is_stopped_after, MayFollow, AreLawful}
 use Rattle.circus_pair.proofs.Handing.{told_out, awaits_is}
 use Rattle.circus_segment.proofs.Spellings.{read_again}
 use Rattle.circus_pair.proofs.Growing.{count_le}
@@ -75,7 +75,7 @@ up_after end format (then_came history (Deliver at number)) =
     (up_found (acts_of end format history) (slice_get (sent_by (start 0 format) (acts_of (not end) format history)) number) (up_after end format history))
 up_after end format (then_came history (Tick at)) = up_chosen (acts_of end format history) (is_same end at) (Some Ticks) (up_after end format history) (up_after end format history)
 
-sound_own : (format : ℕ) (here there : Acts) (act : OneAct) → Sound format here there → MayCome 0 format here act → WasSent (sent_by (start 0 format) there) act → Sound format (more here act) there
+sound_own : (format : ℕ) (here there : Acts) (act : OneAct) → Sound format here there → MayFollow 0 format here act → WasSent (sent_by (start 0 format) there) act → Sound format (more here act) there
 sound_own format here there (Calls message) sound may was = sound_act format here there (Calls message) sound may tt
 sound_own format here there (Returns call message) sound may was = sound_return format here there call message sound may
 sound_own format here there (Came s) sound may was =
@@ -97,7 +97,7 @@ sound_call format here there message up sound may = (let low : made here < 42949
 sound_tick : (format : ℕ) (here there : Acts) → is_stopped_after here ≡ false → Sound format here there → Sound format (more here Ticks) there
 sound_tick format here there up sound = sound_act format here there Ticks sound up tt
 
-sound_after : (format : ℕ) (history : History) → (format ≡ 1) ⊎ (format ≡ 2) → AreLawful format history → Sound format (acts_of false format history) (acts_of true format history)
+sound_after : (format : ℕ) (history : History) → (format ≡ 1) ⊎ (format ≡ 2) → IsLawfulHistory format history → Sound format (acts_of false format history) (acts_of true format history)
 sound_after format begun known lawful = sound_start format known
 sound_after format (then_came history (Call false message)) known lawful = sound_call format _ _ message (up_after false format history) (sound_after format history known lawful.0) lawful.1
 sound_after format (then_came history (Call true message)) known lawful = turned format _ _ (sound_call format _ _ message (up_after true format history) (turned format _ _ (sound_after format history known lawful.0)) lawful.1)
@@ -109,15 +109,15 @@ sound_after format (then_came history (Tick false)) known lawful = sound_tick fo
 sound_after format (then_came history (Tick true)) known lawful = turned format _ _ (sound_tick format _ _ (up_after true format history) (turned format _ _ (sound_after format history known lawful.0)))
 
 -- what holds of two ends seen from either holds of each of them
-turned_after : (format : ℕ) (history : History) → (format ≡ 1) ⊎ (format ≡ 2) → AreLawful format history → Sound format (acts_of true format history) (acts_of false format history)
+turned_after : (format : ℕ) (history : History) → (format ≡ 1) ⊎ (format ≡ 2) → IsLawfulHistory format history → Sound format (acts_of true format history) (acts_of false format history)
 turned_after format history known lawful = turned format _ _ (sound_after format history known lawful)
 
 -- ---- what happens at each of them
 
-pub low_lawful : (format : ℕ) (history : History) → (format ≡ 1) ⊎ (format ≡ 2) → AreLawful format history → IsLawfulEnd 0 format (acts_of false format history)
+pub low_lawful : (format : ℕ) (history : History) → (format ≡ 1) ⊎ (format ≡ 2) → IsLawfulHistory format history → AreLawful 0 format (acts_of false format history)
 low_lawful format history known lawful = (sound_after format history known lawful).good_here.lawful
 
-pub high_lawful : (format : ℕ) (history : History) → (format ≡ 1) ⊎ (format ≡ 2) → AreLawful format history → IsLawfulEnd 0 format (acts_of true format history)
+pub high_lawful : (format : ℕ) (history : History) → (format ≡ 1) ⊎ (format ≡ 2) → IsLawfulHistory format history → AreLawful 0 format (acts_of true format history)
 high_lawful format history known lawful = (sound_after format history known lawful).good_there.lawful
 
 -- ---- what is sent
@@ -127,13 +127,13 @@ read_of format here there sound number datagram is =
     let tells = each_at (Tells 0 format here (taken_by (start 0 format) here)) (sent_by (start 0 format) here) number datagram sound.good_here.tells is in
     (tells.said, ap reading tells.bytes_are ∙ read_again tells.said tells.is.segment, tells.is.segment, tells.is.format_is)
 
-pub datagrams_read : (format : ℕ) (history : History) (end : Bool) (number : ℕ) (datagram : List ℕ) → (format ≡ 1) ⊎ (format ≡ 2) → AreLawful format history → slice_get (sent_by (start 0 format) (acts_of end format history)) number ≡ Some datagram → (s : Piece) × (reading datagram ≡ Ok s) × IsSegment s × (s.format ≡ format)
+pub datagrams_read : (format : ℕ) (history : History) (end : Bool) (number : ℕ) (datagram : List ℕ) → (format ≡ 1) ⊎ (format ≡ 2) → IsLawfulHistory format history → slice_get (sent_by (start 0 format) (acts_of end format history)) number ≡ Some datagram → (s : Piece) × (reading datagram ≡ Ok s) × IsSegment s × (s.format ≡ format)
 datagrams_read format history false number datagram known lawful = read_of format _ _ (sound_after format history known lawful) number datagram
 datagrams_read format history true number datagram known lawful = read_of format _ _ (turned_after format history known lawful) number datagram
 
 -- ---- what arrives
 
-pub arrived_once : (format : ℕ) (history : History) (end : Bool) (kind call : ℕ) → (format ≡ 1) ⊎ (format ≡ 2) → AreLawful format history → count_by (λ (a : Arrival). eqb a.kind kind && eqb a.call call) (arrived_at end format history) ≡ cond (has_arrived (taken_at end format history) kind call) 1 0
+pub arrived_once : (format : ℕ) (history : History) (end : Bool) (kind call : ℕ) → (format ≡ 1) ⊎ (format ≡ 2) → IsLawfulHistory format history → count_by (λ (a : Arrival). eqb a.kind kind && eqb a.call call) (arrived_at end format history) ≡ cond (has_arrived (taken_at end format history) kind call) 1 0
 arrived_once format history false kind call known lawful = (sound_after format history known lawful).hears_there.once kind call
 arrived_once format history true kind call known lawful = (turned_after format history known lawful).hears_there.once kind call
 
@@ -244,7 +244,7 @@ agree_of format here there sound = (agrees_of format here there sound, agrees_of
 pub talk_agrees : (format : ℕ) (talk : Talk) → (format ≡ 1) ⊎ (format ≡ 2) → IsTalk format talk → Agree format (acts_at_first talk) (acts_at_second talk)
 talk_agrees format talk known is = agree_of format _ _ (sound_talk format talk known is)
 
-pub agree_more : (r : Result Arrived TwoFault) (format : ℕ) (history : History) (act : Act) → (format ≡ 1) ⊎ (format ≡ 2) → OnOk r (AreLawful format (then_came history act)) → OnOk r (Agree format (acts_of false format (then_came history act)) (acts_of true format (then_came history act)))
+pub agree_more : (r : Result Arrived TwoFault) (format : ℕ) (history : History) (act : Act) → (format ≡ 1) ⊎ (format ≡ 2) → OnOk r (IsLawfulHistory format (then_came history act)) → OnOk r (Agree format (acts_of false format (then_came history act)) (acts_of true format (then_came history act)))
 agree_more (Ok x) format history act known lawful = agree_of format _ _ (sound_after format (then_came history act) known lawful)
 agree_more (Err fault) format history act known lawful = tt
 
@@ -268,11 +268,11 @@ call_kept_of format here there sound call p is = kept_of format here there sound
 return_kept_of : (format : ℕ) (here there : Acts) → Sound format here there → (call : ℕ) (p : Progress) → get (end_after (start 0 format) here).returns.progress call ≡ Some p → p.count ≡ p.total → has_arrived (taken_by (start 0 format) there) 1 call ≡ true
 return_kept_of format here there sound call p is = kept_of format here there sound 1 call p (sym ((keeping format here sound.good_here).hands.returns call) ∙ is)
 
-pub call_kept : (format : ℕ) (history : History) (end : Bool) (call : ℕ) (p : Progress) → (format ≡ 1) ⊎ (format ≡ 2) → AreLawful format history → get (end_at (both_after format history) end).exchange.calls.progress call ≡ Some p → p.count ≡ p.total → has_arrived (taken_at (not end) format history) 0 call ≡ true
+pub call_kept : (format : ℕ) (history : History) (end : Bool) (call : ℕ) (p : Progress) → (format ≡ 1) ⊎ (format ≡ 2) → IsLawfulHistory format history → get (end_at (both_after format history) end).exchange.calls.progress call ≡ Some p → p.count ≡ p.total → has_arrived (taken_at (not end) format history) 0 call ≡ true
 call_kept format history false call p known lawful = call_kept_of format _ _ (sound_after format history known lawful) call p
 call_kept format history true call p known lawful = call_kept_of format _ _ (turned_after format history known lawful) call p
 
-pub return_kept : (format : ℕ) (history : History) (end : Bool) (call : ℕ) (p : Progress) → (format ≡ 1) ⊎ (format ≡ 2) → AreLawful format history → get (end_at (both_after format history) end).exchange.returns.progress call ≡ Some p → p.count ≡ p.total → has_arrived (taken_at (not end) format history) 1 call ≡ true
+pub return_kept : (format : ℕ) (history : History) (end : Bool) (call : ℕ) (p : Progress) → (format ≡ 1) ⊎ (format ≡ 2) → IsLawfulHistory format history → get (end_at (both_after format history) end).exchange.returns.progress call ≡ Some p → p.count ≡ p.total → has_arrived (taken_at (not end) format history) 1 call ≡ true
 return_kept format history false call p known lawful = return_kept_of format _ _ (sound_after format history known lawful) call p
 return_kept format history true call p known lawful = return_kept_of format _ _ (turned_after format history known lawful) call p
 
@@ -308,7 +308,7 @@ may_return format here there call message sound sendable awaits =
     let both = both_true (has_arrived (taken_by (start 0 format) here) 0 call) _ (sym (awaits_of format here there sound call) ∙ not_false _ awaits) in
     (subst (λ f. IsSendable f message) k.format_is sendable, both.0, nothing_there _ both.1)
 
-may_follow : (format : ℕ) (history : History) (act : Act) → (format ≡ 1) ⊎ (format ≡ 2) → AreLawful format history → CanBeSent (both_after format history) act → names_none (both_after format history) act ≡ false → has_no_number (both_after format history) act ≡ false → MayFollow format history act
+may_follow : (format : ℕ) (history : History) (act : Act) → (format ≡ 1) ⊎ (format ≡ 2) → IsLawfulHistory format history → CanBeSent (both_after format history) act → names_none (both_after format history) act ≡ false → has_no_number (both_after format history) act ≡ false → MayHappen format history act
 may_follow format history (Call false message) known lawful sendable such left = may_call format _ _ message (sound_after format history known lawful) sendable left
 may_follow format history (Call true message) known lawful sendable such left = may_call format _ _ message (turned_after format history known lawful) sendable left
 may_follow format history (Return false call message) known lawful sendable such left = may_return format _ _ call message (sound_after format history known lawful) sendable such
@@ -321,7 +321,7 @@ no_fault : (b : Bool) (x : Arrived) (fault : TwoFault) → (b ≡ true → ◌�
 no_fault true x fault h = (let e : ◌≡◌ {A = Result Arrived TwoFault} (Ok x) (Err fault) = h refl in absurd cc)
 no_fault false x fault h = refl
 
-pub lawful_more : (r : Result Arrived TwoFault) (old : Both) (act : Act) → CanBeSent old act → (names_none old act ≡ true → r ≡ Err NoSuch) → (has_no_number old act ≡ true → r ≡ Err Spent) → (format : ℕ) (history : History) → (format ≡ 1) ⊎ (format ≡ 2) → AreLawful format history → old ≡ both_after format history → OnOk r (AreLawful format (then_came history act))
+pub lawful_more : (r : Result Arrived TwoFault) (old : Both) (act : Act) → CanBeSent old act → (names_none old act ≡ true → r ≡ Err NoSuch) → (has_no_number old act ≡ true → r ≡ Err Spent) → (format : ℕ) (history : History) → (format ≡ 1) ⊎ (format ≡ 2) → IsLawfulHistory format history → old ≡ both_after format history → OnOk r (IsLawfulHistory format (then_came history act))
 lawful_more (Err fault) old act sendable such left format history known lawful stands = tt
 lawful_more (Ok x) old act sendable such left format history known lawful stands = (
   lawful,

@@ -11,7 +11,7 @@ use Rattle.circus_segment.specs.Cut.{segment_count}
 use Rattle.circus_exchange.specs.Outbox.{handed, raised, reached, emptied, forgotten, becomes_whole}
 use Rattle.circus_exchange.specs.Inbox.{added}
 use Rattle.circus_exchange.specs.Exchange.{start, called, returned, is_whole, awaits_return, takes, let_go, lets_go, call_reached, return_reached, ended, return_added, total_of, after_taken, after, ticked}
-use Rattle.circus_pair.specs.Fresh.{IsFresh}
+use Rattle.circus_pair.specs.Seen.Fresh.{IsFresh}
 use Rattle.circus_exchange.proofs.Ties.{other_key}
 
 pub fresh_start : (number format : ℕ) → IsFresh (start number format)

@@ -1,5 +1,4 @@
 pub mod Acts
-pub mod Fresh
 pub mod Handed
 pub mod Lawful
 pub mod Saying
@@ -9,3 +8,4 @@ pub mod Taken
 pub mod Ticking
 pub mod TwoEnds
 pub mod Window
+pub mod Seen

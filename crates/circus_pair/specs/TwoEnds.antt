@@ -13,7 +13,7 @@ use Rattle.circus_pair.specs.Acts.{Act as OneAct, Call as Calls, Return as Retur
 use Rattle.circus_pair.specs.Taken.{has_arrived}
 use Rattle.circus_segment.specs.Cut.{segment_count}
 use Rattle.circus_pair.specs.Handed.{made, call_at, return_at, reached_in}
-use Rattle.circus_pair.specs.Lawful.{MayFollow as MayCome}
+use Rattle.circus_pair.specs.Lawful.{MayFollow}
 
 -- the acts of both ends, oldest first
 pub data History : Type 0 where
@@ -184,16 +184,16 @@ abbrev pub arrived_at : Bool → ℕ → History → List Arrival
 arrived_at end format history = arrived_in (start 0 format) (acts_of end format history)
 
 -- an act may come after these: messages can be sent, a number is left for a call, a return answers a call that has arrived and had none, and a datagram was sent
-abbrev pub MayFollow : ℕ → History → Act → Type 0
-MayFollow format history (Call at message) = IsSendable format message × (made (acts_of at format history) < never_used)
-MayFollow format history (Return at call message) = IsSendable format message × (has_arrived (taken_at at format history) 0 call ≡ true) × (return_at (acts_of at format history) call ≡ None)
-MayFollow format history (Deliver at number) = number < length (sent_by (start 0 format) (acts_of (not at) format history))
-MayFollow format history (Tick at) = Unit {0}
+abbrev pub MayHappen : ℕ → History → Act → Type 0
+MayHappen format history (Call at message) = IsSendable format message × (made (acts_of at format history) < never_used)
+MayHappen format history (Return at call message) = IsSendable format message × (has_arrived (taken_at at format history) 0 call ≡ true) × (return_at (acts_of at format history) call ≡ None)
+MayHappen format history (Deliver at number) = number < length (sent_by (start 0 format) (acts_of (not at) format history))
+MayHappen format history (Tick at) = Unit {0}
 
 -- each act may come after those before it
-abbrev pub AreLawful : ℕ → History → Type 0
-AreLawful format begun = Unit {0}
-AreLawful format (then_came history act) = AreLawful format history × MayFollow format history act
+abbrev pub IsLawfulHistory : ℕ → History → Type 0
+IsLawfulHistory format begun = Unit {0}
+IsLawfulHistory format (then_came history act) = IsLawfulHistory format history × MayHappen format history act
 
 -- ---- what two ends owe each other
 
@@ -234,5 +234,5 @@ WasSent sent Stops = Unit {0}
 -- each act may come at its end after those before it
 abbrev pub IsTalk : ℕ → Talk → Type 0
 IsTalk format silent = Unit {0}
-IsTalk format (at_first talk act) = IsTalk format talk × MayCome 0 format (acts_at_first talk) act × WasSent (sent_by (start 0 format) (acts_at_second talk)) act
-IsTalk format (at_second talk act) = IsTalk format talk × MayCome 0 format (acts_at_second talk) act × WasSent (sent_by (start 0 format) (acts_at_first talk)) act
+IsTalk format (at_first talk act) = IsTalk format talk × MayFollow 0 format (acts_at_first talk) act × WasSent (sent_by (start 0 format) (acts_at_second talk)) act
+IsTalk format (at_second talk act) = IsTalk format talk × MayFollow 0 format (acts_at_second talk) act × WasSent (sent_by (start 0 format) (acts_at_first talk)) act

@@ -39,7 +39,7 @@ impl Model for Pair {
 
     ghost coded = { model.the_row.coded };
 
-    ghost use Rattle.circus_pair.specs.Fresh.{IsFresh};
+    ghost use Rattle.circus_pair.specs.Seen.Fresh.{IsFresh};
 
     ghost view = { λ a. a.exchange };
 

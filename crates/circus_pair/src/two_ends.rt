@@ -1,7 +1,7 @@
 //! Two ends of a pair that are put together, and what happens at them.
 ghost use Rattle.std.specs.Prelude.{◌≡◌, ◌⊎◌, ℕ, true, false, length, slice_get, nat_lt, ◌++◌, IfOk, OnOk, OnErr, Err};
 ghost use Rattle.circus_pair.specs.declared.two_ends.TwoFault.TheVariants.{NoSuch, Spent};
-ghost use Rattle.circus_pair.specs.TwoEnds.{History, begun, then_came, both_after, acts_of, AreLawful, Agree, arrived_at, acting, noted, moved, delivered, arrived_by, stepped, arrives, CanBeSent, names_none, has_no_number};
+ghost use Rattle.circus_pair.specs.TwoEnds.{History, begun, then_came, both_after, acts_of, IsLawfulHistory, Agree, arrived_at, acting, noted, moved, delivered, arrived_by, stepped, arrives, CanBeSent, names_none, has_no_number};
 
 use crate::side::Side;
 use circus_exchange::Arrived;
@@ -91,10 +91,10 @@ impl TwoEnds {
 
         // Where these ends stand for a list of acts, they stand for it with this act, which might come.
         ensures stands { (format : ℕ) (history : History) → self.old ≡ both_after format history → OnOk result (self.new ≡ both_after format (then_came history act)) }
-        ensures lawful { (format : ℕ) (history : History) → (format ≡ 1) ⊎ (format ≡ 2) → AreLawful format history → self.old ≡ both_after format history → OnOk result (AreLawful format (then_came history act)) }
+        ensures lawful { (format : ℕ) (history : History) → (format ≡ 1) ⊎ (format ≡ 2) → IsLawfulHistory format history → self.old ≡ both_after format history → OnOk result (IsLawfulHistory format (then_came history act)) }
         // Then each message has arrived at most once, and as it was sent, and counts as acknowledged whole only where
         // it has arrived.
-        ensures agree { (format : ℕ) (history : History) → (format ≡ 1) ⊎ (format ≡ 2) → AreLawful format history → self.old ≡ both_after format history → OnOk result (Agree format (acts_of false format (then_came history act)) (acts_of true format (then_came history act))) }
+        ensures agree { (format : ℕ) (history : History) → (format ≡ 1) ⊎ (format ≡ 2) → IsLawfulHistory format history → self.old ≡ both_after format history → OnOk result (Agree format (acts_of false format (then_came history act)) (acts_of true format (then_came history act))) }
         ensures low_format { self.new.low.exchange.format ≡ self.old.low.exchange.format }
         ensures high_format { self.new.high.exchange.format ≡ self.old.high.exchange.format }
         ensures heard { (format : ℕ) (history : History) → self.old ≡ both_after format history → IfOk result (λ arrived. arrived_at (acting act) format (then_came history act) ≡ arrived_at (acting act) format history ++ noted arrived) }

@@ -11,7 +11,8 @@ use Rattle.circus_idl.specs.declared.interface.DeclaredError.{DeclaredError}
 use Rattle.circus_idl.specs.Obeys.{Obeys, ObeysInside, ObeyFields, ObeyArmTypes, ObeyLabels, arm_names, arm_numbers}
 use Rattle.circus_idl.proofs.ObeysParts.{FieldsObey, ErrorObeys, ProcedureObeys, parts_obey, fields_obey}
 use Rattle.circus_external.specs.Refusal.{is_proper, are_proper, arms_are_proper, has_arm}
-use Rattle.circus_stub.specs.Unpacked.{procedure_of, error_of, is_among, is_of_system, raised_fields}
+use Rattle.circus_value.specs.Among.{is_among}
+use Rattle.circus_stub.specs.Unpacked.{procedure_of, error_of, is_of_system, raised_fields}
 
 some_label : (labels : List Label) → ObeyLabels labels → list_any (λ (l : Label). nat_lt l.number 65536) labels ≡ true
 some_label [] obey = absurd (omega (arith, obey.some))
@@ -70,7 +71,7 @@ pub results_are_proper : (i : Interface) (n : ℕ) (p : Procedure) → Obeys i �
 results_are_proper i n p obeys is = list_proper p.results (procedure_obeys i n p obeys is).results
 
 pub raised_are_proper : (i : Interface) (p : Procedure) (n : ℕ) (fields : FieldTrees) → Obeys i → raised_fields i p n ≡ Some fields → are_proper fields ≡ true
-raised_are_proper i p n fields obeys is = by_report (is_among n p.reports) is
+raised_are_proper i p n fields obeys is = by_report (is_among p.reports n) is
   where
     of_system : (b : Bool) → cond b (Some no_fields) None ≡ Some fields → are_proper fields ≡ true
     of_system true is = let same : no_fields ≡ fields = cc in subst (λ fs. are_proper fs ≡ true) same refl

@@ -10,7 +10,7 @@ ghost use Rattle.circus_stub.specs.Seen.Standing.{Stands, FieldsStand, ArmsStand
 use crate::Operation;
 use crate::place::{arm_place, place_behind};
 use circus_external::{ByteSource, ExternalFault, read_from, read_word};
-use circus_value::{Chosen, Shape, Value, Values};
+use circus_value::{Chosen, Shape, Value, Values, is_among};
 use std::alloc::Global;
 
 /// The value whose operations begin at `place`, of the bytes from `at` on, and the place behind its bytes.
@@ -68,17 +68,11 @@ fn read_listed<S: ByteSource>(
     ensures { Gives values.tree_of (S.octets source.now) result (one_word (listed_value numbers.now) at (drop at (S.octets source.now))) }
 {
     let (number, next) = read_word(source, at)?;
-    if is_listed(number, numbers) {
+    if is_among(numbers, number) {
         Ok((Value::Enumeration(number), next))
     } else {
         Err(ExternalFault::NotAValue(at as u64))
     }
-}
-
-fn is_listed(number: u16, numbers: &[u16]) -> bool
-    ensures { result ≡ list_any (λ k. k == number) numbers.now }
-{
-    numbers.iter().any(|k| *k == number)
 }
 
 // A number of items, at most a bound.

@@ -9,14 +9,14 @@ ghost use Rattle.circus_external.specs.Spelling.{spelling_of_all};
 ghost use Rattle.circus_stub.specs.Flat.{flat_fields};
 ghost use Rattle.circus_stub.specs.Compiled.{compiled, AreCompiled, procedure_stub, stub_of, error_values, raised_operations};
 ghost use Rattle.circus_stub.specs.Packed.{AreArguments, IsOutcome, outcome_spelling};
-ghost use Rattle.circus_stub.specs.Unpacked.{Answers, arguments_unpacked, outcome_unpacked, outcome_behind, raised_unpacked, values_unpacked, values_alone, is_among};
+ghost use Rattle.circus_stub.specs.Unpacked.{Answers, arguments_unpacked, outcome_unpacked, outcome_behind, raised_unpacked, values_unpacked, values_alone};
 
 use crate::behind::Behind;
 use crate::reader::read_values;
 use crate::stubs::ProcedureStub;
 use crate::{Operation, StubFault, Stubs};
 use circus_external::{ByteSource, word_at};
-use circus_value::{Outcome, Parts, Values};
+use circus_value::{Outcome, Parts, Values, is_among};
 use std::alloc::Global;
 
 impl Stubs {
@@ -206,7 +206,7 @@ impl Stubs {
     ) -> Option<&[Operation]>
         ensures { option_copied result ≡ raised_operations self.now stub.now number }
     {
-        if is_among(number, stub.reports.as_slice()) {
+        if is_among(stub.reports.as_slice(), number) {
             self.error_values(number)
         } else {
             (60_001..=60_009).contains(&number).then_some(&[])
@@ -220,12 +220,6 @@ impl Stubs {
         let error = errors.iter().find(|error| error.number == number)?;
         Some(error.values.as_slice())
     }
-}
-
-fn is_among(number: u16, numbers: &[u16]) -> bool
-    ensures { result ≡ is_among number numbers.now }
-{
-    numbers.iter().any(|k| *k == number)
 }
 
 /// How many bytes stand from a place on, where there are more than the limit.

@@ -1,4 +1,5 @@
 pub mod ValueTree
+pub mod Among
 pub mod ShapeTree
 pub mod ValueOf
 pub mod ShapeOf

@@ -7,7 +7,7 @@ ghost use Rattle.circus_value.specs.ShapeOf as shapes;
 ghost use Rattle.circus_value.specs.ShapeTree.{field_trees};
 ghost use Rattle.circus_value.specs.Fits as fit;
 
-use crate::{Fields, Label, Shape, Value, Values};
+use crate::{Fields, Shape, Value, Values, has_label};
 
 /// Whether a shape admits a value: the kinds are the same throughout, a text has at most 65,535
 /// bytes, an enumeration has a listed number, an array exactly its number of items, a sequence at
@@ -38,7 +38,7 @@ pub fn fits(value: &Value, shape: &Shape) -> bool
         (Value::Text(bytes), Shape::Text) => is_text(bytes.as_slice()),
         (Value::Enumeration(number), Shape::Enumeration(labels)) => {
             prove!(*number <= 65_535);
-            is_listed(*number, labels.as_slice())
+            has_label(labels.as_slice(), *number)
         }
         (Value::Array(items), Shape::Array(len, element)) => {
             items.len() == usize::from(*len) && all_fit(items, element.shape())
@@ -63,13 +63,6 @@ fn is_text(bytes: &[u8]) -> bool
     ensures { result ≡ (nat_lt (length bytes.now) 65536 && list_all (λ b. nat_lt b 256) bytes.now) }
 {
     bytes.len() <= 65_535
-}
-
-/// Whether one of the labels has this number.
-fn is_listed(number: u16, labels: &[Label]) -> bool
-    ensures { result ≡ list_any (λ l. l.number == number) labels.now }
-{
-    labels.iter().any(|label| label.number == number)
 }
 
 /// Whether each item fits one shape.

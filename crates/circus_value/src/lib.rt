@@ -1,11 +1,12 @@
 //! The values of Circus, the shapes that they fit, and the lists that all crates share.
 //!
 //! `list_of` has the one list type, `value` and `shape` the two trees, `outcome` what a procedure ends with,
-//! `duplicate` the copies of plain data and `equality` what is equal. `fitting` tests a value against a shape, `size` counts
+//! `among` looks for a number in a list, `duplicate` has the copies of plain data and `equality` what is equal. `fitting` tests a value against a shape, `size` counts
 //! a value's bytes in external form, `parts` has bytes that are shared in parts, and `shown` and `thread_text`
 //! the texts of values, outcomes, clocks and paths.
 #![tactic(auto)]
 
+mod among;
 mod duplicate;
 mod equality;
 mod fitting;
@@ -18,6 +19,7 @@ mod size;
 mod thread_text;
 mod value;
 
+pub use among::{has_label, is_among};
 pub use duplicate::Duplicate;
 pub use equality::equal_is_the_same;
 pub use fitting::fits;

@@ -1,10 +1,11 @@
 // Values, and lists of them.
-ghost use Rattle.std.specs.Prelude.{◌≡◌, List, [], ◌∷◌, ◌++◌, length, map, option_map, option_copied, slice_get, OnOk, OnErr, IfOk, IsTrue, ◌↔◌};
+ghost use Rattle.std.specs.Prelude.{◌≡◌, List, [], ◌∷◌, ◌++◌, ◌<◌, length, map, option_map, option_copied, Some, slice_get, slice_set, take, OnOk, OnErr, IfOk, IsTrue, ◌↔◌};
 ghost use Rattle.circus_value.specs.ValueOf.{tree_of};
 
 use crate::{Duplicate, ListOf, NoMemory};
 use std::alloc::Global;
 use std::marker::Model;
+use std::mem;
 
 /// A value of some shape.
 #[cycle(value)]
@@ -124,6 +125,22 @@ impl Values {
         self.items.push(item)?;
         Ok(())
     }
+
+    /// Keeps the first values, at most so many, and drops those behind them.
+    pub fn truncate(&mut self, len: usize)
+        ensures { self.new ≡ take len self.old }
+    {
+        self.items.truncate(len);
+    }
+
+    /// Puts a value in the place of another, which it answers.
+    pub fn replace(&mut self, place: usize, item: Value) -> Value
+        requires { place < length self.old }
+        ensures new { self.new ≡ slice_set self.old place (tree_of item) }
+        ensures old { slice_get self.old place ≡ Some (tree_of result) }
+    {
+        mem::replace(&mut self.items[place], item)
+    }
 }
 
 impl Chosen {
@@ -140,6 +157,14 @@ impl Chosen {
         ensures { tree_of result.now ≡ self.now }
     {
         &self.value
+    }
+
+    /// Puts a value in the place of the chosen one, which it answers.
+    pub fn replace(&mut self, value: Value) -> Value
+        ensures new { self.new ≡ tree_of value }
+        ensures old { self.old ≡ tree_of result }
+    {
+        mem::replace(&mut *self.value, value)
     }
 }
 

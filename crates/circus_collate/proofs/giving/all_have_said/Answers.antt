@@ -1,8 +1,9 @@
 use Rattle.std.proofs.Common.{◌≡◌, ◌||◌, not, true, false, sym, ◌∙◌, arith}
 use Rattle.std.proofs.lemmas.Grind.{common_steps}
 use Rattle.std.specs.List.{list_any, list_all}
+use Rattle.circus_value.specs.Among.{is_among}
 use Rattle.circus_collate.specs.Expecting.{performs}
-use Rattle.circus_collate.specs.Giving.{is_among, is_from, all_have_said}
+use Rattle.circus_collate.specs.Giving.{is_from, all_have_said}
 use Rattle.circus_collate.specs.declared.view.Entry.{Entry}
 use Rattle.circus_collate.proofs.Entries.{all_expected}
 use Rattle.circus_collate.proofs.giving.all_have_said.Goals as goal

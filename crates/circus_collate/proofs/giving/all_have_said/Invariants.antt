@@ -1,7 +1,8 @@
 use Rattle.std.proofs.Common.{◌≡◌, ◌||◌, not, true, take}
 use Rattle.std.specs.List.{list_any, list_all}
+use Rattle.circus_value.specs.Among.{is_among}
 use Rattle.circus_collate.specs.Expecting.{performs}
-use Rattle.circus_collate.specs.Giving.{is_among, is_from}
+use Rattle.circus_collate.specs.Giving.{is_from}
 use Rattle.circus_collate.specs.declared.view.Entry.{Entry}
 use Rattle.circus_collate.proofs.giving.all_have_said.Given as goal
 

@@ -1,5 +1,5 @@
 use Rattle.std.proofs.Common.{sym, subst}
-use Rattle.circus_pair.specs.Fresh.{IsFresh}
+use Rattle.circus_pair.specs.Seen.Fresh.{IsFresh}
 use Rattle.circus_pair.proofs.Following.{stands_first}
 use Rattle.circus_pair.proofs.Freshness.{fresh_start}
 use Rattle.circus_pair.proofs.pair.Pair.starting_at.Goals as goal

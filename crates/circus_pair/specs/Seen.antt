@@ -1,0 +1,2 @@
+-- How code is seen. No public call cites these.
+pub mod Fresh
