@@ -18,5 +18,5 @@ pub use header_fault::HeaderFault;
 pub use laws::{
     equal_replies_are_the_same, headers_are_read, no_header_begins_another, one_answer,
 };
-pub use reading::{read_call, read_call_parts, read_return, read_return_parts};
-pub use writing::{write_call, write_return};
+pub use reading::{long, read_call, read_call_parts, read_return, read_return_parts, word};
+pub use writing::{push_long, push_word, write_call, write_return};

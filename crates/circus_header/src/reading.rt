@@ -290,8 +290,9 @@ fn longs<S: ByteSource>(
     Ok((clock, at))
 }
 
-// The number in two bytes, from a least to a most, and the place behind it.
-fn word<S: ByteSource>(
+/// The number in the two bytes at a place, and the place behind it. `Short` where they are not whole, `BadField` where
+/// the number is below the least or above the most.
+pub fn word<S: ByteSource>(
     source: &S,
     at: usize,
     least: u16,
@@ -308,8 +309,8 @@ fn word<S: ByteSource>(
     Ok((number, at + 2))
 }
 
-// The number in four bytes, from a least to a most, and the place behind it.
-fn long<S: ByteSource>(
+/// The number in the four bytes at a place, and the place behind it. The faults are those of `word`.
+pub fn long<S: ByteSource>(
     source: &S,
     at: usize,
     least: u32,

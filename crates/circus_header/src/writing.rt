@@ -145,13 +145,15 @@ fn push_clock(clock: &Clock, out: &mut Message) -> Result<(), NoMemory>
     Ok(())
 }
 
-fn push_word(number: u16, out: &mut Message) -> Result<(), NoMemory>
+/// Adds a number in two bytes at the end of `out`, which is unchanged after `NoMemory`.
+pub fn push_word(number: u16, out: &mut Message) -> Result<(), NoMemory>
     ensures { OnOk result (Written out.old (word number ∷ []) out.new) }
 {
     write_word(number, out)
 }
 
-fn push_long(number: u32, out: &mut Message) -> Result<(), NoMemory>
+/// Adds a number in four bytes at the end of `out`, which is unchanged after `NoMemory`.
+pub fn push_long(number: u32, out: &mut Message) -> Result<(), NoMemory>
     ensures { OnOk result (Written out.old (long number ∷ []) out.new) }
 {
     write_long(number, out)

@@ -2,3 +2,5 @@ mod Booting
 mod Mapping
 mod Performing
 mod Staying
+mod Tabling
+mod TableSteps

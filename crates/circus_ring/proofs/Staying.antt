@@ -14,11 +14,11 @@ use Rattle.std.proofs.lemmas.List.Sums.{length-filter, count_by-le-length}
 use Rattle.std.proofs.lemmas.List.Elements.{All-append, All-filter, All-map}
 use Rattle.std.proofs.lemmas.List.Folds.{list_any-append}
 use Rattle.std.proofs.lemmas.List.Kept.{AllPairs-filter}
+use Rattle.circus_value.specs.Among.{is_among}
 use Rattle.circus_collate.specs.declared.view.Since.TheVariants.{Joining}
 use Rattle.circus_collate.specs.declared.view.Entry.{Entry}
 use Rattle.circus_collate.specs.declared.view.View.{View}
 use Rattle.circus_collate.specs.declared.deployment.Troupe.{Troupe}
-use Rattle.circus_collate.specs.Giving.{is_among}
 use Rattle.circus_ring.specs.RingTable.{most_entries, last_incarnation, changed, has_node, waits, active, boot_entry, boot_view, boot_views, boot_views_from, is_done, table_for, table_by, troupe_of, Kept, kept_by, kept_after}
 use Rattle.circus_ring.specs.ViewOf.{IsBootable, IsViewOf}
 use Rattle.circus_ring.proofs.Performing.{get_set_same, get_set_other, has_both}

@@ -1,2 +1,4 @@
 pub mod RingTable
 pub mod ViewOf
+pub mod TableFields
+pub mod Seen

@@ -2,6 +2,7 @@
 use Rattle.std.specs.Prelude.{ℕ, ◌+◌, Bool, true, false, not, ◌&&◌, ◌==◌, nat_le, if◌then◌else◌, List, [], ◌∷◌, ◌++◌, length, map, filter, fold, Option, Some, None, slice_get, slice_set, min}
 use Rattle.std.specs.List.{list_any}
 use Rattle.std.specs.Option.{option_map_or}
+use Rattle.circus_value.specs.Among.{is_among}
 use Rattle.circus_header.specs.declared.call.Request.{Request}
 use Rattle.circus_header.specs.declared.call.Request.TheVariants.{Lookup, Join, Active, Gone}
 use Rattle.circus_collate.specs.declared.view.Since.{Since}
@@ -12,7 +13,6 @@ use Rattle.circus_collate.specs.declared.table.Table.{Table}
 use Rattle.circus_collate.specs.declared.table.RingResult.{RingResult}
 use Rattle.circus_collate.specs.declared.table.RingResult.TheVariants.{Done, RootTroupe, NotSpare, Full}
 use Rattle.circus_collate.specs.declared.deployment.Troupe.{Troupe}
-use Rattle.circus_collate.specs.Giving.{is_among}
 
 -- the most entries of a view
 abbrev pub most_entries : ℕ

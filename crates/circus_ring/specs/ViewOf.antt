@@ -1,9 +1,9 @@
 -- What is true of a troupe's view after every list of requests.
 use Rattle.std.specs.Prelude.{◌≡◌, ◌≢◌, ℕ, ◌≤◌, true, ◌++◌, length, All, AllPairs}
+use Rattle.circus_value.specs.Among.{is_among}
 use Rattle.circus_collate.specs.declared.view.Entry.{Entry}
 use Rattle.circus_collate.specs.declared.view.View.{View}
 use Rattle.circus_collate.specs.declared.deployment.Troupe.{Troupe}
-use Rattle.circus_collate.specs.Giving.{is_among}
 use Rattle.circus_ring.specs.RingTable.{most_entries, last_incarnation}
 
 -- a troupe whose view has room for its founders, who differ

@@ -1,12 +1,12 @@
 // What a request comes to for one view.
 ghost use Rattle.std.specs.Prelude.{◌≡◌, map, IfOk};
 ghost use Rattle.std.specs.List.{list_any};
-ghost use Rattle.circus_collate.specs.Giving.{is_among};
+ghost use Rattle.circus_value.specs.Among.{is_among};
 ghost use Rattle.circus_ring.specs.RingTable as ring_table;
 
 use circus_collate::{Entries, Entry, RingResult, Since, Table, Troupe, View};
 use circus_header::Request;
-use circus_value::{Duplicate, ListOf, NoMemory};
+use circus_value::{Duplicate, ListOf, NoMemory, is_among};
 use std::alloc::Global;
 
 /// The most entries of a view.
@@ -46,19 +46,13 @@ fn join_taken(troupe: &Troupe, view: &View, node: u16) -> RingResult
 {
     if troupe.root {
         RingResult::RootTroupe
-    } else if !is_spare(troupe, node) {
+    } else if !is_among(troupe.spares.as_slice(), node) {
         RingResult::NotSpare
     } else if !has(view, node) && view.entries.len() >= MOST_ENTRIES {
         RingResult::Full
     } else {
         RingResult::Done
     }
-}
-
-fn is_spare(troupe: &Troupe, node: u16) -> bool
-    ensures { result ≡ is_among troupe.now.spares node }
-{
-    troupe.spares.as_slice().iter().any(|spare| *spare == node)
 }
 
 fn has(view: &View, node: u16) -> bool

@@ -1,0 +1,88 @@
+// Calls in slots, some of which are empty.
+ghost use Rattle.std.specs.Prelude.{◌≡◌, ◌⊎◌, [], IfOk, option_copied};
+ghost use Rattle.circus_gather.specs.Seen.Slots as slots_seen;
+
+use crate::HeldCall;
+use crate::call_value::CallValue;
+use crate::places::Places;
+use circus_value::{ListOf, NoMemory};
+use std::alloc::Global;
+
+/// The calls by their values, in order of arrival.
+pub(crate) type Calls<'a> = ListOf<CallValue<'a>>;
+
+// The call in a slot.
+fn call_at(slots: &[Option<HeldCall>], place: usize) -> Option<&HeldCall>
+    ensures { option_copied result ≡ slots_seen.standing slots.now place }
+{
+    match slots.get(place) {
+        Some(slot) => slot.as_ref(),
+        None => None,
+    }
+}
+
+/// The calls at places.
+#[tactic(auto, using(crate::proofs::Standing::stood_more, crate::proofs::Standing::stood_none, crate::proofs::Standing::stood_all))]
+pub(crate) fn calls_at<'a>(
+    alloc: Global,
+    slots: &'a [Option<HeldCall>],
+    places: &[usize],
+) -> Result<Calls<'a>, NoMemory>
+    ensures { IfOk result (λ calls. calls ≡ slots_seen.calls_at slots.now places.now) }
+{
+    let mut calls = ListOf::new(alloc);
+    for place in places {
+        if let Some(call) = call_at(slots, *place) {
+            calls.push(CallValue::of(call))?;
+        }
+    }
+    Ok(calls)
+}
+
+/// All calls.
+#[tactic(auto, using(crate::proofs::Standing::kept_more, crate::proofs::Standing::kept_none, crate::proofs::Standing::kept_all))]
+pub(crate) fn all_calls(alloc: Global, slots: &[Option<HeldCall>]) -> Result<Calls<'_>, NoMemory>
+    ensures { IfOk result (λ calls. calls ≡ slots_seen.kept slots.now) }
+{
+    let mut calls = ListOf::new(alloc);
+    for slot in slots {
+        if let Some(call) = slot.as_ref() {
+            calls.push(CallValue::of(call))?;
+        }
+    }
+    Ok(calls)
+}
+
+// Empties the slots at places.
+#[tactic(auto, using(crate::proofs::Going::fold_more, crate::proofs::Going::fold_all, std::proofs::lemmas::List::set_past))]
+fn empty_at(slots: &mut [Option<HeldCall>], places: &[usize])
+    ensures { slots.new ≡ slots_seen.emptied slots.old places.now }
+{
+    for place in places {
+        empty_one(slots, *place);
+    }
+}
+
+fn empty_one(slots: &mut [Option<HeldCall>], place: usize)
+    ensures { slots.new ≡ slots_seen.emptied_one slots.old place }
+{
+    if place < slots.len() {
+        slots[place] = None;
+    }
+}
+
+/// Empties the slots at places.
+pub(crate) fn empty(slots: &mut Vec<Option<HeldCall>>, places: &[usize])
+    ensures { slots.new.items ≡ slots_seen.emptied slots.old.items places.now }
+{
+    empty_at(slots.as_mut_slice(), places);
+}
+
+/// Gives up the slots where no call is left.
+pub(crate) fn give_up(slots: &mut Vec<Option<HeldCall>>, places: &Places)
+    ensures { ((places.now.entries ≡ []) × (slots.new.items ≡ [])) ⊎ (slots.new.items ≡ slots.old.items) }
+{
+    if places.is_empty() {
+        slots.clear();
+    }
+}

@@ -1,0 +1,210 @@
+// The calls that wait.
+ghost use Rattle.std.specs.Prelude.{◌≡◌, not, ◌++◌, [], ◌∷◌, filter, map, OnOk, OnErr, IfOk};
+ghost use Rattle.circus_gather.specs.Gathering as gathering;
+ghost use Rattle.circus_gather.specs.Seen.Groups.{is_in_group};
+
+use crate::call_value::CallValue;
+use crate::group::{Group, is_of_index};
+use crate::held::index_of;
+use crate::places::{Places, note, places_without, take};
+use crate::slots::{Calls, all_calls, calls_at, empty, give_up};
+use crate::{Callers, HeldCall};
+use circus_collate::{Said, Views};
+use circus_value::{ListOf, NoMemory};
+use indexmap::IndexMap;
+use std::alloc::Global;
+use std::marker::Model;
+
+/// The calls to a module that wait for their reply, in order of arrival. Those of one index are found at once.
+#[derive(Drop)]
+pub(crate) struct Waiting {
+    alloc: Global,
+    module: u16,
+    slots: Vec<Option<HeldCall>>,
+    places: Places,
+}
+
+impl Model for Waiting {
+    ghost use Rattle.circus_gather.specs.Seen.Groups.{Waits};
+    ghost use Rattle.circus_gather.specs.Seen.Slots.{kept, AreFound};
+
+    ghost Value = { Waits };
+
+    ghost view = { λ a. record { «module» = a.module; calls = kept a.slots.items } };
+
+    ghost invariant = { λ a. AreFound a.module a.slots.items a.places.entries };
+}
+
+impl Waiting {
+    pub fn new(alloc: Global, module: u16) -> Self
+        ensures { result ≡ record { «module» = «module»; calls = [] } }
+    {
+        Waiting {
+            alloc,
+            module,
+            slots: Vec::new(alloc),
+            places: IndexMap::new(alloc),
+        }
+    }
+
+    pub fn module(&self) -> u16
+        ensures { result ≡ self.now.«module» }
+    {
+        self.module
+    }
+
+    /// Adds a call behind the others. After `NoMemory` nothing has changed.
+    pub fn push(&mut self, call: HeldCall) -> Result<(), NoMemory>
+        ensures ok { OnOk result (self.new ≡ record self.old { calls = self.old.calls ++ call ∷ [] }) }
+        ensures err { OnErr result (self.new ≡ self.old) }
+    {
+        let index = index_of(self.module, &call.header);
+        let place = self.slots.len();
+        self.slots.reserve(1)?;
+        note(self.alloc, &mut self.places, index, place)?;
+        self.slots.push_reserved(Some(call));
+        Ok(())
+    }
+
+    // The calls of an index.
+    fn of_index(&self, index: u32) -> Result<Calls<'_>, NoMemory>
+        ensures { IfOk result (λ calls. calls ≡ filter (gathering.is_of_index self.now.«module» index) self.now.calls) }
+    {
+        match self.places.get(&index) {
+            Some(places) => calls_at(self.alloc, self.slots.as_slice(), places.as_slice()),
+            None => Ok(ListOf::new(self.alloc)),
+        }
+    }
+
+    /// Who made the calls of an index, in order of arrival.
+    pub fn callers_of(&self, index: u32) -> Result<Callers, NoMemory>
+        ensures { IfOk result (λ callers. callers ≡ gathering.callers (filter (gathering.is_of_index self.now.«module» index) self.now.calls)) }
+    {
+        let calls = self.of_index(index)?;
+        senders(self.alloc, calls.as_slice())
+    }
+
+    /// Takes out the calls of an index.
+    pub fn remove_of(&mut self, index: u32)
+        ensures { self.new ≡ record self.old { calls = filter (λ c. not (gathering.is_of_index self.old.«module» index c)) self.old.calls } }
+    {
+        let places = take(self.alloc, &mut self.places, index);
+        empty(&mut self.slots, places.as_slice());
+        give_up(&mut self.slots, &self.places);
+    }
+
+    /// Who made the calls of a group, in order of arrival.
+    pub fn callers(&self, group: Group) -> Result<Callers, NoMemory>
+        ensures { IfOk result (λ callers. callers ≡ gathering.callers (filter (is_in_group self.now.«module» group) self.now.calls)) }
+    {
+        let calls = all_calls(self.alloc, self.slots.as_slice())?;
+        callers_in(self.alloc, self.module, calls.as_slice(), group)
+    }
+
+    /// Takes out the calls of a group. After `NoMemory` nothing has changed.
+    pub fn remove(&mut self, group: Group) -> Result<(), NoMemory>
+        ensures ok { OnOk result (self.new ≡ record self.old { calls = filter (λ c. not (is_in_group self.old.«module» group c)) self.old.calls }) }
+        ensures err { OnErr result (self.new ≡ self.old) }
+    {
+        let module = self.module;
+        self.places = places_without(self.alloc, module, self.slots.as_slice(), group)?;
+        self.slots.retain(|slot| group.spares(module, slot));
+        Ok(())
+    }
+
+    /// What is said by the calls that count for a run, in order of arrival.
+    pub fn said(
+        &self,
+        required: u32,
+        views: &Views,
+        index: u32,
+    ) -> Result<ListOf<Said<CallValue<'_>>>, NoMemory>
+        ensures { IfOk result (λ said. said ≡ map gathering.as_said (filter (gathering.is_counted self.now.«module» required views.now index) self.now.calls)) }
+    {
+        let calls = self.of_index(index)?;
+        counted(
+            self.alloc,
+            self.module,
+            calls.as_slice(),
+            required,
+            views,
+            index,
+        )
+    }
+}
+
+#[tactic(auto, using(crate::proofs::Going::map_more, crate::proofs::Going::map_all))]
+fn senders(alloc: Global, calls: &[CallValue<'_>]) -> Result<Callers, NoMemory>
+    ensures { IfOk result (λ callers. callers ≡ gathering.callers calls.now) }
+{
+    let mut callers = ListOf::new(alloc);
+    for call in calls {
+        callers.push(call.sender())?;
+    }
+    Ok(callers)
+}
+
+#[tactic(auto, using(crate::proofs::Going::made_more, crate::proofs::Going::passed_over, crate::proofs::Going::made_all))]
+fn callers_in(
+    alloc: Global,
+    module: u16,
+    calls: &[CallValue<'_>],
+    group: Group,
+) -> Result<Callers, NoMemory>
+    ensures { IfOk result (λ callers. callers ≡ gathering.callers (filter (is_in_group «module» group) calls.now)) }
+{
+    let mut callers = ListOf::new(alloc);
+    for call in calls {
+        if group.has(module, call.call()) {
+            callers.push(call.sender())?;
+        }
+    }
+    Ok(callers)
+}
+
+#[tactic(auto, using(crate::proofs::Going::made_more, crate::proofs::Going::passed_over, crate::proofs::Going::made_all))]
+fn counted<'a>(
+    alloc: Global,
+    module: u16,
+    calls: &[CallValue<'a>],
+    required: u32,
+    views: &Views,
+    index: u32,
+) -> Result<ListOf<Said<CallValue<'a>>>, NoMemory>
+    ensures { IfOk result (λ said. said ≡ map gathering.as_said (filter (gathering.is_counted «module» required views.now index) calls.now)) }
+{
+    let mut said = ListOf::new(alloc);
+    for call in calls {
+        if is_counted(module, required, views, index, call.call()) {
+            said.push(as_said(call.call()))?;
+        }
+    }
+    Ok(said)
+}
+
+fn as_said(call: &HeldCall) -> Said<CallValue<'_>>
+    ensures { result ≡ gathering.as_said call.now }
+{
+    Said {
+        node: call.sender.node,
+        value: CallValue::of(call),
+    }
+}
+
+#[tactic(auto, unfolding(crate::specs::Gathering::is_counted))]
+fn is_counted(module: u16, required: u32, views: &Views, index: u32, call: &HeldCall) -> bool
+    ensures { result ≡ gathering.is_counted «module» required views.now index call.now }
+{
+    is_of_index(module, index, call)
+        && required <= call.header.server_incarnation
+        && is_known(views, call.header.client, call.header.client_incarnation)
+}
+
+fn is_known(views: &Views, troupe: u16, incarnation: u32) -> bool
+    ensures { result ≡ gathering.is_known views.now troupe incarnation }
+{
+    match views.get(usize::from(troupe)) {
+        Some(view) => incarnation <= view.incarnation,
+        None => false,
+    }
+}
