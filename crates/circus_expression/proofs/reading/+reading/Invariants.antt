@@ -1,0 +1,81 @@
+use Rattle.std.proofs.Common.{◌≡◌, ◌+◌, ◌*◌, length, map}
+use Rattle.circus_expression.specs.Standing.{shown, stands_for}
+use Rattle.circus_expression.specs.ExpressionReading.{items_within}
+use Rattle.circus_expression.proofs.Stands.{rank_of, items_go_on}
+use Rattle.circus_expression.proofs.reading.+reading.Given as goal
+
+abbrev pub decreases-enclosed : goal.decreases-enclosed
+decreases-enclosed l = 26 * l.levels + 1
+
+abbrev pub decreases-subscript : goal.decreases-subscript
+decreases-subscript l = 26 * l.levels + 1
+
+abbrev pub decreases-list_text : goal.decreases-list_text
+decreases-list_text l = 26 * l.levels + 1
+
+abbrev pub decreases-length : goal.decreases-length
+decreases-length l = 26 * l.levels + 1
+
+abbrev pub decreases-measured : goal.decreases-measured
+decreases-measured l = 26 * l.levels + 2
+
+abbrev pub decreases-further_suffixes : goal.decreases-further_suffixes
+decreases-further_suffixes l = 26 * l.levels + 2
+
+abbrev pub decreases-built : goal.decreases-built
+decreases-built l = 26 * l.levels + 2
+
+abbrev pub decreases-one_suffix : goal.decreases-one_suffix
+decreases-one_suffix l = 26 * l.levels + 3
+
+abbrev pub decreases-dotted : goal.decreases-dotted
+decreases-dotted l = 26 * l.levels + 3
+
+abbrev pub decreases-any_suffixes : goal.decreases-any_suffixes
+decreases-any_suffixes l = 26 * l.levels + 4
+
+abbrev pub decreases-named : goal.decreases-named
+decreases-named l = 26 * l.levels + 5
+
+abbrev pub decreases-primary_kind : goal.decreases-primary_kind
+decreases-primary_kind l = 26 * l.levels + 6
+
+abbrev pub decreases-primary : goal.decreases-primary
+decreases-primary l = 26 * l.levels + 7
+
+abbrev pub decreases-factor : goal.decreases-factor
+decreases-factor l = 26 * l.levels + 8
+
+abbrev pub decreases-operand : goal.decreases-operand
+decreases-operand l = 26 * l.levels + rank_of l.of
+
+abbrev pub decreases-further_linked : goal.decreases-further_linked
+decreases-further_linked l = 26 * l.levels + rank_of l.of
+
+abbrev pub decreases-linked : goal.decreases-linked
+decreases-linked l = 26 * l.levels + rank_of l.of + 1
+
+abbrev pub decreases-chain : goal.decreases-chain
+decreases-chain l = 26 * l.levels + rank_of l.of + 2
+
+abbrev pub decreases-compared : goal.decreases-compared
+decreases-compared l = 26 * l.levels + 15
+
+abbrev pub decreases-related : goal.decreases-related
+decreases-related l = 26 * l.levels + 16
+
+abbrev pub decreases-relation : goal.decreases-relation
+decreases-relation l = 26 * l.levels + 17
+
+abbrev pub decreases-negated : goal.decreases-negated
+decreases-negated l = 26 * l.levels + 18
+
+abbrev pub decreases-items : goal.decreases-items
+decreases-items l = 26 * l.levels + 25
+
+-- the items so far and those that follow are the items
+abbrev pub invariant-items-loop-reader : goal.invariant-items-loop-reader
+invariant-items-loop-reader l = shown (map stands_for) (items_within l.levels l.fn.reader) ≡ items_go_on l.levels l.items l.reader
+
+abbrev pub decreases-items-loop-reader : goal.decreases-items-loop-reader
+decreases-items-loop-reader l = length l.reader.rest

@@ -1,0 +1,455 @@
+// Reading expressions and places.
+ghost use Rattle.std.specs.Prelude.{◌≡◌, ◌++◌, map, Some, IfOk, OnOk, codes};
+ghost use Rattle.circus_syntax.specs.Placed.{word};
+ghost use Rattle.circus_syntax.specs.Reading.{behind, name};
+ghost use Rattle.circus_syntax.specs.Reader.{next, place, stopped, skipped_by};
+ghost use Rattle.circus_expression.specs.ExpressionOf.{tree_of, kind_tree, place_of};
+ghost use Rattle.circus_expression.specs.ExpressionTree.{expression, binary, is_arm};
+ghost use Rattle.circus_expression.specs.Operators.{operators, next_operator};
+ghost use Rattle.circus_expression.specs.Standing.{shown, stands_for, leaning, suffixes_stand_for, place_stands_for, type_place, joined, related_tree};
+ghost use Rattle.circus_expression.specs.ExpressionReading.{filled, first_operator, chained, operand, links, further_links, no_further, negated, relation, related_within, factor, primary, length_primary, required_argument, named_primary, argument, subscripted, list, items_within, suffixes, any, further, built_behind, dotted, read_place, built, named};
+
+use crate::seeing::{comparison, operator, primary_start, sees_suffix};
+use crate::{
+    Chain, Expression, ExpressionKind, Expressions, Operand, Operator, PlaceText, PrimaryStart,
+    Suffix, Suffixes,
+};
+use circus_syntax::{Named, Reader, StopCause, TypeName};
+use circus_value::NoMemory;
+
+/// Reads an expression of at most so many levels, or stops: `TooDeep` at the first token that opens one too
+/// many, and at the first other token with which no expression goes on (docs/LANGUAGE.md, "Expressions").
+pub fn expression_text(reader: &mut Reader<'_>, levels: u8) -> Result<Expression, NoMemory>
+    ensures { IfOk result (λ read. shown stands_for (chained levels Chain.Expression reader.old) ≡ (tree_of read, reader.new)) }
+{
+    chain(reader, Chain::Expression, levels)
+}
+
+#[cycle(reading)]
+fn chain(reader: &mut Reader<'_>, of: Chain, levels: u8) -> Result<Expression, NoMemory>
+    ensures { IfOk result (λ read. shown stands_for (chained levels of reader.old) ≡ (tree_of read, reader.new)) }
+{
+    let left = operand(reader, of, levels)?;
+    match operator(reader, of) {
+        Some(joint) => linked(reader, left, joint, of, levels),
+        None => Ok(left),
+    }
+}
+
+// The operator, its operand, and what follows them, joined to what stands in front.
+#[cycle(reading)]
+fn linked(
+    reader: &mut Reader<'_>,
+    left: Expression,
+    joint: Operator,
+    of: Chain,
+    levels: u8,
+) -> Result<Expression, NoMemory>
+    requires { next_operator (operators of) (next reader.old) ≡ Some joint }
+    ensures { IfOk result (λ read. shown (leaning (tree_of left)) (links levels of reader.old) ≡ (tree_of read, reader.new)) }
+{
+    let at = left.at;
+    let left = Operand::new(reader.alloc(), left)?;
+    reader.skip();
+    let right = operand(reader, of, levels)?;
+    let both = join(reader, at, joint, left, right)?;
+    match operator(reader, of) {
+        Some(further) => further_linked(reader, both, further, of, levels),
+        None => Ok(both),
+    }
+}
+
+// A further operator of a chain and all behind it are a level more.
+#[cycle(reading)]
+fn further_linked(
+    reader: &mut Reader<'_>,
+    left: Expression,
+    joint: Operator,
+    of: Chain,
+    levels: u8,
+) -> Result<Expression, NoMemory>
+    requires { next_operator (operators of) (next reader.old) ≡ Some joint }
+    ensures { IfOk result (λ read. shown (leaning (tree_of left)) (further_links levels of reader.old) ≡ (tree_of read, reader.new)) }
+{
+    if levels == 0 {
+        return stop_linked(reader, left, of);
+    }
+    linked(reader, left, joint, of, levels - 1)
+}
+
+#[cycle(reading)]
+fn operand(reader: &mut Reader<'_>, of: Chain, levels: u8) -> Result<Expression, NoMemory>
+    ensures { IfOk result (λ read. shown stands_for (operand levels of reader.old) ≡ (tree_of read, reader.new)) }
+{
+    match of {
+        Chain::Expression => chain(reader, Chain::Conjunct, levels),
+        Chain::Conjunct => negated(reader, levels),
+        Chain::Sum => chain(reader, Chain::Term, levels),
+        Chain::Term => factor(reader, levels),
+    }
+}
+
+#[cycle(reading)]
+fn negated(reader: &mut Reader<'_>, levels: u8) -> Result<Expression, NoMemory>
+    ensures { IfOk result (λ read. shown stands_for (negated levels reader.old) ≡ (tree_of read, reader.new)) }
+{
+    if !reader.sees_word(b"NOT") {
+        return relation(reader, levels);
+    }
+    if levels == 0 {
+        return stop(reader, StopCause::TooDeep);
+    }
+    let at = reader.place();
+    reader.word(b"NOT");
+    let inner = negated(reader, levels - 1)?;
+    let operand = Operand::new(reader.alloc(), inner)?;
+    Ok(Expression {
+        at,
+        kind: ExpressionKind::Not(operand),
+    })
+}
+
+#[cycle(reading)]
+fn relation(reader: &mut Reader<'_>, levels: u8) -> Result<Expression, NoMemory>
+    ensures { IfOk result (λ read. shown stands_for (relation levels reader.old) ≡ (tree_of read, reader.new)) }
+{
+    let left = chain(reader, Chain::Sum, levels)?;
+    related(reader, left, levels)
+}
+
+// What stands behind the first sum of a relation, joined to it.
+#[cycle(reading)]
+fn related(reader: &mut Reader<'_>, left: Expression, levels: u8) -> Result<Expression, NoMemory>
+    ensures { IfOk result (λ read. shown (related_tree (tree_of left)) (related_within levels reader.old) ≡ (tree_of read, reader.new)) }
+{
+    if reader.sees_word(b"IS") {
+        return arm_test(reader, left);
+    }
+    match comparison(reader) {
+        Some(joint) => compared(reader, left, joint, levels),
+        None => Ok(left),
+    }
+}
+
+// The next token, which compares, and the sum behind it, joined to what stands in front.
+#[cycle(reading)]
+fn compared(
+    reader: &mut Reader<'_>,
+    left: Expression,
+    joint: Operator,
+    levels: u8,
+) -> Result<Expression, NoMemory>
+    ensures { IfOk result (λ read. shown (λ w. joined joint (tree_of left) (stands_for w)) (chained levels Chain.Sum (skipped_by reader.old.stop reader.old.rest reader.old.end)) ≡ (tree_of read, reader.new)) }
+{
+    let at = left.at;
+    let left = Operand::new(reader.alloc(), left)?;
+    reader.skip();
+    let right = chain(reader, Chain::Sum, levels)?;
+    join(reader, at, joint, left, right)
+}
+
+#[cycle(reading)]
+fn factor(reader: &mut Reader<'_>, levels: u8) -> Result<Expression, NoMemory>
+    ensures { IfOk result (λ read. shown stands_for (factor levels reader.old) ≡ (tree_of read, reader.new)) }
+{
+    if !reader.sees_sign(b"-") {
+        return primary(reader, levels);
+    }
+    if levels == 0 {
+        return stop(reader, StopCause::TooDeep);
+    }
+    let at = reader.place();
+    reader.sign(b"-");
+    let inner = factor(reader, levels - 1)?;
+    let operand = Operand::new(reader.alloc(), inner)?;
+    Ok(Expression {
+        at,
+        kind: ExpressionKind::Minus(operand),
+    })
+}
+
+#[cycle(reading)]
+fn primary(reader: &mut Reader<'_>, levels: u8) -> Result<Expression, NoMemory>
+    ensures { IfOk result (λ read. shown stands_for (primary levels reader.old) ≡ (tree_of read, reader.new)) }
+{
+    let at = reader.place();
+    let kind = primary_kind(reader, levels)?;
+    Ok(Expression { at, kind })
+}
+
+#[cycle(reading)]
+fn primary_kind(reader: &mut Reader<'_>, levels: u8) -> Result<ExpressionKind, NoMemory>
+    ensures { IfOk result (λ kind. shown stands_for (primary levels reader.old) ≡ (expression (place reader.old) (kind_tree kind), reader.new)) }
+{
+    match primary_start(reader) {
+        PrimaryStart::Number => Ok(ExpressionKind::Number(reader.number().value)),
+        PrimaryStart::Text => Ok(ExpressionKind::Text(reader.text()?)),
+        PrimaryStart::True => {
+            reader.word(b"TRUE");
+            Ok(ExpressionKind::Truth(true))
+        }
+        PrimaryStart::False => {
+            reader.word(b"FALSE");
+            Ok(ExpressionKind::Truth(false))
+        }
+        PrimaryStart::Parenthesis => Ok(enclosed(reader, levels)?.kind),
+        PrimaryStart::Length => length(reader, levels),
+        PrimaryStart::Name => named(reader, levels),
+    }
+}
+
+#[cycle(reading)]
+fn length(reader: &mut Reader<'_>, levels: u8) -> Result<ExpressionKind, NoMemory>
+    ensures { IfOk result (λ kind. shown stands_for (length_primary levels reader.old) ≡ (expression (place reader.old) (kind_tree kind), reader.new)) }
+{
+    if levels == 0 {
+        return Ok(stop(reader, StopCause::TooDeep)?.kind);
+    }
+    reader.word(b"LENGTH");
+    let inner = measured(reader, levels - 1)?;
+    Ok(ExpressionKind::Length(Operand::new(reader.alloc(), inner)?))
+}
+
+// What stands in the parentheses behind LENGTH.
+#[cycle(reading)]
+fn measured(reader: &mut Reader<'_>, levels: u8) -> Result<Expression, NoMemory>
+    ensures { IfOk result (λ read. shown stands_for (required_argument levels reader.old) ≡ (tree_of read, reader.new)) }
+{
+    if reader.sees_sign(b"(") {
+        enclosed(reader, levels)
+    } else {
+        stop(reader, StopCause::Unexpected)
+    }
+}
+
+// An expression in parentheses, which are a level.
+#[cycle(reading)]
+fn enclosed(reader: &mut Reader<'_>, levels: u8) -> Result<Expression, NoMemory>
+    ensures { IfOk result (λ read. shown stands_for (argument levels reader.old) ≡ (tree_of read, reader.new)) }
+{
+    if levels == 0 {
+        return stop(reader, StopCause::TooDeep);
+    }
+    reader.sign(b"(");
+    let inner = chain(reader, Chain::Expression, levels - 1)?;
+    reader.sign(b")");
+    Ok(inner)
+}
+
+#[cycle(reading)]
+fn named(reader: &mut Reader<'_>, levels: u8) -> Result<ExpressionKind, NoMemory>
+    ensures { IfOk result (λ kind. shown stands_for (named_primary levels reader.old) ≡ (expression (place reader.old) (kind_tree kind), reader.new)) }
+{
+    let name = reader.name()?;
+    if reader.sees_sign(b"#") {
+        return built(reader, TypeName { module: None, name }, levels);
+    }
+    if reader.sees_sign(b".") {
+        return dotted(reader, name, levels);
+    }
+    let suffixes = any_suffixes(reader, levels)?;
+    Ok(ExpressionKind::Read(PlaceText { name, suffixes }))
+}
+
+// What stands behind a name, where a dot follows it.
+#[cycle(reading)]
+fn dotted(reader: &mut Reader<'_>, name: Named, levels: u8) -> Result<ExpressionKind, NoMemory>
+    ensures { IfOk result (λ kind. shown (λ behind. stands_for (named name behind)) (dotted levels reader.old) ≡ (expression name.at (kind_tree kind), reader.new)) }
+{
+    reader.sign(b".");
+    let second = reader.name()?;
+    if reader.sees_sign(b"#") {
+        let of = TypeName {
+            module: Some(name),
+            name: second,
+        };
+        return built(reader, of, levels);
+    }
+    let mut suffixes = Suffixes::new(reader.alloc());
+    suffixes.push(Suffix::Field(second))?;
+    further_suffixes(reader, &mut suffixes, levels)?;
+    Ok(ExpressionKind::Read(PlaceText { name, suffixes }))
+}
+
+// What stands behind the name of a type: a hash, and a label, an arm with its value, or items.
+#[cycle(reading)]
+fn built(reader: &mut Reader<'_>, of: TypeName, levels: u8) -> Result<ExpressionKind, NoMemory>
+    ensures { IfOk result (λ kind. shown (λ made. stands_for (built of made)) (built_behind levels reader.old) ≡ (expression (type_place of) (kind_tree kind), reader.new)) }
+{
+    reader.sign(b"#");
+    if reader.sees_sign(b"[") {
+        return Ok(ExpressionKind::Items(of, list_text(reader, levels)?));
+    }
+    let name = reader.name()?;
+    if !reader.sees_sign(b"(") {
+        return Ok(ExpressionKind::Arm(of, name, None));
+    }
+    let value = enclosed(reader, levels)?;
+    let operand = Operand::new(reader.alloc(), value)?;
+    Ok(ExpressionKind::Arm(of, name, Some(operand)))
+}
+
+/// Reads a place of at most so many levels, or stops as `expression_text` does.
+pub fn place_text(reader: &mut Reader<'_>, levels: u8) -> Result<PlaceText, NoMemory>
+    ensures { IfOk result (λ read. shown place_stands_for (read_place levels reader.old) ≡ (place_of read, reader.new)) }
+{
+    let name = reader.name()?;
+    let suffixes = any_suffixes(reader, levels)?;
+    Ok(PlaceText { name, suffixes })
+}
+
+#[cycle(reading)]
+fn any_suffixes(reader: &mut Reader<'_>, levels: u8) -> Result<Suffixes, NoMemory>
+    ensures { IfOk result (λ read. shown suffixes_stand_for (any levels reader.old) ≡ (read, reader.new)) }
+{
+    let mut suffixes = Suffixes::new(reader.alloc());
+    if !sees_suffix(reader) {
+        return Ok(suffixes);
+    }
+    one_suffix(reader, &mut suffixes, levels)?;
+    Ok(suffixes)
+}
+
+// A suffix, and those that follow it.
+#[cycle(reading)]
+fn one_suffix(reader: &mut Reader<'_>, into: &mut Suffixes, levels: u8) -> Result<(), NoMemory>
+    ensures { OnOk result (shown (λ ss. into.old ++ suffixes_stand_for ss) (suffixes levels reader.old) ≡ (into.new, reader.new)) }
+{
+    if reader.sees_sign(b"[") {
+        into.push(Suffix::Subscript(subscript(reader, levels)?))?;
+        return further_suffixes(reader, into, levels);
+    }
+    reader.sign(b".");
+    into.push(Suffix::Field(reader.name()?))?;
+    further_suffixes(reader, into, levels)
+}
+
+// The suffixes that follow one: each of them is a level more.
+#[cycle(reading)]
+fn further_suffixes(
+    reader: &mut Reader<'_>,
+    into: &mut Suffixes,
+    levels: u8,
+) -> Result<(), NoMemory>
+    ensures { OnOk result (shown (λ ss. into.old ++ suffixes_stand_for ss) (further levels reader.old) ≡ (into.new, reader.new)) }
+{
+    if !sees_suffix(reader) {
+        return Ok(());
+    }
+    if levels == 0 {
+        reader.stop_here(StopCause::TooDeep);
+        into.push(Suffix::Field(reader.name()?))?;
+        return Ok(());
+    }
+    one_suffix(reader, into, levels - 1)
+}
+
+#[cycle(reading)]
+fn subscript(reader: &mut Reader<'_>, levels: u8) -> Result<Expression, NoMemory>
+    ensures { IfOk result (λ read. shown stands_for (subscripted levels reader.old) ≡ (tree_of read, reader.new)) }
+{
+    if levels == 0 {
+        return stop(reader, StopCause::TooDeep);
+    }
+    reader.sign(b"[");
+    let inner = chain(reader, Chain::Expression, levels - 1)?;
+    reader.sign(b"]");
+    Ok(inner)
+}
+
+/// Reads a list of expressions in brackets, which are a level, or stops as `expression_text` does.
+#[cycle(reading)]
+pub fn list_text(reader: &mut Reader<'_>, levels: u8) -> Result<Expressions, NoMemory>
+    ensures { IfOk result (λ read. shown (map stands_for) (list levels reader.old) ≡ (read, reader.new)) }
+{
+    if levels == 0 {
+        reader.stop_here(StopCause::TooDeep);
+        return Ok(Expressions::new(reader.alloc()));
+    }
+    reader.sign(b"[");
+    let items = items(reader, levels - 1)?;
+    reader.sign(b"]");
+    Ok(items)
+}
+
+#[cycle(reading)]
+fn items(reader: &mut Reader<'_>, levels: u8) -> Result<Expressions, NoMemory>
+    ensures { IfOk result (λ read. shown (map stands_for) (items_within levels reader.old) ≡ (read, reader.new)) }
+{
+    let mut items = Expressions::new(reader.alloc());
+    if reader.sees_sign(b"]") {
+        return Ok(items);
+    }
+    items.push(chain(reader, Chain::Expression, levels)?)?;
+    while reader.sees_sign(b",") {
+        reader.sign(b",");
+        items.push(chain(reader, Chain::Expression, levels)?)?;
+    }
+    Ok(items)
+}
+
+// Two expressions as one, which begins where the first does.
+fn join(
+    reader: &Reader<'_>,
+    at: u32,
+    joint: Operator,
+    left: Operand,
+    right: Expression,
+) -> Result<Expression, NoMemory>
+    ensures { IfOk result (λ made. tree_of made ≡ expression at (binary joint left (tree_of right))) }
+{
+    let right = Operand::new(reader.alloc(), right)?;
+    Ok(Expression {
+        at,
+        kind: ExpressionKind::Binary(joint, left, right),
+    })
+}
+
+// IS and the name of an arm.
+fn arm_test(reader: &mut Reader<'_>, left: Expression) -> Result<Expression, NoMemory>
+    ensures { IfOk result (λ read. shown (λ arm. expression left.at (is_arm (tree_of left) arm)) (behind (word (codes "IS")) name reader.old) ≡ (tree_of read, reader.new)) }
+{
+    let at = left.at;
+    let operand = Operand::new(reader.alloc(), left)?;
+    reader.word(b"IS");
+    let arm = reader.name()?;
+    Ok(Expression {
+        at,
+        kind: ExpressionKind::Is(operand, arm),
+    })
+}
+
+// Stops where a further operator of the chain would be a level too many.
+fn stop_linked(reader: &mut Reader<'_>, left: Expression, of: Chain) -> Result<Expression, NoMemory>
+    ensures { IfOk result (λ read. shown (leaning (tree_of left)) (no_further of reader.old) ≡ (tree_of read, reader.new)) }
+{
+    let at = left.at;
+    let left = Operand::new(reader.alloc(), left)?;
+    let missing = stop(reader, StopCause::TooDeep)?;
+    join(reader, at, first_operator(of), left, missing)
+}
+
+// Stops here, and fills in for an expression.
+fn stop(reader: &mut Reader<'_>, cause: StopCause) -> Result<Expression, NoMemory>
+    ensures { IfOk result (λ made. shown stands_for (stopped cause filled reader.old) ≡ (tree_of made, reader.new)) }
+{
+    reader.stop_here(cause);
+    let name = reader.name()?;
+    let suffixes = Suffixes::new(reader.alloc());
+    Ok(Expression {
+        at: name.at,
+        kind: ExpressionKind::Read(PlaceText { name, suffixes }),
+    })
+}
+
+// The first operator of a chain, which fills in for one.
+fn first_operator(of: Chain) -> Operator
+    ensures { result ≡ first_operator of }
+{
+    match of {
+        Chain::Expression => Operator::Or,
+        Chain::Conjunct => Operator::And,
+        Chain::Sum => Operator::Plus,
+        Chain::Term => Operator::Times,
+    }
+}
