@@ -9,7 +9,8 @@ use Rattle.circus_place.specs.Choice.{is_before}
 use Rattle.circus_place.specs.declared.choice.Chosen.{Chosen}
 use Rattle.circus_place.specs.declared.test.Test.{Test}
 use Rattle.circus_place.specs.Seen.Test.{passes}
-use Rattle.circus_place.specs.Seen.Search.{flagged, improves, offered, in_turn, is_among, AreApart, best_from}
+use Rattle.circus_value.specs.Among.{is_among}
+use Rattle.circus_place.specs.Seen.Search.{flagged, improves, offered, in_turn, AreApart, best_from}
 use Rattle.circus_place.proofs.Skipped.{apart_push}
 
 -- The order of lists.

@@ -16,7 +16,8 @@ use Rattle.circus_place.specs.declared.test.Test.{Test}
 use Rattle.circus_place.specs.Seen.Table.{AreTablesOf, flag_at}
 use Rattle.circus_place.specs.declared.attributes.Attributes.{Attributes}
 use Rattle.circus_place.specs.Seen.Test.{passes, ArePlaced}
-use Rattle.circus_place.specs.Seen.Search.{flagged, is_among, AreApart, best_from}
+use Rattle.circus_value.specs.Among.{is_among}
+use Rattle.circus_place.specs.Seen.Search.{flagged, AreApart, best_from}
 use Rattle.circus_place.proofs.Best.{Champion, IsChampion, Extends, And, best_is}
 
 -- Distinct numbers.

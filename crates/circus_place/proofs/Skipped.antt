@@ -9,7 +9,8 @@ use Rattle.circus_place.specs.declared.choice.Chosen.{Chosen}
 use Rattle.circus_place.specs.declared.test.Test.{Test}
 use Rattle.circus_place.specs.Seen.Table.{flag_at}
 use Rattle.circus_place.specs.Seen.Test.{passes, known, is_known_false, IsTestOf}
-use Rattle.circus_place.specs.Seen.Search.{flagged, improves, offered, in_turn, is_among, AreApart, best_from}
+use Rattle.circus_value.specs.Among.{is_among}
+use Rattle.circus_place.specs.Seen.Search.{flagged, improves, offered, in_turn, AreApart, best_from}
 use Rattle.circus_place.proofs.Known.{known_is, known_all}
 
 eq_sym : (m n : ℕ) → m == n ≡ false → n == m ≡ false

@@ -1,7 +1,8 @@
 // The search for the best choice.
 ghost use Rattle.std.specs.Prelude.{◌≡◌, ◌+◌, ◌-◌, ◌<◌, ◌≤◌, ◌∷◌, [], ◌++◌, min, length, vec_len, IfOk, OnOk, if◌then◌else◌};
 ghost use Rattle.circus_place.specs.declared.choice.Chosen.{Chosen};
-ghost use Rattle.circus_place.specs.Seen.Search.{flagged, improves, is_among, AreApart, best_from, IsReady};
+ghost use Rattle.circus_value.specs.Among.{is_among};
+ghost use Rattle.circus_place.specs.Seen.Search.{flagged, improves, AreApart, best_from, IsReady};
 
 use crate::choice::Chosen;
 use crate::relation::flag_at;

@@ -1,7 +1,7 @@
 -- The choices that are offered, in the order of their lists.
-use Rattle.std.specs.Prelude.{◌≡◌, ℕ, ◌≤◌, Bool, true, false, ◌&&◌, ◌==◌, if◌then◌else◌, nat_lt, List, [], ◌∷◌, ◌++◌, Option, Some, None, length, count_by}
+use Rattle.std.specs.Prelude.{◌≡◌, ℕ, ◌≤◌, Bool, true, false, ◌&&◌, if◌then◌else◌, nat_lt, List, [], ◌∷◌, ◌++◌, Option, Some, None, length, count_by}
 use Rattle.std.proofs.Common.{zero, suc}
-use Rattle.std.specs.List.{list_any}
+use Rattle.circus_value.specs.Among.{is_among}
 use Rattle.circus_place.specs.declared.choice.Chosen.{Chosen}
 use Rattle.circus_place.specs.declared.test.Test.{Test}
 use Rattle.circus_place.specs.declared.search.Search.{Search}
@@ -28,10 +28,6 @@ offered test present choice best =
 abbrev pub in_turn : (ℕ → Option Chosen → Option Chosen) → ℕ → Option Chosen → Option Chosen
 in_turn turn zero best = best
 in_turn turn (suc n) best = turn n (in_turn turn n best)
-
--- the number is one of these
-abbrev pub is_among : List ℕ → ℕ → Bool
-is_among ms m = list_any (λ n. n == m) ms
 
 -- none of them is there twice
 abbrev pub AreApart : List ℕ → Type 0

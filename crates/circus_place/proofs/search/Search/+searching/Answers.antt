@@ -1,7 +1,8 @@
 use Rattle.std.proofs.Common.{◌≡◌, ◌+◌, ◌-◌, ℕ, Bool, cond, [], ◌∷◌, ◌++◌, Option, Some, min, length, vec_len, suc, true, false, refl, sym, ◌∙◌, ap, subst, arith}
 use mir.Val.{bool_byte}
 use Rattle.circus_place.specs.declared.choice.Chosen.{Chosen}
-use Rattle.circus_place.specs.Seen.Search.{flagged, improves, in_turn, is_among, AreApart, best_from}
+use Rattle.circus_value.specs.Among.{is_among}
+use Rattle.circus_place.specs.Seen.Search.{flagged, improves, in_turn, AreApart, best_from}
 use Rattle.circus_place.specs.Seen.Test.{known, is_known_false}
 use Rattle.circus_place.proofs.Skipped.{refuted, bounded, taken, turns, one_flagged, apart_push}
 use Rattle.circus_place.proofs.search.Search.+searching.Goals as goal

@@ -1,5 +1,6 @@
 use Rattle.std.proofs.Common.{◌≡◌, ◌+◌, ◌-◌, ◌*◌, ◌∷◌, [], ◌++◌, cond, length, vec_len}
-use Rattle.circus_place.specs.Seen.Search.{in_turn, is_among, best_from}
+use Rattle.circus_value.specs.Among.{is_among}
+use Rattle.circus_place.specs.Seen.Search.{in_turn, best_from}
 use Rattle.circus_place.proofs.search.Search.+searching.Given as goal
 
 abbrev pub decreases-extend : goal.decreases-extend

@@ -1,0 +1,12 @@
+pub mod Ways
+pub mod Parts
+pub mod Chains
+pub mod Conditions
+pub mod Placings
+pub mod Within
+pub mod Whole
+pub mod LeastMore
+pub mod LeastIs
+pub mod Obeying
+pub mod ReadIs
+pub mod Ascii

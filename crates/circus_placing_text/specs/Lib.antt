@@ -1,0 +1,10 @@
+pub mod Words
+pub mod Written
+pub mod Grammar
+pub mod Reading
+pub mod Stopping
+pub mod Least
+pub mod Faults
+pub mod Means
+pub mod ReadAs
+pub mod Seen

@@ -1,0 +1,31 @@
+//! Placings as they are written, with the places of what stands in them, and their reading from a text.
+//!
+//! `read` reads a text. `text` has a placing as it is written, which `reading` reads from tokens, with the help of
+//! `value_reading` and `condition_reading`; `start` says what the next token begins, and `words` which words name
+//! nothing. `check` finds the least `fault` of it, with the `names` that stand before a place, and `meaning` makes the
+//! placing that it means. `place_fault` has what can be wrong with a text.
+#![tactic(auto)]
+
+mod check;
+mod condition_reading;
+mod fault;
+mod meaning;
+mod names;
+mod place_fault;
+mod read;
+mod reading;
+mod start;
+mod text;
+mod value_reading;
+mod words;
+
+use circus_value::ListOf;
+pub use place_fault::{PlaceCause, PlaceFault};
+pub use read::read_place;
+pub use text::{AttributeText, ConditionText, ConstantText, MachineText, OperandText, PlacingText};
+
+/// Machines as they are written.
+pub type MachineTexts = ListOf<MachineText>;
+
+/// Attributes as they are written.
+pub type AttributeTexts = ListOf<AttributeText>;
