@@ -1,10 +1,14 @@
--- Who is expected to say a value.
-use Rattle.std.specs.Prelude.{ℕ, Bool, false, nat_le, List, map, filter}
+-- Who is in a view, and who is expected to say a value.
+use Rattle.std.specs.Prelude.{ℕ, Bool, false, ◌==◌, nat_le, List, map, filter}
+use Rattle.std.specs.List.{list_any}
 use Rattle.circus_collate.specs.declared.view.Since.{Since}
 use Rattle.circus_collate.specs.declared.view.Since.TheVariants.{Joining, From}
 use Rattle.circus_collate.specs.declared.view.Entry.{Entry}
 use Rattle.circus_collate.specs.declared.view.View.{View}
 use Rattle.circus_collate.specs.declared.view.Expected.{Expected}
+
+abbrev pub has_node : View → ℕ → Bool
+has_node view node = list_any (λ (e : Entry). e.node == node) view.entries
 
 -- a member performs an index itself
 abbrev pub performs : Since → ℕ → Bool

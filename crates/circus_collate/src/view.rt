@@ -1,5 +1,6 @@
 // Who is a member of a troupe.
 ghost use Rattle.std.specs.Prelude.{◌≡◌};
+ghost use Rattle.circus_collate.specs.Expecting as expecting;
 
 use circus_value::{Duplicate, ListOf, NoMemory};
 
@@ -45,6 +46,16 @@ pub struct Expected<'a> {
 }
 
 impl View {
+    /// Whether a node is a member. It takes no memory.
+    pub fn has_node(&self, node: u16) -> bool
+        ensures { result ≡ expecting.has_node self.now node }
+    {
+        self.entries
+            .as_slice()
+            .iter()
+            .any(|entry| entry.node == node)
+    }
+
     /// Who is expected to say a value of an index. It takes no memory.
     pub fn expects(&self, index: u32) -> Expected<'_>
         ensures view { result.view.now ≡ self.now }

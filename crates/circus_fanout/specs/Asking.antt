@@ -12,7 +12,7 @@ use Rattle.circus_collate.specs.declared.view.Entry.{Entry}
 use Rattle.circus_collate.specs.declared.view.View.{View}
 use Rattle.circus_collate.specs.declared.giving.Said.{Said}
 use Rattle.circus_collate.specs.declared.collating.Collated.{Collated}
-use Rattle.circus_collate.specs.Expecting.{expected_nodes}
+use Rattle.circus_collate.specs.Expecting.{expected_nodes, has_node}
 use Rattle.circus_collate.specs.Collating.{collated}
 use Rattle.circus_fanout.specs.declared.asked.Sending.{Sending}
 use Rattle.circus_fanout.specs.declared.asked.Sending.TheVariants.{Unanswered, Settled, Stale}
@@ -112,14 +112,11 @@ watched kind said reply = if is_watchdog kind && differs said reply then Differs
 abbrev pub with_before : ℕ → Asking → Asking
 with_before node a = record a { asked = marked a.asked node Settled }
 
-abbrev pub has_entry : View → ℕ → Bool
-has_entry view node = list_any (λ (e : Entry). e.node == node) view.entries
-
 -- what follows a Stale: its view has to be looked up where it is above the one that is known, and else the call is sent again where the node is an entry of that one and isn't down
 unfoldable pub next : View → List ℕ → ℕ → ℕ → Next
 next view down node incarnation =
     if nat_lt view.incarnation incarnation then N.Lookup incarnation
-    else if has_entry view node && not (is_among down node) then N.Send (send_to view node)
+    else if has_node view node && not (is_among down node) then N.Send (send_to view node)
     else N.Leave
 
 -- what becomes of the sending that was answered so: there is a new one, or it stays stale

@@ -77,7 +77,7 @@ fn was_sent(asked: &[Asked], node: u16) -> bool
 }
 
 // Who was sent the call, once these sendings are made too.
-#[tactic(auto, using(crate::proofs::Going::fold_more, crate::proofs::Going::fold_all), unfolding(crate::specs::Asking::with_calls))]
+#[tactic(auto, using(circus_collate::proofs::Going::fold_more, circus_collate::proofs::Going::fold_all), unfolding(crate::specs::Asking::with_calls))]
 pub fn with_calls(alloc: Global, asked: &[Asked], sends: &Sends) -> Result<Vec<Asked>, NoMemory>
     ensures { IfOk result (λ after. after.items ≡ asking.with_calls asked.now sends.now) }
 {
@@ -86,15 +86,6 @@ pub fn with_calls(alloc: Global, asked: &[Asked], sends: &Sends) -> Result<Vec<A
         note_sent(&mut after, send.node)?;
     }
     Ok(after)
-}
-
-fn has_entry(view: &View, node: u16) -> bool
-    ensures { result ≡ asking.has_entry view.now node }
-{
-    view.entries
-        .as_slice()
-        .iter()
-        .any(|entry| entry.node == node)
 }
 
 fn is_satisfied(view: &View, sending: Sending) -> bool
@@ -128,7 +119,7 @@ fn send_to(view: &View, node: u16) -> Send
 }
 
 // The calls that a view makes due, in its order.
-#[tactic(auto, using(crate::proofs::Going::made_more, crate::proofs::Going::passed_over, crate::proofs::Going::made_all), unfolding(crate::specs::Asking::calls_for_a_view))]
+#[tactic(auto, using(circus_collate::proofs::Going::made_more, circus_collate::proofs::Going::passed_over, circus_collate::proofs::Going::made_all), unfolding(crate::specs::Asking::calls_for_a_view))]
 pub fn calls_for_a_view(
     alloc: Global,
     view: &View,
@@ -153,7 +144,7 @@ pub fn next(view: &View, down: &Nodes, node: u16, incarnation: u32) -> Next
 {
     if incarnation > view.incarnation {
         Next::Lookup(incarnation)
-    } else if has_entry(view, node) && !is_among(down.as_slice(), node) {
+    } else if view.has_node(node) && !is_among(down.as_slice(), node) {
         Next::Send(send_to(view, node))
     } else {
         Next::Leave

@@ -12,7 +12,7 @@ use Rattle.circus_gather.specs.declared.group.Group.{Group}
 use Rattle.circus_gather.specs.Gathering.{index_of, is_of_index}
 use Rattle.circus_gather.specs.Seen.Groups.{is_in_group, stays, spared}
 use Rattle.circus_gather.specs.Seen.Slots.{kept, places_from, standing, calls_at, emptied}
-use Rattle.circus_gather.proofs.Going.{front}
+use Rattle.circus_collate.proofs.Going.{front}
 
 module _ {X : Type 0} where
   -- ---- the calls at places, one after another

@@ -54,7 +54,7 @@ pub(crate) fn all_calls(alloc: Global, slots: &[Option<HeldCall>]) -> Result<Cal
 }
 
 // Empties the slots at places.
-#[tactic(auto, using(crate::proofs::Going::fold_more, crate::proofs::Going::fold_all, std::proofs::lemmas::List::set_past))]
+#[tactic(auto, using(circus_collate::proofs::Going::fold_more, circus_collate::proofs::Going::fold_all, std::proofs::lemmas::List::set_past))]
 fn empty_at(slots: &mut [Option<HeldCall>], places: &[usize])
     ensures { slots.new ≡ slots_seen.emptied slots.old places.now }
 {

@@ -133,7 +133,7 @@ impl Waiting {
     }
 }
 
-#[tactic(auto, using(crate::proofs::Going::map_more, crate::proofs::Going::map_all))]
+#[tactic(auto, using(circus_collate::proofs::Going::map_more, circus_collate::proofs::Going::map_all))]
 fn senders(alloc: Global, calls: &[CallValue<'_>]) -> Result<Callers, NoMemory>
     ensures { IfOk result (λ callers. callers ≡ gathering.callers calls.now) }
 {
@@ -144,7 +144,7 @@ fn senders(alloc: Global, calls: &[CallValue<'_>]) -> Result<Callers, NoMemory>
     Ok(callers)
 }
 
-#[tactic(auto, using(crate::proofs::Going::made_more, crate::proofs::Going::passed_over, crate::proofs::Going::made_all))]
+#[tactic(auto, using(circus_collate::proofs::Going::made_more, circus_collate::proofs::Going::passed_over, circus_collate::proofs::Going::made_all))]
 fn callers_in(
     alloc: Global,
     module: u16,
@@ -162,7 +162,7 @@ fn callers_in(
     Ok(callers)
 }
 
-#[tactic(auto, using(crate::proofs::Going::made_more, crate::proofs::Going::passed_over, crate::proofs::Going::made_all))]
+#[tactic(auto, using(circus_collate::proofs::Going::made_more, circus_collate::proofs::Going::passed_over, circus_collate::proofs::Going::made_all))]
 fn counted<'a>(
     alloc: Global,
     module: u16,

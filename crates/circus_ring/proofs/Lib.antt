@@ -1,5 +1,4 @@
 mod Booting
-mod Mapping
 mod Performing
 mod Staying
 mod Tabling

@@ -19,7 +19,8 @@ use Rattle.circus_collate.specs.declared.view.Since.TheVariants.{Joining}
 use Rattle.circus_collate.specs.declared.view.Entry.{Entry}
 use Rattle.circus_collate.specs.declared.view.View.{View}
 use Rattle.circus_collate.specs.declared.deployment.Troupe.{Troupe}
-use Rattle.circus_ring.specs.RingTable.{most_entries, last_incarnation, changed, has_node, waits, active, boot_entry, boot_view, boot_views, boot_views_from, is_done, table_for, table_by, troupe_of, Kept, kept_by, kept_after}
+use Rattle.circus_collate.specs.Expecting.{has_node}
+use Rattle.circus_ring.specs.RingTable.{most_entries, last_incarnation, changed, waits, active, boot_entry, boot_view, boot_views, boot_views_from, is_done, table_for, table_by, troupe_of, Kept, kept_by, kept_after}
 use Rattle.circus_ring.specs.ViewOf.{IsBootable, IsViewOf}
 use Rattle.circus_ring.proofs.Performing.{get_set_same, get_set_other, has_both}
 

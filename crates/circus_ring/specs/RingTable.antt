@@ -13,6 +13,7 @@ use Rattle.circus_collate.specs.declared.table.Table.{Table}
 use Rattle.circus_collate.specs.declared.table.RingResult.{RingResult}
 use Rattle.circus_collate.specs.declared.table.RingResult.TheVariants.{Done, RootTroupe, NotSpare, Full}
 use Rattle.circus_collate.specs.declared.deployment.Troupe.{Troupe}
+use Rattle.circus_collate.specs.Expecting.{has_node}
 
 -- the most entries of a view
 abbrev pub most_entries : ℕ
@@ -23,9 +24,6 @@ abbrev pub last_incarnation : ℕ
 last_incarnation = 4294967295
 
 -- ---- one view
-
-abbrev pub has_node : View → ℕ → Bool
-has_node view node = list_any (λ (e : Entry). e.node == node) view.entries
 
 -- the view with other entries: the incarnation grows, and stays once it is the last
 abbrev pub changed : View → List Entry → View

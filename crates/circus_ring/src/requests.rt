@@ -10,7 +10,7 @@ use circus_value::{Duplicate, ListOf, NoMemory, is_among};
 use std::alloc::Global;
 
 /// The most entries of a view.
-const MOST_ENTRIES: usize = 16;
+pub const MOST_ENTRIES: usize = 16;
 
 /// The incarnation after which none comes.
 const LAST_INCARNATION: u32 = u32::MAX;
@@ -48,20 +48,11 @@ fn join_taken(troupe: &Troupe, view: &View, node: u16) -> RingResult
         RingResult::RootTroupe
     } else if !is_among(troupe.spares.as_slice(), node) {
         RingResult::NotSpare
-    } else if !has(view, node) && view.entries.len() >= MOST_ENTRIES {
+    } else if !view.has_node(node) && view.entries.len() >= MOST_ENTRIES {
         RingResult::Full
     } else {
         RingResult::Done
     }
-}
-
-fn has(view: &View, node: u16) -> bool
-    ensures { result ≡ ring_table.has_node view.now node }
-{
-    view.entries
-        .as_slice()
-        .iter()
-        .any(|entry| entry.node == node)
 }
 
 // The view once a request is done.
@@ -79,7 +70,7 @@ fn view_after(alloc: Global, view: &View, request: &Request) -> Result<View, NoM
 fn joined(view: &View, node: u16) -> Result<View, NoMemory>
     ensures { IfOk result (λ after. after ≡ ring_table.joined view.now node) }
 {
-    if has(view, node) {
+    if view.has_node(node) {
         return view.copy();
     }
     let mut entries = view.entries.copy()?;
@@ -108,7 +99,7 @@ fn has_waiting(view: &View, node: u16) -> bool
         .any(|entry| waits(entry, node))
 }
 
-#[tactic(auto, using(crate::proofs::Mapping::map_more, crate::proofs::Mapping::map_all))]
+#[tactic(auto, using(circus_collate::proofs::Going::map_more, circus_collate::proofs::Going::map_all))]
 fn active_entries(alloc: Global, view: &View, node: u16, count: u32) -> Result<Entries, NoMemory>
     ensures { IfOk result (λ entries. entries ≡ map (ring_table.active node count) view.now.entries) }
 {
@@ -142,7 +133,7 @@ fn active(entry: &Entry, node: u16, count: u32) -> Entry
 fn without(alloc: Global, view: &View, node: u16) -> Result<View, NoMemory>
     ensures { IfOk result (λ after. after ≡ ring_table.without view.now node) }
 {
-    if !has(view, node) {
+    if !view.has_node(node) {
         return view.copy();
     }
     let entries = view

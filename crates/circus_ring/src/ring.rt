@@ -116,7 +116,7 @@ fn boot_view(alloc: Global, number: u16, troupe: &Troupe) -> Result<View, NoMemo
     })
 }
 
-#[tactic(auto, using(crate::proofs::Mapping::map_more, crate::proofs::Mapping::map_all))]
+#[tactic(auto, using(circus_collate::proofs::Going::map_more, circus_collate::proofs::Going::map_all))]
 fn boot_entries(alloc: Global, troupe: &Troupe) -> Result<Entries, NoMemory>
     ensures { IfOk result (λ entries. entries ≡ map ring_table.boot_entry troupe.now.founders) }
 {

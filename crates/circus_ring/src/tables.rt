@@ -9,6 +9,7 @@ ghost use Rattle.circus_ring.specs.TableFields as table_fields;
 ghost use Rattle.circus_ring.specs.TableFields.{IsTable, IsTableRead};
 ghost use Rattle.circus_ring.specs.Seen.TableLayout as layouts;
 
+use crate::requests::MOST_ENTRIES;
 use circus_collate::{Entries, Entry, RingResult, Since, Table, View};
 use circus_header::{HeaderFault, long, push_long, push_word, word};
 use circus_value::{ListOf, Message, NoMemory};
@@ -19,9 +20,6 @@ const MOST_TROUPE: u16 = 31;
 
 /// The greatest number of a node.
 const MOST_NODE: u16 = 63;
-
-/// How many entries there are at most.
-const MOST_ENTRIES: u16 = 16;
 
 /// Adds the bytes of a table at the end of `out` (docs/FORMATS.md, "Tables"). After `NoMemory`, the one fault, `out`
 /// is unchanged.
@@ -108,7 +106,7 @@ fn any_table(alloc: Global, bytes: &[u8]) -> Result<(Table, usize), HeaderFault>
     let (number, at) = word(&bytes, 0, 0, 3)?;
     let (troupe, at) = word(&bytes, at, 0, MOST_TROUPE)?;
     let (incarnation, at) = long(&bytes, at, 1, u32::MAX)?;
-    let (count, at) = word(&bytes, at, 0, MOST_ENTRIES)?;
+    let (count, at) = word(&bytes, at, 0, MOST_ENTRIES as u16)?;
     let (entries, end) = entries(alloc, bytes, at, count)?;
     Ok((table_of(number, troupe, incarnation, entries), end))
 }
