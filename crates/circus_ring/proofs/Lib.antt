@@ -1,4 +1,5 @@
 mod Booting
+mod Deploying
 mod Performing
 mod Staying
 mod Tabling

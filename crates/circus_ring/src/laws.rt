@@ -2,6 +2,8 @@
 ghost use Rattle.std.specs.Prelude.{◌≡◌, ◌≢◌, ℕ, List, [], ◌∷◌, ◌++◌, Some, slice_get, Result, Ok, Err};
 ghost use Rattle.circus_header.specs.declared.call.Request.{Request as Asked};
 ghost use Rattle.circus_collate.specs.declared.deployment.Troupe.{Troupe as Members};
+ghost use Rattle.circus_collate.specs.declared.deployment.Deployment.{Deployment as Deployed};
+ghost use Rattle.circus_collate.specs.Deployment.{IsDeployment};
 ghost use Rattle.circus_collate.specs.declared.table.Table.{Table as Answer};
 ghost use Rattle.circus_collate.specs.declared.view.View.{View as Known};
 ghost use Rattle.circus_ring.specs.RingTable.{troupe_of, kept_after, answer_after};
@@ -27,10 +29,14 @@ pub fn answers_show_the_views()
 /// troupe, an incarnation from 1 to 4,294,967,295, and at most 16 entries, which are different nodes and each a
 /// founder or a spare.
 pub fn views_are_of_their_troupes()
-    ensures { (troupes : List Members) (requests : List Asked) (place : ℕ) (troupe : Members) (view : Known)
+    ensures views { (troupes : List Members) (requests : List Asked) (place : ℕ) (troupe : Members) (view : Known)
         → slice_get troupes place ≡ Some troupe → IsBootable troupe
         → slice_get (kept_after troupes requests).views place ≡ Some view
         → IsViewOf place troupe view }
+
+    // The troupes of a deployment are such troupes.
+    ensures deployed { (deployment : Deployed) (place : ℕ) (troupe : Members)
+        → IsDeployment deployment → slice_get deployment.troupes place ≡ Some troupe → IsBootable troupe }
 {}
 
 /// Bytes are read as one table or refused at one place, but for want of memory.
