@@ -1,5 +1,5 @@
-//! Tests of the parts of a member: what collators answer, the Ringmaster's requests, snapshots, and how a node
-//! joins.
+//! Tests of the parts of a member: what collators answer, the Ringmaster's requests and tables, snapshots, and how a
+//! node joins.
 #![tactic(auto)]
 
 #[cfg(test)]
@@ -10,3 +10,5 @@ mod joiners;
 mod requests;
 #[cfg(test)]
 mod snapshots;
+#[cfg(test)]
+mod tables;

@@ -158,30 +158,102 @@ fn members_go(rt: HostRuntime) -> Result<(), Fail> {
     Ok(())
 }
 
-// How a request is taken, and how many entries the view of its troupe has afterwards.
-fn taken(ring: &mut Ring, request: Request) -> Result<Option<(RingResult, usize)>, NoMemory> {
-    if !ring.is_about_one(&request) {
-        return Ok(None);
+// A request, how it is taken, and the incarnation and the number of entries of its troupe's view afterwards.
+type Count = (Request, RingResult, u32, usize);
+
+// Every request, of a member, of another node, and of a member that has gone.
+const TO_A_ROOT: [Count; 11] = [
+    (Lookup(0), Done, 1, 1),
+    (Join(0, 1), RootTroupe, 1, 1),
+    (Join(0, 4), RootTroupe, 1, 1),
+    (Active(0, 1, 5), Done, 1, 1),
+    (Active(0, 4, 5), Done, 1, 1),
+    (Gone(0, 4), Done, 1, 1),
+    (Gone(0, 1), Done, 2, 0),
+    (Lookup(0), Done, 2, 0),
+    (Join(0, 1), RootTroupe, 2, 0),
+    (Active(0, 1, 5), Done, 2, 0),
+    (Gone(0, 1), Done, 2, 0),
+];
+
+// Every request, of a founder, of another troupe's node, and of a spare that is outside, joining, active and gone;
+// then of a founder that has gone.
+const TO_A_TROUPE: [Count; 24] = [
+    (Join(1, 2), NotSpare, 1, 2),
+    (Active(1, 2, 5), Done, 1, 2),
+    (Join(1, 9), NotSpare, 1, 2),
+    (Active(1, 9, 5), Done, 1, 2),
+    (Gone(1, 9), Done, 1, 2),
+    (Active(1, 4, 5), Done, 1, 2),
+    (Gone(1, 4), Done, 1, 2),
+    (Join(1, 4), Done, 2, 3),
+    (Lookup(1), Done, 2, 3),
+    (Join(1, 4), Done, 2, 3),
+    (Gone(1, 4), Done, 3, 2),
+    (Join(1, 4), Done, 4, 3),
+    (Active(1, 4, 7), Done, 5, 3),
+    (Lookup(1), Done, 5, 3),
+    (Join(1, 4), Done, 5, 3),
+    (Active(1, 4, 9), Done, 5, 3),
+    (Gone(1, 4), Done, 6, 2),
+    (Active(1, 4, 9), Done, 6, 2),
+    (Gone(1, 4), Done, 6, 2),
+    (Join(1, 4), Done, 7, 3),
+    (Gone(1, 2), Done, 8, 2),
+    (Gone(1, 2), Done, 8, 2),
+    (Join(1, 2), NotSpare, 8, 2),
+    (Active(1, 2, 9), Done, 8, 2),
+];
+
+// The same where the view has 16 entries.
+const TO_A_FULL_TROUPE: [Count; 16] = [
+    (Lookup(2), Done, 1, 15),
+    (Join(2, 21), Done, 2, 16),
+    (Lookup(2), Done, 2, 16),
+    (Join(2, 22), Full, 2, 16),
+    (Join(2, 21), Done, 2, 16),
+    (Join(2, 4), NotSpare, 2, 16),
+    (Join(2, 6), NotSpare, 2, 16),
+    (Active(2, 22, 3), Done, 2, 16),
+    (Gone(2, 22), Done, 2, 16),
+    (Active(2, 21, 3), Done, 3, 16),
+    (Join(2, 21), Done, 3, 16),
+    (Join(2, 22), Full, 3, 16),
+    (Active(2, 6, 3), Done, 3, 16),
+    (Gone(2, 6), Done, 4, 15),
+    (Join(2, 22), Done, 5, 16),
+    (Join(2, 6), NotSpare, 5, 16),
+];
+
+fn is_counted(ring: &mut Ring, row: &Count) -> Result<bool, NoMemory> {
+    let (request, taken, incarnation, entries) = row;
+    if !ring.is_about_one(request) {
+        return Ok(false);
     }
-    let table = ring.perform(&request)?;
-    Ok(Some((table.result, table.view.entries.len())))
+    let table = ring.perform(request)?;
+    Ok(
+        table.result == *taken
+            && table.view.incarnation == *incarnation
+            && table.view.entries.len() == *entries,
+    )
+}
+
+// The number of the first row that comes out otherwise, or of no row.
+fn wrong_count(ring: &mut Ring, rows: &[Count]) -> Result<Option<usize>, NoMemory> {
+    for (number, row) in rows.iter().enumerate() {
+        if !is_counted(ring, row)? {
+            return Ok(Some(number));
+        }
+    }
+    Ok(None)
 }
 
 #[test]
-fn sixteen_entries_are_most(rt: HostRuntime) -> Result<(), Fail> {
-    let rows = [
-        (Join(2, 21), Done, 16),
-        (Join(2, 22), Full, 16),
-        (Join(2, 21), Done, 16),
-        (Join(2, 4), NotSpare, 16),
-        (Gone(2, 6), Done, 15),
-        (Join(2, 22), Done, 16),
-        (Join(0, 4), RootTroupe, 1),
-    ];
+fn every_request_in_every_state(rt: HostRuntime) -> Result<(), Fail> {
     let mut ring = ring(rt.alloc())?;
-    for (request, result, entries) in rows {
-        assert_eq!(rt; taken(&mut ring, request)?, Some((result, entries)));
-    }
-    assert_eq!(rt; taken(&mut ring, Lookup(3))?, None);
+    assert_eq!(rt; wrong_count(&mut ring, &TO_A_ROOT)?, None);
+    assert_eq!(rt; wrong_count(&mut ring, &TO_A_TROUPE)?, None);
+    assert_eq!(rt; wrong_count(&mut ring, &TO_A_FULL_TROUPE)?, None);
+    assert!(rt; !ring.is_about_one(&Lookup(3)));
     Ok(())
 }

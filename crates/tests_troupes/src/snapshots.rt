@@ -15,7 +15,7 @@ const SNAPSHOT: [u8; 16] = [0, 3, 0, 0, 0, 7, 0, 1, 0, 3, b'a', b'b', b'c', 0, 1
 const UNITS: [u64; 6] = [0, 2, 6, 8, 10, 14];
 
 // A byte of it, another one instead, and the fault.
-const CHANGES: [(usize, u8, Option<TransferFault>); 22] = [
+const CHANGES: [(usize, u8, Option<TransferFault>); 24] = [
     (0, 1, Some(TransferFault::BadField(0))),
     (1, 0, Some(TransferFault::BadField(0))),
     (1, 4, Some(TransferFault::BadField(0))),
@@ -34,7 +34,9 @@ const CHANGES: [(usize, u8, Option<TransferFault>); 22] = [
     (9, 5, Some(TransferFault::BadPad(15))),
     (9, 6, Some(TransferFault::Short(16))),
     (9, 7, Some(TransferFault::Short(10))),
+    (10, 255, None),
     (11, 255, None),
+    (12, 0, None),
     (13, 1, Some(TransferFault::BadPad(13))),
     (14, 0, None),
     (15, 255, None),
