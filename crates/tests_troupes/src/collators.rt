@@ -8,7 +8,7 @@ use std::alloc::Global;
 use std::test::Fail;
 
 // A collator, who is down, what was said, and the answer.
-type Row<'a> = (Kind, &'a str, &'a str, Collated);
+type Row = (Kind, &'static str, &'static str, Collated);
 
 const THREE: [(u16, Since); 3] = [(1, From(0)), (2, From(0)), (3, From(0))];
 
@@ -61,7 +61,7 @@ fn wrong_row(
     alloc: Global,
     members: &[(u16, Since)],
     index: u32,
-    rows: &[Row<'_>],
+    rows: &[Row],
 ) -> Result<Option<usize>, NoMemory> {
     let view = view(alloc, members)?;
     for (number, (kind, down, said, answer)) in rows.iter().enumerate() {
@@ -74,181 +74,191 @@ fn wrong_row(
     Ok(None)
 }
 
+const ON_THREE: [Row; 11] = [
+    (First, "", "", Waiting),
+    (First, "", "2b1a", Answer(0)),
+    (Unanimous, "", "1a2a", Waiting),
+    (Unanimous, "3", "1a2a", Answer(0)),
+    (Unanimous, "123", "", Waiting),
+    (Unanimous, "", "1a2b", Differ(0, 1)),
+    (Majority, "", "1a2b", Waiting),
+    (Majority, "", "1a2b3a", Answer(0)),
+    (Majority, "", "1a2b3c", Differ(0, 1)),
+    (Majority, "", "9a1a", Waiting),
+    (Majority, "", "1b1a2a", Waiting),
+];
+
 #[test]
 fn three_members(rt: HostRuntime) -> Result<(), Fail> {
-    let rows: [Row<'_>; 11] = [
-        (First, "", "", Waiting),
-        (First, "", "2b1a", Answer(0)),
-        (Unanimous, "", "1a2a", Waiting),
-        (Unanimous, "3", "1a2a", Answer(0)),
-        (Unanimous, "123", "", Waiting),
-        (Unanimous, "", "1a2b", Differ(0, 1)),
-        (Majority, "", "1a2b", Waiting),
-        (Majority, "", "1a2b3a", Answer(0)),
-        (Majority, "", "1a2b3c", Differ(0, 1)),
-        (Majority, "", "9a1a", Waiting),
-        (Majority, "", "1b1a2a", Waiting),
-    ];
-    assert_eq!(rt; wrong_row(rt.alloc(), &THREE, 0, &rows)?, None);
+    assert_eq!(rt; wrong_row(rt.alloc(), &THREE, 0, &ON_THREE)?, None);
     Ok(())
 }
+
+const OF_FIRST: [Row; 6] = [
+    (First, "1", "1a", Answer(0)),
+    (First, "", "9a", Answer(0)),
+    (First, "", "1a1b", Answer(0)),
+    (Watchdog, "", "", Waiting),
+    (Watchdog, "", "2b1a", Answer(0)),
+    (Watchdog, "123", "3c3d", Answer(0)),
+];
 
 #[test]
 fn first_that_arrives(rt: HostRuntime) -> Result<(), Fail> {
-    let rows: [Row<'_>; 6] = [
-        (First, "1", "1a", Answer(0)),
-        (First, "", "9a", Answer(0)),
-        (First, "", "1a1b", Answer(0)),
-        (Watchdog, "", "", Waiting),
-        (Watchdog, "", "2b1a", Answer(0)),
-        (Watchdog, "123", "3c3d", Answer(0)),
-    ];
-    assert_eq!(rt; wrong_row(rt.alloc(), &THREE, 0, &rows)?, None);
+    assert_eq!(rt; wrong_row(rt.alloc(), &THREE, 0, &OF_FIRST)?, None);
     Ok(())
 }
+
+const OF_ALL: [Row; 12] = [
+    (Unanimous, "", "1a2a3a", Answer(0)),
+    (Unanimous, "12", "3a", Answer(0)),
+    (Unanimous, "23", "1a9b", Differ(0, 1)),
+    (Unanimous, "", "9a1a2a3a", Answer(0)),
+    (Unanimous, "", "9a", Waiting),
+    (Unanimous, "123", "9a", Answer(0)),
+    (Unanimous, "", "1a1a2a3a", Answer(0)),
+    (Unanimous, "", "1a2a3a1b", Differ(0, 3)),
+    (Unanimous, "3", "1a2a2a2b", Differ(0, 3)),
+    (Unanimous, "", "1a2b3b", Differ(0, 1)),
+    (Unanimous, "3", "1a", Waiting),
+    (Unanimous, "9", "1a2a", Waiting),
+];
 
 #[test]
 fn unanimous(rt: HostRuntime) -> Result<(), Fail> {
-    let rows: [Row<'_>; 12] = [
-        (Unanimous, "", "1a2a3a", Answer(0)),
-        (Unanimous, "12", "3a", Answer(0)),
-        (Unanimous, "23", "1a9b", Differ(0, 1)),
-        (Unanimous, "", "9a1a2a3a", Answer(0)),
-        (Unanimous, "", "9a", Waiting),
-        (Unanimous, "123", "9a", Answer(0)),
-        (Unanimous, "", "1a1a2a3a", Answer(0)),
-        (Unanimous, "", "1a2a3a1b", Differ(0, 3)),
-        (Unanimous, "3", "1a2a2a2b", Differ(0, 3)),
-        (Unanimous, "", "1a2b3b", Differ(0, 1)),
-        (Unanimous, "3", "1a", Waiting),
-        (Unanimous, "9", "1a2a", Waiting),
-    ];
-    assert_eq!(rt; wrong_row(rt.alloc(), &THREE, 0, &rows)?, None);
+    assert_eq!(rt; wrong_row(rt.alloc(), &THREE, 0, &OF_ALL)?, None);
     Ok(())
 }
+
+const OF_MOST: [Row; 17] = [
+    (Majority, "", "1a2a", Answer(0)),
+    (Majority, "", "1a", Waiting),
+    (Majority, "23", "1a", Waiting),
+    (Majority, "3", "1a2b", Differ(0, 1)),
+    (Majority, "", "2b1a3a", Answer(1)),
+    (Majority, "", "9a9b1a2a", Answer(2)),
+    (Majority, "", "9b1a2a", Answer(1)),
+    (Majority, "", "1a1a1a", Waiting),
+    (Majority, "", "1b1a2a3a", Answer(2)),
+    (Majority, "", "1a2b2a3b", Answer(1)),
+    (Majority, "", "1a2b3c9c", Differ(0, 1)),
+    (Majority, "", "9a1a2b3c", Differ(0, 2)),
+    (Majority, "1", "2a3b", Differ(0, 1)),
+    (Majority, "", "3a2a", Answer(0)),
+    (Majority, "12", "3a", Waiting),
+    (Majority, "123", "", Waiting),
+    (Majority, "123", "9a9b", Differ(0, 1)),
+];
 
 #[test]
 fn majority(rt: HostRuntime) -> Result<(), Fail> {
-    let rows: [Row<'_>; 17] = [
-        (Majority, "", "1a2a", Answer(0)),
-        (Majority, "", "1a", Waiting),
-        (Majority, "23", "1a", Waiting),
-        (Majority, "3", "1a2b", Differ(0, 1)),
-        (Majority, "", "2b1a3a", Answer(1)),
-        (Majority, "", "9a9b1a2a", Answer(2)),
-        (Majority, "", "9b1a2a", Answer(1)),
-        (Majority, "", "1a1a1a", Waiting),
-        (Majority, "", "1b1a2a3a", Answer(2)),
-        (Majority, "", "1a2b2a3b", Answer(1)),
-        (Majority, "", "1a2b3c9c", Differ(0, 1)),
-        (Majority, "", "9a1a2b3c", Differ(0, 2)),
-        (Majority, "1", "2a3b", Differ(0, 1)),
-        (Majority, "", "3a2a", Answer(0)),
-        (Majority, "12", "3a", Waiting),
-        (Majority, "123", "", Waiting),
-        (Majority, "123", "9a9b", Differ(0, 1)),
-    ];
-    assert_eq!(rt; wrong_row(rt.alloc(), &THREE, 0, &rows)?, None);
+    assert_eq!(rt; wrong_row(rt.alloc(), &THREE, 0, &OF_MOST)?, None);
     Ok(())
 }
+
+const OF_SOME: [Row; 14] = [
+    (AtLeast(1), "", "", Waiting),
+    (AtLeast(1), "", "2b1a", Answer(0)),
+    (AtLeast(1), "", "9a2b", Answer(1)),
+    (AtLeast(2), "", "1a2b3a", Answer(0)),
+    (AtLeast(2), "", "1a2b", Waiting),
+    (AtLeast(2), "", "1a2b3c", Differ(0, 1)),
+    (AtLeast(2), "", "1a1a2b", Waiting),
+    (AtLeast(3), "", "1a2a3a", Answer(0)),
+    (AtLeast(3), "", "1a2a", Waiting),
+    (AtLeast(3), "3", "1a2a", Waiting),
+    (AtLeast(3), "3", "1a2b", Differ(0, 1)),
+    (AtLeast(4), "", "1a2a3a", Waiting),
+    (AtLeast(16), "", "1a2a3b", Differ(0, 2)),
+    (AtLeast(2), "", "2b2a1a3a", Answer(2)),
+];
 
 #[test]
 fn at_least(rt: HostRuntime) -> Result<(), Fail> {
-    let rows: [Row<'_>; 14] = [
-        (AtLeast(1), "", "", Waiting),
-        (AtLeast(1), "", "2b1a", Answer(0)),
-        (AtLeast(1), "", "9a2b", Answer(1)),
-        (AtLeast(2), "", "1a2b3a", Answer(0)),
-        (AtLeast(2), "", "1a2b", Waiting),
-        (AtLeast(2), "", "1a2b3c", Differ(0, 1)),
-        (AtLeast(2), "", "1a1a2b", Waiting),
-        (AtLeast(3), "", "1a2a3a", Answer(0)),
-        (AtLeast(3), "", "1a2a", Waiting),
-        (AtLeast(3), "3", "1a2a", Waiting),
-        (AtLeast(3), "3", "1a2b", Differ(0, 1)),
-        (AtLeast(4), "", "1a2a3a", Waiting),
-        (AtLeast(16), "", "1a2a3b", Differ(0, 2)),
-        (AtLeast(2), "", "2b2a1a3a", Answer(2)),
-    ];
-    assert_eq!(rt; wrong_row(rt.alloc(), &THREE, 0, &rows)?, None);
+    assert_eq!(rt; wrong_row(rt.alloc(), &THREE, 0, &OF_SOME)?, None);
     Ok(())
 }
 
+const TIES: [Row; 13] = [
+    (Majority, "", "1a2a3b4b", Differ(0, 2)),
+    (Majority, "", "1a2a", Waiting),
+    (Majority, "", "1a2a3a", Answer(0)),
+    (Majority, "4", "1a2a3b", Differ(0, 2)),
+    (AtLeast(2), "", "1a2b3b4a", Answer(1)),
+    (AtLeast(2), "", "1b2a3a4b", Answer(1)),
+    (AtLeast(2), "", "1a2b3a4b", Answer(0)),
+    (AtLeast(2), "", "1a2b1b3b4a", Answer(1)),
+    (AtLeast(2), "", "1a9a2b3b", Answer(2)),
+    (AtLeast(3), "", "1a2a3b4b", Differ(0, 2)),
+    (AtLeast(3), "", "1a2b3a4a", Answer(0)),
+    (Unanimous, "", "1a2a3a", Waiting),
+    (Unanimous, "4", "1a2a3a", Answer(0)),
+];
+
 #[test]
 fn ties_of_four(rt: HostRuntime) -> Result<(), Fail> {
-    let rows: [Row<'_>; 13] = [
-        (Majority, "", "1a2a3b4b", Differ(0, 2)),
-        (Majority, "", "1a2a", Waiting),
-        (Majority, "", "1a2a3a", Answer(0)),
-        (Majority, "4", "1a2a3b", Differ(0, 2)),
-        (AtLeast(2), "", "1a2b3b4a", Answer(1)),
-        (AtLeast(2), "", "1b2a3a4b", Answer(1)),
-        (AtLeast(2), "", "1a2b3a4b", Answer(0)),
-        (AtLeast(2), "", "1a2b1b3b4a", Answer(1)),
-        (AtLeast(2), "", "1a9a2b3b", Answer(2)),
-        (AtLeast(3), "", "1a2a3b4b", Differ(0, 2)),
-        (AtLeast(3), "", "1a2b3a4a", Answer(0)),
-        (Unanimous, "", "1a2a3a", Waiting),
-        (Unanimous, "4", "1a2a3a", Answer(0)),
-    ];
-    assert_eq!(rt; wrong_row(rt.alloc(), &FOUR, 0, &rows)?, None);
+    assert_eq!(rt; wrong_row(rt.alloc(), &FOUR, 0, &TIES)?, None);
     Ok(())
 }
+
+const SOME_LATE: [Row; 13] = [
+    (Majority, "", "1a", Waiting),
+    (Majority, "", "1a2a", Waiting),
+    (Majority, "", "1a4a", Answer(0)),
+    (Majority, "", "2a4a1a", Answer(1)),
+    (Majority, "", "1a4b", Differ(0, 1)),
+    (Unanimous, "", "1a4a", Answer(0)),
+    (Unanimous, "", "3a2a", Waiting),
+    (Unanimous, "14", "3a", Answer(0)),
+    (AtLeast(2), "", "2a1a4a", Answer(1)),
+    (AtLeast(2), "", "2a3a1a", Waiting),
+    (AtLeast(1), "", "3a2a", Waiting),
+    (AtLeast(1), "", "3a4b", Answer(1)),
+    (First, "", "3a", Answer(0)),
+];
 
 // At index 2 members 1 and 4 are expected.
 #[test]
 fn late_members(rt: HostRuntime) -> Result<(), Fail> {
-    let rows: [Row<'_>; 13] = [
-        (Majority, "", "1a", Waiting),
-        (Majority, "", "1a2a", Waiting),
-        (Majority, "", "1a4a", Answer(0)),
-        (Majority, "", "2a4a1a", Answer(1)),
-        (Majority, "", "1a4b", Differ(0, 1)),
-        (Unanimous, "", "1a4a", Answer(0)),
-        (Unanimous, "", "3a2a", Waiting),
-        (Unanimous, "14", "3a", Answer(0)),
-        (AtLeast(2), "", "2a1a4a", Answer(1)),
-        (AtLeast(2), "", "2a3a1a", Waiting),
-        (AtLeast(1), "", "3a2a", Waiting),
-        (AtLeast(1), "", "3a4b", Answer(1)),
-        (First, "", "3a", Answer(0)),
-    ];
-    assert_eq!(rt; wrong_row(rt.alloc(), &LATE, 2, &rows)?, None);
+    assert_eq!(rt; wrong_row(rt.alloc(), &LATE, 2, &SOME_LATE)?, None);
     Ok(())
 }
+
+const EARLY: [Row; 3] = [
+    (Majority, "", "1a", Answer(0)),
+    (Majority, "", "4a", Waiting),
+    (Majority, "1", "4a2b", Differ(0, 1)),
+];
+
+const LATER: [Row; 3] = [
+    (Majority, "", "2a4a", Answer(0)),
+    (AtLeast(3), "", "2a4a3a", Waiting),
+    (Unanimous, "", "1a2a4a", Answer(0)),
+];
 
 // At index 1 member 1 alone is expected, and at index 5 members 1, 2 and 4.
 #[test]
 fn other_indexes(rt: HostRuntime) -> Result<(), Fail> {
-    let early: [Row<'_>; 3] = [
-        (Majority, "", "1a", Answer(0)),
-        (Majority, "", "4a", Waiting),
-        (Majority, "1", "4a2b", Differ(0, 1)),
-    ];
-    let later: [Row<'_>; 3] = [
-        (Majority, "", "2a4a", Answer(0)),
-        (AtLeast(3), "", "2a4a3a", Waiting),
-        (Unanimous, "", "1a2a4a", Answer(0)),
-    ];
-    assert_eq!(rt; wrong_row(rt.alloc(), &LATE, 1, &early)?, None);
-    assert_eq!(rt; wrong_row(rt.alloc(), &LATE, 5, &later)?, None);
+    assert_eq!(rt; wrong_row(rt.alloc(), &LATE, 1, &EARLY)?, None);
+    assert_eq!(rt; wrong_row(rt.alloc(), &LATE, 5, &LATER)?, None);
     Ok(())
 }
 
+const OF_NOBODY: [Row; 10] = [
+    (First, "", "", Waiting),
+    (First, "", "9a", Answer(0)),
+    (Majority, "", "1a", Waiting),
+    (Majority, "", "1a2b", Differ(0, 1)),
+    (AtLeast(1), "", "1a", Waiting),
+    (AtLeast(1), "", "1a2b", Differ(0, 1)),
+    (Unanimous, "", "", Waiting),
+    (Unanimous, "", "1a", Answer(0)),
+    (Unanimous, "", "1a2b", Differ(0, 1)),
+    (Watchdog, "", "1a2b", Answer(0)),
+];
+
 #[test]
 fn empty_view(rt: HostRuntime) -> Result<(), Fail> {
-    let rows: [Row<'_>; 10] = [
-        (First, "", "", Waiting),
-        (First, "", "9a", Answer(0)),
-        (Majority, "", "1a", Waiting),
-        (Majority, "", "1a2b", Differ(0, 1)),
-        (AtLeast(1), "", "1a", Waiting),
-        (AtLeast(1), "", "1a2b", Differ(0, 1)),
-        (Unanimous, "", "", Waiting),
-        (Unanimous, "", "1a", Answer(0)),
-        (Unanimous, "", "1a2b", Differ(0, 1)),
-        (Watchdog, "", "1a2b", Answer(0)),
-    ];
-    assert_eq!(rt; wrong_row(rt.alloc(), &[], 0, &rows)?, None);
+    assert_eq!(rt; wrong_row(rt.alloc(), &[], 0, &OF_NOBODY)?, None);
     Ok(())
 }

@@ -9,7 +9,7 @@ use std::alloc::Global;
 use std::test::Fail;
 
 // A request, how it is taken, and the incarnation and the entries of its troupe's view afterwards.
-type Row<'a> = (Request, RingResult, u32, &'a [(u16, Since)]);
+type Row = (Request, RingResult, u32, &'static [(u16, Since)]);
 
 fn nodes(alloc: Global, first: u16, last: u16) -> Result<Nodes, NoMemory> {
     let mut nodes = ListOf::new(alloc);
@@ -49,7 +49,7 @@ fn is_entry(entry: &Entry, member: &(u16, Since)) -> bool {
     entry.node == member.0 && entry.since == member.1
 }
 
-fn is_table(table: &Table, row: &Row<'_>) -> bool {
+fn is_table(table: &Table, row: &Row) -> bool {
     let (_, taken, incarnation, members) = row;
     let entries = table.view.entries.as_slice();
     table.result == *taken
@@ -62,7 +62,7 @@ fn is_table(table: &Table, row: &Row<'_>) -> bool {
 }
 
 // Whether the table is that of the row, and its view the one that is kept.
-fn is_answered(ring: &mut Ring, row: &Row<'_>) -> Result<bool, NoMemory> {
+fn is_answered(ring: &mut Ring, row: &Row) -> Result<bool, NoMemory> {
     if !ring.is_about_one(&row.0) {
         return Ok(false);
     }
@@ -75,7 +75,7 @@ fn is_answered(ring: &mut Ring, row: &Row<'_>) -> Result<bool, NoMemory> {
 }
 
 // The number of the first row that is answered otherwise, or of no row.
-fn wrong_row(ring: &mut Ring, rows: &[Row<'_>]) -> Result<usize, NoMemory> {
+fn wrong_row(ring: &mut Ring, rows: &[Row]) -> Result<usize, NoMemory> {
     for (number, row) in rows.iter().enumerate() {
         if !is_answered(ring, row)? {
             return Ok(number);
@@ -84,77 +84,80 @@ fn wrong_row(ring: &mut Ring, rows: &[Row<'_>]) -> Result<usize, NoMemory> {
     Ok(rows.len())
 }
 
+const REFUSED: [Row; 5] = [
+    (Lookup(0), Done, 1, &[(1, From(0))]),
+    (Lookup(1), Done, 1, &[(2, From(0)), (3, From(0))]),
+    (Join(0, 4), RootTroupe, 1, &[(1, From(0))]),
+    (Join(1, 9), NotSpare, 1, &[(2, From(0)), (3, From(0))]),
+    (Join(1, 2), NotSpare, 1, &[(2, From(0)), (3, From(0))]),
+];
+
 #[test]
 fn lookups_and_refusals(rt: HostRuntime) -> Result<(), Fail> {
-    let rows: [Row<'_>; 5] = [
-        (Lookup(0), Done, 1, &[(1, From(0))]),
-        (Lookup(1), Done, 1, &[(2, From(0)), (3, From(0))]),
-        (Join(0, 4), RootTroupe, 1, &[(1, From(0))]),
-        (Join(1, 9), NotSpare, 1, &[(2, From(0)), (3, From(0))]),
-        (Join(1, 2), NotSpare, 1, &[(2, From(0)), (3, From(0))]),
-    ];
     let mut ring = ring(rt.alloc())?;
-    assert_eq!(rt; wrong_row(&mut ring, &rows)?, 5);
+    assert_eq!(rt; wrong_row(&mut ring, &REFUSED)?, 5);
     Ok(())
 }
+
+const COMING: [Row; 6] = [
+    (Active(1, 4, 7), Done, 1, &[(2, From(0)), (3, From(0))]),
+    (
+        Join(1, 4),
+        Done,
+        2,
+        &[(2, From(0)), (3, From(0)), (4, Joining)],
+    ),
+    (
+        Join(1, 4),
+        Done,
+        2,
+        &[(2, From(0)), (3, From(0)), (4, Joining)],
+    ),
+    (
+        Active(1, 4, 7),
+        Done,
+        3,
+        &[(2, From(0)), (3, From(0)), (4, From(7))],
+    ),
+    (
+        Active(1, 4, 9),
+        Done,
+        3,
+        &[(2, From(0)), (3, From(0)), (4, From(7))],
+    ),
+    (
+        Active(1, 2, 9),
+        Done,
+        3,
+        &[(2, From(0)), (3, From(0)), (4, From(7))],
+    ),
+];
 
 #[test]
 fn a_member_comes(rt: HostRuntime) -> Result<(), Fail> {
-    let rows: [Row<'_>; 6] = [
-        (Active(1, 4, 7), Done, 1, &[(2, From(0)), (3, From(0))]),
-        (
-            Join(1, 4),
-            Done,
-            2,
-            &[(2, From(0)), (3, From(0)), (4, Joining)],
-        ),
-        (
-            Join(1, 4),
-            Done,
-            2,
-            &[(2, From(0)), (3, From(0)), (4, Joining)],
-        ),
-        (
-            Active(1, 4, 7),
-            Done,
-            3,
-            &[(2, From(0)), (3, From(0)), (4, From(7))],
-        ),
-        (
-            Active(1, 4, 9),
-            Done,
-            3,
-            &[(2, From(0)), (3, From(0)), (4, From(7))],
-        ),
-        (
-            Active(1, 2, 9),
-            Done,
-            3,
-            &[(2, From(0)), (3, From(0)), (4, From(7))],
-        ),
-    ];
     let mut ring = ring(rt.alloc())?;
-    assert_eq!(rt; wrong_row(&mut ring, &rows)?, 6);
+    assert_eq!(rt; wrong_row(&mut ring, &COMING)?, 6);
     Ok(())
 }
 
+const GOING: [Row; 6] = [
+    (Gone(1, 5), Done, 1, &[(2, From(0)), (3, From(0))]),
+    (
+        Join(1, 5),
+        Done,
+        2,
+        &[(2, From(0)), (3, From(0)), (5, Joining)],
+    ),
+    (Gone(1, 2), Done, 3, &[(3, From(0)), (5, Joining)]),
+    (Gone(1, 5), Done, 4, &[(3, From(0))]),
+    (Gone(1, 3), Done, 5, &[]),
+    (Join(1, 4), Done, 6, &[(4, Joining)]),
+];
+
 #[test]
 fn members_go(rt: HostRuntime) -> Result<(), Fail> {
-    let rows: [Row<'_>; 6] = [
-        (Gone(1, 5), Done, 1, &[(2, From(0)), (3, From(0))]),
-        (
-            Join(1, 5),
-            Done,
-            2,
-            &[(2, From(0)), (3, From(0)), (5, Joining)],
-        ),
-        (Gone(1, 2), Done, 3, &[(3, From(0)), (5, Joining)]),
-        (Gone(1, 5), Done, 4, &[(3, From(0))]),
-        (Gone(1, 3), Done, 5, &[]),
-        (Join(1, 4), Done, 6, &[(4, Joining)]),
-    ];
     let mut ring = ring(rt.alloc())?;
-    assert_eq!(rt; wrong_row(&mut ring, &rows)?, 6);
+    assert_eq!(rt; wrong_row(&mut ring, &GOING)?, 6);
     Ok(())
 }
 
