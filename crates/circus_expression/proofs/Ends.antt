@@ -18,7 +18,7 @@ abbrev pub AllLawful : {A : Type 0} → (ℕ → Reader → A × Reader) → (A 
 AllLawful p spell Good Stays = (n m : ℕ) → suc n < m → Lawful n (p n) (p m) spell Good Stays
 
 -- levels that are enough
-enough : (ds : List Due) → (n : ℕ) × AreWithin n ds
+pub enough : (ds : List Due) → (n : ℕ) × AreWithin n ds
 enough [] = (0, tt)
 enough (d ∷ ds) = let (n, g) = enough ds in (n + depth d, (omega arith, within_more n (n + depth d) (omega arith) ds g))
 
@@ -65,7 +65,7 @@ read_whole {A} {p} {spell} {Good} L n ts rest a e tokens is =
 ended_at : {A : Type 0} {p : Reader → A × Reader} {spell : A → List Due} {Good : A → Type 0} (ts : List Placed) (e : ℕ) (R : Ran p spell Good ts e) (s : Stop) → R.stop ≡ Some s → EndsAt (Some s) R.left e R.more
 ended_at ts e R s stop_is = subst (λ (o : Option Stop). EndsAt o R.left e R.more) stop_is R.ended
 
-no_stop : {A : Type 0} (x y : A × Reader) (s : Stop) → x.1.stop ≡ None → y.1.stop ≡ Some s → x ≡ y → ⊥
+pub no_stop : {A : Type 0} (x y : A × Reader) (s : Stop) → x.1.stop ≡ None → y.1.stop ≡ Some s → x ≡ y → ⊥
 no_stop {A} x y s going stopped same = let stops : None ≡ Some s = sym going ∙ ap (λ (z : A × Reader). z.1.stop) same ∙ stopped in cc
 
 -- what was taken in front of the same rest is the same
@@ -91,7 +91,7 @@ filled_in {A} {p} {spell} {Good} L n ts left a s e tokens is =
     }
 
 -- what more levels make of tokens at which these stopped
-deeper_of : {A : Type 0} {p : ℕ → Reader → A × Reader} {spell : A → List Due} {Good : A → Type 0} {Stays : Option Placed → Type 0} (L : AllLawful p spell Good Stays)
+pub deeper_of : {A : Type 0} {p : ℕ → Reader → A × Reader} {spell : A → List Due} {Good : A → Type 0} {Stays : Option Placed → Type 0} (L : AllLawful p spell Good Stays)
     → (n m : ℕ) (above : suc n < m) (us left : List Placed) (a : A) (s : Stop) (e : ℕ) (cause : StopCause) → s.cause ≡ cause → p n (reader None us e) ≡ (a, reader (Some s) left e)
     → DeeperBy n spell ((L n m above).levels.reaches us e).taken cause (a, reader (Some s) left e) (p m (reader None us e))
 deeper_of {A} {p} {spell} L n m above us left a s e cause cause_is is =

@@ -50,7 +50,7 @@ sound_suffixes S =
     (sound_mapped (λ x. subscript x.0 x.1) spelling_suffixes AreSomeSuffixes (λ x. refl) (λ x g. g) (sound_both S.subscript (sound_further S)))
     (sound_mapped (λ x. field x.0 x.1) spelling_suffixes AreSomeSuffixes (λ x. refl) (λ x g. g) (sound_both (sound_behind (sign (codes ".")) sound_name) (sound_further S)))
 
-sound_any_suffixes : {o : Openers} → SoundOpeners o → Sound (any_suffixes o) spelling_suffixes AreSuffixes
+pub sound_any_suffixes : {o : Openers} → SoundOpeners o → Sound (any_suffixes o) spelling_suffixes AreSuffixes
 sound_any_suffixes S = sound_either is_suffix (sound_good AreSuffixes some_suffixes (sound_suffixes S)) (sound_nothing no_suffixes spelling_suffixes AreSuffixes tt refl)
 
 sound_built : {o : Openers} → SoundOpeners o → Sound (built_with o) spelling_built IsBuilt
@@ -136,11 +136,11 @@ items_spelled : (ws : List Written) → spelling_each ws ≡ with_commas spellin
 items_spelled [] = refl
 items_spelled (w ∷ ws) = ap (λ l. spelling w ++ l) (more_items_spelled ws)
 
-all_each : (ws : List Written) → AreAll ws → IsEach IsWritten ws
+pub all_each : (ws : List Written) → AreAll ws → IsEach IsWritten ws
 all_each [] good = tt
 all_each (w ∷ ws) good = (good.0, all_each ws good.1)
 
-each_all : (ws : List Written) → IsEach IsWritten ws → AreAll ws
+pub each_all : (ws : List Written) → IsEach IsWritten ws → AreAll ws
 each_all [] good = tt
 each_all (w ∷ ws) good = (good.0, each_all ws good.1)
 
@@ -181,7 +181,7 @@ sound_filled_subscript cause =
     sound_stopped cause filled spelling_subscript IsWritten
     (λ p. (filled_good p, at (sign (codes "[")) p ∷ x_at p ∷ at (sign (codes "]")) p ∷ [], (refl, (refl, (refl, tt))), ((refl, refl), ((refl, refl, refl), ((refl, refl), tt)))))
 
-sound_filled_list : (cause : StopCause) → Sound (stopped cause (λ p. [])) spelling_list AreAll
+pub sound_filled_list : (cause : StopCause) → Sound (stopped cause (λ p. [])) spelling_list AreAll
 sound_filled_list cause =
     sound_stopped cause (λ p. []) spelling_list AreAll (λ p. (tt, at (sign (codes "[")) p ∷ at (sign (codes "]")) p ∷ [], (refl, (refl, tt)), ((refl, refl), ((refl, refl), tt))))
 

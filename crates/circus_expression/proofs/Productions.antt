@@ -701,7 +701,7 @@ clash_at l p ds [] rest test fails d = absurd d
 clash_at l p ds (t ∷ ts) rest test fails d = (λ i. test (record { kind = d.0.0 i; bytes = d.0.1 i; start = t.start })) ∙ fails t.start
 
 -- a name is no reserved word
-name_no_word : (w : List ℕ) → is_reserved w ≡ true → (o : Option Placed) → passes is_name o ≡ true → passes (is_lexeme (word w)) o ≡ false
+pub name_no_word : (w : List ℕ) → is_reserved w ≡ true → (o : Option Placed) → passes is_name o ≡ true → passes (is_lexeme (word w)) o ≡ false
 name_no_word w taken None hit = refl
 name_no_word w taken (Some t) hit =
     let (kind, free) = and_parts (same_kind t.kind Word) (not (is_reserved t.bytes)) hit in
