@@ -26,7 +26,7 @@ use Rattle.circus_statement.specs.declared.starts.StatementStart.TheVariants as 
 use Rattle.circus_statement.specs.StatementTree.{CallOf, HandledOf, assign, only_then, then_else, while, append, call, return, raise, no_statements, more_statements, no_handlers, more_handlers}
 use Rattle.circus_statement.specs.WrittenStatement.{WrittenStatement, WrittenStatements, WrittenHandler, WrittenHandlers, written_statements, written_handlers, ending, spelling_places, spelling_into, spelling_handled, spelling_caught, spelling_statement, spelling_statements, spelling_listed, AreListed, ArePlaces, AreIn, IsCaught, IsStatement, AreStatements, AreHandlers}
 use Rattle.circus_statement.specs.WrittenStatement as written
-use Rattle.circus_statement.specs.StatementReading.{is_word, begins_statement, start_of_statement, ended, required_list, places_within, places, into, call_head, of_error, of_others, handled, Block, handler_with, chosen, statement_by, statement_with, opened_block, block, statement}
+use Rattle.circus_statement.specs.StatementReading.{is_word, begins_statement, start_of_statement, ended, required_list, places_within, places, into, call_head, of_error, of_others, handled, Block, handler_with, chosen, statement_by, statement_with, opened_block, block}
 use Rattle.circus_statement.proofs.Sounding.{listed_each, spelling_head, IsHead, IsHandled, statements_spelled, each_statement, spelling_handler, IsHandler, handlers_spelled, each_handler, SoundBlock, shrinks_handler, spelling_else, chosen_spelled, chosen_kept, sound_statement_with, shrinks_statement_with, sound_filled_block, sound_opened_block}
 
 -- What stands behind.
@@ -559,9 +559,6 @@ lawful_statement_with n m above {b} {b'} B =
     (λ s ts rest good d stays. statement_begins s ts rest good d)
 
 -- what begins a statement is seen by its first token
-seen_start : (t : Placed) → start_of_statement (Some t) ≡ begins.Assign → is_name t ≡ true → passes begins_statement (Some t) ≡ true
-seen_start t start hit = rw hit refl
-
 word_seen : (w : List ℕ) → ((s : ℕ) → passes begins_statement (Some (at (word w) s)) ≡ true) → (p : ℕ) (ds : List Due) (ts rest : List Placed) → AreDue (due_at (word w) p ∷ ds) ts → passes begins_statement (first (ts ++ rest)) ≡ true
 word_seen w seen p ds [] rest d = absurd d
 word_seen w seen p ds (t ∷ ts) rest d = stays_lexeme (λ o. passes begins_statement o ≡ true) (word w) seen t d.0.0 d.0.1
@@ -619,7 +616,3 @@ lawful_opened_block (suc n) (suc (suc m)) above w =
 pub lawful_block : (n m : ℕ) → suc n < m → LawfulBlock n (block n) (block m)
 unfolding block
 lawful_block n m above w = lawful_required (is_word w) n (λ p. []) (open_listed w) (sound_filled_block Unexpected w) (lawful_opened_block n m above w)
-
-pub lawful_statement : (n m : ℕ) → suc n < m → Lawful n (statement n) (statement m) spelling_statement IsStatement Any
-unfolding statement
-lawful_statement n m above = lawful_statement_with n m above (lawful_block n m above)

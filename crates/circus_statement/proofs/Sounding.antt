@@ -246,10 +246,6 @@ pub sound_block : (n : ℕ) → SoundBlock (block n)
 unfolding block
 sound_block n w = sound_either (is_word w) (sound_opened_block n w) (sound_filled_block Unexpected w)
 
-pub sound_statement : (n : ℕ) → Sound (statement n) spelling_statement IsStatement
-unfolding statement
-sound_statement n = sound_statement_with n (sound_block n)
-
 pub shrinks_statement : (n : ℕ) → Shrinks begins_statement (statement n)
 unfolding statement
 shrinks_statement n = shrinks_statement_with n (sound_block n)

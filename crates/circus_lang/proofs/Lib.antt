@@ -1,0 +1,4 @@
+pub mod Modules
+pub mod Whole
+mod Steps
+mod ReadIs
