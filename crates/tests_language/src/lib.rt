@@ -1,0 +1,7 @@
+//! Tests of the texts of modules: which are read, and where reading the others stops; and the trees of some.
+#![tactic(auto)]
+
+#[cfg(test)]
+mod modules;
+#[cfg(test)]
+mod trees;
