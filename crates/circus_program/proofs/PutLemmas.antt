@@ -2,7 +2,7 @@
 use Rattle.std.proofs.Common.{◌≡◌, ℕ, ◌==◌, false, if◌then◌else◌, Option, List, sym, subst, ap, ◌∙◌, inl, inr, refl, arith}
 use Rattle.std.specs.Prelude.{IsTrue}
 use Rattle.circus_program.specs.declared.status.Status.{Status}
-use Rattle.circus_program.specs.declared.status.Status.TheVariants.{Done, BadCommandLine, BadSchedule, ShelfFault, SinkFault, NoMemory, NotBuilt}
+use Rattle.circus_program.specs.declared.status.Status.TheVariants.{Done, BadCommandLine, BadSchedule, ShelfFault, SinkFault, NoMemory, NotBuilt, BadPlacing, NoPlacement}
 use Rattle.circus_program.specs.Status.{code_of, is_end}
 use Rattle.circus_program.specs.Answer.{Finishes, Lacks, IsText, WasLast, Writes, WritesPart, WritesEnd, shelf_fault}
 use Rattle.circus_program.specs.Seen.Put.{IsPut, IsAnswer}
@@ -16,7 +16,9 @@ status_of n =
     else (if n == 4 then ShelfFault
     else (if n == 5 then SinkFault
     else (if n == 7 then NoMemory
-    else NotBuilt)))))
+    else (if n == 9 then NotBuilt
+    else (if n == 11 then BadPlacing
+    else NoPlacement)))))))
 
 status_of-code_of : (s : Status) → status_of (code_of s) ≡ s
 unfolding status_of
@@ -27,6 +29,8 @@ status_of-code_of ShelfFault = refl
 status_of-code_of SinkFault = refl
 status_of-code_of NoMemory = refl
 status_of-code_of NotBuilt = refl
+status_of-code_of BadPlacing = refl
+status_of-code_of NoPlacement = refl
 
 -- a number is that of one status
 pub one_status : (s t : Status) (code : ℕ) → code ≡ code_of s → code ≡ code_of t → s ≡ t

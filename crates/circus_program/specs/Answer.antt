@@ -8,6 +8,7 @@ use Rattle.circus_program.specs.declared.status.Status.TheVariants.{BadCommandLi
 use Rattle.circus_program.specs.Form.{Form, stubs, run, replay, node, sample, settle, place, audit, IsOfForm, IsOfNoForm, files_of}
 use Rattle.circus_program.specs.Thin.{IsThinProgram, IsThinSchedule}
 use Rattle.circus_program.specs.Replay.{Ending, replayed}
+use Rattle.circus_program.specs.Placed.{IsEndOfPlacing}
 use Rattle.circus_program.specs.Report.{line}
 
 -- what is due next: the contents of a file, or the end
@@ -43,6 +44,12 @@ IsDueOfReplay program schedule (bytes ∷ more ∷ []) due =
     (number : ℕ) × IsThinProgram bytes number × IsDueOfSchedule number more due
 IsDueOfReplay program schedule (_ ∷ _ ∷ _ ∷ _) due = ⊥
 
+-- what is due of a placing, whose text so far is this
+abbrev pub IsDueOfPlace : List ℕ → List (List ℕ) → Due → Type 0
+IsDueOfPlace placing [] due = due ≡ fetch placing
+IsDueOfPlace placing (text ∷ []) due = (ending : Ending) × IsEndOfPlacing text ending × (due ≡ finish ending)
+IsDueOfPlace placing (_ ∷ _ ∷ _) due = ⊥
+
 -- what is due of a form that is not built, before any file is fetched
 abbrev pub IsDueUnbuilt : List (List ℕ) → Due → Type 0
 IsDueUnbuilt [] due = due ≡ not_built
@@ -56,7 +63,7 @@ IsDueOfForm (run _) files due = IsDueUnbuilt files due
 IsDueOfForm (node _ _ _) files due = IsDueUnbuilt files due
 IsDueOfForm (sample _ _ _) files due = IsDueUnbuilt files due
 IsDueOfForm (settle _ _) files due = IsDueUnbuilt files due
-IsDueOfForm (place _) files due = IsDueUnbuilt files due
+IsDueOfForm (place placing) files due = IsDueOfPlace placing files due
 IsDueOfForm (audit _ _) files due = IsDueUnbuilt files due
 
 -- the files are those that the shelf has under the first of the names

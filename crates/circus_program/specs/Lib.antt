@@ -4,5 +4,6 @@ pub mod Thin
 pub mod Names
 pub mod Report
 pub mod Replay
+pub mod Placed
 pub mod Answer
 pub mod Seen

@@ -3,3 +3,4 @@ pub mod Words
 pub mod Ending
 pub mod Step
 pub mod Put
+pub mod Built

@@ -1,7 +1,7 @@
 -- How a call of the command ends.
 use Rattle.std.specs.Prelude.{ℕ, Bool, true, false}
 use Rattle.circus_program.specs.declared.status.Status.{Status}
-use Rattle.circus_program.specs.declared.status.Status.TheVariants.{Done, BadCommandLine, BadSchedule, ShelfFault, SinkFault, NoMemory, NotBuilt}
+use Rattle.circus_program.specs.declared.status.Status.TheVariants.{Done, BadCommandLine, BadSchedule, ShelfFault, SinkFault, NoMemory, NotBuilt, BadPlacing, NoPlacement}
 
 -- the number that the program ends with
 abbrev pub code_of : Status → ℕ
@@ -12,6 +12,8 @@ code_of ShelfFault = 4
 code_of SinkFault = 5
 code_of NoMemory = 7
 code_of NotBuilt = 9
+code_of BadPlacing = 11
+code_of NoPlacement = 12
 
 -- the call came to an end that is due
 abbrev pub is_end : Status → Bool
@@ -22,3 +24,5 @@ is_end ShelfFault = false
 is_end SinkFault = false
 is_end NoMemory = false
 is_end NotBuilt = true
+is_end BadPlacing = true
+is_end NoPlacement = true

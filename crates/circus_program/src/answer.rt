@@ -1,12 +1,12 @@
 // What the words ask for, and what comes of it.
 ghost use Rattle.std.specs.Prelude.{◌≡◌, ◌∷◌, [], map, string_bytes, IsTrue, IfOk, IfSome, IfNone};
-ghost use Rattle.circus_program.specs.Form.{replay};
 ghost use Rattle.circus_program.specs.Seen.Words.{form_of};
 ghost use Rattle.circus_program.specs.Answer.{IsDue, IsDueOfForm, IsDueOfSchedule, AsksOnly, AsksFirstOf, finish, not_built};
 ghost use Rattle.circus_program.specs.Status.{is_end};
 ghost use Rattle.circus_program.specs.Seen.Ending.{ending_of};
 
 use crate::Status;
+use crate::placed::placed;
 use crate::replay::{Ending, replay_lines};
 use crate::thin::{read_thin_program, read_thin_schedule};
 use crate::words::{Form, read_words};
@@ -21,7 +21,8 @@ pub enum Step<'a> {
     Lack(&'a str),
 }
 
-ghost use Rattle.circus_program.specs.Seen.Step.{due_of, HasEndStatus, IsLackNoted, IsStepBehind, IsStepOfReplay};
+ghost use Rattle.circus_program.specs.Seen.Step.{due_of, HasEndStatus, IsLackNoted, IsStepBehind, IsStepOfReplay, IsStepOfPlace};
+ghost use Rattle.circus_program.specs.Seen.Built.{built_form};
 
 /// An end whose text is this line.
 fn ending(alloc: Global, status: Status, line: &str) -> Result<Ending, NoMemory>
@@ -93,19 +94,41 @@ fn replay<'a, S: Shelf>(
     Ok(step)
 }
 
-/// The program and the schedule of a replay. `None` where the form is another, none of which is built.
-fn files_of_replay(form: Form<'_>) -> Option<(&str, &str)>
-    ensures replay { IfSome result (λ files. form_of form.entry ≡ replay files.0.now files.1.now) }
+/// What comes of a placing.
+fn place<'a, S: Shelf>(alloc: Global, placing: &'a str, shelf: &mut S) -> Result<Step<'a>, NoMemory>
+    ensures due { IfOk result (λ step. IsStepOfPlace (S.contents shelf.old) placing.now (due_of step)) }
+    ensures status { IfOk result HasEndStatus }
+    ensures lack { IfOk result (IsLackNoted (S.fetched shelf.new) (S.faults shelf.old) (S.faults shelf.new)) }
+    ensures asked { AsksFirstOf (S.fetched shelf.old) (S.fetched shelf.new) (placing.now ∷ []) }
+{
+    let bytes = match shelf.fetch(placing) {
+        Ok(bytes) => bytes,
+        Err(ShelfFault::NoMemory) => return Err(AllocError),
+        Err(ShelfFault::Failed) => return Ok(Step::Lack(placing)),
+    };
+    let ending = placed(alloc, bytes.as_slice())?;
+    Ok(Step::Finish(ending))
+}
+
+/// A form that is built.
+enum Built<'a> {
+    Replay(&'a str, &'a str),
+    Place(&'a str),
+}
+
+/// The form, where it is built.
+fn built_of(form: Form<'_>) -> Option<Built<'_>>
+    ensures some { IfSome result (λ built. form_of form.entry ≡ built_form built) }
     ensures other { IfNone result (IsDueOfForm (form_of form.entry) [] not_built) }
 {
     match form {
-        Form::Replay { program, schedule } => Some((program, schedule)),
+        Form::Replay { program, schedule } => Some(Built::Replay(program, schedule)),
+        Form::Place { placing } => Some(Built::Place(placing)),
         Form::Stubs { .. }
         | Form::Run { .. }
         | Form::Node { .. }
         | Form::Sample { .. }
         | Form::Settle { .. }
-        | Form::Place { .. }
         | Form::Audit { .. } => None,
     }
 }
@@ -125,10 +148,12 @@ pub fn follow<'a, S: Shelf>(
         let refused = ending(alloc, Status::BadCommandLine, "circus: bad command line\n")?;
         return Ok(Step::Finish(refused));
     };
-    let Some((program, schedule)) = files_of_replay(form) else {
-        let unbuilt = ending(alloc, Status::NotBuilt, "not built\n")?;
-        return Ok(Step::Finish(unbuilt));
-    };
-    let step = replay(alloc, program, schedule, shelf)?;
-    Ok(step)
+    match built_of(form) {
+        Some(Built::Replay(program, schedule)) => replay(alloc, program, schedule, shelf),
+        Some(Built::Place(placing)) => place(alloc, placing, shelf),
+        None => {
+            let unbuilt = ending(alloc, Status::NotBuilt, "not built\n")?;
+            Ok(Step::Finish(unbuilt))
+        }
+    }
 }

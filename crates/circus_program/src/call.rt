@@ -3,7 +3,7 @@ ghost use Rattle.std.specs.Prelude.{◌≡◌, map, string_bytes, IfOk};
 ghost use Rattle.circus_outside.specs.Faults.{Rose};
 ghost use Rattle.circus_program.specs.Answer.{AsksOnly, WritesEnd, WritesLack, WritesPartOfText, shelf_fault as fault_line};
 ghost use Rattle.circus_program.specs.declared.status.Status.{Status as Ended};
-ghost use Rattle.circus_program.specs.declared.status.Status.TheVariants.{Done, BadCommandLine, BadSchedule, ShelfFault, SinkFault, NoMemory, NotBuilt};
+ghost use Rattle.circus_program.specs.declared.status.Status.TheVariants.{Done, BadCommandLine, BadSchedule, ShelfFault, SinkFault, NoMemory, NotBuilt, BadPlacing, NoPlacement};
 ghost use Rattle.circus_program.specs.Status.{code_of};
 ghost use Rattle.circus_program.specs.Seen.Put.{IsPut, IsAnswer};
 
@@ -15,17 +15,19 @@ use circus_value::NoMemory;
 use std::alloc::Global;
 
 /// Does what the words ask for: fetches files from the shelf, writes to the sink line by line, and answers
-/// the status (docs/GUIDE.md, "Statuses"). So far `replay` is built, for one program and schedules of
+/// the status (docs/GUIDE.md, "Statuses"). So far `place` is built, and `replay` for one program and schedules of
 /// deliveries; the link is not used.
 ///
-/// - 0: the report of a replay is written.
+/// - 0: the report of a replay, or the best choice of a placing is written.
 /// - 1: exactly where the words are of no form.
 /// - 3: exactly where a line of the schedule is refused, which the last line written names.
 /// - 4: only where the shelf's count of faults rose; the name fetched last is written.
 /// - 5: only where the sink's count of faults rose; what was written is a part of the text.
 /// - 7: where there is no memory; what was written is a part of the text.
-/// - 9: exactly where the words are of another form than `replay`, else the program is not one that is
+/// - 9: exactly where the words are of another form than `replay` and `place`, else the program is not one that is
 ///   built, else the schedule.
+/// - 11: exactly where the text of a placing is refused, whose line and cause are written.
+/// - 12: exactly where no choice of machines satisfies a placing.
 pub fn circus<S: Shelf, K: Sink, L: Link>(
     alloc: Global,
     words: &[String],
@@ -41,6 +43,8 @@ pub fn circus<S: Shelf, K: Sink, L: Link>(
     ensures bad_words { result ≡ code_of BadCommandLine → WritesEnd (S.contents shelf.old) (map string_bytes words.now) (K.written sink.old) (K.written sink.new) BadCommandLine }
     ensures bad_schedule { result ≡ code_of BadSchedule → WritesEnd (S.contents shelf.old) (map string_bytes words.now) (K.written sink.old) (K.written sink.new) BadSchedule }
     ensures not_built { result ≡ code_of NotBuilt → WritesEnd (S.contents shelf.old) (map string_bytes words.now) (K.written sink.old) (K.written sink.new) NotBuilt }
+    ensures bad_placing { result ≡ code_of BadPlacing → WritesEnd (S.contents shelf.old) (map string_bytes words.now) (K.written sink.old) (K.written sink.new) BadPlacing }
+    ensures no_placement { result ≡ code_of NoPlacement → WritesEnd (S.contents shelf.old) (map string_bytes words.now) (K.written sink.old) (K.written sink.new) NoPlacement }
 
     ensures shelf_fault { result ≡ code_of ShelfFault → WritesLack (S.contents shelf.old) (map string_bytes words.now) (S.fetched shelf.new) (K.written sink.old) (K.written sink.new) }
     ensures shelf_rose { result ≡ code_of ShelfFault → Rose (S.faults shelf.old) (S.faults shelf.new) }

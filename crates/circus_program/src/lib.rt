@@ -1,7 +1,7 @@
 //! The top call: words in, status out, over a shelf, a sink and a link.
 //!
 //! `status` has how a call ends. `words` reads the command line, `thin` the program and the schedules that are built so far, `answer` fetches
-//! and decides, `replay` runs the world, `report` and `names` have the report's lines, `put` writes, and `call`
+//! and decides, `placed` finds the best choice of a placing, `replay` runs the world, `report` and `names` have the report's lines, `put` writes, and `call`
 //! is the top call itself.
 #![tactic(auto)]
 
@@ -9,6 +9,7 @@ mod answer;
 mod call;
 mod decimal;
 mod names;
+mod placed;
 mod put;
 mod replay;
 mod report;

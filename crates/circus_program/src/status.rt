@@ -18,6 +18,10 @@ pub enum Status {
     NoMemory = 7,
     /// What was asked for is not built.
     NotBuilt = 9,
+    /// The text of a placing is refused.
+    BadPlacing = 11,
+    /// No choice of machines satisfies a placing.
+    NoPlacement = 12,
 }
 
 impl Status {

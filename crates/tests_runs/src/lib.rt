@@ -5,6 +5,10 @@
 #[cfg(test)]
 mod outside;
 #[cfg(test)]
+mod placings;
+#[cfg(test)]
 mod replays;
+#[cfg(test)]
+mod run;
 #[cfg(test)]
 mod words;

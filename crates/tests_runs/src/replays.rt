@@ -1,8 +1,8 @@
 // Whole runs of the command over a shelf, a sink and a link in memory. Of a program and a schedule
 // they have what is written to the byte, the status, and how many files were fetched.
-use circus_outside::{Arrivals, Failing, File, Files, MemLink, MemShelf, MemSink};
-use circus_program::circus;
-use circus_value::{Duplicate, NoMemory, Octets};
+use crate::run::{file, perform};
+use circus_outside::{Failing, Files};
+use circus_value::NoMemory;
 use std::alloc::Global;
 use std::process::Abort;
 use std::test::Fail;
@@ -108,21 +108,6 @@ now idle state [65535]
 
 const NOT_BUILT: &str = "not built\n";
 
-// What a run leaves: its status, what it wrote, and how many files it fetched.
-#[derive(Drop)]
-struct Ended {
-    status: u8,
-    written: Octets,
-    fetched: usize,
-}
-
-impl Ended {
-    // What was written, as a text.
-    fn text(&self) -> &str {
-        str::from_utf8(self.written.as_slice()).unwrap_or("no text")
-    }
-}
-
 // The texts, one behind another.
 fn joined(alloc: Global, texts: &[&str]) -> Result<String, NoMemory> {
     let mut all = String::new(alloc);
@@ -132,45 +117,11 @@ fn joined(alloc: Global, texts: &[&str]) -> Result<String, NoMemory> {
     Ok(all)
 }
 
-fn octets(alloc: Global, text: &str) -> Result<Octets, NoMemory> {
-    let mut all = Octets::new(alloc);
-    all.append(text.as_bytes())?;
-    Ok(all)
-}
-
-fn strings(alloc: Global, texts: &[&str]) -> Result<Vec<String>, NoMemory> {
-    let mut all = Vec::new(alloc);
-    for text in texts {
-        all.push(String::from_str(alloc, text)?)?;
-    }
-    Ok(all)
-}
-
-fn file(alloc: Global, name: &str, contents: &str) -> Result<File, NoMemory> {
-    let name = octets(alloc, name)?;
-    let contents = octets(alloc, contents)?;
-    Ok(File { name, contents })
-}
-
 fn files(alloc: Global, program: &str, schedule: &str) -> Result<Files, NoMemory> {
     let mut files = Files::new(alloc);
     files.push(file(alloc, "p", program)?)?;
     files.push(file(alloc, "s", schedule)?)?;
     Ok(files)
-}
-
-// Runs the words over these files and a sink of whose puts the listed ones fail.
-fn run(alloc: Global, words: &[&str], files: Files, failing: Failing) -> Result<Ended, NoMemory> {
-    let words = strings(alloc, words)?;
-    let mut shelf = MemShelf::new(alloc, files, Failing::new(alloc));
-    let mut sink = MemSink::new(alloc, failing);
-    let mut link = MemLink::new(alloc, Arrivals::new(alloc), Failing::new(alloc));
-    let status = circus(alloc, words.as_slice(), &mut shelf, &mut sink, &mut link);
-    Ok(Ended {
-        status,
-        written: sink.written().copy()?,
-        fetched: shelf.fetched().len(),
-    })
 }
 
 // Words, the files `p` and `s` that they may name, and what their run leaves: what it writes, its status and how
@@ -298,7 +249,7 @@ const REFUSED: [Row; 5] = [
 fn leaves(rt: &impl Abort, alloc: Global, row: &Row) -> Result<(), NoMemory> {
     let program = joined(alloc, row.program)?;
     let files = files(alloc, program.as_str(), row.schedule)?;
-    let ended = run(alloc, row.words, files, Failing::new(alloc))?;
+    let ended = perform(alloc, row.words, files, Failing::new(alloc))?;
     let written = joined(alloc, row.written)?;
     assert_eq!(rt; ended.text(), written.as_str());
     assert_eq!(rt; ended.status, row.status);
@@ -329,7 +280,7 @@ fn a_sink_that_fails_keeps_what_stands_before(rt: HostRuntime) -> Result<(), Fai
     let files = files(alloc, program.as_str(), DELIVER_ALL)?;
     let mut failing = Failing::new(alloc);
     failing.push(1)?;
-    let ended = run(alloc, REPLAY, files, failing)?;
+    let ended = perform(alloc, REPLAY, files, failing)?;
     assert_eq!(rt; (ended.text(), ended.status), (TITLE, 5));
     Ok(())
 }

@@ -98,6 +98,9 @@ fn refuses_near_misses(rt: HostRuntime) -> Result<(), Fail> {
         "sample p 18446744073709551616 200000",
         "settle p 1000001",
         "settle p ",
+        "place",
+        "place ",
+        "place f g",
         "run p q r s",
     ] {
         let words = words_of(rt.alloc(), line)?;

@@ -5,7 +5,7 @@ use Rattle.circus_program.specs.declared.answer.Step.{Step}
 use Rattle.circus_program.specs.declared.answer.Step.TheVariants.{Finish, Lack}
 use Rattle.circus_program.specs.Status.{is_end}
 use Rattle.circus_program.specs.Seen.Ending.{ending_of}
-use Rattle.circus_program.specs.Answer.{Due, fetch, finish, IsDueOfProgram, IsDueOfSchedule, IsDueOfReplay, AreFetchedOf, WasLast}
+use Rattle.circus_program.specs.Answer.{Due, fetch, finish, IsDueOfProgram, IsDueOfSchedule, IsDueOfReplay, IsDueOfPlace, AreFetchedOf, WasLast}
 use Rattle.circus_program.specs.Thin.{IsThinProgram}
 
 -- the end, or the file that was due
@@ -40,3 +40,9 @@ pub record IsStepOfReplay (shelf : Option (List ℕ → Option (List ℕ))) (pro
   pub files : List (List ℕ)
   pub fetched : AreFetchedOf shelf (program ∷ schedule ∷ []) files
   pub is_due : IsDueOfReplay program schedule files due
+
+-- a step that is due of a placing
+pub record IsStepOfPlace (shelf : Option (List ℕ → Option (List ℕ))) (placing : List ℕ) (due : Due) : Type 0 where
+  pub files : List (List ℕ)
+  pub fetched : AreFetchedOf shelf (placing ∷ []) files
+  pub is_due : IsDueOfPlace placing files due

@@ -1,5 +1,5 @@
 use Rattle.std.proofs.Common.{refl}
-use Rattle.circus_program.specs.declared.status.Status.TheVariants.{Done, BadCommandLine, BadSchedule, ShelfFault, SinkFault, NoMemory, NotBuilt}
+use Rattle.circus_program.specs.declared.status.Status.TheVariants.{Done, BadCommandLine, BadSchedule, ShelfFault, SinkFault, NoMemory, NotBuilt, BadPlacing, NoPlacement}
 use Rattle.circus_program.proofs.PutLemmas.{ended_as, one_status}
 use Rattle.circus_program.proofs.call.circus.Goals as goal
 
@@ -17,6 +17,12 @@ returns-clause-bad_schedule g c = λ is. ended_as _ _ _ _ _ _ _ c.answer-status.
 
 pub returns-clause-not_built : goal.returns-clause-not_built
 returns-clause-not_built g c = λ is. ended_as _ _ _ _ _ _ _ c.answer-status.result NotBuilt c.code.result c.answer-status.ensures.answer c.code.ensures refl is
+
+pub returns-clause-bad_placing : goal.returns-clause-bad_placing
+returns-clause-bad_placing g c = λ is. ended_as _ _ _ _ _ _ _ c.answer-status.result BadPlacing c.code.result c.answer-status.ensures.answer c.code.ensures refl is
+
+pub returns-clause-no_placement : goal.returns-clause-no_placement
+returns-clause-no_placement g c = λ is. ended_as _ _ _ _ _ _ _ c.answer-status.result NoPlacement c.code.result c.answer-status.ensures.answer c.code.ensures refl is
 
 pub returns-clause-shelf_fault : goal.returns-clause-shelf_fault
 returns-clause-shelf_fault g c = λ is. c.answer-status.ensures.answer.lacked (one_status c.answer-status.result ShelfFault c.code.result c.code.ensures is)
