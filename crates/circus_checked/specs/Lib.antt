@@ -1,0 +1,5 @@
+pub mod ExpressionTree
+pub mod ExpressionOf
+pub mod StatementTree
+pub mod StatementOf
+pub mod Seen

@@ -1,0 +1,15 @@
+mod Appending
+mod Beginning
+mod Compiling
+mod CompilingSteps
+mod Emitting
+mod Flows
+mod Following
+mod Items
+mod Keeping
+mod Moving
+mod PartSizes
+mod PutLemmas
+mod Stepping
+mod Stopping
+mod Turning

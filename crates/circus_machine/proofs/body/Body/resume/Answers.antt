@@ -1,0 +1,33 @@
+use Rattle.std.proofs.Common.{◌++◌, ◌∷◌, [], IfOk, List, length, sym, ap, subst, append_assoc}
+use Rattle.circus_value.specs.declared.outcome.Outcome.{Outcome}
+use Rattle.circus_model.specs.Gives.{Gives}
+use Rattle.circus_checked.specs.StatementTree.{statement_trees}
+use Rattle.circus_machine.specs.Meaning.{Going, Flow, turn_by}
+use Rattle.circus_machine.specs.Bodies.{flow_of}
+use Rattle.circus_machine.specs.Seen.Code.{codes_of}
+use Rattle.circus_machine.specs.Seen.Instructions.{acts_of}
+use Rattle.circus_machine.specs.Seen.Running.{Awaits}
+use Rattle.circus_machine.proofs.Turning.{awaits_same, gives_more, if_ok_more}
+use Rattle.circus_machine.proofs.body.Body.resume.Goals as goal
+
+pub returns : goal.returns
+returns c = λ state arguments replies stands.
+    let limit = c.args.limit in
+    let self = c.args.self.now in
+    let states = length state in
+    let seen = c.args.paused.execution.variables.states in
+    let reply = c.args.reply.now in
+    let codes = codes_of (statement_trees self.statements) in
+    let flow : List Outcome → Flow Going = λ more. flow_of limit self.statements self.locals state arguments (replies ++ more) in
+    let later : List Outcome → Flow Going = λ more. flow (reply ∷ more) in
+    let awaits : Awaits limit seen (acts_of self.code) flow c.args.paused =
+    subst (λ n. Awaits limit n (acts_of self.code) flow c.args.paused) (sym stands.kept) (subst (λ xs. Awaits limit states xs flow c.args.paused) (sym self.compiled) stands) in
+    let turn = turn_by limit states (later []) in
+    if_ok_more c.resume.result (Gives (Awaits limit states codes later) turn)
+    (Gives (Awaits limit states codes (λ more. flow_of limit self.statements self.locals state arguments ((replies ++ reply ∷ []) ++ more))) turn)
+    (gives_more (Awaits limit states codes later) (Awaits limit states codes (λ more. flow_of limit self.statements self.locals state arguments ((replies ++ reply ∷ []) ++ more))) turn
+    (awaits_same limit states codes later (λ more. flow_of limit self.statements self.locals state arguments ((replies ++ reply ∷ []) ++ more))
+    (λ next more. ap (flow_of limit self.statements self.locals state arguments) (sym (append_assoc replies (reply ∷ []) (next ∷ more))))))
+    (subst (λ n. IfOk c.resume.result (Gives (Awaits limit n codes later) (turn_by limit n (later [])))) stands.kept
+    (subst (λ xs. IfOk c.resume.result (Gives (Awaits limit seen xs later) (turn_by limit seen (later [])))) self.compiled
+    (c.resume.ensures flow awaits)))

@@ -1,0 +1,32 @@
+use Rattle.std.proofs.Common.{◌++◌, IfOk, List, [], length, sym, subst}
+use Rattle.circus_value.specs.declared.outcome.Outcome.{Outcome}
+use Rattle.circus_model.specs.Gives.{Gives}
+use Rattle.circus_checked.specs.StatementTree.{statement_trees}
+use Rattle.circus_machine.specs.Meaning.{Going, Flow, most_steps, beginning, turn_by}
+use Rattle.circus_machine.specs.Bodies.{flow_of}
+use Rattle.circus_machine.specs.Seen.Code.{Comes, codes_of}
+use Rattle.circus_machine.specs.Seen.Instructions.{acts_of}
+use Rattle.circus_machine.specs.Seen.Running.{going, Awaits}
+use Rattle.circus_machine.specs.declared.execution.Execution.{Execution}
+use Rattle.circus_machine.proofs.Compiling.{body_comes}
+use Rattle.circus_machine.proofs.body.Body.start.Goals as goal
+
+pub returns : goal.returns
+returns c =
+    let limit = c.args.limit in
+    let self = c.args.self.now in
+    let state = c.args.state in
+    let others = c.args.arguments.now ++ self.locals in
+    let trees = statement_trees self.statements in
+    let v = c.in_ok-variables.variables in
+    let execution : Execution = record { variables = v; steps = 1000000; asks = 0 } in
+    let flow : List Outcome → Flow Going = flow_of limit self.statements self.locals state c.args.arguments.now in
+    let comes : (replies : List Outcome) → Comes limit v.states (acts_of self.code) (flow replies) 0 (going execution replies) =
+    λ replies.
+    subst (λ n. Comes limit n (acts_of self.code) (flow replies) 0 (going execution replies)) (sym c.in_ok-variables.ensures.states)
+    (subst (λ xs. Comes limit (length state) xs (flow replies) 0 (going execution replies)) (sym self.compiled)
+    (subst (λ vs. Comes limit (length state) (codes_of trees) (flow replies) 0 (record { variables = vs; steps = most_steps; replies = replies; asks = 0 })) (sym c.in_ok-variables.ensures.values)
+    (body_comes limit (length state) trees (beginning limit (length state) state others replies)))) in
+    subst (λ n. IfOk c.run.result (Gives (Awaits limit n (codes_of trees) flow) (turn_by limit n (flow [])))) c.in_ok-variables.ensures.states
+    (subst (λ xs. IfOk c.run.result (Gives (Awaits limit v.states xs flow) (turn_by limit v.states (flow [])))) self.compiled
+    (c.run.ensures flow comes))

@@ -1,0 +1,9 @@
+-- How code is seen. No public call cites these.
+pub mod Given
+pub mod Steps
+pub mod Putting
+pub mod Code
+pub mod Changing
+pub mod Instructions
+pub mod Running
+pub mod Sets

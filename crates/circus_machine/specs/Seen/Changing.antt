@@ -1,0 +1,52 @@
+-- The variables of an execution with their sizes, and how the code changes them.
+use Rattle.std.specs.Prelude.{◌≡◌, ℕ, ◌<◌, List, All, map, take, Result, Ok, Err, slice_set}
+use Rattle.circus_value.specs.ValueTree.{ValueTree}
+use Rattle.circus_value.specs.ExternalSize.{external_size, size_of_values}
+use Rattle.circus_value.specs.ValueOf.{tree_of}
+use Rattle.circus_machine.specs.Got.{Raising}
+use Rattle.circus_machine.specs.Storing.{stored_over, appended_over, kept}
+use Rattle.circus_machine.specs.declared.got.Stop.{Stop}
+use Rattle.circus_machine.specs.declared.got.Stop.TheVariants.{Raises, NoMemory}
+use Rattle.circus_machine.specs.declared.part.Put.{Put}
+use Rattle.circus_machine.specs.declared.part.Put.TheVariants.{Whole, More}
+use Rattle.circus_machine.specs.declared.store.Change.{Change}
+use Rattle.circus_machine.specs.declared.store.Change.TheVariants.{Assign, Append}
+use Rattle.circus_machine.specs.declared.store.Variables.{Variables}
+use Rattle.circus_machine.specs.declared.store.Sizes.{Sizes}
+use Rattle.circus_model.specs.declared.language_error.LanguageError.{LanguageError}
+use Rattle.circus_machine.specs.Seen.Given.{given_as}
+
+-- what a change makes of an old value
+abbrev pub changed_over : Change → ValueTree → Raising ValueTree
+changed_over (Assign given) old = stored_over (given_as given) old
+changed_over (Append bound kind given) old = appended_over bound kind (given_as given) old
+
+-- how many bytes more there are, once something was put
+abbrev pub grows_by : Put → ℕ
+grows_by (Whole value) = external_size (tree_of value)
+grows_by (More value) = external_size (tree_of value)
+
+-- and how many fewer
+abbrev pub shrinks_by : Put → ValueTree → ℕ
+shrinks_by (Whole value) old = external_size old
+shrinks_by (More value) old = 0
+
+-- the sizes are those of the values and of the state, none of which is too great for the code's numbers
+pub record AreSized (v : Variables) : Type 0 where
+  pub each : v.sizes ≡ map external_size v.values
+  pub state : v.state_size ≡ size_of_values (take v.states v.values)
+  pub small : All (λ n. n < 4294967296) v.sizes
+  pub small_state : v.state_size < 4294967296
+
+-- another value of a variable is kept, with the sizes that there are then, or it is too great
+abbrev pub Resized : ℕ → Variables → ℕ → ValueTree → Result Sizes LanguageError → Type 0
+Resized limit v index t (Ok sizes) =
+    (kept limit v.states v.values index t ≡ Ok (slice_set v.values index t))
+    × AreSized (record { values = slice_set v.values index t; states = v.states; sizes = slice_set v.sizes index sizes.variable; state_size = sizes.state })
+Resized limit v index t (Err error) = kept limit v.states v.values index t ≡ Err error
+
+-- the variables are those that are meant, or are as before where an error is raised
+abbrev pub Changed : Result (Unit {0}) Stop → Raising (List ValueTree) → Variables → Variables → Type 0
+Changed (Ok done) meant old new = (meant ≡ Ok new.values) × ((new.states ≡ old.states) × AreSized new)
+Changed (Err (Raises error)) meant old new = (meant ≡ Err error) × (new ≡ old)
+Changed (Err NoMemory) meant old new = Unit {0}

@@ -1,0 +1,22 @@
+//! Bodies of procedures run: what an execution does next is what the language means.
+//!
+//! `body` has bodies that are started and resumed, `code` the flat list of instructions that a body becomes, `run` goes
+//! through it until the execution asks or ends, `execution` what each instruction does, and `store` the variables with
+//! their sizes. `evaluate` has what expressions give, `got` and `number` the values that they give, and `part` parts of
+//! values. `laws` has what holds of every body.
+#![tactic(auto)]
+
+mod body;
+mod code;
+mod evaluate;
+mod execution;
+mod got;
+mod laws;
+mod number;
+mod part;
+mod run;
+mod store;
+
+pub use body::Body;
+pub use laws::code_does_what_it_means;
+pub use run::Paused;

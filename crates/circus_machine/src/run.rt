@@ -1,0 +1,135 @@
+// Executions of code, until they ask or end.
+ghost use Rattle.std.specs.Prelude.{◌≡◌, ◌<◌, ◌≤◌, [], ◌∷◌, ◌++◌, List, Some, length, take, slice_get, IfOk};
+ghost use Rattle.circus_value.specs.declared.outcome.Outcome.{Outcome as Ended};
+ghost use Rattle.circus_value.specs.declared.outcome.Outcome.TheVariants.{Raised};
+ghost use Rattle.circus_model.specs.LanguageError.{number_of};
+ghost use Rattle.circus_model.specs.Gives.{Gives};
+ghost use Rattle.circus_model.specs.declared.turn.Turn.TheVariants.{Ends};
+ghost use Rattle.circus_machine.specs.Meaning as meaning;
+ghost use Rattle.circus_machine.specs.Meaning.{Going, Flow};
+ghost use Rattle.circus_machine.specs.Seen.Changing.{AreSized};
+ghost use Rattle.circus_machine.specs.Seen.Code as acts;
+ghost use Rattle.circus_machine.specs.Seen.Instructions.{acts_of};
+ghost use Rattle.circus_machine.specs.Seen.Running.{going, Awaits, StandsAtAsk};
+
+use crate::code::{Code, Instruction};
+use crate::execution::{Execution, Move};
+use crate::got::Stop;
+use crate::store::Variables;
+use circus_model::{LanguageError, Turn};
+use circus_value::{Duplicate, NoMemory, Outcome, State, Values};
+use std::alloc::{AllocError, Global};
+
+/// An execution that waits for a reply.
+#[derive(Debug, Drop)]
+pub struct Paused {
+    /// The place of the instruction that asks.
+    pub(crate) place: usize,
+    pub(crate) execution: Execution,
+}
+
+impl Variables {
+    // A copy of the state.
+    fn state(&self, alloc: Global) -> Result<State, NoMemory>
+        ensures { IfOk result (λ state. state ≡ take self.now.states self.now.values) }
+    {
+        let mut state = Values::new(alloc);
+        for place in 0..self.states {
+            let Some(value) = self.values.get(place) else {
+                return Ok(state);
+            };
+            state.push(value.copy()?)?;
+        }
+        Ok(state)
+    }
+
+    // The state, without the other variables.
+    fn into_state(mut self) -> State
+        ensures { result ≡ take self.states self.values }
+    {
+        self.values.truncate(self.states);
+        self.values
+    }
+}
+
+impl Execution {
+    // The end by this outcome.
+    fn ended(self, outcome: Outcome) -> Turn<Paused>
+        ensures { result ≡ Ends outcome (take self.variables.states self.variables.values) }
+    {
+        Turn::Ends {
+            outcome,
+            state: self.variables.into_state(),
+        }
+    }
+
+    // The end by an error of the language.
+    fn failed(self, alloc: Global, error: LanguageError) -> Turn<Paused>
+        ensures { result ≡ Ends (Raised (number_of error) []) (take self.variables.states self.variables.values) }
+    {
+        self.ended(Outcome::Raised(error.number(), Values::new(alloc)))
+    }
+}
+
+/// Goes on at a place of a body's code, until the execution asks or ends.
+pub(crate) fn run(
+    alloc: Global,
+    limit: u32,
+    code: &Code,
+    mut execution: Execution,
+    mut place: usize,
+) -> Result<Turn<Paused>, NoMemory>
+    requires sized { AreSized execution.variables }
+    requires short { length code.now ≤ 4294967295 }
+    ensures { (flow : List Ended → Flow Going) → ((replies : List Ended) → acts.Comes limit execution.variables.states (acts_of code.now) (flow replies) place (going execution replies))
+        → IfOk result (Gives (Awaits limit execution.variables.states (acts_of code.now) flow) (meaning.turn_by limit execution.variables.states (flow []))) }
+{
+    loop {
+        let Some(instruction) = code.get(place) else {
+            return Ok(execution.failed(alloc, LanguageError::Unhandled));
+        };
+        match execution.step(alloc, limit, instruction, place) {
+            Ok(Move::Goes(next)) => place = next,
+            Ok(Move::Ends(outcome)) => return Ok(execution.ended(outcome)),
+            Ok(Move::Asks(callee, procedure, arguments)) => {
+                return Ok(Turn::Asks {
+                    callee,
+                    procedure,
+                    arguments,
+                    state: execution.variables.state(alloc)?,
+                    paused: Paused { place, execution },
+                });
+            }
+            Err(Stop::Raises(error)) => return Ok(execution.failed(alloc, error)),
+            Err(Stop::NoMemory) => return Err(AllocError),
+        }
+    }
+}
+
+/// Goes on with the reply to the ask at which the execution waits.
+pub(crate) fn resume(
+    alloc: Global,
+    limit: u32,
+    code: &Code,
+    paused: Paused,
+    reply: &Outcome,
+) -> Result<Turn<Paused>, NoMemory>
+    requires sized { AreSized paused.execution.variables }
+    requires short { length code.now ≤ 4294967295 }
+    requires asking { StandsAtAsk (acts_of code.now) paused.place }
+    ensures { (flow : List Ended → Flow Going) → Awaits limit paused.execution.variables.states (acts_of code.now) flow paused
+        → IfOk result (Gives (Awaits limit paused.execution.variables.states (acts_of code.now) (λ replies. flow (reply.now ∷ replies))) (meaning.turn_by limit paused.execution.variables.states (flow (reply.now ∷ [])))) }
+{
+    let Paused {
+        place,
+        mut execution,
+    } = paused;
+    let Some(Instruction::Ask(asking)) = code.get(place) else {
+        unreachable!()
+    };
+    match execution.reply(alloc, limit, asking, place, reply) {
+        Ok(next) => run(alloc, limit, code, execution, next),
+        Err(Stop::Raises(error)) => Ok(execution.failed(alloc, error)),
+        Err(Stop::NoMemory) => Err(AllocError),
+    }
+}
