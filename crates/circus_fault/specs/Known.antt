@@ -1,0 +1,21 @@
+-- Which numbers names have, and which numbers stand, before a place of a text.
+use Rattle.std.specs.Prelude.{ℕ, Bool, false, ◌||◌, ◌==◌, cond, bytes_eq, List, Option, Some, None}
+
+-- which number a name has, where it stands before a place
+abbrev pub Known : Type 0
+Known = List ℕ → Option ℕ
+
+abbrev pub nobody : Known
+nobody name = None
+
+-- a name with a number besides those that stand before it
+abbrev pub also : List ℕ → ℕ → Known → Known
+also name number known other = cond (bytes_eq name other) (Some number) (known other)
+
+-- no number yet
+abbrev pub no_number : ℕ → Bool
+no_number _ = false
+
+-- this number besides those that stand before it
+abbrev pub also_number : ℕ → (ℕ → Bool) → ℕ → Bool
+also_number number earlier other = (number == other) || earlier other

@@ -1,0 +1,2 @@
+-- How code is seen: what tables say.
+pub mod Tables

@@ -1,0 +1,58 @@
+// Faults of a text with their places, and the least of them.
+ghost use Rattle.std.specs.Prelude.{◌≡◌, ℕ};
+ghost use Rattle.circus_fault.specs.Least.{is_before, lesser, least_from, faults_if};
+
+/// Why a text is refused. Of two causes at one place the one of the lesser rank is given.
+pub trait Cause: Copy {
+    ghost rank: { Self → ℕ };
+
+    fn rank(self) -> u8
+        ensures { result ≡ rank self };
+}
+
+/// A fault at a place of a text, counted in bytes.
+#[derive(Clone, Copy)]
+pub struct Fault<C> {
+    pub place: u32,
+    pub cause: C,
+}
+
+/// The least fault that was found.
+#[derive(Clone, Copy)]
+pub struct Best<C> {
+    pub fault: Option<Fault<C>>,
+}
+
+impl<C: Cause> Fault<C> {
+    // Whether this fault is given where both are found.
+    fn is_before(self, other: Fault<C>) -> bool
+        ensures { result ≡ is_before C.rank self other }
+    {
+        self.place < other.place
+            || self.place == other.place && self.cause.rank() < other.cause.rank()
+    }
+}
+
+impl<C: Cause> Best<C> {
+    // Keeps the lesser of a fault that is found and the one that is kept.
+    fn keep(&mut self, fault: Fault<C>)
+        ensures { self.new.fault ≡ lesser C.rank self.old.fault fault }
+    {
+        let stays = match self.fault {
+            Some(kept) => !fault.is_before(kept),
+            None => false,
+        };
+        if !stays {
+            self.fault = Some(fault);
+        }
+    }
+
+    /// Finds a fault at the place, if it is one.
+    pub fn note(&mut self, is_fault: bool, place: u32, cause: C)
+        ensures { self.new.fault ≡ least_from C.rank self.old.fault (faults_if is_fault place cause) }
+    {
+        if is_fault {
+            self.keep(Fault { place, cause });
+        }
+    }
+}
