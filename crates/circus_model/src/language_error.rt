@@ -1,6 +1,6 @@
 // The errors of the language.
-ghost use Rattle.std.specs.Prelude.{◌≡◌};
-ghost use Rattle.circus_model.specs.LanguageError.{number_of, is_language_error};
+ghost use Rattle.std.specs.Prelude.{◌≡◌, if◌then◌else◌, Some, None, option_map};
+ghost use Rattle.circus_model.specs.LanguageError.{number_of, of_number, is_language_error};
 
 /// An error that the language raises, or the runtime of a thread. It has no values, and its number is 60,001 to
 /// 60,009 (docs/FORMATS.md, "Outcomes and lists of values").
@@ -32,6 +32,26 @@ impl LanguageError {
         ensures { result ≡ number_of self }
     {
         self as u16
+    }
+
+    /// The error that is raised under this number, if there is one.
+    pub fn of_number(number: u16) -> Option<LanguageError>
+        ensures error { result ≡ of_number number }
+        ensures inverse { option_map number_of result ≡ (if is_language_error number then Some number else None) }
+    {
+        use LanguageError::*;
+        match number {
+            60_001 => Some(Range),
+            60_002 => Some(Index),
+            60_003 => Some(Zero),
+            60_004 => Some(TooLong),
+            60_005 => Some(StepLimit),
+            60_006 => Some(CallLimit),
+            60_007 => Some(ThreadSpent),
+            60_008 => Some(WrongChoice),
+            60_009 => Some(Unhandled),
+            _ => None,
+        }
     }
 
     /// Whether one of them has this number.
