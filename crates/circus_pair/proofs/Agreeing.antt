@@ -15,7 +15,7 @@ use Rattle.circus_segment.specs.Segment.{Piece, IsSegment, is_acknowledgement, r
 use Rattle.circus_segment.specs.Cut.{segment_count}
 use Rattle.circus_exchange.specs.Exchange.{start, IsSendable, awaits_return}
 use Rattle.circus_pair.specs.Taken.{is_of, first_of, total_in, count_in, is_reached, has_arrived, AreOf}
-use Rattle.circus_pair.specs.Acts.{Act as OneAct, Call as Calls, Return as Returns, Came, Tick as Ticks, Stop as Stops, Acts, more, taken_by, end_after}
+use Rattle.circus_pair.specs.Acts.{Act as OneAct, Call as Calls, Return as Returns, Came, Tick as Ticks, Acts, more, taken_by, end_after}
 use Rattle.circus_pair.specs.Handed.{made, call_at, return_at, says, reached_in}
 use Rattle.circus_pair.specs.TwoEnds.{History, begun, then_came, Arrival, Both, end_at, both_after, coming, delivered, is_same, with_act, acts_of, sent_by, taken_at, arrived_at, arrived_in, handed_over, Agrees, Agree, Talk, silent, at_first, at_second, acts_at_first, acts_at_second, WasSent, IsTalk, MayHappen, IsLawfulHistory, CanBeSent, names_none, has_no_number}
 use Rattle.circus_pair.specs.Lawful.{is_stopped_after, MayFollow, AreLawful}
@@ -76,15 +76,13 @@ up_after end format (then_came history (Deliver at number)) =
 up_after end format (then_came history (Tick at)) = up_chosen (acts_of end format history) (is_same end at) (Some Ticks) (up_after end format history) (up_after end format history)
 
 sound_own : (format : ℕ) (here there : Acts) (act : OneAct) → Sound format here there → MayFollow 0 format here act → WasSent (sent_by (start 0 format) there) act → Sound format (more here act) there
-sound_own format here there (Calls message) sound may was = sound_act format here there (Calls message) sound may tt
 sound_own format here there (Returns call message) sound may was = sound_return format here there call message sound may
 sound_own format here there (Came s) sound may was =
     let tells = each_at _ (sent_by (start 0 format) there) was.0 (spelling s) sound.good_there.tells was.1 in
     let read : ◌≡◌ {A = Result Piece SegmentFault} (Ok tells.said) (Ok s) = sym (read_again tells.said tells.is.segment) ∙ ap reading (sym tells.bytes_are) ∙ read_again s may in
     let same : tells.said ≡ s = cc in
     sound_act format here there (Came s) sound may (subst (IsSaid 0 format there (taken_by (start 0 format) there)) same tells.is)
-sound_own format here there Ticks sound may was = sound_act format here there Ticks sound may tt
-sound_own format here there Stops sound may was = sound_act format here there Stops sound may tt
+sound_own format here there act sound may was = sound_act format here there act sound may tt
 
 sound_talk : (format : ℕ) (talk : Talk) → (format ≡ 1) ⊎ (format ≡ 2) → IsTalk format talk → Sound format (acts_at_first talk) (acts_at_second talk)
 sound_talk format silent known is = sound_start format known

@@ -9,16 +9,16 @@ use Rattle.circus_exchange.specs.declared.taken.Arrived.TheVariants.{Nothing, Ar
 use Rattle.circus_segment.specs.Segment.{Piece, IsSegment, is_acknowledgement}
 use Rattle.circus_exchange.specs.Exchange.{start, takes, arrived_of_taken, arrived_after}
 use Rattle.circus_pair.specs.Taken.{is_of, first_of, total_in, count_in, is_reached, has_arrived, message_in, IsOf, AreOf}
-use Rattle.circus_pair.specs.Acts.{Act, Call, Return, Came, Tick, Stop, Acts, none_yet, more, end_after, with_taken, taken_by, arrives_by, arrival_by}
+use Rattle.circus_pair.specs.Acts.{Act, Call, Return, Came, Acts, none_yet, more, end_after, with_taken, taken_by, arrives_by, arrival_by}
 use Rattle.circus_pair.specs.Handed.{made, call_at, return_at}
 use Rattle.circus_pair.specs.Lawful.{MayFollow, AreLawful}
 use Rattle.circus_pair.specs.TwoEnds.{sent_by, arrival_of, Arrival, noted, arrived_in, handed_over}
 use Rattle.circus_pair.proofs.Arrivals.{arrived_other}
-use Rattle.circus_pair.proofs.Standing.{Stands, stands_after, may_follow, arrival_is}
+use Rattle.circus_pair.proofs.Standing.{Stands, may_follow, arrival_is}
 use Rattle.circus_pair.proofs.Handing.{format_stays}
 use Rattle.circus_pair.proofs.Joins.{arrives_as_sent}
 use Rattle.circus_pair.proofs.Growing.{Grows, grows_act, arrived_grows}
-use Rattle.circus_pair.proofs.Keeping.{lawful_acts, hands_lawful, kept_after}
+use Rattle.circus_pair.proofs.Keeping.{stands_lawful, hands_lawful, kept_after}
 use Rattle.circus_pair.proofs.Flowing.{flows_after}
 use Rattle.circus_pair.proofs.Each.{Each, each_append, each_map}
 use Rattle.circus_pair.specs.Saying.{IsSaid, IsOfSome}
@@ -39,26 +39,20 @@ keeping format acts good = record {
   known = good.known;
   format_is = format_stays (start 0 format) acts;
   hands = hands_lawful 0 format acts good.lawful;
-  stands = stands_after 0 format acts (lawful_acts 0 format acts good.lawful);
+  stands = stands_lawful 0 format acts good.lawful;
   kept = kept_after 0 format acts good.lawful;
   unsaid = (flows_after 0 format acts good.lawful).unsaid;
   fine = good.fine;
 }
 
 lawful_act : (format : ℕ) (acts : Acts) (act : Act) → MayDo 0 format acts (taken_by (start 0 format) acts) act → MayFollow 0 format acts act
-lawful_act format acts (Call message) may = may
 lawful_act format acts (Return call message) may = (may.0, may.2, may.3)
-lawful_act format acts (Came s) may = may
-lawful_act format acts Tick may = may
-lawful_act format acts Stop may = may
+lawful_act format acts act may = may
 
 few_act : (format : ℕ) (acts : Acts) (ts : List Piece) (act : Act) → MayDo 0 format acts ts act → made acts ≤ 4294967295 → made (more acts act) ≤ 4294967295
 unfolding made
 few_act format acts ts (Call message) may few = (let low : 0 + made acts < 4294967295 = may.1 in omega arith)
-few_act format acts ts (Return call message) may few = few
-few_act format acts ts (Came s) may few = few
-few_act format acts ts Tick may few = few
-few_act format acts ts Stop may few = few
+few_act format acts ts act may few = few
 
 grown : (format : ℕ) (acts : Acts) (act : Act) → Good format acts → MayDo 0 format acts (taken_by (start 0 format) acts) act → Grows 0 acts (more acts act) (taken_by (start 0 format) acts) (taken_by (start 0 format) (more acts act))
 grown format acts act good may =
@@ -272,17 +266,11 @@ hears_came format ts arrived acts ots e s stands up said hears =
 -- what comes is what the other end says
 abbrev pub IsHeard : ℕ → Acts → List Piece → Act → Type 0
 IsHeard format acts ots (Came s) = IsSaid 0 format acts ots s
-IsHeard format acts ots (Call message) = Unit {0}
-IsHeard format acts ots (Return call message) = Unit {0}
-IsHeard format acts ots Tick = Unit {0}
-IsHeard format acts ots Stop = Unit {0}
+IsHeard format acts ots act = Unit {0}
 
 hears_act : (format : ℕ) (own_acts : Acts) (ts : List Piece) (arrived : List Arrival) (acts : Acts) (ots : List Piece) (e : Exchange) (act : Act) → Stands ts e → Grows 0 own_acts (more own_acts act) ts (with_taken e act ts) → IsHeard format acts ots act → Hears format ts arrived acts ots → Hears format (with_taken e act ts) (arrived ++ noted (arrival_of e act)) acts ots
-hears_act format own_acts ts arrived acts ots e (Call message) stands grows is hears = hears_still format ts arrived acts ots hears
-hears_act format own_acts ts arrived acts ots e (Return call message) stands grows is hears = hears_still format ts arrived acts ots hears
 hears_act format own_acts ts arrived acts ots e (Came s) stands grows is hears = hears_came format ts arrived acts ots e s stands (arrived_grows 0 own_acts (more own_acts (Came s)) ts _ grows s.kind s.call) is hears
-hears_act format own_acts ts arrived acts ots e Tick stands grows is hears = hears_still format ts arrived acts ots hears
-hears_act format own_acts ts arrived acts ots e Stop stands grows is hears = hears_still format ts arrived acts ots hears
+hears_act format own_acts ts arrived acts ots e act stands grows is hears = hears_still format ts arrived acts ots hears
 
 -- ---- both ends
 

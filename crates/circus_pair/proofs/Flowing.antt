@@ -20,8 +20,9 @@ use Rattle.circus_pair.specs.Sending.{is_sent}
 use Rattle.circus_pair.proofs.Arrivals.{total_other}
 use Rattle.circus_pair.proofs.Counting.{count_none, count_upto, count_alike, count_rises, count_passed, count_without}
 use Rattle.circus_pair.proofs.Handing.{Hands, told_out, first as left_of, second, chosen_true, chosen_false, says_elsewhere, says_no_call, says_here, says_whole, says_other_kind, call_kind, return_kind, total_told}
-use Rattle.circus_pair.proofs.Keeping.{Kept, kept_after, IsWithin, becomes, call_total, kept_taken, lawful_acts, hands_lawful, segments_some, not_of}
-use Rattle.circus_pair.proofs.Standing.{Stands, stands_after, may_follow, acknowledges, other_kind}
+use Rattle.circus_pair.proofs.Keeping.{Kept, kept_after, IsWithin, becomes, call_total, kept_taken, stands_lawful, hands_lawful, segments_some, not_of}
+use Rattle.circus_pair.proofs.Standing.{Stands, may_follow, acknowledges, other_kind}
+use Rattle.circus_pair.proofs.Taking.{by_segment, by_taken, after_call_acknowledged, after_return_acknowledged, after_call_segment, after_return_segment}
 
 -- ---- which numbers calls have
 
@@ -32,10 +33,7 @@ call_made first (more acts (Call message)) call low high = elim (eqb_tells call 
   | inl same ↦ ap (λ b. is_some (cond b (Some message) (call_at first acts call))) same.0
   | inr differ ↦ (let ne : call ≢ first + made acts = differ.1 in ap (λ b. is_some (cond b (Some message) (call_at first acts call))) differ.0 ∙ call_made first acts call low (omega arith))
 ]
-call_made first (more acts (Return returned message)) call low high = call_made first acts call low high
-call_made first (more acts (Came s)) call low high = call_made first acts call low high
-call_made first (more acts Tick) call low high = call_made first acts call low high
-call_made first (more acts Stop) call low high = call_made first acts call low high
+call_made first (more acts act) call low high = call_made first acts call low high
 
 pub made_call : (first : ℕ) (acts : Acts) (call : ℕ) → is_some (call_at first acts call) ≡ true → (first ≤ call) × (call < first + made acts)
 unfolding made call_at
@@ -44,10 +42,7 @@ made_call first (more acts (Call message)) call some = elim (eqb_tells call (fir
   | inl same ↦ (let at : call ≡ first + made acts = same.1 in (omega arith, omega arith))
   | inr differ ↦ (let before = made_call first acts call (sym (ap (λ b. is_some (cond b (Some message) (call_at first acts call))) differ.0) ∙ some) in let a : first ≤ call = before.0 in let b : call < first + made acts = before.1 in (a, omega arith))
 ]
-made_call first (more acts (Return returned message)) call some = made_call first acts call some
-made_call first (more acts (Came s)) call some = made_call first acts call some
-made_call first (more acts Tick) call some = made_call first acts call some
-made_call first (more acts Stop) call some = made_call first acts call some
+made_call first (more acts act) call some = made_call first acts call some
 
 -- ---- which calls are open
 
@@ -112,10 +107,6 @@ Goes first acts ts sent e = (e.sent ≡ sent) ⊎ ((e.sent ≡ sent + 1) × (e.s
 pub record Moves (first : ℕ) (acts : Acts) (ts : List Piece) (sent : ℕ) (e : Exchange) : Type 0 where
   pub flows : Flows 64 first acts ts e
   pub goes : Goes first acts ts sent e
-
-moves_cond : (b : Bool) (first : ℕ) (acts : Acts) (ts : List Piece) (sent : ℕ) (x y : Exchange) → (b ≡ true → Moves first acts ts sent x) → (b ≡ false → Moves first acts ts sent y) → Moves first acts ts sent (cond b x y)
-moves_cond true first acts ts sent x y f g = f refl
-moves_cond false first acts ts sent x y f g = g refl
 
 quiet : (first : ℕ) (acts : Acts) (ts : List Piece) (sent : ℕ) (e : Exchange) → Moves first acts ts sent e → Moves first acts ts sent (record e { ticks = 0 })
 quiet first acts ts sent e m = record {
@@ -295,65 +286,47 @@ unfolding takes
 returned_sent e s h plain return_ = sent_already e s.call (left_of _ _ (chosen_false (eqb s.kind 0) _ _ (chosen_false (is_acknowledgement s) _ _ (second (eqb s.format e.format) _ h) plain) return_))
 
 moves_call_acknowledged : (first : ℕ) (acts : Acts) (ts : List Piece) (e : Exchange) (s : Piece) → Hands first acts ts e → Stands ts e → Kept first acts ts e → Flows 64 first acts ts e → IsSegment s → takes e s ≡ true → is_acknowledgement s ≡ true → eqb s.kind 0 ≡ true → Moves first (more acts (Came s)) (s ∷ ts) e.sent (after_taken e s)
-unfolding after_taken call_reached
+unfolding call_reached
 moves_call_acknowledged first acts ts e s hands stands kept flows segment h ack call =
     let reached_ : Flows 63 first (more acts (Came s)) (s ∷ ts) (call_reached e s.call s.number) = flows_reached first acts ts e (call_reached e s.call s.number) s s.number refl refl (reached_flight first acts ts e s.call s.number hands) refl (acknowledged_sent e s h ack call) (kept.calls_within s.call)
     (λ m is. let total : segment_count m ≡ s.total = call_total first acts ts e s m hands h ack call is in let within : s.number ≤ s.total = (may_follow ts e s stands segment h).within in omega arith)
     (λ m is. says_here s 0 (segment_count m) ack call) flows in
-    quiet _ _ _ _ _ (moves_cond (is_acknowledgement s) _ _ _ _ _ _
-    (λ yes_. moves_cond (eqb s.kind 0) _ _ _ _ _ _ (λ same. moves_let_go first (more acts (Came s)) (s ∷ ts) (call_reached e s.call s.number) reached_ (kept_taken first acts ts e s hands stands kept segment h).calls_within) (λ other. absurd (true_false _ call other)))
-    (λ plain. absurd (true_false _ ack plain)))
+    subst (Moves first (more acts (Came s)) (s ∷ ts) e.sent) (sym (after_call_acknowledged e s ack call))
+    (quiet _ _ _ _ _ (moves_let_go first (more acts (Came s)) (s ∷ ts) (call_reached e s.call s.number) reached_ (kept_taken first acts ts e s hands stands kept segment h).calls_within))
 
 moves_return_acknowledged : (first : ℕ) (acts : Acts) (ts : List Piece) (e : Exchange) (s : Piece) → Flows 64 first acts ts e → is_acknowledgement s ≡ true → eqb s.kind 0 ≡ false → Moves first (more acts (Came s)) (s ∷ ts) e.sent (after_taken e s)
-unfolding after_taken return_reached
+unfolding return_reached
 moves_return_acknowledged first acts ts e s flows ack return_ =
-    quiet _ _ _ _ _ (moves_cond (is_acknowledgement s) _ _ _ _ _ _
-    (λ yes_. moves_cond (eqb s.kind 0) _ _ _ _ _ _
-    (λ call. absurd (true_false _ call return_))
-    (λ same. record { flows = flows_heard 64 first acts ts e (return_reached e s.call s.number) s refl refl refl refl (λ q n. says_other_kind s 0 q n ack return_) (acknowledges s 1 ack) flows; goes = inl refl }))
-    (λ plain. absurd (true_false _ ack plain)))
+    subst (Moves first (more acts (Came s)) (s ∷ ts) e.sent) (sym (after_return_acknowledged e s ack return_))
+    (quiet _ _ _ _ _ (record { flows = flows_heard 64 first acts ts e (return_reached e s.call s.number) s refl refl refl refl (λ q n. says_other_kind s 0 q n ack return_) (acknowledges s 1 ack) flows; goes = inl refl }))
 
 moves_call_segment : (first : ℕ) (acts : Acts) (ts : List Piece) (e : Exchange) (s : Piece) → Flows 64 first acts ts e → is_acknowledgement s ≡ false → eqb s.kind 0 ≡ true → Moves first (more acts (Came s)) (s ∷ ts) e.sent (after_taken e s)
-unfolding after_taken
 moves_call_segment first acts ts e s flows plain call =
-    quiet _ _ _ _ _ (moves_cond (is_acknowledgement s) _ _ _ _ _ _
-    (λ ack. absurd (true_false _ ack plain))
-    (λ same. moves_cond (eqb s.kind 0) _ _ _ _ _ _
-    (λ yes_. record { flows = flows_heard 64 first acts ts e (record e { arriving_calls = added e.arriving_calls s }) s refl refl refl refl (λ q n. says_no_call s q n plain (call_kind s call)) (other_kind s 1 (λ one. absurd (let zero_ : s.kind ≡ 0 = eqb-true s.kind 0 call in omega arith))) flows; goes = inl refl })
-    (λ other. absurd (true_false _ call other))))
+    subst (Moves first (more acts (Came s)) (s ∷ ts) e.sent) (sym (after_call_segment e s plain call))
+    (quiet _ _ _ _ _ (record { flows = flows_heard 64 first acts ts e (record e { arriving_calls = added e.arriving_calls s }) s refl refl refl refl (λ q n. says_no_call s q n plain (call_kind s call)) (other_kind s 1 (λ one. absurd (let zero_ : s.kind ≡ 0 = eqb-true s.kind 0 call in omega arith))) flows; goes = inl refl }))
 
 moves_return_segment : (first : ℕ) (acts : Acts) (ts : List Piece) (e : Exchange) (s : Piece) → Hands first acts ts e → Stands ts e → Kept first acts ts e → Flows 64 first acts ts e → IsSegment s → takes e s ≡ true → is_acknowledgement s ≡ false → eqb s.kind 0 ≡ false → Moves first (more acts (Came s)) (s ∷ ts) e.sent (after_taken e s)
-unfolding after_taken return_added ended call_reached in_flight_after
+unfolding return_added ended call_reached in_flight_after
 moves_return_segment first acts ts e s hands stands kept flows segment h plain return_ =
     let reached_ : Flows 63 first (more acts (Came s)) (s ∷ ts) (return_added e s) = flows_reached first acts ts e (return_added e s) s (total_of e s.call) refl refl (reached_flight first acts ts e s.call (total_of e s.call) hands) refl (returned_sent e s h plain return_) (kept.calls_within s.call)
     (λ m is. let total : total_of e s.call ≡ segment_count m = total_told first acts ts e s.call m hands is in omega arith)
     (λ m is. says_whole s (segment_count m) plain (return_kind s segment return_) ∙ sym (total_told first acts ts e s.call m hands is)) flows in
-    quiet _ _ _ _ _ (moves_cond (is_acknowledgement s) _ _ _ _ _ _
-    (λ ack. absurd (true_false _ ack plain))
-    (λ same. moves_cond (eqb s.kind 0) _ _ _ _ _ _
-    (λ call. absurd (true_false _ call return_))
-    (λ yes_. moves_let_go first (more acts (Came s)) (s ∷ ts) (return_added e s) reached_ (kept_taken first acts ts e s hands stands kept segment h).calls_within)))
+    subst (Moves first (more acts (Came s)) (s ∷ ts) e.sent) (sym (after_return_segment e s plain return_))
+    (quiet _ _ _ _ _ (moves_let_go first (more acts (Came s)) (s ∷ ts) (return_added e s) reached_ (kept_taken first acts ts e s hands stands kept segment h).calls_within))
 
 moves_taken : (first : ℕ) (acts : Acts) (ts : List Piece) (e : Exchange) (s : Piece) → Hands first acts ts e → Stands ts e → Kept first acts ts e → Flows 64 first acts ts e → IsSegment s → takes e s ≡ true → Moves first (more acts (Came s)) (s ∷ ts) e.sent (after_taken e s)
 moves_taken first acts ts e s hands stands kept flows segment h =
-    elim (is_acknowledgement s) as (λ b. is_acknowledgement s ≡ b → Moves first (more acts (Came s)) (s ∷ ts) e.sent (after_taken e s)) [
-      | true ↦ λ ack. elim (eqb s.kind 0) as (λ b. eqb s.kind 0 ≡ b → Moves first (more acts (Came s)) (s ∷ ts) e.sent (after_taken e s)) [
-        | true ↦ λ call. moves_call_acknowledged first acts ts e s hands stands kept flows segment h ack call
-        | false ↦ λ return_. moves_return_acknowledged first acts ts e s flows ack return_
-      ] refl
-      | false ↦ λ plain. elim (eqb s.kind 0) as (λ b. eqb s.kind 0 ≡ b → Moves first (more acts (Came s)) (s ∷ ts) e.sent (after_taken e s)) [
-        | true ↦ λ call. moves_call_segment first acts ts e s flows plain call
-        | false ↦ λ return_. moves_return_segment first acts ts e s hands stands kept flows segment h plain return_
-      ] refl
-    ] refl
+    by_segment s _
+    (λ ack call. moves_call_acknowledged first acts ts e s hands stands kept flows segment h ack call)
+    (λ ack return_. moves_return_acknowledged first acts ts e s flows ack return_)
+    (λ plain call. moves_call_segment first acts ts e s flows plain call)
+    (λ plain return_. moves_return_segment first acts ts e s hands stands kept flows segment h plain return_)
 
 moves_came : (first : ℕ) (acts : Acts) (ts : List Piece) (e : Exchange) (s : Piece) → Hands first acts ts e → Stands ts e → Kept first acts ts e → Flows 64 first acts ts e → IsSegment s → Moves first (more acts (Came s)) (cond (takes e s) (s ∷ ts) ts) e.sent (after e s)
 unfolding made call_at
 moves_came first acts ts e s hands stands kept flows segment =
-    elim (takes e s) as (λ b. takes e s ≡ b → Moves first (more acts (Came s)) (cond b (s ∷ ts) ts) e.sent (cond b (after_taken e s) e)) [
-      | true ↦ λ h. moves_taken first acts ts e s hands stands kept flows segment h
-      | false ↦ λ h. record { flows = flows_same 64 first acts (Came s) ts e e refl refl refl (λ up. up) flows.stopped refl (λ call. refl) flows; goes = inl refl }
-    ] refl
+    by_taken ts e s (λ us f. Moves first (more acts (Came s)) us e.sent f) (λ h. moves_taken first acts ts e s hands stands kept flows segment h)
+    (record { flows = flows_same 64 first acts (Came s) ts e e refl refl refl (λ up. up) flows.stopped refl (λ call. refl) flows; goes = inl refl })
 
 -- ---- the other acts
 
@@ -437,7 +410,7 @@ moves_act : (first format : ℕ) (acts : Acts) (act : Act) → AreLawful first f
 unfolding made call_at returned ticked
 moves_act first format acts (Call message) lawful flows = moves_called first acts _ _ message (hands_lawful first format acts lawful.0) flows lawful.1.0.0 lawful.1.2
 moves_act first format acts (Return call message) lawful flows = record { flows = flows_same 64 first acts (Return call message) _ _ _ refl refl refl (λ up. up) flows.stopped refl (λ q. refl) flows; goes = inl refl }
-moves_act first format acts (Came s) lawful flows = moves_came first acts _ _ s (hands_lawful first format acts lawful.0) (stands_after first format acts (lawful_acts first format acts lawful.0)) (kept_after first format acts lawful.0) flows lawful.1
+moves_act first format acts (Came s) lawful flows = moves_came first acts _ _ s (hands_lawful first format acts lawful.0) (stands_lawful first format acts lawful.0) (kept_after first format acts lawful.0) flows lawful.1
 moves_act first format acts Tick lawful flows = record { flows = flows_same 64 first acts Tick _ _ _ refl refl refl (λ up. up) flows.stopped refl (λ q. refl) flows; goes = inl refl }
 moves_act first format acts Stop lawful flows = record { flows = flows_same 64 first acts Stop _ _ _ refl refl refl (λ up. absurd (let no_ : true ≡ false = up in cc)) refl refl (λ q. refl) flows; goes = inl refl }
 
@@ -450,10 +423,7 @@ flows_after first format (more acts act) lawful = (moves_act first format acts a
 made_grows : (acts : Acts) (act : Act) → made acts ≤ made (more acts act)
 unfolding made
 made_grows acts (Call message) = omega arith
-made_grows acts (Return call message) = omega arith
-made_grows acts (Came s) = omega arith
-made_grows acts Tick = omega arith
-made_grows acts Stop = omega arith
+made_grows acts act = omega arith
 
 -- the calls below the first that waits are those that the window let go before, and those that it lets go now
 sent_more : (first : ℕ) (acts next : Acts) (ts : List Piece) (sent : ℕ) (f : Exchange) (call : ℕ) (was : Bool) → Flows 64 first next ts f → Goes first next ts sent f → sent ≤ first + made acts → made acts ≤ made next → was ≡ sent_below sent first acts call → sent_below f.sent first next call ≡ (was || (is_some (call_at first next call) && (not (is_stopped_after next) && ltb (count_below (is_open first next ts) call) 64)))

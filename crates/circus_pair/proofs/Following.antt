@@ -5,9 +5,9 @@ use Rattle.circus_exchange.specs.declared.exchange.Exchange.{Exchange}
 use Rattle.circus_exchange.specs.declared.taken.Arrived.TheVariants.{Nothing}
 use Rattle.circus_segment.specs.Segment.{Piece, IsSegment}
 use Rattle.circus_exchange.specs.Limits.{never_used}
-use Rattle.circus_exchange.specs.Exchange.{start, IsSendable, called, returned, takes, after, arrived_after, ticked, stopped, awaits_return, is_suspect, datagrams_of_call, datagrams_of_return, datagrams_after, datagrams_of_tick}
+use Rattle.circus_exchange.specs.Exchange.{start, IsSendable, called, returned, takes, after, arrived_after, ticked, awaits_return, is_suspect, datagrams_of_call, datagrams_of_return, datagrams_after, datagrams_of_tick}
 use Rattle.circus_pair.specs.Taken.{has_arrived}
-use Rattle.circus_pair.specs.Acts.{Call, Return, Came, Tick, Stop, Acts, none_yet, more, end_after, taken_by, arrival_by}
+use Rattle.circus_pair.specs.Acts.{Call, Return, Came, Tick, Acts, none_yet, more, end_after, taken_by, arrival_by}
 use Rattle.circus_pair.specs.Handed.{made, return_at}
 use Rattle.circus_pair.specs.Lawful.{is_stopped_after, AreLawful}
 use Rattle.circus_pair.specs.Sending.{outputs, takes_after}
@@ -16,9 +16,9 @@ use Rattle.circus_pair.specs.Standing.{StandsFor, arrival_after}
 use Rattle.circus_pair.proofs.Dialogue.{dropped}
 use Rattle.circus_pair.proofs.Flowing.{flows_after}
 use Rattle.circus_pair.proofs.Handing.{format_stays, awaits_is}
-use Rattle.circus_pair.proofs.Keeping.{lawful_acts, hands_lawful}
+use Rattle.circus_pair.proofs.Keeping.{stands_lawful, hands_lawful}
 use Rattle.circus_pair.proofs.Outputs.{call_sends, return_sends, came_sends, tick_sends, taken_is}
-use Rattle.circus_pair.proofs.Standing.{stands_after, arrival_is}
+use Rattle.circus_pair.proofs.Standing.{arrival_is}
 use Rattle.circus_pair.proofs.Ticks.{suspicion_is}
 
 module _ {T E : Type 0} where
@@ -47,7 +47,7 @@ module _ (pair : Exchange) (first format : ℕ) (acts : Acts) (stands : StandsFo
   pub awaits_as_owed : (call : ℕ) → awaits_return pair call ≡ (has_arrived (taken_by (start first format) acts) 0 call && not (is_some (return_at acts call)))
   awaits_as_owed call =
       ap (λ (e : Exchange). awaits_return e call) stands.is
-      ∙ awaits_is first acts _ _ call (stands_after first format acts (lawful_acts first format acts stands.lawful)) (hands_lawful first format acts stands.lawful)
+      ∙ awaits_is first acts _ _ call (stands_lawful first format acts stands.lawful) (hands_lawful first format acts stands.lawful)
 
   -- ---- a call
 
@@ -100,7 +100,7 @@ module _ (pair : Exchange) (first format : ℕ) (acts : Acts) (stands : StandsFo
       let ts = taken_by (start first format) acts in
       ap (λ (x : Exchange). arrived_after x s) stands.is
       ∙ elim (takes e s) as (λ b. takes e s ≡ b → arrived_after e s ≡ cond b (arrival_by ts s) Nothing) [
-        | true ↦ λ h. arrival_is ts e s (stands_after first format acts (lawful_acts first format acts stands.lawful)) segment h
+        | true ↦ λ h. arrival_is ts e s (stands_lawful first format acts stands.lawful) segment h
         | false ↦ λ h. dropped e s h
       ] refl
       ∙ ap (λ b. cond b (arrival_by ts s) Nothing) (taken_is first format acts s stands.lawful segment)

@@ -8,7 +8,7 @@ use Rattle.circus_segment.specs.Segment.{Piece, has_data}
 use Rattle.circus_exchange.specs.Inbox.{front}
 use Rattle.circus_exchange.specs.Exchange.{takes}
 use Rattle.circus_pair.specs.Taken.{is_of, first_of, total_in, first_part, data_in, is_there, count_in, is_reached, has_arrived}
-use Rattle.circus_pair.specs.Acts.{Act, Call, Return, Came, Tick, Stop, Acts, more, with_taken}
+use Rattle.circus_pair.specs.Acts.{Act, Call, Return, Came, Acts, more, with_taken}
 use Rattle.circus_pair.specs.Handed.{made, call_at, return_at}
 use Rattle.circus_pair.specs.TwoEnds.{handed_over}
 use Rattle.circus_pair.proofs.Handing.{Hands}
@@ -103,10 +103,7 @@ message_stays false message o m none h = h
 -- the return of an act is the first one to its call
 abbrev pub IsFirst : Acts → Act → Type 0
 IsFirst acts (Return call message) = return_at acts call ≡ None
-IsFirst acts (Call message) = Unit {0}
-IsFirst acts (Came s) = Unit {0}
-IsFirst acts Tick = Unit {0}
-IsFirst acts Stop = Unit {0}
+IsFirst acts act = Unit {0}
 
 still : (first : ℕ) (acts more_acts : Acts) (ts : List Piece) → ((kind call : ℕ) (m : List ℕ) → handed_over first acts kind call ≡ Some m → handed_over first more_acts kind call ≡ Some m) → Grows first acts more_acts ts ts
 still first acts more_acts ts handed = record { handed = handed; totals = λ kind call t h. h; counts = λ kind call t. omega arith }
@@ -125,5 +122,4 @@ grows_act first acts ts e (Came s) hands once = record {
   totals = totals_stay (takes e s) s ts;
   counts = counts_stay (takes e s) s ts;
 }
-grows_act first acts ts e Tick hands once = still first acts _ ts (λ kind call m h. either_kind (eqb kind 0) _ _ _ _ m (λ is. is) (λ is. is) h)
-grows_act first acts ts e Stop hands once = still first acts _ ts (λ kind call m h. either_kind (eqb kind 0) _ _ _ _ m (λ is. is) (λ is. is) h)
+grows_act first acts ts e act hands once = still first acts _ ts (λ kind call m h. either_kind (eqb kind 0) _ _ _ _ m (λ is. is) (λ is. is) h)

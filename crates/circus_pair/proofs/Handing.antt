@@ -13,7 +13,7 @@ use Rattle.circus_segment.specs.Segment.{Piece, IsSegment, is_acknowledgement}
 use Rattle.circus_segment.specs.Cut.{segment_count}
 use Rattle.circus_exchange.specs.Inbox.{fits, known, added}
 use Rattle.circus_exchange.specs.Outbox.{has_total, agrees, handed, raised, reached, becomes_whole, emptied, forgotten}
-use Rattle.circus_exchange.specs.Exchange.{start, called, returned, is_whole, awaits_return, takes, was_sent, let_go, lets_go, call_reached, return_reached, total_or_none, total_of, ended, return_added, after_taken, after, ticked}
+use Rattle.circus_exchange.specs.Exchange.{start, called, returned, is_whole, awaits_return, takes, was_sent, call_reached, return_reached, total_or_none, total_of, ended, return_added, after_taken, after, ticked}
 use Rattle.circus_pair.specs.Taken.{total_in}
 use Rattle.circus_pair.specs.Acts.{Act, Call, Return, Came, Tick, Stop, Acts, none_yet, more, happens, end_after, taken_by, AreActs}
 use Rattle.circus_pair.specs.Handed.{made, call_at, return_at, says, reached_in, agrees_with, fits_with, sent_below, is_taken, ReturnsOnce}
@@ -21,8 +21,8 @@ use Rattle.circus_exchange.specs.Inbox.{Arriving}
 use Rattle.circus_pair.specs.Taken.{count_in, is_reached, has_arrived}
 use Rattle.circus_pair.proofs.Arrivals.{Keeps, told}
 use Rattle.circus_pair.proofs.Lasting.{lasts_called, lasts_returned, lasts_after, lasts_ticked}
-use Rattle.circus_pair.proofs.Sides.{next_taken}
 use Rattle.circus_pair.proofs.Standing.{Stands, stands_after}
+use Rattle.circus_pair.proofs.Taking.{Same, by_segment, by_taken, call_acknowledged_leaves, return_acknowledged_leaves, call_segment_leaves, return_segment_leaves, taken_lasts}
 use Rattle.circus_exchange.proofs.Ties.{equal, nat_ties}
 
 -- ---- what an act leaves in the tables of what was handed over
@@ -30,14 +30,6 @@ use Rattle.circus_exchange.proofs.Ties.{equal, nat_ties}
 pub record Tables (e : Exchange) (calls returns : FinMap nat_cmp Progress) : Type 0 where
   pub calls_are : e.calls.progress ≡ calls
   pub returns_are : e.returns.progress ≡ returns
-
-tables_cond : (b : Bool) (x y : Exchange) (calls returns : FinMap nat_cmp Progress) → (b ≡ true → Tables x calls returns) → (b ≡ false → Tables y calls returns) → Tables (cond b x y) calls returns
-tables_cond true x y calls returns f g = f refl
-tables_cond false x y calls returns f g = g refl
-
-let_go_tables : (e : Exchange) (calls returns : FinMap nat_cmp Progress) → Tables e calls returns → Tables (let_go e) calls returns
-unfolding let_go
-let_go_tables e calls returns t = tables_cond (lets_go e e.in_flight) _ _ _ _ (λ yes_. record { calls_are = t.calls_are; returns_are = t.returns_are }) (λ no_. t)
 
 same_progress : (b : Bool) (x y : HandedOver) (p : FinMap nat_cmp Progress) → x.progress ≡ p → y.progress ≡ p → (cond b x y).progress ≡ p
 same_progress true x y p f g = f
@@ -59,35 +51,11 @@ return_added_tables : (e : Exchange) (s : Piece) → Tables (return_added e s) (
 unfolding return_added
 return_added_tables e s = ended_tables _ s.call _ _ _ (reached_tables (record e { arriving_returns = added e.arriving_returns s }) s.call (total_of e s.call))
 
-true_false : (b : Bool) → b ≡ true → b ≡ false → ⊥
-true_false b t f = cc
-
-quiet : (e : Exchange) (calls returns : FinMap nat_cmp Progress) → Tables e calls returns → Tables (record e { ticks = 0 }) calls returns
-quiet e calls returns t = record { calls_are = t.calls_are; returns_are = t.returns_are }
-
-call_acknowledged_tables : (e : Exchange) (s : Piece) → is_acknowledgement s ≡ true → eqb s.kind 0 ≡ true → Tables (after_taken e s) (raised e.calls.progress s.call (get e.calls.progress s.call) s.number) e.returns.progress
-unfolding after_taken
-call_acknowledged_tables e s ack call = quiet _ _ _ (tables_cond (is_acknowledgement s) _ _ _ _
-    (λ yes_. tables_cond (eqb s.kind 0) _ _ _ _ (λ same. let_go_tables _ _ _ (reached_tables e s.call s.number)) (λ other. absurd (true_false _ call other)))
-    (λ plain. absurd (true_false _ ack plain)))
-
-return_acknowledged_tables : (e : Exchange) (s : Piece) → is_acknowledgement s ≡ true → eqb s.kind 0 ≡ false → Tables (after_taken e s) e.calls.progress (raised e.returns.progress s.call (get e.returns.progress s.call) s.number)
-unfolding after_taken
-return_acknowledged_tables e s ack return_ = quiet _ _ _ (tables_cond (is_acknowledgement s) _ _ _ _
-    (λ yes_. tables_cond (eqb s.kind 0) _ _ _ _ (λ call. absurd (true_false _ call return_)) (λ same. return_reached_tables e s.call s.number))
-    (λ plain. absurd (true_false _ ack plain)))
-
-call_tables : (e : Exchange) (s : Piece) → is_acknowledgement s ≡ false → eqb s.kind 0 ≡ true → Tables (after_taken e s) e.calls.progress e.returns.progress
-unfolding after_taken
-call_tables e s plain call = quiet _ _ _ (tables_cond (is_acknowledgement s) _ _ _ _
-    (λ ack. absurd (true_false _ ack plain))
-    (λ same. tables_cond (eqb s.kind 0) _ _ _ _ (λ yes_. record { calls_are = refl; returns_are = refl }) (λ other. absurd (true_false _ call other))))
-
-return_tables : (e : Exchange) (s : Piece) → is_acknowledgement s ≡ false → eqb s.kind 0 ≡ false → Tables (after_taken e s) (raised e.calls.progress s.call (get e.calls.progress s.call) (total_of e s.call)) e.returns.progress
-unfolding after_taken
-return_tables e s plain return_ = quiet _ _ _ (tables_cond (is_acknowledgement s) _ _ _ _
-    (λ ack. absurd (true_false _ ack plain))
-    (λ same. tables_cond (eqb s.kind 0) _ _ _ _ (λ call. absurd (true_false _ call return_)) (λ yes_. let_go_tables _ _ _ (return_added_tables e s))))
+tables_same : (e f : Exchange) (calls returns : FinMap nat_cmp Progress) → Same e f → Tables f calls returns → Tables e calls returns
+tables_same e f calls returns same t = record {
+  calls_are = ap (λ (h : HandedOver). h.progress) same.calls ∙ t.calls_are;
+  returns_are = ap (λ (h : HandedOver). h.progress) same.returns ∙ t.returns_are;
+}
 
 -- ---- the tables as functions of the numbers
 
@@ -261,68 +229,63 @@ none_said o s kind some call total none = elim (eqb_tells call s.call) [
 ]
 
 later_taken : (first : ℕ) (acts : Acts) (ts : List Piece) (e : Exchange) (s : Piece) → Hands first acts ts e → (call : ℕ) → (after_taken e s).next ≤ call → call_at first acts call ≡ None
-later_taken first acts ts e s hands call le = hands.later call (subst (λ n. n ≤ call) (next_taken e s) le)
+later_taken first acts ts e s hands call le = hands.later call (subst (λ n. n ≤ call) (taken_lasts e s).1 le)
 
 hands_taken : (first : ℕ) (acts : Acts) (ts : List Piece) (e : Exchange) (s : Piece) → Hands first acts ts e → IsSegment s → takes e s ≡ true → Hands first (more acts (Came s)) (s ∷ ts) (after_taken e s)
 unfolding made call_at return_at reached_in
 hands_taken first acts ts e s hands segment h =
-    elim (is_acknowledgement s) as (λ b. is_acknowledgement s ≡ b → Hands first (more acts (Came s)) (s ∷ ts) (after_taken e s)) [
-      | true ↦ λ ack. elim (eqb s.kind 0) as (λ b. eqb s.kind 0 ≡ b → Hands first (more acts (Came s)) (s ∷ ts) (after_taken e s)) [
-        | true ↦ λ call. (let t = call_acknowledged_tables e s ack call in
-            let still : (q n : ℕ) → says s 1 q n ≡ 0 = λ q n. says_other_kind s 1 q n ack (call_kind s call) in
-            let some : call_at first acts s.call ≡ None → ⊥ = λ none. taken_call_acknowledged e s h ack call (hands.calls s.call ∙ nothing_told _ _ none) in
-            record {
-              next = next_taken e s ∙ hands.next;
-              calls = λ q. ap (λ (p : FinMap nat_cmp Progress). get p q) t.calls_are ∙ grows (call_at first acts) (reached_in ts 0) (says s 0) e.calls.progress s.call s.number hands.calls (λ m is. says_here s 0 (segment_count m) ack call) (λ q n other. says_elsewhere s 0 q n other) q;
-              returns = λ q. ap (λ (p : FinMap nat_cmp Progress). get p q) t.returns_are ∙ stays (return_at acts) (reached_in ts 1) (says s 1) e.returns.progress hands.returns still q;
-              no_call = λ q n none. zero_max _ _ (none_said (call_at first acts) s 0 some q n none) (hands.no_call q n none);
-              no_return = λ q n none. zero_max _ _ (still q n) (hands.no_return q n none);
-              later = later_taken first acts ts e s hands;
-            })
-        | false ↦ λ return_. (let t = return_acknowledged_tables e s ack return_ in
-            let still : (q n : ℕ) → says s 0 q n ≡ 0 = λ q n. says_other_kind s 0 q n ack return_ in
-            let some : return_at acts s.call ≡ None → ⊥ = λ none. taken_return_acknowledged e s h ack return_ (hands.returns s.call ∙ nothing_told _ _ none) in
-            record {
-              next = next_taken e s ∙ hands.next;
-              calls = λ q. ap (λ (p : FinMap nat_cmp Progress). get p q) t.calls_are ∙ stays (call_at first acts) (reached_in ts 0) (says s 0) e.calls.progress hands.calls still q;
-              returns = λ q. ap (λ (p : FinMap nat_cmp Progress). get p q) t.returns_are ∙ grows (return_at acts) (reached_in ts 1) (says s 1) e.returns.progress s.call s.number hands.returns (λ m is. says_here s 1 (segment_count m) ack (return_kind s segment return_)) (λ q n other. says_elsewhere s 1 q n other) q;
-              no_call = λ q n none. zero_max _ _ (still q n) (hands.no_call q n none);
-              no_return = λ q n none. zero_max _ _ (none_said (return_at acts) s 1 some q n none) (hands.no_return q n none);
-              later = later_taken first acts ts e s hands;
-            })
-      ] refl
-      | false ↦ λ plain. (let quiet_returns : (q n : ℕ) → says s 1 q n ≡ 0 = λ q n. says_no_return s q n plain in
-          elim (eqb s.kind 0) as (λ b. eqb s.kind 0 ≡ b → Hands first (more acts (Came s)) (s ∷ ts) (after_taken e s)) [
-            | true ↦ λ call. (let t = call_tables e s plain call in
-                let still : (q n : ℕ) → says s 0 q n ≡ 0 = λ q n. says_no_call s q n plain (call_kind s call) in
-                record {
-                  next = next_taken e s ∙ hands.next;
-                  calls = λ q. ap (λ (p : FinMap nat_cmp Progress). get p q) t.calls_are ∙ stays (call_at first acts) (reached_in ts 0) (says s 0) e.calls.progress hands.calls still q;
-                  returns = λ q. ap (λ (p : FinMap nat_cmp Progress). get p q) t.returns_are ∙ stays (return_at acts) (reached_in ts 1) (says s 1) e.returns.progress hands.returns quiet_returns q;
-                  no_call = λ q n none. zero_max _ _ (still q n) (hands.no_call q n none);
-                  no_return = λ q n none. zero_max _ _ (quiet_returns q n) (hands.no_return q n none);
-                  later = later_taken first acts ts e s hands;
-                })
-            | false ↦ λ return_. (let t = return_tables e s plain return_ in
-                let some : call_at first acts s.call ≡ None → ⊥ = λ none. taken_return e s h plain return_ (hands.calls s.call ∙ nothing_told _ _ none) in
-                record {
-                  next = next_taken e s ∙ hands.next;
-                  calls = λ q. ap (λ (p : FinMap nat_cmp Progress). get p q) t.calls_are ∙ grows (call_at first acts) (reached_in ts 0) (says s 0) e.calls.progress s.call (total_of e s.call) hands.calls (λ m is. says_whole s (segment_count m) plain (return_kind s segment return_) ∙ sym (total_told first acts ts e s.call m hands is)) (λ q n other. says_elsewhere s 0 q n other) q;
-                  returns = λ q. ap (λ (p : FinMap nat_cmp Progress). get p q) t.returns_are ∙ stays (return_at acts) (reached_in ts 1) (says s 1) e.returns.progress hands.returns quiet_returns q;
-                  no_call = λ q n none. zero_max _ _ (none_said (call_at first acts) s 0 some q n none) (hands.no_call q n none);
-                  no_return = λ q n none. zero_max _ _ (quiet_returns q n) (hands.no_return q n none);
-                  later = later_taken first acts ts e s hands;
-                })
-          ] refl)
-    ] refl
+    let next = (taken_lasts e s).1 ∙ hands.next in
+    by_segment s _
+    (λ ack call. (let t = tables_same _ _ _ _ (call_acknowledged_leaves e s ack call) (reached_tables e s.call s.number) in
+    let still : (q n : ℕ) → says s 1 q n ≡ 0 = λ q n. says_other_kind s 1 q n ack (call_kind s call) in
+    let some : call_at first acts s.call ≡ None → ⊥ = λ none. taken_call_acknowledged e s h ack call (hands.calls s.call ∙ nothing_told _ _ none) in
+    record {
+      next = next;
+      calls = λ q. ap (λ (p : FinMap nat_cmp Progress). get p q) t.calls_are ∙ grows (call_at first acts) (reached_in ts 0) (says s 0) e.calls.progress s.call s.number hands.calls (λ m is. says_here s 0 (segment_count m) ack call) (λ q n other. says_elsewhere s 0 q n other) q;
+      returns = λ q. ap (λ (p : FinMap nat_cmp Progress). get p q) t.returns_are ∙ stays (return_at acts) (reached_in ts 1) (says s 1) e.returns.progress hands.returns still q;
+      no_call = λ q n none. zero_max _ _ (none_said (call_at first acts) s 0 some q n none) (hands.no_call q n none);
+      no_return = λ q n none. zero_max _ _ (still q n) (hands.no_return q n none);
+      later = later_taken first acts ts e s hands;
+    }))
+    (λ ack return_. (let t = tables_same _ _ _ _ (return_acknowledged_leaves e s ack return_) (return_reached_tables e s.call s.number) in
+    let still : (q n : ℕ) → says s 0 q n ≡ 0 = λ q n. says_other_kind s 0 q n ack return_ in
+    let some : return_at acts s.call ≡ None → ⊥ = λ none. taken_return_acknowledged e s h ack return_ (hands.returns s.call ∙ nothing_told _ _ none) in
+    record {
+      next = next;
+      calls = λ q. ap (λ (p : FinMap nat_cmp Progress). get p q) t.calls_are ∙ stays (call_at first acts) (reached_in ts 0) (says s 0) e.calls.progress hands.calls still q;
+      returns = λ q. ap (λ (p : FinMap nat_cmp Progress). get p q) t.returns_are ∙ grows (return_at acts) (reached_in ts 1) (says s 1) e.returns.progress s.call s.number hands.returns (λ m is. says_here s 1 (segment_count m) ack (return_kind s segment return_)) (λ q n other. says_elsewhere s 1 q n other) q;
+      no_call = λ q n none. zero_max _ _ (still q n) (hands.no_call q n none);
+      no_return = λ q n none. zero_max _ _ (none_said (return_at acts) s 1 some q n none) (hands.no_return q n none);
+      later = later_taken first acts ts e s hands;
+    }))
+    (λ plain call. (let t = tables_same _ _ _ _ (call_segment_leaves e s plain call) (record { calls_are = refl; returns_are = refl }) in
+    let still : (q n : ℕ) → says s 0 q n ≡ 0 = λ q n. says_no_call s q n plain (call_kind s call) in
+    let quiet : (q n : ℕ) → says s 1 q n ≡ 0 = λ q n. says_no_return s q n plain in
+    record {
+      next = next;
+      calls = λ q. ap (λ (p : FinMap nat_cmp Progress). get p q) t.calls_are ∙ stays (call_at first acts) (reached_in ts 0) (says s 0) e.calls.progress hands.calls still q;
+      returns = λ q. ap (λ (p : FinMap nat_cmp Progress). get p q) t.returns_are ∙ stays (return_at acts) (reached_in ts 1) (says s 1) e.returns.progress hands.returns quiet q;
+      no_call = λ q n none. zero_max _ _ (still q n) (hands.no_call q n none);
+      no_return = λ q n none. zero_max _ _ (quiet q n) (hands.no_return q n none);
+      later = later_taken first acts ts e s hands;
+    }))
+    (λ plain return_. (let t = tables_same _ _ _ _ (return_segment_leaves e s plain return_) (return_added_tables e s) in
+    let some : call_at first acts s.call ≡ None → ⊥ = λ none. taken_return e s h plain return_ (hands.calls s.call ∙ nothing_told _ _ none) in
+    let quiet : (q n : ℕ) → says s 1 q n ≡ 0 = λ q n. says_no_return s q n plain in
+    record {
+      next = next;
+      calls = λ q. ap (λ (p : FinMap nat_cmp Progress). get p q) t.calls_are ∙ grows (call_at first acts) (reached_in ts 0) (says s 0) e.calls.progress s.call (total_of e s.call) hands.calls (λ m is. says_whole s (segment_count m) plain (return_kind s segment return_) ∙ sym (total_told first acts ts e s.call m hands is)) (λ q n other. says_elsewhere s 0 q n other) q;
+      returns = λ q. ap (λ (p : FinMap nat_cmp Progress). get p q) t.returns_are ∙ stays (return_at acts) (reached_in ts 1) (says s 1) e.returns.progress hands.returns quiet q;
+      no_call = λ q n none. zero_max _ _ (none_said (call_at first acts) s 0 some q n none) (hands.no_call q n none);
+      no_return = λ q n none. zero_max _ _ (quiet q n) (hands.no_return q n none);
+      later = later_taken first acts ts e s hands;
+    }))
 
 hands_came : (first : ℕ) (acts : Acts) (ts : List Piece) (e : Exchange) (s : Piece) → Hands first acts ts e → IsSegment s → Hands first (more acts (Came s)) (cond (takes e s) (s ∷ ts) ts) (after e s)
 unfolding made call_at return_at
 hands_came first acts ts e s hands segment =
-    elim (takes e s) as (λ b. takes e s ≡ b → Hands first (more acts (Came s)) (cond b (s ∷ ts) ts) (cond b (after_taken e s) e)) [
-      | true ↦ λ h. hands_taken first acts ts e s hands segment h
-      | false ↦ λ h. record { next = hands.next; calls = hands.calls; returns = hands.returns; no_call = hands.no_call; no_return = hands.no_return; later = hands.later }
-    ] refl
+    by_taken ts e s (Hands first (more acts (Came s))) (λ h. hands_taken first acts ts e s hands segment h)
+    (record { next = hands.next; calls = hands.calls; returns = hands.returns; no_call = hands.no_call; no_return = hands.no_return; later = hands.later })
 
 call_told : (b : Bool) (o : Option (List ℕ)) (c : ℕ → ℕ) (message : List ℕ) → (b ≡ true → (t : ℕ) → c t ≡ 0) → cond b (Some (record { total = segment_count message; count = 0 })) (told_out o c) ≡ told_out (cond b (Some message) o) c
 call_told true o c message h = ap (λ (n : ℕ). Some (record { total = segment_count message; count = n })) (sym (h refl (segment_count message)))

@@ -13,7 +13,7 @@ use Rattle.circus_segment.specs.Segment.{Piece, IsSegment, is_acknowledgement}
 use Rattle.circus_segment.specs.Cut.{segment_count}
 use Rattle.circus_exchange.specs.Inbox.{completes, added}
 use Rattle.circus_exchange.specs.Outbox.{has_total, agrees, handed, whole_by, becomes_whole, reached, emptied, forgotten}
-use Rattle.circus_exchange.specs.Exchange.{start, called, returned, takes, let_go, lets_go, call_reached, return_reached, total_of, ended, return_added, after_taken, after, ticked}
+use Rattle.circus_exchange.specs.Exchange.{start, called, returned, takes, call_reached, return_reached, total_of, ended, return_added, after_taken, after, ticked}
 use Rattle.circus_pair.specs.Taken.{is_of, total_in, has_arrived, is_reached, count_in}
 use Rattle.circus_pair.specs.Acts.{Call, Return, Came, Tick, Stop, Acts, none_yet, more, happens, end_after, taken_by, AreActs}
 use Rattle.circus_pair.specs.Handed.{made, call_at, return_at, says, reached_in, agrees_with, ReturnsOnce}
@@ -21,28 +21,26 @@ use Rattle.circus_pair.specs.Lawful.{AreLawful}
 use Rattle.circus_pair.proofs.Arrivals.{Keeps, completes_is, arrived_stays, arrived_other, total_other}
 use Rattle.circus_pair.proofs.Handing.{Hands, hands_after, told_out, second, chosen_true, chosen_false, says_elsewhere, says_other_kind, says_no_return, says_no_call, says_here, says_whole, call_kind, return_kind, total_told, total_agrees, taken_return}
 use Rattle.circus_pair.proofs.Standing.{Stands, stands_after, may_follow, acknowledges, other_kind}
+use Rattle.circus_pair.proofs.Taking.{Same, by_segment, by_taken, call_acknowledged_leaves, return_acknowledged_leaves, call_segment_leaves, return_segment_leaves}
 use Rattle.circus_exchange.proofs.Ties.{equal, nat_ties}
 
 -- ---- lawful acts
 
 pub lawful_acts : (first format : ℕ) (acts : Acts) → AreLawful first format acts → AreActs acts
 lawful_acts first format none_yet lawful = tt
-lawful_acts first format (more acts (Call message)) lawful = (lawful_acts first format acts lawful.0, tt)
-lawful_acts first format (more acts (Return call message)) lawful = (lawful_acts first format acts lawful.0, tt)
 lawful_acts first format (more acts (Came s)) lawful = (lawful_acts first format acts lawful.0, lawful.1)
-lawful_acts first format (more acts Tick) lawful = (lawful_acts first format acts lawful.0, tt)
-lawful_acts first format (more acts Stop) lawful = (lawful_acts first format acts lawful.0, tt)
+lawful_acts first format (more acts act) lawful = (lawful_acts first format acts lawful.0, tt)
 
 pub lawful_once : (first format : ℕ) (acts : Acts) → AreLawful first format acts → ReturnsOnce acts
 lawful_once first format none_yet lawful = tt
-lawful_once first format (more acts (Call message)) lawful = lawful_once first format acts lawful.0
 lawful_once first format (more acts (Return call message)) lawful = (lawful_once first format acts lawful.0, lawful.1.2)
-lawful_once first format (more acts (Came s)) lawful = lawful_once first format acts lawful.0
-lawful_once first format (more acts Tick) lawful = lawful_once first format acts lawful.0
-lawful_once first format (more acts Stop) lawful = lawful_once first format acts lawful.0
+lawful_once first format (more acts act) lawful = lawful_once first format acts lawful.0
 
 pub hands_lawful : (first format : ℕ) (acts : Acts) → AreLawful first format acts → Hands first acts (taken_by (start first format) acts) (end_after (start first format) acts)
 hands_lawful first format acts lawful = hands_after first format acts (lawful_acts first format acts lawful) (lawful_once first format acts lawful)
+
+pub stands_lawful : (first format : ℕ) (acts : Acts) → AreLawful first format acts → Stands (taken_by (start first format) acts) (end_after (start first format) acts)
+stands_lawful first format acts lawful = stands_after first format acts (lawful_acts first format acts lawful)
 
 -- ---- the messages as functions of the numbers
 
@@ -181,14 +179,6 @@ pub record Letters (e : Exchange) (calls returns : FinMap nat_cmp (List ℕ)) : 
   pub calls_are : e.calls.messages ≡ calls
   pub returns_are : e.returns.messages ≡ returns
 
-letters_cond : (b : Bool) (x y : Exchange) (calls returns : FinMap nat_cmp (List ℕ)) → (b ≡ true → Letters x calls returns) → (b ≡ false → Letters y calls returns) → Letters (cond b x y) calls returns
-letters_cond true x y calls returns f g = f refl
-letters_cond false x y calls returns f g = g refl
-
-let_go_letters : (e : Exchange) (calls returns : FinMap nat_cmp (List ℕ)) → Letters e calls returns → Letters (let_go e) calls returns
-unfolding let_go
-let_go_letters e calls returns t = letters_cond (lets_go e e.in_flight) _ _ _ _ (λ yes_. record { calls_are = t.calls_are; returns_are = t.returns_are }) (λ no_. t)
-
 messages_cond : (b : Bool) (x y : HandedOver) → (cond b x y).messages ≡ cond b x.messages y.messages
 messages_cond true x y = refl
 messages_cond false x y = refl
@@ -212,35 +202,11 @@ return_added_letters : (e : Exchange) (s : Piece) → Letters (return_added e s)
 unfolding return_added
 return_added_letters e s = ended_letters _ s.call _ _ _ (reached_letters (record e { arriving_returns = added e.arriving_returns s }) s.call (total_of e s.call))
 
-true_false : (b : Bool) → b ≡ true → b ≡ false → ⊥
-true_false b t f = cc
-
-quiet : (e : Exchange) (calls returns : FinMap nat_cmp (List ℕ)) → Letters e calls returns → Letters (record e { ticks = 0 }) calls returns
-quiet e calls returns t = record { calls_are = t.calls_are; returns_are = t.returns_are }
-
-call_acknowledged_letters : (e : Exchange) (s : Piece) → is_acknowledgement s ≡ true → eqb s.kind 0 ≡ true → Letters (after_taken e s) (raised_calls e s.call s.number) e.returns.messages
-unfolding after_taken
-call_acknowledged_letters e s ack call = quiet _ _ _ (letters_cond (is_acknowledgement s) _ _ _ _
-    (λ yes_. letters_cond (eqb s.kind 0) _ _ _ _ (λ same. let_go_letters _ _ _ (reached_letters e s.call s.number)) (λ other. absurd (true_false _ call other)))
-    (λ plain. absurd (true_false _ ack plain)))
-
-return_acknowledged_letters : (e : Exchange) (s : Piece) → is_acknowledgement s ≡ true → eqb s.kind 0 ≡ false → Letters (after_taken e s) e.calls.messages (cond (whole_by (get e.returns.progress s.call) s.number) (remove e.returns.messages s.call) e.returns.messages)
-unfolding after_taken
-return_acknowledged_letters e s ack return_ = quiet _ _ _ (letters_cond (is_acknowledgement s) _ _ _ _
-    (λ yes_. letters_cond (eqb s.kind 0) _ _ _ _ (λ call. absurd (true_false _ call return_)) (λ same. return_reached_letters e s.call s.number))
-    (λ plain. absurd (true_false _ ack plain)))
-
-call_letters : (e : Exchange) (s : Piece) → is_acknowledgement s ≡ false → eqb s.kind 0 ≡ true → Letters (after_taken e s) e.calls.messages e.returns.messages
-unfolding after_taken
-call_letters e s plain call = quiet _ _ _ (letters_cond (is_acknowledgement s) _ _ _ _
-    (λ ack. absurd (true_false _ ack plain))
-    (λ same. letters_cond (eqb s.kind 0) _ _ _ _ (λ yes_. record { calls_are = refl; returns_are = refl }) (λ other. absurd (true_false _ call other))))
-
-return_letters : (e : Exchange) (s : Piece) → is_acknowledgement s ≡ false → eqb s.kind 0 ≡ false → Letters (after_taken e s) (cond (completes e.arriving_returns s) (remove (raised_calls e s.call (total_of e s.call)) s.call) (raised_calls e s.call (total_of e s.call))) e.returns.messages
-unfolding after_taken
-return_letters e s plain return_ = quiet _ _ _ (letters_cond (is_acknowledgement s) _ _ _ _
-    (λ ack. absurd (true_false _ ack plain))
-    (λ same. letters_cond (eqb s.kind 0) _ _ _ _ (λ call. absurd (true_false _ call return_)) (λ yes_. let_go_letters _ _ _ (return_added_letters e s))))
+letters_same : (e f : Exchange) (calls returns : FinMap nat_cmp (List ℕ)) → Same e f → Letters f calls returns → Letters e calls returns
+letters_same e f calls returns same t = record {
+  calls_are = ap (λ (h : HandedOver). h.messages) same.calls ∙ t.calls_are;
+  returns_are = ap (λ (h : HandedOver). h.messages) same.returns ∙ t.returns_are;
+}
 
 -- ---- what an end keeps
 
@@ -349,7 +315,7 @@ calls_finished s ts o c messages complete is stays knows q =
 kept_call_acknowledged : (first : ℕ) (acts : Acts) (ts : List Piece) (e : Exchange) (s : Piece) → Hands first acts ts e → Stands ts e → Kept first acts ts e → IsSegment s → takes e s ≡ true → is_acknowledgement s ≡ true → eqb s.kind 0 ≡ true → Kept first (more acts (Came s)) (s ∷ ts) (after_taken e s)
 unfolding call_at return_at reached_in
 kept_call_acknowledged first acts ts e s hands stands kept segment h ack call =
-    let t = call_acknowledged_letters e s ack call in
+    let t = letters_same _ _ _ _ (call_acknowledged_leaves e s ack call) (reached_letters e s.call s.number) in
     let still : (q n : ℕ) → says s 1 q n ≡ 0 = λ q n. says_other_kind s 1 q n ack (call_kind s call) in
     let here : (m : List ℕ) → call_at first acts s.call ≡ Some m → says s 0 s.call (segment_count m) ≡ s.number = λ m is. says_here s 0 (segment_count m) ack call in
     let below : (m : List ℕ) → call_at first acts s.call ≡ Some m → s.number ≤ segment_count m = λ m is. (let total : segment_count m ≡ s.total = call_total first acts ts e s m hands h ack call is in let within : s.number ≤ s.total = (may_follow ts e s stands segment h).within in omega arith) in
@@ -366,7 +332,7 @@ kept_call_acknowledged first acts ts e s hands stands kept segment h ack call =
 kept_return_acknowledged : (first : ℕ) (acts : Acts) (ts : List Piece) (e : Exchange) (s : Piece) → Hands first acts ts e → Stands ts e → Kept first acts ts e → IsSegment s → takes e s ≡ true → is_acknowledgement s ≡ true → eqb s.kind 0 ≡ false → Kept first (more acts (Came s)) (s ∷ ts) (after_taken e s)
 unfolding call_at return_at reached_in
 kept_return_acknowledged first acts ts e s hands stands kept segment h ack return_ =
-    let t = return_acknowledged_letters e s ack return_ in
+    let t = letters_same _ _ _ _ (return_acknowledged_leaves e s ack return_) (return_reached_letters e s.call s.number) in
     let still : (q n : ℕ) → says s 0 q n ≡ 0 = λ q n. says_other_kind s 0 q n ack return_ in
     let here : (m : List ℕ) → return_at acts s.call ≡ Some m → says s 1 s.call (segment_count m) ≡ s.number = λ m is. says_here s 1 (segment_count m) ack (return_kind s segment return_) in
     let below : (m : List ℕ) → return_at acts s.call ≡ Some m → s.number ≤ segment_count m = λ m is. (let total : segment_count m ≡ s.total = return_total first acts ts e s m hands h ack return_ is in let within : s.number ≤ s.total = (may_follow ts e s stands segment h).within in omega arith) in
@@ -384,7 +350,7 @@ kept_return_acknowledged first acts ts e s hands stands kept segment h ack retur
 kept_call_segment : (first : ℕ) (acts : Acts) (ts : List Piece) (e : Exchange) (s : Piece) → Kept first acts ts e → is_acknowledgement s ≡ false → eqb s.kind 0 ≡ true → Kept first (more acts (Came s)) (s ∷ ts) (after_taken e s)
 unfolding call_at return_at reached_in
 kept_call_segment first acts ts e s kept plain call =
-    let t = call_letters e s plain call in
+    let t = letters_same _ _ _ _ (call_segment_leaves e s plain call) (record { calls_are = refl; returns_are = refl }) in
     let of_calls : (q n : ℕ) → says s 0 q n ≡ 0 = λ q n. says_no_call s q n plain (call_kind s call) in
     let of_returns : (q n : ℕ) → says s 1 q n ≡ 0 = λ q n. says_no_return s q n plain in
     let other : (q : ℕ) → is_of 1 q s ≡ false = other_kind s 1 (λ one. absurd (let zero_ : s.kind ≡ 0 = eqb-true s.kind 0 call in omega arith)) in
@@ -401,7 +367,7 @@ kept_call_segment first acts ts e s kept plain call =
 kept_return_segment : (first : ℕ) (acts : Acts) (ts : List Piece) (e : Exchange) (s : Piece) → Hands first acts ts e → Stands ts e → Kept first acts ts e → IsSegment s → takes e s ≡ true → is_acknowledgement s ≡ false → eqb s.kind 0 ≡ false → Kept first (more acts (Came s)) (s ∷ ts) (after_taken e s)
 unfolding call_at return_at reached_in
 kept_return_segment first acts ts e s hands stands kept segment h plain return_ =
-    let t = return_letters e s plain return_ in
+    let t = letters_same _ _ _ _ (return_segment_leaves e s plain return_) (return_added_letters e s) in
     let may = may_follow ts e s stands segment h in
     let one : eqb s.kind 1 ≡ true = return_kind s segment return_ in
     let kind : s.kind ≡ 1 = eqb-true s.kind 1 one in
@@ -426,24 +392,17 @@ kept_return_segment first acts ts e s hands stands kept segment h plain return_ 
 
 pub kept_taken : (first : ℕ) (acts : Acts) (ts : List Piece) (e : Exchange) (s : Piece) → Hands first acts ts e → Stands ts e → Kept first acts ts e → IsSegment s → takes e s ≡ true → Kept first (more acts (Came s)) (s ∷ ts) (after_taken e s)
 kept_taken first acts ts e s hands stands kept segment h =
-    elim (is_acknowledgement s) as (λ b. is_acknowledgement s ≡ b → Kept first (more acts (Came s)) (s ∷ ts) (after_taken e s)) [
-      | true ↦ λ ack. elim (eqb s.kind 0) as (λ b. eqb s.kind 0 ≡ b → Kept first (more acts (Came s)) (s ∷ ts) (after_taken e s)) [
-        | true ↦ λ call. kept_call_acknowledged first acts ts e s hands stands kept segment h ack call
-        | false ↦ λ return_. kept_return_acknowledged first acts ts e s hands stands kept segment h ack return_
-      ] refl
-      | false ↦ λ plain. elim (eqb s.kind 0) as (λ b. eqb s.kind 0 ≡ b → Kept first (more acts (Came s)) (s ∷ ts) (after_taken e s)) [
-        | true ↦ λ call. kept_call_segment first acts ts e s kept plain call
-        | false ↦ λ return_. kept_return_segment first acts ts e s hands stands kept segment h plain return_
-      ] refl
-    ] refl
+    by_segment s _
+    (λ ack call. kept_call_acknowledged first acts ts e s hands stands kept segment h ack call)
+    (λ ack return_. kept_return_acknowledged first acts ts e s hands stands kept segment h ack return_)
+    (λ plain call. kept_call_segment first acts ts e s kept plain call)
+    (λ plain return_. kept_return_segment first acts ts e s hands stands kept segment h plain return_)
 
 kept_came : (first : ℕ) (acts : Acts) (ts : List Piece) (e : Exchange) (s : Piece) → Hands first acts ts e → Stands ts e → Kept first acts ts e → IsSegment s → Kept first (more acts (Came s)) (cond (takes e s) (s ∷ ts) ts) (after e s)
 unfolding call_at return_at
 kept_came first acts ts e s hands stands kept segment =
-    elim (takes e s) as (λ b. takes e s ≡ b → Kept first (more acts (Came s)) (cond b (s ∷ ts) ts) (cond b (after_taken e s) e)) [
-      | true ↦ λ h. kept_taken first acts ts e s hands stands kept segment h
-      | false ↦ λ h. record { calls = kept.calls; returns = kept.returns; calls_within = kept.calls_within; returns_within = kept.returns_within; no_call = kept.no_call }
-    ] refl
+    by_taken ts e s (Kept first (more acts (Came s))) (λ h. kept_taken first acts ts e s hands stands kept segment h)
+    (record { calls = kept.calls; returns = kept.returns; calls_within = kept.calls_within; returns_within = kept.returns_within; no_call = kept.no_call })
 
 -- no return without a segment of it
 pub none_arrived : (ts : List Piece) (call : ℕ) → total_in ts 1 call ≡ None → has_arrived ts 1 call ≡ false
@@ -529,6 +488,6 @@ pub kept_after : (first format : ℕ) (acts : Acts) → AreLawful first format a
 kept_after first format none_yet lawful = kept_start first format
 kept_after first format (more acts (Call message)) lawful = kept_called first acts _ _ message (hands_lawful first format acts lawful.0) (kept_after first format acts lawful.0) lawful.1.0.0
 kept_after first format (more acts (Return call message)) lawful = kept_returned first acts _ _ call message (hands_lawful first format acts lawful.0) (kept_after first format acts lawful.0) lawful.1.0.0 lawful.1.2
-kept_after first format (more acts (Came s)) lawful = kept_came first acts _ _ s (hands_lawful first format acts lawful.0) (stands_after first format acts (lawful_acts first format acts lawful.0)) (kept_after first format acts lawful.0) lawful.1
+kept_after first format (more acts (Came s)) lawful = kept_came first acts _ _ s (hands_lawful first format acts lawful.0) (stands_lawful first format acts lawful.0) (kept_after first format acts lawful.0) lawful.1
 kept_after first format (more acts Tick) lawful = kept_ticked first acts _ _ (kept_after first format acts lawful.0)
 kept_after first format (more acts Stop) lawful = kept_stopped first acts _ _ (kept_after first format acts lawful.0)

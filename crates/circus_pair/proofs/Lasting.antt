@@ -1,52 +1,17 @@
 -- The format of an end never changes, nor but by a stop whether the other end is down.
-use Rattle.std.proofs.Common.{◌≡◌, ℕ, Bool, true, false, cond, eqb, List, Result, Ok, Err, refl, ap, ◌∙◌}
+use Rattle.std.proofs.Common.{◌≡◌, ℕ, List, [], Result, Ok, Err, refl, ap, ◌∙◌}
 use Rattle.std.specs.Prelude.{OnOk, OnErr}
 use Rattle.circus_exchange.specs.declared.exchange.Exchange.{Exchange}
-use Rattle.circus_segment.specs.Segment.{Piece, is_acknowledgement}
-use Rattle.circus_exchange.specs.Exchange.{called, returned, takes, let_go, lets_go, call_reached, return_reached, ended, return_added, after_taken, after, ticked}
+use Rattle.circus_segment.specs.Segment.{Piece}
+use Rattle.circus_exchange.specs.Exchange.{called, returned, after, ticked}
+use Rattle.circus_pair.proofs.Taking.{by_taken, taken_lasts}
 
 pub record Lasts (old new : Exchange) : Type 0 where
   pub format : new.format ≡ old.format
   pub stopped : new.stopped ≡ old.stopped
 
-then_ : (a b c : Exchange) → Lasts b c → Lasts a b → Lasts a c
-then_ a b c h k = record { format = h.format ∙ k.format; stopped = h.stopped ∙ k.stopped }
-
-same : (e : Exchange) → Lasts e e
-same e = record { format = refl; stopped = refl }
-
-choice : (e : Exchange) (b : Bool) (x y : Exchange) → Lasts e x → Lasts e y → Lasts e (cond b x y)
-choice e true x y f g = f
-choice e false x y f g = g
-
-lasts_let_go : (e : Exchange) → Lasts e (let_go e)
-unfolding let_go
-lasts_let_go e = choice e (lets_go e e.in_flight) _ e (record { format = refl; stopped = refl }) (same e)
-
-lasts_call_reached : (e : Exchange) (call count : ℕ) → Lasts e (call_reached e call count)
-unfolding call_reached
-lasts_call_reached e call count = record { format = refl; stopped = refl }
-
-lasts_return_reached : (e : Exchange) (call count : ℕ) → Lasts e (return_reached e call count)
-unfolding return_reached
-lasts_return_reached e call count = record { format = refl; stopped = refl }
-
-lasts_return_added : (e : Exchange) (s : Piece) → Lasts e (return_added e s)
-unfolding return_added ended call_reached
-lasts_return_added e s = record { format = refl; stopped = refl }
-
-quiet : (e f : Exchange) → Lasts e f → Lasts e (record f { ticks = 0 })
-quiet e f h = record { format = h.format; stopped = h.stopped }
-
-lasts_after_taken : (e : Exchange) (s : Piece) → Lasts e (after_taken e s)
-unfolding after_taken
-lasts_after_taken e s =
-    quiet e _ (choice e (is_acknowledgement s) _ _
-    (choice e (eqb s.kind 0) _ _ (then_ e _ _ (lasts_let_go (call_reached e s.call s.number)) (lasts_call_reached e s.call s.number)) (lasts_return_reached e s.call s.number))
-    (choice e (eqb s.kind 0) _ _ (record { format = refl; stopped = refl }) (then_ e _ _ (lasts_let_go (return_added e s)) (lasts_return_added e s))))
-
 pub lasts_after : (e : Exchange) (s : Piece) → Lasts e (after e s)
-lasts_after e s = choice e (takes e s) _ e (lasts_after_taken e s) (same e)
+lasts_after e s = by_taken [] e s (λ _ f. Lasts e f) (λ _. let same = taken_lasts e s in record { format = same.0; stopped = same.2 }) (record { format = refl; stopped = refl })
 
 pub lasts_called : (e : Exchange) (m : List ℕ) → Lasts e (called e m)
 unfolding called

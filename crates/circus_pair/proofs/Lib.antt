@@ -18,6 +18,7 @@ pub mod Sayings
 pub mod Sides
 pub mod Speaking
 pub mod Standing
+pub mod Taking
 pub mod Ticks
 pub mod Told
 pub mod TwoSteps

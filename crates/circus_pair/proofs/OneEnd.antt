@@ -10,7 +10,7 @@ use Rattle.circus_segment.specs.Segment.{Piece, IsSegment, is_acknowledgement}
 use Rattle.circus_exchange.specs.Limits.{window}
 use Rattle.circus_exchange.specs.Exchange.{start, takes, arrived_after, awaits_return}
 use Rattle.circus_pair.specs.Taken.{total_in, has_arrived, message_in, AreTaken}
-use Rattle.circus_pair.specs.Acts.{Act, Call, Return, Came, Tick, Stop, Acts, none_yet, more, end_after, taken_by, arrives_by, arrival_by}
+use Rattle.circus_pair.specs.Acts.{Act, Return, Came, Acts, none_yet, more, end_after, taken_by, arrives_by, arrival_by}
 use Rattle.circus_pair.specs.Handed.{call_at, return_at}
 use Rattle.circus_pair.specs.Lawful.{is_stopped_after, MayFollow, AreLawful}
 use Rattle.circus_pair.specs.Window.{is_open, count_below, may_go}
@@ -19,17 +19,14 @@ use Rattle.circus_pair.specs.TwoEnds.{Arrival, arrived_in, noted}
 use Rattle.circus_pair.proofs.Dialogue.{is_this, one_if, both_true, not_true, no_arrival, counted_more, noted_is, dropped}
 use Rattle.circus_pair.proofs.Growing.{Grows, IsFirst, grows_act, arrived_grows}
 use Rattle.circus_pair.proofs.Handing.{awaits_is}
-use Rattle.circus_pair.proofs.Keeping.{lawful_acts, hands_lawful}
-use Rattle.circus_pair.proofs.Standing.{Stands, stands_after, arrival_is}
+use Rattle.circus_pair.proofs.Keeping.{stands_lawful, hands_lawful}
+use Rattle.circus_pair.proofs.Standing.{Stands, arrival_is}
 
 -- ---- what is there stays
 
 lawful_first : (first format : ℕ) (acts : Acts) (act : Act) → MayFollow first format acts act → IsFirst acts act
-lawful_first first format acts (Call message) may = tt
 lawful_first first format acts (Return call message) may = may.2
-lawful_first first format acts (Came s) may = tt
-lawful_first first format acts Tick may = tt
-lawful_first first format acts Stop may = tt
+lawful_first first format acts act may = tt
 
 pub grows_lawful : (first format : ℕ) (acts : Acts) (act : Act) → AreLawful first format (more acts act) → Grows first acts (more acts act) (taken_by (start first format) acts) (taken_by (start first format) (more acts act))
 grows_lawful first format acts act lawful =
@@ -111,29 +108,24 @@ once_came ts arrived e s stands segment up once =
 pub arrived_once : (first format : ℕ) (acts : Acts) → AreLawful first format acts → Once (taken_by (start first format) acts) (arrived_in (start first format) acts)
 unfolding has_arrived total_in
 arrived_once first format none_yet lawful = λ kind call. refl
-arrived_once first format (more acts (Call message)) lawful = once_still (taken_by (start first format) acts) (arrived_in (start first format) acts) (arrived_once first format acts lawful.0)
-arrived_once first format (more acts (Return call message)) lawful = once_still (taken_by (start first format) acts) (arrived_in (start first format) acts) (arrived_once first format acts lawful.0)
 arrived_once first format (more acts (Came s)) lawful =
-    once_came (taken_by (start first format) acts) (arrived_in (start first format) acts) (end_after (start first format) acts) s (stands_after first format acts (lawful_acts first format acts lawful.0)) lawful.1 (arrived_stays first format acts (Came s) s.kind s.call lawful) (arrived_once first format acts lawful.0)
-arrived_once first format (more acts Tick) lawful = once_still (taken_by (start first format) acts) (arrived_in (start first format) acts) (arrived_once first format acts lawful.0)
-arrived_once first format (more acts Stop) lawful = once_still (taken_by (start first format) acts) (arrived_in (start first format) acts) (arrived_once first format acts lawful.0)
+    once_came (taken_by (start first format) acts) (arrived_in (start first format) acts) (end_after (start first format) acts) s (stands_lawful first format acts lawful.0) lawful.1 (arrived_stays first format acts (Came s) s.kind s.call lawful) (arrived_once first format acts lawful.0)
+arrived_once first format (more acts act) lawful = once_still (taken_by (start first format) acts) (arrived_in (start first format) acts) (arrived_once first format acts lawful.0)
 
 pub are_taken : (first format : ℕ) (acts : Acts) → AreLawful first format acts → AreTaken (taken_by (start first format) acts)
-are_taken first format acts lawful = (stands_after first format acts (lawful_acts first format acts lawful)).taken
+are_taken first format acts lawful = (stands_lawful first format acts lawful).taken
 
 -- ---- a call that has arrived and has had no return awaits one
 
 pub returned_arrived : (first format : ℕ) (acts : Acts) (call : ℕ) (message : List ℕ) → AreLawful first format acts → return_at acts call ≡ Some message → has_arrived (taken_by (start first format) acts) 0 call ≡ true
 unfolding return_at
 returned_arrived first format none_yet call message lawful h = absurd cc
-returned_arrived first format (more acts (Call m)) call message lawful h = returned_arrived first format acts call message lawful.0 h
 returned_arrived first format (more acts (Return returned m)) call message lawful h = elim (eqb_tells call returned) [
   | inl same ↦ subst (λ n. has_arrived (taken_by (start first format) acts) 0 n ≡ true) (sym same.1) lawful.1.1
   | inr differ ↦ returned_arrived first format acts call message lawful.0 (sym (ap (λ b. cond b (Some m) (return_at acts call)) differ.0) ∙ h)
 ]
 returned_arrived first format (more acts (Came s)) call message lawful h = arrived_stays first format acts (Came s) 0 call lawful (returned_arrived first format acts call message lawful.0 h)
-returned_arrived first format (more acts Tick) call message lawful h = returned_arrived first format acts call message lawful.0 h
-returned_arrived first format (more acts Stop) call message lawful h = returned_arrived first format acts call message lawful.0 h
+returned_arrived first format (more acts act) call message lawful h = returned_arrived first format acts call message lawful.0 h
 
 came_call : (a k : Bool) (n call : ℕ) (m message : List ℕ) → cond a (cond k (ArrivedCall n m) (ArrivedReturn n m)) Nothing ≡ ArrivedCall call message → (a ≡ true) × (k ≡ true) × (n ≡ call)
 came_call true true n call m message h = (refl, refl, cc)
@@ -152,7 +144,7 @@ unfolding return_at
 awaited first format acts s call message lawful arrived =
     let e = end_after (start first format) acts in
     let ts = taken_by (start first format) acts in
-    let stands = stands_after first format acts (lawful_acts first format acts lawful.0) in
+    let stands = stands_lawful first format acts lawful.0 in
     elim (takes e s) as (λ b. takes e s ≡ b → awaits_return (end_after (start first format) (more acts (Came s))) call ≡ true) [
       | false ↦ λ h. absurd (let no_ : Nothing ≡ ArrivedCall call message = sym (dropped e s h) ∙ arrived in cc)
       | true ↦ λ h. (
@@ -162,7 +154,7 @@ awaited first format acts s call message lawful arrived =
           let kind : s.kind ≡ 0 = eqb-true s.kind 0 parts.1 in
           let now : has_arrived (s ∷ ts) 0 call ≡ true = subst (λ n. has_arrived (s ∷ ts) 0 n ≡ true) parts.2 (subst (λ k. has_arrived (s ∷ ts) k s.call ≡ true) kind b.0) in
           let before : has_arrived ts 0 call ≡ false = subst (λ n. has_arrived ts 0 n ≡ false) parts.2 (subst (λ k. has_arrived ts k s.call ≡ false) kind (not_true _ b.1)) in
-          awaits_is first (more acts (Came s)) _ _ call (stands_after first format (more acts (Came s)) (lawful_acts first format (more acts (Came s)) lawful)) (hands_lawful first format (more acts (Came s)) lawful)
+          awaits_is first (more acts (Came s)) _ _ call (stands_lawful first format (more acts (Came s)) lawful) (hands_lawful first format (more acts (Came s)) lawful)
           ∙ ap (λ x. has_arrived (cond x (s ∷ ts) ts) 0 call && not (is_some (return_at acts call))) h
           ∙ ap (λ x. x && not (is_some (return_at acts call))) now
           ∙ ap (λ (o : Option (List ℕ)). not (is_some o)) (unreturned first format acts call lawful.0 before))

@@ -21,14 +21,12 @@ use Rattle.circus_pair.specs.Window.{is_all, call_is_whole, return_is_whole}
 use Rattle.circus_pair.specs.Sending.{is_sent, takes_after, in_order, whole_call, let_go_by, first_open, call_again, return_again, again_after, outputs}
 use Rattle.circus_pair.proofs.Flowing.{Flows, flows_after, call_made, made_call, sent_after}
 use Rattle.circus_pair.proofs.Handing.{taken_after, told_out, format_stays, return_kind, second}
-use Rattle.circus_pair.proofs.Keeping.{kept_after, kept_call, kept_return, IsWithin, none_arrived, lawful_acts, lawful_once, hands_lawful}
+use Rattle.circus_pair.proofs.Keeping.{kept_after, kept_call, kept_return, IsWithin, none_arrived, lawful_acts, lawful_once, stands_lawful, hands_lawful}
 use Rattle.circus_pair.proofs.Orders.{order_none, order_alike, order_upto, order_one, found, map_in_order}
-use Rattle.circus_pair.proofs.Standing.{stands_after, call_acknowledged, return_acknowledged}
+use Rattle.circus_pair.proofs.Standing.{call_acknowledged, return_acknowledged}
+use Rattle.circus_pair.proofs.Taking.{after_call_acknowledged, after_return_acknowledged, after_call_segment, after_return_segment}
 
 -- ---- which calls an act sends
-
-true_false : (b : Bool) → b ≡ true → b ≡ false → ⊥
-true_false b t f = cc
 
 -- a call that was sent before is not sent now
 sent_before : (first : ℕ) (acts next : Acts) (sent limit call : ℕ) → sent ≤ first + made acts → call < sent → (sent_below limit first next call && not (sent_below sent first acts call)) ≡ false
@@ -157,29 +155,24 @@ waiting first format acts x lawful =
 
 -- which call is the first that waits then
 
-sent_of : (b : Bool) (x y : Exchange) (n : ℕ) → (b ≡ true → x.sent ≡ n) → (b ≡ false → y.sent ≡ n) → (cond b x y).sent ≡ n
-sent_of true x y n f g = f refl
-sent_of false x y n f g = g refl
-
 sent_let_go : (e : Exchange) → (let_go e).sent ≡ cond (lets_go e e.in_flight) (e.sent + 1) e.sent
 unfolding let_go
 sent_let_go e = elim (lets_go e e.in_flight) as (λ b. (cond b (record e { sent = e.sent + 1; in_flight = e.in_flight + 1 }) e).sent ≡ cond b (e.sent + 1) e.sent) [ true ↦ refl | false ↦ refl ]
 
 sent_call_acknowledged : (e : Exchange) (s : Piece) → is_acknowledgement s ≡ true → eqb s.kind 0 ≡ true → (after_taken e s).sent ≡ cond (lets_go e (in_flight_after e s.call s.number)) (e.sent + 1) e.sent
-unfolding after_taken call_reached lets_go
-sent_call_acknowledged e s ack call = sent_of (is_acknowledgement s) _ _ _ (λ yes_. sent_of (eqb s.kind 0) _ _ _ (λ same. sent_let_go (call_reached e s.call s.number)) (λ other. absurd (true_false _ call other))) (λ plain. absurd (true_false _ ack plain))
+unfolding call_reached lets_go
+sent_call_acknowledged e s ack call = ap (λ (f : Exchange). f.sent) (after_call_acknowledged e s ack call) ∙ sent_let_go (call_reached e s.call s.number)
 
 sent_return_acknowledged : (e : Exchange) (s : Piece) → is_acknowledgement s ≡ true → eqb s.kind 0 ≡ false → (after_taken e s).sent ≡ e.sent
-unfolding after_taken return_reached
-sent_return_acknowledged e s ack return_ = sent_of (is_acknowledgement s) _ _ _ (λ yes_. sent_of (eqb s.kind 0) _ _ _ (λ call. absurd (true_false _ call return_)) (λ same. refl)) (λ plain. absurd (true_false _ ack plain))
+unfolding return_reached
+sent_return_acknowledged e s ack return_ = ap (λ (f : Exchange). f.sent) (after_return_acknowledged e s ack return_)
 
 sent_call_segment : (e : Exchange) (s : Piece) → is_acknowledgement s ≡ false → eqb s.kind 0 ≡ true → (after_taken e s).sent ≡ e.sent
-unfolding after_taken
-sent_call_segment e s plain call = sent_of (is_acknowledgement s) _ _ _ (λ ack. absurd (true_false _ ack plain)) (λ same. sent_of (eqb s.kind 0) _ _ _ (λ yes_. refl) (λ other. absurd (true_false _ call other)))
+sent_call_segment e s plain call = ap (λ (f : Exchange). f.sent) (after_call_segment e s plain call)
 
 sent_return_segment : (e : Exchange) (s : Piece) → is_acknowledgement s ≡ false → eqb s.kind 0 ≡ false → (after_taken e s).sent ≡ cond (lets_go e (in_flight_after e s.call (total_of e s.call))) (e.sent + 1) e.sent
-unfolding after_taken return_added ended call_reached lets_go in_flight_after total_of
-sent_return_segment e s plain return_ = sent_of (is_acknowledgement s) _ _ _ (λ ack. absurd (true_false _ ack plain)) (λ same. sent_of (eqb s.kind 0) _ _ _ (λ call. absurd (true_false _ call return_)) (λ yes_. sent_let_go (return_added e s)))
+unfolding return_added ended call_reached lets_go in_flight_after total_of
+sent_return_segment e s plain return_ = ap (λ (f : Exchange). f.sent) (after_return_segment e s plain return_) ∙ sent_let_go (return_added e s)
 
 -- what a segment sends that is taken
 taken_sends : (first format : ℕ) (acts : Acts) (s : Piece) → AreLawful first format (more acts (Came s)) → takes (end_after (start first format) acts) s ≡ true → datagrams_of_taken (end_after (start first format) acts) s ≡ cond (not (is_acknowledgement s)) (acknowledged_by (is_stopped_after acts) (taken_by (start first format) acts) s) [] ++ in_order (let_go_by (start first format) acts (Came s)) (first + made acts)
@@ -188,7 +181,7 @@ taken_sends first format acts s lawful h =
     let b = start first format in
     let e = end_after b acts in
     let ts = taken_by b acts in
-    let stands = stands_after first format acts (lawful_acts first format acts lawful.0) in
+    let stands = stands_lawful first format acts lawful.0 in
     let up : e.stopped ≡ is_stopped_after acts = (flows_after first format acts lawful.0).stopped in
     let after_is : (end_after b (more acts (Came s))).sent ≡ (after_taken e s).sent = ap (λ x. (cond x (after_taken e s) e).sent) h in
     let out : (went : Bool) → (after_taken e s).sent ≡ cond went (e.sent + 1) e.sent → in_order (let_go_by b acts (Came s)) (first + made acts) ≡ cond went (whole_call b e.sent (call_at first acts e.sent)) [] = λ went is. gone first format acts (Came s) went lawful (after_is ∙ is) in

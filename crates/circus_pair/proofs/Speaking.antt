@@ -45,11 +45,8 @@ MayDo first format acts ts Tick = is_stopped_after acts ≡ false
 MayDo first format acts ts Stop = Unit {0}
 
 pub is_first : (first format : ℕ) (acts : Acts) (ts : List Piece) (act : Act) → MayDo first format acts ts act → IsFirst acts act
-is_first first format acts ts (Call message) may = tt
 is_first first format acts ts (Return call message) may = may.3
-is_first first format acts ts (Came s) may = tt
-is_first first format acts ts Tick may = tt
-is_first first format acts ts Stop may = tt
+is_first first format acts ts act may = tt
 
 -- ---- the messages that were handed over
 
@@ -78,8 +75,7 @@ fine_act first format acts ts e (Came s) hands fine may = record {
   calls = fine.calls;
   returns = later_returns first format acts (more acts (Came s)) ts _ (grows_act first acts ts e (Came s) hands tt) fine;
 }
-fine_act first format acts ts e Tick hands fine may = record { calls = fine.calls; returns = fine.returns }
-fine_act first format acts ts e Stop hands fine may = record { calls = fine.calls; returns = fine.returns }
+fine_act first format acts ts e act hands fine may = record { calls = fine.calls; returns = fine.returns }
 
 may_call : (first format : ℕ) (acts : Acts) (ts : List Piece) (q : ℕ) (m : List ℕ) → (format ≡ 1) ⊎ (format ≡ 2) → Fine first format acts ts → call_at first acts q ≡ Some m → MaySay first format acts ts 0 q m
 may_call first format acts ts q m known fine h = (let old = fine.calls q m h in record { known = known; kind_is = omega arith; numbered = old.1; sendable = old.0; handed = h; answered = λ e. absurd cc })

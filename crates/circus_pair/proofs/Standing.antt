@@ -1,5 +1,5 @@
 -- After every list of acts an end keeps what the segments say that it took.
-use Rattle.std.proofs.Common.{◌≡◌, ℕ, ◌+◌, ◌<◌, ◌≤◌, Bool, true, false, cond, not, ◌&&◌, ◌||◌, eqb, ltb, List, [], ◌∷◌, Option, None, Some, refl, sym, ap, subst, ◌∙◌, arith}
+use Rattle.std.proofs.Common.{◌≡◌, ℕ, ◌<◌, ◌≤◌, Bool, true, false, cond, not, ◌&&◌, ◌||◌, eqb, ltb, List, [], ◌∷◌, Option, None, Some, refl, sym, ap, subst, ◌∙◌, arith}
 use Rattle.std.specs.Prelude.{unwrap_or}
 use Rattle.std.proofs.lemmas.Bool.{ne_eqb, eqb-true, eqb-false}
 use Rattle.circus_exchange.specs.declared.progress.Progress.{Progress}
@@ -9,76 +9,17 @@ use Rattle.circus_exchange.specs.declared.taken.Arrived.{Arrived}
 use Rattle.circus_exchange.specs.declared.taken.Arrived.TheVariants.{Nothing, ArrivedCall, ArrivedReturn}
 use Rattle.circus_segment.specs.Segment.{Piece, IsSegment, is_acknowledgement, spelling}
 use Rattle.circus_exchange.specs.Inbox.{known, fits, completes, joined, data_with, is_new, count_with, acknowledged, acknowledgement, added}
-use Rattle.circus_exchange.specs.Exchange.{start, called, returned, takes, was_sent, let_go, lets_go, call_reached, return_reached, ended, return_added, after_taken, after, arrived_of_taken, arrived_after, ticked}
+use Rattle.circus_exchange.specs.Exchange.{start, called, returned, takes, was_sent, call_reached, return_reached, ended, return_added, after_taken, after, arrived_of_taken, arrived_after, ticked}
 use Rattle.circus_pair.specs.Taken.{is_of, total_in, count_in, has_arrived, message_in, IsTotal, MayFollow, AreTaken}
-use Rattle.circus_pair.specs.Acts.{Act, Call, Return, Came, Tick, Stop, Acts, none_yet, more, happens, end_after, with_taken, taken_by, IsAct, AreActs, arrival_by, acknowledged_by}
+use Rattle.circus_pair.specs.Acts.{Act, Came, Acts, none_yet, more, happens, end_after, with_taken, taken_by, IsAct, AreActs, arrival_by, acknowledged_by}
 use Rattle.circus_pair.proofs.Arrivals.{Keeps, told, keeps_nothing, keeps_other, keeps_more, completes_is, count_is, message_is}
+use Rattle.circus_pair.proofs.Taking.{by_segment, by_taken, call_acknowledged_leaves, return_acknowledged_leaves, call_segment_leaves, return_segment_leaves}
 
 -- what the boxes of arriving messages hold
 pub record Stands (ts : List Piece) (e : Exchange) : Type 0 where
   pub calls : Keeps 0 ts e.arriving_calls
   pub returns : Keeps 1 ts e.arriving_returns
   pub taken : AreTaken ts
-
--- ---- what a segment leaves in the boxes
-
-let_go_calls : (e : Exchange) → (let_go e).arriving_calls ≡ e.arriving_calls
-unfolding let_go
-let_go_calls e = elim (lets_go e e.in_flight) as (λ b. (cond b (record e { sent = e.sent + 1; in_flight = e.in_flight + 1 }) e).arriving_calls ≡ e.arriving_calls) [ true ↦ refl | false ↦ refl ]
-
-let_go_returns : (e : Exchange) → (let_go e).arriving_returns ≡ e.arriving_returns
-unfolding let_go
-let_go_returns e = elim (lets_go e e.in_flight) as (λ b. (cond b (record e { sent = e.sent + 1; in_flight = e.in_flight + 1 }) e).arriving_returns ≡ e.arriving_returns) [ true ↦ refl | false ↦ refl ]
-
-pub record Boxes (e : Exchange) (calls returns : Arriving) : Type 0 where
-  pub calls_are : e.arriving_calls ≡ calls
-  pub returns_are : e.arriving_returns ≡ returns
-
-boxes_cond : (b : Bool) (x y : Exchange) (calls returns : Arriving) → (b ≡ true → Boxes x calls returns) → (b ≡ false → Boxes y calls returns) → Boxes (cond b x y) calls returns
-boxes_cond true x y calls returns f g = f refl
-boxes_cond false x y calls returns f g = g refl
-
-let_go_boxes : (e : Exchange) (calls returns : Arriving) → Boxes e calls returns → Boxes (let_go e) calls returns
-let_go_boxes e calls returns b = record { calls_are = let_go_calls e ∙ b.calls_are; returns_are = let_go_returns e ∙ b.returns_are }
-
-reached_boxes : (e : Exchange) (call count : ℕ) → Boxes (call_reached e call count) e.arriving_calls e.arriving_returns
-unfolding call_reached
-reached_boxes e call count = record { calls_are = refl; returns_are = refl }
-
-return_reached_boxes : (e : Exchange) (call count : ℕ) → Boxes (return_reached e call count) e.arriving_calls e.arriving_returns
-unfolding return_reached
-return_reached_boxes e call count = record { calls_are = refl; returns_are = refl }
-
-return_added_boxes : (e : Exchange) (s : Piece) → Boxes (return_added e s) e.arriving_calls (added e.arriving_returns s)
-unfolding return_added ended call_reached
-return_added_boxes e s = record { calls_are = refl; returns_are = refl }
-
-quiet : (e : Exchange) (calls returns : Arriving) → Boxes e calls returns → Boxes (record e { ticks = 0 }) calls returns
-quiet e calls returns b = record { calls_are = b.calls_are; returns_are = b.returns_are }
-
-true_false : (b : Bool) → b ≡ true → b ≡ false → ⊥
-true_false b t f = cc
-
--- an acknowledgement changes neither box
-acknowledged_boxes : (e : Exchange) (s : Piece) → is_acknowledgement s ≡ true → Boxes (after_taken e s) e.arriving_calls e.arriving_returns
-unfolding after_taken
-acknowledged_boxes e s ack = quiet _ _ _ (boxes_cond (is_acknowledgement s) _ _ _ _
-    (λ yes_. boxes_cond (eqb s.kind 0) _ _ _ _ (λ call. let_go_boxes _ _ _ (reached_boxes e s.call s.number)) (λ return_. return_reached_boxes e s.call s.number))
-    (λ plain. absurd (true_false _ ack plain)))
-
--- a segment of a call is added to the calls
-call_boxes : (e : Exchange) (s : Piece) → is_acknowledgement s ≡ false → eqb s.kind 0 ≡ true → Boxes (after_taken e s) (added e.arriving_calls s) e.arriving_returns
-unfolding after_taken
-call_boxes e s plain call = quiet _ _ _ (boxes_cond (is_acknowledgement s) _ _ _ _
-    (λ ack. absurd (true_false _ ack plain))
-    (λ same. boxes_cond (eqb s.kind 0) _ _ _ _ (λ yes_. record { calls_are = refl; returns_are = refl }) (λ other. absurd (true_false _ call other))))
-
--- a segment of a return is added to the returns
-return_boxes : (e : Exchange) (s : Piece) → is_acknowledgement s ≡ false → eqb s.kind 0 ≡ false → Boxes (after_taken e s) e.arriving_calls (added e.arriving_returns s)
-unfolding after_taken
-return_boxes e s plain return_ = quiet _ _ _ (boxes_cond (is_acknowledgement s) _ _ _ _
-    (λ ack. absurd (true_false _ ack plain))
-    (λ same. boxes_cond (eqb s.kind 0) _ _ _ _ (λ call. absurd (true_false _ call return_)) (λ yes_. let_go_boxes _ _ _ (return_added_boxes e s))))
 
 -- ---- what may follow
 
@@ -157,35 +98,33 @@ acknowledges s kind ack call = ap (λ b. eqb s.kind kind && (eqb s.call call && 
 kept : (kind : ℕ) (ts : List Piece) (a b : Arriving) → a ≡ b → Keeps kind ts b → Keeps kind ts a
 kept kind ts a b same keeps = subst (λ x. Keeps kind ts x) (sym same) keeps
 
+stands_acknowledged : (ts : List Piece) (e f : Exchange) (s : Piece) → Stands ts e → MayFollow ts s → is_acknowledgement s ≡ true → f.arriving_calls ≡ e.arriving_calls → f.arriving_returns ≡ e.arriving_returns → Stands (s ∷ ts) f
+stands_acknowledged ts e f s stands may ack calls returns = record {
+  calls = kept 0 (s ∷ ts) _ _ calls (keeps_other s ts 0 e.arriving_calls (acknowledges s 0 ack) stands.calls);
+  returns = kept 1 (s ∷ ts) _ _ returns (keeps_other s ts 1 e.arriving_returns (acknowledges s 1 ack) stands.returns);
+  taken = (may, stands.taken);
+}
+
 stands_taken : (ts : List Piece) (e : Exchange) (s : Piece) → Stands ts e → IsSegment s → takes e s ≡ true → Stands (s ∷ ts) (after_taken e s)
+unfolding call_reached return_reached return_added ended
 stands_taken ts e s stands segment h =
     let may = may_follow ts e s stands segment h in
-    elim (is_acknowledgement s) as (λ b. is_acknowledgement s ≡ b → Stands (s ∷ ts) (after_taken e s)) [
-      | true ↦ λ ack. (let boxes = acknowledged_boxes e s ack in record {
-        calls = kept 0 (s ∷ ts) _ _ boxes.calls_are (keeps_other s ts 0 e.arriving_calls (acknowledges s 0 ack) stands.calls);
-        returns = kept 1 (s ∷ ts) _ _ boxes.returns_are (keeps_other s ts 1 e.arriving_returns (acknowledges s 1 ack) stands.returns);
-        taken = (may, stands.taken);
-      })
-      | false ↦ λ plain. elim (eqb s.kind 0) as (λ b. eqb s.kind 0 ≡ b → Stands (s ∷ ts) (after_taken e s)) [
-        | true ↦ λ call. (let boxes = call_boxes e s plain call in let zero_ : 0 ≡ s.kind = kind_call s call in record {
-          calls = kept 0 (s ∷ ts) _ _ boxes.calls_are (subst (λ k. Keeps k (s ∷ ts) (added e.arriving_calls s)) (sym zero_) (keeps_more s ts e.arriving_calls (subst (λ k. Keeps k ts e.arriving_calls) zero_ stands.calls) may plain));
-          returns = kept 1 (s ∷ ts) _ _ boxes.returns_are (keeps_other s ts 1 e.arriving_returns (other_kind s 1 (λ one. absurd (omega arith))) stands.returns);
-          taken = (may, stands.taken);
-        })
-        | false ↦ λ return_. (let boxes = return_boxes e s plain return_ in let one : 1 ≡ s.kind = kind_return s segment return_ in record {
-          calls = kept 0 (s ∷ ts) _ _ boxes.calls_are (keeps_other s ts 0 e.arriving_calls (other_kind s 0 (λ zero_. absurd (omega arith))) stands.calls);
-          returns = kept 1 (s ∷ ts) _ _ boxes.returns_are (subst (λ k. Keeps k (s ∷ ts) (added e.arriving_returns s)) (sym one) (keeps_more s ts e.arriving_returns (subst (λ k. Keeps k ts e.arriving_returns) one stands.returns) may plain));
-          taken = (may, stands.taken);
-        })
-      ] refl
-    ] refl
+    by_segment s _
+    (λ ack call. let same = call_acknowledged_leaves e s ack call in stands_acknowledged ts e _ s stands may ack same.arriving_calls same.arriving_returns)
+    (λ ack return_. let same = return_acknowledged_leaves e s ack return_ in stands_acknowledged ts e _ s stands may ack same.arriving_calls same.arriving_returns)
+    (λ plain call. let same = call_segment_leaves e s plain call in let zero_ : 0 ≡ s.kind = kind_call s call in record {
+      calls = kept 0 (s ∷ ts) _ _ same.arriving_calls (subst (λ k. Keeps k (s ∷ ts) (added e.arriving_calls s)) (sym zero_) (keeps_more s ts e.arriving_calls (subst (λ k. Keeps k ts e.arriving_calls) zero_ stands.calls) may plain));
+      returns = kept 1 (s ∷ ts) _ _ same.arriving_returns (keeps_other s ts 1 e.arriving_returns (other_kind s 1 (λ one. absurd (omega arith))) stands.returns);
+      taken = (may, stands.taken);
+    })
+    (λ plain return_. let same = return_segment_leaves e s plain return_ in let one : 1 ≡ s.kind = kind_return s segment return_ in record {
+      calls = kept 0 (s ∷ ts) _ _ same.arriving_calls (keeps_other s ts 0 e.arriving_calls (other_kind s 0 (λ zero_. absurd (omega arith))) stands.calls);
+      returns = kept 1 (s ∷ ts) _ _ same.arriving_returns (subst (λ k. Keeps k (s ∷ ts) (added e.arriving_returns s)) (sym one) (keeps_more s ts e.arriving_returns (subst (λ k. Keeps k ts e.arriving_returns) one stands.returns) may plain));
+      taken = (may, stands.taken);
+    })
 
 stands_came : (ts : List Piece) (e : Exchange) (s : Piece) → Stands ts e → IsSegment s → Stands (cond (takes e s) (s ∷ ts) ts) (after e s)
-stands_came ts e s stands segment =
-    elim (takes e s) as (λ b. takes e s ≡ b → Stands (cond b (s ∷ ts) ts) (cond b (after_taken e s) e)) [
-      | true ↦ λ h. stands_taken ts e s stands segment h
-      | false ↦ λ h. stands
-    ] refl
+stands_came ts e s stands segment = by_taken ts e s Stands (λ h. stands_taken ts e s stands segment h) stands
 
 same_boxes : (ts : List Piece) (e f : Exchange) → f.arriving_calls ≡ e.arriving_calls → f.arriving_returns ≡ e.arriving_returns → Stands ts e → Stands ts f
 same_boxes ts e f calls returns stands = record {
@@ -197,10 +136,7 @@ same_boxes ts e f calls returns stands = record {
 stands_act : (ts : List Piece) (e : Exchange) (act : Act) → Stands ts e → IsAct act → Stands (with_taken e act ts) (happens e act)
 unfolding called returned ticked
 stands_act ts e (Came s) stands is = stands_came ts e s stands is
-stands_act ts e (Call message) stands is = same_boxes ts e _ refl refl stands
-stands_act ts e (Return call message) stands is = same_boxes ts e _ refl refl stands
-stands_act ts e Tick stands is = same_boxes ts e _ refl refl stands
-stands_act ts e Stop stands is = same_boxes ts e _ refl refl stands
+stands_act ts e act stands is = same_boxes ts e _ refl refl stands
 
 -- after every list of acts
 pub stands_after : (number format : ℕ) (acts : Acts) → AreActs acts → Stands (taken_by (start number format) acts) (end_after (start number format) acts)

@@ -9,7 +9,7 @@ use Rattle.circus_exchange.specs.declared.exchange.Exchange.{Exchange}
 use Rattle.circus_segment.specs.Segment.{Piece}
 use Rattle.circus_exchange.specs.Exchange.{start, called, returned, takes, after_taken, is_waiting, ticked, is_suspect}
 use Rattle.circus_pair.specs.Taken.{has_arrived}
-use Rattle.circus_pair.specs.Acts.{Call, Return, Came, Tick, Stop, Acts, none_yet, more, end_after, taken_by}
+use Rattle.circus_pair.specs.Acts.{Call, Came, Tick, Acts, none_yet, more, end_after, taken_by}
 use Rattle.circus_pair.specs.Handed.{made, call_at, reached_in}
 use Rattle.circus_pair.specs.Lawful.{AreLawful}
 use Rattle.circus_pair.specs.Window.{count_below}
@@ -73,7 +73,6 @@ ticks_are first format (more acts (Call message)) lawful =
     turned (eqb (len e.calls.messages) 0) 0 e.ticks
     ∙ ap (λ w. cond w e.ticks 0) (waits_is first format acts lawful.0)
     ∙ ap (λ (n : ℕ). cond (waits_after b acts) n 0) (ticks_are first format acts lawful.0)
-ticks_are first format (more acts (Return call message)) lawful = ticks_are first format acts lawful.0
 ticks_are first format (more acts (Came s)) lawful =
     ticks_came (end_after (start first format) acts) s _ _ (taken_is first format acts s lawful.0 lawful.1) (ticks_are first format acts lawful.0)
 ticks_are first format (more acts Tick) lawful =
@@ -81,7 +80,7 @@ ticks_are first format (more acts Tick) lawful =
     let e = end_after b acts in
     ap (λ w. cond (w && ltb e.ticks 8) (e.ticks + 1) e.ticks) (waits_is first format acts lawful.0)
     ∙ ap (λ n. cond (waits_after b acts && ltb n 8) (n + 1) n) (ticks_are first format acts lawful.0)
-ticks_are first format (more acts Stop) lawful = ticks_are first format acts lawful.0
+ticks_are first format (more acts act) lawful = ticks_are first format acts lawful.0
 
 becomes_eight : (waits : Bool) (n : ℕ) → (waits && eqb (n + 1) 8) ≡ (ltb n 8 && eqb (cond (waits && ltb n 8) (n + 1) n) 8)
 becomes_eight waits n = elim (cases_lt n 8) [

@@ -5,14 +5,13 @@ use Rattle.circus_segment.specs.Segment.{Piece, IsSegment, reading}
 use Rattle.circus_segment.proofs.Spellings.{read_again}
 use Rattle.circus_exchange.specs.Exchange.{start, takes}
 use Rattle.circus_pair.specs.Taken.{has_arrived}
-use Rattle.circus_pair.specs.Acts.{Act, Call, Return, Came, Tick, Stop, Acts, none_yet, more, end_after, taken_by}
+use Rattle.circus_pair.specs.Acts.{Act, Return, Came, Acts, none_yet, more, end_after, taken_by}
 use Rattle.circus_pair.specs.Handed.{call_at, return_at}
 use Rattle.circus_pair.specs.Lawful.{AreLawful}
 use Rattle.circus_pair.specs.TwoEnds.{datagrams_by}
 use Rattle.circus_pair.specs.Saying.{IsSaid}
 use Rattle.circus_pair.proofs.Handing.{format_stays}
-use Rattle.circus_pair.proofs.Standing.{stands_after}
-use Rattle.circus_pair.proofs.Keeping.{lawful_acts, hands_lawful, kept_after}
+use Rattle.circus_pair.proofs.Keeping.{stands_lawful, hands_lawful, kept_after}
 use Rattle.circus_pair.proofs.Flowing.{flows_after}
 use Rattle.circus_pair.proofs.Each.{Each, each_at, each_cond}
 use Rattle.circus_pair.proofs.Sayings.{Tells}
@@ -21,23 +20,17 @@ use Rattle.circus_pair.proofs.Dialogue.{found}
 
 segments_taken : (first format : ℕ) (acts : Acts) → AreLawful first format acts → Each IsSegment (taken_by (start first format) acts)
 segments_taken first format none_yet lawful = tt
-segments_taken first format (more acts (Call message)) lawful = segments_taken first format acts lawful.0
-segments_taken first format (more acts (Return call message)) lawful = segments_taken first format acts lawful.0
 segments_taken first format (more acts (Came s)) lawful =
     let before = segments_taken first format acts lawful.0 in
     each_cond IsSegment (takes (end_after (start first format) acts) s) (s ∷ taken_by (start first format) acts) (taken_by (start first format) acts) (λ yes_. (lawful.1, before)) (λ no_. before)
-segments_taken first format (more acts Tick) lawful = segments_taken first format acts lawful.0
-segments_taken first format (more acts Stop) lawful = segments_taken first format acts lawful.0
+segments_taken first format (more acts act) lawful = segments_taken first format acts lawful.0
 
 number_fits : (ts : List Piece) (call : ℕ) → Each IsSegment ts → has_arrived ts 0 call ≡ true → call < 2 ^ 32
 number_fits ts call each h = (let f = found IsSegment ts 0 call each h in subst (λ n. n < 2 ^ 32) f.part.call_is f.is.call)
 
 may_do : (first format : ℕ) (acts : Acts) (act : Act) → AreLawful first format (more acts act) → MayDo first format acts (taken_by (start first format) acts) act
-may_do first format acts (Call message) lawful = lawful.1
 may_do first format acts (Return call message) lawful = (lawful.1.0, number_fits (taken_by (start first format) acts) call (segments_taken first format acts lawful.0) lawful.1.1, lawful.1.1, lawful.1.2)
-may_do first format acts (Came s) lawful = lawful.1
-may_do first format acts Tick lawful = lawful.1
-may_do first format acts Stop lawful = tt
+may_do first format acts act lawful = lawful.1
 
 none_handed : {X : Type 0} (m : X) → ◌≡◌ {A = Option X} None (Some m) → ⊥
 none_handed m h = cc
@@ -53,7 +46,7 @@ keeping_lawful first format acts known lawful = record {
   known = known;
   format_is = format_stays (start first format) acts;
   hands = hands_lawful first format acts lawful;
-  stands = stands_after first format acts (lawful_acts first format acts lawful);
+  stands = stands_lawful first format acts lawful;
   kept = kept_after first format acts lawful;
   unsaid = (flows_after first format acts lawful).unsaid;
   fine = fine_lawful first format acts lawful;

@@ -1,8 +1,7 @@
 use Rattle.circus_exchange.specs.Exchange.{start}
 use Rattle.circus_pair.proofs.Flowing.{flows_after}
 use Rattle.circus_pair.proofs.Handing.{format_stays, awaits_is}
-use Rattle.circus_pair.proofs.Keeping.{lawful_acts, hands_lawful}
-use Rattle.circus_pair.proofs.Standing.{stands_after}
+use Rattle.circus_pair.proofs.Keeping.{stands_lawful, hands_lawful}
 use Rattle.circus_pair.proofs.laws.ends_know_their_acts.Goals as goal
 
 pub returns-clause-format : goal.returns-clause-format
@@ -16,4 +15,4 @@ returns-clause-down c first format acts lawful = (flows_after first format acts 
 
 pub returns-clause-awaits : goal.returns-clause-awaits
 returns-clause-awaits c first format acts call lawful =
-    awaits_is first acts _ _ call (stands_after first format acts (lawful_acts first format acts lawful)) (hands_lawful first format acts lawful)
+    awaits_is first acts _ _ call (stands_lawful first format acts lawful) (hands_lawful first format acts lawful)
