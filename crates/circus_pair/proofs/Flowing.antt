@@ -1,7 +1,8 @@
 -- After every lawful list of acts the calls that were sent are those that the window let go.
 use Rattle.std.proofs.Common.{◌≡◌, ◌≢◌, ℕ, ◌+◌, ◌-◌, ◌<◌, ◌≤◌, ◌⊎◌, Bool, true, false, cond, not, ◌&&◌, ◌||◌, eqb, ltb, List, [], ◌∷◌, length, Option, None, Some, refl, sym, ap, subst, ◌∙◌, inl, inr, arith}
 use Rattle.std.specs.Prelude.{is_some, max}
-use Rattle.std.proofs.lemmas.Bool.{ne_eqb, eq-eqb, eqb-true, lt-ltb, le-ltb, ltb-true, cases_lt}
+use Rattle.std.proofs.Math.Bool.{and-false}
+use Rattle.std.proofs.lemmas.Bool.{and_parts, ne_eqb, eq-eqb, eqb-true, lt-ltb, le-ltb, ltb-true, cases_lt}
 use Rattle.std.proofs.lemmas.Bool.Decides.{eqb_tells}
 use Rattle.circus_exchange.specs.declared.progress.Progress.{Progress}
 use Rattle.circus_exchange.specs.declared.exchange.Exchange.{Exchange}
@@ -19,10 +20,10 @@ use Rattle.circus_pair.specs.Window.{is_all, call_is_whole, is_open, count_below
 use Rattle.circus_pair.specs.Sending.{is_sent}
 use Rattle.circus_pair.proofs.Arrivals.{total_other}
 use Rattle.circus_pair.proofs.Counting.{count_none, count_upto, count_alike, count_rises, count_passed, count_without}
-use Rattle.circus_pair.proofs.Handing.{Hands, told_out, first as left_of, second, chosen_true, chosen_false, says_elsewhere, says_no_call, says_here, says_whole, says_other_kind, call_kind, return_kind, total_told}
+use Rattle.circus_pair.proofs.Handing.{Hands, told_out, says_elsewhere, says_no_call, says_here, says_whole, says_other_kind, call_kind, return_kind, total_told}
 use Rattle.circus_pair.proofs.Keeping.{Kept, kept_after, IsWithin, becomes, call_total, kept_taken, stands_lawful, hands_lawful, segments_some, not_of}
 use Rattle.circus_pair.proofs.Standing.{Stands, may_follow, acknowledges, other_kind}
-use Rattle.circus_pair.proofs.Taking.{by_segment, by_taken, after_call_acknowledged, after_return_acknowledged, after_call_segment, after_return_segment}
+use Rattle.circus_pair.proofs.Taking.{takes_call_acknowledged, takes_return_segment, by_segment, by_taken, after_call_acknowledged, after_return_acknowledged, after_call_segment, after_return_segment}
 
 -- ---- which numbers calls have
 
@@ -68,14 +69,10 @@ whole_raised (Some m) c g count within below here =
 was_open : (o : Option (List ℕ)) (c : ℕ → ℕ) (count : ℕ) → whole_by (told_out o c) count ≡ true → (is_some o && not (is_all o c)) ≡ true
 was_open None c count h = absurd cc
 was_open (Some m) c count h =
-    let parts = both (ltb (c (segment_count m)) count) (eqb (segment_count m) count) h in
+    let parts = and_parts (ltb (c (segment_count m)) count) (eqb (segment_count m) count) h in
     let less : c (segment_count m) < count = ltb-true _ _ parts.0 in
     let last : segment_count m ≡ count = eqb-true _ _ parts.1 in
     ap not (ne_eqb (c (segment_count m)) (segment_count m) (λ e. absurd (omega arith)))
-  where
-    both : (a b : Bool) → (a && b) ≡ true → (a ≡ true) × (b ≡ true)
-    both true b h = (refl, h)
-    both false b h = absurd cc
 
 still_open : (o : Option (List ℕ)) (c g : ℕ → ℕ) → ((t : ℕ) → g t ≡ 0) → is_all o (λ t. max (g t) (c t)) ≡ is_all o c
 still_open None c g none = refl
@@ -161,11 +158,7 @@ moves_let_go first acts ts e flows within =
   where
     going : (down : Bool) (n a b : ℕ) → (not down && (ltb n 64 && ltb a b)) ≡ true → (down ≡ false) × (n < 64) × (a < b)
     going true n a b h = absurd cc
-    going false n a b h = (let parts = both (ltb n 64) (ltb a b) h in (refl, ltb-true n 64 parts.0, ltb-true a b parts.1))
-      where
-        both : (x y : Bool) → (x && y) ≡ true → (x ≡ true) × (y ≡ true)
-        both true y k = (refl, k)
-        both false y k = absurd cc
+    going false n a b h = (let parts = and_parts (ltb n 64) (ltb a b) h in (refl, ltb-true n 64 parts.0, ltb-true a b parts.1))
 
     staying : (down : Bool) (n a b : ℕ) → (not down && (ltb n 64 && ltb a b)) ≡ false → down ≡ false → a < b → 64 ≤ n
     staying true n a b h up waits = absurd cc
@@ -231,7 +224,7 @@ flows_reached first acts ts e f s count sent next flight stopped before within b
     = elim (whole_by (told_out o c) count) as (λ b. whole_by (told_out o c) count ≡ b → cond b (e.in_flight - 1) e.in_flight ≡ count_below (is_open first (more acts (Came s)) (s ∷ ts)) e.sent) [
       | true ↦ λ now. (
           let was : is_open first acts ts s.call ≡ true = was_open o c count now in
-          let is : is_open first (more acts (Came s)) (s ∷ ts) s.call ≡ false = ap (λ b. is_some o && not b) (whole ∙ ap (λ b. b || is_all o c) now) ∙ nothing (is_some o) in
+          let is : is_open first (more acts (Came s)) (s ∷ ts) s.call ≡ false = ap (λ b. is_some o && not b) (whole ∙ ap (λ b. b || is_all o c) now) ∙ and-false (is_some o) in
           let one_less : count_below (is_open first acts ts) e.sent ≡ count_below (is_open first (more acts (Came s)) (s ∷ ts)) e.sent + 1 = count_without _ _ s.call e.sent before was is elsewhere in
           let was_flight : e.in_flight ≡ count_below (is_open first acts ts) e.sent = flows.in_flight in
           omega arith)
@@ -252,10 +245,6 @@ flows_reached first acts ts e f s count sent next flight stopped before within b
       unreturned = λ call le. total_other s ts 1 call (not_of s call (ne_eqb call s.call (λ same. absurd (omega arith)))) ∙ flows.unreturned call (omega arith);
     }
   where
-    nothing : (b : Bool) → (b && false) ≡ false
-    nothing true = refl
-    nothing false = refl
-
     left : (b : Bool) (n : ℕ) → 64 ≤ n → 63 ≤ cond b (n - 1) n
     left true n h = omega arith
     left false n h = omega arith
@@ -275,15 +264,13 @@ true_false b t f = cc
 
 sent_already : (e : Exchange) (call : ℕ) → was_sent e call ≡ true → call < e.sent
 unfolding was_sent
-sent_already e call h = ltb-true call e.sent (left_of _ _ h)
+sent_already e call h = ltb-true call e.sent (and_parts (ltb call e.sent) _ h).0
 
 acknowledged_sent : (e : Exchange) (s : Piece) → takes e s ≡ true → is_acknowledgement s ≡ true → eqb s.kind 0 ≡ true → s.call < e.sent
-unfolding takes
-acknowledged_sent e s h ack call = sent_already e s.call (left_of _ _ (chosen_true (eqb s.kind 0) _ _ (chosen_true (is_acknowledgement s) _ _ (second (eqb s.format e.format) _ h) ack) call))
+acknowledged_sent e s h ack call = sent_already e s.call (takes_call_acknowledged e s h ack call).0
 
 returned_sent : (e : Exchange) (s : Piece) → takes e s ≡ true → is_acknowledgement s ≡ false → eqb s.kind 0 ≡ false → s.call < e.sent
-unfolding takes
-returned_sent e s h plain return_ = sent_already e s.call (left_of _ _ (chosen_false (eqb s.kind 0) _ _ (chosen_false (is_acknowledgement s) _ _ (second (eqb s.format e.format) _ h) plain) return_))
+returned_sent e s h plain return_ = sent_already e s.call (takes_return_segment e s h plain return_).0
 
 moves_call_acknowledged : (first : ℕ) (acts : Acts) (ts : List Piece) (e : Exchange) (s : Piece) → Hands first acts ts e → Stands ts e → Kept first acts ts e → Flows 64 first acts ts e → IsSegment s → takes e s ≡ true → is_acknowledgement s ≡ true → eqb s.kind 0 ≡ true → Moves first (more acts (Came s)) (s ∷ ts) e.sent (after_taken e s)
 unfolding call_reached
@@ -380,7 +367,7 @@ moves_called first acts ts e message hands flows full running =
     is_open_by o c = is_some o && not (is_all o c)
 
     going : (n a b : ℕ) → (ltb n 64 && eqb a b) ≡ true → (n < 64) × (a ≡ b)
-    going n a b h = (ltb-true n 64 (left_of (ltb n 64) (eqb a b) h), eqb-true a b (second (ltb n 64) (eqb a b) h))
+    going n a b h = let parts = and_parts (ltb n 64) (eqb a b) h in (ltb-true n 64 parts.0, eqb-true a b parts.1)
 
     staying : (n a b : ℕ) → (ltb n 64 && eqb a b) ≡ false → (a < b → 64 ≤ n) → a ≤ b → 64 ≤ n
     staying n a b h waits le = elim (cases_lt a b) [
@@ -461,11 +448,7 @@ sent_more first acts next ts sent f call was flows goes high grows is =
 -- after every lawful list of acts the calls below the first that waits were sent
 pub sent_after : (first format : ℕ) (acts : Acts) (call : ℕ) → AreLawful first format acts → sent_below (end_after (start first format) acts).sent first acts call ≡ is_sent (start first format) acts call
 unfolding is_sent call_at
-sent_after first format none_yet call lawful = nothing (ltb call first)
-  where
-    nothing : (b : Bool) → (b && false) ≡ false
-    nothing true = refl
-    nothing false = refl
+sent_after first format none_yet call lawful = and-false (ltb call first)
 sent_after first format (more acts act) call lawful =
     let flows = flows_after first format acts lawful.0 in
     let moves = moves_act first format acts act lawful flows in

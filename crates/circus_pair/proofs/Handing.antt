@@ -4,7 +4,7 @@ use Rattle.std.specs.Prelude.{is_some, max, unwrap_or}
 use Rattle.std.specs.Cmp.{nat_cmp_total}
 use Rattle.std.specs.Ordering.{nat_cmp}
 use Rattle.std.specs.FinMap.{FinMap, get, insert, get-empty, get-insert}
-use Rattle.std.proofs.lemmas.Bool.{ne_eqb, eqb-true, eqb-false, ltb-false, ltb-true}
+use Rattle.std.proofs.lemmas.Bool.{and_parts, ne_eqb, eqb-true, ltb-false, ltb-true}
 use Rattle.std.proofs.lemmas.Bool.Decides.{eqb_tells}
 use Rattle.circus_exchange.specs.declared.progress.Progress.{Progress}
 use Rattle.circus_exchange.specs.Outbox.{HandedOver}
@@ -22,7 +22,7 @@ use Rattle.circus_pair.specs.Taken.{count_in, is_reached, has_arrived}
 use Rattle.circus_pair.proofs.Arrivals.{Keeps, told}
 use Rattle.circus_pair.proofs.Lasting.{lasts_called, lasts_returned, lasts_after, lasts_ticked}
 use Rattle.circus_pair.proofs.Standing.{Stands, stands_after}
-use Rattle.circus_pair.proofs.Taking.{Same, by_segment, by_taken, call_acknowledged_leaves, return_acknowledged_leaves, call_segment_leaves, return_segment_leaves, taken_lasts}
+use Rattle.circus_pair.proofs.Taking.{return_is, takes_call_acknowledged, takes_return_acknowledged, takes_return_segment, Same, by_segment, by_taken, call_acknowledged_leaves, return_acknowledged_leaves, call_segment_leaves, return_segment_leaves, taken_lasts}
 use Rattle.circus_exchange.proofs.Ties.{equal, nat_ties}
 
 -- ---- what an act leaves in the tables of what was handed over
@@ -132,22 +132,6 @@ stays o c g progress knows none q = knows q ∙ told_same (o q) (c q) (g q) (non
 
 -- ---- takes, by the tables
 
-pub second : (a b : Bool) → (a && b) ≡ true → b ≡ true
-second true b h = h
-second false b h = absurd cc
-
-pub first : (a b : Bool) → (a && b) ≡ true → a ≡ true
-first true b h = refl
-first false b h = absurd cc
-
-pub chosen_true : (b : Bool) (x y : Bool) → cond b x y ≡ true → b ≡ true → x ≡ true
-chosen_true true x y h e = h
-chosen_true false x y h e = absurd cc
-
-pub chosen_false : (b : Bool) (x y : Bool) → cond b x y ≡ true → b ≡ false → y ≡ true
-chosen_false true x y h e = absurd cc
-chosen_false false x y h e = h
-
 known_total : (o : Option Progress) (t : ℕ) → has_total o t ≡ true → o ≡ None → ⊥
 known_total None t h e = absurd cc
 known_total (Some p) t h e = cc
@@ -157,19 +141,16 @@ known_some None h e = absurd cc
 known_some (Some p) h e = cc
 
 taken_call_acknowledged : (e : Exchange) (s : Piece) → takes e s ≡ true → is_acknowledgement s ≡ true → eqb s.kind 0 ≡ true → get e.calls.progress s.call ≡ None → ⊥
-unfolding takes was_sent agrees
-taken_call_acknowledged e s h ack call none =
-    known_total _ s.total (second _ _ (chosen_true (eqb s.kind 0) _ _ (chosen_true (is_acknowledgement s) _ _ (second (eqb s.format e.format) _ h) ack) call)) none
+unfolding agrees
+taken_call_acknowledged e s h ack call none = known_total _ s.total (takes_call_acknowledged e s h ack call).1 none
 
 taken_return_acknowledged : (e : Exchange) (s : Piece) → takes e s ≡ true → is_acknowledgement s ≡ true → eqb s.kind 0 ≡ false → get e.returns.progress s.call ≡ None → ⊥
-unfolding takes agrees
-taken_return_acknowledged e s h ack return_ none =
-    known_total _ s.total (chosen_false (eqb s.kind 0) _ _ (chosen_true (is_acknowledgement s) _ _ (second (eqb s.format e.format) _ h) ack) return_) none
+unfolding agrees
+taken_return_acknowledged e s h ack return_ none = known_total _ s.total (takes_return_acknowledged e s h ack return_) none
 
 pub taken_return : (e : Exchange) (s : Piece) → takes e s ≡ true → is_acknowledgement s ≡ false → eqb s.kind 0 ≡ false → get e.calls.progress s.call ≡ None → ⊥
-unfolding takes was_sent
-taken_return e s h plain return_ none =
-    known_some _ (second _ _ (first _ _ (chosen_false (eqb s.kind 0) _ _ (chosen_false (is_acknowledgement s) _ _ (second (eqb s.format e.format) _ h) plain) return_))) none
+unfolding was_sent
+taken_return e s h plain return_ none = known_some _ (and_parts (ltb s.call e.sent) _ (takes_return_segment e s h plain return_).0).1 none
 
 pub says_elsewhere : (s : Piece) (kind call total : ℕ) → eqb call s.call ≡ false → says s kind call total ≡ 0
 says_elsewhere s kind call total other =
@@ -207,7 +188,7 @@ pub call_kind : (s : Piece) → eqb s.kind 0 ≡ true → eqb s.kind 1 ≡ false
 call_kind s h = ap (λ k. eqb k 1) (eqb-true s.kind 0 h)
 
 pub return_kind : (s : Piece) → IsSegment s → eqb s.kind 0 ≡ false → eqb s.kind 1 ≡ true
-return_kind s segment h = (let le : s.kind ≤ 1 = segment.kind in let ne : s.kind ≡ 0 → ⊥ = eqb-false s.kind 0 h in let one : s.kind ≡ 1 = omega arith in ap (λ k. eqb k 1) one)
+return_kind s segment h = ap (λ k. eqb k 1) (return_is s segment h)
 
 zero_max : (a b : ℕ) → a ≡ 0 → b ≡ 0 → max a b ≡ 0
 zero_max a b x y = omega arith
@@ -291,7 +272,7 @@ call_told : (b : Bool) (o : Option (List ℕ)) (c : ℕ → ℕ) (message : List
 call_told true o c message h = ap (λ (n : ℕ). Some (record { total = segment_count message; count = n })) (sym (h refl (segment_count message)))
 call_told false o c message h = refl
 
-not_some : (b : Bool) (message : List ℕ) (o : Option (List ℕ)) → cond b (Some message) o ≡ None → o ≡ None
+pub not_some : (b : Bool) (message : List ℕ) (o : Option (List ℕ)) → cond b (Some message) o ≡ None → o ≡ None
 not_some true message o h = absurd cc
 not_some false message o h = h
 
@@ -406,7 +387,7 @@ taken_is first format acts ts e s same hands stands segment =
     let plain : cond (eqb s.kind 0) (fits e.arriving_calls s) (was_sent e s.call && fits e.arriving_returns s) ≡ cond (eqb s.kind 0) (fits_with (total_in ts s.kind s.call) s.total) (sent_below e.sent first acts s.call && fits_with (total_in ts s.kind s.call) s.total)
     = by_kind s.kind _ _ _ _
     (λ call. box_fits 0 ts s e.arriving_calls stands.calls ∙ ap (λ k. fits_with (total_in ts k s.call) s.total) (sym (eqb-true s.kind 0 call)))
-    (λ return_. ap (λ b. b && fits e.arriving_returns s) (sent_is first acts ts e s.call hands) ∙ ap (λ b. sent_below e.sent first acts s.call && b) (box_fits 1 ts s e.arriving_returns stands.returns ∙ ap (λ k. fits_with (total_in ts k s.call) s.total) (sym (eqb-true s.kind 1 (return_kind s segment return_))))) in
+    (λ return_. ap (λ b. b && fits e.arriving_returns s) (sent_is first acts ts e s.call hands) ∙ ap (λ b. sent_below e.sent first acts s.call && b) (box_fits 1 ts s e.arriving_returns stands.returns ∙ ap (λ k. fits_with (total_in ts k s.call) s.total) (sym (return_is s segment return_)))) in
     ap (λ f. eqb s.format f && cond (is_acknowledgement s) (cond (eqb s.kind 0) (was_sent e s.call && has_total (get e.calls.progress s.call) s.total) (has_total (get e.returns.progress s.call) s.total)) (cond (eqb s.kind 0) (fits e.arriving_calls s) (was_sent e s.call && fits e.arriving_returns s))) same
     ∙ ap (λ b. eqb s.format format && cond (is_acknowledgement s) b (cond (eqb s.kind 0) (fits e.arriving_calls s) (was_sent e s.call && fits e.arriving_returns s))) acknowledged
     ∙ ap (λ b. eqb s.format format && cond (is_acknowledgement s) (cond (eqb s.kind 0) (sent_below e.sent first acts s.call && agrees_with (call_at first acts s.call) s.total) (agrees_with (return_at acts s.call) s.total)) b) plain

@@ -4,6 +4,7 @@ use Rattle.std.specs.Prelude.{is_some, max}
 use Rattle.std.specs.Cmp.{nat_cmp_total}
 use Rattle.std.specs.Ordering.{nat_cmp}
 use Rattle.std.specs.FinMap.{FinMap, get, insert, remove, get-empty, get-insert, get-remove}
+use Rattle.std.proofs.Math.Bool.{and-false}
 use Rattle.std.proofs.lemmas.Bool.{ne_eqb, eq-eqb, eqb-true, lt-ltb}
 use Rattle.std.proofs.lemmas.Bool.Decides.{eqb_tells}
 use Rattle.circus_exchange.specs.declared.progress.Progress.{Progress}
@@ -19,9 +20,9 @@ use Rattle.circus_pair.specs.Acts.{Call, Return, Came, Tick, Stop, Acts, none_ye
 use Rattle.circus_pair.specs.Handed.{made, call_at, return_at, says, reached_in, agrees_with, ReturnsOnce}
 use Rattle.circus_pair.specs.Lawful.{AreLawful}
 use Rattle.circus_pair.proofs.Arrivals.{Keeps, completes_is, arrived_stays, arrived_other, total_other}
-use Rattle.circus_pair.proofs.Handing.{Hands, hands_after, told_out, second, chosen_true, chosen_false, says_elsewhere, says_other_kind, says_no_return, says_no_call, says_here, says_whole, call_kind, return_kind, total_told, total_agrees, taken_return}
+use Rattle.circus_pair.proofs.Handing.{Hands, hands_after, told_out, not_some, says_elsewhere, says_other_kind, says_no_return, says_no_call, says_here, says_whole, call_kind, return_kind, total_told, total_agrees, taken_return}
 use Rattle.circus_pair.proofs.Standing.{Stands, stands_after, may_follow, acknowledges, other_kind}
-use Rattle.circus_pair.proofs.Taking.{Same, by_segment, by_taken, call_acknowledged_leaves, return_acknowledged_leaves, call_segment_leaves, return_segment_leaves}
+use Rattle.circus_pair.proofs.Taking.{return_is, takes_call_acknowledged, takes_return_acknowledged, Same, by_segment, by_taken, call_acknowledged_leaves, return_acknowledged_leaves, call_segment_leaves, return_segment_leaves}
 use Rattle.circus_exchange.proofs.Ties.{equal, nat_ties}
 
 -- ---- lawful acts
@@ -246,18 +247,18 @@ agreed : (o : Option (List ℕ)) (total : ℕ) (message : List ℕ) → agrees_w
 agreed o total message h is = eqb-true (segment_count message) total (ap (λ x. agrees_with x total) (sym is) ∙ h)
 
 pub call_total : (first : ℕ) (acts : Acts) (ts : List Piece) (e : Exchange) (s : Piece) (message : List ℕ) → Hands first acts ts e → takes e s ≡ true → is_acknowledgement s ≡ true → eqb s.kind 0 ≡ true → call_at first acts s.call ≡ Some message → segment_count message ≡ s.total
-unfolding takes agrees
+unfolding agrees
 call_total first acts ts e s message hands h ack call is =
     agreed (call_at first acts s.call) s.total message
     (sym (ap (λ (o : Option Progress). has_total o s.total) (hands.calls s.call) ∙ total_agrees (call_at first acts s.call) _ s.total)
-    ∙ second _ _ (chosen_true (eqb s.kind 0) _ _ (chosen_true (is_acknowledgement s) _ _ (second (eqb s.format e.format) _ h) ack) call)) is
+    ∙ (takes_call_acknowledged e s h ack call).1) is
 
 return_total : (first : ℕ) (acts : Acts) (ts : List Piece) (e : Exchange) (s : Piece) (message : List ℕ) → Hands first acts ts e → takes e s ≡ true → is_acknowledgement s ≡ true → eqb s.kind 0 ≡ false → return_at acts s.call ≡ Some message → segment_count message ≡ s.total
-unfolding takes agrees
+unfolding agrees
 return_total first acts ts e s message hands h ack return_ is =
     agreed (return_at acts s.call) s.total message
     (sym (ap (λ (o : Option Progress). has_total o s.total) (hands.returns s.call) ∙ total_agrees (return_at acts s.call) _ s.total)
-    ∙ chosen_false (eqb s.kind 0) _ _ (chosen_true (is_acknowledgement s) _ _ (second (eqb s.format e.format) _ h) ack) return_) is
+    ∙ takes_return_acknowledged e s h ack return_) is
 
 -- what a segment says of a message is within it
 says_within : (s : Piece) (kind : ℕ) (o : ℕ → Option (List ℕ)) (count : ℕ) → ((message : List ℕ) → o s.call ≡ Some message → says s kind s.call (segment_count message) ≤ segment_count message) → (q : ℕ) (message : List ℕ) → o q ≡ Some message → says s kind q (segment_count message) ≤ segment_count message
@@ -289,12 +290,8 @@ finished_here (Some m) c false false stays = refl
 pub not_of : (s : Piece) (q : ℕ) → eqb q s.call ≡ false → is_of 1 q s ≡ false
 not_of s q other = elim (eqb_tells s.call q) [
   | inl same ↦ absurd (let no_ : false ≡ true = sym other ∙ eq-eqb q s.call (sym same.1) in cc)
-  | inr differ ↦ ap (λ b. eqb s.kind 1 && (b && not (is_acknowledgement s))) differ.0 ∙ none (eqb s.kind 1)
+  | inr differ ↦ ap (λ b. eqb s.kind 1 && (b && not (is_acknowledgement s))) differ.0 ∙ and-false (eqb s.kind 1)
 ]
-  where
-    none : (b : Bool) → (b && (false && not (is_acknowledgement s))) ≡ false
-    none true = refl
-    none false = refl
 
 calls_finished : (s : Piece) (ts : List Piece) (o : ℕ → Option (List ℕ)) (c : ℕ → ℕ → ℕ) (messages : FinMap nat_cmp (List ℕ)) (complete : Bool) → complete ≡ (has_arrived (s ∷ ts) 1 s.call && not (has_arrived ts 1 s.call)) → (has_arrived ts 1 s.call ≡ true → has_arrived (s ∷ ts) 1 s.call ≡ true) → ((q : ℕ) → get messages q ≡ kept_call (o q) (c q) (has_arrived ts 1 q)) → (q : ℕ) → get (cond complete (remove messages s.call) messages) q ≡ kept_call (o q) (c q) (has_arrived (s ∷ ts) 1 q)
 calls_finished s ts o c messages complete is stays knows q =
@@ -370,7 +367,7 @@ kept_return_segment first acts ts e s hands stands kept segment h plain return_ 
     let t = letters_same _ _ _ _ (return_segment_leaves e s plain return_) (return_added_letters e s) in
     let may = may_follow ts e s stands segment h in
     let one : eqb s.kind 1 ≡ true = return_kind s segment return_ in
-    let kind : s.kind ≡ 1 = eqb-true s.kind 1 one in
+    let kind = return_is s segment return_ in
     let of_returns : (q n : ℕ) → says s 1 q n ≡ 0 = λ q n. says_no_return s q n plain in
     let here : (m : List ℕ) → call_at first acts s.call ≡ Some m → says s 0 s.call (segment_count m) ≡ total_of e s.call = λ m is. says_whole s (segment_count m) plain one ∙ sym (total_told first acts ts e s.call m hands is) in
     let below : (m : List ℕ) → call_at first acts s.call ≡ Some m → total_of e s.call ≤ segment_count m = λ m is. (let total : total_of e s.call ≡ segment_count m = total_told first acts ts e s.call m hands is in omega arith) in
@@ -426,10 +423,6 @@ return_put true o c message some new = (let z : c (segment_count message) ≡ 0 
 within_put : (b : Bool) (o : Option (List ℕ)) (c : ℕ → ℕ) (message : List ℕ) → 0 < segment_count message → (b ≡ true → c (segment_count message) ≡ 0) → IsWithin o c → IsWithin (cond b (Some message) o) c
 within_put false o c message some new within = within
 within_put true o c message some new within = (let z : c (segment_count message) ≡ 0 = new refl in (some, omega arith))
-
-not_some : (b : Bool) (message : List ℕ) (o : Option (List ℕ)) → cond b (Some message) o ≡ None → o ≡ None
-not_some true message o h = absurd cc
-not_some false message o h = h
 
 kept_called : (first : ℕ) (acts : Acts) (ts : List Piece) (e : Exchange) (message : List ℕ) → Hands first acts ts e → Kept first acts ts e → 0 < length message → Kept first (more acts (Call message)) ts (called e message)
 unfolding call_at return_at called handed

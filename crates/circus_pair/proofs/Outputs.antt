@@ -3,7 +3,7 @@ use Rattle.std.proofs.Common.{◌≡◌, ◌≢◌, ℕ, ◌+◌, ◌^◌, ◌<�
 use Rattle.std.specs.Prelude.{is_some, flat_map}
 use Rattle.std.specs.FinMap.{get, entries}
 use Rattle.std.proofs.lemmas.List.{append-nil}
-use Rattle.std.proofs.lemmas.Bool.{ne_eqb, eq-eqb, eqb-true, lt-ltb, le-ltb, cases_lt}
+use Rattle.std.proofs.lemmas.Bool.{and_parts, ne_eqb, eq-eqb, eqb-true, lt-ltb, le-ltb, cases_lt}
 use Rattle.std.proofs.lemmas.Bool.Decides.{eqb_tells}
 use Rattle.circus_exchange.specs.declared.progress.Progress.{Progress}
 use Rattle.circus_exchange.specs.Outbox.{HandedOver}
@@ -20,11 +20,11 @@ use Rattle.circus_pair.specs.Lawful.{AreLawful, is_stopped_after}
 use Rattle.circus_pair.specs.Window.{is_all, call_is_whole, return_is_whole}
 use Rattle.circus_pair.specs.Sending.{is_sent, takes_after, in_order, whole_call, let_go_by, first_open, call_again, return_again, again_after, outputs}
 use Rattle.circus_pair.proofs.Flowing.{Flows, flows_after, call_made, made_call, sent_after}
-use Rattle.circus_pair.proofs.Handing.{taken_after, told_out, format_stays, return_kind, second}
+use Rattle.circus_pair.proofs.Handing.{taken_after, told_out, format_stays}
 use Rattle.circus_pair.proofs.Keeping.{kept_after, kept_call, kept_return, IsWithin, none_arrived, lawful_acts, lawful_once, stands_lawful, hands_lawful}
 use Rattle.circus_pair.proofs.Orders.{order_none, order_alike, order_upto, order_one, found, map_in_order}
 use Rattle.circus_pair.proofs.Standing.{call_acknowledged, return_acknowledged}
-use Rattle.circus_pair.proofs.Taking.{after_call_acknowledged, after_return_acknowledged, after_call_segment, after_return_segment}
+use Rattle.circus_pair.proofs.Taking.{return_is, after_call_acknowledged, after_return_acknowledged, after_call_segment, after_return_segment}
 
 -- ---- which calls an act sends
 
@@ -95,7 +95,7 @@ format_is first format acts = format_stays (start first format) acts
 at_once : (first : ℕ) (acts : Acts) (ts : List Piece) (e : Exchange) (message : List ℕ) → Flows 64 first acts ts e → sends_at_once e ≡ true → (e.sent ≡ e.next) × (call_at first (more acts (Call message)) e.sent ≡ Some message)
 unfolding call_at sends_at_once
 at_once first acts ts e message flows once =
-    let same : e.sent ≡ e.next = eqb-true e.sent e.next (second (ltb e.in_flight 64) (eqb e.sent e.next) once) in
+    let same : e.sent ≡ e.next = eqb-true e.sent e.next (and_parts (ltb e.in_flight 64) (eqb e.sent e.next) once).1 in
     let next : e.next ≡ first + made acts = flows.next in
     (same, ap (λ b. cond b (Some message) (call_at first acts e.sent)) (eq-eqb e.sent (first + made acts) (omega arith)))
 
@@ -197,7 +197,7 @@ taken_sends first format acts s lawful h =
             ∙ sym (append-nil _)
             ∙ ap (λ d. acknowledged_by (is_stopped_after acts) ts s ++ d) (sym (out false (sent_call_segment e s plain call)))
         | false ↦ λ return_.
-            ap (λ d. d ++ datagrams_let_go e (in_flight_after e s.call (total_of e s.call))) (answered _ (return_acknowledged ts e s stands lawful.1 h plain (eqb-true s.kind 1 (return_kind s lawful.1 return_))))
+            ap (λ d. d ++ datagrams_let_go e (in_flight_after e s.call (total_of e s.call))) (answered _ (return_acknowledged ts e s stands lawful.1 h plain (return_is s lawful.1 return_)))
             ∙ ap (λ d. acknowledged_by (is_stopped_after acts) ts s ++ d) (waiting first format acts (in_flight_after e s.call (total_of e s.call)) lawful.0 ∙ sym (out (lets_go e (in_flight_after e s.call (total_of e s.call))) (sent_return_segment e s plain return_)))
       ] refl
     ] refl

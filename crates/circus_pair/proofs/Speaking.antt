@@ -1,7 +1,7 @@
 -- Each act sends what an end may say.
-use Rattle.std.proofs.Common.{◌≡◌, ℕ, ◌+◌, ◌^◌, ◌<◌, ◌≤◌, ◌⊎◌, Bool, true, false, cond, ◌&&◌, eqb, ltb, List, [], ◌∷◌, Option, None, Some, refl, sym, ap, subst, ◌∙◌, arith}
+use Rattle.std.proofs.Common.{◌≡◌, ℕ, ◌+◌, ◌^◌, ◌<◌, ◌≤◌, ◌⊎◌, Bool, true, false, cond, eqb, ltb, List, [], ◌∷◌, Option, None, Some, refl, sym, ap, subst, ◌∙◌, arith}
 use Rattle.std.specs.FinMap.{get, entries}
-use Rattle.std.proofs.lemmas.Bool.{eqb-true, eqb-false, ltb-true, eq-eqb}
+use Rattle.std.proofs.lemmas.Bool.{eqb-true, ltb-true, eq-eqb}
 use Rattle.circus_exchange.specs.declared.progress.Progress.{Progress}
 use Rattle.circus_exchange.specs.declared.exchange.Exchange.{Exchange}
 use Rattle.circus_segment.specs.Segment.{Piece, IsSegment, is_acknowledgement, spelling, most_segments}
@@ -20,6 +20,7 @@ use Rattle.circus_pair.proofs.Growing.{Grows, IsFirst, grows_act, arrived_grows,
 use Rattle.circus_pair.proofs.Keeping.{Kept, call_kept_is, return_kept_is}
 use Rattle.circus_pair.proofs.Each.{Each, each_append, each_map, each_cond, each_flat, each_entry}
 use Rattle.circus_pair.proofs.Sayings.{Tells, MaySay, says_part, says_probe, says_whole, tells_later, most_bound, good_number}
+use Rattle.circus_pair.proofs.Taking.{return_is, takes_format}
 
 -- each message that was handed over can be sent
 pub record Fine (first format : ℕ) (acts : Acts) (ts : List Piece) : Type 0 where
@@ -158,29 +159,18 @@ says_acknowledged first format acts ts is_down s same segment may plain =
 
 -- ---- what was taken
 
-format_taken : (e : Exchange) (s : Piece) (format : ℕ) → e.format ≡ format → takes e s ≡ true → s.format ≡ format
-unfolding takes
-format_taken e s format same h = eqb-true s.format e.format (front_true (eqb s.format e.format) _ h) ∙ same
-  where
-    front_true : (a b : Bool) → (a && b) ≡ true → a ≡ true
-    front_true true b k = refl
-    front_true false b k = absurd cc
-
-return_kind : (s : Piece) → IsSegment s → eqb s.kind 0 ≡ false → s.kind ≡ 1
-return_kind s segment h = (let le : s.kind ≤ 1 = segment.kind in let ne : s.kind ≡ 0 → ⊥ = eqb-false s.kind 0 h in omega arith)
-
 says_taken : (first format : ℕ) (acts : Acts) (ts : List Piece) (e : Exchange) (s : Piece) → Keeping first format acts ts e → IsSegment s → takes e s ≡ true → Grows first acts (more acts (Came s)) ts (s ∷ ts) → Each (Tells first format (more acts (Came s)) (s ∷ ts)) (datagrams_of_taken e s)
 unfolding datagrams_of_taken
 says_taken first format acts ts e s k segment h grows =
     let let_go : (n : ℕ) → Each (Tells first format (more acts (Came s)) (s ∷ ts)) (datagrams_let_go e n) = λ n. each_map _ _ (datagrams_let_go e n) (λ bytes. tells_later first format acts (more acts (Came s)) ts (s ∷ ts) bytes grows) (says_let_go first format acts ts e n k) in
     let may = may_follow ts e s k.stands segment h in
-    let same : s.format ≡ format = format_taken e s format k.format_is h in
+    let same : s.format ≡ format = takes_format e s h ∙ k.format_is in
     each_cond _ (is_acknowledgement s) _ _
     (λ ack. each_cond _ (eqb s.kind 0) _ _ (λ call. let_go (in_flight_after e s.call s.number)) (λ return_. tt))
     (λ plain. each_cond _ (eqb s.kind 0) _ _
     (λ call. subst (Each (Tells first format (more acts (Came s)) (s ∷ ts))) (sym (call_acknowledged ts e s k.stands segment h plain (eqb-true s.kind 0 call))) (says_acknowledged first format (more acts (Came s)) ts e.stopped s same segment may plain))
     (λ return_. each_append _ _ _
-    (subst (Each (Tells first format (more acts (Came s)) (s ∷ ts))) (sym (return_acknowledged ts e s k.stands segment h plain (return_kind s segment return_))) (says_acknowledged first format (more acts (Came s)) ts e.stopped s same segment may plain))
+    (subst (Each (Tells first format (more acts (Came s)) (s ∷ ts))) (sym (return_acknowledged ts e s k.stands segment h plain (return_is s segment return_))) (says_acknowledged first format (more acts (Came s)) ts e.stopped s same segment may plain))
     (let_go (in_flight_after e s.call (total_of e s.call)))))
 
 says_after : (first format : ℕ) (acts : Acts) (ts : List Piece) (e : Exchange) (s : Piece) → Keeping first format acts ts e → IsSegment s → Grows first acts (more acts (Came s)) ts (cond (takes e s) (s ∷ ts) ts) → Each (Tells first format (more acts (Came s)) (cond (takes e s) (s ∷ ts) ts)) (datagrams_after e s)

@@ -1,7 +1,7 @@
 -- After every list of acts an end keeps what the segments say that it took.
 use Rattle.std.proofs.Common.{◌≡◌, ℕ, ◌<◌, ◌≤◌, Bool, true, false, cond, not, ◌&&◌, ◌||◌, eqb, ltb, List, [], ◌∷◌, Option, None, Some, refl, sym, ap, subst, ◌∙◌, arith}
 use Rattle.std.specs.Prelude.{unwrap_or}
-use Rattle.std.proofs.lemmas.Bool.{ne_eqb, eqb-true, eqb-false}
+use Rattle.std.proofs.lemmas.Bool.{and_parts, ne_eqb, eqb-true}
 use Rattle.circus_exchange.specs.declared.progress.Progress.{Progress}
 use Rattle.circus_exchange.specs.Inbox.{Arriving}
 use Rattle.circus_exchange.specs.declared.exchange.Exchange.{Exchange}
@@ -9,11 +9,11 @@ use Rattle.circus_exchange.specs.declared.taken.Arrived.{Arrived}
 use Rattle.circus_exchange.specs.declared.taken.Arrived.TheVariants.{Nothing, ArrivedCall, ArrivedReturn}
 use Rattle.circus_segment.specs.Segment.{Piece, IsSegment, is_acknowledgement, spelling}
 use Rattle.circus_exchange.specs.Inbox.{known, fits, completes, joined, data_with, is_new, count_with, acknowledged, acknowledgement, added}
-use Rattle.circus_exchange.specs.Exchange.{start, called, returned, takes, was_sent, call_reached, return_reached, ended, return_added, after_taken, after, arrived_of_taken, arrived_after, ticked}
+use Rattle.circus_exchange.specs.Exchange.{start, called, returned, takes, call_reached, return_reached, ended, return_added, after_taken, after, arrived_of_taken, arrived_after, ticked}
 use Rattle.circus_pair.specs.Taken.{is_of, total_in, count_in, has_arrived, message_in, IsTotal, MayFollow, AreTaken}
 use Rattle.circus_pair.specs.Acts.{Act, Came, Acts, none_yet, more, happens, end_after, with_taken, taken_by, IsAct, AreActs, arrival_by, acknowledged_by}
 use Rattle.circus_pair.proofs.Arrivals.{Keeps, told, keeps_nothing, keeps_other, keeps_more, completes_is, count_is, message_is}
-use Rattle.circus_pair.proofs.Taking.{by_segment, by_taken, call_acknowledged_leaves, return_acknowledged_leaves, call_segment_leaves, return_segment_leaves}
+use Rattle.circus_pair.proofs.Taking.{return_is, takes_call_segment, takes_return_segment, by_segment, by_taken, call_acknowledged_leaves, return_acknowledged_leaves, call_segment_leaves, return_segment_leaves}
 
 -- what the boxes of arriving messages hold
 pub record Stands (ts : List Piece) (e : Exchange) : Type 0 where
@@ -36,31 +36,8 @@ fit_total kind ts s box keeps h =
     told_total (total_in ts kind s.call) (count_in ts kind s.call) s.total
     (subst (λ (o : Option Progress). eqb (unwrap_or {T = Progress} o (record { total = s.total; count = 0 })).total s.total ≡ true) (keeps.progress s.call) h)
 
-second : (a b : Bool) → (a && b) ≡ true → b ≡ true
-second true b h = h
-second false b h = absurd cc
-
-chosen_true : (b : Bool) (x y : Bool) → cond b x y ≡ true → b ≡ true → x ≡ true
-chosen_true true x y h e = h
-chosen_true false x y h e = absurd cc
-
-chosen_false : (b : Bool) (x y : Bool) → cond b x y ≡ true → b ≡ false → y ≡ true
-chosen_false true x y h e = absurd cc
-chosen_false false x y h e = h
-
-call_fits : (e : Exchange) (s : Piece) → takes e s ≡ true → is_acknowledgement s ≡ false → eqb s.kind 0 ≡ true → fits e.arriving_calls s ≡ true
-unfolding takes
-call_fits e s h plain call = chosen_true (eqb s.kind 0) _ _ (chosen_false (is_acknowledgement s) _ _ (second (eqb s.format e.format) _ h) plain) call
-
-return_fits : (e : Exchange) (s : Piece) → takes e s ≡ true → is_acknowledgement s ≡ false → eqb s.kind 0 ≡ false → fits e.arriving_returns s ≡ true
-unfolding takes
-return_fits e s h plain return_ = second (was_sent e s.call) _ (chosen_false (eqb s.kind 0) _ _ (chosen_false (is_acknowledgement s) _ _ (second (eqb s.format e.format) _ h) plain) return_)
-
 kind_call : (s : Piece) → eqb s.kind 0 ≡ true → 0 ≡ s.kind
 kind_call s h = sym (eqb-true s.kind 0 h)
-
-kind_return : (s : Piece) → IsSegment s → eqb s.kind 0 ≡ false → 1 ≡ s.kind
-kind_return s segment h = (let le : s.kind ≤ 1 = segment.kind in let ne : s.kind ≡ 0 → ⊥ = eqb-false s.kind 0 h in omega arith)
 
 -- what an end takes may follow what it took
 pub may_follow : (ts : List Piece) (e : Exchange) (s : Piece) → Stands ts e → IsSegment s → takes e s ≡ true → MayFollow ts s
@@ -70,8 +47,8 @@ may_follow ts e s stands segment h =
       total = λ plain_. (
           let plain : is_acknowledgement s ≡ false = turned (is_acknowledgement s) plain_ in
           elim (eqb s.kind 0) as (λ b. eqb s.kind 0 ≡ b → IsTotal (total_in ts s.kind s.call) s.total) [
-            | true ↦ λ call. subst (λ k. IsTotal (total_in ts k s.call) s.total) (kind_call s call) (fit_total 0 ts s e.arriving_calls stands.calls (call_fits e s h plain call))
-            | false ↦ λ return_. subst (λ k. IsTotal (total_in ts k s.call) s.total) (kind_return s segment return_) (fit_total 1 ts s e.arriving_returns stands.returns (return_fits e s h plain return_))
+            | true ↦ λ call. subst (λ k. IsTotal (total_in ts k s.call) s.total) (kind_call s call) (fit_total 0 ts s e.arriving_calls stands.calls (takes_call_segment e s h plain call))
+            | false ↦ λ return_. subst (λ k. IsTotal (total_in ts k s.call) s.total) (sym (return_is s segment return_)) (fit_total 1 ts s e.arriving_returns stands.returns (takes_return_segment e s h plain return_).1)
           ] refl);
       some = facts.0;
       within = facts.1;
@@ -117,7 +94,7 @@ stands_taken ts e s stands segment h =
       returns = kept 1 (s ∷ ts) _ _ same.arriving_returns (keeps_other s ts 1 e.arriving_returns (other_kind s 1 (λ one. absurd (omega arith))) stands.returns);
       taken = (may, stands.taken);
     })
-    (λ plain return_. let same = return_segment_leaves e s plain return_ in let one : 1 ≡ s.kind = kind_return s segment return_ in record {
+    (λ plain return_. let same = return_segment_leaves e s plain return_ in let one : 1 ≡ s.kind = sym (return_is s segment return_) in record {
       calls = kept 0 (s ∷ ts) _ _ same.arriving_calls (keeps_other s ts 0 e.arriving_calls (other_kind s 0 (λ zero_. absurd (omega arith))) stands.calls);
       returns = kept 1 (s ∷ ts) _ _ same.arriving_returns (subst (λ k. Keeps k (s ∷ ts) (added e.arriving_returns s)) (sym one) (keeps_more s ts e.arriving_returns (subst (λ k. Keeps k ts e.arriving_returns) one stands.returns) may plain));
       taken = (may, stands.taken);
@@ -148,11 +125,7 @@ stands_after number format (more acts act) are =
 
 completed_new : (box : Arriving) (s : Piece) → completes box s ≡ true → is_new box s ≡ true
 unfolding completes
-completed_new box s h = first (is_new box s) _ h
-  where
-    first : (a b : Bool) → (a && b) ≡ true → a ≡ true
-    first true b k = refl
-    first false b k = absurd cc
+completed_new box s h = (and_parts (is_new box s) _ h).0
 
 arrived_in : (s : Piece) (ts : List Piece) (box : Arriving) (message : List ℕ → Arrived) → Keeps s.kind ts box → MayFollow ts s → is_acknowledgement s ≡ false → cond (completes box s) (message (joined (data_with box s) s.total)) Nothing ≡ cond (has_arrived (s ∷ ts) s.kind s.call && not (has_arrived ts s.kind s.call)) (message (message_in (s ∷ ts) s.kind s.call s.total)) Nothing
 arrived_in s ts box message keeps may plain =
@@ -172,7 +145,7 @@ arrival_is ts e s stands segment h =
       | true ↦ λ ack. refl
       | false ↦ λ plain. elim (eqb s.kind 0) as (λ b. eqb s.kind 0 ≡ b → cond b (cond (completes e.arriving_calls s) (ArrivedCall s.call (joined (data_with e.arriving_calls s) s.total)) Nothing) (cond (completes e.arriving_returns s) (ArrivedReturn s.call (joined (data_with e.arriving_returns s) s.total)) Nothing) ≡ cond (has_arrived (s ∷ ts) s.kind s.call && not (has_arrived ts s.kind s.call)) (cond b (ArrivedCall s.call (message_in (s ∷ ts) s.kind s.call s.total)) (ArrivedReturn s.call (message_in (s ∷ ts) s.kind s.call s.total))) Nothing) [
         | true ↦ λ call. arrived_in s ts e.arriving_calls (λ m. ArrivedCall s.call m) (subst (λ k. Keeps k ts e.arriving_calls) (kind_call s call) stands.calls) may plain
-        | false ↦ λ return_. arrived_in s ts e.arriving_returns (λ m. ArrivedReturn s.call m) (subst (λ k. Keeps k ts e.arriving_returns) (kind_return s segment return_) stands.returns) may plain
+        | false ↦ λ return_. arrived_in s ts e.arriving_returns (λ m. ArrivedReturn s.call m) (subst (λ k. Keeps k ts e.arriving_returns) (sym (return_is s segment return_)) stands.returns) may plain
       ] refl
     ] refl
 

@@ -1,9 +1,11 @@
 -- What a segment is, and what it leaves of an end that takes it.
-use Rattle.std.proofs.Common.{◌≡◌, ◌+◌, true, false, cond, eqb, List, ◌∷◌, refl, sym, subst}
+use Rattle.std.proofs.Common.{◌≡◌, ◌+◌, ◌≤◌, true, false, cond, eqb, List, ◌∷◌, refl, sym, subst, arith}
+use Rattle.std.proofs.lemmas.Bool.{and_parts, eqb-true, eqb-false}
 use Rattle.circus_exchange.specs.declared.exchange.Exchange.{Exchange}
-use Rattle.circus_segment.specs.Segment.{Piece, is_acknowledgement}
-use Rattle.circus_exchange.specs.Inbox.{added}
-use Rattle.circus_exchange.specs.Exchange.{takes, let_go, lets_go, call_reached, return_reached, ended, return_added, after_taken, after}
+use Rattle.circus_segment.specs.Segment.{Piece, IsSegment, is_acknowledgement}
+use Rattle.circus_exchange.specs.Inbox.{added, fits}
+use Rattle.circus_exchange.specs.Outbox.{agrees}
+use Rattle.circus_exchange.specs.Exchange.{was_sent, takes, let_go, lets_go, call_reached, return_reached, ended, return_added, after_taken, after}
 
 -- an acknowledgement or none, of a call or of a return
 pub by_segment : (s : Piece) (P : Type 0) → (is_acknowledgement s ≡ true → eqb s.kind 0 ≡ true → P) → (is_acknowledgement s ≡ true → eqb s.kind 0 ≡ false → P) → (is_acknowledgement s ≡ false → eqb s.kind 0 ≡ true → P) → (is_acknowledgement s ≡ false → eqb s.kind 0 ≡ false → P) → P
@@ -16,10 +18,36 @@ by_segment s P call_acknowledged return_acknowledged call_segment return_segment
     kinds : (eqb s.kind 0 ≡ true → P) → (eqb s.kind 0 ≡ false → P) → P
     kinds call return_ = elim (eqb s.kind 0) as (λ b. eqb s.kind 0 ≡ b → P) [ true ↦ call | false ↦ return_ ] refl
 
+pub return_is : (s : Piece) → IsSegment s → eqb s.kind 0 ≡ false → s.kind ≡ 1
+return_is s segment h = (let le : s.kind ≤ 1 = segment.kind in let ne : s.kind ≡ 0 → ⊥ = eqb-false s.kind 0 h in omega arith)
+
 -- it is taken or dropped
 pub by_taken : (ts : List Piece) (e : Exchange) (s : Piece) (P : List Piece → Exchange → Type 0) → (takes e s ≡ true → P (s ∷ ts) (after_taken e s)) → P ts e → P (cond (takes e s) (s ∷ ts) ts) (after e s)
 by_taken ts e s P taken dropped =
     elim (takes e s) as (λ b. takes e s ≡ b → P (cond b (s ∷ ts) ts) (cond b (after_taken e s) e)) [ true ↦ taken | false ↦ λ _. dropped ] refl
+
+-- ---- what an end knows that takes it
+
+module _ (e : Exchange) (s : Piece) (h : takes e s ≡ true) where
+  pub takes_format : s.format ≡ e.format
+  unfolding takes
+  takes_format = eqb-true s.format e.format (and_parts (eqb s.format e.format) _ h).0
+
+  pub takes_call_acknowledged : is_acknowledgement s ≡ true → eqb s.kind 0 ≡ true → (was_sent e s.call ≡ true) × (agrees e.calls s ≡ true)
+  unfolding takes
+  takes_call_acknowledged ack call = let rest = (and_parts (eqb s.format e.format) _ h).1 in and_parts (was_sent e s.call) (agrees e.calls s) (rw (ack, call) at rest)
+
+  pub takes_return_acknowledged : is_acknowledgement s ≡ true → eqb s.kind 0 ≡ false → agrees e.returns s ≡ true
+  unfolding takes
+  takes_return_acknowledged ack return_ = let rest = (and_parts (eqb s.format e.format) _ h).1 in rw (ack, return_) at rest
+
+  pub takes_call_segment : is_acknowledgement s ≡ false → eqb s.kind 0 ≡ true → fits e.arriving_calls s ≡ true
+  unfolding takes
+  takes_call_segment plain call = let rest = (and_parts (eqb s.format e.format) _ h).1 in rw (plain, call) at rest
+
+  pub takes_return_segment : is_acknowledgement s ≡ false → eqb s.kind 0 ≡ false → (was_sent e s.call ≡ true) × (fits e.arriving_returns s ≡ true)
+  unfolding takes
+  takes_return_segment plain return_ = let rest = (and_parts (eqb s.format e.format) _ h).1 in and_parts (was_sent e s.call) (fits e.arriving_returns s) (rw (plain, return_) at rest)
 
 -- ---- the end after it
 
