@@ -1,15 +1,8 @@
 -- What the machine comes to is what an instruction's move comes to.
-use Rattle.std.proofs.Common.{◌≡◌, ℕ, List, Option, Some, None, slice_get, sym, ap, subst, ◌∙◌}
+use Rattle.std.proofs.Common.{◌≡◌, ℕ, List, Option, Some, None, slice_get, sym, subst, ◌∙◌}
 use Rattle.circus_machine.specs.Meaning.{Going, Flow, goes_on}
 use Rattle.circus_machine.specs.Seen.Code.{Act, act, Comes, Follows, behind_all, further, ended, asked}
-
--- an instruction at a place, or none
-abbrev act_or : Act → Option Act → Act
-act_or d (Some a) = a
-act_or d None = d
-
-some_same : (a b : Act) (o : Option Act) → o ≡ Some a → o ≡ Some b → a ≡ b
-some_same a b o first second = ap (act_or a) (sym first ∙ second)
+use Rattle.circus_machine.proofs.Alike.{some_same}
 
 none_some : {X : Type 0} (a : Act) (o : Option Act) → o ≡ None → o ≡ Some a → X
 none_some a o none some = cc
@@ -18,11 +11,11 @@ module _ (limit states : ℕ) (code : List Act) (flow : Flow Going) where
   pub follows : (a : Act) (at : ℕ) (c : Going) → slice_get code at ≡ Some a → Comes limit states code flow at c → Follows limit states code flow (act limit states a at c)
   follows a _ _ is (behind_all at c none same) = none_some a (slice_get code at) none is
   follows a _ _ is (further at c b next d there on rest) =
-      subst (λ x. Follows limit states code flow (act limit states x at c)) (some_same b a (slice_get code at) there is) (subst (Follows limit states code flow) (sym on) rest)
+      subst (λ x. Follows limit states code flow (act limit states x at c)) (some_same b a (sym there ∙ is)) (subst (Follows limit states code flow) (sym on) rest)
   follows a _ _ is (ended at c b outcome variables there on same) =
-      subst (λ x. Follows limit states code flow (act limit states x at c)) (some_same b a (slice_get code at) there is) (subst (Follows limit states code flow) (sym on) same)
+      subst (λ x. Follows limit states code flow (act limit states x at c)) (some_same b a (sym there ∙ is)) (subst (Follows limit states code flow) (sym on) same)
   follows a _ _ is (asked at c b callee procedure arguments d there on same) =
-      subst (λ x. Follows limit states code flow (act limit states x at c)) (some_same b a (slice_get code at) there is) (subst (Follows limit states code flow) (sym on) same)
+      subst (λ x. Follows limit states code flow (act limit states x at c)) (some_same b a (sym there ∙ is)) (subst (Follows limit states code flow) (sym on) same)
 
   -- where no instruction stands
   pub past : (at : ℕ) (c : Going) → slice_get code at ≡ None → Comes limit states code flow at c → flow ≡ goes_on c

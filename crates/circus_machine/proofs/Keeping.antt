@@ -5,7 +5,6 @@ use Rattle.std.proofs.lemmas.Bool.{le-leb, lt-leb, lt-ltb, ltb-true}
 use Rattle.std.proofs.lemmas.Bool.Decides.{leb_tells}
 use Rattle.std.proofs.lemmas.List.{map-set, take-set-le, length-map}
 use Rattle.std.proofs.lemmas.Option.{slice_get_within}
-use Rattle.std.proofs.lemmas.Result.{err_from_is_err_and}
 use Rattle.std.proofs.lemmas.List.Elements.{All-set}
 use Rattle.circus_value.specs.ValueTree.{ValueTree}
 use Rattle.circus_value.specs.ExternalSize.{external_size, size_of_values}
@@ -25,6 +24,7 @@ use Rattle.circus_machine.specs.declared.store.Sizes.{Sizes}
 use Rattle.circus_machine.specs.declared.got.Stop.{Stop}
 use Rattle.circus_machine.specs.declared.got.Stop.TheVariants.{Raises}
 use Rattle.circus_machine.specs.declared.store.Variables.{Variables}
+use Rattle.circus_machine.proofs.Alike.{some_same, handed_on}
 use Rattle.circus_machine.proofs.PartSizes.{state_size, found, part_within, put_is, put_size}
 
 -- ---- what is kept
@@ -135,9 +135,6 @@ small_variable v index t sized there =
 
 -- ---- what is put
 
-some_same : (t u : ValueTree) → Some t ≡ Some u → t ≡ u
-some_same t u same = cc
-
 shrinks_less : (put : Put) (old : ValueTree) → shrinks_by put old ≤ external_size old
 shrinks_less (Whole value) old = omega arith
 shrinks_less (More value) old = omega arith
@@ -171,10 +168,10 @@ module _ (limit most : ℕ) (v : Variables) (index : ℕ) (change : ValueTree �
 
 -- an error was raised that is meant
 pub raised : (r : Result (Unit {0}) Stop) (meant : Raising (List ValueTree)) (v : Variables) (e : LanguageError) → IsErr r × IsErrAnd r (λ f. f ≡ Raises e) → meant ≡ Err e → Changed r meant v v
-raised r meant v e p same = let (y, is, by) = err_from_is_err_and r p.1 in rw (is, by) (same, refl)
+raised r meant v e p same = rw (handed_on r (Raises e) p) (same, refl)
 
 pub too_great : (r : Result Sizes LanguageError) (limit : ℕ) (v : Variables) (index : ℕ) (w : ValueTree) (e : LanguageError) → IsErr r × IsErrAnd r (λ f. f ≡ e) → e ≡ TooLong → kept limit v.states v.values index w ≡ Err TooLong → Resized limit v index w r
-too_great r limit v index w e p long is = let (y, err, by) = err_from_is_err_and r p.1 in rw (err, by, long) is
+too_great r limit v index w e p long is = rw (handed_on r e p, long) is
 
 -- what is true of the value that is there
 pub part_of_state : (ts : List ValueTree) (n states shrinks : ℕ) → n < length ts → n < states → ((t : ValueTree) → slice_get ts n ≡ Some t → shrinks ≤ external_size t) → shrinks ≤ size_of_values (take states ts)

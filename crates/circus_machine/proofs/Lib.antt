@@ -1,3 +1,4 @@
+mod Alike
 mod Appending
 mod Beginning
 mod Compiling

@@ -2,7 +2,6 @@
 use Rattle.std.proofs.Common.{◌≡◌, ℕ, zero, suc, ◌+◌, ◌<◌, ◌≤◌, List, [], ◌∷◌, ◌++◌, length, get_or, drop, take, Some, None, slice_get, Result, Ok, Err, IsErr, IsErrAnd, refl, sym, ap, ◌∙◌, arith}
 use Rattle.std.proofs.lemmas.List.{drop_more, drop_all, take_more}
 use Rattle.std.proofs.lemmas.Option.{slice_get_within}
-use Rattle.std.proofs.lemmas.Result.{err_from_is_err_and}
 use Rattle.circus_value.specs.ValueTree.{ValueTree}
 use Rattle.circus_value.specs.declared.outcome.Outcome.{Outcome}
 use Rattle.circus_model.specs.declared.language_error.LanguageError.{LanguageError}
@@ -16,6 +15,7 @@ use Rattle.circus_machine.specs.declared.got.Stop.{Stop}
 use Rattle.circus_machine.specs.declared.got.Stop.TheVariants.{Raises, NoMemory}
 use Rattle.circus_machine.specs.declared.store.Variables.{Variables}
 use Rattle.circus_machine.specs.declared.execution.Execution.{Execution}
+use Rattle.circus_machine.proofs.Alike.{some_same, handed_on}
 
 pub then_goes : {X Y : Type 0} (f : Flow X) (x : X) (g : X → Flow Y) → f ≡ goes_on x → then_does f g ≡ g x
 then_goes f x g is = ap (λ r. then_does r g) is
@@ -33,9 +33,6 @@ module _ (limit states : ℕ) where
   pub filled_none : (ps : List CheckedPlace) (c : Going) → filled limit states ps [] c ≡ goes_on c
   filled_none [] c = refl
   filled_none (p ∷ ps) c = refl
-
-some_same : {X : Type 0} (y x : X) → Some y ≡ Some x → y ≡ x
-some_same y x is = cc
 
 get_is : {X : Type 0} (xs : List X) (i : ℕ) (x : X) → slice_get xs i ≡ Some x → get_or xs i x ≡ x
 get_is [] i x is = cc
@@ -84,7 +81,7 @@ does_not view other part more (Raises error) old new done = (done.0, λ replies.
 does_not view other part more NoMemory old new done = tt
 
 pub stops : {A X : Type 0} (view : A → Going → X) (part : Going → Flow X) (r : Result A Stop) (e : Stop) (old new : Execution) → IsErr r × IsErrAnd r (λ f. f ≡ e) → Does view part (Err e) old new → Does view part r old new
-stops view part r e old new p done = let (y, is, by) = err_from_is_err_and r p.1 in rw (is, by) done
+stops view part r e old new p done = rw (handed_on r e p) done
 
 -- a change of the variables is an assignment
 pub change_does : (limit : ℕ) (result : Result (Unit {0}) Stop) (e : Execution) (after : Variables) (p : CheckedPlace) (change : ValueTree → Raising ValueTree)

@@ -1,6 +1,5 @@
 -- What stops an expression, as the code answers it.
 use Rattle.std.proofs.Common.{◌≡◌, ℕ, zero, suc, ◌+◌, ◌<◌, List, [], ◌∷◌, length, get_or, map, Result, Err, IsErr, IsErrAnd, ap, arith}
-use Rattle.std.proofs.lemmas.Result.{err_from_is_err_and}
 use Rattle.circus_model.specs.declared.language_error.LanguageError.{LanguageError}
 use Rattle.circus_checked.specs.ExpressionTree.{SuffixTree, field, arm_of, subscript, expression_trees, suffix_trees}
 use Rattle.circus_checked.specs.ExpressionOf.{tree_of, suffix_of}
@@ -12,14 +11,15 @@ use Rattle.circus_machine.specs.Got.{Raising}
 use Rattle.circus_machine.specs.declared.got.Stop.{Stop}
 use Rattle.circus_machine.specs.declared.got.Stop.TheVariants.{Raises, NoMemory}
 use Rattle.circus_machine.specs.Seen.Given.{Gives}
+use Rattle.circus_machine.proofs.Alike.{handed_on}
 
 -- memory ran out
 pub no_memory : {A B : Type 0} (view : A → B) (r : Result A Stop) (meant : Raising B) → IsErr r × IsErrAnd r (λ f. f ≡ NoMemory) → Gives view r meant
-no_memory view r meant p = let (y, is, same) = err_from_is_err_and r p.1 in rw (is, same) tt
+no_memory view r meant p = rw (handed_on r NoMemory p) tt
 
 -- an error was raised that is meant
 pub raised : {A B : Type 0} (view : A → B) (r : Result A Stop) (meant : Raising B) (e : LanguageError) → IsErr r × IsErrAnd r (λ f. f ≡ Raises e) → meant ≡ Err e → Gives view r meant
-raised view r meant e p same = let (y, is, by) = err_from_is_err_and r p.1 in rw (is, by) same
+raised view r meant e p same = rw (handed_on r (Raises e) p) same
 
 -- what stopped a part stops the whole
 pub passes : {A B C D : Type 0} (view : A → B) (other : C → D) (r : Result A Stop) (e : Stop) (meant : Raising B) (before : Raising D) → IsErr r × IsErrAnd r (λ f. f ≡ e) → Gives other (Err e) before

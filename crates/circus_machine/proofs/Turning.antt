@@ -14,6 +14,9 @@ use Rattle.circus_machine.specs.Seen.Code.{Act, ask, replied, Follows}
 use Rattle.circus_machine.specs.declared.execution.Execution.{Execution}
 use Rattle.circus_machine.specs.declared.run.Paused.{Paused}
 use Rattle.circus_machine.specs.Seen.Running.{going, Awaits}
+use Rattle.circus_machine.specs.Bodies.{Stands, Pauses}
+use Rattle.circus_value.specs.ValueTree.{ValueTree}
+use Rattle.circus_checked.specs.StatementTree.{StatementTree}
 
 module _ {P : Type 0} (S : P → Type 0) (limit states : ℕ) (flow : Flow Going) (turn : Turn P) (e : Execution) (same : e.variables.states ≡ states) where
   -- the execution ends
@@ -31,9 +34,6 @@ module _ {P : Type 0} (S : P → Type 0) (limit states : ℕ) (flow : Flow Going
 abbrev pub after_reply : ℕ → ℕ → ℕ → Outcome → Going → Act → Flow (ℕ × Going)
 after_reply limit states at reply c (ask callee procedure es into table skip) = replied limit states at into table skip reply c
 after_reply limit states at reply c a = goes_on (at, c)
-
-pub some_act : (a b : Act) → Some a ≡ Some b → a ≡ b
-some_act a b same = cc
 
 -- a step, or a way ahead
 pub falls : (a b l p q : ℕ) → ((a < b) ⊎ ((a ≡ b) × (p < q))) → p < l → a * (l + 1) + (l - q) < b * (l + 1) + (l - p)
@@ -63,3 +63,12 @@ awaits_same limit states code one other same paused a = record {
   sized = a.sized;
   goes = λ reply replies. subst (λ f. Follows limit states code f (replied limit states paused.place a.into a.table a.skip reply (going paused.execution replies))) (same reply replies) (a.goes reply replies);
 }
+
+-- what is paused goes on with the body
+module _ (limit : ℕ) (statements : List StatementTree) (locals state arguments : List ValueTree) (replies : List Outcome) (next : next_turn.NextTurn) where
+  pauses : (turn : Turn Paused) → Gives (λ paused. Stands limit statements locals paused state arguments replies) next turn → Pauses limit statements locals turn
+  pauses (T.Asks callee procedure asked shown paused) gives = record { state = state; arguments = arguments; replies = replies; stands = gives.1 }
+  pauses (T.Ends outcome shown) gives = tt
+
+  pub result_pauses : {E : Type 0} (r : Result (Turn Paused) E) → IfOk r (Gives (λ paused. Stands limit statements locals paused state arguments replies) next) → IfOk r (Pauses limit statements locals)
+  result_pauses r gives = if_ok_more r (Gives (λ paused. Stands limit statements locals paused state arguments replies) next) (Pauses limit statements locals) pauses gives

@@ -3,6 +3,8 @@ use Rattle.std.specs.Prelude.{ℕ, List, ◌++◌, length}
 use Rattle.circus_value.specs.ValueTree.{ValueTree}
 use Rattle.circus_value.specs.declared.outcome.Outcome.{Outcome}
 use Rattle.circus_model.specs.NextTurn.{NextTurn}
+use Rattle.circus_model.specs.declared.turn.Turn.{Turn}
+use Rattle.circus_model.specs.declared.turn.Turn.TheVariants as T
 use Rattle.circus_checked.specs.StatementTree.{StatementTree, statement_trees}
 use Rattle.circus_machine.specs.Meaning.{Going, Flow, does_all, beginning, turn_of}
 use Rattle.circus_machine.specs.Seen.Code.{codes_of}
@@ -30,3 +32,8 @@ module _ (limit : ℕ) (statements : List StatementTree) (locals : List ValueTre
     pub arguments : List ValueTree
     pub replies : List Outcome
     pub stands : Stands paused state arguments replies
+
+  -- what is paused, if anything is, goes on with this body
+  abbrev pub Pauses : Turn Paused → Type 0
+  Pauses (T.Asks callee procedure arguments state paused) = IsOf paused
+  Pauses (T.Ends outcome state) = Unit {0}

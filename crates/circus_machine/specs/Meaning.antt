@@ -13,7 +13,7 @@ use Rattle.circus_model.specs.NextTurn as next_turn
 use Rattle.circus_checked.specs.declared.expression.CheckedPlace.{CheckedPlace}
 use Rattle.circus_checked.specs.ExpressionTree.{ExpressionTree, expression_trees}
 use Rattle.circus_checked.specs.StatementTree.{StatementTree, StatementTrees, HandlerTrees, assign, branch, repeat, append, call, give, raise, no_statements, more_statements, no_handlers, more_handlers}
-use Rattle.circus_machine.specs.Got.{Raising, and_then, got_of, truth_of}
+use Rattle.circus_machine.specs.Got.{Got, Raising, and_then, got_of, truth_of}
 use Rattle.circus_machine.specs.Evaluating.{evaluate, evaluate_all}
 use Rattle.circus_machine.specs.Storing.{stored_over, appended_over, stored}
 
@@ -88,6 +88,10 @@ module _ (limit states : ℕ) where
   abbrev pub assigned : CheckedPlace → (ValueTree → Raising ValueTree) → Going → Flow Going
   assigned place change c = then_does (raising (stored limit states c.variables place change) c) (λ variables. goes_on (with_variables c variables))
 
+  -- a step, in which what an expression gives changes what stands at a place
+  abbrev pub stores : CheckedPlace → (Got → ValueTree → Raising ValueTree) → ExpressionTree → Going → Flow Going
+  stores p change e c = then_does (stepped c) (λ d. then_does (raising (evaluate limit d.variables e) d) (λ x. assigned p (change x) d))
+
   -- the places are assigned in order, each after the one before it; where there are no places nothing is
   abbrev pub filled : List CheckedPlace → List ValueTree → Going → Flow Going
   filled (p ∷ ps) (t ∷ ts) c = then_does (assigned p (stored_over (got_of t)) c) (filled ps ts)
@@ -119,10 +123,8 @@ module _ (limit states : ℕ) where
 
   abbrev mutual
     pub does : StatementTree → Going → Flow Going
-    does (assign p e) c =
-        then_does (stepped c) (λ d. then_does (raising (evaluate limit d.variables e) d) (λ x. assigned p (stored_over x) d))
-    does (append e p bound k) c =
-        then_does (stepped c) (λ d. then_does (raising (evaluate limit d.variables e) d) (λ x. assigned p (appended_over bound k x) d))
+    does (assign p e) c = stores p stored_over e c
+    does (append e p bound k) c = stores p (appended_over bound k) e c
     does (branch e ss others) c = then_does (tested e c) (λ x. if x.0 then does_all ss x.1 else does_all others x.1)
     does (repeat e body) c = turns (suc c.steps) e (does_all body) c
     does (call callee procedure es places handlers) c =

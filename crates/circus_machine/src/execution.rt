@@ -1,11 +1,10 @@
 // An execution between two instructions, and what each instruction does.
 ghost use Rattle.std.specs.Prelude.{◌≡◌, ◌<◌, if◌then◌else◌, map, OnOk};
 ghost use Rattle.circus_checked.specs.ExpressionOf.{tree_of};
-ghost use Rattle.circus_checked.specs.StatementTree as statement;
 ghost use Rattle.circus_model.specs.declared.language_error.LanguageError.TheVariants.{Unhandled};
 ghost use Rattle.circus_model.specs.LanguageError.{number_of, is_language_error};
 ghost use Rattle.circus_machine.specs.Meaning as meaning;
-ghost use Rattle.circus_machine.specs.Seen.Changing.{AreSized};
+ghost use Rattle.circus_machine.specs.Seen.Changing.{AreSized, changed_over};
 ghost use Rattle.circus_machine.specs.Seen.Code as acts;
 ghost use Rattle.circus_machine.specs.Seen.Instructions.{act_of, catch_of};
 ghost use Rattle.circus_machine.specs.Seen.Running.{Does, HasAsked, Moves, GoesAhead, nothing, beside};
@@ -14,7 +13,7 @@ use crate::code::{Asking, Catch, Instruction};
 use crate::evaluate::{evaluate_all, given_in, truth_in};
 use crate::got::{Got, Stop};
 use crate::store::{Change, Variables};
-use circus_checked::{CheckedExpression, CheckedExpressions, CheckedPlace, NumberKind};
+use circus_checked::{CheckedExpression, CheckedExpressions, CheckedPlace};
 use circus_model::LanguageError;
 use circus_value::{Outcome, Values, values_size};
 use std::alloc::Global;
@@ -53,42 +52,22 @@ impl Execution {
         Ok(())
     }
 
-    // Stores what an expression gives.
-    fn assign(
+    // Changes what stands at a place by what an expression gives.
+    fn store(
         &mut self,
         alloc: Global,
         limit: u32,
         place: &CheckedPlace,
+        change: Change,
         expression: &CheckedExpression,
     ) -> Result<(), Stop>
         requires { AreSized self.old.variables }
-        ensures does { Does nothing (meaning.does limit self.old.variables.states (statement.assign place.now (tree_of expression.now))) result self.old self.new }
+        ensures does { Does nothing (meaning.stores limit self.old.variables.states place.now (changed_over change) (tree_of expression.now)) result self.old self.new }
         ensures fewer { OnOk result (self.new.steps < self.old.steps) }
     {
         self.count()?;
         let given = given_in(alloc, limit, &self.variables.values, expression)?;
-        self.variables
-            .change(alloc, limit, place, Change::Assign(given))
-    }
-
-    // Adds what an expression gives to a sequence.
-    fn append(
-        &mut self,
-        alloc: Global,
-        limit: u32,
-        expression: &CheckedExpression,
-        place: &CheckedPlace,
-        bound: u16,
-        kind: Option<NumberKind>,
-    ) -> Result<(), Stop>
-        requires { AreSized self.old.variables }
-        ensures does { Does nothing (meaning.does limit self.old.variables.states (statement.append (tree_of expression.now) place.now bound kind)) result self.old self.new }
-        ensures fewer { OnOk result (self.new.steps < self.old.steps) }
-    {
-        self.count()?;
-        let given = given_in(alloc, limit, &self.variables.values, expression)?;
-        self.variables
-            .change(alloc, limit, place, Change::Append(bound, kind, given))
+        self.variables.change(alloc, limit, place, change, given)
     }
 
     // Whether a condition holds.
@@ -162,7 +141,7 @@ impl Execution {
             };
             let given = Got::of(value).apart()?;
             self.variables
-                .change(alloc, limit, place, Change::Assign(given))?;
+                .change(alloc, limit, place, Change::Assign, given)?;
             number += 1;
         }
         Ok(())
@@ -231,11 +210,12 @@ impl Execution {
     {
         match instruction {
             Instruction::Assign(place, expression) => {
-                self.assign(alloc, limit, place, expression)?;
+                self.store(alloc, limit, place, Change::Assign, expression)?;
                 Ok(Move::Goes(at + 1))
             }
             Instruction::Append(expression, place, bound, kind) => {
-                self.append(alloc, limit, expression, place, *bound, *kind)?;
+                let change = Change::Append(*bound, *kind);
+                self.store(alloc, limit, place, change, expression)?;
                 Ok(Move::Goes(at + 1))
             }
             Instruction::Unless(condition, offset) => {
@@ -285,16 +265,5 @@ impl Catch {
 fn unhandled(error: u16) -> LanguageError
     ensures { number_of result ≡ if is_language_error error then error else number_of Unhandled }
 {
-    use LanguageError::*;
-    match error {
-        60_001 => Range,
-        60_002 => Index,
-        60_003 => Zero,
-        60_004 => TooLong,
-        60_005 => StepLimit,
-        60_006 => CallLimit,
-        60_007 => ThreadSpent,
-        60_008 => WrongChoice,
-        _ => Unhandled,
-    }
+    LanguageError::of_number(error).unwrap_or(LanguageError::Unhandled)
 }

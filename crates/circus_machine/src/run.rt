@@ -15,9 +15,8 @@ ghost use Rattle.circus_machine.specs.Seen.Running.{going, Awaits, StandsAtAsk};
 use crate::code::{Code, Instruction};
 use crate::execution::{Execution, Move};
 use crate::got::Stop;
-use crate::store::Variables;
 use circus_model::{LanguageError, Turn};
-use circus_value::{Duplicate, NoMemory, Outcome, State, Values};
+use circus_value::{NoMemory, Outcome, Values};
 use std::alloc::{AllocError, Global};
 
 /// An execution that waits for a reply.
@@ -26,30 +25,6 @@ pub struct Paused {
     /// The place of the instruction that asks.
     pub(crate) place: usize,
     pub(crate) execution: Execution,
-}
-
-impl Variables {
-    // A copy of the state.
-    fn state(&self, alloc: Global) -> Result<State, NoMemory>
-        ensures { IfOk result (λ state. state ≡ take self.now.states self.now.values) }
-    {
-        let mut state = Values::new(alloc);
-        for place in 0..self.states {
-            let Some(value) = self.values.get(place) else {
-                return Ok(state);
-            };
-            state.push(value.copy()?)?;
-        }
-        Ok(state)
-    }
-
-    // The state, without the other variables.
-    fn into_state(mut self) -> State
-        ensures { result ≡ take self.states self.values }
-    {
-        self.values.truncate(self.states);
-        self.values
-    }
 }
 
 impl Execution {

@@ -1,5 +1,5 @@
 // Variables, and what is stored in them.
-ghost use Rattle.std.specs.Prelude.{◌≡◌, ℕ, ◌<◌, ◌≤◌, ◌+◌, ◌-◌, ◌^◌, Ok, Err, Some, All, ok_or, min, ◌++◌, map, length, slice_get, MatchResult, OnOk, IfOk};
+ghost use Rattle.std.specs.Prelude.{◌≡◌, ℕ, ◌<◌, ◌≤◌, ◌+◌, ◌-◌, ◌^◌, Ok, Err, Some, All, ok_or, min, ◌++◌, map, length, take, slice_get, MatchResult, OnOk, IfOk};
 ghost use Rattle.circus_value.specs.ValueTree.{ValueTree};
 ghost use Rattle.circus_value.specs.ValueOf.{tree_of};
 ghost use Rattle.circus_value.specs.ExternalSize.{external_size, size_of_values};
@@ -30,25 +30,25 @@ pub(crate) struct Variables {
     pub state_size: u64,
 }
 
-/// How a value changes.
-#[derive(Debug, Drop)]
+/// How what is given changes a value.
+#[derive(Clone, Copy, Debug)]
 pub(crate) enum Change {
-    /// This is stored in its place.
-    Assign(Given),
-    /// The sequence, which has at most so many items, gets one more; of numbers, one of this kind.
-    Append(u16, Option<NumberKind>, Given),
+    /// It is stored in the value's place.
+    Assign,
+    /// The sequence, which has at most so many items, gets it as one more; of numbers, one of this kind.
+    Append(u16, Option<NumberKind>),
 }
 
 impl Change {
     // What is put where this value stands. It takes no memory.
     #[tactic(auto, using(crate::proofs::Appending::appended_fits, crate::proofs::Appending::appended_full, crate::proofs::Appending::last_size))]
-    fn over(self, old: &Value) -> Result<Put, LanguageError>
-        ensures meant { MatchResult result (λ put. changed_over self (tree_of old.now) ≡ Ok (put_over put (tree_of old.now))) (λ error. changed_over self (tree_of old.now) ≡ Err error) }
+    fn over(self, given: Given, old: &Value) -> Result<Put, LanguageError>
+        ensures meant { MatchResult result (λ put. changed_over self (given_as given) (tree_of old.now) ≡ Ok (put_over put (tree_of old.now))) (λ error. changed_over self (given_as given) (tree_of old.now) ≡ Err error) }
         ensures sized { IfOk result (λ put. external_size (put_over put (tree_of old.now)) + shrinks_by put (tree_of old.now) ≡ external_size (tree_of old.now) + grows_by put) }
     {
         match self {
-            Change::Assign(given) => Ok(Put::Whole(stored_over(given, old)?)),
-            Change::Append(bound, kind, given) => {
+            Change::Assign => Ok(Put::Whole(stored_over(given, old)?)),
+            Change::Append(bound, kind) => {
                 let item = as_item(kind, given)?;
                 match old {
                     Value::Sequence(items) if items.len() < usize::from(bound) => Ok(Put::More(
@@ -61,6 +61,7 @@ impl Change {
         }
     }
 }
+
 // What is stored over an old value.
 fn stored_over(given: Given, old: &Value) -> Result<Value, LanguageError>
     ensures { MatchResult result (λ value. storing.stored_over (given_as given) (tree_of old.now) ≡ Ok (tree_of value)) (λ error. storing.stored_over (given_as given) (tree_of old.now) ≡ Err error) }
@@ -182,6 +183,28 @@ impl Variables {
         })
     }
 
+    /// A copy of the state.
+    pub fn state(&self, alloc: Global) -> Result<State, NoMemory>
+        ensures { IfOk result (λ state. state ≡ take self.now.states self.now.values) }
+    {
+        let mut state = Values::new(alloc);
+        for place in 0..self.states {
+            let Some(value) = self.values.get(place) else {
+                return Ok(state);
+            };
+            state.push(value.copy()?)?;
+        }
+        Ok(state)
+    }
+
+    /// The state, without the other variables.
+    pub fn into_state(mut self) -> State
+        ensures { result ≡ take self.states self.values }
+    {
+        self.values.truncate(self.states);
+        self.values
+    }
+
     // The variable at a place. It takes no memory.
     fn variable(&self, index: usize) -> Result<&Value, LanguageError>
         ensures { MatchResult result (λ value. ok_or (slice_get self.now.values index) WrongChoice ≡ Ok (tree_of value.now)) (λ error. ok_or (slice_get self.now.values index) WrongChoice ≡ Err error) }
@@ -211,22 +234,23 @@ impl Variables {
         Ok(Sizes { variable, state })
     }
 
-    /// Changes what stands at a place. A variable and the state have at most so many bytes. After an error that the
-    /// language raises the variables are as before; after `NoMemory` they are lost.
+    /// Changes what stands at a place by what is given. A variable and the state have at most so many bytes. After an
+    /// error that the language raises the variables are as before; after `NoMemory` they are lost.
     pub fn change(
         &mut self,
         alloc: Global,
         limit: u32,
         place: &CheckedPlace,
         change: Change,
+        given: Given,
     ) -> Result<(), Stop>
         requires { AreSized self.old }
-        ensures { Changed result (storing.stored limit self.old.states self.old.values place.now (changed_over change)) self.old self.new }
+        ensures { Changed result (storing.stored limit self.old.states self.old.values place.now (changed_over change (given_as given))) self.old self.new }
     {
         let steps = steps_of(alloc, limit, &self.values, &place.suffixes)?;
         let index = usize::from(place.variable);
         let old = part_at(self.variable(index)?, steps.as_slice())?;
-        let put = change.over(old)?;
+        let put = change.over(given, old)?;
         let sizes = self.resized(index, put.grows_by(), put.shrinks_by(old), limit)?;
         put_item(&mut self.values, index, steps.as_slice(), put)?;
         self.sizes.set(index, sizes.variable);

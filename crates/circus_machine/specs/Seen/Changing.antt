@@ -3,7 +3,7 @@ use Rattle.std.specs.Prelude.{◌≡◌, ℕ, ◌<◌, List, All, map, take, Res
 use Rattle.circus_value.specs.ValueTree.{ValueTree}
 use Rattle.circus_value.specs.ExternalSize.{external_size, size_of_values}
 use Rattle.circus_value.specs.ValueOf.{tree_of}
-use Rattle.circus_machine.specs.Got.{Raising}
+use Rattle.circus_machine.specs.Got.{Got, Raising}
 use Rattle.circus_machine.specs.Storing.{stored_over, appended_over, kept}
 use Rattle.circus_machine.specs.declared.got.Stop.{Stop}
 use Rattle.circus_machine.specs.declared.got.Stop.TheVariants.{Raises, NoMemory}
@@ -14,12 +14,11 @@ use Rattle.circus_machine.specs.declared.store.Change.TheVariants.{Assign, Appen
 use Rattle.circus_machine.specs.declared.store.Variables.{Variables}
 use Rattle.circus_machine.specs.declared.store.Sizes.{Sizes}
 use Rattle.circus_model.specs.declared.language_error.LanguageError.{LanguageError}
-use Rattle.circus_machine.specs.Seen.Given.{given_as}
 
--- what a change makes of an old value
-abbrev pub changed_over : Change → ValueTree → Raising ValueTree
-changed_over (Assign given) old = stored_over (given_as given) old
-changed_over (Append bound kind given) old = appended_over bound kind (given_as given) old
+-- what a change makes of what is given and an old value
+abbrev pub changed_over : Change → Got → ValueTree → Raising ValueTree
+changed_over Assign x old = stored_over x old
+changed_over (Append bound kind) x old = appended_over bound kind x old
 
 -- how many bytes more there are, once something was put
 abbrev pub grows_by : Put → ℕ

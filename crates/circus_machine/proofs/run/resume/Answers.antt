@@ -8,7 +8,8 @@ use Rattle.circus_machine.specs.Seen.Code.{replied, Comes, Follows}
 use Rattle.circus_machine.specs.Seen.Instructions.{act_of, acts_of, catch_of}
 use Rattle.circus_machine.specs.Seen.Running.{going, Does, beside, Awaits}
 use Rattle.circus_machine.specs.declared.code.Instruction.TheVariants as I
-use Rattle.circus_machine.proofs.Turning.{gives_end, after_reply, some_act}
+use Rattle.circus_machine.proofs.Alike.{some_same}
+use Rattle.circus_machine.proofs.Turning.{gives_end, after_reply}
 use Rattle.circus_machine.proofs.run.resume.Goals as goal
 
 pub returns-in-Ok : goal.returns-in-Ok
@@ -22,7 +23,7 @@ returns-in-Ok c = λ flow awaits.
     let new = c.reply.new.self in
     let asking = c.in-Some-Ask.asking in
     let here : slice_get code at ≡ Some (act_of (I.Ask asking)) = slice_get-map act_of c.args.code.now at ∙ ap (option_map act_of) (sym c.get.ensures ∙ ap option_copied c.in-Some-Ask.is) ∙ ap (λ i. Some (act_of i)) c.in-Some-Ask.field-0-is in
-    let same = some_act _ _ (sym awaits.stands ∙ here) in
+    let same = some_same _ _ (sym awaits.stands ∙ here) in
     let (kept, goes) = c.in-Ok.ensures in
     subst (λ n. IfOk c.run.result (Gives (Awaits limit n code (λ replies. flow (reply ∷ replies))) (turn_by limit n (flow (reply ∷ []))))) kept.states
     (c.run.ensures (λ replies. flow (reply ∷ replies))
@@ -41,7 +42,7 @@ returns-in-Err-Raises c = λ flow awaits.
     let new = c.reply.new.self in
     let asking = c.in-Some-Ask.asking in
     let here : slice_get code at ≡ Some (act_of (I.Ask asking)) = slice_get-map act_of c.args.code.now at ∙ ap (option_map act_of) (sym c.get.ensures ∙ ap option_copied c.in-Some-Ask.is) ∙ ap (λ i. Some (act_of i)) c.in-Some-Ask.field-0-is in
-    let same = some_act _ _ (sym awaits.stands ∙ here) in
+    let same = some_same _ _ (sym awaits.stands ∙ here) in
     let (kept, fails_so) = subst (λ f. Does (beside {A = ℕ}) (replied limit states at asking.into (map catch_of asking.catches) asking.skip reply) (Err f) old new) c.in-Err-Raises.field-0-is c.in-Err-Raises.ensures in
     gives_end (Awaits limit states code (λ replies. flow (reply ∷ replies))) limit states (flow (reply ∷ [])) c.failed.result new kept (Raised (number_of c.in-Err-Raises.error) [])
     (subst (Follows limit states code (flow (reply ∷ []))) (ap (after_reply limit states at reply (going old [])) same ∙ fails_so []) (awaits.goes reply []))

@@ -3,15 +3,15 @@ use Rattle.circus_value.specs.declared.outcome.Outcome.{Outcome}
 use Rattle.circus_model.specs.Gives.{Gives}
 use Rattle.circus_checked.specs.StatementTree.{statement_trees}
 use Rattle.circus_machine.specs.Meaning.{Going, Flow, turn_by}
-use Rattle.circus_machine.specs.Bodies.{flow_of}
+use Rattle.circus_machine.specs.Bodies.{flow_of, next_turn}
 use Rattle.circus_machine.specs.Seen.Code.{codes_of}
 use Rattle.circus_machine.specs.Seen.Instructions.{acts_of}
 use Rattle.circus_machine.specs.Seen.Running.{Awaits}
-use Rattle.circus_machine.proofs.Turning.{awaits_same, gives_more, if_ok_more}
+use Rattle.circus_machine.proofs.Turning.{awaits_same, gives_more, if_ok_more, result_pauses}
 use Rattle.circus_machine.proofs.body.Body.resume.Goals as goal
 
-pub returns : goal.returns
-returns c = λ state arguments replies stands.
+pub returns-clause-turn : goal.returns-clause-turn
+returns-clause-turn c = λ state arguments replies stands.
     let limit = c.args.limit in
     let self = c.args.self.now in
     let states = length state in
@@ -31,3 +31,11 @@ returns c = λ state arguments replies stands.
     (subst (λ n. IfOk c.resume.result (Gives (Awaits limit n codes later) (turn_by limit n (later [])))) stands.kept
     (subst (λ xs. IfOk c.resume.result (Gives (Awaits limit seen xs later) (turn_by limit seen (later [])))) self.compiled
     (c.resume.ensures flow awaits)))
+
+pub returns-clause-pauses : goal.returns-clause-pauses
+returns-clause-pauses c =
+    let limit = c.args.limit in
+    let self = c.args.self.now in
+    let of = c.requires in
+    let replies = of.replies ++ c.args.reply.now ∷ [] in
+    result_pauses limit self.statements self.locals of.state of.arguments replies (next_turn limit self.statements self.locals of.state of.arguments replies) c.resume.result (returns-clause-turn c of.state of.arguments of.replies of.stands)

@@ -3,16 +3,17 @@ use Rattle.circus_value.specs.declared.outcome.Outcome.{Outcome}
 use Rattle.circus_model.specs.Gives.{Gives}
 use Rattle.circus_checked.specs.StatementTree.{statement_trees}
 use Rattle.circus_machine.specs.Meaning.{Going, Flow, most_steps, beginning, turn_by}
-use Rattle.circus_machine.specs.Bodies.{flow_of}
+use Rattle.circus_machine.specs.Bodies.{flow_of, next_turn}
 use Rattle.circus_machine.specs.Seen.Code.{Comes, codes_of}
 use Rattle.circus_machine.specs.Seen.Instructions.{acts_of}
 use Rattle.circus_machine.specs.Seen.Running.{going, Awaits}
 use Rattle.circus_machine.specs.declared.execution.Execution.{Execution}
 use Rattle.circus_machine.proofs.Compiling.{body_comes}
+use Rattle.circus_machine.proofs.Turning.{result_pauses}
 use Rattle.circus_machine.proofs.body.Body.start.Goals as goal
 
-pub returns : goal.returns
-returns c =
+pub returns-clause-turn : goal.returns-clause-turn
+returns-clause-turn c =
     let limit = c.args.limit in
     let self = c.args.self.now in
     let state = c.args.state in
@@ -30,3 +31,8 @@ returns c =
     subst (λ n. IfOk c.run.result (Gives (Awaits limit n (codes_of trees) flow) (turn_by limit n (flow [])))) c.in_ok-variables.ensures.states
     (subst (λ xs. IfOk c.run.result (Gives (Awaits limit v.states xs flow) (turn_by limit v.states (flow [])))) self.compiled
     (c.run.ensures flow comes))
+
+pub returns-clause-pauses : goal.returns-clause-pauses
+returns-clause-pauses c =
+    let self = c.args.self.now in
+    result_pauses c.args.limit self.statements self.locals c.args.state c.args.arguments.now [] (next_turn c.args.limit self.statements self.locals c.args.state c.args.arguments.now []) c.run.result (returns-clause-turn c)

@@ -6,6 +6,7 @@ use Rattle.circus_value.specs.declared.value.Value.{Value}
 use Rattle.circus_machine.specs.declared.part.Step as declared
 use Rattle.circus_machine.specs.Parts.{part_at, with_part}
 use Rattle.circus_machine.specs.Seen.Putting.{put_over, with_put_item}
+use Rattle.circus_machine.specs.Seen.Given.{given_as}
 use Rattle.circus_machine.specs.Seen.Steps.{step_as}
 use Rattle.circus_machine.specs.Seen.Changing.{AreSized, changed_over}
 use Rattle.circus_machine.proofs.Keeping.{variable_within, shrinks_within, resized_whole, put_there, stored_is, raised}
@@ -17,17 +18,17 @@ part_is value old steps seen same is = subst (λ ss. part_at (map step_as ss) (t
 
 pub resized-requires-clause-part : goal.resized-requires-clause-part
 resized-requires-clause-part c =
-    shrinks_within c.args.limit 18446744073709551615 c.args.self.now c.from-index.result (changed_over c.args.change) (map step_as c.in_ok-steps.steps) (tree_of c.in_ok-variable.field-0.now) (tree_of c.in_ok-old.old.now) c.in_ok-put.put c.requires
+    shrinks_within c.args.limit 18446744073709551615 c.args.self.now c.from-index.result (changed_over c.args.change (given_as c.args.given)) (map step_as c.in_ok-steps.steps) (tree_of c.in_ok-variable.field-0.now) (tree_of c.in_ok-old.old.now) c.in_ok-put.put c.requires
     c.in_ok-variable.ensures (part_is c.in_ok-variable.field-0.now c.in_ok-old.old.now c.in_ok-steps.steps c.as_slice.result.now c.as_slice.ensures c.in_ok-old.ensures) c.in_ok-put.ensures.meant c.in_ok-put.ensures.sized (omega arith) c.shrinks_by.result c.shrinks_by.ensures
 
 pub resized-requires-clause-there : goal.resized-requires-clause-there
 resized-requires-clause-there c =
-    variable_within c.args.limit 18446744073709551615 c.args.self.now c.from-index.result (changed_over c.args.change) (map step_as c.in_ok-steps.steps) (tree_of c.in_ok-variable.field-0.now) (tree_of c.in_ok-old.old.now) c.in_ok-put.put c.requires
+    variable_within c.args.limit 18446744073709551615 c.args.self.now c.from-index.result (changed_over c.args.change (given_as c.args.given)) (map step_as c.in_ok-steps.steps) (tree_of c.in_ok-variable.field-0.now) (tree_of c.in_ok-old.old.now) c.in_ok-put.put c.requires
     c.in_ok-variable.ensures (part_is c.in_ok-variable.field-0.now c.in_ok-old.old.now c.in_ok-steps.steps c.as_slice.result.now c.as_slice.ensures c.in_ok-old.ensures) c.in_ok-put.ensures.meant c.in_ok-put.ensures.sized (omega arith)
 
 pub returns-in_err-sizes : goal.returns-in_err-sizes
 returns-in_err-sizes c =
-    let change = changed_over c.args.change in
+    let change = changed_over c.args.change (given_as c.args.given) in
     let steps = map step_as c.in_ok-steps.steps in
     let t = tree_of c.in_ok-variable.field-0.now in
     let old = tree_of c.in_ok-old.old.now in
@@ -39,14 +40,14 @@ returns-in_err-sizes c =
 
 pub set-requires : goal.set-requires
 set-requires c =
-    let there = variable_within c.args.limit 18446744073709551615 c.args.self.now c.from-index.result (changed_over c.args.change) (map step_as c.in_ok-steps.steps) (tree_of c.in_ok-variable.field-0.now) (tree_of c.in_ok-old.old.now) c.in_ok-put.put c.requires
+    let there = variable_within c.args.limit 18446744073709551615 c.args.self.now c.from-index.result (changed_over c.args.change (given_as c.args.given)) (map step_as c.in_ok-steps.steps) (tree_of c.in_ok-variable.field-0.now) (tree_of c.in_ok-old.old.now) c.in_ok-put.put c.requires
     c.in_ok-variable.ensures (part_is c.in_ok-variable.field-0.now c.in_ok-old.old.now c.in_ok-steps.steps c.as_slice.result.now c.as_slice.ensures c.in_ok-old.ensures) c.in_ok-put.ensures.meant c.in_ok-put.ensures.sized (omega arith) in
     omega (arith, there, ap length c.requires.each, length-map c.args.self.now.values external_size)
 
 pub returns : goal.returns
 returns c =
     let v = c.args.self.now in
-    let change = changed_over c.args.change in
+    let change = changed_over c.args.change (given_as c.args.given) in
     let steps = map step_as c.in_ok-steps.steps in
     let t = tree_of c.in_ok-variable.field-0.now in
     let old = tree_of c.in_ok-old.old.now in
