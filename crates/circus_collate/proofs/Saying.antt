@@ -5,7 +5,7 @@ use Rattle.std.proofs.lemmas.List.Sums.{count_by-le-length}
 use Rattle.std.proofs.lemmas.Option.{slice_get-get_or}
 use Rattle.std.proofs.lemmas.Bool.Decides.{nat_tests}
 use Rattle.circus_collate.specs.declared.giving.Said.{Said}
-use Rattle.circus_collate.specs.Giving.{passes_at, first_from, votes, have_equal, has_majority}
+use Rattle.circus_collate.specs.Giving.{passes_at, first_from, votes, has_majority}
 
 module _ {V : Type 0} where
   -- what was read at a place is what passes there

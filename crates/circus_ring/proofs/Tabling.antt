@@ -4,7 +4,7 @@ use Rattle.std.specs.List.{flat_map}
 use Rattle.std.proofs.lemmas.List.Elements.{All-nil, All-cons, All-head, All-tail}
 use Rattle.circus_header.specs.Field.{Field, word, long, HasRoom, bytes_of}
 use Rattle.circus_header.specs.CallFields.{IsNode}
-use Rattle.circus_header.specs.Seen.Layout.{of_word, of_long, Layout, end, field, followed}
+use Rattle.circus_header.specs.Seen.Layout.{of_word, of_long, end, field, followed}
 use Rattle.circus_header.specs.Reading.{IsOne, IsAnswer}
 use Rattle.circus_header.specs.declared.header_fault.HeaderFault.{HeaderFault}
 use Rattle.circus_header.specs.declared.header_fault.HeaderFault.TheVariants.{Short, BadField, NoMemory}

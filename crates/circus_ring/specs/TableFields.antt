@@ -1,5 +1,5 @@
 -- The fields of a table, and which bytes are a table.
-use Rattle.std.specs.Prelude.{◌≡◌, ℕ, ◌≤◌, ◌⊎◌, Bool, false, List, [], ◌∷◌, length, All, Result, Ok, Err}
+use Rattle.std.specs.Prelude.{◌≡◌, ℕ, ◌≤◌, ◌⊎◌, false, List, [], ◌∷◌, length, All, Result, Ok, Err}
 use Rattle.std.specs.List.{flat_map}
 use Rattle.circus_header.specs.Field.{Field, word, long, bytes_of}
 use Rattle.circus_header.specs.CallFields.{IsModule, IsNode, IsIncarnation}
