@@ -4,4 +4,6 @@ pub mod Evaluating
 pub mod Storing
 pub mod Meaning
 pub mod Bodies
+pub mod Tally
 pub mod Seen
+pub mod Laws

@@ -3,7 +3,7 @@
 //! `body` has bodies that are started and resumed, `code` the flat list of instructions that a body becomes, `run` goes
 //! through it until the execution asks or ends, `execution` what each instruction does, and `store` the variables with
 //! their sizes. `evaluate` has what expressions give, `got` and `number` the values that they give, and `part` parts of
-//! values. `laws` has what holds of every body.
+//! values. `tally` has a module that is no text, and `laws` what holds of every body.
 #![tactic(auto)]
 
 mod body;
@@ -16,7 +16,9 @@ mod number;
 mod part;
 mod run;
 mod store;
+mod tally;
 
 pub use body::Body;
 pub use laws::code_does_what_it_means;
 pub use run::Paused;
+pub use tally::Tally;
