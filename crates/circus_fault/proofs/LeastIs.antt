@@ -63,8 +63,8 @@ module _ {C : Type 0} (rank : C → ℕ) where
         first = λ g there. of_each (λ h. is_before rank h f ≡ false) (x ∷ xs) g (rest.not_kept, rest.others) there;
       }
 
-  -- where there is no least there is none
-  never_lost : (b : Fault C) (fs : List (Fault C)) → least_from rank (Some b) fs ≡ None → ⊥
+  -- what is kept isn't lost
+  pub never_lost : (b : Fault C) (fs : List (Fault C)) → least_from rank (Some b) fs ≡ None → ⊥
   never_lost b [] is = cc
   never_lost b (x ∷ xs) is = by_test (λ lost. never_lost x xs lost) (λ lost. never_lost b xs lost) (is_before rank x b) is
     where
@@ -72,6 +72,7 @@ module _ {C : Type 0} (rank : C → ℕ) where
       by_test from_x from_b true is = from_x is
       by_test from_x from_b false is = from_b is
 
+  -- where there is no least there is none
   pub no_least : (fs : List (Fault C)) → least_from rank None fs ≡ None → fs ≡ []
   no_least [] is = refl
   no_least (x ∷ xs) is = absurd (never_lost x xs is)

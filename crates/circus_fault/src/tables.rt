@@ -19,6 +19,7 @@ pub struct NumberSet {
     pub set: BTreeSet<u64>,
 }
 
+#[tactic(auto, unfolding(crate::specs::Seen::Tables::known_of))]
 impl<'a> Names<'a> {
     pub fn new(alloc: Global) -> Self
         ensures { known_of result ≡ nobody }
@@ -43,6 +44,7 @@ impl<'a> Names<'a> {
     }
 }
 
+#[tactic(auto, unfolding(crate::specs::Seen::Tables::holds_number))]
 impl NumberSet {
     pub fn new(alloc: Global) -> Self
         ensures { holds_number result ≡ no_number }

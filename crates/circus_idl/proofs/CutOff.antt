@@ -8,14 +8,15 @@ use Rattle.circus_syntax.specs.declared.interface_text.FieldsText.{FieldsText}
 use Rattle.circus_syntax.specs.Spelling.{most_levels}
 use Rattle.circus_syntax.specs.TypeTree.{TypeTree, GroupTrees, no_groups, more_groups, group_trees}
 use Rattle.circus_syntax.specs.InterfaceTree.{DeclaredTree, a_type, an_error, a_procedure}
+use Rattle.circus_fault.specs.Least.{faults_if}
+use Rattle.circus_fault.specs.Known.{also_number}
 use Rattle.circus_idl.specs.declared.fault.Cause.TheVariants.{TooLarge}
 use Rattle.circus_idl.specs.declared.measure.Measure.{Measure}
 use Rattle.circus_idl.specs.Limits.{greatest_word, greatest_error, most_parts, most_zero_bytes}
 use Rattle.circus_idl.specs.Written.{levels, parts, zero_size}
 use Rattle.circus_idl.specs.Meaning.{written, written_groups, standing_for}
 use Rattle.circus_idl.specs.Scale.{is_large, written_out}
-use Rattle.circus_idl.specs.Least.{faults_if}
-use Rattle.circus_idl.specs.Inside.{no_name, also_name, also_number, repeated_name, repeated_number, repeated_names, above, group_names, inside, inside_groups}
+use Rattle.circus_idl.specs.Inside.{no_name, also_name, repeated_name, repeated_number, repeated_names, above, group_names, inside, inside_groups}
 use Rattle.circus_idl.specs.Faults.{Before, Cut, nothing, is_place, is_clean, place_of, whole_faults, groups_faults, groups_parts, fields_faults, fields_parts, together_faults, reports_faults, declared_faults, behind, declarations_faults}
 use Rattle.circus_idl.specs.Seen.Measured.{measure_of, measured, measured_groups, more_parts, is_over, cut_off}
 use Rattle.circus_idl.proofs.Sizes.{stopped_times, measured_is, groups_measured, zeros_together}

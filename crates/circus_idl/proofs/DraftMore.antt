@@ -5,28 +5,30 @@ use Rattle.std.proofs.lemmas.List.{map-append}
 use Rattle.circus_syntax.proofs.Tokens.{bytes_eq-refl}
 use Rattle.circus_value.specs.ShapeTree.{ShapeTree}
 use Rattle.circus_value.specs.ShapeOf.{tree_of}
-use Rattle.circus_idl.specs.declared.fault.Fault.{Fault}
+use Rattle.circus_fault.specs.declared.fault.Fault.{Fault}
+use Rattle.circus_fault.specs.Least.{least_from}
+use Rattle.circus_fault.proofs.LeastIs.{never_lost}
+use Rattle.circus_idl.specs.declared.fault.Cause.{Cause}
+use Rattle.circus_idl.specs.Rank.{rank_of}
 use Rattle.circus_idl.specs.declared.measure.Measure.{Measure}
 use Rattle.circus_idl.specs.declared.interface.DeclaredType.{DeclaredType}
 use Rattle.circus_idl.specs.Meaning.{standing_for}
 use Rattle.circus_idl.specs.Means.{named_shape, Meant, and_then, declared_meant, declarations_meant, forms_behind, errors_behind}
-use Rattle.circus_idl.specs.Least.{least_from}
 use Rattle.circus_idl.specs.Faults.{Before, behind}
 use Rattle.circus_idl.specs.Seen.Measured.{cut_off}
 use Rattle.circus_syntax.specs.InterfaceTree.{DeclaredTree, a_type, an_error, a_procedure}
-use Rattle.circus_idl.proofs.ScopeMore.{kept_is_some}
-use Rattle.std.proofs.Common.{is_none, append_assoc}
+use Rattle.std.proofs.Common.{append_assoc}
 
 -- nothing is kept
-pub none_from : (o : Option Fault) → is_some o ≡ false → o ≡ None
+pub none_from : (o : Option (Fault Cause)) → is_some o ≡ false → o ≡ None
 none_from None is = refl
 none_from (Some f) is = absurd (cc)
 
-pub holds_of_none : (o : Option Fault) (P : Type 0) → o ≡ None → IfNone o P → P
+pub holds_of_none : (o : Option (Fault Cause)) (P : Type 0) → o ≡ None → IfNone o P → P
 holds_of_none None P is holds = holds
 holds_of_none (Some f) P is holds = absurd (cc)
 
-pub holds_anyway : (o : Option Fault) (P : Type 0) → P → IfNone o P
+pub holds_anyway : (o : Option (Fault Cause)) (P : Type 0) → P → IfNone o P
 holds_anyway None P holds = holds
 holds_anyway (Some f) P holds = tt
 
@@ -39,14 +41,14 @@ types_more types t name s named shaped =
     map-append named_shape types (t ∷ []) ∙ (λ i. map named_shape types ++ record { name = named i; shape = shaped i } ∷ [])
 
 -- where nothing is kept
-pub by_none : (o : Option Fault) (P : Type 0) → (o ≡ None → P) → IfNone o P
+pub by_none : (o : Option (Fault Cause)) (P : Type 0) → (o ≡ None → P) → IfNone o P
 by_none None P holds = holds refl
 by_none (Some f) P holds = tt
 
 -- nothing is kept only where nothing was
-pub none_before : (best : Option Fault) (fs : List Fault) → least_from best fs ≡ None → best ≡ None
+pub none_before : (best : Option (Fault Cause)) (fs : List (Fault Cause)) → least_from rank_of best fs ≡ None → best ≡ None
 none_before None fs is = refl
-none_before (Some f) fs is = absurd (let some = kept_is_some f fs in let n = ap is_none is in cc)
+none_before (Some f) fs is = absurd (never_lost rank_of f fs is)
 
 pub and_then_assoc : (m o p : Meant) → and_then (and_then m o) p ≡ and_then m (and_then o p)
 and_then_assoc m o p = λ i. record {
@@ -68,8 +70,3 @@ meant_step form form' before before' d ds old new whole formed behind_is one res
     ∙ ap (λ m. and_then m (declarations_meant (forms_behind form d) (errors_behind before.errors d) ds)) one
     ∙ and_then_assoc old (declared_meant form before.errors d) (declarations_meant (forms_behind form d) (errors_behind before.errors d) ds)
     ∙ rest
-
--- nothing is kept only where there is no fault
-pub no_faults : (fs : List Fault) → None ≡ least_from None fs → fs ≡ []
-no_faults [] is = refl
-no_faults (f ∷ fs) is = absurd (let some = kept_is_some f fs in let n = ap is_none is in cc)

@@ -13,16 +13,19 @@ use Rattle.circus_syntax.specs.declared.named.Numeral.{Numeral}
 use Rattle.circus_syntax.specs.declared.named.LabelText.{LabelText}
 use Rattle.circus_syntax.specs.TypeTree.{TypeTree, GroupTrees, ArmTrees, boolean, cardinal, long_cardinal, integer, long_integer, text, enumeration, array, sequence, «record», choice, called, no_groups, more_groups, no_arms, more_arms}
 use Rattle.circus_syntax.specs.Spelling.{IsEach, IsListed, IsName, IsLabel, IsType, AreGroups, AreArms}
-use Rattle.circus_idl.specs.declared.fault.Fault.{Fault}
+use Rattle.circus_fault.specs.declared.fault.Fault.{Fault}
+use Rattle.circus_fault.specs.Least.{faults_if}
+use Rattle.circus_fault.specs.Known.{no_number}
+use Rattle.circus_fault.proofs.Items.{none_in}
+use Rattle.circus_idl.specs.declared.fault.Cause.{Cause}
 use Rattle.circus_idl.specs.declared.fault.Cause.TheVariants.{OutOfRange}
-use Rattle.circus_idl.specs.Least.{faults_if}
-use Rattle.circus_idl.specs.Inside.{no_name, no_number, repeated_names, labels_faults, group_names, arm_labels, is_bare, is_empty_record, length_faults, bound_faults, called_faults, inside, inside_groups, inside_arms}
+use Rattle.circus_idl.specs.Inside.{no_name, repeated_names, labels_faults, group_names, arm_labels, is_bare, is_empty_record, length_faults, bound_faults, called_faults, inside, inside_groups, inside_arms}
 use Rattle.circus_idl.specs.Meaning.{word_of, bound_of, label_meant, fields_named, written, written_groups, written_arms}
 use Rattle.circus_idl.specs.Distinct.{AreDistinct}
 use Rattle.circus_idl.specs.Whole.{names_of}
 use Rattle.circus_idl.specs.Obeys as rule
 use Rattle.circus_idl.specs.Obeys.{ObeyLabels, field_names, arm_names, arm_numbers, AreFieldNames, ObeyArms, ObeysInside, ObeyFields, ObeyArmTypes}
-use Rattle.circus_idl.proofs.Items.{none_in, all_appended}
+use Rattle.circus_idl.proofs.Items.{all_appended}
 use Rattle.circus_idl.proofs.NoFaults.{no_fault, distinct_names, labels_clean}
 
 pub each_named : (ns : List Named) → IsEach IsName ns → AllByRecursion rule.IsName (map (λ (n : Named). n.name) ns)
@@ -156,7 +159,7 @@ empty_written form (sequence at bound t) is = absurd (cc)
 empty_written form (choice at arms) is = absurd (cc)
 empty_written form (called at name) is = absurd (cc)
 
-by_empty : (empty : Bool) (P Q : Type 0) (fs : List Fault) → (empty ≡ true → P) → (fs ≡ [] → Q) → cond empty [] fs ≡ [] → P ⊎ Q
+by_empty : (empty : Bool) (P Q : Type 0) (fs : List (Fault Cause)) → (empty ≡ true → P) → (fs ≡ [] → Q) → cond empty [] fs ≡ [] → P ⊎ Q
 by_empty true P Q fs first second is = inl (first refl)
 by_empty false P Q fs first second is = inr (second is)
 

@@ -3,30 +3,25 @@ use Rattle.std.proofs.Common.{◌≡◌, ℕ, Bool, true, false, List, [], ◌�
 use Rattle.std.specs.Prelude.{OnOk}
 use Rattle.circus_syntax.specs.declared.named.Named.{Named}
 use Rattle.circus_syntax.specs.TypeTree.{GroupTree, group_trees}
-use Rattle.circus_idl.specs.declared.fault.Fault.{Fault}
-use Rattle.circus_idl.specs.Least.{lesser, least_from}
+use Rattle.circus_fault.specs.declared.fault.Fault.{Fault}
+use Rattle.circus_fault.specs.Least.{least_from}
+use Rattle.circus_fault.proofs.LeastMore.{least_more}
+use Rattle.circus_idl.specs.declared.fault.Cause.{Cause}
+use Rattle.circus_idl.specs.Rank.{rank_of}
 use Rattle.circus_idl.specs.Inside.{repeated_name, repeated_names, also_name, also_names, is_bare}
 
-pub least_more : (best : Option Fault) (xs ys : List Fault) → least_from best (xs ++ ys) ≡ least_from (least_from best xs) ys
-least_more best [] ys = refl
-least_more best (x ∷ xs) ys = least_more (lesser best x) xs ys
-
 -- what is found behind a first find
-pub onward_least : {A E : Type 0} (r : Result A E) (new mid best : Option Fault) (xs ys : List Fault) → mid ≡ least_from best xs → OnOk r (new ≡ least_from mid ys) → OnOk r (new ≡ least_from best (xs ++ ys))
-onward_least (Ok x) new mid best xs ys first then = then ∙ ap (λ b. least_from b ys) first ∙ sym (least_more best xs ys)
+pub onward_least : {A E : Type 0} (r : Result A E) (new mid best : Option (Fault Cause)) (xs ys : List (Fault Cause)) → mid ≡ least_from rank_of best xs → OnOk r (new ≡ least_from rank_of mid ys) → OnOk r (new ≡ least_from rank_of best (xs ++ ys))
+onward_least (Ok x) new mid best xs ys first then = then ∙ ap (λ b. least_from rank_of b ys) first ∙ sym (least_more rank_of best xs ys)
 onward_least (Err e) new mid best xs ys first then = then
 
--- one more of a list is looked at
-pub least_step : (new mid whole : Option Fault) (xs ys : List Fault) → new ≡ least_from mid xs → least_from mid (xs ++ ys) ≡ whole → least_from new ys ≡ whole
-least_step new mid whole xs ys then before = ap (λ b. least_from b ys) then ∙ sym (least_more mid xs ys) ∙ before
-
 -- names of one list and another
-pub names_more : (best : Option Fault) (earlier : List ℕ → Bool) (ns ms : List Named) → least_from best (repeated_names earlier (ns ++ ms)) ≡ least_from (least_from best (repeated_names earlier ns)) (repeated_names (also_names ns earlier) ms)
+pub names_more : (best : Option (Fault Cause)) (earlier : List ℕ → Bool) (ns ms : List Named) → least_from rank_of best (repeated_names earlier (ns ++ ms)) ≡ least_from rank_of (least_from rank_of best (repeated_names earlier ns)) (repeated_names (also_names ns earlier) ms)
 names_more best earlier [] ms = refl
 names_more best earlier (n ∷ ns) ms =
-    least_more best (repeated_name earlier n) (repeated_names (also_name n.name earlier) (ns ++ ms))
-    ∙ names_more (least_from best (repeated_name earlier n)) (also_name n.name earlier) ns ms
-    ∙ ap (λ b. least_from b (repeated_names (also_names ns (also_name n.name earlier)) ms)) (sym (least_more best (repeated_name earlier n) (repeated_names (also_name n.name earlier) ns)))
+    least_more rank_of best (repeated_name earlier n) (repeated_names (also_name n.name earlier) (ns ++ ms))
+    ∙ names_more (least_from rank_of best (repeated_name earlier n)) (also_name n.name earlier) ns ms
+    ∙ ap (λ b. least_from rank_of b (repeated_names (also_names ns (also_name n.name earlier)) ms)) (sym (least_more rank_of best (repeated_name earlier n) (repeated_names (also_name n.name earlier) ns)))
 
 -- a list that is found to be empty or not
 pub bare_is : (b : Bool) (gs : List GroupTree) → (IsTrue b ↔ (gs ≡ [])) → b ≡ is_bare (group_trees gs)
@@ -34,7 +29,3 @@ bare_is true [] tells = refl
 bare_is false [] tells = tells.1 refl
 bare_is true (g ∷ gs) tells = absurd (let e = tells.0 refl in cc)
 bare_is false (g ∷ gs) tells = refl
-
--- first these faults, then those
-pub least_then : (best mid new : Option Fault) (xs ys : List Fault) → mid ≡ least_from best xs → new ≡ least_from mid ys → new ≡ least_from best (xs ++ ys)
-least_then best mid new xs ys first then = then ∙ ap (λ b. least_from b ys) first ∙ sym (least_more best xs ys)

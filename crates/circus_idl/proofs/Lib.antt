@@ -17,7 +17,6 @@ mod InsideObeys
 mod WholeObeys
 mod Obeying
 mod FoundWhole
-mod LeastIs
 mod RuleFaults
 mod ReadIs
 mod Places

@@ -8,12 +8,13 @@ use Rattle.circus_value.specs.declared.shape.Label.{Label}
 use Rattle.circus_syntax.specs.declared.named.Named.{Named}
 use Rattle.circus_syntax.specs.declared.named.Numeral.{Numeral}
 use Rattle.circus_syntax.specs.declared.named.LabelText.{LabelText}
+use Rattle.circus_fault.specs.Least.{faults_if}
+use Rattle.circus_fault.specs.Known.{also_number}
+use Rattle.circus_fault.proofs.Items.{none_in}
 use Rattle.circus_idl.specs.declared.fault.Cause.{Cause}
-use Rattle.circus_idl.specs.Least.{faults_if}
-use Rattle.circus_idl.specs.Inside.{also_name, also_number, repeated_name, repeated_number, repeated_names, above, label_faults, labels_faults}
+use Rattle.circus_idl.specs.Inside.{also_name, repeated_name, repeated_number, repeated_names, above, label_faults, labels_faults}
 use Rattle.circus_idl.specs.Meaning.{word_of, label_meant}
 use Rattle.circus_idl.specs.Distinct.{AreDistinct}
-use Rattle.circus_idl.proofs.Items.{none_in}
 
 pub no_fault : (b : Bool) (place : ℕ) (cause : Cause) → faults_if b place cause ≡ [] → b ≡ false
 no_fault true place cause is = absurd (cc)

@@ -11,8 +11,10 @@ use Rattle.circus_syntax.specs.declared.interface_text.ProcedureText.{ProcedureT
 use Rattle.circus_syntax.specs.TypeTree.{TypeTree}
 use Rattle.circus_syntax.specs.InterfaceTree.{DeclaredTree, a_type, an_error, a_procedure, InterfaceTree}
 use Rattle.circus_syntax.specs.Spelling.{IsEach, IsName, IsType, IsDeclared, IsGrammatical}
+use Rattle.circus_fault.specs.Least.{faults_if}
+use Rattle.circus_fault.specs.Known.{also_number}
+use Rattle.circus_fault.proofs.Items.{none_in, contains_first, contains_later}
 use Rattle.circus_idl.specs.declared.fault.Cause.TheVariants.{Unknown}
-use Rattle.circus_idl.specs.Least.{faults_if}
 use Rattle.circus_idl.specs.declared.interface.DeclaredType.{DeclaredType}
 use Rattle.circus_idl.specs.declared.interface.DeclaredError.{DeclaredError}
 use Rattle.circus_idl.specs.declared.interface.Procedure.{Procedure}
@@ -21,13 +23,13 @@ use Rattle.circus_idl.specs.Written.{parts}
 use Rattle.circus_idl.specs.Scale.{written_out}
 use Rattle.circus_idl.specs.Meaning.{word_of, written}
 use Rattle.circus_idl.specs.Means.{NamedShape, named_shape, Meant, and_then, fields_meant, numbers_meant, reports_meant, declared_meant, errors_behind, declarations_meant, meant_of, Means}
-use Rattle.circus_idl.specs.Inside.{also_name, also_number, repeated_name, repeated_number, above}
+use Rattle.circus_idl.specs.Inside.{also_name, repeated_name, repeated_number, above}
 use Rattle.circus_idl.specs.Faults.{Before, nothing, cut_of, whole_faults, fields_faults, fields_parts, together_faults, unknown_errors, reports_faults, declared_faults, behind, declarations_faults, interface_faults}
 use Rattle.circus_idl.specs.Distinct.{AreDistinct}
 use Rattle.circus_idl.specs.Whole.{shapes_of, parts_of, zero_size_of}
 use Rattle.circus_idl.specs.Obeys as rule
 use Rattle.circus_idl.specs.Obeys.{ObeysInside, ObeysWhole, ObeysError, ObeysProcedure, Obeys}
-use Rattle.circus_idl.proofs.Items.{none_in, all_appended, all_with, distinct_with, contains_first, contains_later}
+use Rattle.circus_idl.proofs.Items.{all_appended, all_with, distinct_with}
 use Rattle.circus_idl.proofs.NoFaults.{no_fault, names_apart, numbers_apart, within, word_is}
 use Rattle.circus_idl.proofs.WholeObeys.{uncut, AreWhole, whole_obeys, fields_whole, together_small}
 

@@ -13,12 +13,13 @@ use Rattle.circus_syntax.specs.declared.named.Numeral.{Numeral}
 use Rattle.circus_syntax.specs.TypeTree.{choice}
 use Rattle.circus_syntax.specs.Spelling as spelling
 use Rattle.circus_syntax.specs.Spelling.{IsEach, IsListed, IsLabel, IsType, AreGroups, AreArms}
-use Rattle.circus_idl.specs.declared.fault.Fault.{Fault}
+use Rattle.circus_fault.specs.declared.fault.Fault.{Fault}
+use Rattle.circus_fault.specs.Least.{faults_if}
+use Rattle.circus_fault.specs.Known.{no_number, also_number}
 use Rattle.circus_idl.specs.declared.fault.Cause.{Cause}
-use Rattle.circus_idl.specs.Least.{faults_if}
 use Rattle.circus_idl.specs.Written.{levels, field_levels, arm_levels}
 use Rattle.circus_idl.specs.Distinct.{AreDistinct}
-use Rattle.circus_idl.specs.Inside.{no_name, no_number, also_name, also_number, repeated_names, above, label_faults, labels_faults, group_names, arm_labels, is_bare, is_empty_record, length_faults, inside, inside_groups, inside_arms}
+use Rattle.circus_idl.specs.Inside.{no_name, also_name, repeated_names, above, label_faults, labels_faults, group_names, arm_labels, is_bare, is_empty_record, length_faults, inside, inside_groups, inside_arms}
 use Rattle.circus_idl.specs.Obeys.{IsName, ObeysInside, ObeyFields, ObeyArmTypes, ObeyLabels, field_names, arm_names, arm_numbers}
 use Rattle.circus_idl.proofs.Places.{here}
 use Rattle.circus_idl.proofs.PlainTypes.{labels_at, type_at, groups_at, arms_at, by_arm, short_number}
@@ -46,7 +47,7 @@ none_new (x ∷ xs) = (refl, none_new xs)
 pub no_fault : (b : Bool) (place : ℕ) (cause : Cause) → b ≡ false → faults_if b place cause ≡ []
 no_fault b place cause is = rw is refl
 
-pub none_then : (fs gs : List Fault) → fs ≡ [] → gs ≡ [] → fs ++ gs ≡ []
+pub none_then : (fs gs : List (Fault Cause)) → fs ≡ [] → gs ≡ [] → fs ++ gs ≡ []
 none_then fs gs f g = ap (λ l. l ++ gs) f ∙ g
 
 pub not_above : (limit : ℕ) (n : Numeral) → n.value ≤ limit → above limit n ≡ []
@@ -85,7 +86,7 @@ some_fields : (fs : FieldTrees) (ps : List ℕ) → 0 < length (field_names fs) 
 some_fields no_fields ps some = absurd (omega arith)
 some_fields (more_fields name s fs) ps some = refl
 
-either_none : (b : Bool) (fs : List Fault) → fs ≡ [] → cond b [] fs ≡ []
+either_none : (b : Bool) (fs : List (Fault Cause)) → fs ≡ [] → cond b [] fs ≡ []
 either_none true fs none = refl
 either_none false fs none = none
 

@@ -19,20 +19,20 @@ use Rattle.circus_syntax.specs.Spelling.{IsInterface, IsWithin, most_levels}
 use Rattle.circus_syntax.specs.Stopping.{IsUnexpected, IsTooDeep}
 use Rattle.circus_syntax.proofs.Viewed.{text_tokens}
 use Rattle.circus_syntax.proofs.Whole.{interface_read, interface_whole, interface_filled_in, interface_unexpected, interface_too_deep}
-use Rattle.circus_idl.specs.declared.fault.Fault.{Fault}
+use Rattle.circus_fault.specs.declared.fault.Fault.{Fault}
+use Rattle.circus_fault.specs.Least.{least_from}
+use Rattle.circus_fault.proofs.Items.{none_in, of_each}
+use Rattle.circus_fault.proofs.LeastIs.{least_is}
 use Rattle.circus_idl.specs.declared.fault.Cause.{Cause}
 use Rattle.circus_idl.specs.declared.fault.Cause.TheVariants as cause
 use Rattle.circus_idl.specs.declared.idl_fault.IdlFault.{IdlFault}
 use Rattle.circus_idl.specs.declared.idl_fault.IdlFault.TheVariants.{Expected, Deep, NoMemory}
 use Rattle.circus_idl.specs.declared.interface.Interface.{Interface}
-use Rattle.circus_idl.specs.Rank.{rank}
-use Rattle.circus_idl.specs.Least.{least_from}
+use Rattle.circus_idl.specs.Rank.{rank_of}
 use Rattle.circus_idl.specs.Answer.{answer_at, answer_of}
 use Rattle.circus_idl.specs.Faults.{cut_of, interface_faults, stop_fault, stop_faults, read_faults}
 use Rattle.circus_idl.specs.Means.{Means}
 use Rattle.circus_idl.specs.ReadAt.{IsReadAt, IsTreeOf, IsRefused}
-use Rattle.circus_idl.proofs.Items.{none_in, of_each}
-use Rattle.circus_idl.proofs.LeastIs.{least_is}
 use Rattle.circus_idl.proofs.RuleFaults.{IsOfRule, interface_rule}
 
 -- What is accepted.
@@ -90,7 +90,7 @@ is_tree_of ts left tree None end tokens is = let (own, parts, spelled, within) =
 is_tree_of ts left tree (Some s) end tokens is = (left, interface_filled_in ts left tree s end tokens is, stop_place ts left tree s end tokens is s.cause refl)
 
 pub is_refused : (text : List ℕ) (ts : List Token) (at : ℕ) (read : Read) (answer : IdlFault) → All (IsTokenIn text) ts → Answers text ts at read
-    → (answer ≡ NoMemory) ⊎ ((f : Fault) × (least_from None (read_faults read.stop (interface_of read.interface)) ≡ Some f) × (answer ≡ answer_of f))
+    → (answer ≡ NoMemory) ⊎ ((f : Fault Cause) × (least_from rank_of None (read_faults read.stop (interface_of read.interface)) ≡ Some f) × (answer ≡ answer_of f))
     → (answer ≡ NoMemory) ⊎ IsRefused text ts at answer
 is_refused text ts at read answer tokens answers (inl no_memory) = inl no_memory
 is_refused text ts at read answer tokens answers (inr (f, least, given)) =
@@ -99,7 +99,7 @@ is_refused text ts at read answer tokens answers (inr (f, least, given)) =
       answers = answers;
       tree = is_tree_of (placed_from text ts at) answers.left (interface_of read.interface) read.stop (length text) (text_tokens text ts at tokens) answers.is;
       fault = f;
-      least = least_is (read_faults read.stop (interface_of read.interface)) f least;
+      least = least_is rank_of (read_faults read.stop (interface_of read.interface)) f least;
       given = given;
     })
 
@@ -120,27 +120,27 @@ at_deep p cause.OutOfRange place is = absurd (cc)
 at_deep p cause.TooLarge place is = absurd (cc)
 
 -- a fault of where reading stopped
-record IsStop (stop : Option Stop) (f : Fault) : Type 0 where
+record IsStop (stop : Option Stop) (f : Fault Cause) : Type 0 where
   at : Stop
   stop_is : stop ≡ Some at
   place_is : f.place ≡ at.place
   cause_is : f.cause ≡ stop_fault at.cause
 
-stop_of : (stop : Option Stop) (f : Fault) → Contains (stop_faults stop) f → IsStop stop f
+stop_of : (stop : Option Stop) (f : Fault Cause) → Contains (stop_faults stop) f → IsStop stop f
 stop_of None f there = absurd (of_each (λ _. ⊥) [] f tt there)
 stop_of (Some s) f there =
-    let only : Fault = record { place = s.place; cause = stop_fault s.cause } in
+    let only : Fault Cause = record { place = s.place; cause = stop_fault s.cause } in
     let same : AllByRecursion (λ g. only ≡ g) (only ∷ []) = (refl, tt) in
     let is : f ≡ only =
     sym (of_each (λ g. only ≡ g) (only ∷ []) f same there) in
-    record { at = s; stop_is = refl; place_is = ap (λ (g : Fault). g.place) is; cause_is = ap (λ (g : Fault). g.cause) is }
+    record { at = s; stop_is = refl; place_is = ap (λ (g : Fault Cause). g.place) is; cause_is = ap (λ (g : Fault Cause). g.cause) is }
 
 -- no rule's fault is one of reading
-of_stop : (stop : Option Stop) (tree : InterfaceTree) (f : Fault) → rank f.cause ≤ 1 → Contains (read_faults stop tree) f → IsStop stop f
+of_stop : (stop : Option Stop) (tree : InterfaceTree) (f : Fault Cause) → rank_of f.cause ≤ 1 → Contains (read_faults stop tree) f → IsStop stop f
 of_stop stop tree f reading there =
     elim (Contains-append_cases (stop_faults stop) (interface_faults (cut_of stop) tree) f there) [
       | inl stopped ↦ stop_of stop f stopped
-      | inr rules ↦ absurd (let of_rule : 1 < rank f.cause = of_each IsOfRule _ f (interface_rule (cut_of stop) tree) rules in omega arith)
+      | inr rules ↦ absurd (let of_rule : 1 < rank_of f.cause = of_each IsOfRule _ f (interface_rule (cut_of stop) tree) rules in omega arith)
     ]
 
 flat : (c : StopCause) → stop_fault c ≡ cause.Expected → c ≡ Unexpected
@@ -162,7 +162,7 @@ is_unexpected text ts at answer place tokens (inr refused) is =
     let f = refused.fault in
     let read = refused.read in
     let (because, where_is) = at_expected f.place f.cause place (sym refused.given ∙ is) in
-    let s = of_stop read.stop (interface_of read.interface) f (omega (arith, ap rank because)) refused.least.found in
+    let s = of_stop read.stop (interface_of read.interface) f (omega (arith, ap rank_of because)) refused.least.found in
     let (unexpected, stands) =
     interface_unexpected (placed_from text ts at) refused.answers.left (interface_of read.interface) s.at (length text) (text_tokens text ts at tokens)
     (stopped_at text ts at read s.at refused.answers s.stop_is) (flat s.at.cause (sym s.cause_is ∙ because)) in
@@ -175,7 +175,7 @@ is_too_deep text ts at answer place tokens (inr refused) is =
     let f = refused.fault in
     let read = refused.read in
     let (because, where_is) = at_deep f.place f.cause place (sym refused.given ∙ is) in
-    let s = of_stop read.stop (interface_of read.interface) f (omega (arith, ap rank because)) refused.least.found in
+    let s = of_stop read.stop (interface_of read.interface) f (omega (arith, ap rank_of because)) refused.least.found in
     let (too_deep, stands) =
     interface_too_deep (placed_from text ts at) refused.answers.left (interface_of read.interface) s.at (length text) (text_tokens text ts at tokens)
     (stopped_at text ts at read s.at refused.answers s.stop_is) (deep s.at.cause (sym s.cause_is ∙ because)) in

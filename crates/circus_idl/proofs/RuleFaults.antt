@@ -8,12 +8,13 @@ use Rattle.circus_syntax.specs.declared.named.LabelText.{LabelText}
 use Rattle.circus_syntax.specs.declared.interface_text.FieldsText.{FieldsText}
 use Rattle.circus_syntax.specs.TypeTree.{TypeTree, GroupTrees, ArmTrees, boolean, cardinal, long_cardinal, integer, long_integer, text, enumeration, array, sequence, «record», choice, called, no_groups, more_groups, no_arms, more_arms, group_trees}
 use Rattle.circus_syntax.specs.InterfaceTree.{DeclaredTree, a_type, an_error, a_procedure, InterfaceTree}
-use Rattle.circus_idl.specs.declared.fault.Fault.{Fault}
+use Rattle.circus_fault.specs.declared.fault.Fault.{Fault}
+use Rattle.circus_fault.specs.Least.{faults_if}
+use Rattle.circus_fault.specs.Known.{no_number, also_number}
 use Rattle.circus_idl.specs.declared.fault.Cause.{Cause}
 use Rattle.circus_idl.specs.declared.fault.Cause.TheVariants.{Unknown, OutOfRange}
-use Rattle.circus_idl.specs.Rank.{rank}
-use Rattle.circus_idl.specs.Least.{faults_if}
-use Rattle.circus_idl.specs.Inside.{repeated_name, repeated_number, repeated_names, above, label_faults, labels_faults, group_names, arm_labels, length_faults, bound_faults, called_faults, is_bare, is_empty_record, inside, inside_groups, inside_arms, no_name, no_number, also_name, also_number}
+use Rattle.circus_idl.specs.Rank.{rank_of}
+use Rattle.circus_idl.specs.Inside.{repeated_name, repeated_number, repeated_names, above, label_faults, labels_faults, group_names, arm_labels, length_faults, bound_faults, called_faults, is_bare, is_empty_record, inside, inside_groups, inside_arms, no_name, also_name}
 use Rattle.circus_idl.specs.Written.{parts as shape_parts}
 use Rattle.circus_idl.specs.Meaning.{written}
 use Rattle.circus_idl.specs.Scale.{written_out}
@@ -21,17 +22,17 @@ use Rattle.circus_idl.specs.Faults.{Before, Cut, nothing, whole_faults, groups_f
 use Rattle.circus_idl.proofs.Items.{all_appended}
 
 -- a rule is broken
-abbrev pub IsOfRule : Fault → Type 0
-IsOfRule f = 1 < rank f.cause
+abbrev pub IsOfRule : Fault Cause → Type 0
+IsOfRule f = 1 < rank_of f.cause
 
-abbrev pub OfRules : List Fault → Type 0
+abbrev pub OfRules : List (Fault Cause) → Type 0
 OfRules fs = AllByRecursion IsOfRule fs
 
-one_of : (b : Bool) (place : ℕ) (cause : Cause) → 1 < rank cause → OfRules (faults_if b place cause)
+one_of : (b : Bool) (place : ℕ) (cause : Cause) → 1 < rank_of cause → OfRules (faults_if b place cause)
 one_of true place cause of_rule = (of_rule, tt)
 one_of false place cause of_rule = tt
 
-and : (fs gs : List Fault) → OfRules fs → OfRules gs → OfRules (fs ++ gs)
+and : (fs gs : List (Fault Cause)) → OfRules fs → OfRules gs → OfRules (fs ++ gs)
 and fs gs first second = all_appended IsOfRule fs gs first second
 
 names_rule : (earlier : List ℕ → Bool) (ns : List Named) → OfRules (repeated_names earlier ns)
@@ -57,7 +58,7 @@ called_rule : (types : List ℕ → Bool) (other : Option Named) (name : Named) 
 called_rule types None name = one_of _ _ _ (omega arith)
 called_rule types (Some m) name = (omega arith, tt)
 
-unless : (empty : Bool) (fs : List Fault) → OfRules fs → OfRules (cond empty [] fs)
+unless : (empty : Bool) (fs : List (Fault Cause)) → OfRules fs → OfRules (cond empty [] fs)
 unless true fs of_rules = tt
 unless false fs of_rules = of_rules
 

@@ -9,7 +9,9 @@ use Rattle.circus_syntax.specs.declared.named.Named.{Named}
 use Rattle.circus_syntax.specs.declared.interface_text.FieldsText.{FieldsText}
 use Rattle.circus_syntax.specs.TypeTree.{TypeTree, GroupTrees, no_groups, more_groups, group_trees}
 use Rattle.circus_syntax.specs.Spelling.{IsType, AreGroups, AreFields, IfWritten, most_levels}
-use Rattle.circus_idl.specs.declared.fault.Fault.{Fault}
+use Rattle.circus_fault.specs.declared.fault.Fault.{Fault}
+use Rattle.circus_fault.proofs.Items.{none_in}
+use Rattle.circus_idl.specs.declared.fault.Cause.{Cause}
 use Rattle.circus_idl.specs.Limits.{most_parts, most_zero_bytes}
 use Rattle.circus_idl.specs.Written.{levels, parts, zero_size}
 use Rattle.circus_idl.specs.Scale.{is_large, written_out}
@@ -19,7 +21,6 @@ use Rattle.circus_idl.specs.Inside.{no_name, repeated_names, group_names, inside
 use Rattle.circus_idl.specs.Faults.{Cut, cut_of, is_clean, whole_faults, groups_faults, groups_parts, fields_faults, fields_parts, together_faults}
 use Rattle.circus_idl.specs.Whole.{shapes_of, parts_of, zero_size_of}
 use Rattle.circus_idl.specs.Obeys.{ObeysInside, ObeysWhole, ObeyFieldList}
-use Rattle.circus_idl.proofs.Items.{none_in}
 use Rattle.circus_idl.proofs.NoFaults.{no_fault}
 use Rattle.circus_idl.proofs.InsideObeys.{inside_obeys, names_obey}
 
@@ -27,7 +28,7 @@ use Rattle.circus_idl.proofs.InsideObeys.{inside_obeys, names_obey}
 abbrev pub uncut : Cut
 uncut = cut_of None
 
-clean_none : (fs : List Fault) → fs ≡ [] → is_clean fs ≡ true
+clean_none : (fs : List (Fault Cause)) → fs ≡ [] → is_clean fs ≡ true
 clean_none fs none = ap is_clean none
 
 -- what is tested where there is no other fault

@@ -7,12 +7,13 @@ use Rattle.circus_syntax.specs.declared.stopping.StopCause.TheVariants.{Unexpect
 use Rattle.circus_syntax.specs.declared.interface_text.FieldsText.{FieldsText}
 use Rattle.circus_syntax.specs.TypeTree.{TypeTree, GroupTrees, boolean, cardinal, long_cardinal, integer, long_integer, text, enumeration, array, sequence, «record», choice, called, no_groups, more_groups, group_trees}
 use Rattle.circus_syntax.specs.InterfaceTree.{DeclaredTree, a_type, an_error, a_procedure, InterfaceTree}
-use Rattle.circus_idl.specs.declared.fault.Fault.{Fault}
+use Rattle.circus_fault.specs.declared.fault.Fault.{Fault}
+use Rattle.circus_fault.specs.Least.{faults_if}
+use Rattle.circus_fault.specs.Known.{no_number, also_number}
 use Rattle.circus_idl.specs.declared.fault.Cause.{Cause}
 use Rattle.circus_idl.specs.declared.fault.Cause.TheVariants.{Expected, Deep, Unknown, TooLarge}
 use Rattle.circus_idl.specs.Limits.{greatest_word, greatest_error, greatest_program}
-use Rattle.circus_idl.specs.Least.{faults_if}
-use Rattle.circus_idl.specs.Inside.{no_name, no_number, also_name, also_number, repeated_name, repeated_number, repeated_names, above, group_names, inside, inside_groups}
+use Rattle.circus_idl.specs.Inside.{no_name, also_name, repeated_name, repeated_number, repeated_names, above, group_names, inside, inside_groups}
 use Rattle.circus_idl.specs.Meaning.{standing_for}
 use Rattle.circus_idl.specs.Scale.{Scale, written_out}
 
@@ -46,7 +47,7 @@ is_place at None = false
 is_place at (Some p) = p == at
 
 -- no faults
-abbrev pub is_clean : List Fault → Bool
+abbrev pub is_clean : List (Fault Cause) → Bool
 is_clean [] = true
 is_clean (_ ∷ _) = false
 
@@ -66,13 +67,13 @@ place_of (choice at _) = at
 place_of (called at _) = at
 
 -- the size of a whole type is tested where it has no fault inside and reading didn't stop in it
-abbrev pub whole_faults : {S : Type 0} → Scale S → Cut → (List ℕ → Bool) → (List ℕ → S) → ℕ → ℕ → TypeTree → List Fault
+abbrev pub whole_faults : {S : Type 0} → Scale S → Cut → (List ℕ → Bool) → (List ℕ → S) → ℕ → ℕ → TypeTree → List (Fault Cause)
 whole_faults scale cut types sizes parts n t =
     inside types t
     ++ faults_if (is_clean (inside types t) && not (is_place (place_of t) cut.within) && scale.is_over (scale.parts_with parts n (scale.of_type sizes t)) (scale.of_type sizes t)) (place_of t) TooLarge
 
 -- the whole types of fields, each of which several names may share
-abbrev pub groups_faults : {S : Type 0} → Scale S → Cut → (List ℕ → Bool) → (List ℕ → S) → ℕ → GroupTrees → List Fault
+abbrev pub groups_faults : {S : Type 0} → Scale S → Cut → (List ℕ → Bool) → (List ℕ → S) → ℕ → GroupTrees → List (Fault Cause)
 groups_faults scale cut types sizes parts no_groups = []
 groups_faults scale cut types sizes parts (more_groups names t groups) =
     whole_faults scale cut types sizes parts (length names) t
@@ -85,7 +86,7 @@ groups_parts scale sizes parts (more_groups names t groups) =
     groups_parts scale sizes (scale.parts_with parts (length names) (scale.of_type sizes t)) groups
 
 -- a list of fields
-abbrev pub fields_faults : {S : Type 0} → Scale S → Cut → (List ℕ → Bool) → (List ℕ → S) → ℕ → Option FieldsText → List Fault
+abbrev pub fields_faults : {S : Type 0} → Scale S → Cut → (List ℕ → Bool) → (List ℕ → S) → ℕ → Option FieldsText → List (Fault Cause)
 fields_faults scale cut types sizes parts None = []
 fields_faults scale cut types sizes parts (Some f) =
     repeated_names no_name (group_names (group_trees f.groups)) ++ groups_faults scale cut types sizes parts (group_trees f.groups)
@@ -96,23 +97,23 @@ fields_parts scale sizes parts (Some f) = groups_parts scale sizes parts (group_
 
 -- the arguments of a procedure together, at its name: tested where they have no fault inside and reading
 -- didn't stop in their list
-abbrev pub together_faults : {S : Type 0} → Scale S → Cut → (List ℕ → Bool) → (List ℕ → S) → Named → Option FieldsText → List Fault
+abbrev pub together_faults : {S : Type 0} → Scale S → Cut → (List ℕ → Bool) → (List ℕ → S) → Named → Option FieldsText → List (Fault Cause)
 together_faults scale cut types sizes name None = []
 together_faults scale cut types sizes name (Some f) =
     faults_if (is_clean (repeated_names no_name (group_names (group_trees f.groups)) ++ inside_groups types (group_trees f.groups))
     && not (is_place f.at cut.list) && scale.are_over sizes (group_trees f.groups)) name.at TooLarge
 
 -- the names of errors that aren't declared before
-abbrev pub unknown_errors : (List ℕ → Option ℕ) → List Named → List Fault
+abbrev pub unknown_errors : (List ℕ → Option ℕ) → List Named → List (Fault Cause)
 unknown_errors errors [] = []
 unknown_errors errors (n ∷ ns) = faults_if (is_none (errors n.name)) n.at Unknown ++ unknown_errors errors ns
 
-abbrev pub reports_faults : (List ℕ → Option ℕ) → Option (List Named) → List Fault
+abbrev pub reports_faults : (List ℕ → Option ℕ) → Option (List Named) → List (Fault Cause)
 reports_faults errors None = []
 reports_faults errors (Some names) = unknown_errors errors names
 
 -- one declaration
-abbrev pub declared_faults : {S : Type 0} → Scale S → Cut → Before S → DeclaredTree → List Fault
+abbrev pub declared_faults : {S : Type 0} → Scale S → Cut → Before S → DeclaredTree → List (Fault Cause)
 declared_faults scale cut before (a_type name t) =
     repeated_name before.names name ++ whole_faults scale cut before.types before.sizes before.parts 1 t
 declared_faults scale cut before (an_error e) =
@@ -146,12 +147,12 @@ behind scale before (a_procedure p) = record before {
 }
 
 -- declarations one behind the other
-abbrev pub declarations_faults : {S : Type 0} → Scale S → Cut → Before S → List DeclaredTree → List Fault
+abbrev pub declarations_faults : {S : Type 0} → Scale S → Cut → Before S → List DeclaredTree → List (Fault Cause)
 declarations_faults scale cut before [] = []
 declarations_faults scale cut before (d ∷ ds) = declared_faults scale cut before d ++ declarations_faults scale cut (behind scale before d) ds
 
 -- an interface: its numbers, and what it declares, its types written out
-abbrev pub interface_faults : Cut → InterfaceTree → List Fault
+abbrev pub interface_faults : Cut → InterfaceTree → List (Fault Cause)
 interface_faults cut i =
     above greatest_program i.number ++ above greatest_word i.version ++ declarations_faults written_out cut (nothing written_out) i.declared
 
@@ -161,10 +162,10 @@ stop_fault Unexpected = Expected
 stop_fault TooDeep = Deep
 
 -- where reading stopped
-abbrev pub stop_faults : Option Stop → List Fault
+abbrev pub stop_faults : Option Stop → List (Fault Cause)
 stop_faults None = []
 stop_faults (Some s) = faults_if true s.place (stop_fault s.cause)
 
 -- all faults of what is read of a text
-abbrev pub read_faults : Option Stop → InterfaceTree → List Fault
+abbrev pub read_faults : Option Stop → InterfaceTree → List (Fault Cause)
 read_faults stop i = stop_faults stop ++ interface_faults (cut_of stop) i

@@ -4,17 +4,16 @@ use Rattle.circus_syntax.specs.declared.named.Named.{Named}
 use Rattle.circus_syntax.specs.declared.named.Numeral.{Numeral}
 use Rattle.circus_syntax.specs.declared.named.LabelText.{LabelText}
 use Rattle.circus_syntax.specs.TypeTree.{TypeTree, GroupTrees, ArmTrees, boolean, cardinal, long_cardinal, integer, long_integer, text, enumeration, array, sequence, «record», choice, called, no_groups, more_groups, no_arms, more_arms}
-use Rattle.circus_idl.specs.declared.fault.Fault.{Fault}
+use Rattle.circus_fault.specs.declared.fault.Fault.{Fault}
+use Rattle.circus_fault.specs.Least.{faults_if}
+use Rattle.circus_fault.specs.Known.{no_number, also_number}
+use Rattle.circus_idl.specs.declared.fault.Cause.{Cause}
 use Rattle.circus_idl.specs.declared.fault.Cause.TheVariants.{Unknown, Repeated, OutOfRange}
 use Rattle.circus_idl.specs.Limits.{greatest_word}
-use Rattle.circus_idl.specs.Least.{faults_if}
 
--- no name and no number yet
+-- no name yet
 abbrev pub no_name : List ℕ → Bool
 no_name _ = false
-
-abbrev pub no_number : ℕ → Bool
-no_number _ = false
 
 -- this name besides those that stand before it
 abbrev pub also_name : List ℕ → (List ℕ → Bool) → List ℕ → Bool
@@ -25,34 +24,30 @@ abbrev pub also_names : List Named → (List ℕ → Bool) → List ℕ → Bool
 also_names [] earlier = earlier
 also_names (n ∷ ns) earlier = also_names ns (also_name n.name earlier)
 
--- this number besides those that stand before it
-abbrev pub also_number : ℕ → (ℕ → Bool) → ℕ → Bool
-also_number number earlier other = (number == other) || earlier other
-
 -- a name that stands among earlier ones
-abbrev pub repeated_name : (List ℕ → Bool) → Named → List Fault
+abbrev pub repeated_name : (List ℕ → Bool) → Named → List (Fault Cause)
 repeated_name earlier n = faults_if (earlier n.name) n.at Repeated
 
 -- a number that stands among earlier ones
-abbrev pub repeated_number : (ℕ → Bool) → Numeral → List Fault
+abbrev pub repeated_number : (ℕ → Bool) → Numeral → List (Fault Cause)
 repeated_number earlier n = faults_if (earlier n.value) n.at Repeated
 
 -- a number that is above a limit
-abbrev pub above : ℕ → Numeral → List Fault
+abbrev pub above : ℕ → Numeral → List (Fault Cause)
 above limit n = faults_if (nat_lt limit n.value) n.at OutOfRange
 
 -- names behind earlier ones
-abbrev pub repeated_names : (List ℕ → Bool) → List Named → List Fault
+abbrev pub repeated_names : (List ℕ → Bool) → List Named → List (Fault Cause)
 repeated_names earlier [] = []
 repeated_names earlier (n ∷ ns) = repeated_name earlier n ++ repeated_names (also_name n.name earlier) ns
 
 -- a label behind earlier ones
-abbrev pub label_faults : (List ℕ → Bool) → (ℕ → Bool) → Named → Numeral → List Fault
+abbrev pub label_faults : (List ℕ → Bool) → (ℕ → Bool) → Named → Numeral → List (Fault Cause)
 label_faults names numbers name number =
     repeated_name names name ++ repeated_number numbers number ++ above greatest_word number
 
 -- labels behind earlier ones
-abbrev pub labels_faults : (List ℕ → Bool) → (ℕ → Bool) → List LabelText → List Fault
+abbrev pub labels_faults : (List ℕ → Bool) → (ℕ → Bool) → List LabelText → List (Fault Cause)
 labels_faults names numbers [] = []
 labels_faults names numbers (l ∷ ls) =
     label_faults names numbers l.name l.number
@@ -79,22 +74,22 @@ is_empty_record («record» _ groups) = is_bare groups
 is_empty_record _ = false
 
 -- how many items an array may have
-abbrev pub length_faults : Numeral → List Fault
+abbrev pub length_faults : Numeral → List (Fault Cause)
 length_faults n = faults_if ((n.value == 0) || nat_lt greatest_word n.value) n.at OutOfRange
 
 -- the bound of a sequence, where one is given
-abbrev pub bound_faults : Option Numeral → List Fault
+abbrev pub bound_faults : Option Numeral → List (Fault Cause)
 bound_faults None = []
 bound_faults (Some n) = above greatest_word n
 
 -- the name of a type: one that is declared before, and none of another interface
-abbrev pub called_faults : (List ℕ → Bool) → Option Named → Named → List Fault
+abbrev pub called_faults : (List ℕ → Bool) → Option Named → Named → List (Fault Cause)
 called_faults is_known None name = faults_if (not (is_known name.name)) name.at Unknown
 called_faults is_known (Some m) name = faults_if true m.at Unknown
 
 abbrev mutual
   -- of a type whose names are known or not
-  pub inside : (List ℕ → Bool) → TypeTree → List Fault
+  pub inside : (List ℕ → Bool) → TypeTree → List (Fault Cause)
   inside is_known (boolean _) = []
   inside is_known (cardinal _) = []
   inside is_known (long_cardinal _) = []
@@ -110,12 +105,12 @@ abbrev mutual
   inside is_known (called _ t) = called_faults is_known t.«module» t.name
 
   -- of the types of fields, each once for a group
-  pub inside_groups : (List ℕ → Bool) → GroupTrees → List Fault
+  pub inside_groups : (List ℕ → Bool) → GroupTrees → List (Fault Cause)
   inside_groups is_known no_groups = []
   inside_groups is_known (more_groups _ t groups) = inside is_known t ++ inside_groups is_known groups
 
   -- of the types of arms, where a record may have no fields
-  pub inside_arms : (List ℕ → Bool) → ArmTrees → List Fault
+  pub inside_arms : (List ℕ → Bool) → ArmTrees → List (Fault Cause)
   inside_arms is_known no_arms = []
   inside_arms is_known (more_arms _ _ t arms) =
       cond (is_empty_record t) [] (inside is_known t) ++ inside_arms is_known arms

@@ -7,7 +7,6 @@ pub mod Meaning
 pub mod Scale
 pub mod Means
 pub mod Rank
-pub mod Least
 pub mod Inside
 pub mod Faults
 pub mod Answer

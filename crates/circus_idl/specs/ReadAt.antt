@@ -9,12 +9,14 @@ use Rattle.circus_syntax.specs.Read.{placed_from, Answers}
 use Rattle.circus_syntax.specs.Reader.{place_in}
 use Rattle.circus_syntax.specs.Spelling.{IsInterface, IsWithin, most_levels}
 use Rattle.circus_syntax.specs.Stopping.{IsFilledIn}
-use Rattle.circus_idl.specs.declared.fault.Fault.{Fault}
+use Rattle.circus_fault.specs.declared.fault.Fault.{Fault}
+use Rattle.circus_fault.specs.Least.{IsLeast}
+use Rattle.circus_idl.specs.declared.fault.Cause.{Cause}
+use Rattle.circus_idl.specs.Rank.{rank_of}
 use Rattle.circus_idl.specs.declared.idl_fault.IdlFault.{IdlFault}
 use Rattle.circus_idl.specs.declared.interface.Interface.{Interface}
 use Rattle.circus_idl.specs.Answer.{answer_of}
 use Rattle.circus_idl.specs.Faults.{cut_of, interface_faults, read_faults}
-use Rattle.circus_idl.specs.Least.{IsLeast}
 use Rattle.circus_idl.specs.Means.{Means}
 
 -- the tokens from this one up to the next are those of an interface without a fault, which means i
@@ -39,6 +41,6 @@ pub record IsRefused (text : List ℕ) (ts : List Token) (at : ℕ) (answer : Id
   pub read : Read
   pub answers : Answers text ts at read
   pub tree : IsTreeOf (placed_from text ts at) (length text) read.stop (interface_of read.interface)
-  pub fault : Fault
-  pub least : IsLeast fault (read_faults read.stop (interface_of read.interface))
+  pub fault : Fault Cause
+  pub least : IsLeast rank_of fault (read_faults read.stop (interface_of read.interface))
   pub given : answer ≡ answer_of fault

@@ -2,11 +2,13 @@
 ghost use Rattle.std.specs.Prelude.{◌≡◌, ◌⊎◌, min, List, [], map, None, Some, OnOk, IfOk, IfErr, IfNone};
 ghost use Rattle.circus_value.specs.ShapeTree.{boolean};
 ghost use Rattle.circus_syntax.specs.InterfaceTree.{declared_of, interface_of};
-ghost use Rattle.circus_idl.specs.declared.fault.Fault.{Fault};
+ghost use Rattle.circus_fault.specs.declared.fault.Fault.{Fault};
+ghost use Rattle.circus_fault.specs.Least.{least_from};
+ghost use Rattle.circus_fault.specs.Seen.Tables.{known_of};
+ghost use Rattle.circus_idl.specs.declared.fault.Cause.{Cause};
+ghost use Rattle.circus_idl.specs.Rank.{rank_of};
 ghost use Rattle.circus_idl.specs.declared.idl_fault.IdlFault.{IdlFault};
 ghost use Rattle.circus_idl.specs.Limits.{greatest_program};
-ghost use Rattle.circus_idl.specs.Least.{least_from};
-ghost use Rattle.circus_idl.specs.Seen.Tables.{name_value};
 ghost use Rattle.circus_idl.specs.Seen.Known.{type_form};
 ghost use Rattle.circus_idl.specs.Seen.Measured.{cut_off};
 ghost use Rattle.circus_idl.specs.Seen.Scoped.{before_of, cut_in};
@@ -17,19 +19,19 @@ ghost use Rattle.circus_idl.specs.Means.{Means, meant_of, and_then, nothing_mean
 ghost use Rattle.circus_idl.specs.Meaning.{word_of};
 
 use crate::draft::Draft;
-use crate::fault::{Best, Cause, Fault};
+use crate::fault::{Cause, note_above};
 use crate::idl_fault::IdlFault;
 use crate::interface::{Declared, Errors, Interface, Procedures};
 use crate::limits::{GREATEST_PROGRAM, GREATEST_WORD};
 use crate::measure::word;
-use crate::names::{Names, Numbers};
 use crate::scope::Scope;
 use crate::types::Types;
+use circus_fault::{Best, Fault, Names, NumberSet};
 use circus_syntax::{DeclaredText, InterfaceText, Stop, StopCause};
 use circus_value::{Duplicate, NoMemory};
 use std::alloc::Global;
 
-fn answer(fault: Fault) -> IdlFault
+fn answer(fault: Fault<Cause>) -> IdlFault
     ensures { result ≡ answer_of fault }
 {
     let place = u64::from(fault.place);
@@ -44,8 +46,8 @@ fn answer(fault: Fault) -> IdlFault
 }
 
 // Where reading stopped is the first fault that is known.
-fn best_of(stop: &Option<Stop>) -> Best
-    ensures { result.fault ≡ least_from None (stop_faults stop.now) }
+fn best_of(stop: &Option<Stop>) -> Best<Cause>
+    ensures { result.fault ≡ least_from rank_of None (stop_faults stop.now) }
 {
     let mut best = Best { fault: None };
     if let Some(stop) = stop {
@@ -77,7 +79,7 @@ fn list(stop: &Option<Stop>) -> Option<u32>
 }
 
 fn start<'a>(alloc: Global, stop: &Option<Stop>) -> Draft<'a>
-    ensures found { result.scope.best.fault ≡ least_from None (stop_faults stop.now) }
+    ensures found { result.scope.best.fault ≡ least_from rank_of None (stop_faults stop.now) }
     ensures cut { cut_in result.scope ≡ cut_of stop.now }
     ensures before { before_of result.scope ≡ nothing cut_off }
     ensures formed { type_form result.scope.types ≡ (λ _. boolean) }
@@ -91,8 +93,8 @@ fn start<'a>(alloc: Global, stop: &Option<Stop>) -> Draft<'a>
         names: Names::new(alloc),
         types: Types::new(alloc),
         errors: Names::new(alloc),
-        error_numbers: Numbers::new(alloc),
-        procedure_numbers: Numbers::new(alloc),
+        error_numbers: NumberSet::new(alloc),
+        procedure_numbers: NumberSet::new(alloc),
         parts: 0,
     };
     Draft {
@@ -104,8 +106,8 @@ fn start<'a>(alloc: Global, stop: &Option<Stop>) -> Draft<'a>
 }
 
 fn declare_all<'a>(draft: &mut Draft<'a>, declared: &'a [DeclaredText]) -> Result<(), NoMemory>
-    ensures found { OnOk result (draft.new.scope.best.fault ≡ least_from draft.old.scope.best.fault (declarations_faults cut_off (cut_in draft.old.scope) (before_of draft.old.scope) (map declared_of declared.now))) }
-    ensures meant { OnOk result (IfNone draft.new.scope.best.fault (drafted draft.new ≡ and_then (drafted draft.old) (declarations_meant (type_form draft.old.scope.types) (name_value draft.old.scope.errors) (map declared_of declared.now)))) }
+    ensures found { OnOk result (draft.new.scope.best.fault ≡ least_from rank_of draft.old.scope.best.fault (declarations_faults cut_off (cut_in draft.old.scope) (before_of draft.old.scope) (map declared_of declared.now))) }
+    ensures meant { OnOk result (IfNone draft.new.scope.best.fault (drafted draft.new ≡ and_then (drafted draft.old) (declarations_meant (type_form draft.old.scope.types) (known_of draft.old.scope.errors) (map declared_of declared.now)))) }
 {
     for item in declared {
         draft.add(item)?;
@@ -121,11 +123,11 @@ pub fn check(
     stop: &Option<Stop>,
 ) -> Result<Interface, IdlFault>
     ensures ok { IfOk result (λ i. (read_faults stop.now (interface_of tree.now) ≡ []) × Means (interface_of tree.now) i) }
-    ensures err { IfErr result (λ e. (e ≡ IdlFault.NoMemory) ⊎ ((f : Fault) × (least_from None (read_faults stop.now (interface_of tree.now)) ≡ Some f) × (e ≡ answer_of f))) }
+    ensures err { IfErr result (λ e. (e ≡ IdlFault.NoMemory) ⊎ ((f : Fault Cause) × (least_from rank_of None (read_faults stop.now (interface_of tree.now)) ≡ Some f) × (e ≡ answer_of f))) }
 {
     let mut draft = start(alloc, stop);
-    draft.scope.best.note_above(GREATEST_PROGRAM, tree.number);
-    draft.scope.best.note_above(GREATEST_WORD, tree.version);
+    note_above(&mut draft.scope.best, GREATEST_PROGRAM, tree.number);
+    note_above(&mut draft.scope.best, GREATEST_WORD, tree.version);
     declare_all(&mut draft, tree.declared.as_slice())?;
     match draft.scope.best.fault {
         Some(fault) => Err(answer(fault)),

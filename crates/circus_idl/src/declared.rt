@@ -2,14 +2,17 @@
 ghost use Rattle.std.specs.Prelude.{◌≡◌, OnOk, IfOk, IfNone};
 ghost use Rattle.circus_syntax.specs.InterfaceTree.{a_type, an_error, a_procedure};
 ghost use Rattle.circus_syntax.specs.TypeOf.{tree_of};
-ghost use Rattle.circus_idl.specs.Least.{least_from};
+ghost use Rattle.circus_fault.specs.Least.{least_from};
+ghost use Rattle.circus_idl.specs.Rank.{rank_of};
 ghost use Rattle.circus_idl.specs.Seen.Scoped.{before_of, cut_in};
 ghost use Rattle.circus_idl.specs.Faults.{declared_faults, behind};
 ghost use Rattle.circus_idl.specs.Seen.Known.{type_form, tree_or};
 ghost use Rattle.circus_idl.specs.Seen.Measured.{cut_off};
 ghost use Rattle.circus_idl.specs.Meaning.{written, standing_for};
 
+use crate::fault::note_above;
 use crate::limits::{GREATEST_ERROR, GREATEST_WORD};
+use crate::names::{meet_name, meet_number};
 use crate::scope::Scope;
 use crate::written::written;
 use circus_syntax::{ErrorText, Named, ProcedureText, TypeText};
@@ -18,48 +21,51 @@ use circus_value::{NoMemory, Shape};
 impl<'a> Scope<'a> {
     /// Declares an error.
     pub fn error(&mut self, error: &'a ErrorText) -> Result<(), NoMemory>
-        ensures found { OnOk result (self.new.best.fault ≡ least_from self.old.best.fault (declared_faults cut_off (cut_in self.old) (before_of self.old) (an_error error.now))) }
+        ensures found { OnOk result (self.new.best.fault ≡ least_from rank_of self.old.best.fault (declared_faults cut_off (cut_in self.old) (before_of self.old) (an_error error.now))) }
         ensures behind { OnOk result (before_of self.new ≡ behind cut_off (before_of self.old) (an_error error.now)) }
         ensures cut { OnOk result (cut_in self.new ≡ cut_in self.old) }
         ensures types { OnOk result (self.new.types ≡ self.old.types) }
     {
-        self.names.meet(&mut self.best, &error.name)?;
+        meet_name(&mut self.names, &mut self.best, &error.name)?;
         self.fields(&error.arguments)?;
-        self.error_numbers.meet(&mut self.best, error.number)?;
-        self.best.note_above(GREATEST_ERROR, error.number);
+        meet_number(&mut self.error_numbers, &mut self.best, error.number)?;
+        note_above(&mut self.best, GREATEST_ERROR, error.number);
         self.errors
-            .put(error.name.name.as_slice(), error.number.value as usize)?;
+            .insert(error.name.name.as_slice(), error.number.value as usize)?;
         Ok(())
     }
 
     /// Declares a procedure.
     pub fn procedure(&mut self, procedure: &'a ProcedureText) -> Result<(), NoMemory>
-        ensures found { OnOk result (self.new.best.fault ≡ least_from self.old.best.fault (declared_faults cut_off (cut_in self.old) (before_of self.old) (a_procedure procedure.now))) }
+        ensures found { OnOk result (self.new.best.fault ≡ least_from rank_of self.old.best.fault (declared_faults cut_off (cut_in self.old) (before_of self.old) (a_procedure procedure.now))) }
         ensures behind { OnOk result (before_of self.new ≡ behind cut_off (before_of self.old) (a_procedure procedure.now)) }
         ensures cut { OnOk result (cut_in self.new ≡ cut_in self.old) }
         ensures types { OnOk result (self.new.types ≡ self.old.types) }
     {
-        self.names.meet(&mut self.best, &procedure.name)?;
+        meet_name(&mut self.names, &mut self.best, &procedure.name)?;
         self.together(&procedure.name, &procedure.arguments)?;
         self.fields(&procedure.arguments)?;
         self.fields(&procedure.results)?;
         self.reports(&procedure.reports);
-        self.procedure_numbers
-            .meet(&mut self.best, procedure.number)?;
-        self.best.note_above(GREATEST_WORD, procedure.number);
+        meet_number(
+            &mut self.procedure_numbers,
+            &mut self.best,
+            procedure.number,
+        )?;
+        note_above(&mut self.best, GREATEST_WORD, procedure.number);
         Ok(())
     }
 
     /// Declares a type.
     pub fn declared_type(&mut self, name: &'a Named, shape: &'a TypeText) -> Result<(), NoMemory>
-        ensures found { OnOk result (self.new.best.fault ≡ least_from self.old.best.fault (declared_faults cut_off (cut_in self.old) (before_of self.old) (a_type name.now (tree_of shape.now)))) }
+        ensures found { OnOk result (self.new.best.fault ≡ least_from rank_of self.old.best.fault (declared_faults cut_off (cut_in self.old) (before_of self.old) (a_type name.now (tree_of shape.now)))) }
         ensures behind { OnOk result (before_of self.new ≡ behind cut_off (before_of self.old) (a_type name.now (tree_of shape.now))) }
         ensures cut { OnOk result (cut_in self.new ≡ cut_in self.old) }
 
         // While no fault is found the type's shape is kept.
         ensures formed { OnOk result (IfNone self.new.best.fault (type_form self.new.types ≡ standing_for name.now.name (written (type_form self.old.types) (tree_of shape.now)) (type_form self.old.types))) }
     {
-        self.names.meet(&mut self.best, name)?;
+        meet_name(&mut self.names, &mut self.best, name)?;
         let size = self.whole(1, shape)?;
         let meant = self.shape_meant(shape)?;
         self.types.put(name.name.as_slice(), size, meant)?;

@@ -2,8 +2,9 @@
 ghost use Rattle.std.specs.Prelude.{◌≡◌, OnOk, IfOk, IfNone};
 ghost use Rattle.circus_syntax.specs.InterfaceTree.{declared_of, a_type, an_error, a_procedure};
 ghost use Rattle.circus_syntax.specs.TypeOf.{tree_of};
-ghost use Rattle.circus_idl.specs.Least.{least_from};
-ghost use Rattle.circus_idl.specs.Seen.Tables.{name_value};
+ghost use Rattle.circus_fault.specs.Least.{least_from};
+ghost use Rattle.circus_fault.specs.Seen.Tables.{known_of};
+ghost use Rattle.circus_idl.specs.Rank.{rank_of};
 ghost use Rattle.circus_idl.specs.Seen.Known.{type_form};
 ghost use Rattle.circus_idl.specs.Seen.Measured.{cut_off};
 ghost use Rattle.circus_idl.specs.Seen.Scoped.{before_of, cut_in};
@@ -14,10 +15,10 @@ ghost use Rattle.circus_idl.specs.Means.{and_then, fields_meant, reports_meant, 
 use crate::interface::{Declared, DeclaredError, DeclaredType, Errors, Procedure, Procedures};
 use crate::limits::GREATEST_WORD;
 use crate::measure::word;
-use crate::names::Names;
 use crate::scope::Scope;
 use crate::types::Types;
 use crate::written::written_groups;
+use circus_fault::Names;
 use circus_syntax::{DeclaredText, ErrorText, FieldsText, Named, Nameds, ProcedureText, TypeText};
 use circus_value::{Duplicate, Fields, NoMemory, Numbers};
 use std::alloc::Global;
@@ -47,7 +48,7 @@ fn fields_meant(
 
 // The numbers of the errors of these names.
 fn reports_meant(alloc: Global, errors: &Names, names: &Option<Nameds>) -> Result<Numbers, NoMemory>
-    ensures { IfOk result (λ numbers. numbers ≡ reports_meant (name_value errors.now) names.now) }
+    ensures { IfOk result (λ numbers. numbers ≡ reports_meant (known_of errors.now) names.now) }
 {
     match names {
         Some(names) => numbers_meant(alloc, errors, names.as_slice()),
@@ -56,7 +57,7 @@ fn reports_meant(alloc: Global, errors: &Names, names: &Option<Nameds>) -> Resul
 }
 
 fn numbers_meant(alloc: Global, errors: &Names, names: &[Named]) -> Result<Numbers, NoMemory>
-    ensures { IfOk result (λ numbers. numbers ≡ numbers_meant (name_value errors.now) names.now) }
+    ensures { IfOk result (λ numbers. numbers ≡ numbers_meant (known_of errors.now) names.now) }
 {
     let mut numbers = Numbers::new(alloc);
     for name in names {
@@ -68,11 +69,11 @@ fn numbers_meant(alloc: Global, errors: &Names, names: &[Named]) -> Result<Numbe
 
 impl<'a> Draft<'a> {
     fn add_type(&mut self, name: &'a Named, shape: &'a TypeText) -> Result<(), NoMemory>
-        ensures found { OnOk result (self.new.scope.best.fault ≡ least_from self.old.scope.best.fault (declared_faults cut_off (cut_in self.old.scope) (before_of self.old.scope) (a_type name.now (tree_of shape.now)))) }
+        ensures found { OnOk result (self.new.scope.best.fault ≡ least_from rank_of self.old.scope.best.fault (declared_faults cut_off (cut_in self.old.scope) (before_of self.old.scope) (a_type name.now (tree_of shape.now)))) }
         ensures behind { OnOk result (before_of self.new.scope ≡ behind cut_off (before_of self.old.scope) (a_type name.now (tree_of shape.now))) }
         ensures cut { OnOk result (cut_in self.new.scope ≡ cut_in self.old.scope) }
         ensures formed { OnOk result (IfNone self.new.scope.best.fault (type_form self.new.scope.types ≡ forms_behind (type_form self.old.scope.types) (a_type name.now (tree_of shape.now)))) }
-        ensures meant { OnOk result (IfNone self.new.scope.best.fault (drafted self.new ≡ and_then (drafted self.old) (declared_meant (type_form self.old.scope.types) (name_value self.old.scope.errors) (a_type name.now (tree_of shape.now))))) }
+        ensures meant { OnOk result (IfNone self.new.scope.best.fault (drafted self.new ≡ and_then (drafted self.old) (declared_meant (type_form self.old.scope.types) (known_of self.old.scope.errors) (a_type name.now (tree_of shape.now))))) }
     {
         self.scope.declared_type(name, shape)?;
         if self.scope.best.fault.is_none() {
@@ -85,11 +86,11 @@ impl<'a> Draft<'a> {
     }
 
     fn add_error(&mut self, error: &'a ErrorText) -> Result<(), NoMemory>
-        ensures found { OnOk result (self.new.scope.best.fault ≡ least_from self.old.scope.best.fault (declared_faults cut_off (cut_in self.old.scope) (before_of self.old.scope) (an_error error.now))) }
+        ensures found { OnOk result (self.new.scope.best.fault ≡ least_from rank_of self.old.scope.best.fault (declared_faults cut_off (cut_in self.old.scope) (before_of self.old.scope) (an_error error.now))) }
         ensures behind { OnOk result (before_of self.new.scope ≡ behind cut_off (before_of self.old.scope) (an_error error.now)) }
         ensures cut { OnOk result (cut_in self.new.scope ≡ cut_in self.old.scope) }
         ensures formed { OnOk result (type_form self.new.scope.types ≡ type_form self.old.scope.types) }
-        ensures meant { OnOk result (IfNone self.new.scope.best.fault (drafted self.new ≡ and_then (drafted self.old) (declared_meant (type_form self.old.scope.types) (name_value self.old.scope.errors) (an_error error.now)))) }
+        ensures meant { OnOk result (IfNone self.new.scope.best.fault (drafted self.new ≡ and_then (drafted self.old) (declared_meant (type_form self.old.scope.types) (known_of self.old.scope.errors) (an_error error.now)))) }
     {
         self.scope.error(error)?;
         if self.scope.best.fault.is_none() {
@@ -103,11 +104,11 @@ impl<'a> Draft<'a> {
     }
 
     fn add_procedure(&mut self, procedure: &'a ProcedureText) -> Result<(), NoMemory>
-        ensures found { OnOk result (self.new.scope.best.fault ≡ least_from self.old.scope.best.fault (declared_faults cut_off (cut_in self.old.scope) (before_of self.old.scope) (a_procedure procedure.now))) }
+        ensures found { OnOk result (self.new.scope.best.fault ≡ least_from rank_of self.old.scope.best.fault (declared_faults cut_off (cut_in self.old.scope) (before_of self.old.scope) (a_procedure procedure.now))) }
         ensures behind { OnOk result (before_of self.new.scope ≡ behind cut_off (before_of self.old.scope) (a_procedure procedure.now)) }
         ensures cut { OnOk result (cut_in self.new.scope ≡ cut_in self.old.scope) }
         ensures formed { OnOk result (type_form self.new.scope.types ≡ type_form self.old.scope.types) }
-        ensures meant { OnOk result (IfNone self.new.scope.best.fault (drafted self.new ≡ and_then (drafted self.old) (declared_meant (type_form self.old.scope.types) (name_value self.old.scope.errors) (a_procedure procedure.now)))) }
+        ensures meant { OnOk result (IfNone self.new.scope.best.fault (drafted self.new ≡ and_then (drafted self.old) (declared_meant (type_form self.old.scope.types) (known_of self.old.scope.errors) (a_procedure procedure.now)))) }
     {
         self.scope.procedure(procedure)?;
         if self.scope.best.fault.is_none() {
@@ -119,11 +120,11 @@ impl<'a> Draft<'a> {
 
     /// One more declaration.
     pub fn add(&mut self, declared: &'a DeclaredText) -> Result<(), NoMemory>
-        ensures found { OnOk result (self.new.scope.best.fault ≡ least_from self.old.scope.best.fault (declared_faults cut_off (cut_in self.old.scope) (before_of self.old.scope) (declared_of declared.now))) }
+        ensures found { OnOk result (self.new.scope.best.fault ≡ least_from rank_of self.old.scope.best.fault (declared_faults cut_off (cut_in self.old.scope) (before_of self.old.scope) (declared_of declared.now))) }
         ensures behind { OnOk result (before_of self.new.scope ≡ behind cut_off (before_of self.old.scope) (declared_of declared.now)) }
         ensures cut { OnOk result (cut_in self.new.scope ≡ cut_in self.old.scope) }
         ensures formed { OnOk result (IfNone self.new.scope.best.fault (type_form self.new.scope.types ≡ forms_behind (type_form self.old.scope.types) (declared_of declared.now))) }
-        ensures meant { OnOk result (IfNone self.new.scope.best.fault (drafted self.new ≡ and_then (drafted self.old) (declared_meant (type_form self.old.scope.types) (name_value self.old.scope.errors) (declared_of declared.now)))) }
+        ensures meant { OnOk result (IfNone self.new.scope.best.fault (drafted self.new ≡ and_then (drafted self.old) (declared_meant (type_form self.old.scope.types) (known_of self.old.scope.errors) (declared_of declared.now)))) }
     {
         match declared {
             DeclaredText::Type(name, shape) => self.add_type(name, shape),
@@ -134,7 +135,7 @@ impl<'a> Draft<'a> {
 }
 
 fn procedure_meant(scope: &Scope, procedure: &ProcedureText) -> Result<Procedure, NoMemory>
-    ensures { IfOk result (λ meant. meant ≡ procedure_meant (type_form scope.now.types) (name_value scope.now.errors) procedure.now) }
+    ensures { IfOk result (λ meant. meant ≡ procedure_meant (type_form scope.now.types) (known_of scope.now.errors) procedure.now) }
 {
     let alloc = scope.alloc;
     Ok(Procedure {

@@ -2,16 +2,19 @@
 ghost use Rattle.std.specs.Prelude.{◌≡◌, OnOk, map};
 ghost use Rattle.circus_syntax.specs.TypeTree.{group_trees, arm_trees};
 ghost use Rattle.circus_syntax.specs.TypeOf.{tree_of, group_of, arm_of};
-ghost use Rattle.circus_idl.specs.Least.{least_from};
-ghost use Rattle.circus_idl.specs.Seen.Tables.{holds_name, holds_number};
+ghost use Rattle.circus_fault.specs.Least.{least_from};
+ghost use Rattle.circus_fault.specs.Known.{also_number, no_number};
+ghost use Rattle.circus_fault.specs.Seen.Tables.{holds_name, holds_number};
+ghost use Rattle.circus_idl.specs.Rank.{rank_of};
 ghost use Rattle.circus_idl.specs.Seen.Known.{is_known};
-ghost use Rattle.circus_idl.specs.Inside.{also_name, also_names, also_number, no_name, no_number, label_faults, labels_faults, arm_labels, repeated_names, group_names, called_faults};
+ghost use Rattle.circus_idl.specs.Inside.{also_name, also_names, no_name, label_faults, labels_faults, arm_labels, repeated_names, group_names, called_faults};
 ghost use Rattle.circus_idl.specs.Inside as faults;
 
-use crate::fault::{Best, Cause};
+use crate::fault::{Cause, note_above};
 use crate::limits::GREATEST_WORD;
-use crate::names::{Names, Numbers};
+use crate::names::{meet_name, meet_number};
 use crate::types::Types;
+use circus_fault::{Best, Names, NumberSet};
 use circus_syntax::{ArmText, GroupText, LabelText, Named, Numeral, TypeKind, TypeName, TypeText};
 use circus_value::NoMemory;
 use std::alloc::Global;
@@ -19,37 +22,37 @@ use std::alloc::Global;
 // A label behind others.
 fn meet_label<'a>(
     names: &mut Names<'a>,
-    numbers: &mut Numbers,
-    best: &mut Best,
+    numbers: &mut NumberSet,
+    best: &mut Best<Cause>,
     name: &'a Named,
     number: Numeral,
 ) -> Result<(), NoMemory>
-    ensures found { OnOk result (best.new.fault ≡ least_from best.old.fault (label_faults (holds_name names.old) (holds_number numbers.old) name.now number)) }
+    ensures found { OnOk result (best.new.fault ≡ least_from rank_of best.old.fault (label_faults (holds_name names.old) (holds_number numbers.old) name.now number)) }
     ensures names { OnOk result (holds_name names.new ≡ also_name name.now.name (holds_name names.old)) }
     ensures numbers { OnOk result (holds_number numbers.new ≡ also_number number.value (holds_number numbers.old)) }
 {
-    names.meet(best, name)?;
-    numbers.meet(best, number)?;
-    best.note_above(GREATEST_WORD, number);
+    meet_name(names, best, name)?;
+    meet_number(numbers, best, number)?;
+    note_above(best, GREATEST_WORD, number);
     Ok(())
 }
 
-fn labels(alloc: Global, best: &mut Best, labels: &[LabelText]) -> Result<(), NoMemory>
-    ensures { OnOk result (best.new.fault ≡ least_from best.old.fault (labels_faults no_name no_number labels.now)) }
+fn labels(alloc: Global, best: &mut Best<Cause>, labels: &[LabelText]) -> Result<(), NoMemory>
+    ensures { OnOk result (best.new.fault ≡ least_from rank_of best.old.fault (labels_faults no_name no_number labels.now)) }
 {
     let mut names = Names::new(alloc);
-    let mut numbers = Numbers::new(alloc);
+    let mut numbers = NumberSet::new(alloc);
     for label in labels {
         meet_label(&mut names, &mut numbers, best, &label.name, label.number)?;
     }
     Ok(())
 }
 
-fn arm_labels(alloc: Global, best: &mut Best, arms: &[ArmText]) -> Result<(), NoMemory>
-    ensures { OnOk result (best.new.fault ≡ least_from best.old.fault (labels_faults no_name no_number (arm_labels (arm_trees (map arm_of arms.now))))) }
+fn arm_labels(alloc: Global, best: &mut Best<Cause>, arms: &[ArmText]) -> Result<(), NoMemory>
+    ensures { OnOk result (best.new.fault ≡ least_from rank_of best.old.fault (labels_faults no_name no_number (arm_labels (arm_trees (map arm_of arms.now))))) }
 {
     let mut names = Names::new(alloc);
-    let mut numbers = Numbers::new(alloc);
+    let mut numbers = NumberSet::new(alloc);
     for arm in arms {
         meet_label(&mut names, &mut numbers, best, &arm.name, arm.number)?;
     }
@@ -59,21 +62,25 @@ fn arm_labels(alloc: Global, best: &mut Best, arms: &[ArmText]) -> Result<(), No
 // Names behind others.
 fn meet_names<'a>(
     names: &mut Names<'a>,
-    best: &mut Best,
+    best: &mut Best<Cause>,
     group: &'a [Named],
 ) -> Result<(), NoMemory>
-    ensures found { OnOk result (best.new.fault ≡ least_from best.old.fault (repeated_names (holds_name names.old) group.now)) }
+    ensures found { OnOk result (best.new.fault ≡ least_from rank_of best.old.fault (repeated_names (holds_name names.old) group.now)) }
     ensures added { OnOk result (holds_name names.new ≡ also_names group.now (holds_name names.old)) }
 {
     for name in group {
-        names.meet(best, name)?;
+        meet_name(names, best, name)?;
     }
     Ok(())
 }
 
 /// The names of fields that stand in a list before.
-pub fn field_names(alloc: Global, best: &mut Best, groups: &[GroupText]) -> Result<(), NoMemory>
-    ensures { OnOk result (best.new.fault ≡ least_from best.old.fault (repeated_names no_name (group_names (group_trees (map group_of groups.now))))) }
+pub fn field_names(
+    alloc: Global,
+    best: &mut Best<Cause>,
+    groups: &[GroupText],
+) -> Result<(), NoMemory>
+    ensures { OnOk result (best.new.fault ≡ least_from rank_of best.old.fault (repeated_names no_name (group_names (group_trees (map group_of groups.now))))) }
 {
     let mut names = Names::new(alloc);
     for group in groups {
@@ -82,8 +89,8 @@ pub fn field_names(alloc: Global, best: &mut Best, groups: &[GroupText]) -> Resu
     Ok(())
 }
 
-fn called(types: &Types, best: &mut Best, name: &TypeName)
-    ensures { best.new.fault ≡ least_from best.old.fault (called_faults (is_known types.now) name.now.«module» name.now.name) }
+fn called(types: &Types, best: &mut Best<Cause>, name: &TypeName)
+    ensures { best.new.fault ≡ least_from rank_of best.old.fault (called_faults (is_known types.now) name.now.«module» name.now.name) }
 {
     match &name.module {
         None => best.note(
@@ -100,10 +107,10 @@ fn called(types: &Types, best: &mut Best, name: &TypeName)
 pub fn inside(
     alloc: Global,
     types: &Types,
-    best: &mut Best,
+    best: &mut Best<Cause>,
     shape: &TypeText,
 ) -> Result<(), NoMemory>
-    ensures { OnOk result (best.new.fault ≡ least_from best.old.fault (faults.inside (is_known types.now) (tree_of shape.now))) }
+    ensures { OnOk result (best.new.fault ≡ least_from rank_of best.old.fault (faults.inside (is_known types.now) (tree_of shape.now))) }
 {
     match &shape.kind {
         TypeKind::Enumeration(list) => labels(alloc, best, list.as_slice()),
@@ -136,11 +143,11 @@ pub fn inside(
     }
 }
 
-fn bound_inside(best: &mut Best, bound: &Option<Numeral>)
-    ensures { best.new.fault ≡ least_from best.old.fault (faults.bound_faults bound.now) }
+fn bound_inside(best: &mut Best<Cause>, bound: &Option<Numeral>)
+    ensures { best.new.fault ≡ least_from rank_of best.old.fault (faults.bound_faults bound.now) }
 {
     if let Some(bound) = bound {
-        best.note_above(GREATEST_WORD, *bound);
+        note_above(best, GREATEST_WORD, *bound);
     }
 }
 
@@ -149,10 +156,10 @@ fn bound_inside(best: &mut Best, bound: &Option<Numeral>)
 pub fn inside_groups(
     alloc: Global,
     types: &Types,
-    best: &mut Best,
+    best: &mut Best<Cause>,
     groups: &[GroupText],
 ) -> Result<(), NoMemory>
-    ensures { OnOk result (best.new.fault ≡ least_from best.old.fault (faults.inside_groups (is_known types.now) (group_trees (map group_of groups.now)))) }
+    ensures { OnOk result (best.new.fault ≡ least_from rank_of best.old.fault (faults.inside_groups (is_known types.now) (group_trees (map group_of groups.now)))) }
 {
     for group in groups {
         inside(alloc, types, best, &group.shape)?;
@@ -164,10 +171,10 @@ pub fn inside_groups(
 fn inside_arms(
     alloc: Global,
     types: &Types,
-    best: &mut Best,
+    best: &mut Best<Cause>,
     arms: &[ArmText],
 ) -> Result<(), NoMemory>
-    ensures { OnOk result (best.new.fault ≡ least_from best.old.fault (faults.inside_arms (is_known types.now) (arm_trees (map arm_of arms.now)))) }
+    ensures { OnOk result (best.new.fault ≡ least_from rank_of best.old.fault (faults.inside_arms (is_known types.now) (arm_trees (map arm_of arms.now)))) }
 {
     for arm in arms {
         if !is_empty_record(&arm.shape) {

@@ -3,9 +3,9 @@
 //! `interface` has an interface and its parts, and `idl_fault` what can be wrong with the text of one. `read`
 //! reads one: `check` goes over its tree, `draft` makes the interface from it, `declared` and `scope` keep what
 //! is declared before a place, `inside` finds the faults of a type, `measure` its size and `written` its shape;
-//! `types` and `names` are the tables for that, `limits` has the limits, and `fault` the least fault so far. `show` writes an interface,
-//! token by token in `writer`, with the names of errors in `error_names`. `laws` has what holds of every text
-//! that is shown.
+//! `types` is the table for that, `names` adds names and numbers to those before, `limits` has the limits, and
+//! `fault` why a text is refused. `show` writes an interface, token by token in `writer`, with the names of errors in
+//! `error_names`. `laws` has what holds of every text that is shown.
 #![tactic(auto)]
 
 mod check;

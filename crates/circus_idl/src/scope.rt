@@ -2,20 +2,21 @@
 ghost use Rattle.std.specs.Prelude.{◌≡◌, ◌++◌, map, OnOk, IfOk};
 ghost use Rattle.circus_syntax.specs.TypeOf.{tree_of, group_of};
 ghost use Rattle.circus_syntax.specs.TypeTree.{group_trees};
-ghost use Rattle.circus_idl.specs.Least.{least_from};
-ghost use Rattle.circus_idl.specs.Seen.Tables.{name_value};
+ghost use Rattle.circus_fault.specs.Least.{least_from};
+ghost use Rattle.circus_fault.specs.Seen.Tables.{known_of};
+ghost use Rattle.circus_idl.specs.Rank.{rank_of};
 ghost use Rattle.circus_idl.specs.Seen.Measured.{measured, more_parts, is_over, cut_off};
 ghost use Rattle.circus_idl.specs.Seen.Known.{is_known, type_measure};
 ghost use Rattle.circus_idl.specs.Inside as faults;
 ghost use Rattle.circus_idl.specs.Seen.Scoped.{cut_in};
 ghost use Rattle.circus_idl.specs.Faults as whole;
 
-use crate::fault::{Best, Cause};
+use crate::fault::Cause;
 use crate::inside::{field_names, inside, inside_groups};
 use crate::limits::{MOST_PARTS, MOST_ZERO_BYTES};
 use crate::measure::{Measure, measured, measured_groups};
-use crate::names::{Names, Numbers};
 use crate::types::Types;
+use circus_fault::{Best, Names, NumberSet};
 use circus_syntax::{FieldsText, GroupText, MOST_LEVELS, Named, Nameds, TypeText};
 use circus_value::NoMemory;
 use std::alloc::Global;
@@ -27,13 +28,13 @@ pub struct Scope<'a> {
     /// The place of the type, and that of the list of fields, in which reading stopped.
     pub within: Option<u32>,
     pub list: Option<u32>,
-    pub best: Best,
+    pub best: Best<Cause>,
     pub names: Names<'a>,
     pub types: Types<'a>,
     /// The numbers of errors.
     pub errors: Names<'a>,
-    pub error_numbers: Numbers,
-    pub procedure_numbers: Numbers,
+    pub error_numbers: NumberSet,
+    pub procedure_numbers: NumberSet,
     /// The parts of the types so far, at most one more than there may be.
     pub parts: u32,
 }
@@ -78,7 +79,7 @@ fn is_over(parts: u32, size: Measure) -> bool
 impl<'a> Scope<'a> {
     /// A whole type that so many names share. It answers the type's size.
     pub fn whole(&mut self, count: usize, shape: &TypeText) -> Result<Measure, NoMemory>
-        ensures found { OnOk result (self.new.best.fault ≡ least_from self.old.best.fault
+        ensures found { OnOk result (self.new.best.fault ≡ least_from rank_of self.old.best.fault
             (whole.whole_faults cut_off (cut_in self.old) (is_known self.old.types) (type_measure self.old.types) self.old.parts count (tree_of shape.now))) }
         ensures others { OnOk result (self.new ≡ record self.old { best = self.new.best; parts = more_parts self.old.parts count (measured (type_measure self.old.types) (tree_of shape.now)) }) }
         ensures sized { IfOk result (λ measure. measure ≡ measured (type_measure self.old.types) (tree_of shape.now)) }
@@ -97,7 +98,7 @@ impl<'a> Scope<'a> {
     }
 
     fn groups(&mut self, groups: &[GroupText]) -> Result<(), NoMemory>
-        ensures found { OnOk result (self.new.best.fault ≡ least_from self.old.best.fault
+        ensures found { OnOk result (self.new.best.fault ≡ least_from rank_of self.old.best.fault
             (whole.groups_faults cut_off (cut_in self.old) (is_known self.old.types) (type_measure self.old.types) self.old.parts (group_trees (map group_of groups.now)))) }
         ensures others { OnOk result (self.new ≡ record self.old { best = self.new.best; parts = whole.groups_parts cut_off (type_measure self.old.types) self.old.parts (group_trees (map group_of groups.now)) }) }
     {
@@ -109,7 +110,7 @@ impl<'a> Scope<'a> {
 
     /// A list of fields, where it is written.
     pub fn fields(&mut self, fields: &Option<FieldsText>) -> Result<(), NoMemory>
-        ensures found { OnOk result (self.new.best.fault ≡ least_from self.old.best.fault
+        ensures found { OnOk result (self.new.best.fault ≡ least_from rank_of self.old.best.fault
             (whole.fields_faults cut_off (cut_in self.old) (is_known self.old.types) (type_measure self.old.types) self.old.parts fields.now)) }
         ensures others { OnOk result (self.new ≡ record self.old { best = self.new.best; parts = whole.fields_parts cut_off (type_measure self.old.types) self.old.parts fields.now }) }
     {
@@ -122,7 +123,7 @@ impl<'a> Scope<'a> {
 
     /// The arguments of a procedure together.
     pub fn together(&mut self, name: &Named, fields: &Option<FieldsText>) -> Result<(), NoMemory>
-        ensures found { OnOk result (self.new.best.fault ≡ least_from self.old.best.fault
+        ensures found { OnOk result (self.new.best.fault ≡ least_from rank_of self.old.best.fault
             (whole.together_faults cut_off (cut_in self.old) (is_known self.old.types) (type_measure self.old.types) name.now fields.now)) }
         ensures others { OnOk result (self.new ≡ record self.old { best = self.new.best }) }
     {
@@ -138,7 +139,7 @@ impl<'a> Scope<'a> {
 
     /// The errors that a procedure reports.
     pub fn reports(&mut self, names: &Option<Nameds>)
-        ensures found { self.new.best.fault ≡ least_from self.old.best.fault (whole.reports_faults (name_value self.old.errors) names.now) }
+        ensures found { self.new.best.fault ≡ least_from rank_of self.old.best.fault (whole.reports_faults (known_of self.old.errors) names.now) }
         ensures others { self.new ≡ record self.old { best = self.new.best } }
     {
         if let Some(names) = names {
@@ -148,8 +149,8 @@ impl<'a> Scope<'a> {
 }
 
 // Names that are those of no errors.
-fn unknown_errors(best: &mut Best, errors: &Names, names: &[Named])
-    ensures { best.new.fault ≡ least_from best.old.fault (whole.unknown_errors (name_value errors.now) names.now) }
+fn unknown_errors(best: &mut Best<Cause>, errors: &Names, names: &[Named])
+    ensures { best.new.fault ≡ least_from rank_of best.old.fault (whole.unknown_errors (known_of errors.now) names.now) }
 {
     for name in names {
         let known = errors.get(name.name.as_slice());

@@ -1,7 +1,7 @@
 -- What the tables of a scope say.
+use Rattle.circus_fault.specs.Seen.Tables.{known_of, holds_name, holds_number}
 use Rattle.circus_idl.specs.declared.measure.Measure.{Measure}
 use Rattle.circus_idl.specs.declared.scope.Scope.{Scope}
-use Rattle.circus_idl.specs.Seen.Tables.{name_value, holds_name, holds_number}
 use Rattle.circus_idl.specs.Seen.Known.{is_known, type_measure}
 use Rattle.circus_idl.specs.Faults.{Before, Cut}
 
@@ -11,7 +11,7 @@ before_of s = record {
   names = holds_name s.names;
   types = is_known s.types;
   sizes = type_measure s.types;
-  errors = name_value s.errors;
+  errors = known_of s.errors;
   error_numbers = holds_number s.error_numbers;
   procedure_numbers = holds_number s.procedure_numbers;
   parts = s.parts;

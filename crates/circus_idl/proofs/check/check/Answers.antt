@@ -1,14 +1,16 @@
 use Rattle.std.proofs.Common.{◌≡◌, ◌∙◌, ap, sym, map, None, inr}
 use Rattle.circus_syntax.specs.InterfaceTree.{declared_of, interface_of}
+use Rattle.circus_fault.specs.Seen.Tables.{known_of}
+use Rattle.circus_fault.proofs.LeastIs.{no_least}
+use Rattle.circus_idl.specs.Rank.{rank_of}
 use Rattle.circus_idl.specs.declared.measure.Measure.{Measure}
-use Rattle.circus_idl.specs.Seen.Tables.{name_value}
 use Rattle.circus_idl.specs.Seen.Known.{type_form}
 use Rattle.circus_idl.specs.Seen.Drafted.{drafted}
 use Rattle.circus_idl.specs.Faults.{Before, read_faults}
 use Rattle.circus_idl.specs.Means.{and_then, declarations_meant}
 use Rattle.circus_value.specs.ShapeTree.{boolean}
 use Rattle.circus_idl.proofs.FoundWhole.{found_whole}
-use Rattle.circus_idl.proofs.DraftMore.{holds_of_none, no_faults}
+use Rattle.circus_idl.proofs.DraftMore.{holds_of_none}
 use Rattle.circus_idl.proofs.check.check.Goals as goal
 
 pub returns-in_ok-named-in-None-clause-ok : goal.returns-in_ok-named-in-None-clause-ok
@@ -20,16 +22,16 @@ returns-in_ok-named-in-None-clause-ok c =
     let slice = c.as_slice.result.now in
     let found = found_whole stop c.args.tree.now slice first.scope _ _ last.scope.best.fault
     c.start-draft.ensures.found c.start-draft.ensures.cut c.start-draft.ensures.before c.note_above.ensures c.note_above-2.ensures c.in_ok-declare_all.ensures.found c.as_slice.ensures in
-    let meant = holds_of_none last.scope.best.fault (drafted last ≡ and_then (drafted first) (declarations_meant (type_form first.scope.types) (name_value first.scope.errors) (map declared_of slice))) c.in-None.is c.in_ok-declare_all.ensures.meant in (
-      no_faults (read_faults stop tree) (sym c.in-None.is ∙ found),
+    let meant = holds_of_none last.scope.best.fault (drafted last ≡ and_then (drafted first) (declarations_meant (type_form first.scope.types) (known_of first.scope.errors) (map declared_of slice))) c.in-None.is c.in_ok-declare_all.ensures.meant in (
+      no_least rank_of (read_faults stop tree) (sym found ∙ c.in-None.is),
       record {
         name = c.in_ok-named-in-None.ensures.name;
         number = c.in_ok-named-in-None.ensures.number;
         version = c.in_ok-named-in-None.ensures.version;
         declared =
             c.in_ok-named-in-None.ensures.declared ∙ meant
-            ∙ ap (λ m. and_then m (declarations_meant (type_form first.scope.types) (name_value first.scope.errors) (map declared_of slice))) c.start-draft.ensures.drafted
-            ∙ ap (λ f. declarations_meant f (name_value first.scope.errors) (map declared_of slice)) c.start-draft.ensures.formed
+            ∙ ap (λ m. and_then m (declarations_meant (type_form first.scope.types) (known_of first.scope.errors) (map declared_of slice))) c.start-draft.ensures.drafted
+            ∙ ap (λ f. declarations_meant f (known_of first.scope.errors) (map declared_of slice)) c.start-draft.ensures.formed
             ∙ ap (λ (b : Before Measure). declarations_meant (λ _. boolean) b.errors (map declared_of slice)) c.start-draft.ensures.before
             ∙ ap (λ ds. declarations_meant (λ _. boolean) (λ _. None) (map declared_of ds)) c.as_slice.ensures;
       },

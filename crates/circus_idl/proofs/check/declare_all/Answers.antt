@@ -1,7 +1,9 @@
 use Rattle.std.proofs.Common.{◌≡◌, ◌+◌, ◌∙◌, ap, sym, map, drop}
 use Rattle.circus_syntax.specs.InterfaceTree.{declared_of}
-use Rattle.circus_idl.specs.Least.{least_from}
-use Rattle.circus_idl.specs.Seen.Tables.{name_value}
+use Rattle.circus_fault.specs.Least.{least_from}
+use Rattle.circus_fault.specs.Seen.Tables.{known_of}
+use Rattle.circus_fault.proofs.LeastMore.{least_step}
+use Rattle.circus_idl.specs.Rank.{rank_of}
 use Rattle.circus_idl.specs.Seen.Known.{type_form}
 use Rattle.circus_idl.specs.Seen.Scoped.{before_of, cut_in}
 use Rattle.circus_idl.specs.Seen.Drafted.{drafted}
@@ -9,7 +11,6 @@ use Rattle.circus_idl.specs.Faults.{behind, declared_faults, declarations_faults
 use Rattle.circus_idl.specs.Means.{and_then, declared_meant, declarations_meant, forms_behind}
 use Rattle.circus_idl.specs.Seen.Measured.{cut_off}
 use Rattle.circus_idl.proofs.Dropped.{drop_more}
-use Rattle.circus_idl.proofs.LeastMore.{least_step}
 use Rattle.circus_idl.proofs.DraftMore.{by_none, holds_of_none, none_before, meant_step}
 use Rattle.circus_idl.proofs.check.declare_all.Goals as goal
 
@@ -19,7 +20,7 @@ loop-item-preserved c =
     let new = c.add.new.self in
     let d = declared_of c.item-item.result in
     let ds = map declared_of (drop (c.loop-item.item-index + 1) c.args.declared.now) in
-    let whole = and_then (drafted c.args.draft.now) (declarations_meant (type_form c.args.draft.now.scope.types) (name_value c.args.draft.now.scope.errors) (map declared_of c.args.declared.now)) in
+    let whole = and_then (drafted c.args.draft.now) (declarations_meant (type_form c.args.draft.now.scope.types) (known_of c.args.draft.now.scope.errors) (map declared_of c.args.declared.now)) in
     let left = ap (map declared_of) (drop_more c.args.declared.now c.loop-item.item-index c.item-item.result c.loop-item-test.true c.item-item.is) in
     let cut = cut_in old.scope in
     let before = before_of old.scope in
@@ -29,10 +30,10 @@ loop-item-preserved c =
     let found = c.in_ok-add.ensures.found in
     record {
       found =
-          ap (λ k. least_from new.scope.best.fault (declarations_faults cut_off k (before_of new.scope) ds)) c.in_ok-add.ensures.cut
-          ∙ ap (λ b. least_from new.scope.best.fault (declarations_faults cut_off cut b ds)) c.in_ok-add.ensures.behind
-          ∙ least_step new.scope.best.fault old.scope.best.fault _ this rest found
-          (ap (λ xs. least_from old.scope.best.fault (declarations_faults cut_off cut before xs)) (sym left) ∙ c.loop-item.invariant.found);
+          ap (λ k. least_from rank_of new.scope.best.fault (declarations_faults cut_off k (before_of new.scope) ds)) c.in_ok-add.ensures.cut
+          ∙ ap (λ b. least_from rank_of new.scope.best.fault (declarations_faults cut_off cut b ds)) c.in_ok-add.ensures.behind
+          ∙ least_step rank_of new.scope.best.fault old.scope.best.fault _ this rest found
+          (ap (λ xs. least_from rank_of old.scope.best.fault (declarations_faults cut_off cut before xs)) (sym left) ∙ c.loop-item.invariant.found);
       meant = by_none new.scope.best.fault _ (λ none.
           let none_old = none_before old.scope.best.fault this (sym found ∙ none) in
           let formed = holds_of_none new.scope.best.fault (type_form new.scope.types ≡ forms_behind form d) none c.in_ok-add.ensures.formed in

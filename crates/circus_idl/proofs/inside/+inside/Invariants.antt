@@ -2,7 +2,8 @@ use Rattle.std.proofs.Common.{◌≡◌, drop, map}
 use Rattle.circus_syntax.specs.TypeTree.{group_trees, arm_trees}
 use Rattle.circus_syntax.specs.TypeOf.{tree_of, group_of, arm_of}
 use Rattle.circus_syntax.specs.Seen.TypeWeight.{weight, group_weights, arm_weights}
-use Rattle.circus_idl.specs.Least.{least_from}
+use Rattle.circus_fault.specs.Least.{least_from}
+use Rattle.circus_idl.specs.Rank.{rank_of}
 use Rattle.circus_idl.specs.Seen.Known.{is_known}
 use Rattle.circus_idl.specs.Inside as faults
 use Rattle.circus_idl.proofs.inside.+inside.Given as goal
@@ -10,14 +11,14 @@ use Rattle.circus_idl.proofs.inside.+inside.Given as goal
 -- the types that are left decide with what is kept
 abbrev pub invariant-inside_groups-loop-group : goal.invariant-inside_groups-loop-group
 invariant-inside_groups-loop-group l =
-    least_from l.best.fault (faults.inside_groups (is_known l.types) (group_trees (map group_of (drop l.group-index l.groups))))
-    ≡ least_from l.fn.best.fault (faults.inside_groups (is_known l.types) (group_trees (map group_of l.groups)))
+    least_from rank_of l.best.fault (faults.inside_groups (is_known l.types) (group_trees (map group_of (drop l.group-index l.groups))))
+    ≡ least_from rank_of l.fn.best.fault (faults.inside_groups (is_known l.types) (group_trees (map group_of l.groups)))
 
 -- the types that are left decide with what is kept
 abbrev pub invariant-inside_arms-loop-arm : goal.invariant-inside_arms-loop-arm
 invariant-inside_arms-loop-arm l =
-    least_from l.best.fault (faults.inside_arms (is_known l.types) (arm_trees (map arm_of (drop l.arm-index l.arms))))
-    ≡ least_from l.fn.best.fault (faults.inside_arms (is_known l.types) (arm_trees (map arm_of l.arms)))
+    least_from rank_of l.best.fault (faults.inside_arms (is_known l.types) (arm_trees (map arm_of (drop l.arm-index l.arms))))
+    ≡ least_from rank_of l.fn.best.fault (faults.inside_arms (is_known l.types) (arm_trees (map arm_of l.arms)))
 
 abbrev pub decreases-inside : goal.decreases-inside
 decreases-inside l = weight (tree_of l.shape.now)

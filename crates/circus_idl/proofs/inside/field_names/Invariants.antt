@@ -1,13 +1,14 @@
 use Rattle.std.proofs.Common.{◌≡◌, drop, map}
 use Rattle.circus_syntax.specs.TypeTree.{group_trees}
 use Rattle.circus_syntax.specs.TypeOf.{group_of}
-use Rattle.circus_idl.specs.Least.{least_from}
-use Rattle.circus_idl.specs.Seen.Tables.{holds_name}
+use Rattle.circus_fault.specs.Least.{least_from}
+use Rattle.circus_fault.specs.Seen.Tables.{holds_name}
+use Rattle.circus_idl.specs.Rank.{rank_of}
 use Rattle.circus_idl.specs.Inside.{repeated_names, group_names, no_name}
 use Rattle.circus_idl.proofs.inside.field_names.Given as goal
 
 -- the groups that are left decide with what is kept
 abbrev pub invariant-loop-group : goal.invariant-loop-group
 invariant-loop-group l =
-    least_from l.best.fault (repeated_names (holds_name l.names) (group_names (group_trees (map group_of (drop l.group-index l.groups)))))
-    ≡ least_from l.fn.best.fault (repeated_names no_name (group_names (group_trees (map group_of l.groups))))
+    least_from rank_of l.best.fault (repeated_names (holds_name l.names) (group_names (group_trees (map group_of (drop l.group-index l.groups)))))
+    ≡ least_from rank_of l.fn.best.fault (repeated_names no_name (group_names (group_trees (map group_of l.groups))))

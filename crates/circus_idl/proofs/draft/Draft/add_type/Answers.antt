@@ -1,4 +1,4 @@
-use Rattle.std.proofs.Common.{◌≡◌, ◌∙◌, ap, sym, map, None}
+use Rattle.std.proofs.Common.{◌≡◌, ◌∙◌, ap, sym, map, not, None}
 use Rattle.circus_value.specs.ShapeOf as shapes
 use Rattle.circus_syntax.specs.TypeOf.{tree_of}
 use Rattle.circus_idl.specs.Seen.Known.{type_form}
@@ -15,7 +15,7 @@ returns-in_ok-push-clause-meant c =
     let form = type_form c.args.self.now.scope.types in
     let s = written form (tree_of c.args.shape.now) in
     let fault = c.declared_type.new.self.best.fault in
-    let none : fault ≡ None = none_from fault (let e = c.is_none.ensures in let t = c.if-is_none.true in cc) in
+    let none : fault ≡ None = none_from fault (c.is_none.ensures ∙ ap not c.if-is_none.true) in
     let formed = holds_of_none fault (type_form c.declared_type.new.self.types ≡ standing_for name s form) none c.in_ok-declared_type.ensures.formed in
     let shaped : shapes.tree_of c.in_ok-shape.field-0 ≡ s =
     c.in_ok-shape.ensures ∙ ap (λ n. type_form c.declared_type.new.self.types n) c.as_slice.ensures ∙ ap (λ f. f name) formed ∙ standing_here name s form in
