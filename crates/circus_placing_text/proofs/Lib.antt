@@ -5,8 +5,7 @@ pub mod Conditions
 pub mod Placings
 pub mod Within
 pub mod Whole
-pub mod LeastMore
-pub mod LeastIs
 pub mod Obeying
 pub mod ReadIs
 pub mod Ascii
+mod Signs

@@ -15,20 +15,18 @@ use Rattle.circus_placing.specs.declared.placing.Placing.{Placing}
 use Rattle.circus_placing.specs.ConditionTree.{tree_of}
 use Rattle.circus_placing.specs.ConditionTree as tree
 use Rattle.circus_placing.specs.Obeys.{most_machines, most_members, IsOfMember, AreOfMembers, Obeys}
+use Rattle.circus_fault.specs.Least.{faults_if}
+use Rattle.circus_fault.specs.Known.{Known, nobody, also}
+use Rattle.circus_fault.proofs.Items.{none_in}
 use Rattle.circus_placing_text.specs.declared.place_fault.PlaceCause.{PlaceCause}
 use Rattle.circus_placing_text.specs.declared.text.AttributeText.{AttributeText}
 use Rattle.circus_placing_text.specs.declared.text.MachineText.{MachineText}
 use Rattle.circus_placing_text.specs.declared.text.OperandText.{OperandText}
 use Rattle.circus_placing_text.specs.declared.text.OperandText.TheVariants as operand
 use Rattle.circus_placing_text.specs.Written.{Written, or, and, not, group, differ, compare, holds, PlacingTree}
-use Rattle.circus_placing_text.specs.Least.{faults_if}
-use Rattle.circus_placing_text.specs.Faults.{Known, nobody, also, repeated, repeated_names, out_of, attribute_names, machine_faults, machines_faults, numbers_behind, numbers_of, operand_faults, condition_faults, unknown_names, present_faults, placing_faults}
+use Rattle.circus_placing_text.specs.Faults.{repeated, repeated_names, out_of, attribute_names, machine_faults, machines_faults, numbers_behind, numbers_of, operand_faults, condition_faults, unknown_names, present_faults, placing_faults}
 use Rattle.circus_placing_text.specs.Means.{attribute_meant, machine_meant, operand_meant, condition_meant, present_meant, Means}
 use Rattle.circus_placing_text.specs.Seen.Cut.{operand_cut, condition_cut, name_cut, present_cut}
-
-pub none_in : {X : Type 0} (xs ys : List X) → xs ++ ys ≡ [] → (xs ≡ []) × (ys ≡ [])
-none_in [] ys is = (refl, is)
-none_in (x ∷ xs) ys is = absurd (cc)
 
 no_fault : (b : Bool) (place : ℕ) (cause : PlaceCause) → faults_if b place cause ≡ [] → b ≡ false
 no_fault true place cause is = absurd (cc)

@@ -15,19 +15,22 @@ use Rattle.circus_syntax.specs.Reader.{Reader, open_at}
 use Rattle.circus_syntax.proofs.Viewed.{text_tokens}
 use Rattle.circus_placing.specs.declared.placing.Placing.{Placing}
 use Rattle.circus_placing.specs.Obeys.{Obeys}
+use Rattle.circus_fault.specs.declared.fault.Fault.{Fault}
+use Rattle.circus_fault.specs.Least.{least_from, IsLeast}
+use Rattle.circus_fault.proofs.Items.{none_in, of_each}
+use Rattle.circus_fault.proofs.LeastIs.{least_is, no_least}
+use Rattle.circus_placing_text.specs.declared.place_fault.PlaceCause.{PlaceCause}
 use Rattle.circus_placing_text.specs.declared.place_fault.PlaceFault.{PlaceFault}
 use Rattle.circus_placing_text.specs.declared.place_fault.PlaceFault.TheVariants.{Refused, NoMemory}
-use Rattle.circus_placing_text.specs.declared.fault.Fault.{Fault}
 use Rattle.circus_placing_text.specs.Written.{PlacingTree}
 use Rattle.circus_placing_text.specs.Grammar.{IsPlacing, IsWithin, most_levels}
 use Rattle.circus_placing_text.specs.Reading.{placing}
 use Rattle.circus_placing_text.specs.Stopping.{IsUnexpected, IsTooDeep}
-use Rattle.circus_placing_text.specs.Least.{least_from, IsLeast}
+use Rattle.circus_placing_text.specs.Rank.{rank_of}
 use Rattle.circus_placing_text.specs.Faults.{stop_faults, placing_faults, read_faults}
 use Rattle.circus_placing_text.specs.Means.{Means}
 use Rattle.circus_placing_text.specs.ReadAs.{placed, line_of, IsReadAs, IsStopOf, IsTreeOf, IsLeastOf, IsRefused}
-use Rattle.circus_placing_text.proofs.LeastIs.{of_each, least_is, no_least}
-use Rattle.circus_placing_text.proofs.Obeying.{none_in, meant_obeys}
+use Rattle.circus_placing_text.proofs.Obeying.{meant_obeys}
 use Rattle.circus_placing_text.proofs.Whole.{of_text, placing_one, placing_whole, placing_filled_in, placing_unexpected, placing_too_deep}
 
 stop_of : (ts left : List Placed) (tree : PlacingTree) (s : Stop) (e : ℕ) → AreTokens ts → placing most_levels (open_at ts e) ≡ (tree, record { rest = left; end = e; stop = Some s }) → (c : StopCause) → s.cause ≡ c → IsStopOf c ts left
@@ -38,19 +41,19 @@ tree_of : (ts left : List Placed) (tree : PlacingTree) (stop : Option Stop) (e :
 tree_of ts left tree None e tokens is = placing_whole ts left tree e tokens is
 tree_of ts left tree (Some s) e tokens is = let (filled, stands) = placing_filled_in ts left tree s e tokens is in (left, filled, stands, stop_of ts left tree s e tokens is s.cause refl)
 
-least_of : (text : List ℕ) (found : List Token) (tree : PlacingTree) (s : Reader) (f : Fault) (answer : PlaceFault) → All (IsTokenIn text) found
-    → placing most_levels (open_at (placed text found) (length text)) ≡ (tree, s) → least_from None (read_faults s.stop tree) ≡ Some f → answer ≡ Refused (line_of text f.place) f.cause → IsLeastOf text found answer
+least_of : (text : List ℕ) (found : List Token) (tree : PlacingTree) (s : Reader) (f : Fault PlaceCause) (answer : PlaceFault) → All (IsTokenIn text) found
+    → placing most_levels (open_at (placed text found) (length text)) ≡ (tree, s) → least_from rank_of None (read_faults s.stop tree) ≡ Some f → answer ≡ Refused (line_of text f.place) f.cause → IsLeastOf text found answer
 least_of text found tree s f answer each is least given = record {
   tree = tree;
   stop = s.stop;
   tree_of = tree_of (placed text found) s.rest tree s.stop (length text) (text_tokens text found 0 each) (of_text (placed text found) tree s (length text) is);
   fault = f;
-  least = least_is (read_faults s.stop tree) f least;
+  least = least_is rank_of (read_faults s.stop tree) f least;
   given = given;
 }
 
 refused_as : (text : List ℕ) (found : List Token) (tree : PlacingTree) (s : Reader) (answer : PlaceFault) → All (IsTokenIn text) found → placing most_levels (open_at (placed text found) (length text)) ≡ (tree, s)
-    → (answer ≡ NoMemory) ⊎ ((f : Fault) × (least_from None (read_faults s.stop tree) ≡ Some f) × (answer ≡ Refused (line_of text f.place) f.cause)) → (answer ≡ NoMemory) ⊎ IsLeastOf text found answer
+    → (answer ≡ NoMemory) ⊎ ((f : Fault PlaceCause) × (least_from rank_of None (read_faults s.stop tree) ≡ Some f) × (answer ≡ Refused (line_of text f.place) f.cause)) → (answer ≡ NoMemory) ⊎ IsLeastOf text found answer
 refused_as text found tree s answer each is (inl no_memory) = inl no_memory
 refused_as text found tree s answer each is (inr (f, least, given)) = inr (least_of text found tree s f answer each is least given)
 
@@ -59,8 +62,8 @@ no_stop None none = refl
 no_stop (Some s) none = absurd (cc)
 
 -- what was read without a fault
-pub clean : (stop : Option Stop) (tree : PlacingTree) → least_from None (read_faults stop tree) ≡ None → (stop ≡ None) × (placing_faults tree ≡ [])
-clean stop tree none = let (going, rules) = none_in (stop_faults stop) (placing_faults tree) (no_least (read_faults stop tree) none) in (no_stop stop going, rules)
+pub clean : (stop : Option Stop) (tree : PlacingTree) → least_from rank_of None (read_faults stop tree) ≡ None → (stop ≡ None) × (placing_faults tree ≡ [])
+clean stop tree none = let (going, rules) = none_in (stop_faults stop) (placing_faults tree) (no_least rank_of (read_faults stop tree) none) in (no_stop stop going, rules)
 
 read_as : (text : List ℕ) (found : List Token) (tree : PlacingTree) (s : Reader) (p : Placing) → length text ≤ longest_text → AreTokensOf text found → All (IsTokenIn text) found
     → placing most_levels (open_at (placed text found) (length text)) ≡ (tree, s) → (s.stop ≡ None) × (placing_faults tree ≡ []) → Means tree p → IsReadAs text p
@@ -71,7 +74,7 @@ read_as text found tree s p short tokens each is none means =
 
 -- A placing without a fault is not refused.
 
-none_there : (f : Fault) → Contains [] f → ⊥
+none_there : (f : Fault PlaceCause) → Contains [] f → ⊥
 none_there f there = of_each (λ g. ⊥) [] f tt there
 
 not_unexpected : (ts left : List Placed) (tree : PlacingTree) → IsPlacing ts tree → IsUnexpected ts left → ⊥
@@ -89,7 +92,7 @@ not_stopped TooDeep ts left tree is within stop = not_too_deep ts left tree is w
 no_least_of : (text : List ℕ) (found : List Token) (tree : PlacingTree) (answer : PlaceFault) → IsPlacing (placed text found) tree → IsWithin most_levels tree → placing_faults tree ≡ [] → IsLeastOf text found answer → ⊥
 no_least_of text found tree answer is within none L = by_stop L.stop L.tree_of L.least
   where
-    by_stop : (stop : Option Stop) → IsTreeOf (placed text found) (length text) stop L.tree → IsLeast L.fault (read_faults stop L.tree) → ⊥
+    by_stop : (stop : Option Stop) → IsTreeOf (placed text found) (length text) stop L.tree → IsLeast rank_of L.fault (read_faults stop L.tree) → ⊥
     by_stop None of least = none_there L.fault (subst (λ fs. Contains fs L.fault) (ap placing_faults (placing_one (placed text found) L.tree tree of.0 is) ∙ none) least.found)
     by_stop (Some s) (left, filled, stands, stop) least = not_stopped s.cause (placed text found) left tree is within stop
 
@@ -122,8 +125,8 @@ module _ (text : List ℕ) (found : List Token) (tree : PlacingTree) (s : Reader
   ok_obeys (Err e) none means = tt
 
   pub err_read : (r : Result Placing PlaceFault) → All (IsTokenIn text) found → placing most_levels (open_at (placed text found) (length text)) ≡ (tree, s)
-      → IfErr r (λ e. (e ≡ NoMemory) ⊎ ((f : Fault) × (least_from None (read_faults stop tree) ≡ Some f) × (e ≡ Refused (line_of text f.place) f.cause))) → IfErr r (λ e. (e ≡ NoMemory) ⊎ IsLeastOf text found e)
+      → IfErr r (λ e. (e ≡ NoMemory) ⊎ ((f : Fault PlaceCause) × (least_from rank_of None (read_faults stop tree) ≡ Some f) × (e ≡ Refused (line_of text f.place) f.cause))) → IfErr r (λ e. (e ≡ NoMemory) ⊎ IsLeastOf text found e)
   err_read (Ok p) each is err = tt
   err_read (Err e) each is err =
       refused_as text found tree s e each is
-      (subst (λ o. (e ≡ NoMemory) ⊎ ((f : Fault) × (least_from None (read_faults o tree) ≡ Some f) × (e ≡ Refused (line_of text f.place) f.cause))) same err)
+      (subst (λ o. (e ≡ NoMemory) ⊎ ((f : Fault PlaceCause) × (least_from rank_of None (read_faults o tree) ≡ Some f) × (e ≡ Refused (line_of text f.place) f.cause))) same err)

@@ -1,54 +1,44 @@
 -- The faults of a placing as it is written, in the order of its text.
-use Rattle.std.specs.Prelude.{ℕ, true, ◌+◌, ◌||◌, ◌==◌, nat_lt, cond, bytes_eq, List, [], ◌∷◌, ◌++◌, map, Option, Some, None, is_some, is_none}
+use Rattle.std.specs.Prelude.{ℕ, true, ◌+◌, ◌||◌, ◌==◌, nat_lt, List, [], ◌∷◌, ◌++◌, map, Option, Some, None, is_some, is_none}
 use Rattle.circus_syntax.specs.declared.named.Named.{Named}
 use Rattle.circus_syntax.specs.declared.named.Numeral.{Numeral}
 use Rattle.circus_syntax.specs.declared.stopping.Stop.{Stop}
 use Rattle.circus_syntax.specs.declared.stopping.StopCause.{StopCause}
 use Rattle.circus_syntax.specs.declared.stopping.StopCause.TheVariants.{Unexpected, TooDeep}
 use Rattle.circus_placing.specs.Obeys.{most_machines, most_members}
+use Rattle.circus_fault.specs.declared.fault.Fault.{Fault}
+use Rattle.circus_fault.specs.Least.{faults_if}
+use Rattle.circus_fault.specs.Known.{Known, nobody, also}
 use Rattle.circus_placing_text.specs.declared.place_fault.PlaceCause.{PlaceCause}
 use Rattle.circus_placing_text.specs.declared.place_fault.PlaceCause.TheVariants.{Syntax, Deep, UnknownName, Repeated, OutOfRange, TooMany}
-use Rattle.circus_placing_text.specs.declared.fault.Fault.{Fault}
 use Rattle.circus_placing_text.specs.declared.text.AttributeText.{AttributeText}
 use Rattle.circus_placing_text.specs.declared.text.MachineText.{MachineText}
 use Rattle.circus_placing_text.specs.declared.text.OperandText.{OperandText}
 use Rattle.circus_placing_text.specs.declared.text.OperandText.TheVariants as operand
 use Rattle.circus_placing_text.specs.Written.{Written, or, and, not, group, differ, compare, holds, PlacingTree}
-use Rattle.circus_placing_text.specs.Least.{faults_if}
-
--- which number a name has, where it stands before a place
-abbrev pub Known : Type 0
-Known = List ℕ → Option ℕ
-
-abbrev pub nobody : Known
-nobody name = None
-
--- a name with a number besides those that stand before it
-abbrev pub also : List ℕ → ℕ → Known → Known
-also name number known other = cond (bytes_eq name other) (Some number) (known other)
 
 -- a name that stands before
-abbrev pub repeated : Known → Named → List Fault
+abbrev pub repeated : Known → Named → List (Fault PlaceCause)
 repeated known n = faults_if (is_some (known n.name)) n.at Repeated
 
-abbrev pub repeated_names : Known → List Named → List Fault
+abbrev pub repeated_names : Known → List Named → List (Fault PlaceCause)
 repeated_names known [] = []
 repeated_names known (n ∷ ns) = repeated known n ++ repeated_names (also n.name 0 known) ns
 
 -- a number that isn't 1 to the greatest
-abbrev pub out_of : ℕ → Numeral → List Fault
+abbrev pub out_of : ℕ → Numeral → List (Fault PlaceCause)
 out_of greatest n = faults_if ((n.value == 0) || nat_lt greatest n.value) n.at OutOfRange
 
 abbrev pub attribute_names : List AttributeText → List Named
 attribute_names attributes = map (λ (a : AttributeText). a.name) attributes
 
 -- the machine that has this number
-abbrev pub machine_faults : Known → ℕ → MachineText → List Fault
+abbrev pub machine_faults : Known → ℕ → MachineText → List (Fault PlaceCause)
 machine_faults known number m =
     repeated known m.name ++ faults_if (number == most_machines) m.name.at TooMany ++ repeated_names nobody (attribute_names m.attributes)
 
 -- the machines from this number on
-abbrev pub machines_faults : Known → ℕ → List MachineText → List Fault
+abbrev pub machines_faults : Known → ℕ → List MachineText → List (Fault PlaceCause)
 machines_faults known number [] = []
 machines_faults known number (m ∷ ms) = machine_faults known number m ++ machines_faults (also m.name.name number known) (number + 1) ms
 
@@ -60,11 +50,11 @@ numbers_behind known number (m ∷ ms) = numbers_behind (also m.name.name number
 abbrev pub numbers_of : List MachineText → Known
 numbers_of machines = numbers_behind nobody 0 machines
 
-abbrev pub operand_faults : ℕ → OperandText → List Fault
+abbrev pub operand_faults : ℕ → OperandText → List (Fault PlaceCause)
 operand_faults members (operand.Attribute member name) = out_of members member
 operand_faults members (operand.Fixed c) = []
 
-abbrev pub condition_faults : ℕ → Written → List Fault
+abbrev pub condition_faults : ℕ → Written → List (Fault PlaceCause)
 condition_faults members (or a b) = condition_faults members a ++ condition_faults members b
 condition_faults members (and a b) = condition_faults members a ++ condition_faults members b
 condition_faults members (not a) = condition_faults members a
@@ -74,15 +64,15 @@ condition_faults members (compare c a b) = operand_faults members a ++ operand_f
 condition_faults members (holds a) = operand_faults members a
 
 -- the names of no machine
-abbrev pub unknown_names : Known → List Named → List Fault
+abbrev pub unknown_names : Known → List Named → List (Fault PlaceCause)
 unknown_names machines [] = []
 unknown_names machines (n ∷ ns) = faults_if (is_none (machines n.name)) n.at UnknownName ++ unknown_names machines ns
 
-abbrev pub present_faults : Known → Option (List Named) → List Fault
+abbrev pub present_faults : Known → Option (List Named) → List (Fault PlaceCause)
 present_faults machines None = []
 present_faults machines (Some names) = unknown_names machines names ++ repeated_names nobody names
 
-abbrev pub placing_faults : PlacingTree → List Fault
+abbrev pub placing_faults : PlacingTree → List (Fault PlaceCause)
 placing_faults p =
     machines_faults nobody 0 p.machines ++ out_of most_members p.members ++ condition_faults p.members.value p.condition
     ++ present_faults (numbers_of p.machines) p.present
@@ -93,10 +83,10 @@ stop_fault Unexpected = Syntax
 stop_fault TooDeep = Deep
 
 -- where reading stopped
-abbrev pub stop_faults : Option Stop → List Fault
+abbrev pub stop_faults : Option Stop → List (Fault PlaceCause)
 stop_faults None = []
 stop_faults (Some s) = faults_if true s.place (stop_fault s.cause)
 
 -- all faults of what is read of a text
-abbrev pub read_faults : Option Stop → PlacingTree → List Fault
+abbrev pub read_faults : Option Stop → PlacingTree → List (Fault PlaceCause)
 read_faults stop p = stop_faults stop ++ placing_faults p

@@ -3,7 +3,7 @@ pub mod Written
 pub mod Grammar
 pub mod Reading
 pub mod Stopping
-pub mod Least
+pub mod Rank
 pub mod Faults
 pub mod Means
 pub mod ReadAs

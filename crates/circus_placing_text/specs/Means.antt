@@ -10,6 +10,7 @@ use Rattle.circus_placing.specs.declared.condition.Operand.{Operand}
 use Rattle.circus_placing.specs.declared.condition.Operand.TheVariants as value
 use Rattle.circus_placing.specs.ConditionTree.{ConditionTree, tree_of}
 use Rattle.circus_placing.specs.ConditionTree as tree
+use Rattle.circus_fault.specs.Known.{Known}
 use Rattle.circus_placing_text.specs.declared.text.ConstantText.{ConstantText}
 use Rattle.circus_placing_text.specs.declared.text.ConstantText.TheVariants as constant
 use Rattle.circus_placing_text.specs.declared.text.AttributeText.{AttributeText}
@@ -17,7 +18,7 @@ use Rattle.circus_placing_text.specs.declared.text.MachineText.{MachineText}
 use Rattle.circus_placing_text.specs.declared.text.OperandText.{OperandText}
 use Rattle.circus_placing_text.specs.declared.text.OperandText.TheVariants as operand
 use Rattle.circus_placing_text.specs.Written.{Written, or, and, not, group, differ, compare, holds, PlacingTree}
-use Rattle.circus_placing_text.specs.Faults.{Known, numbers_of}
+use Rattle.circus_placing_text.specs.Faults.{numbers_of}
 
 abbrev pub constant_meant : ConstantText → Constant
 constant_meant (constant.Number n) = meant.Number n.value

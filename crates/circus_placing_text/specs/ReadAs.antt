@@ -12,14 +12,16 @@ use Rattle.circus_syntax.specs.Placed.{Placed}
 use Rattle.circus_syntax.specs.Read.{placed_from}
 use Rattle.circus_syntax.specs.Reader.{place_in}
 use Rattle.circus_placing.specs.declared.placing.Placing.{Placing}
+use Rattle.circus_fault.specs.declared.fault.Fault.{Fault}
+use Rattle.circus_fault.specs.Least.{IsLeast}
+use Rattle.circus_placing_text.specs.declared.place_fault.PlaceCause.{PlaceCause}
 use Rattle.circus_placing_text.specs.declared.place_fault.PlaceFault.{PlaceFault}
 use Rattle.circus_placing_text.specs.declared.place_fault.PlaceFault.TheVariants.{Refused, NoMemory}
 use Rattle.circus_placing_text.specs.declared.place_fault.PlaceCause.TheVariants.{BadCharacter, OpenString, LongNumber, TooLarge}
-use Rattle.circus_placing_text.specs.declared.fault.Fault.{Fault}
 use Rattle.circus_placing_text.specs.Written.{PlacingTree}
 use Rattle.circus_placing_text.specs.Grammar.{IsPlacing, IsWithin, most_levels}
 use Rattle.circus_placing_text.specs.Stopping.{IsUnexpected, IsTooDeep, IsFilledIn}
-use Rattle.circus_placing_text.specs.Least.{IsLeast}
+use Rattle.circus_placing_text.specs.Rank.{rank_of}
 use Rattle.circus_placing_text.specs.Faults.{placing_faults, read_faults}
 use Rattle.circus_placing_text.specs.Means.{Means}
 
@@ -57,8 +59,8 @@ pub record IsLeastOf (text : List ℕ) (found : List Token) (answer : PlaceFault
   pub tree : PlacingTree
   pub stop : Option Stop
   pub tree_of : IsTreeOf (placed text found) (length text) stop tree
-  pub fault : Fault
-  pub least : IsLeast fault (read_faults stop tree)
+  pub fault : Fault PlaceCause
+  pub least : IsLeast rank_of fault (read_faults stop tree)
   pub given : answer ≡ Refused (line_of text fault.place) fault.cause
 
 -- the answer that a fault of the tokens gives

@@ -1,14 +1,15 @@
 // The least fault of a placing.
 ghost use Rattle.std.specs.Prelude.{◌≡◌, None, OnOk, IfOk};
+ghost use Rattle.circus_fault.specs.Least.{least_from};
+ghost use Rattle.circus_fault.specs.Known.{nobody, also};
+ghost use Rattle.circus_fault.specs.Seen.Tables.{known_of};
 ghost use Rattle.circus_placing_text.specs.Written.{written_of, placing_of};
-ghost use Rattle.circus_placing_text.specs.Seen.Tables.{known_of};
-ghost use Rattle.circus_placing_text.specs.Least.{least_from};
-ghost use Rattle.circus_placing_text.specs.Faults.{nobody, repeated_names, attribute_names, machine_faults, machines_faults, also, numbers_of, operand_faults, condition_faults, unknown_names, present_faults, stop_faults, read_faults};
+ghost use Rattle.circus_placing_text.specs.Rank.{rank_of};
+ghost use Rattle.circus_placing_text.specs.Faults.{repeated, repeated_names, out_of, attribute_names, machine_faults, machines_faults, numbers_of, operand_faults, condition_faults, unknown_names, present_faults, stop_faults, read_faults};
 
-use crate::fault::Best;
-use crate::names::Names;
 use crate::{AttributeText, ConditionText, MachineText, OperandText, PlaceCause, PlacingText};
-use circus_syntax::{Named, Nameds, Stop, StopCause};
+use circus_fault::{Best, Names};
+use circus_syntax::{Named, Nameds, Numeral, Stop, StopCause};
 use circus_value::NoMemory;
 use std::alloc::Global;
 
@@ -19,8 +20,8 @@ pub const MOST_MACHINES: usize = 24;
 pub const MOST_MEMBERS: u64 = 5;
 
 // Where reading stopped is the first fault that is known.
-fn best_of(stop: &Option<Stop>) -> Best
-    ensures { result.fault ≡ least_from None (stop_faults stop.now) }
+fn best_of(stop: &Option<Stop>) -> Best<PlaceCause>
+    ensures { result.fault ≡ least_from rank_of None (stop_faults stop.now) }
 {
     let mut best = Best { fault: None };
     if let Some(stop) = stop {
@@ -33,30 +34,60 @@ fn best_of(stop: &Option<Stop>) -> Best
     best
 }
 
-fn attributes(alloc: Global, best: &mut Best, attributes: &[AttributeText]) -> Result<(), NoMemory>
-    ensures { OnOk result (best.new.fault ≡ least_from best.old.fault (repeated_names nobody (attribute_names attributes.now))) }
+// A number that isn't 1 to the greatest.
+fn note_out_of(best: &mut Best<PlaceCause>, greatest: u64, number: Numeral)
+    ensures { best.new.fault ≡ least_from rank_of best.old.fault (out_of greatest number) }
+{
+    best.note(
+        number.value == 0 || number.value > greatest,
+        number.at,
+        PlaceCause::OutOfRange,
+    );
+}
+
+// A name with a number besides those that stand before it, one of which it may repeat.
+fn meet<'a>(
+    best: &mut Best<PlaceCause>,
+    names: &mut Names<'a>,
+    name: &'a Named,
+    number: usize,
+) -> Result<(), NoMemory>
+    ensures found { OnOk result (best.new.fault ≡ least_from rank_of best.old.fault (repeated (known_of names.old) name.now)) }
+    ensures added { OnOk result (known_of names.new ≡ also name.now.name number (known_of names.old)) }
+{
+    let earlier = names.insert(name.name.as_slice(), number)?;
+    best.note(earlier.is_some(), name.at, PlaceCause::Repeated);
+    Ok(())
+}
+
+fn attributes(
+    alloc: Global,
+    best: &mut Best<PlaceCause>,
+    attributes: &[AttributeText],
+) -> Result<(), NoMemory>
+    ensures { OnOk result (best.new.fault ≡ least_from rank_of best.old.fault (repeated_names nobody (attribute_names attributes.now))) }
 {
     let mut names = Names::new(alloc);
     for attribute in attributes {
-        names.meet(best, &attribute.name, 0)?;
+        meet(best, &mut names, &attribute.name, 0)?;
     }
     Ok(())
 }
 
 // Names that stand twice.
-fn repeated(alloc: Global, best: &mut Best, all: &[Named]) -> Result<(), NoMemory>
-    ensures { OnOk result (best.new.fault ≡ least_from best.old.fault (repeated_names nobody all.now)) }
+fn repeated(alloc: Global, best: &mut Best<PlaceCause>, all: &[Named]) -> Result<(), NoMemory>
+    ensures { OnOk result (best.new.fault ≡ least_from rank_of best.old.fault (repeated_names nobody all.now)) }
 {
     let mut names = Names::new(alloc);
     for name in all {
-        names.meet(best, name, 0)?;
+        meet(best, &mut names, name, 0)?;
     }
     Ok(())
 }
 
 // Names that are those of no machines.
-fn unknown(best: &mut Best, machines: &Names, names: &[Named])
-    ensures { best.new.fault ≡ least_from best.old.fault (unknown_names (known_of machines.now) names.now) }
+fn unknown(best: &mut Best<PlaceCause>, machines: &Names, names: &[Named])
+    ensures { best.new.fault ≡ least_from rank_of best.old.fault (unknown_names (known_of machines.now) names.now) }
 {
     for name in names {
         let known = machines.get(name.name.as_slice());
@@ -66,15 +97,15 @@ fn unknown(best: &mut Best, machines: &Names, names: &[Named])
 
 fn machine<'a>(
     alloc: Global,
-    best: &mut Best,
+    best: &mut Best<PlaceCause>,
     names: &mut Names<'a>,
     number: usize,
     machine: &'a MachineText,
 ) -> Result<(), NoMemory>
-    ensures found { OnOk result (best.new.fault ≡ least_from best.old.fault (machine_faults (known_of names.old) number machine.now)) }
+    ensures found { OnOk result (best.new.fault ≡ least_from rank_of best.old.fault (machine_faults (known_of names.old) number machine.now)) }
     ensures added { OnOk result (known_of names.new ≡ also machine.now.name.name number (known_of names.old)) }
 {
-    names.meet(best, &machine.name, number)?;
+    meet(best, names, &machine.name, number)?;
     best.note(
         number == MOST_MACHINES,
         machine.name.at,
@@ -86,10 +117,10 @@ fn machine<'a>(
 // The machines, and their numbers by their names.
 fn machines<'a>(
     alloc: Global,
-    best: &mut Best,
+    best: &mut Best<PlaceCause>,
     machines: &'a [MachineText],
 ) -> Result<Names<'a>, NoMemory>
-    ensures found { OnOk result (best.new.fault ≡ least_from best.old.fault (machines_faults nobody 0 machines.now)) }
+    ensures found { OnOk result (best.new.fault ≡ least_from rank_of best.old.fault (machines_faults nobody 0 machines.now)) }
     ensures numbered { IfOk result (λ names. known_of names ≡ numbers_of machines.now) }
 {
     let mut names = Names::new(alloc);
@@ -99,18 +130,18 @@ fn machines<'a>(
     Ok(names)
 }
 
-fn operand(best: &mut Best, members: u64, operand: &OperandText)
-    ensures { best.new.fault ≡ least_from best.old.fault (operand_faults members operand.now) }
+fn operand(best: &mut Best<PlaceCause>, members: u64, operand: &OperandText)
+    ensures { best.new.fault ≡ least_from rank_of best.old.fault (operand_faults members operand.now) }
 {
     if let OperandText::Attribute(member, _) = operand {
-        best.note_out_of(members, *member);
+        note_out_of(best, members, *member);
     }
 }
 
 #[cycle(checking)]
-#[tactic(auto, using(crate::proofs::LeastMore::least_then))]
-fn condition(best: &mut Best, members: u64, whole: &ConditionText)
-    ensures { best.new.fault ≡ least_from best.old.fault (condition_faults members (written_of whole.now)) }
+#[tactic(auto, using(circus_fault::proofs::LeastMore::least_then))]
+fn condition(best: &mut Best<PlaceCause>, members: u64, whole: &ConditionText)
+    ensures { best.new.fault ≡ least_from rank_of best.old.fault (condition_faults members (written_of whole.now)) }
 {
     match whole {
         ConditionText::Or(left, right) | ConditionText::And(left, right) => {
@@ -127,14 +158,14 @@ fn condition(best: &mut Best, members: u64, whole: &ConditionText)
     }
 }
 
-#[tactic(auto, using(crate::proofs::LeastMore::least_then))]
+#[tactic(auto, using(circus_fault::proofs::LeastMore::least_then))]
 fn present(
     alloc: Global,
-    best: &mut Best,
+    best: &mut Best<PlaceCause>,
     machines: &Names,
     names: &Option<Nameds>,
 ) -> Result<(), NoMemory>
-    ensures { OnOk result (best.new.fault ≡ least_from best.old.fault (present_faults (known_of machines.now) names.now)) }
+    ensures { OnOk result (best.new.fault ≡ least_from rank_of best.old.fault (present_faults (known_of machines.now) names.now)) }
 {
     if let Some(names) = names {
         unknown(best, machines, names.as_slice());
@@ -149,13 +180,13 @@ pub fn check<'a>(
     alloc: Global,
     text: &'a PlacingText,
     stop: &Option<Stop>,
-) -> Result<(Best, Names<'a>), NoMemory>
-    ensures found { IfOk result (λ checked. checked.0.fault ≡ least_from None (read_faults stop.now (placing_of text.now))) }
+) -> Result<(Best<PlaceCause>, Names<'a>), NoMemory>
+    ensures found { IfOk result (λ checked. checked.0.fault ≡ least_from rank_of None (read_faults stop.now (placing_of text.now))) }
     ensures numbered { IfOk result (λ checked. known_of checked.1 ≡ numbers_of text.now.machines) }
 {
     let mut best = best_of(stop);
     let names = machines(alloc, &mut best, text.machines.as_slice())?;
-    best.note_out_of(MOST_MEMBERS, text.members);
+    note_out_of(&mut best, MOST_MEMBERS, text.members);
     condition(&mut best, text.members.value, &text.condition);
     present(alloc, &mut best, &names, &text.present)?;
     Ok((best, names))

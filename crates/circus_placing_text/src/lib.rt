@@ -2,15 +2,13 @@
 //!
 //! `read` reads a text. `text` has a placing as it is written, which `reading` reads from tokens, with the help of
 //! `value_reading` and `condition_reading`; `start` says what the next token begins, and `words` which words name
-//! nothing. `check` finds the least `fault` of it, with the `names` that stand before a place, and `meaning` makes the
-//! placing that it means. `place_fault` has what can be wrong with a text.
+//! nothing. `check` finds the least fault of it, and `meaning` makes the placing that it means. `place_fault` has what
+//! can be wrong with a text.
 #![tactic(auto)]
 
 mod check;
 mod condition_reading;
-mod fault;
 mod meaning;
-mod names;
 mod place_fault;
 mod read;
 mod reading;

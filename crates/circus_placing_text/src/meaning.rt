@@ -2,14 +2,14 @@
 ghost use Rattle.std.specs.Prelude.{◌≡◌, map, min, IfOk};
 ghost use Rattle.circus_placing.specs.ConditionTree.{tree_of};
 ghost use Rattle.circus_placing.specs.Obeys.{most_members};
+ghost use Rattle.circus_fault.specs.Seen.Tables.{known_of};
 ghost use Rattle.circus_placing_text.specs.Written.{written_of};
 ghost use Rattle.circus_placing_text.specs.Means.{constant_meant, attribute_meant, machine_meant};
-ghost use Rattle.circus_placing_text.specs.Seen.Tables.{known_of};
 ghost use Rattle.circus_placing_text.specs.Seen.Cut.{operand_cut, condition_cut, name_cut, present_cut};
 
 use crate::check::{MOST_MACHINES, MOST_MEMBERS};
-use crate::names::Names;
 use crate::{AttributeText, ConditionText, ConstantText, MachineText, OperandText, PlacingText};
+use circus_fault::Names;
 use circus_placing::{
     Attribute, Attributes, Condition, Constant, Machine, Machines, Operand, Placing,
 };

@@ -1,5 +1,6 @@
 ghost use Rattle.std.specs.Prelude.{◌≡◌};
 
+use circus_fault::Cause;
 use circus_value::NoMemory;
 use thiserror::Error;
 
@@ -46,6 +47,27 @@ pub enum PlaceCause {
     /// The name is that of the 25th machine.
     #[error("too many")]
     TooMany,
+}
+
+impl Cause for PlaceCause {
+    ghost use Rattle.circus_placing_text.specs.Rank.{rank_of};
+
+    ghost rank = { rank_of };
+
+    fn rank(self) -> u8 {
+        match self {
+            PlaceCause::BadCharacter => 0,
+            PlaceCause::OpenString => 1,
+            PlaceCause::LongNumber => 2,
+            PlaceCause::Syntax => 3,
+            PlaceCause::Deep => 4,
+            PlaceCause::UnknownName => 5,
+            PlaceCause::Repeated => 6,
+            PlaceCause::OutOfRange => 7,
+            PlaceCause::TooLarge => 8,
+            PlaceCause::TooMany => 9,
+        }
+    }
 }
 
 /// What is wrong with the text of a placing.

@@ -5,10 +5,12 @@ ghost use Rattle.circus_text.specs.Form.{longest_text};
 ghost use Rattle.circus_text.specs.Token.{IsTokenIn};
 ghost use Rattle.circus_text.specs.Division.{AreTokensOf};
 ghost use Rattle.circus_placing.specs.Obeys.{Obeys};
-ghost use Rattle.circus_placing_text.specs.declared.fault.Fault.{Fault};
+ghost use Rattle.circus_fault.specs.declared.fault.Fault.{Fault};
+ghost use Rattle.circus_fault.specs.Least.{least_from};
+ghost use Rattle.circus_placing_text.specs.declared.place_fault.PlaceCause.{PlaceCause};
 ghost use Rattle.circus_placing_text.specs.Written.{PlacingTree, placing_of};
 ghost use Rattle.circus_placing_text.specs.Grammar.{IsPlacing, IsWithin, most_levels};
-ghost use Rattle.circus_placing_text.specs.Least.{least_from};
+ghost use Rattle.circus_placing_text.specs.Rank.{rank_of};
 ghost use Rattle.circus_placing_text.specs.Faults.{placing_faults, read_faults};
 ghost use Rattle.circus_placing_text.specs.Means.{Means};
 ghost use Rattle.circus_placing_text.specs.ReadAs.{placed, line_of, lexical_answer, IsReadAs, IsLeastOf, IsRefused};
@@ -93,7 +95,7 @@ fn checked(
     requires { length text.now ≤ longest_text }
     ensures clean { IfOk result (λ placing. (stop.now ≡ None) × (placing_faults (placing_of written.now) ≡ [])) }
     ensures means { IfOk result (λ placing. Means (placing_of written.now) placing) }
-    ensures err { IfErr result (λ e. (e ≡ PlaceFault.NoMemory) ⊎ ((f : Fault) × (least_from None (read_faults stop.now (placing_of written.now)) ≡ Some f)
+    ensures err { IfErr result (λ e. (e ≡ PlaceFault.NoMemory) ⊎ ((f : Fault PlaceCause) × (least_from rank_of None (read_faults stop.now (placing_of written.now)) ≡ Some f)
         × (e ≡ PlaceFault.Refused (line_of text.now f.place) f.cause))) }
 {
     let (best, names) = check(alloc, written, stop)?;

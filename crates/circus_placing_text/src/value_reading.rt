@@ -2,7 +2,6 @@
 ghost use Rattle.std.specs.Prelude.{◌≡◌, true, false, IfOk, MatchOption};
 ghost use Rattle.circus_syntax.specs.Reader.{next, sees};
 ghost use Rattle.circus_syntax.specs.Placed.{Placed};
-ghost use Rattle.circus_placing_text.specs.Grammar.{sign_of};
 ghost use Rattle.circus_placing_text.specs.Reading.{is_own_name, own_name, own_names, constant_by, a_constant, number_or_attribute, an_operand, seen_comparison, compared};
 
 use crate::start::{ValueStart, value_start};
@@ -130,19 +129,6 @@ fn comparison(reader: &Reader) -> Option<Comparison>
     }
 }
 
-fn sign_of(comparison: Comparison) -> &'static [u8]
-    ensures { result.now ≡ (sign_of comparison).bytes }
-{
-    match comparison {
-        Comparison::Equal => b"=",
-        Comparison::Unequal => b"<>",
-        Comparison::Less => b"<",
-        Comparison::AtMost => b"<=",
-        Comparison::Greater => b">",
-        Comparison::AtLeast => b">=",
-    }
-}
-
 // A comparison and its right side, if there is one.
 #[tactic(auto, unfolding(crate::specs::Reading::compared))]
 pub fn compared(reader: &mut Reader) -> Result<Option<(Comparison, OperandText)>, NoMemory>
@@ -150,7 +136,7 @@ pub fn compared(reader: &mut Reader) -> Result<Option<(Comparison, OperandText)>
 {
     match comparison(reader) {
         Some(comparison) => {
-            reader.sign(sign_of(comparison));
+            reader.skip();
             Ok(Some((comparison, operand(reader)?)))
         }
         None => Ok(None),

@@ -6,10 +6,10 @@ use Rattle.circus_placing.specs.declared.condition.Operand.TheVariants as value
 use Rattle.circus_placing.specs.ConditionTree.{ConditionTree}
 use Rattle.circus_placing.specs.ConditionTree as tree
 use Rattle.circus_placing.specs.Obeys.{most_machines, most_members}
+use Rattle.circus_fault.specs.Known.{Known}
 use Rattle.circus_placing_text.specs.declared.text.OperandText.{OperandText}
 use Rattle.circus_placing_text.specs.declared.text.OperandText.TheVariants as operand
 use Rattle.circus_placing_text.specs.Written.{Written, or, and, not, group, differ, compare, holds}
-use Rattle.circus_placing_text.specs.Faults.{Known}
 use Rattle.circus_placing_text.specs.Means.{constant_meant}
 
 abbrev pub operand_cut : OperandText → Operand

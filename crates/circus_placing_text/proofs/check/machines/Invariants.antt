@@ -1,14 +1,16 @@
 use Rattle.std.proofs.Common.{◌≡◌, drop}
-use Rattle.circus_placing_text.specs.Seen.Tables.{known_of}
-use Rattle.circus_placing_text.specs.Least.{least_from}
-use Rattle.circus_placing_text.specs.Faults.{nobody, machines_faults, numbers_behind, numbers_of}
+use Rattle.circus_fault.specs.Least.{least_from}
+use Rattle.circus_fault.specs.Known.{nobody}
+use Rattle.circus_fault.specs.Seen.Tables.{known_of}
+use Rattle.circus_placing_text.specs.Rank.{rank_of}
+use Rattle.circus_placing_text.specs.Faults.{machines_faults, numbers_behind, numbers_of}
 use Rattle.circus_placing_text.proofs.check.machines.Given as goal
 
 -- the machines that are left decide with what is kept
 abbrev pub invariant-loop-number : goal.invariant-loop-number
 invariant-loop-number l = record {
   found :
-      least_from l.best.fault (machines_faults (known_of l.names) l.number (drop l.number l.machines))
-      ≡ least_from l.fn.best.fault (machines_faults nobody 0 l.machines);
+      least_from rank_of l.best.fault (machines_faults (known_of l.names) l.number (drop l.number l.machines))
+      ≡ least_from rank_of l.fn.best.fault (machines_faults nobody 0 l.machines);
   numbered : numbers_behind (known_of l.names) l.number (drop l.number l.machines) ≡ numbers_of l.machines;
 }

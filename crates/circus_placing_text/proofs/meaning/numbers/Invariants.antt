@@ -1,5 +1,5 @@
 use Rattle.std.proofs.Common.{◌≡◌, ◌++◌, drop, map}
-use Rattle.circus_placing_text.specs.Seen.Tables.{known_of}
+use Rattle.circus_fault.specs.Seen.Tables.{known_of}
 use Rattle.circus_placing_text.specs.Seen.Cut.{name_cut}
 use Rattle.circus_placing_text.proofs.meaning.numbers.Given as goal
 
