@@ -1,5 +1,5 @@
 -- A scope behind one more type.
-use Rattle.std.proofs.Common.{◌≡◌, ℕ, Bool, true, false, cond, List, [], ◌∷◌, Option, Some, None, is_none, is_some, not, refl, sym, ◌∙◌, ap, length}
+use Rattle.std.proofs.Common.{◌≡◌, ℕ, Bool, true, false, List, [], ◌∷◌, Option, Some, None, is_none, is_some, not, refl, sym, ◌∙◌, ap, length}
 use Rattle.circus_syntax.specs.declared.type_text.GroupText.{GroupText}
 use Rattle.circus_syntax.specs.TypeTree.{GroupTrees, more_groups}
 use Rattle.circus_syntax.specs.TypeOf.{tree_of}

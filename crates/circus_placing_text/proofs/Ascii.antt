@@ -7,8 +7,6 @@ use Rattle.std.proofs.lemmas.Bool.{and_parts}
 use Rattle.std.proofs.lemmas.Bool.Decides.{nat_tests}
 use Rattle.std.proofs.lemmas.List.Elements.{All-from_recursion}
 use Rattle.std.proofs.lemmas.Str.Ascii.{IsAscii-from_all}
-use Rattle.circus_text.specs.declared.token.TokenKind.TheVariants.{Word}
-use Rattle.circus_text.specs.declared.byte_class.ByteClass.{ByteClass}
 use Rattle.circus_text.specs.declared.byte_class.ByteClass.TheVariants.{Letter, Digit, Quote, Space, Mark, Other}
 use Rattle.circus_text.specs.ByteClass.{quote, is_space, is_mark, class_of, is_word_class}
 use Rattle.circus_text.specs.Form.{IsWord}
