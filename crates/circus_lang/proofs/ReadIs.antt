@@ -16,10 +16,10 @@ use Rattle.circus_syntax.proofs.Repeats.{never_longer}
 use Rattle.circus_syntax.proofs.Viewed.{text_tokens}
 use Rattle.circus_expression.specs.Ending.{Are, IsUnexpected, IsTooDeep}
 use Rattle.circus_expression.specs.Standing.{shown}
-use Rattle.circus_expression.proofs.Ends.{reads, read_whole, unexpected, too_deep}
+use Rattle.circus_expression.proofs.Ends.{reads, read_whole, unexpected, too_deep, filled_in}
 use Rattle.circus_lang.specs.declared.lang_fault.LangFault.TheVariants.{Expected, Deep}
 use Rattle.circus_lang.specs.declared.read.ReadModule.{ReadModule}
-use Rattle.circus_lang.specs.Ending.{NoneEnds, fault_at, fault_of}
+use Rattle.circus_lang.specs.Ending.{NoneEnds, BeginsWithin, fault_at, fault_of}
 use Rattle.circus_lang.specs.ModuleReading.{module_text}
 use Rattle.circus_lang.specs.ModuleStanding.{module_stands_for}
 use Rattle.circus_lang.specs.ModuleTree.{ModuleTree, module_of}
@@ -93,6 +93,14 @@ is_read text ts at read all inside A none =
       next_is = next_at text ts at read.next own A.left inside whole A.next;
     }
 
+-- what was read up to a stop stands within the levels
+begun_within : (text : List ℕ) (ts : List Token) (at : ℕ) (read : ReadModule) (s : Stop) → All (IsTokenIn text) ts → (A : Answers text ts at read) → read.stop ≡ Some s → BeginsWithin (placed_from text ts at) A.left
+begun_within text ts at read s all A stop_is = (
+  written_of text ts at,
+  s.place,
+  filled_in modules_lawful most_levels (placed_from text ts at) A.left (written_of text ts at) s (length text) (text_tokens text ts at all) (written_is text ts at read (Some s) A stop_is),
+)
+
 -- which stop the fault is
 
 expected_is : (p : ℕ) (c : StopCause) (place : ℕ) → fault_at p c ≡ Expected place → (c ≡ Unexpected) × (p ≡ place)
@@ -104,18 +112,18 @@ deep_is p TooDeep place is = (refl, cc)
 deep_is p Unexpected place is = cc
 
 pub is_expected : (text : List ℕ) (ts : List Token) (at : ℕ) (read : ReadModule) (s : Stop) (place : ℕ) → All (IsTokenIn text) ts → Answers text ts at read → read.stop ≡ Some s → fault_of s ≡ Expected place
-    → (left : List Placed) × IsUnexpected spelling_module IsModule (placed_from text ts at) left × NoneEnds (placed_from text ts at) left × (place ≡ place_in left (length text))
+    → (left : List Placed) × IsUnexpected spelling_module IsModule (placed_from text ts at) left × NoneEnds (placed_from text ts at) left × BeginsWithin (placed_from text ts at) left × (place ≡ place_in left (length text))
 is_expected text ts at read s place all A stop_is fault_is =
     let (flat, there) = expected_is s.place s.cause place fault_is in
     let (stops, none, here) = unexpected_module (placed_from text ts at) A.left (written_of text ts at) s (length text) (text_tokens text ts at all) (written_is text ts at read (Some s) A stop_is) flat in
-    (A.left, stops, none, sym there ∙ here)
+    (A.left, stops, none, begun_within text ts at read s all A stop_is, sym there ∙ here)
 
 pub is_too_deep : (text : List ℕ) (ts : List Token) (at : ℕ) (read : ReadModule) (s : Stop) (place : ℕ) → All (IsTokenIn text) ts → Answers text ts at read → read.stop ≡ Some s → fault_of s ≡ Deep place
-    → (left : List Placed) × IsTooDeep spelling_module IsModule most_levels (placed_from text ts at) left × NoneEnds (placed_from text ts at) left × (place ≡ place_in left (length text))
+    → (left : List Placed) × IsTooDeep spelling_module IsModule most_levels (placed_from text ts at) left × NoneEnds (placed_from text ts at) left × BeginsWithin (placed_from text ts at) left × (place ≡ place_in left (length text))
 is_too_deep text ts at read s place all A stop_is fault_is =
     let (deep, there) = deep_is s.place s.cause place fault_is in
     let (stops, none, here) = too_deep_module (placed_from text ts at) A.left (written_of text ts at) s (length text) (text_tokens text ts at all) (written_is text ts at read (Some s) A stop_is) deep in
-    (A.left, stops, none, sym there ∙ here)
+    (A.left, stops, none, begun_within text ts at read s all A stop_is, sym there ∙ here)
 
 -- a module of no more levels than there may be is read to its end
 pub accepted : (text : List ℕ) (ts : List Token) (at : ℕ) (read : ReadModule) (own rest : List Placed) (w : WrittenModule) → at ≤ length ts → Answers text ts at read → placed_from text ts at ≡ own ++ rest

@@ -7,7 +7,7 @@ ghost use Rattle.circus_syntax.specs.Read.{placed_from};
 ghost use Rattle.circus_syntax.specs.Reader.{open_at, place_in};
 ghost use Rattle.circus_syntax.specs.Spelling.{most_levels};
 ghost use Rattle.circus_expression.specs.Ending.{Are, IsUnexpected, IsTooDeep};
-ghost use Rattle.circus_lang.specs.Ending.{NoneEnds, fault_of};
+ghost use Rattle.circus_lang.specs.Ending.{NoneEnds, BeginsWithin, fault_of};
 ghost use Rattle.circus_lang.specs.ModuleStanding.{module_stands_for};
 ghost use Rattle.circus_lang.specs.ModuleTree.{module_of};
 ghost use Rattle.circus_lang.specs.ReadAt.{Answers, IsReadAt};
@@ -50,13 +50,16 @@ pub fn read_module(
     // The tokens up to the one answered are the module whose tree is answered.
     ensures ok { IfOk result (λ read. IsReadAt text.now tokens.now at (module_of read.0) read.1) }
 
-    // What was read begins a module, and none goes on with the next token, or only such as have too many levels.
+    // What was read begins a module within the levels, and none goes on with the next token, or only such as have too
+    // many levels.
     ensures expected { (place : ℕ) → result ≡ Err (LangFault.Expected place) → (left : List Placed)
         × IsUnexpected spelling_module IsModule (placed_from text.now tokens.now at) left
-        × NoneEnds (placed_from text.now tokens.now at) left × (place ≡ place_in left (length text.now)) }
+        × NoneEnds (placed_from text.now tokens.now at) left × BeginsWithin (placed_from text.now tokens.now at) left
+        × (place ≡ place_in left (length text.now)) }
     ensures deep { (place : ℕ) → result ≡ Err (LangFault.Deep place) → (left : List Placed)
         × IsTooDeep spelling_module IsModule most_levels (placed_from text.now tokens.now at) left
-        × NoneEnds (placed_from text.now tokens.now at) left × (place ≡ place_in left (length text.now)) }
+        × NoneEnds (placed_from text.now tokens.now at) left × BeginsWithin (placed_from text.now tokens.now at) left
+        × (place ≡ place_in left (length text.now)) }
 
     // A module of at most 64 levels is read as its tree wherever memory suffices.
     ensures accepts { (own rest : List Placed) (w : WrittenModule) → placed_from text.now tokens.now at ≡ own ++ rest
