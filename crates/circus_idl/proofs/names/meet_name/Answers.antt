@@ -6,8 +6,8 @@ use Rattle.circus_idl.specs.Inside.{also_name}
 use Rattle.circus_idl.proofs.names.meet_name.Goals as goal
 
 -- the names of a table with one more
-held_also : (name : List ℕ) (number : ℕ) (known : Known) (other : List ℕ) → is_some (also name number known other) ≡ also_name name (λ n. is_some (known n)) other
-held_also name number known other = by_test (bytes_eq name other) (known other)
+held_more : (name : List ℕ) (number : ℕ) (known new : Known) → new ≡ also name number known → (λ n. is_some (new n)) ≡ also_name name (λ n. is_some (known n))
+held_more name number known new is = ap (λ k n. is_some (k n)) is ∙ (λ i other. by_test (bytes_eq name other) (known other) i)
   where
     by_test : (b : Bool) (o : Option ℕ) → is_some (cond b (Some number) o) ≡ (b || is_some o)
     by_test true o = refl
@@ -16,6 +16,5 @@ held_also name number known other = by_test (bytes_eq name other) (known other)
 pub returns-clause-added : goal.returns-clause-added
 returns-clause-added c =
     let known = known_of c.args.names.now in
-    ap (λ k n. is_some (k n)) c.in_ok-earlier.ensures.added
-    ∙ (λ i other. held_also c.as_slice.result.now 0 known other i)
+    held_more c.as_slice.result.now _ known _ c.in_ok-earlier.ensures.added
     ∙ ap (λ name. also_name name (λ n. is_some (known n))) c.as_slice.ensures
