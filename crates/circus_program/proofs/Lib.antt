@@ -6,3 +6,10 @@ pub mod Numerals
 pub mod ReplayLemmas
 pub mod Schedules
 pub mod ToldLemmas
+pub mod Decided
+pub mod DecidedWords
+pub mod OneEnding
+pub mod OneProgram
+pub mod OneDue
+pub mod SomeDue
+pub mod Why

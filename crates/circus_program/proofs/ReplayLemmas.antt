@@ -1,12 +1,11 @@
 -- A replay, line by line.
-use Rattle.std.proofs.Common.{◌≡◌, ℕ, ◌+◌, ◌<◌, ◌≤◌, Some, None, List, [], ◌∷◌, ◌++◌, length, get_or, drop, append_assoc, refl, ap, sym, ◌∙◌, add-one, drop-cons, arith, Bool, true, false}
-use Rattle.std.specs.Prelude.{cond, slice_get, ◌&&◌, is_none}
+use Rattle.std.proofs.Common.{◌≡◌, ℕ, ◌+◌, ◌<◌, List, [], ◌∷◌, ◌++◌, length, get_or, drop, append_assoc, refl, ap, sym, ◌∙◌, add-one, drop-cons, arith, false}
+use Rattle.std.specs.Prelude.{cond}
 use Rattle.std.proofs.lemmas.Grind.{common_steps}
 use Rattle.circus_world.specs.declared.line.Line.{Line}
 use Rattle.circus_world.specs.declared.line.Line.TheVariants.{Deliver}
 use Rattle.circus_world.specs.WorldView.{WorldView}
-use Rattle.circus_world.specs.Datagram.{is_piece}
-use Rattle.circus_world.specs.Course.{IsLegal, stepped, taken, next_step, performed_now, answered_now}
+use Rattle.circus_world.specs.Course.{IsLegal, stepped}
 use Rattle.circus_world.specs.declared.line.Cause.{Cause}
 use Rattle.circus_world.specs.Refusal.{IsRefusal}
 use Rattle.circus_world.specs.declared.world.WorldFault.TheVariants.{Illegal}

@@ -207,3 +207,28 @@ pub no_schedule-too_many : (bytes : List ℕ) (lines : List Line) (rest : List �
 no_schedule-too_many bytes lines rest read some full all schedule =
     let next = next_line bytes lines rest read some all schedule in
     omega (arith, schedule.few, ap length next.1, length-append lines next.0, ap length next.2.all_is, full)
+
+no_lines : (bytes : List ℕ) → IsSpelled bytes [] → bytes ≡ []
+no_lines bytes spells = elim spells.spelled [
+  | inl ended ↦ ended
+  | inr unended ↦ absurd (omega (arith, ap length unended, length-append bytes (10 ∷ [])))
+]
+
+lines_one : (one other : List Line) (bytes : List ℕ) → IsSpelled bytes one → IsSpelled bytes other → one ≡ other
+lines_one [] other bytes first second =
+    sym (lines-from_nil other (subst (λ (b : List ℕ). IsSpelled b other) (no_lines bytes first) second))
+lines_one (line ∷ lines) other bytes first second =
+    let some : bytes ≢ [] = λ none. let no = lines-from_nil (line ∷ lines) (subst (λ (b : List ℕ). IsSpelled b (line ∷ lines)) none first) in cc in
+    let here = first_line bytes (line ∷ lines) some first in
+    let there = first_line bytes other some second in
+    let same = line_text-injective here.line there.line here.small there.small (sym here.first ∙ there.first) in
+    let rest : here.lines ≡ lines = let all = here.all_is in cc in
+    let more = lines_one lines there.lines (after_first is_newline bytes) (subst (λ (l : List Line). IsSpelled (after_first is_newline bytes) l) rest here.spells) there.spells in
+    let all = here.all_is in
+    let others = there.all_is in
+    cc
+
+-- bytes are one schedule
+pub schedule_one : (bytes : List ℕ) (one other : List Line) → IsThinSchedule bytes one → IsThinSchedule bytes other → one ≡ other
+schedule_one bytes one other first second =
+    lines_one one other bytes (record { spelled = first.spelled; in_range = first.in_range }) (record { spelled = second.spelled; in_range = second.in_range })

@@ -6,4 +6,5 @@ pub mod Report
 pub mod Replay
 pub mod Placed
 pub mod Answer
+pub mod Last
 pub mod Seen

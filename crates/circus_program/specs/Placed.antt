@@ -1,5 +1,5 @@
 -- What is written of a placing: the best choice of machines, that there is none, or why the text is refused.
-use Rattle.std.specs.Prelude.{ℕ, ◌+◌, ◌≡◌, ◌⊎◌, List, [], ◌∷◌, ◌++◌, map, codes, slice_index_or}
+use Rattle.std.specs.Prelude.{ℕ, ◌+◌, ◌≡◌, ◌⊎◌, List, [], ◌∷◌, ◌++◌, codes, slice_index_or}
 use Rattle.std.specs.Fmt.{decimal}
 use Rattle.circus_placing.specs.declared.placing.Machine.{Machine}
 use Rattle.circus_placing.specs.declared.placing.Placing.{Placing}

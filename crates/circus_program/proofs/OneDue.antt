@@ -1,0 +1,179 @@
+-- Words come to one thing.
+use Rattle.std.proofs.Common.{◌≡◌, ℕ, ◌⊎◌, inl, inr, Option, Some, None, List, [], ◌∷◌, refl, sym, ap, subst, ◌∙◌, codes}
+use Rattle.std.specs.Prelude.{cond, bytes_eq}
+use Rattle.circus_world.specs.declared.line.Line.{Line}
+use Rattle.circus_world.specs.Course.{booted}
+use Rattle.circus_program.specs.Form.{Form, stubs, run, replay, node, sample, settle, place, audit, words_of, files_of, IsOfForm}
+use Rattle.circus_program.specs.Thin.{IsThinProgram}
+use Rattle.circus_program.specs.Replay.{Ending, replayed}
+use Rattle.circus_program.specs.Placed.{IsEndOfPlacing}
+use Rattle.circus_program.specs.Answer.{Due, fetch, finish, not_built, IsDueOfSchedule, IsDueOfReplay, IsDueOfPlace, IsDueUnbuilt, IsDueOfForm, AreContents, IsDue}
+use Rattle.circus_program.specs.declared.status.Status.TheVariants.{BadPlacing}
+use Rattle.circus_program.specs.Last.{IsLast, IsDueLast, EndsWith}
+use Rattle.circus_program.proofs.OneEnding.{ending_one}
+use Rattle.circus_program.proofs.OneProgram.{program_one}
+use Rattle.circus_program.proofs.Schedules.{schedule_one}
+
+-- What is asked for, by what comes of it.
+
+pub data Asked : Type 0 where
+  replaying : List ℕ → List ℕ → Asked
+  placing : List ℕ → Asked
+  unbuilt : Asked
+
+abbrev pub asked_by : Form → Asked
+asked_by (replay program schedule) = replaying program schedule
+asked_by (place placing_file) = placing placing_file
+asked_by (stubs _) = unbuilt
+asked_by (run _) = unbuilt
+asked_by (node _ _ _) = unbuilt
+asked_by (sample _ _ _) = unbuilt
+asked_by (settle _ _) = unbuilt
+asked_by (audit _ _) = unbuilt
+
+abbrev asked_of : List (List ℕ) → Asked
+asked_of (command ∷ file ∷ []) = cond (bytes_eq command (codes "place")) (placing file) unbuilt
+asked_of (command ∷ program ∷ schedule ∷ []) = cond (bytes_eq command (codes "replay")) (replaying program schedule) unbuilt
+asked_of _ = unbuilt
+
+asked_is : (form : Form) → asked_of (words_of form) ≡ asked_by form
+asked_is (replay _ _) = refl
+asked_is (place _) = refl
+asked_is (stubs _) = refl
+asked_is (run _) = refl
+asked_is (node _ _ _) = refl
+asked_is (sample _ _ _) = refl
+asked_is (settle _ _) = refl
+asked_is (audit _ _) = refl
+
+-- words ask for one thing
+asked_one : (words : List (List ℕ)) (one other : Form) → IsOfForm words one → IsOfForm words other → asked_by one ≡ asked_by other
+asked_one words one other first second =
+    sym (asked_is one) ∙ ap asked_of (sym first.spelled ∙ second.spelled) ∙ asked_is other
+
+-- What comes of it at last.
+
+module _ (contents : List ℕ → Option (List ℕ)) where
+  abbrev pub OfSchedule : List ℕ → ℕ → Due → Type 0
+  OfSchedule schedule number due =
+      ((contents schedule ≡ None) × (due ≡ fetch schedule))
+      ⊎ ((bytes : List ℕ) × (contents schedule ≡ Some bytes) × IsDueOfSchedule number bytes due)
+
+  abbrev pub OfProgram : List ℕ → List ℕ → Due → Type 0
+  OfProgram schedule program due =
+      ((number : ℕ) × IsThinProgram program number × OfSchedule schedule number due)
+      ⊎ (((number : ℕ) → IsThinProgram program number → ⊥) × (due ≡ not_built))
+
+  abbrev pub OfReplay : List ℕ → List ℕ → Due → Type 0
+  OfReplay program schedule due =
+      ((contents program ≡ None) × (due ≡ fetch program))
+      ⊎ ((bytes : List ℕ) × (contents program ≡ Some bytes) × OfProgram schedule bytes due)
+
+  abbrev pub OfPlace : List ℕ → Due → Type 0
+  OfPlace file due =
+      ((contents file ≡ None) × (due ≡ fetch file))
+      ⊎ ((text : List ℕ) × (contents file ≡ Some text) × ((ending : Ending) × IsEndOfPlacing text ending × (due ≡ finish ending)))
+
+  abbrev pub OfAsked : Asked → Due → Type 0
+  OfAsked (replaying program schedule) due = OfReplay program schedule due
+  OfAsked (placing file) due = OfPlace file due
+  OfAsked unbuilt due = due ≡ not_built
+
+  -- a file that is due at last is not there
+  lacking : (name : List ℕ) (due : Due) → due ≡ fetch name → IsLast contents due → contents name ≡ None
+  lacking name due is last = subst (λ (d : Due). IsLast contents d) is last
+
+  of_replay : (program schedule : List ℕ) (files : List (List ℕ)) (due : Due) → AreContents contents (program ∷ schedule ∷ []) files → IsDueOfReplay program schedule files due → IsLast contents due → OfReplay program schedule due
+  of_replay program schedule [] due fetched is last = inl (lacking program due is last, is)
+  of_replay program schedule (bytes ∷ []) due fetched (inl (number, thin, is)) last =
+      inr (bytes, fetched.0, inl (number, thin, inl (lacking schedule due is last, is)))
+  of_replay program schedule (bytes ∷ []) due fetched (inr other) last = inr (bytes, fetched.0, inr other)
+  of_replay program schedule (bytes ∷ more ∷ []) due fetched (number, thin, is) last =
+      inr (bytes, fetched.0, inl (number, thin, inr (more, fetched.1.0, is)))
+  of_replay program schedule (_ ∷ _ ∷ _ ∷ _) due fetched is last = absurd is
+
+  of_place : (file : List ℕ) (files : List (List ℕ)) (due : Due) → AreContents contents (file ∷ []) files → IsDueOfPlace file files due → IsLast contents due → OfPlace file due
+  of_place file [] due fetched is last = inl (lacking file due is last, is)
+  of_place file (text ∷ []) due fetched is last = inr (text, fetched.0, is)
+  of_place file (_ ∷ _ ∷ _) due fetched is last = absurd is
+
+  of_unbuilt : (files : List (List ℕ)) (due : Due) → IsDueUnbuilt files due → due ≡ not_built
+  of_unbuilt [] due is = is
+  of_unbuilt (_ ∷ _) due is = absurd is
+
+  pub of_form : (form : Form) (files : List (List ℕ)) (due : Due) → AreContents contents (files_of form) files → IsDueOfForm form files due → IsLast contents due → OfAsked (asked_by form) due
+  of_form (replay program schedule) files due fetched is last = of_replay program schedule files due fetched is last
+  of_form (place file) files due fetched is last = of_place file files due fetched is last
+  of_form (stubs _) files due fetched is last = of_unbuilt files due is
+  of_form (run _) files due fetched is last = of_unbuilt files due is
+  of_form (node _ _ _) files due fetched is last = of_unbuilt files due is
+  of_form (sample _ _ _) files due fetched is last = of_unbuilt files due is
+  of_form (settle _ _) files due fetched is last = of_unbuilt files due is
+  of_form (audit _ _) files due fetched is last = of_unbuilt files due is
+
+  -- It is one thing.
+
+  pub there_once : (name one other : List ℕ) → contents name ≡ Some one → contents name ≡ Some other → one ≡ other
+  there_once name one other first second = let same : ◌≡◌ {A = Option (List ℕ)} (Some one) (Some other) = sym first ∙ second in cc
+
+  one_of_lines : (number : ℕ) (bytes : List ℕ) (one other : Due) → IsDueOfSchedule number bytes one → IsDueOfSchedule number bytes other → one ≡ other
+  one_of_lines number bytes one other (inl (lines, first, is)) (inl (others, second, also)) =
+      is ∙ ap (λ (l : List Line). finish (replayed 1 (booted number) l)) (schedule_one bytes lines others first second) ∙ sym also
+  one_of_lines number bytes one other (inl (lines, first, is)) (inr (none, also)) = absurd (none lines first)
+  one_of_lines number bytes one other (inr (none, is)) (inl (lines, second, also)) = absurd (none lines second)
+  one_of_lines number bytes one other (inr (none, is)) (inr (neither, also)) = is ∙ sym also
+
+  one_of_schedule : (schedule : List ℕ) (number : ℕ) (one other : Due) → OfSchedule schedule number one → OfSchedule schedule number other → one ≡ other
+  one_of_schedule schedule number one other (inl (none, is)) (inl (neither, also)) = is ∙ sym also
+  one_of_schedule schedule number one other (inl (none, is)) (inr (bytes, there, also)) = absurd cc
+  one_of_schedule schedule number one other (inr (bytes, there, is)) (inl (none, also)) = absurd cc
+  one_of_schedule schedule number one other (inr (bytes, there, is)) (inr (others, here, also)) =
+      one_of_lines number others one other (subst (λ b. IsDueOfSchedule number b one) (there_once schedule bytes others there here) is) also
+
+  one_of_program : (schedule program : List ℕ) (one other : Due) → OfProgram schedule program one → OfProgram schedule program other → one ≡ other
+  one_of_program schedule program one other (inl (number, thin, is)) (inl (also_number, also_thin, also)) =
+      one_of_schedule schedule also_number one other (subst (λ n. OfSchedule schedule n one) (program_one program number also_number thin also_thin) is) also
+  one_of_program schedule program one other (inl (number, thin, is)) (inr (none, also)) = absurd (none number thin)
+  one_of_program schedule program one other (inr (none, is)) (inl (number, thin, also)) = absurd (none number thin)
+  one_of_program schedule program one other (inr (none, is)) (inr (neither, also)) = is ∙ sym also
+
+  one_of_replay : (program schedule : List ℕ) (one other : Due) → OfReplay program schedule one → OfReplay program schedule other → one ≡ other
+  one_of_replay program schedule one other (inl (none, is)) (inl (neither, also)) = is ∙ sym also
+  one_of_replay program schedule one other (inl (none, is)) (inr (bytes, there, also)) = absurd cc
+  one_of_replay program schedule one other (inr (bytes, there, is)) (inl (none, also)) = absurd cc
+  one_of_replay program schedule one other (inr (bytes, there, is)) (inr (others, here, also)) =
+      one_of_program schedule others one other (subst (λ b. OfProgram schedule b one) (there_once program bytes others there here) is) also
+
+  -- the same thing, or the text of a placing is refused twice
+  abbrev pub Same : Due → Due → Type 0
+  Same one other = (one ≡ other) ⊎ (EndsWith BadPlacing one × EndsWith BadPlacing other)
+
+  one_of_text : (text : List ℕ) (one other : Due) (ending also : Ending) → IsEndOfPlacing text ending → IsEndOfPlacing text also → one ≡ finish ending → other ≡ finish also → Same one other
+  one_of_text text one other ending also first second is so = elim (ending_one text ending also first second) [
+    | inl same ↦ inl (is ∙ ap finish same ∙ sym so)
+    | inr (refused, again) ↦ inr (subst (EndsWith BadPlacing) (sym is) refused, subst (EndsWith BadPlacing) (sym so) again)
+  ]
+
+  one_of_place : (file : List ℕ) (one other : Due) → OfPlace file one → OfPlace file other → Same one other
+  one_of_place file one other (inl (none, is)) (inl (neither, also)) = inl (is ∙ sym also)
+  one_of_place file one other (inl (none, is)) (inr (text, there, also)) = absurd cc
+  one_of_place file one other (inr (text, there, is)) (inl (none, also)) = absurd cc
+  one_of_place file one other (inr (text, there, (ending, first, is))) (inr (others, here, (also, second, so))) =
+      one_of_text others one other ending also (subst (λ t. IsEndOfPlacing t ending) (there_once file text others there here) first) second is so
+
+  one_of_asked : (asked : Asked) (one other : Due) → OfAsked asked one → OfAsked asked other → Same one other
+  one_of_asked (replaying program schedule) one other is also = inl (one_of_replay program schedule one other is also)
+  one_of_asked (placing file) one other is also = one_of_place file one other is also
+  one_of_asked unbuilt one other is also = inl (is ∙ sym also)
+
+  one_of_words : (words : List (List ℕ)) (one other : Due) → IsDue (Some contents) words one → IsDue (Some contents) words other → IsLast contents one → IsLast contents other → Same one other
+  one_of_words words one other (inl some) (inl another) last also =
+      let is = of_form some.form some.files one some.fetched some.is_due last in
+      let so = of_form another.form another.files other another.fetched another.is_due also in
+      one_of_asked (asked_by another.form) one other (subst (λ a. OfAsked a one) (asked_one words some.form another.form some.of_form another.of_form) is) so
+  one_of_words words one other (inl some) (inr (none, is)) last also = absurd (none some.form some.of_form)
+  one_of_words words one other (inr (none, is)) (inl some) last also = absurd (none some.form some.of_form)
+  one_of_words words one other (inr (none, is)) (inr (neither, so)) last also = inl (is ∙ sym so)
+
+  pub one_due : (words : List (List ℕ)) (one other : Due) → IsDueLast contents words one → IsDueLast contents words other → Same one other
+  one_due words one other is also = one_of_words words one other is.is_due also.is_due is.last also.last

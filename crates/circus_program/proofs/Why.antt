@@ -1,0 +1,192 @@
+-- Which ends have a status, and why.
+use Rattle.std.proofs.Common.{◌≡◌, ◌↔◌, ℕ, ◌+◌, ◌⊎◌, inl, inr, true, false, Option, Some, List, [], ◌∷◌, refl, sym, ap, subst, ◌∙◌}
+use Rattle.std.specs.Prelude.{cond}
+use Rattle.circus_world.specs.declared.line.Line.{Line}
+use Rattle.circus_world.specs.WorldView.{WorldView}
+use Rattle.circus_world.specs.Course.{booted, stepped}
+use Rattle.circus_program.specs.declared.status.Status.{Status}
+use Rattle.circus_program.specs.declared.status.Status.TheVariants.{Done, BadCommandLine, BadSchedule, NotBuilt, BadPlacing, NoPlacement}
+use Rattle.circus_program.specs.Form.{Form, stubs, run, replay, node, sample, settle, place, audit, files_of, IsOfForm, IsOfNoForm}
+use Rattle.circus_program.specs.Thin.{IsThinProgram, IsThinSchedule}
+use Rattle.circus_program.specs.Replay.{Ending, is_legal, replayed, refused}
+use Rattle.circus_program.specs.Placed.{IsEndOfPlacing}
+use Rattle.circus_program.specs.Answer.{Due, fetch, finish, not_built, bad_command_line, IsDueOfForm, AreContents, IsDue}
+use Rattle.circus_program.specs.Last.{IsLast, IsDueLast, EndsWith, HasRefused, IsReplayOf, IsRefusedReplay, IsUnbuilt, IsNotBuilt}
+use Rattle.circus_program.proofs.OneDue.{asked_by, of_form, OfAsked, OfReplay, OfPlace, OfSchedule, one_due}
+
+-- ---- the ends that there are
+
+-- the replay of lines is done, or a line is refused
+abbrev IsReplayStatus : WorldView → List Line → Status → Type 0
+IsReplayStatus w lines status = (status ≡ Done) ⊎ ((status ≡ BadSchedule) × HasRefused w lines)
+
+replay_status : (number : ℕ) (w : WorldView) (lines : List Line) → IsReplayStatus w lines (replayed number w lines).status
+replay_status number w [] = inl refl
+replay_status number w (line ∷ lines) =
+    elim (is_legal w line) as (λ b. is_legal w line ≡ b → IsReplayStatus w (line ∷ lines) (cond b (replayed (number + 1) (stepped w line) lines) (refused number w line)).status) [
+      | true ↦ λ legal. elim (replay_status (number + 1) (stepped w line) lines) [
+        | inl done ↦ inl done
+        | inr (bad, later) ↦ inr (bad, inr (legal, later))
+      ]
+      | false ↦ λ illegal. inr (refl, inl illegal)
+    ] refl
+
+refused_status : (number : ℕ) (w : WorldView) (lines : List Line) → HasRefused w lines → (replayed number w lines).status ≡ BadSchedule
+refused_status number w [] has = absurd has
+refused_status number w (line ∷ lines) (inl illegal) =
+    ap (λ b. (cond b (replayed (number + 1) (stepped w line) lines) (refused number w line)).status) illegal
+refused_status number w (line ∷ lines) (inr (legal, later)) =
+    ap (λ b. (cond b (replayed (number + 1) (stepped w line) lines) (refused number w line)).status) legal
+    ∙ refused_status (number + 1) (stepped w line) lines later
+
+-- a placing ends with a choice, without one, or is refused
+abbrev IsPlacingStatus : Status → Type 0
+IsPlacingStatus status = (status ≡ Done) ⊎ ((status ≡ NoPlacement) ⊎ (status ≡ BadPlacing))
+
+placing_status : (text : List ℕ) (ending : Ending) → IsEndOfPlacing text ending → IsPlacingStatus ending.status
+placing_status text ending (inl (p, read, (inl (choice, best, is)))) = inl (ap (λ (e : Ending). e.status) is)
+placing_status text ending (inl (p, read, (inr (none, is)))) = inr (inl (ap (λ (e : Ending). e.status) is))
+placing_status text ending (inr (number, cause, refused_is, is)) = inr (inr (ap (λ (e : Ending). e.status) is))
+
+never_placed : (status : Status) (text : List ℕ) (ending : Ending) → IsEndOfPlacing text ending → (Done ≡ status → ⊥) → (NoPlacement ≡ status → ⊥) → (BadPlacing ≡ status → ⊥) → ending.status ≡ status → ⊥
+never_placed status text ending end no_done no_none no_bad same = elim (placing_status text ending end) [
+  | inl done ↦ no_done (sym done ∙ same)
+  | inr (inl none) ↦ no_none (sym none ∙ same)
+  | inr (inr bad) ↦ no_bad (sym bad ∙ same)
+]
+
+ends_as : (status : Status) (due : Due) (ending : Ending) → due ≡ finish ending → EndsWith status due → ending.status ≡ status
+ends_as status due ending is ends = subst (EndsWith status) is ends
+
+never_fetch : {X : Type 0} (status : Status) (due : Due) (name : List ℕ) → due ≡ fetch name → EndsWith status due → X
+never_fetch status due name is ends = absurd (let none : ⊥ = subst (EndsWith status) is ends in none)
+
+-- ---- what comes of each form
+
+-- what may come of words
+data Comes (contents : List ℕ → Option (List ℕ)) (words : List (List ℕ)) (due : Due) : Type 0 where
+  nothing : IsOfNoForm words → due ≡ bad_command_line → Comes contents words due
+  lacking : (name : List ℕ) → due ≡ fetch name → Comes contents words due
+  unbuilt : IsNotBuilt contents words → due ≡ not_built → Comes contents words due
+  replay_of : (number : ℕ) (schedule : List ℕ) (lines : List Line) → IsReplayOf contents words number schedule → IsThinSchedule schedule lines → due ≡ finish (replayed 1 (booted number) lines) → Comes contents words due
+  placed : (text : List ℕ) (ending : Ending) → IsEndOfPlacing text ending → due ≡ finish ending → Comes contents words due
+
+module _ (contents : List ℕ → Option (List ℕ)) (words : List (List ℕ)) where
+  comes_schedule : (program name bytes : List ℕ) (number : ℕ) (due : Due) → IsOfForm words (replay program name) → contents program ≡ Some bytes → IsThinProgram bytes number → OfSchedule contents name number due → Comes contents words due
+  comes_schedule program name bytes number due form there thin (inl (none, is)) = lacking name is
+  comes_schedule program name bytes number due form there thin (inr (schedule, here, inl (lines, spelled, is))) =
+      replay_of number schedule lines (record { program = program; name = name; of_form = form; bytes = bytes; program_is = there; thin = thin; schedule_is = here }) spelled is
+  comes_schedule program name bytes number due form there thin (inr (schedule, here, inr (other, is))) =
+      unbuilt (inr (inr (record { number = number; schedule = schedule; replayed = record { program = program; name = name; of_form = form; bytes = bytes; program_is = there; thin = thin; schedule_is = here }; other = other }))) is
+
+  comes_replay : (program name : List ℕ) (due : Due) → IsOfForm words (replay program name) → OfReplay contents program name due → Comes contents words due
+  comes_replay program name due form (inl (none, is)) = lacking program is
+  comes_replay program name due form (inr (bytes, there, inl (number, thin, behind))) = comes_schedule program name bytes number due form there thin behind
+  comes_replay program name due form (inr (bytes, there, inr (other, is))) =
+      unbuilt (inr (inl (record { program = program; name = name; of_form = form; bytes = bytes; program_is = there; other = other }))) is
+
+  comes_place : (file : List ℕ) (due : Due) → OfPlace contents file due → Comes contents words due
+  comes_place file due (inl (none, is)) = lacking file is
+  comes_place file due (inr (text, there, (ending, end, is))) = placed text ending end is
+
+  comes_form : (form : Form) (due : Due) → IsOfForm words form → OfAsked contents (asked_by form) due → Comes contents words due
+  comes_form (replay program name) due form of = comes_replay program name due form of
+  comes_form (place file) due form of = comes_place file due of
+  comes_form (stubs program) due form of = unbuilt (inl (stubs program, form, tt)) of
+  comes_form (run program) due form of = unbuilt (inl (run program, form, tt)) of
+  comes_form (node program name turns) due form of = unbuilt (inl (node program name turns, form, tt)) of
+  comes_form (sample program seed steps) due form of = unbuilt (inl (sample program seed steps, form, tt)) of
+  comes_form (settle program deliveries) due form of = unbuilt (inl (settle program deliveries, form, tt)) of
+  comes_form (audit program «record») due form of = unbuilt (inl (audit program «record», form, tt)) of
+
+  comes_to : (due : Due) → IsDueLast contents words due → Comes contents words due
+  comes_to due is = go is.is_due
+    where
+      go : IsDue (Some contents) words due → Comes contents words due
+      go (inl some) = comes_form some.form due some.of_form (of_form contents some.form some.files due some.fetched some.is_due is.last)
+      go (inr (none, bad)) = nothing none bad
+
+  -- ---- why an end has its status
+
+  why_words : (due : Due) → Comes contents words due → EndsWith BadCommandLine due → IsOfNoForm words
+  why_words due (nothing none is) ends = none
+  why_words due (lacking name is) ends = never_fetch BadCommandLine due name is ends
+  why_words due (unbuilt why is) ends = absurd (let clash : NotBuilt ≡ BadCommandLine = ends_as BadCommandLine due _ is ends in cc)
+  why_words due (replay_of number schedule lines of spelled is) ends = elim (replay_status 1 (booted number) lines) [
+    | inl done ↦ absurd (let clash : Done ≡ BadCommandLine = sym done ∙ ends_as BadCommandLine due _ is ends in cc)
+    | inr (bad, later) ↦ absurd (let clash : BadSchedule ≡ BadCommandLine = sym bad ∙ ends_as BadCommandLine due _ is ends in cc)
+  ]
+  why_words due (placed text ending end is) ends = absurd (never_placed BadCommandLine text ending end (λ same. cc) (λ same. cc) (λ same. cc) (ends_as BadCommandLine due _ is ends))
+
+  why_schedule : (due : Due) → Comes contents words due → EndsWith BadSchedule due → IsRefusedReplay contents words
+  why_schedule due (nothing none is) ends = absurd (let clash : BadCommandLine ≡ BadSchedule = ends_as BadSchedule due _ is ends in cc)
+  why_schedule due (lacking name is) ends = never_fetch BadSchedule due name is ends
+  why_schedule due (unbuilt why is) ends = absurd (let clash : NotBuilt ≡ BadSchedule = ends_as BadSchedule due _ is ends in cc)
+  why_schedule due (replay_of number schedule lines of spelled is) ends = elim (replay_status 1 (booted number) lines) [
+    | inl done ↦ absurd (let clash : Done ≡ BadSchedule = sym done ∙ ends_as BadSchedule due _ is ends in cc)
+    | inr (bad, later) ↦ record { number = number; schedule = schedule; replayed = of; lines = lines; spelled = spelled; refused = later }
+  ]
+  why_schedule due (placed text ending end is) ends = absurd (never_placed BadSchedule text ending end (λ same. cc) (λ same. cc) (λ same. cc) (ends_as BadSchedule due _ is ends))
+
+  why_unbuilt : (due : Due) → Comes contents words due → EndsWith NotBuilt due → IsNotBuilt contents words
+  why_unbuilt due (nothing none is) ends = absurd (let clash : BadCommandLine ≡ NotBuilt = ends_as NotBuilt due _ is ends in cc)
+  why_unbuilt due (lacking name is) ends = never_fetch NotBuilt due name is ends
+  why_unbuilt due (unbuilt why is) ends = why
+  why_unbuilt due (replay_of number schedule lines of spelled is) ends = elim (replay_status 1 (booted number) lines) [
+    | inl done ↦ absurd (let clash : Done ≡ NotBuilt = sym done ∙ ends_as NotBuilt due _ is ends in cc)
+    | inr (bad, later) ↦ absurd (let clash : BadSchedule ≡ NotBuilt = sym bad ∙ ends_as NotBuilt due _ is ends in cc)
+  ]
+  why_unbuilt due (placed text ending end is) ends = absurd (never_placed NotBuilt text ending end (λ same. cc) (λ same. cc) (λ same. cc) (ends_as NotBuilt due _ is ends))
+
+  -- ---- and where the reason holds the end is that one
+
+  -- one thing is due, so it ends with the status of any that is
+  same_status : (status : Status) (due other : Due) → IsDueLast contents words due → IsDueLast contents words other → (EndsWith BadPlacing other → ⊥) → EndsWith status other → EndsWith status due
+  same_status status due other is also apart ends = elim (one_due contents words due other is also) [
+    | inl same ↦ subst (EndsWith status) (sym same) ends
+    | inr (refused_one, refused_other) ↦ absurd (apart refused_other)
+  ]
+
+  due_of_form : (form : Form) (files : List (List ℕ)) (due : Due) → IsOfForm words form → AreContents contents (files_of form) files → IsDueOfForm form files due → IsLast contents due → IsDueLast contents words due
+  due_of_form form files due of fetched is last = record { is_due = inl (record { form = form; of_form = of; files = files; fetched = fetched; is_due = is }); last = last }
+
+  bad_words : (due : Due) → IsDueLast contents words due → IsOfNoForm words → EndsWith BadCommandLine due
+  bad_words due is none =
+      same_status BadCommandLine due bad_command_line is (record { is_due = inr (none, refl); last = tt }) (λ same. let clash : BadCommandLine ≡ BadPlacing = same in cc) refl
+
+  bad_schedule : (due : Due) → IsDueLast contents words due → IsRefusedReplay contents words → EndsWith BadSchedule due
+  bad_schedule due is has =
+      let r = has.replayed in
+      let ending = replayed 1 (booted has.number) has.lines in
+      let status = refused_status 1 (booted has.number) has.lines has.refused in
+      let other = due_of_form (replay r.program r.name) (r.bytes ∷ has.schedule ∷ []) (finish ending) r.of_form (r.program_is, (r.schedule_is, tt)) (has.number, r.thin, inl (has.lines, has.spelled, refl)) tt in
+      same_status BadSchedule due (finish ending) is other (λ same. let clash : BadSchedule ≡ BadPlacing = sym status ∙ same in cc) status
+
+  unbuilt_form : (form : Form) → IsUnbuilt form → IsDueOfForm form [] not_built
+  unbuilt_form (replay _ _) un = absurd un
+  unbuilt_form (place _) un = absurd un
+  unbuilt_form (stubs _) un = refl
+  unbuilt_form (run _) un = refl
+  unbuilt_form (node _ _ _) un = refl
+  unbuilt_form (sample _ _ _) un = refl
+  unbuilt_form (settle _ _) un = refl
+  unbuilt_form (audit _ _) un = refl
+
+  unbuilt_due : IsNotBuilt contents words → IsDueLast contents words not_built
+  unbuilt_due (inl (form, of, un)) = due_of_form form [] not_built of tt (unbuilt_form form un) tt
+  unbuilt_due (inr (inl o)) = due_of_form (replay o.program o.name) (o.bytes ∷ []) not_built o.of_form (o.program_is, tt) (inr (o.other, refl)) tt
+  unbuilt_due (inr (inr o)) =
+      let r = o.replayed in
+      due_of_form (replay r.program r.name) (r.bytes ∷ o.schedule ∷ []) not_built r.of_form (r.program_is, (r.schedule_is, tt)) (o.number, r.thin, inr (o.other, refl)) tt
+
+  not_built_why : (due : Due) → IsDueLast contents words due → IsNotBuilt contents words → EndsWith NotBuilt due
+  not_built_why due is why = same_status NotBuilt due not_built is (unbuilt_due why) (λ same. let clash : NotBuilt ≡ BadPlacing = same in cc) refl
+
+  pub words_why : (due : Due) → IsDueLast contents words due → (EndsWith BadCommandLine due ↔ IsOfNoForm words)
+  words_why due is = (why_words due (comes_to due is), bad_words due is)
+
+  pub schedule_why : (due : Due) → IsDueLast contents words due → (EndsWith BadSchedule due ↔ IsRefusedReplay contents words)
+  schedule_why due is = (why_schedule due (comes_to due is), bad_schedule due is)
+
+  pub unbuilt_why : (due : Due) → IsDueLast contents words due → (EndsWith NotBuilt due ↔ IsNotBuilt contents words)
+  unbuilt_why due is = (why_unbuilt due (comes_to due is), not_built_why due is)

@@ -1,0 +1,11 @@
+use Rattle.circus_program.proofs.Why.{words_why, schedule_why, unbuilt_why}
+use Rattle.circus_program.proofs.laws.ends_tell_why.Goals as goal
+
+pub returns-clause-bad_words : goal.returns-clause-bad_words
+returns-clause-bad_words c = words_why
+
+pub returns-clause-bad_schedule : goal.returns-clause-bad_schedule
+returns-clause-bad_schedule c = schedule_why
+
+pub returns-clause-not_built : goal.returns-clause-not_built
+returns-clause-not_built c = unbuilt_why
