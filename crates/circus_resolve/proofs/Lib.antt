@@ -1,0 +1,5 @@
+mod Deciding
+pub mod Finding
+mod Resolving
+pub mod Shapes
+mod Weights

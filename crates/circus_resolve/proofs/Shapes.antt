@@ -1,0 +1,86 @@
+-- Shapes against shapes, part by part.
+use Rattle.std.specs.Prelude.{option_map, slice_get}
+use Rattle.std.proofs.Common.{◌≡◌, ℕ, zero, suc, ◌+◌, ◌<◌, Bool, true, false, IsTrue, ◌↔◌, ◌&&◌, bytes_eq, ◌==◌, List, [], ◌∷◌, length, get_or, drop, map, refl, sym, ap, ◌∙◌, arith}
+use Rattle.std.proofs.Math.Bool.{and-false}
+use Rattle.std.proofs.lemmas.List.{drop_more}
+use Rattle.circus_value.specs.declared.shape.Label.{Label}
+use Rattle.circus_value.specs.declared.shape.Field.{Field}
+use Rattle.circus_value.specs.declared.shape.Arm.{Arm}
+use Rattle.circus_value.specs.ShapeTree.{FieldTree, ArmTree, «record», field_trees, arm_trees}
+use Rattle.circus_value.specs.ShapeOf.{tree_of, field_of, arm_of}
+use Rattle.circus_value.specs.Seen.ShapeWeight.{weight, field_weights, arm_weights}
+use Rattle.circus_resolve.specs.Named.{is_bare}
+use Rattle.circus_resolve.specs.Faults.{field_at, field_count}
+use Rattle.circus_resolve.specs.Same.{labels_eq, shape_eq, fields_eq, arms_eq}
+
+-- lists of two lengths
+pub labels_differ : (ls ms : List Label) → (length ls ≡ length ms → ⊥) → labels_eq ls ms ≡ false
+labels_differ [] [] differs = absurd (differs refl)
+labels_differ [] (m ∷ ms) differs = refl
+labels_differ (l ∷ ls) [] differs = refl
+labels_differ (l ∷ ls) (m ∷ ms) differs =
+    ap (λ b. bytes_eq l.name m.name && (l.number == m.number) && b) (labels_differ ls ms (λ same. differs (ap suc same)))
+    ∙ and-false (bytes_eq l.name m.name && (l.number == m.number))
+
+pub fields_differ : (fs gs : List FieldTree) → (length fs ≡ length gs → ⊥) → fields_eq (field_trees fs) (field_trees gs) ≡ false
+fields_differ [] [] differs = absurd (differs refl)
+fields_differ [] (g ∷ gs) differs = refl
+fields_differ (f ∷ fs) [] differs = refl
+fields_differ (f ∷ fs) (g ∷ gs) differs =
+    ap (λ b. bytes_eq f.name g.name && shape_eq f.shape g.shape && b) (fields_differ fs gs (λ same. differs (ap suc same)))
+    ∙ and-false (bytes_eq f.name g.name && shape_eq f.shape g.shape)
+
+pub arms_differ : (xs ys : List ArmTree) → (length xs ≡ length ys → ⊥) → arms_eq (arm_trees xs) (arm_trees ys) ≡ false
+arms_differ [] [] differs = absurd (differs refl)
+arms_differ [] (y ∷ ys) differs = refl
+arms_differ (x ∷ xs) [] differs = refl
+arms_differ (x ∷ xs) (y ∷ ys) differs =
+    ap (λ b. bytes_eq x.name y.name && (x.number == y.number) && shape_eq x.shape y.shape && b) (arms_differ xs ys (λ same. differs (ap suc same)))
+    ∙ and-false (bytes_eq x.name y.name && (x.number == y.number) && shape_eq x.shape y.shape)
+
+-- a list from a place on
+pub from_place : {X : Type 0} (xs : List X) (i : ℕ) (x : X) → i < length xs → x ≡ get_or xs i x → drop i xs ≡ x ∷ drop (i + 1) xs
+from_place xs i x below is = drop_more xs i x below ∙ ap (λ y. y ∷ drop (i + 1) xs) (sym is)
+
+-- the parts at a place, and those behind them
+pub labels_step : (ls ms : List Label) (i : ℕ) (l m : Label) → i < length ls → i < length ms → l ≡ get_or ls i l → m ≡ get_or ms i m
+    → labels_eq (drop i ls) (drop i ms) ≡ (bytes_eq l.name m.name && (l.number == m.number) && labels_eq (drop (i + 1) ls) (drop (i + 1) ms))
+labels_step ls ms i l m few many is is' = λ j. labels_eq (from_place ls i l few is j) (from_place ms i m many is' j)
+
+pub fields_step : (fs gs : List Field) (i : ℕ) (f g : Field) → i < length fs → i < length gs → f ≡ get_or fs i f → g ≡ get_or gs i g
+    → fields_eq (field_trees (map field_of (drop i fs))) (field_trees (map field_of (drop i gs)))
+    ≡ (bytes_eq f.name g.name && shape_eq (tree_of f.shape) (tree_of g.shape) && fields_eq (field_trees (map field_of (drop (i + 1) fs))) (field_trees (map field_of (drop (i + 1) gs))))
+fields_step fs gs i f g few many is is' = λ j. fields_eq (field_trees (map field_of (from_place fs i f few is j))) (field_trees (map field_of (from_place gs i g many is' j)))
+
+pub arms_step : (xs ys : List Arm) (i : ℕ) (x y : Arm) → i < length xs → i < length ys → x ≡ get_or xs i x → y ≡ get_or ys i y
+    → arms_eq (arm_trees (map arm_of (drop i xs))) (arm_trees (map arm_of (drop i ys)))
+    ≡ (bytes_eq x.name y.name && (x.number == y.number) && shape_eq (tree_of x.shape) (tree_of y.shape) && arms_eq (arm_trees (map arm_of (drop (i + 1) xs))) (arm_trees (map arm_of (drop (i + 1) ys))))
+arms_step xs ys i x y few many is is' = λ j. arms_eq (arm_trees (map arm_of (from_place xs i x few is j))) (arm_trees (map arm_of (from_place ys i y many is' j)))
+
+-- a record that has no fields
+pub bare_is : (b : Bool) (fs : List FieldTree) → (IsTrue b ↔ (fs ≡ [])) → b ≡ is_bare («record» (field_trees fs))
+bare_is true [] tells = refl
+bare_is false [] tells = tells.1 refl
+bare_is true (f ∷ fs) tells = absurd (let e = tells.0 refl in cc)
+bare_is false (f ∷ fs) tells = refl
+
+-- a part is lighter than the whole
+pub weight_of_field : (fs : List Field) (i : ℕ) (f : Field) → i < length fs → f ≡ get_or fs i f → weight (tree_of f.shape) < field_weights (field_trees (map field_of fs))
+weight_of_field [] i f few is = absurd (omega arith)
+weight_of_field (g ∷ fs) zero f few is = omega (arith, ap (λ (x : Field). weight (tree_of x.shape)) is)
+weight_of_field (g ∷ fs) (suc i) f few is = omega (arith, weight_of_field fs i f (omega arith) is)
+
+pub weight_of_arm : (xs : List Arm) (i : ℕ) (x : Arm) → i < length xs → x ≡ get_or xs i x → weight (tree_of x.shape) < arm_weights (arm_trees (map arm_of xs))
+weight_of_arm [] i x few is = absurd (omega arith)
+weight_of_arm (y ∷ xs) zero x few is = omega (arith, ap (λ (a : Arm). weight (tree_of a.shape)) is)
+weight_of_arm (y ∷ xs) (suc i) x few is = omega (arith, weight_of_arm xs i x (omega arith) is)
+
+-- the shape of the field at a place, and how many there are
+pub field_at_is : (fs : List FieldTree) (n : ℕ) → option_map (λ (f : FieldTree). f.shape) (slice_get fs n) ≡ field_at (field_trees fs) n
+field_at_is [] n = refl
+field_at_is (f ∷ fs) zero = refl
+field_at_is (f ∷ fs) (suc n) = field_at_is fs n
+
+pub field_count_is : (fs : List FieldTree) → length fs ≡ field_count (field_trees fs)
+field_count_is [] = refl
+field_count_is (f ∷ fs) = ap suc (field_count_is fs)

@@ -1,0 +1,6 @@
+use Rattle.std.proofs.Common.{sym, ◌∙◌}
+use Rattle.circus_resolve.proofs.Shapes.{labels_differ}
+use Rattle.circus_resolve.proofs.same.are_labels.Goals as goal
+
+pub returns-then-len : goal.returns-then-len
+returns-then-len c = sym (labels_differ c.args.some.now c.args.others.now (λ same. c.if-len.true (c.len.ensures ∙ same ∙ sym c.len-2.ensures)))

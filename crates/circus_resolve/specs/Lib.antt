@@ -1,0 +1,8 @@
+pub mod Same
+pub mod Sorts
+pub mod Scope
+pub mod Causes
+pub mod Named
+pub mod Faults
+pub mod Meaning
+pub mod Seen

@@ -1,0 +1,6 @@
+-- How code is seen.
+pub mod Found
+pub mod Parts
+pub mod Scoped
+pub mod Steps
+pub mod Wanted

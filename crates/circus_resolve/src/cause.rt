@@ -1,0 +1,38 @@
+// Why a module is refused.
+ghost use Rattle.circus_resolve.specs.Causes.{rank};
+
+use circus_fault::Cause;
+
+/// Why a module is refused, in the order in which causes at one place are given (docs/LANGUAGE.md, "Modules").
+#[derive(Clone, Copy, Debug, PartialEq, Eq)]
+pub enum CheckCause {
+    Unknown,
+    Repeated,
+    OutOfRange,
+    TooLarge,
+    Mistyped,
+    Unfinished,
+    Forward,
+    Shared,
+    Missing,
+    TooMany,
+}
+
+impl Cause for CheckCause {
+    ghost rank = { rank };
+
+    fn rank(self) -> u8 {
+        match self {
+            CheckCause::Unknown => 0,
+            CheckCause::Repeated => 1,
+            CheckCause::OutOfRange => 2,
+            CheckCause::TooLarge => 3,
+            CheckCause::Mistyped => 4,
+            CheckCause::Unfinished => 5,
+            CheckCause::Forward => 6,
+            CheckCause::Shared => 7,
+            CheckCause::Missing => 8,
+            CheckCause::TooMany => 9,
+        }
+    }
+}
