@@ -23,8 +23,8 @@ behind_more done t (bad_pad place) = refl
 
 -- ---- fields
 
-pub fields_more : (ops : List Operation) (p end at next : ℕ) (bs rest : List ℕ) (left : FieldTrees) (f : FieldsFirst ops p end left) (done : List ValueTree) (t : ValueTree) (whole : Answer (List ValueTree)) → reading f.shape at bs ≡ found t next rest → whole ≡ behind done (fields_reading left at bs) → whole ≡ behind (done ++ t ∷ []) (fields_reading f.others next rest)
-fields_more ops p end at next bs rest left f done t whole read all =
+pub fields_more : {ops : List Operation} {p end : ℕ} {left : FieldTrees} (at next : ℕ) (bs rest : List ℕ) (f : FieldsFirst ops p end left) (done : List ValueTree) (t : ValueTree) (whole : Answer (List ValueTree)) → reading f.shape at bs ≡ found t next rest → whole ≡ behind done (fields_reading left at bs) → whole ≡ behind (done ++ t ∷ []) (fields_reading f.others next rest)
+fields_more {left = left} at next bs rest f done t whole read all =
     all ∙ ap (λ fs. behind done (fields_reading fs at bs)) f.is
     ∙ ap (λ a. behind done (and_then a (λ u m later. one_more u (fields_reading f.others m later)))) read
     ∙ behind_more done t (fields_reading f.others next rest)
@@ -33,8 +33,8 @@ pub fields_all : (at : ℕ) (bs : List ℕ) (left : FieldTrees) (done : List Val
 fields_all at bs left done whole none all =
     all ∙ ap (λ fs. behind done (fields_reading fs at bs)) none ∙ ap (λ xs. found xs at bs) (append-nil done)
 
-pub fields_fault : {W : Type 0} (tree : W → ValueTree) (octets : List ℕ) (fault : ExternalFault) (ops : List Operation) (p end at : ℕ) (bs : List ℕ) (left : FieldTrees) (f : FieldsFirst ops p end left) (done : List ValueTree) (whole : Answer (List ValueTree)) → Gives tree octets (Err fault) (reading f.shape at bs) → whole ≡ behind done (fields_reading left at bs) → Gives (λ ts. ts) octets (Err fault) whole
-fields_fault tree octets fault ops p end at bs left f done whole gives all =
+pub fields_fault : {W : Type 0} {ops : List Operation} {p end : ℕ} {left : FieldTrees} (tree : W → ValueTree) (octets : List ℕ) (fault : ExternalFault) (at : ℕ) (bs : List ℕ) (f : FieldsFirst ops p end left) (done : List ValueTree) (whole : Answer (List ValueTree)) → Gives tree octets (Err fault) (reading f.shape at bs) → whole ≡ behind done (fields_reading left at bs) → Gives (λ ts. ts) octets (Err fault) whole
+fields_fault {left = left} tree octets fault at bs f done whole gives all =
     fault_behind tree octets fault done (reading f.shape at bs) whole (λ u m later. one_more u (fields_reading f.others m later)) gives
     (all ∙ ap (λ fs. behind done (fields_reading fs at bs)) f.is)
 

@@ -1,5 +1,5 @@
 -- What stands at a place, by the operation there.
-use Rattle.std.proofs.Common.{◌≡◌, ℕ, suc, zero, ◌+◌, ◌<◌, ◌≤◌, Some, List, [], ◌∷◌, ◌++◌, length, get_or, drop, cond, nat_eq, true, false, refl, sym, ap, ◌∙◌, subst, arith, append_assoc}
+use Rattle.std.proofs.Common.{◌≡◌, ℕ, suc, zero, ◌+◌, ◌<◌, ◌≤◌, Some, List, [], ◌∷◌, ◌++◌, length, get_or, drop, cond, refl, sym, ap, ◌∙◌, subst, arith, append_assoc}
 use Rattle.std.specs.Option.{unwrap_or}
 use Rattle.std.proofs.Math.Seq.{drop-append_seam}
 use Rattle.std.proofs.lemmas.List.{drop-drop}
@@ -8,7 +8,7 @@ use Rattle.circus_value.specs.declared.shape.Label.{Label}
 use Rattle.circus_value.specs.ShapeTree.{ShapeTree, FieldTrees, ArmTrees, boolean, cardinal, long_cardinal, integer, long_integer, text, enumeration, array, sequence, «record», choice, no_fields, more_fields, no_arms, more_arms}
 use Rattle.circus_stub.specs.declared.operation.Operation.{Operation}
 use Rattle.circus_stub.specs.declared.operation.Operation.TheVariants as operation
-use Rattle.circus_stub.specs.Flat.{operations_in, operations_in_fields, operations_in_arms, label_numbers, field_count, arm_count, flat, flat_fields, flat_arms, part_end}
+use Rattle.circus_stub.specs.Flat.{operations_in, label_numbers, field_count, arm_count, flat, flat_fields, flat_arms, part_end}
 use Rattle.circus_stub.specs.Seen.Standing.{Stands, FieldsStand, ArmsStand, first_arm}
 use Rattle.circus_stub.proofs.FlatLemmas.{length-flat}
 
@@ -111,81 +111,39 @@ pub parts_stand : (ops : List Operation) (p : ℕ) (s : ShapeTree) (st : Stands 
 parts_stand ops p s st =
     behind_at ops p (first s p) (parts s p ++ st.rest) (st.stands ∙ ap (λ xs. xs ++ st.rest) (flat-split s p))
 
--- ---- shapes by their first operation
+-- ---- what stands at a place, by the operation there
 
-pub boolean_of : (s : ShapeTree) (p : ℕ) → first s p ≡ operation.Boolean → s ≡ boolean
-boolean_of boolean p is = refl
-boolean_of _ p is = cc
+-- the shape whose first operation it is, and where its parts stand
+abbrev pub StandsAs : List Operation → ℕ → Operation → ShapeTree → Type 0
+StandsAs ops p operation.Boolean s = s ≡ boolean
+StandsAs ops p operation.Cardinal s = s ≡ cardinal
+StandsAs ops p operation.LongCardinal s = s ≡ long_cardinal
+StandsAs ops p operation.Integer s = s ≡ integer
+StandsAs ops p operation.LongInteger s = s ≡ long_integer
+StandsAs ops p operation.Text s = s ≡ text
+StandsAs ops p (operation.Enumeration numbers) s = (labels : List Label) × (s ≡ enumeration labels) × (numbers ≡ label_numbers labels)
+StandsAs ops p (operation.Array n end) s = (e : ShapeTree) × (s ≡ array n e) × Stands ops (p + 1) e
+StandsAs ops p (operation.Sequence n end) s = (e : ShapeTree) × (s ≡ sequence n e) × Stands ops (p + 1) e
+StandsAs ops p (operation.Record n end) s = (fs : FieldTrees) × (s ≡ «record» fs) × FieldsStand ops (p + 1) end fs × (n ≡ field_count fs)
+StandsAs ops p (operation.Choice n end) s = (arms : ArmTrees) × (s ≡ choice arms) × ArmsStand ops (p + 1) end arms × (n ≡ arm_count arms)
+StandsAs ops p (operation.Arm n end) s = ⊥
 
-pub cardinal_of : (s : ShapeTree) (p : ℕ) → first s p ≡ operation.Cardinal → s ≡ cardinal
-cardinal_of cardinal p is = refl
-cardinal_of _ p is = cc
+stands_first : (ops : List Operation) (p : ℕ) (s : ShapeTree) → Stands ops p s → StandsAs ops p (first s p) s
+stands_first ops p boolean st = refl
+stands_first ops p cardinal st = refl
+stands_first ops p long_cardinal st = refl
+stands_first ops p integer st = refl
+stands_first ops p long_integer st = refl
+stands_first ops p text st = refl
+stands_first ops p (enumeration labels) st = (labels, refl, refl)
+stands_first ops p (array n e) st = (e, refl, stands_at ops (p + 1) e st.rest (parts_stand ops p (array n e) st))
+stands_first ops p (sequence n e) st = (e, refl, stands_at ops (p + 1) e st.rest (parts_stand ops p (sequence n e) st))
+stands_first ops p («record» fs) st = (fs, refl, record { rest = st.rest; stands = parts_stand ops p («record» fs) st; ends = refl }, refl)
+stands_first ops p (choice arms) st = (arms, refl, record { rest = st.rest; stands = parts_stand ops p (choice arms) st; ends = refl }, refl)
 
-pub long_cardinal_of : (s : ShapeTree) (p : ℕ) → first s p ≡ operation.LongCardinal → s ≡ long_cardinal
-long_cardinal_of long_cardinal p is = refl
-long_cardinal_of _ p is = cc
-
-pub integer_of : (s : ShapeTree) (p : ℕ) → first s p ≡ operation.Integer → s ≡ integer
-integer_of integer p is = refl
-integer_of _ p is = cc
-
-pub long_integer_of : (s : ShapeTree) (p : ℕ) → first s p ≡ operation.LongInteger → s ≡ long_integer
-long_integer_of long_integer p is = refl
-long_integer_of _ p is = cc
-
-pub text_of : (s : ShapeTree) (p : ℕ) → first s p ≡ operation.Text → s ≡ text
-text_of text p is = refl
-text_of _ p is = cc
-
-pub enumeration_of : (s : ShapeTree) (p : ℕ) (numbers : List ℕ) → first s p ≡ operation.Enumeration numbers → (labels : List Label) × (s ≡ enumeration labels) × (numbers ≡ label_numbers labels)
-enumeration_of (enumeration labels) p numbers is = (labels, refl, cc)
-enumeration_of _ p numbers is = absurd cc
-
-pub no_arm_of : (s : ShapeTree) (p n end : ℕ) → first s p ≡ operation.Arm n end → ⊥
-no_arm_of boolean p n end is = absurd cc
-no_arm_of _ p n end is = absurd cc
-
-array_of : (s : ShapeTree) (p n end : ℕ) → first s p ≡ operation.Array n end → (e : ShapeTree) × (s ≡ array n e)
-array_of (array len e) p n end is = (e, let same : len ≡ n = cc in ap (λ k. array k e) same)
-array_of _ p n end is = absurd cc
-
-sequence_of : (s : ShapeTree) (p n end : ℕ) → first s p ≡ operation.Sequence n end → (e : ShapeTree) × (s ≡ sequence n e)
-sequence_of (sequence bound e) p n end is = (e, let same : bound ≡ n = cc in ap (λ k. sequence k e) same)
-sequence_of _ p n end is = absurd cc
-
-record_of : (s : ShapeTree) (p n end : ℕ) → first s p ≡ operation.Record n end → (fs : FieldTrees) × (s ≡ «record» fs) × (end ≡ p + 1 + operations_in_fields fs) × (n ≡ field_count fs)
-record_of («record» fs) p n end is = (fs, refl, cc, cc)
-record_of _ p n end is = absurd cc
-
-choice_of : (s : ShapeTree) (p n end : ℕ) → first s p ≡ operation.Choice n end → (arms : ArmTrees) × (s ≡ choice arms) × (end ≡ p + 1 + operations_in_arms arms) × (n ≡ arm_count arms)
-choice_of (choice arms) p n end is = (arms, refl, cc, cc)
-choice_of _ p n end is = absurd cc
-
--- ---- parts by the operation before them
-
-pub array_stands : (ops : List Operation) (p n end : ℕ) (d : Operation) (s : ShapeTree) → get_or ops p d ≡ operation.Array n end → Stands ops p s → (e : ShapeTree) × (s ≡ array n e) × Stands ops (p + 1) e
-array_stands ops p n end d s is st =
-    let found = array_of s p n end (sym (first_stands ops p d s st) ∙ is) in
-    let here : Stands ops p (array n found.0) = subst (Stands ops p) found.1 st in
-    (found.0, found.1, stands_at ops (p + 1) found.0 here.rest (parts_stand ops p (array n found.0) here))
-
-pub sequence_stands : (ops : List Operation) (p n end : ℕ) (d : Operation) (s : ShapeTree) → get_or ops p d ≡ operation.Sequence n end → Stands ops p s → (e : ShapeTree) × (s ≡ sequence n e) × Stands ops (p + 1) e
-sequence_stands ops p n end d s is st =
-    let found = sequence_of s p n end (sym (first_stands ops p d s st) ∙ is) in
-    let here : Stands ops p (sequence n found.0) = subst (Stands ops p) found.1 st in
-    (found.0, found.1, stands_at ops (p + 1) found.0 here.rest (parts_stand ops p (sequence n found.0) here))
-
-pub record_stands : (ops : List Operation) (p n end : ℕ) (d : Operation) (s : ShapeTree) → get_or ops p d ≡ operation.Record n end → Stands ops p s → (fs : FieldTrees) × (s ≡ «record» fs) × FieldsStand ops (p + 1) end fs × (n ≡ field_count fs)
-record_stands ops p n end d s is st =
-    let found = record_of s p n end (sym (first_stands ops p d s st) ∙ is) in
-    let here : Stands ops p («record» found.0) = subst (Stands ops p) found.1 st in
-    (found.0, found.1, record { rest = here.rest; stands = parts_stand ops p («record» found.0) here; ends = found.2 }, found.3)
-
-pub choice_stands : (ops : List Operation) (p n end : ℕ) (d : Operation) (s : ShapeTree) → get_or ops p d ≡ operation.Choice n end → Stands ops p s → (arms : ArmTrees) × (s ≡ choice arms) × ArmsStand ops (p + 1) end arms × (n ≡ arm_count arms)
-choice_stands ops p n end d s is st =
-    let found = choice_of s p n end (sym (first_stands ops p d s st) ∙ is) in
-    let here : Stands ops p (choice found.0) = subst (Stands ops p) found.1 st in
-    (found.0, found.1, record { rest = here.rest; stands = parts_stand ops p (choice found.0) here; ends = found.2 }, found.3)
+pub stands_as : {ops : List Operation} {p : ℕ} {s : ShapeTree} {here o : Operation} → Stands ops p s → here ≡ get_or ops p here → here ≡ o → StandsAs ops p o s
+stands_as {ops} {p} {s} {here} {o} st is same =
+    subst (λ x. StandsAs ops p x s) (sym (is ∙ first_stands ops p here s st) ∙ same) (stands_first ops p s st)
 
 -- ---- one field and the others
 
@@ -197,9 +155,9 @@ pub record FieldsFirst (ops : List Operation) (p end : ℕ) (fields : FieldTrees
   pub stand : Stands ops p shape
   pub later : FieldsStand ops (p + operations_in shape) end others
 
-pub fields_first : (ops : List Operation) (p end : ℕ) (fields : FieldTrees) → p < end → FieldsStand ops p end fields → FieldsFirst ops p end fields
-fields_first ops p end no_fields before st = absurd (omega (arith, st.ends))
-fields_first ops p end (more_fields name s fs) before st =
+pub fields_first : {ops : List Operation} {p end : ℕ} (fields : FieldTrees) → p < end → FieldsStand ops p end fields → FieldsFirst ops p end fields
+fields_first no_fields before st = absurd (omega (arith, st.ends))
+fields_first {ops} {p} {end} (more_fields name s fs) before st =
     let split : drop p ops ≡ flat s p ++ (flat_fields fs (p + operations_in s) ++ st.rest) =
     st.stands ∙ append_assoc (flat s p) (flat_fields fs (p + operations_in s)) st.rest in
     record {
@@ -215,9 +173,9 @@ fields_first ops p end (more_fields name s fs) before st =
       };
     }
 
-pub fields_last : (ops : List Operation) (p end : ℕ) (fields : FieldTrees) → end ≤ p → FieldsStand ops p end fields → fields ≡ no_fields
-fields_last ops p end no_fields past st = refl
-fields_last ops p end (more_fields name s fs) past st = absurd (omega (arith, st.ends, one_operation s))
+pub fields_last : {ops : List Operation} {p end : ℕ} (fields : FieldTrees) → end ≤ p → FieldsStand ops p end fields → fields ≡ no_fields
+fields_last no_fields past st = refl
+fields_last (more_fields name s fs) past st = absurd (omega (arith, st.ends, one_operation s))
 
 -- ---- one arm and the others
 
@@ -232,9 +190,9 @@ pub record ArmsFirst (ops : List Operation) (p end : ℕ) (arms : ArmTrees) : Ty
   pub stand : Stands ops (p + 1) shape
   pub later : ArmsStand ops (p + 1 + operations_in shape) end others
 
-pub arms_first : (ops : List Operation) (p end : ℕ) (arms : ArmTrees) → p < end → ArmsStand ops p end arms → ArmsFirst ops p end arms
-arms_first ops p end no_arms before st = absurd (omega (arith, st.ends))
-arms_first ops p end (more_arms name n s arms) before st =
+pub arms_first : {ops : List Operation} {p end : ℕ} (arms : ArmTrees) → p < end → ArmsStand ops p end arms → ArmsFirst ops p end arms
+arms_first no_arms before st = absurd (omega (arith, st.ends))
+arms_first {ops} {p} {end} (more_arms name n s arms) before st =
     let behind = p + 1 + operations_in s in
     let tail = (flat s (p + 1) ++ flat_arms arms behind) ++ st.rest in
     let split : drop (p + 1) ops ≡ flat s (p + 1) ++ (flat_arms arms behind ++ st.rest) =
@@ -255,33 +213,43 @@ arms_first ops p end (more_arms name n s arms) before st =
       };
     }
 
-pub arms_last : (ops : List Operation) (p end : ℕ) (arms : ArmTrees) → end ≤ p → ArmsStand ops p end arms → arms ≡ no_arms
-arms_last ops p end no_arms past st = refl
-arms_last ops p end (more_arms name n s arms) past st = absurd (omega (arith, st.ends))
+pub arms_last : {ops : List Operation} {p end : ℕ} (arms : ArmTrees) → end ≤ p → ArmsStand ops p end arms → arms ≡ no_arms
+arms_last no_arms past st = refl
+arms_last (more_arms name n s arms) past st = absurd (omega (arith, st.ends))
 
--- the arm at a place has the number that is wanted
-pub arm_found : (ops : List Operation) (p end n behind wanted : ℕ) (d : Operation) (arms : ArmTrees) → p < end → ArmsStand ops p end arms → get_or ops p d ≡ operation.Arm n behind → n ≡ wanted → (s : ShapeTree) × (first_arm arms wanted ≡ Some s) × Stands ops (p + 1) s
-arm_found ops p end n behind wanted d arms before st is same =
-    let f = arms_first ops p end arms before st in
-    let heads = sym is ∙ f.head d in
-    let number : n ≡ f.number = cc in
-    let hit : nat_eq wanted f.number ≡ true = eq-eqb _ _ (sym same ∙ number) in
-    (f.shape, ap (λ xs. first_arm xs wanted) f.is ∙ ap (λ b. cond b (Some f.shape) (first_arm f.others wanted)) hit, f.stand)
+-- ---- an arm by the operation at its place
+
+pub record ArmAt (ops : List Operation) (p end n behind : ℕ) (arms : ArmTrees) : Type 0 where
+  pub name : List ℕ
+  pub shape : ShapeTree
+  pub others : ArmTrees
+  pub is : arms ≡ more_arms name n shape others
+  pub further : p < behind
+  pub stand : Stands ops (p + 1) shape
+  pub later : ArmsStand ops behind end others
+
+pub arm_at : {ops : List Operation} {p end n behind : ℕ} {arms : ArmTrees} {here : Operation} → p < end → ArmsStand ops p end arms → here ≡ get_or ops p here → here ≡ operation.Arm n behind → ArmAt ops p end n behind arms
+arm_at {ops} {p} {end} {n} {behind} {arms} {here} before st is same =
+    let f = arms_first arms before st in
+    let heads = sym same ∙ is ∙ f.head here in
+    let number : f.number ≡ n = cc in
+    let next : p + 1 + operations_in f.shape ≡ behind = cc in
+    record {
+      name = f.name;
+      shape = f.shape;
+      others = f.others;
+      is = f.is ∙ ap (λ k. more_arms f.name k f.shape f.others) number;
+      further = omega arith;
+      stand = f.stand;
+      later = subst (λ k. ArmsStand ops k end f.others) next f.later;
+    }
+
+-- it has the number that is wanted
+pub arm_found : (arms others : ArmTrees) (name : List ℕ) (n wanted : ℕ) (shape : ShapeTree) → arms ≡ more_arms name n shape others → n ≡ wanted → first_arm arms wanted ≡ Some shape
+arm_found arms others name n wanted shape is same =
+    ap (λ xs. first_arm xs wanted) is ∙ ap (λ b. cond b (Some shape) (first_arm others wanted)) (eq-eqb wanted n (sym same))
 
 -- it has another number
-pub arm_passed : (ops : List Operation) (p end n behind wanted : ℕ) (d : Operation) (arms : ArmTrees) → p < end → ArmsStand ops p end arms → get_or ops p d ≡ operation.Arm n behind → (n ≡ wanted → ⊥) → (others : ArmTrees) × ArmsStand ops behind end others × (first_arm arms wanted ≡ first_arm others wanted)
-arm_passed ops p end n behind wanted d arms before st is other =
-    let f = arms_first ops p end arms before st in
-    let heads = sym is ∙ f.head d in
-    let number : n ≡ f.number = cc in
-    let next : p + 1 + operations_in f.shape ≡ behind = cc in
-    let miss : nat_eq wanted f.number ≡ false = ne_eqb _ _ (λ same. other (number ∙ sym same)) in
-    (f.others, subst (λ k. ArmsStand ops k end f.others) next f.later, ap (λ xs. first_arm xs wanted) f.is ∙ ap (λ b. cond b (Some f.shape) (first_arm f.others wanted)) miss)
-
--- the place behind an arm is further
-pub arm_further : (ops : List Operation) (p end n behind : ℕ) (d : Operation) (arms : ArmTrees) → p < end → ArmsStand ops p end arms → get_or ops p d ≡ operation.Arm n behind → p < behind
-arm_further ops p end n behind d arms before st is =
-    let f = arms_first ops p end arms before st in
-    let heads = sym is ∙ f.head d in
-    let next : p + 1 + operations_in f.shape ≡ behind = cc in
-    omega arith
+pub arm_passed : (arms others : ArmTrees) (name : List ℕ) (n wanted : ℕ) (shape : ShapeTree) → arms ≡ more_arms name n shape others → (n ≡ wanted → ⊥) → first_arm arms wanted ≡ first_arm others wanted
+arm_passed arms others name n wanted shape is other =
+    ap (λ xs. first_arm xs wanted) is ∙ ap (λ b. cond b (Some shape) (first_arm others wanted)) (ne_eqb wanted n (λ same. other (sym same)))

@@ -60,7 +60,7 @@ fields_go ops p end left vs i v few is st all =
     let items : drop i vs ≡ v ∷ drop (i + 1) vs = drop_more vs i v few ∙ ap (λ x. x ∷ drop (i + 1) vs) (sym is) in
     let admits : fields_admit left (t ∷ ts) ≡ true = ap (λ xs. fields_admit left (map tree_of xs)) (sym items) ∙ all in
     let before : p < end = omega (arith, st.ends, some_operations left t ts admits) in
-    let first = fields_first ops p end left before st in
+    let first = fields_first left before st in
     let both = and_both (fits first.shape t) (fields_fit first.others (value_trees ts)) (subst (λ fs. fields_admit fs (t ∷ ts) ≡ true) first.is admits) in
     record {
       shape = first.shape;

@@ -1,6 +1,5 @@
 -- What unpacking comes to, by the shapes of an interface.
 use Rattle.std.specs.Prelude.{◌≡◌, ℕ, zero, suc, Bool, ◌==◌, ◌&&◌, nat_lt, nat_le, cond, Option, Some, None, Result, Ok, Err, List, [], ◌∷◌, length, drop, find}
-use Rattle.std.specs.List.{list_any}
 use Rattle.std.specs.Option.{option_map, option_map_or}
 use Rattle.circus_value.specs.Among.{is_among}
 use Rattle.circus_value.specs.ValueTree.{ValueTree}

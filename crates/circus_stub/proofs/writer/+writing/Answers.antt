@@ -7,7 +7,7 @@ use Rattle.circus_external.specs.Octets.{word}
 use Rattle.circus_external.specs.Spelling.{spelling_of_all}
 use Rattle.circus_external.proofs.ShapesAlike.{and_both}
 use Rattle.circus_stub.specs.Seen.Standing.{FieldsStand}
-use Rattle.circus_stub.proofs.StandLemmas.{first_stands, boolean_of, cardinal_of, long_cardinal_of, integer_of, long_integer_of, text_of, enumeration_of, no_arm_of, array_stands, sequence_stands, record_stands, choice_stands}
+use Rattle.circus_stub.proofs.StandLemmas.{stands_as}
 use Rattle.circus_stub.proofs.WriterLemmas.{item_passes, fields_go, written_more, sequence_bounded, chosen_fits, chosen_exists, same_fits}
 use Rattle.circus_stub.proofs.writer.+writing.Goals as goal
 
@@ -15,84 +15,76 @@ use Rattle.circus_stub.proofs.writer.+writing.Goals as goal
 
 pub write_value-truth-requires : goal.write_value-truth-requires
 write_value-truth-requires t c =
-    let first = sym (first_stands c.args.operations.now c.args.place c.index-operations-place.result c.requires.0 c.requires.1) ∙ sym c.index-operations-place.is ∙ c.in-Boolean.is in
-    subst (λ s. fits s (values.tree_of c.args.value.now) ≡ true) (boolean_of c.requires.0 c.args.place first) c.requires.2
+    subst (λ s. fits s (values.tree_of c.args.value.now) ≡ true) (stands_as c.requires.1 c.index-operations-place.is c.in-Boolean.is) c.requires.2
 
 pub write_value-cardinal-requires : goal.write_value-cardinal-requires
 write_value-cardinal-requires t c =
-    let first = sym (first_stands c.args.operations.now c.args.place c.index-operations-place.result c.requires.0 c.requires.1) ∙ sym c.index-operations-place.is ∙ c.in-Cardinal.is in
-    subst (λ s. fits s (values.tree_of c.args.value.now) ≡ true) (cardinal_of c.requires.0 c.args.place first) c.requires.2
+    subst (λ s. fits s (values.tree_of c.args.value.now) ≡ true) (stands_as c.requires.1 c.index-operations-place.is c.in-Cardinal.is) c.requires.2
 
 pub write_value-long_cardinal-requires : goal.write_value-long_cardinal-requires
 write_value-long_cardinal-requires t c =
-    let first = sym (first_stands c.args.operations.now c.args.place c.index-operations-place.result c.requires.0 c.requires.1) ∙ sym c.index-operations-place.is ∙ c.in-LongCardinal.is in
-    subst (λ s. fits s (values.tree_of c.args.value.now) ≡ true) (long_cardinal_of c.requires.0 c.args.place first) c.requires.2
+    subst (λ s. fits s (values.tree_of c.args.value.now) ≡ true) (stands_as c.requires.1 c.index-operations-place.is c.in-LongCardinal.is) c.requires.2
 
 pub write_value-integer-requires : goal.write_value-integer-requires
 write_value-integer-requires t c =
-    let first = sym (first_stands c.args.operations.now c.args.place c.index-operations-place.result c.requires.0 c.requires.1) ∙ sym c.index-operations-place.is ∙ c.in-Integer.is in
-    subst (λ s. fits s (values.tree_of c.args.value.now) ≡ true) (integer_of c.requires.0 c.args.place first) c.requires.2
+    subst (λ s. fits s (values.tree_of c.args.value.now) ≡ true) (stands_as c.requires.1 c.index-operations-place.is c.in-Integer.is) c.requires.2
 
 pub write_value-long_integer-requires : goal.write_value-long_integer-requires
 write_value-long_integer-requires t c =
-    let first = sym (first_stands c.args.operations.now c.args.place c.index-operations-place.result c.requires.0 c.requires.1) ∙ sym c.index-operations-place.is ∙ c.in-LongInteger.is in
-    subst (λ s. fits s (values.tree_of c.args.value.now) ≡ true) (long_integer_of c.requires.0 c.args.place first) c.requires.2
+    subst (λ s. fits s (values.tree_of c.args.value.now) ≡ true) (stands_as c.requires.1 c.index-operations-place.is c.in-LongInteger.is) c.requires.2
 
 pub write_value-text-requires : goal.write_value-text-requires
 write_value-text-requires t c =
-    let first = sym (first_stands c.args.operations.now c.args.place c.index-operations-place.result c.requires.0 c.requires.1) ∙ sym c.index-operations-place.is ∙ c.in-Text.is in
-    subst (λ s. fits s (values.tree_of c.args.value.now) ≡ true) (text_of c.requires.0 c.args.place first) c.requires.2
+    subst (λ s. fits s (values.tree_of c.args.value.now) ≡ true) (stands_as c.requires.1 c.index-operations-place.is c.in-Text.is) c.requires.2
 
 pub write_value-label-requires : goal.write_value-label-requires
 write_value-label-requires t c =
-    let first = sym (first_stands c.args.operations.now c.args.place c.index-operations-place.result c.requires.0 c.requires.1) ∙ sym c.index-operations-place.is ∙ c.in-Enumeration.is in
-    let e = enumeration_of c.requires.0 c.args.place c.in-Enumeration.field-0 first in
+    let e = stands_as c.requires.1 c.index-operations-place.is c.in-Enumeration.is in
     (e.0, subst (λ s. fits s (values.tree_of c.args.value.now) ≡ true) e.1 c.requires.2)
 
 pub write_value-unreachable-requires : goal.write_value-unreachable-requires
 write_value-unreachable-requires t c =
-    let first = sym (first_stands c.args.operations.now c.args.place c.index-operations-place.result c.requires.0 c.requires.1) ∙ sym c.index-operations-place.is ∙ c.in-Arm.is in
-    no_arm_of c.requires.0 c.args.place c.in-Arm.number c.in-Arm.end first
+    stands_as c.requires.1 c.index-operations-place.is c.in-Arm.is
 
 pub write_value-array-requires : goal.write_value-array-requires
 write_value-array-requires t c =
-    let st = array_stands c.args.operations.now c.args.place c.in-Array.len c.in-Array.end c.index-operations-place.result c.requires.0 (sym c.index-operations-place.is ∙ c.in-Array.is) c.requires.1 in
+    let st = stands_as c.requires.1 c.index-operations-place.is c.in-Array.is in
     (c.in-Array.len, fits st.0, subst (λ s. fits s (values.tree_of c.args.value.now) ≡ true) st.1 c.requires.2)
 
 pub write_value-write_items-requires : goal.write_value-write_items-requires
 write_value-write_items-requires t c =
-    let st = array_stands c.args.operations.now c.args.place c.in-Array.len c.in-Array.end c.index-operations-place.result c.requires.0 (sym c.index-operations-place.is ∙ c.in-Array.is) c.requires.1 in
+    let st = stands_as c.requires.1 c.index-operations-place.is c.in-Array.is in
     let fit = same_fits c.requires.0 _ (values.tree_of c.args.value.now) _ st.1 c.array.ensures c.requires.2 in
     (omega (arith, c.requires.1.within, c.decreases), (st.0, st.2, (and_both _ (every (fits st.0) (value_trees c.array.result.now)) fit).1))
 
 pub write_value-sequence-requires : goal.write_value-sequence-requires
 write_value-sequence-requires t c =
-    let st = sequence_stands c.args.operations.now c.args.place c.in-Sequence.bound c.in-Sequence.end c.index-operations-place.result c.requires.0 (sym c.index-operations-place.is ∙ c.in-Sequence.is) c.requires.1 in
+    let st = stands_as c.requires.1 c.index-operations-place.is c.in-Sequence.is in
     (c.in-Sequence.bound, fits st.0, subst (λ s. fits s (values.tree_of c.args.value.now) ≡ true) st.1 c.requires.2)
 
 pub write_value-write_sequence-requires : goal.write_value-write_sequence-requires
 write_value-write_sequence-requires t c =
-    let st = sequence_stands c.args.operations.now c.args.place c.in-Sequence.bound c.in-Sequence.end c.index-operations-place.result c.requires.0 (sym c.index-operations-place.is ∙ c.in-Sequence.is) c.requires.1 in
+    let st = stands_as c.requires.1 c.index-operations-place.is c.in-Sequence.is in
     (omega (arith, c.requires.1.within, c.decreases), (st.0, st.2, same_fits c.requires.0 _ (values.tree_of c.args.value.now) _ st.1 c.sequence.ensures c.requires.2))
 
 pub write_value-parts-requires : goal.write_value-parts-requires
 write_value-parts-requires t c =
-    let st = record_stands c.args.operations.now c.args.place c.in-Record.fields c.in-Record.end c.index-operations-place.result c.requires.0 (sym c.index-operations-place.is ∙ c.in-Record.is) c.requires.1 in
+    let st = stands_as c.requires.1 c.index-operations-place.is c.in-Record.is in
     (fields_fit st.0, subst (λ s. fits s (values.tree_of c.args.value.now) ≡ true) st.1 c.requires.2)
 
 pub write_value-write_values-requires : goal.write_value-write_values-requires
 write_value-write_values-requires t c =
-    let st = record_stands c.args.operations.now c.args.place c.in-Record.fields c.in-Record.end c.index-operations-place.result c.requires.0 (sym c.index-operations-place.is ∙ c.in-Record.is) c.requires.1 in
+    let st = stands_as c.requires.1 c.index-operations-place.is c.in-Record.is in
     (omega (arith, c.requires.1.within, c.decreases), (st.0, st.2, same_fits c.requires.0 _ (values.tree_of c.args.value.now) _ st.1 c.parts.ensures c.requires.2))
 
 pub write_value-choice-number-requires : goal.write_value-choice-number-requires
 write_value-choice-number-requires t c =
-    let st = choice_stands c.args.operations.now c.args.place c.in-Choice.arms c.in-Choice.end c.index-operations-place.result c.requires.0 (sym c.index-operations-place.is ∙ c.in-Choice.is) c.requires.1 in
+    let st = stands_as c.requires.1 c.index-operations-place.is c.in-Choice.is in
     (arm_fits st.0, subst (λ s. fits s (values.tree_of c.args.value.now) ≡ true) st.1 c.requires.2)
 
 pub write_value-write_choice-requires : goal.write_value-write_choice-requires
 write_value-write_choice-requires t c =
-    let st = choice_stands c.args.operations.now c.args.place c.in-Choice.arms c.in-Choice.end c.index-operations-place.result c.requires.0 (sym c.index-operations-place.is ∙ c.in-Choice.is) c.requires.1 in
+    let st = stands_as c.requires.1 c.index-operations-place.is c.in-Choice.is in
     (omega (arith, c.requires.1.within, c.decreases), (st.0, st.2, same_fits c.requires.0 _ (values.tree_of c.args.value.now) _ st.1 c.choice-number.ensures c.requires.2))
 
 -- ---- sequences
