@@ -113,7 +113,7 @@ module _ (contents : List ℕ → Option (List ℕ)) where
 
   -- It is one thing.
 
-  pub there_once : (name one other : List ℕ) → contents name ≡ Some one → contents name ≡ Some other → one ≡ other
+  there_once : (name one other : List ℕ) → contents name ≡ Some one → contents name ≡ Some other → one ≡ other
   there_once name one other first second = let same : ◌≡◌ {A = Option (List ℕ)} (Some one) (Some other) = sym first ∙ second in cc
 
   one_of_lines : (number : ℕ) (bytes : List ℕ) (one other : Due) → IsDueOfSchedule number bytes one → IsDueOfSchedule number bytes other → one ≡ other
