@@ -1,9 +1,11 @@
 mod Alike
 mod Appending
+mod Assigning
 mod Beginning
 mod Compiling
 mod CompilingSteps
 mod Emitting
+mod Fitting
 mod Flows
 mod Following
 mod Items
@@ -11,6 +13,7 @@ mod Keeping
 mod Moving
 mod PartSizes
 mod PutLemmas
+mod Sound
 mod Stepping
 mod Stopping
 mod Turning

@@ -4,6 +4,8 @@ pub mod Evaluating
 pub mod Storing
 pub mod Meaning
 pub mod Bodies
+pub mod Sorts
+pub mod Typed
 pub mod Tally
 pub mod Seen
 pub mod Laws

@@ -19,6 +19,6 @@ mod store;
 mod tally;
 
 pub use body::Body;
-pub use laws::code_does_what_it_means;
+pub use laws::{code_does_what_it_means, expressions_give_their_sorts, stored_values_keep_shapes};
 pub use run::Paused;
 pub use tally::Tally;
