@@ -1,5 +1,6 @@
 pub mod ExpressionTree
 pub mod ExpressionOf
+pub mod Sorts
 pub mod StatementTree
 pub mod StatementOf
 pub mod Seen

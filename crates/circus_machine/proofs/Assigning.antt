@@ -1,5 +1,5 @@
 -- What is stored keeps the variables' shapes, and the state within the limit.
-use Rattle.std.proofs.Common.{◌≡◌, ℕ, ℤ, zero, suc, ◌<◌, ◌≤◌, Bool, true, false, not, ◌&&◌, ◌||◌, nat_lt, nat_le, if◌then◌else◌, IsTrue, IfOk, List, [], ◌∷◌, ◌++◌, take, Some, Ok, Err, ok_or, slice_get, slice_set, refl, sym, ap, subst, ◌∙◌, arith}
+use Rattle.std.proofs.Common.{◌≡◌, ℕ, ℤ, zero, suc, ◌≤◌, Bool, true, false, not, ◌&&◌, ◌||◌, nat_lt, nat_le, IsTrue, IfOk, List, [], ◌∷◌, ◌++◌, take, Some, ok_or, slice_get, slice_set, refl, sym, ap, subst, arith}
 use Rattle.std.proofs.lemmas.Bool.{and_parts, and_from, ltb-true, ltb-false, leb-true, le-leb}
 use Rattle.std.proofs.lemmas.List.{take-set-le}
 use Rattle.circus_value.specs.ValueTree.{ValueTree, ValueTrees, value_trees}
@@ -13,9 +13,9 @@ use Rattle.circus_checked.specs.declared.kinds.NumberKind.{NumberKind}
 use Rattle.circus_checked.specs.declared.kinds.NumberKind.TheVariants as kind
 use Rattle.circus_checked.specs.declared.expression.CheckedPlace.{CheckedPlace}
 use Rattle.circus_checked.specs.ExpressionTree.{suffix_trees}
-use Rattle.circus_machine.specs.Sorts.{sort_of, kind_of, shape_of, Holds, at}
+use Rattle.circus_checked.specs.Sorts.{sort_of, kind_of, shape_of, Holds, at}
 use Rattle.circus_machine.specs.Got.{Got, number, whole, Raising, and_then, as_kind, number_of}
-use Rattle.circus_machine.specs.Parts.{Step, list_of, part_at, with_part}
+use Rattle.circus_machine.specs.Parts.{list_of, part_at, with_part}
 use Rattle.circus_machine.specs.Evaluating.{steps_of}
 use Rattle.circus_machine.specs.Storing.{stored_over, as_item, with_more, appended_over, kept, stored}
 use Rattle.circus_machine.specs.Typed.{IsGot, Hold, AreWell}

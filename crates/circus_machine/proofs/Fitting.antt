@@ -1,5 +1,5 @@
 -- Parts of values that fit their shapes.
-use Rattle.std.proofs.Common.{◌≡◌, ℕ, ℤ, zero, suc, pos, negsuc, ◌<◌, Bool, true, false, ◌&&◌, ◌==◌, nat_lt, nat_le, cond, if◌then◌else◌, IsTrue, IfOk, List, [], ◌∷◌, length, Some, None, Ok, Err, ok_or, slice_get, slice_set, refl, sym, ap, subst, ◌∙◌}
+use Rattle.std.proofs.Common.{◌≡◌, ℕ, ℤ, zero, suc, pos, negsuc, Bool, true, false, ◌==◌, nat_lt, nat_le, cond, if◌then◌else◌, IsTrue, IfOk, List, [], ◌∷◌, Some, Ok, Err, ok_or, slice_get, slice_set, refl, sym, ap, subst, ◌∙◌}
 use Rattle.circus_machine.proofs.Alike.{some_same}
 use Rattle.std.proofs.lemmas.Bool.{and_parts, and_from, eqb-true}
 use Rattle.circus_value.specs.ValueTree.{ValueTree, ValueTrees, value_trees}
@@ -9,7 +9,7 @@ use Rattle.circus_value.specs.ShapeTree as shape
 use Rattle.circus_value.specs.Fits.{fits, fields_fit, arm_fits, every, count_of}
 use Rattle.circus_model.specs.declared.language_error.LanguageError.{LanguageError}
 use Rattle.circus_model.specs.declared.language_error.LanguageError.TheVariants.{Index, WrongChoice}
-use Rattle.circus_machine.specs.Sorts.{field_in, arm_in}
+use Rattle.circus_checked.specs.Sorts.{field_in, arm_in}
 use Rattle.circus_machine.specs.Got.{Raising, and_then}
 use Rattle.circus_machine.specs.Parts.{Step, field, arm, item, list_of, item_under, part_by, part_at, with_item, with_part_by, with_part, inside}
 

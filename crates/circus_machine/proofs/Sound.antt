@@ -1,5 +1,5 @@
 -- An expression gives what its sort says, and places lead to what their shapes say.
-use Rattle.std.proofs.Common.{◌≡◌, ℕ, ℤ, zero, suc, pos, negsuc, ◌+ℤ◌, ◌-ℤ◌, ◌*ℤ◌, int_div, int_rem, neg_ℤ, ◌<◌, ◌≤◌, Bool, true, false, ◌&&◌, ◌==◌, not, nat_lt, nat_le, if◌then◌else◌, IsTrue, IfOk, List, [], ◌∷◌, ◌++◌, length, Some, Ok, Err, ok_or, slice_get, refl, sym, ap, subst, ◌∙◌, arith}
+use Rattle.std.proofs.Common.{◌≡◌, ℕ, ℤ, zero, suc, pos, negsuc, ◌+ℤ◌, ◌-ℤ◌, ◌*ℤ◌, int_div, int_rem, neg_ℤ, Bool, true, false, ◌==◌, not, nat_lt, nat_le, if◌then◌else◌, IsTrue, IfOk, List, [], ◌∷◌, ◌++◌, length, Some, Ok, Err, ok_or, slice_get, refl, ap, subst, ◌∙◌, arith}
 use Rattle.std.specs.List.{list_all}
 use Rattle.std.specs.Bool.{beq}
 use Rattle.std.specs.Ordering.{int_eq}
@@ -13,22 +13,21 @@ use Rattle.circus_value.specs.ExternalSize.{external_size}
 use Rattle.circus_value.specs.Fits.{fits, fields_fit, arm_fits, every, is_signed_below}
 use Rattle.circus_value.specs.Fits as fitting
 use Rattle.circus_model.specs.declared.language_error.LanguageError.{LanguageError}
-use Rattle.circus_model.specs.declared.language_error.LanguageError.TheVariants.{Range, Index, Zero, TooLong, WrongChoice}
+use Rattle.circus_model.specs.declared.language_error.LanguageError.TheVariants.{Range, Zero, TooLong, WrongChoice}
 use Rattle.circus_checked.specs.declared.kinds.NumberKind.{NumberKind}
 use Rattle.circus_checked.specs.declared.kinds.NumberKind.TheVariants as kind
 use Rattle.circus_checked.specs.declared.kinds.Calculation.{Calculation}
 use Rattle.circus_checked.specs.declared.kinds.Calculation.TheVariants as by
 use Rattle.circus_checked.specs.declared.kinds.Form.TheVariants as form
-use Rattle.circus_checked.specs.ExpressionTree.{ExpressionTree, ExpressionTrees, SuffixTrees, more_expressions, in_field, in_arm, in_item}
-use Rattle.circus_checked.specs.ExpressionTree as e
-use Rattle.circus_machine.specs.Sorts.{Sort, a_number, of, a_truth, sort_of, shape_of, count_of, Has, EachHas, FieldsHave, Leads}
-use Rattle.circus_machine.specs.Sorts as has
+use Rattle.circus_checked.specs.ExpressionTree.{ExpressionTree, ExpressionTrees, SuffixTrees}
+use Rattle.circus_checked.specs.Sorts.{Sort, a_number, of, a_truth, sort_of, shape_of, count_of, Has, EachHas, FieldsHave, Leads}
+use Rattle.circus_checked.specs.Sorts as has
 use Rattle.circus_machine.specs.Got.{Got, number, whole, Raising, and_then, calculated, as_kind, got_of, truth_of, number_of, value_of, bytes_of, made, made_text, is_equal}
-use Rattle.circus_machine.specs.Parts.{Step, field, arm, item, part_by, part_at}
+use Rattle.circus_machine.specs.Parts.{field, arm, item, part_by}
 use Rattle.circus_machine.specs.Evaluating.{truth, is_ordered, calculation, stands_at, length_given, formed, of_numbers, unless_decided, evaluate, evaluate_all, read_part, steps_of}
 use Rattle.circus_machine.specs.Typed.{IsGot, Hold}
 use Rattle.circus_machine.proofs.Items.{count_of_trees}
-use Rattle.circus_machine.proofs.Fitting.{then_ok, then_any, if_ok, arm_put, StepTo, to_field, to_arm, to_item_of_array, to_item_of_sequence, part_fits, StepsTo, no_steps, more_steps}
+use Rattle.circus_machine.proofs.Fitting.{then_ok, then_any, if_ok, arm_put, to_field, to_arm, to_item_of_array, to_item_of_sequence, part_fits, StepsTo, no_steps, more_steps}
 
 -- ---- numbers
 

@@ -4,7 +4,6 @@ pub mod Evaluating
 pub mod Storing
 pub mod Meaning
 pub mod Bodies
-pub mod Sorts
 pub mod Typed
 pub mod Tally
 pub mod Seen

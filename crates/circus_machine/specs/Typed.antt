@@ -4,7 +4,7 @@ use Rattle.circus_value.specs.ShapeTree.{ShapeTree}
 use Rattle.circus_value.specs.ValueTree.{ValueTree}
 use Rattle.circus_value.specs.Fits.{fits}
 use Rattle.circus_value.specs.ExternalSize.{size_of_values}
-use Rattle.circus_machine.specs.Sorts.{Sort, a_number, of}
+use Rattle.circus_checked.specs.Sorts.{Sort, a_number, of}
 use Rattle.circus_machine.specs.Got.{Got, number, whole}
 
 -- what an expression of a sort may give

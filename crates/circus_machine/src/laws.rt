@@ -8,7 +8,7 @@ ghost use Rattle.circus_checked.specs.StatementTree.{StatementTrees};
 ghost use Rattle.circus_machine.specs.Got.{Got};
 ghost use Rattle.circus_machine.specs.Evaluating.{evaluate};
 ghost use Rattle.circus_machine.specs.Storing.{stored_over, appended_over, stored};
-ghost use Rattle.circus_machine.specs.Sorts.{Sort, sort_of, kind_of, Has, Holds};
+ghost use Rattle.circus_checked.specs.Sorts.{Sort, sort_of, kind_of, Has, Holds};
 ghost use Rattle.circus_machine.specs.Meaning.{Going, does_all};
 ghost use Rattle.circus_machine.specs.Typed.{IsGot, Hold, AreWell};
 ghost use Rattle.circus_machine.specs.Seen.Code.{codes_of, Comes};

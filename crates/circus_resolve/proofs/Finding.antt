@@ -1,5 +1,5 @@
 -- What is found one after another.
-use Rattle.std.proofs.Common.{◌≡◌, Bool, not, ◌||◌, List, [], ◌∷◌, ◌++◌, refl, sym, ap, ◌∙◌}
+use Rattle.std.proofs.Common.{◌≡◌, Bool, not, ◌||◌, [], ◌∷◌, ◌++◌, refl, sym, ap, ◌∙◌}
 use Rattle.circus_fault.proofs.LeastMore.{least_more}
 use Rattle.circus_resolve.specs.declared.findings.Findings.{Findings}
 use Rattle.circus_resolve.specs.Causes.{rank}

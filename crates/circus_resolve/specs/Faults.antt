@@ -13,7 +13,8 @@ use Rattle.circus_fault.specs.Least.{faults_if}
 use Rattle.circus_resolve.specs.declared.cause.CheckCause.{CheckCause}
 use Rattle.circus_resolve.specs.declared.cause.CheckCause.TheVariants.{Unknown, Mistyped}
 use Rattle.circus_resolve.specs.Scope.{Scope, Variable, Standing, a_type, no_module, no_type, unsaid, standing_of}
-use Rattle.circus_resolve.specs.Sorts.{Sort, a_number, of, sort_of, sort_eq, is_number, is_truth, is_text, has_length, goes_into}
+use Rattle.circus_checked.specs.Sorts.{Sort, a_number, of, sort_of}
+use Rattle.circus_resolve.specs.Passing.{sort_eq, is_number, is_truth, is_text, has_length, goes_into}
 use Rattle.circus_resolve.specs.Named.{label_named, FieldFound, field_named, ArmFound, arm_named, is_bare, element_of}
 
 abbrev pub Faults : Type 0

@@ -1,5 +1,5 @@
 pub mod Same
-pub mod Sorts
+pub mod Passing
 pub mod Scope
 pub mod Causes
 pub mod Named

@@ -2,7 +2,6 @@
 -- Where something is unknown the tree stands for nothing.
 use Rattle.std.specs.Prelude.{ℕ, ◌+◌, min, Option, Some, None, List, [], ◌∷◌, unwrap_or}
 use Rattle.circus_value.specs.ShapeTree.{ShapeTree, enumeration, array, sequence, «record», choice}
-use Rattle.circus_syntax.specs.declared.named.Named.{Named}
 use Rattle.circus_expression.specs.ExpressionTree.{ExpressionTree, KindTree, ExpressionTrees, SuffixTrees, PlaceTree, suffix_trees}
 use Rattle.circus_expression.specs.ExpressionTree as e
 use Rattle.circus_expression.specs.declared.operator.Operator.{Operator}
@@ -15,7 +14,7 @@ use Rattle.circus_checked.specs.declared.kinds.Form.TheVariants as form
 use Rattle.circus_checked.specs.ExpressionTree as c
 use Rattle.circus_checked.specs.declared.expression.CheckedPlace.{CheckedPlace}
 use Rattle.circus_resolve.specs.Scope.{Scope, Variable}
-use Rattle.circus_resolve.specs.Sorts.{Sort, of, kind_of}
+use Rattle.circus_checked.specs.Sorts.{Sort, of, kind_of}
 use Rattle.circus_resolve.specs.Named.{label_named, FieldFound, field_named, ArmFound, arm_named}
 use Rattle.circus_resolve.specs.Faults.{Slots, slots_for, slot_at, type_shape, element_for, field_shape, variable_shape, sort}
 

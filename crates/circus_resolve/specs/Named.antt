@@ -1,5 +1,5 @@
 -- Parts of shapes by their names.
-use Rattle.std.specs.Prelude.{ℕ, zero, suc, Bool, true, false, cond, bytes_eq, List, [], ◌∷◌, Option, Some, None, option_map}
+use Rattle.std.specs.Prelude.{ℕ, suc, Bool, true, false, cond, bytes_eq, List, [], ◌∷◌, Option, Some, None}
 use Rattle.circus_value.specs.declared.shape.Label.{Label}
 use Rattle.circus_value.specs.ShapeTree.{ShapeTree, FieldTrees, ArmTrees, array, sequence, «record», no_fields, more_fields, no_arms, more_arms}
 

@@ -2,7 +2,8 @@
 ghost use Rattle.std.specs.Prelude.{◌≡◌, option_map};
 ghost use Rattle.circus_value.specs.ShapeOf.{tree_of};
 ghost use Rattle.circus_checked.specs.declared.kinds.NumberKind.{NumberKind};
-ghost use Rattle.circus_resolve.specs.Sorts as sorts;
+ghost use Rattle.circus_checked.specs.Sorts as sorts;
+ghost use Rattle.circus_resolve.specs.Passing as passing;
 ghost use Rattle.circus_resolve.specs.Seen.Scoped.{sort_as, shape_as};
 
 use crate::same::is_same;
@@ -58,7 +59,7 @@ impl<'s> Sort<'s> {
     }
 
     pub fn is_number(self) -> bool
-        ensures { result ≡ sorts.is_number (sort_as self.entry) }
+        ensures { result ≡ passing.is_number (sort_as self.entry) }
     {
         match self {
             Sort::Number => true,
@@ -68,7 +69,7 @@ impl<'s> Sort<'s> {
     }
 
     pub fn is_truth(self) -> bool
-        ensures { result ≡ sorts.is_truth (sort_as self.entry) }
+        ensures { result ≡ passing.is_truth (sort_as self.entry) }
     {
         match self {
             Sort::Truth => true,
@@ -78,7 +79,7 @@ impl<'s> Sort<'s> {
     }
 
     pub fn is_text(self) -> bool
-        ensures { result ≡ sorts.is_text (sort_as self.entry) }
+        ensures { result ≡ passing.is_text (sort_as self.entry) }
     {
         match self {
             Sort::Text => true,
@@ -89,7 +90,7 @@ impl<'s> Sort<'s> {
 
     /// Whether it is a text or a sequence.
     pub fn has_length(self) -> bool
-        ensures { result ≡ sorts.has_length (sort_as self.entry) }
+        ensures { result ≡ passing.has_length (sort_as self.entry) }
     {
         match self {
             Sort::Text => true,
@@ -100,7 +101,7 @@ impl<'s> Sort<'s> {
 
     /// Whether both are numbers, or of one shape.
     pub fn is_like(self, other: Sort<'_>) -> bool
-        ensures { result ≡ sorts.sort_eq (sort_as self.entry) (sort_as other.entry) }
+        ensures { result ≡ passing.sort_eq (sort_as self.entry) (sort_as other.entry) }
     {
         match (self, other) {
             (Sort::Number, _) => other.is_number(),
@@ -117,7 +118,7 @@ impl<'s> Sort<'s> {
 
     /// Whether a value of this sort may be stored where the shape is.
     pub fn goes_into(self, shape: &Shape) -> bool
-        ensures { result ≡ sorts.goes_into (tree_of shape.now) (sort_as self.entry) }
+        ensures { result ≡ passing.goes_into (tree_of shape.now) (sort_as self.entry) }
     {
         Sort::of(shape).is_like(self)
     }

@@ -1,7 +1,7 @@
 // Sorts where they are wanted.
 ghost use Rattle.std.specs.Prelude.{◌≡◌, option_map};
 ghost use Rattle.circus_resolve.specs.Faults as faults;
-ghost use Rattle.circus_resolve.specs.Sorts as sorts;
+ghost use Rattle.circus_resolve.specs.Passing as passing;
 ghost use Rattle.circus_resolve.specs.Seen.Found.{with_faults};
 ghost use Rattle.circus_resolve.specs.Seen.Scoped.{sort_as, shape_as};
 
@@ -19,7 +19,7 @@ impl Findings {
 
     /// A truth value is wanted of what stands at the place.
     pub fn want_truth(&mut self, sort: Option<Sort<'_>>, at: u32)
-        ensures { self.new ≡ with_faults self.old (faults.wanted sorts.is_truth (option_map sort_as sort.entry) at) }
+        ensures { self.new ≡ with_faults self.old (faults.wanted passing.is_truth (option_map sort_as sort.entry) at) }
     {
         if let Some(sort) = sort {
             self.want(sort.is_truth(), at);
@@ -28,7 +28,7 @@ impl Findings {
 
     /// A number.
     pub fn want_number(&mut self, sort: Option<Sort<'_>>, at: u32)
-        ensures { self.new ≡ with_faults self.old (faults.wanted sorts.is_number (option_map sort_as sort.entry) at) }
+        ensures { self.new ≡ with_faults self.old (faults.wanted passing.is_number (option_map sort_as sort.entry) at) }
     {
         if let Some(sort) = sort {
             self.want(sort.is_number(), at);
@@ -37,7 +37,7 @@ impl Findings {
 
     /// A text.
     pub fn want_text(&mut self, sort: Option<Sort<'_>>, at: u32)
-        ensures { self.new ≡ with_faults self.old (faults.wanted sorts.is_text (option_map sort_as sort.entry) at) }
+        ensures { self.new ≡ with_faults self.old (faults.wanted passing.is_text (option_map sort_as sort.entry) at) }
     {
         if let Some(sort) = sort {
             self.want(sort.is_text(), at);
@@ -46,7 +46,7 @@ impl Findings {
 
     /// A text or a sequence.
     pub fn want_length(&mut self, sort: Option<Sort<'_>>, at: u32)
-        ensures { self.new ≡ with_faults self.old (faults.wanted sorts.has_length (option_map sort_as sort.entry) at) }
+        ensures { self.new ≡ with_faults self.old (faults.wanted passing.has_length (option_map sort_as sort.entry) at) }
     {
         if let Some(sort) = sort {
             self.want(sort.has_length(), at);

@@ -1,5 +1,5 @@
 -- What is found so far, with more faults.
-use Rattle.std.specs.Prelude.{Bool, not, ◌||◌}
+use Rattle.std.specs.Prelude.{not, ◌||◌}
 use Rattle.circus_fault.specs.Least.{least_from}
 use Rattle.circus_resolve.specs.declared.findings.Findings.{Findings}
 use Rattle.circus_resolve.specs.Causes.{rank}

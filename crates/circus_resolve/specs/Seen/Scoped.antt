@@ -15,7 +15,7 @@ use Rattle.circus_resolve.specs.declared.scope.Standing.TheVariants as answer
 use Rattle.circus_resolve.specs.declared.sort.Sort.{Sort as Given}
 use Rattle.circus_resolve.specs.declared.sort.Sort.TheVariants as given
 use Rattle.circus_resolve.specs.Scope.{Scope, Variable, Standing, a_type, no_module, no_type, unsaid}
-use Rattle.circus_resolve.specs.Sorts.{Sort, a_number, of, sort_of}
+use Rattle.circus_checked.specs.Sorts.{Sort, a_number, of, sort_of}
 
 abbrev pub variable_as : Entry → Variable
 variable_as v = record { place = v.place; shape = tree_of v.shape.now }

@@ -4,7 +4,7 @@ use Rattle.circus_value.specs.ShapeTree.{ShapeTree}
 use Rattle.circus_expression.specs.ExpressionTree.{SuffixTree, field, subscript}
 use Rattle.circus_checked.specs.ExpressionTree as c
 use Rattle.circus_resolve.specs.Scope.{Scope}
-use Rattle.circus_resolve.specs.Sorts.{is_number}
+use Rattle.circus_resolve.specs.Passing.{is_number}
 use Rattle.circus_resolve.specs.Faults.{Faults, field_faults, field_shape, item_faults, element_for, expression_faults, wanted, sort, place_of}
 use Rattle.circus_resolve.specs.Meaning.{field_meant, meant}
 

@@ -1,6 +1,6 @@
 use Rattle.circus_value.specs.ShapeTree.{sequence}
 use Rattle.circus_machine.specs.Storing.{stored_over, appended_over}
-use Rattle.circus_machine.specs.Sorts.{kind_of}
+use Rattle.circus_checked.specs.Sorts.{kind_of}
 use Rattle.circus_machine.proofs.Assigning.{stored_well, over_fits, append_fits}
 use Rattle.circus_machine.proofs.laws.stored_values_keep_shapes.Goals as goal
 
