@@ -1,0 +1,5 @@
+pub mod Context
+pub mod Faults
+pub mod Meaning
+pub mod Ending
+pub mod Seen

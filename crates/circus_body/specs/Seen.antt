@@ -1,0 +1,3 @@
+-- How code is seen.
+pub mod Named
+pub mod Parts
