@@ -5,4 +5,5 @@ pub mod Causes
 pub mod Named
 pub mod Faults
 pub mod Meaning
+pub mod Regular
 pub mod Seen

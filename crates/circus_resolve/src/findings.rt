@@ -1,5 +1,5 @@
 // The faults that are found so far.
-ghost use Rattle.std.specs.Prelude.{◌≡◌, not, ◌||◌, false, None};
+ghost use Rattle.std.specs.Prelude.{◌≡◌, false, None};
 ghost use Rattle.circus_fault.specs.Least.{faults_if};
 ghost use Rattle.circus_resolve.specs.Seen.Found.{with_faults};
 
