@@ -21,4 +21,4 @@ mod tally;
 pub use body::Body;
 pub use laws::{code_does_what_it_means, expressions_give_their_sorts, stored_values_keep_shapes};
 pub use run::Paused;
-pub use tally::Tally;
+pub use tally::{Tally, Unused};

@@ -1,12 +1,15 @@
 // A module that adds up the numbers that it is given.
 ghost use Rattle.std.specs.Prelude.{◌≡◌, [], ◌∷◌, IfOk};
+ghost use Rattle.circus_value.specs.declared.outcome.Outcome.TheVariants.{Raised};
+ghost use Rattle.circus_model.specs.LanguageError.{number_of};
+ghost use Rattle.circus_model.specs.declared.language_error.LanguageError.TheVariants.{Unhandled};
+ghost use Rattle.circus_model.specs.declared.turn.Turn.TheVariants.{Ends};
 ghost use Rattle.circus_machine.specs.Tally as tally;
 ghost use Rattle.circus_machine.specs.Tally.{add, tally_signature, tally_turn};
 
 use circus_model::{LanguageError, Module, ProcedureShape, ProcedureShapes, Signature, Turn};
 use circus_value::{Duplicate, ListOf, NoMemory, Outcome, Shape, Shapes, State, Value, Values};
 use std::alloc::Global;
-use std::convert::Infallible;
 
 /// The most bytes of a state, of arguments, of results and of an error's values.
 const LIMIT: u32 = 65_536;
@@ -19,6 +22,10 @@ pub struct Tally {
     signature: Signature,
     ghost declares: { signature ≡ tally_signature },
 }
+
+/// What an execution of a tally would wait with. None waits.
+#[derive(Debug, Drop)]
+pub struct Unused;
 
 impl Tally {
     /// A tally, or `NoMemory`.
@@ -90,7 +97,7 @@ fn number_in(arguments: &Values) -> u16
 
 impl Module for Tally {
     /// No execution of a tally waits for a reply.
-    type Paused = Infallible;
+    type Paused = Unused;
 
     ghost declared = { λ _. tally_signature };
 
@@ -126,7 +133,7 @@ impl Module for Tally {
         state: State,
         _procedure: u16,
         arguments: &Values,
-    ) -> Result<Turn<Infallible>, NoMemory> {
+    ) -> Result<Turn<Unused>, NoMemory> {
         let Some(sum) = sum_in(&state).checked_add(u32::from(number_in(arguments))) else {
             let outcome = Outcome::Raised(LanguageError::Range.number(), Values::new(self.alloc));
             return Ok(Turn::Ends { outcome, state });
@@ -137,7 +144,13 @@ impl Module for Tally {
         })
     }
 
-    fn resume(&self, paused: Infallible, _reply: &Outcome) -> Result<Turn<Infallible>, NoMemory> {
-        match paused {}
+    // Nothing is paused, so nothing goes on: it ends in the first state, and raises the error of a reply that nobody
+    // expected.
+    fn resume(&self, _paused: Unused, _reply: &Outcome) -> Result<Turn<Unused>, NoMemory>
+        ensures { IfOk result (λ turn. turn ≡ Ends (Raised (number_of Unhandled) []) (tally.one_sum 0)) }
+    {
+        let outcome = Outcome::Raised(LanguageError::Unhandled.number(), Values::new(self.alloc));
+        let state = one_sum(self.alloc, 0)?;
+        Ok(Turn::Ends { outcome, state })
     }
 }
