@@ -8,4 +8,5 @@ pub mod Whole
 pub mod Obeying
 pub mod ReadIs
 pub mod Ascii
+pub mod OneAnswer
 mod Signs

@@ -46,6 +46,8 @@ least_of : (text : List ℕ) (found : List Token) (tree : PlacingTree) (s : Read
 least_of text found tree s f answer each is least given = record {
   tree = tree;
   stop = s.stop;
+  left = s.rest;
+  is_read = of_text (placed text found) tree s (length text) is;
   tree_of = tree_of (placed text found) s.rest tree s.stop (length text) (text_tokens text found 0 each) (of_text (placed text found) tree s (length text) is);
   fault = f;
   least = least_is rank_of (read_faults s.stop tree) f least;

@@ -10,7 +10,7 @@ use Rattle.circus_syntax.specs.declared.stopping.StopCause.{StopCause}
 use Rattle.circus_syntax.specs.declared.stopping.StopCause.TheVariants.{Unexpected, TooDeep}
 use Rattle.circus_syntax.specs.Placed.{Placed}
 use Rattle.circus_syntax.specs.Read.{placed_from}
-use Rattle.circus_syntax.specs.Reader.{place_in}
+use Rattle.circus_syntax.specs.Reader.{open_at, place_in}
 use Rattle.circus_placing.specs.declared.placing.Placing.{Placing}
 use Rattle.circus_fault.specs.declared.fault.Fault.{Fault}
 use Rattle.circus_fault.specs.Least.{IsLeast}
@@ -20,6 +20,7 @@ use Rattle.circus_placing_text.specs.declared.place_fault.PlaceFault.TheVariants
 use Rattle.circus_placing_text.specs.declared.place_fault.PlaceCause.TheVariants.{BadCharacter, OpenString, LongNumber, TooLarge}
 use Rattle.circus_placing_text.specs.Written.{PlacingTree}
 use Rattle.circus_placing_text.specs.Grammar.{IsPlacing, IsWithin, most_levels}
+use Rattle.circus_placing_text.specs.Reading.{placing}
 use Rattle.circus_placing_text.specs.Stopping.{IsUnexpected, IsTooDeep, IsFilledIn}
 use Rattle.circus_placing_text.specs.Rank.{rank_of}
 use Rattle.circus_placing_text.specs.Faults.{placing_faults, read_faults}
@@ -54,10 +55,12 @@ abbrev pub IsTreeOf : List Placed → ℕ → Option Stop → PlacingTree → Ty
 IsTreeOf ts end None tree = IsPlacing ts tree × IsWithin most_levels tree
 IsTreeOf ts end (Some s) tree = (left : List Placed) × IsFilledIn ts left s.place tree × (s.place ≡ place_in left end) × IsStopOf s.cause ts left
 
--- the answer is the least fault of what is read of these tokens
+-- the answer is the least fault of what the grammar reads of these tokens
 pub record IsLeastOf (text : List ℕ) (found : List Token) (answer : PlaceFault) : Type 0 where
   pub tree : PlacingTree
   pub stop : Option Stop
+  pub left : List Placed
+  pub is_read : placing most_levels (open_at (placed text found) (length text)) ≡ (tree, record { rest = left; end = length text; stop = stop })
   pub tree_of : IsTreeOf (placed text found) (length text) stop tree
   pub fault : Fault PlaceCause
   pub least : IsLeast rank_of fault (read_faults stop tree)

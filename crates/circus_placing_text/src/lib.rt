@@ -3,11 +3,12 @@
 //! `read` reads a text. `text` has a placing as it is written, which `reading` reads from tokens, with the help of
 //! `value_reading` and `condition_reading`; `start` says what the next token begins, and `words` which words name
 //! nothing. `check` finds the least fault of it, and `meaning` makes the placing that it means. `place_fault` has what
-//! can be wrong with a text.
+//! can be wrong with a text, and `laws` says what holds of every text.
 #![tactic(auto)]
 
 mod check;
 mod condition_reading;
+mod laws;
 mod meaning;
 mod place_fault;
 mod read;
@@ -18,6 +19,7 @@ mod value_reading;
 mod words;
 
 use circus_value::ListOf;
+pub use laws::one_refusal;
 pub use place_fault::{PlaceCause, PlaceFault};
 pub use read::read_place;
 pub use text::{AttributeText, ConditionText, ConstantText, MachineText, OperandText, PlacingText};

@@ -8,8 +8,7 @@ use Rattle.circus_program.specs.Thin.{IsThinProgram}
 use Rattle.circus_program.specs.Replay.{Ending, replayed}
 use Rattle.circus_program.specs.Placed.{IsEndOfPlacing}
 use Rattle.circus_program.specs.Answer.{Due, fetch, finish, not_built, IsDueOfSchedule, IsDueOfReplay, IsDueOfPlace, IsDueUnbuilt, IsDueOfForm, AreContents, IsDue}
-use Rattle.circus_program.specs.declared.status.Status.TheVariants.{BadPlacing}
-use Rattle.circus_program.specs.Last.{IsLast, IsDueLast, EndsWith}
+use Rattle.circus_program.specs.Last.{IsLast, IsDueLast}
 use Rattle.circus_program.proofs.OneEnding.{ending_one}
 use Rattle.circus_program.proofs.OneProgram.{program_one}
 use Rattle.circus_program.proofs.Schedules.{schedule_one}
@@ -144,36 +143,29 @@ module _ (contents : List ℕ → Option (List ℕ)) where
   one_of_replay program schedule one other (inr (bytes, there, is)) (inr (others, here, also)) =
       one_of_program schedule others one other (subst (λ b. OfProgram schedule b one) (there_once program bytes others there here) is) also
 
-  -- the same thing, or the text of a placing is refused twice
-  abbrev pub Same : Due → Due → Type 0
-  Same one other = (one ≡ other) ⊎ (EndsWith BadPlacing one × EndsWith BadPlacing other)
+  one_of_text : (text : List ℕ) (one other : Due) (ending also : Ending) → IsEndOfPlacing text ending → IsEndOfPlacing text also → one ≡ finish ending → other ≡ finish also → one ≡ other
+  one_of_text text one other ending also first second is so = is ∙ ap finish (ending_one text ending also first second) ∙ sym so
 
-  one_of_text : (text : List ℕ) (one other : Due) (ending also : Ending) → IsEndOfPlacing text ending → IsEndOfPlacing text also → one ≡ finish ending → other ≡ finish also → Same one other
-  one_of_text text one other ending also first second is so = elim (ending_one text ending also first second) [
-    | inl same ↦ inl (is ∙ ap finish same ∙ sym so)
-    | inr (refused, again) ↦ inr (subst (EndsWith BadPlacing) (sym is) refused, subst (EndsWith BadPlacing) (sym so) again)
-  ]
-
-  one_of_place : (file : List ℕ) (one other : Due) → OfPlace file one → OfPlace file other → Same one other
-  one_of_place file one other (inl (none, is)) (inl (neither, also)) = inl (is ∙ sym also)
+  one_of_place : (file : List ℕ) (one other : Due) → OfPlace file one → OfPlace file other → one ≡ other
+  one_of_place file one other (inl (none, is)) (inl (neither, also)) = is ∙ sym also
   one_of_place file one other (inl (none, is)) (inr (text, there, also)) = absurd cc
   one_of_place file one other (inr (text, there, is)) (inl (none, also)) = absurd cc
   one_of_place file one other (inr (text, there, (ending, first, is))) (inr (others, here, (also, second, so))) =
       one_of_text others one other ending also (subst (λ t. IsEndOfPlacing t ending) (there_once file text others there here) first) second is so
 
-  one_of_asked : (asked : Asked) (one other : Due) → OfAsked asked one → OfAsked asked other → Same one other
-  one_of_asked (replaying program schedule) one other is also = inl (one_of_replay program schedule one other is also)
+  one_of_asked : (asked : Asked) (one other : Due) → OfAsked asked one → OfAsked asked other → one ≡ other
+  one_of_asked (replaying program schedule) one other is also = one_of_replay program schedule one other is also
   one_of_asked (placing file) one other is also = one_of_place file one other is also
-  one_of_asked unbuilt one other is also = inl (is ∙ sym also)
+  one_of_asked unbuilt one other is also = is ∙ sym also
 
-  one_of_words : (words : List (List ℕ)) (one other : Due) → IsDue (Some contents) words one → IsDue (Some contents) words other → IsLast contents one → IsLast contents other → Same one other
+  one_of_words : (words : List (List ℕ)) (one other : Due) → IsDue (Some contents) words one → IsDue (Some contents) words other → IsLast contents one → IsLast contents other → one ≡ other
   one_of_words words one other (inl some) (inl another) last also =
       let is = of_form some.form some.files one some.fetched some.is_due last in
       let so = of_form another.form another.files other another.fetched another.is_due also in
       one_of_asked (asked_by another.form) one other (subst (λ a. OfAsked a one) (asked_one words some.form another.form some.of_form another.of_form) is) so
   one_of_words words one other (inl some) (inr (none, is)) last also = absurd (none some.form some.of_form)
   one_of_words words one other (inr (none, is)) (inl some) last also = absurd (none some.form some.of_form)
-  one_of_words words one other (inr (none, is)) (inr (neither, so)) last also = inl (is ∙ sym so)
+  one_of_words words one other (inr (none, is)) (inr (neither, so)) last also = is ∙ sym so
 
-  pub one_due : (words : List (List ℕ)) (one other : Due) → IsDueLast contents words one → IsDueLast contents words other → Same one other
+  pub one_due : (words : List (List ℕ)) (one other : Due) → IsDueLast contents words one → IsDueLast contents words other → one ≡ other
   one_due words one other is also = one_of_words words one other is.is_due also.is_due is.last also.last

@@ -1,5 +1,5 @@
--- The text of a placing comes to one end, whatever is said where it is refused.
-use Rattle.std.proofs.Common.{◌≡◌, ℕ, ◌<◌, ◌⊎◌, inl, inr, false, List, [], ◌∷◌, ◌++◌, length, codes, refl, sym, ap, subst, ◌∙◌, arith, Result, Ok, Err}
+-- The text of a placing comes to one end.
+use Rattle.std.proofs.Common.{◌≡◌, ℕ, ◌<◌, inl, inr, false, List, [], ◌∷◌, ◌++◌, length, codes, refl, sym, ap, subst, ◌∙◌, arith, Result, Ok, Err}
 use Rattle.std.specs.Prelude.{nat_lt, ◌==◌, ◌&&◌, All, IsTrue, count_by}
 use Rattle.std.specs.Fmt.{decimal}
 use Rattle.std.specs.List.{list_any}
@@ -19,12 +19,13 @@ use Rattle.circus_placing_text.specs.Means.{Means}
 use Rattle.circus_placing_text.specs.ReadAs.{placed, IsReadAs, IsRefused}
 use Rattle.circus_placing_text.proofs.Whole.{placing_one}
 use Rattle.circus_placing_text.proofs.ReadIs.{accepted}
+use Rattle.circus_placing_text.proofs.OneAnswer.{one_answer}
 use Rattle.circus_place.specs.Choice.{IsChoice, Satisfies, kept_by, is_before, IsBest}
 use Rattle.circus_place.specs.Value.{does_hold}
 use Rattle.circus_program.specs.declared.status.Status.TheVariants.{Done, BadPlacing}
 use Rattle.circus_program.specs.Replay.{Ending}
 use Rattle.circus_program.specs.Report.{line}
-use Rattle.circus_program.specs.Placed.{member_lines, choice_text, IsEndOfChoice, IsEndOfPlacing}
+use Rattle.circus_program.specs.Placed.{refused_text, member_lines, choice_text, IsEndOfChoice, IsEndOfPlacing}
 
 -- of two lists that are not before each other there is one
 neither_before : (xs ys : List ℕ) → is_before xs ys ≡ false → is_before ys xs ≡ false → xs ≡ ys
@@ -118,8 +119,12 @@ not_both text p number cause read refused =
     let same : Refused number cause ≡ NoMemory = accepted text r (inr refused) read.found read.tree read.short read.tokens read.spelled read.within read.faultless in
     cc
 
-pub ending_one : (text : List ℕ) (one other : Ending) → IsEndOfPlacing text one → IsEndOfPlacing text other → (one ≡ other) ⊎ ((one.status ≡ BadPlacing) × (other.status ≡ BadPlacing))
-ending_one text one other (inl (p, read, is)) (inl (q, also, so)) = inl (choice_one p q (read_same text p q read also) one other is so)
+pub ending_one : (text : List ℕ) (one other : Ending) → IsEndOfPlacing text one → IsEndOfPlacing text other → one ≡ other
+ending_one text one other (inl (p, read, is)) (inl (q, also, so)) = choice_one p q (read_same text p q read also) one other is so
 ending_one text one other (inl (p, read, is)) (inr (number, cause, refused, so)) = absurd (not_both text p number cause read refused)
 ending_one text one other (inr (number, cause, refused, is)) (inl (p, read, so)) = absurd (not_both text p number cause read refused)
-ending_one text one other (inr (number, cause, refused, is)) (inr (also, another, again, so)) = inr (ap (λ (e : Ending). e.status) is, ap (λ (e : Ending). e.status) so)
+ending_one text one other (inr (number, cause, refused, is)) (inr (also, another, again, so)) =
+    let same = one_answer text (Refused number cause) (Refused also another) refused again in
+    let numbers : number ≡ also = cc in
+    let causes : cause ≡ another = cc in
+    is ∙ (λ i. record { status = BadPlacing; text = refused_text (numbers i) (causes i) }) ∙ sym so

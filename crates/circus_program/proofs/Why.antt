@@ -141,18 +141,15 @@ module _ (contents : List ℕ → Option (List ℕ)) (words : List (List ℕ)) w
   -- ---- and where the reason holds the end is that one
 
   -- one thing is due, so it ends with the status of any that is
-  same_status : (status : Status) (due other : Due) → IsDueLast contents words due → IsDueLast contents words other → (EndsWith BadPlacing other → ⊥) → EndsWith status other → EndsWith status due
-  same_status status due other is also apart ends = elim (one_due contents words due other is also) [
-    | inl same ↦ subst (EndsWith status) (sym same) ends
-    | inr (refused_one, refused_other) ↦ absurd (apart refused_other)
-  ]
+  same_status : (status : Status) (due other : Due) → IsDueLast contents words due → IsDueLast contents words other → EndsWith status other → EndsWith status due
+  same_status status due other is also ends = subst (EndsWith status) (sym (one_due contents words due other is also)) ends
 
   due_of_form : (form : Form) (files : List (List ℕ)) (due : Due) → IsOfForm words form → AreContents contents (files_of form) files → IsDueOfForm form files due → IsLast contents due → IsDueLast contents words due
   due_of_form form files due of fetched is last = record { is_due = inl (record { form = form; of_form = of; files = files; fetched = fetched; is_due = is }); last = last }
 
   bad_words : (due : Due) → IsDueLast contents words due → IsOfNoForm words → EndsWith BadCommandLine due
   bad_words due is none =
-      same_status BadCommandLine due bad_command_line is (record { is_due = inr (none, refl); last = tt }) (λ same. let clash : BadCommandLine ≡ BadPlacing = same in cc) refl
+      same_status BadCommandLine due bad_command_line is (record { is_due = inr (none, refl); last = tt }) refl
 
   bad_schedule : (due : Due) → IsDueLast contents words due → IsRefusedReplay contents words → EndsWith BadSchedule due
   bad_schedule due is has =
@@ -160,7 +157,7 @@ module _ (contents : List ℕ → Option (List ℕ)) (words : List (List ℕ)) w
       let ending = replayed 1 (booted has.number) has.lines in
       let status = refused_status 1 (booted has.number) has.lines has.refused in
       let other = due_of_form (replay r.program r.name) (r.bytes ∷ has.schedule ∷ []) (finish ending) r.of_form (r.program_is, (r.schedule_is, tt)) (has.number, r.thin, inl (has.lines, has.spelled, refl)) tt in
-      same_status BadSchedule due (finish ending) is other (λ same. let clash : BadSchedule ≡ BadPlacing = sym status ∙ same in cc) status
+      same_status BadSchedule due (finish ending) is other status
 
   unbuilt_form : (form : Form) → IsUnbuilt form → IsDueOfForm form [] not_built
   unbuilt_form (replay _ _) un = absurd un
@@ -180,7 +177,7 @@ module _ (contents : List ℕ → Option (List ℕ)) (words : List (List ℕ)) w
       due_of_form (replay r.program r.name) (r.bytes ∷ o.schedule ∷ []) not_built r.of_form (r.program_is, (r.schedule_is, tt)) (o.number, r.thin, inr (o.other, refl)) tt
 
   not_built_why : (due : Due) → IsDueLast contents words due → IsNotBuilt contents words → EndsWith NotBuilt due
-  not_built_why due is why = same_status NotBuilt due not_built is (unbuilt_due why) (λ same. let clash : NotBuilt ≡ BadPlacing = same in cc) refl
+  not_built_why due is why = same_status NotBuilt due not_built is (unbuilt_due why) refl
 
   pub words_why : (due : Due) → IsDueLast contents words due → (EndsWith BadCommandLine due ↔ IsOfNoForm words)
   words_why due is = (why_words due (comes_to due is), bad_words due is)

@@ -2,17 +2,15 @@
 ghost use Rattle.std.specs.Prelude.{◌≡◌, ◌⊎◌, ◌↔◌, ℕ, Option, Some, List};
 ghost use Rattle.circus_program.specs.Form.{place, IsOfForm, IsOfNoForm};
 ghost use Rattle.circus_program.specs.Answer.{Due};
-ghost use Rattle.circus_program.specs.declared.status.Status.TheVariants.{BadCommandLine, BadSchedule, NotBuilt, BadPlacing};
+ghost use Rattle.circus_program.specs.declared.status.Status.TheVariants.{BadCommandLine, BadSchedule, NotBuilt};
 ghost use Rattle.circus_program.specs.Last.{IsDueLast, EndsWith, IsRefusedReplay, IsNotBuilt};
 
 /// Of words one thing is due at last, whatever the files contain: an end, with its status and its text, or the fetch of
-/// a file that is not there. Only the line and the cause of a placing's text that is refused are not said here to be
-/// the same: there the status is. Something is due, and of a placing whose text is there it is what reading the text
+/// a file that is not there. Something is due, and of a placing whose text is there it is what reading the text
 /// answers.
 pub fn one_thing_is_due()
     ensures one { (contents : List ℕ → Option (List ℕ)) (words : List (List ℕ)) (due other : Due)
-        → IsDueLast contents words due → IsDueLast contents words other
-        → (due ≡ other) ⊎ (EndsWith BadPlacing due × EndsWith BadPlacing other) }
+        → IsDueLast contents words due → IsDueLast contents words other → due ≡ other }
     ensures some { (contents : List ℕ → Option (List ℕ)) (words : List (List ℕ))
         → ((due : Due) × IsDueLast contents words due)
         ⊎ ((placing : List ℕ) × (text : List ℕ) × IsOfForm words (place placing) × (contents placing ≡ Some text)) }
