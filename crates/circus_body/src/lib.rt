@@ -1,14 +1,17 @@
 //! Statements once their names are found: their faults, and the trees without names that they mean.
 //!
 //! `context` says what a body may name besides variables and types. `wants` has the faults of calls, and `statement`
-//! resolves statements. `ending` says which lists of statements end on every path.
+//! resolves statements. `ending` says which lists of statements end on every path, and `laws` that what has no fault
+//! means statements that are well formed.
 #![tactic(auto)]
 
 mod context;
 mod ending;
+mod laws;
 mod statement;
 mod wants;
 
 pub use context::{Callee, Context, Offered, Procedures, Reported};
 pub use ending::all_end;
+pub use laws::faultless_are_well_formed;
 pub use statement::resolve_statements;

@@ -1,7 +1,7 @@
 mod Deciding
 pub mod Finding
-mod Passed
-mod Resolving
+pub mod Passed
+pub mod Resolving
 pub mod Shapes
 mod Weights
-mod WellSorted
+pub mod WellSorted

@@ -7,7 +7,7 @@ use Rattle.circus_value.specs.ShapeTree.{ShapeTree, FieldTrees, ArmTrees, no_fie
 use Rattle.circus_value.specs.ShapeTree as shape
 use Rattle.circus_syntax.specs.declared.named.Named.{Named}
 use Rattle.circus_syntax.specs.declared.named.TypeName.{TypeName}
-use Rattle.circus_expression.specs.ExpressionTree.{ExpressionTree, KindTree, ExpressionTrees, SuffixTrees}
+use Rattle.circus_expression.specs.ExpressionTree.{ExpressionTree, KindTree, ExpressionTrees, SuffixTrees, PlaceTree}
 use Rattle.circus_expression.specs.ExpressionTree as e
 use Rattle.circus_expression.specs.declared.operator.Operator.{Operator}
 use Rattle.circus_expression.specs.declared.operator.Operator.TheVariants as operator
@@ -71,7 +71,7 @@ module _ (variables : List ShapeTree) where
 
   -- ---- operators
 
-  truth_has : (a : c.ExpressionTree) (s : Sort) (at : ℕ) → wanted is_truth (Some s) at ≡ [] → Has variables a s → Has variables a a_truth
+  pub truth_has : (a : c.ExpressionTree) (s : Sort) (at : ℕ) → wanted is_truth (Some s) at ≡ [] → Has variables a s → Has variables a a_truth
   truth_has a s at none has = subst (Has variables a) (truth_is s (passed (is_truth s) at none)) has
 
   number_has : (a : c.ExpressionTree) (s : Sort) (at : ℕ) → wanted is_number (Some s) at ≡ [] → Has variables a s → Has variables a a_number
@@ -186,12 +186,12 @@ module _ (variables : List ShapeTree) where
 
   -- ---- fields from a place on
 
-  abbrev behind : ℕ → FieldTrees → FieldTrees
+  abbrev pub behind : ℕ → FieldTrees → FieldTrees
   behind zero fs = fs
   behind (suc n) no_fields = no_fields
   behind (suc n) (more_fields _ _ fs) = behind n fs
 
-  at_place : (all : FieldTrees) (n : ℕ) (name : List ℕ) (s : ShapeTree) (rest : FieldTrees) → behind n all ≡ more_fields name s rest → (field_at all n ≡ Some s) × (behind (suc n) all ≡ rest)
+  pub at_place : (all : FieldTrees) (n : ℕ) (name : List ℕ) (s : ShapeTree) (rest : FieldTrees) → behind n all ≡ more_fields name s rest → (field_at all n ≡ Some s) × (behind (suc n) all ≡ rest)
   at_place no_fields zero name s rest is = absurd (cc)
   at_place no_fields (suc n) name s rest is = absurd (cc)
   at_place (more_fields m t fs) zero name s rest is = (let same : t ≡ s = cc in ap Some same, let same : fs ≡ rest = cc in same)
@@ -419,3 +419,23 @@ module _ (variables : List ShapeTree) where
   -- what has no fault gives something, and is well formed
   pub well_sorted : (scope : Scope) → IsWhole variables scope → (a : ExpressionTree) → IsOfBytes a → expression_faults scope a ≡ [] → (s : Sort) × (sort scope a ≡ Some s) × Has variables (meant scope a) s
   well_sorted scope whole a bytes none = let (s, is, has, all) = well scope whole a bytes none in (s, is, has)
+
+  -- as many as there are fields are their values
+  pub well_counted : (scope : Scope) → IsWhole variables scope → (fs : FieldTrees) (es : ExpressionTrees) → AreOfBytes es → each_faults scope (for_fields fs) 0 es ≡ [] → count es ≡ field_count fs
+      → FieldsHave variables (c.expression_trees (each_meant scope (for_fields fs) 0 es)) fs
+  well_counted scope whole fs es bytes none same = fields_have scope whole fs 0 fs refl es bytes none same
+
+  -- a place holds what is said of it
+  pub place_well : (scope : Scope) → IsWhole variables scope → (p : PlaceTree) → SuffixesAreOfBytes (e.suffix_trees p.suffixes) → f.place_faults scope p ≡ []
+      → (u : ShapeTree) × (f.place_shape scope p ≡ Some u) × h.Holds variables (m.place_meant scope p) u
+  place_well scope whole p bytes none =
+      let ss = e.suffix_trees p.suffixes in
+      let (known, inside) = none_in (variable_faults scope p.name) (suffix_faults scope p.name.at (variable_shape scope p.name) ss) none in
+      let (v, v_is) = some_found (scope.variable p.name.name) (no_fault (is_none (scope.variable p.name.name)) p.name.at Unknown known) in
+      let shape_is : variable_shape scope p.name ≡ Some v.shape = ap (option_map (λ (x : Variable). x.shape)) v_is in
+      let (u, led_is, leads, all) = led_well scope whole p.name.at v.shape ss (whole.regular p.name.name v v_is) bytes (ap (λ o. suffix_faults scope p.name.at o ss) (sym shape_is) ∙ inside) in (
+        u,
+        (λ i. unless_faulty (none i) (led (shape_is i) ss)) ∙ led_is,
+        subst (λ o. h.Holds variables (record { variable = m.variable_place o; suffixes = suffixes_meant scope (option_map (λ (x : Variable). x.shape) o) ss }) u) (sym v_is)
+            (h.at (record { variable = v.place; suffixes = suffixes_meant scope (Some v.shape) ss }) v.shape u (whole.found p.name.name v v_is) leads),
+      )
