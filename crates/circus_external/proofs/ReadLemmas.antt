@@ -1,12 +1,12 @@
 -- Reading one value behind another.
-use Rattle.std.proofs.Common.{◌≡◌, ℕ, zero, suc, ◌+◌, ◌-◌, ◌<◌, ◌≤◌, true, false, cond, nat_eq, Some, None, List, [], ◌∷◌, ◌++◌, length, get_or, drop, map, Err, refl, sym, ap, ◌∙◌, arith, append_assoc, append-nil}
+use Rattle.std.proofs.Common.{◌≡◌, ℕ, suc, ◌+◌, ◌-◌, ◌<◌, ◌≤◌, true, false, cond, nat_eq, Some, None, List, [], ◌∷◌, ◌++◌, length, get_or, drop, map, Err, refl, sym, ap, ◌∙◌, arith, append_assoc, append-nil}
 use Rattle.std.proofs.lemmas.List.{drop_more, drop_all}
 use Rattle.circus_value.specs.declared.shape.Field.{Field}
 use Rattle.circus_value.specs.ValueTree.{ValueTree}
 use Rattle.circus_value.specs.ValueTree as V
 use Rattle.circus_value.specs.ShapeTree.{ShapeTree, ArmTree, field_trees, arm_trees}
 use Rattle.circus_value.specs.ShapeOf.{tree_of, field_of}
-use Rattle.circus_value.specs.Seen.ShapeWeight.{weight, field_weights, arm_weights}
+use Rattle.circus_value.specs.Seen.ShapeWeight.{weight, arm_weights}
 use Rattle.circus_value.specs.ArmShape.{arm_shape}
 use Rattle.circus_external.specs.declared.fault.ExternalFault.{ExternalFault}
 use Rattle.circus_external.specs.declared.fault.ExternalFault.TheVariants as fault
@@ -75,11 +75,6 @@ pub fields_fault : {W : Type 0} (tree : W → ValueTree) (octets : List ℕ) (f 
 fields_fault tree octets f gs i at bs g done whole few is gives all =
     fault_behind tree octets f done (reading (tree_of g.shape) at bs) whole (λ u m later. one_more u (fields_left gs (i + 1) m later)) gives
     (all ∙ ap (behind done) (left_is gs i at bs g few is))
-
-pub weight_field : (gs : List Field) (i : ℕ) (g : Field) → i < length gs → g ≡ get_or gs i g → weight (tree_of g.shape) < field_weights (field_trees (map field_of gs))
-weight_field [] i g few is = absurd (omega arith)
-weight_field (h ∷ gs) zero g few is = omega (arith, ap (λ (x : Field). weight (tree_of x.shape)) is)
-weight_field (h ∷ gs) (suc i) g few is = omega (arith, weight_field gs i g (omega arith) is)
 
 -- ---- arms
 

@@ -1,3 +1,4 @@
 pub mod Items
 pub mod LeastIs
 pub mod LeastMore
+pub mod Stopping

@@ -1,3 +1,4 @@
 pub mod Least
 pub mod Known
+pub mod Stopping
 pub mod Seen

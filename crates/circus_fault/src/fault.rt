@@ -1,6 +1,9 @@
 // Faults of a text with their places, and the least of them.
-ghost use Rattle.std.specs.Prelude.{◌≡◌, ℕ};
+ghost use Rattle.std.specs.Prelude.{◌≡◌, ℕ, None};
 ghost use Rattle.circus_fault.specs.Least.{is_before, lesser, least_from, faults_if};
+ghost use Rattle.circus_fault.specs.Stopping.{cause_of, stop_faults};
+
+use circus_syntax::{Stop, StopCause};
 
 /// Why a text is refused. Of two causes at one place the one of the lesser rank is given.
 pub trait Cause: Copy {
@@ -23,6 +26,15 @@ pub struct Best<C> {
     pub fault: Option<Fault<C>>,
 }
 
+fn cause_of<C: Cause>(stop: StopCause, unexpected: C, too_deep: C) -> C
+    ensures { result ≡ cause_of unexpected too_deep stop }
+{
+    match stop {
+        StopCause::Unexpected => unexpected,
+        StopCause::TooDeep => too_deep,
+    }
+}
+
 impl<C: Cause> Fault<C> {
     // Whether this fault is given where both are found.
     fn is_before(self, other: Fault<C>) -> bool
@@ -34,6 +46,21 @@ impl<C: Cause> Fault<C> {
 }
 
 impl<C: Cause> Best<C> {
+    /// The fault that a stop of reading is, by the cause of a token that nothing continues with and the one of too
+    /// many levels; none where reading came to its end.
+    pub fn of_stop(stop: &Option<Stop>, unexpected: C, too_deep: C) -> Best<C>
+        ensures { result.fault ≡ least_from C.rank None (stop_faults unexpected too_deep stop.now) }
+    {
+        let fault = match stop {
+            Some(stop) => Some(Fault {
+                place: stop.place,
+                cause: cause_of(stop.cause, unexpected, too_deep),
+            }),
+            None => None,
+        };
+        Best { fault }
+    }
+
     // Keeps the lesser of a fault that is found and the one that is kept.
     fn keep(&mut self, fault: Fault<C>)
         ensures { self.new.fault ≡ lesser C.rank self.old.fault fault }

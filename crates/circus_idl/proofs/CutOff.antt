@@ -6,7 +6,7 @@ use Rattle.circus_value.specs.ShapeTree.{ShapeTree}
 use Rattle.circus_syntax.specs.declared.named.Named.{Named}
 use Rattle.circus_syntax.specs.declared.interface_text.FieldsText.{FieldsText}
 use Rattle.circus_syntax.specs.Spelling.{most_levels}
-use Rattle.circus_syntax.specs.TypeTree.{TypeTree, GroupTrees, no_groups, more_groups, group_trees}
+use Rattle.circus_syntax.specs.TypeTree.{TypeTree, GroupTrees, no_groups, more_groups, group_trees, type_place}
 use Rattle.circus_syntax.specs.InterfaceTree.{DeclaredTree, a_type, an_error, a_procedure}
 use Rattle.circus_fault.specs.Least.{faults_if}
 use Rattle.circus_fault.specs.Known.{also_number}
@@ -17,7 +17,7 @@ use Rattle.circus_idl.specs.Written.{levels, parts, zero_size}
 use Rattle.circus_idl.specs.Meaning.{written, written_groups, standing_for}
 use Rattle.circus_idl.specs.Scale.{is_large, written_out}
 use Rattle.circus_idl.specs.Inside.{no_name, also_name, repeated_name, repeated_number, repeated_names, above, group_names, inside, inside_groups}
-use Rattle.circus_idl.specs.Faults.{Before, Cut, nothing, is_place, is_clean, place_of, whole_faults, groups_faults, groups_parts, fields_faults, fields_parts, together_faults, reports_faults, declared_faults, behind, declarations_faults}
+use Rattle.circus_idl.specs.Faults.{Before, Cut, nothing, is_place, is_clean, whole_faults, groups_faults, groups_parts, fields_faults, fields_parts, together_faults, reports_faults, declared_faults, behind, declarations_faults}
 use Rattle.circus_idl.specs.Seen.Measured.{measure_of, measured, measured_groups, more_parts, is_over, cut_off}
 use Rattle.circus_idl.proofs.Sizes.{stopped_times, measured_is, groups_measured, zeros_together}
 
@@ -58,7 +58,7 @@ module _ (cut : Cut) (types : List ℕ → Bool) (forms : List ℕ → ShapeTree
   whole_cut so_far n t =
       let s = written forms t in
       let over = (λ i. is_over (with_type forms so_far n t i) (measured_is forms t i)) ∙ over_cut (so_far + n * parts s) s in
-      ap (λ b. inside types t ++ faults_if (is_clean (inside types t) && not (is_place (place_of t) cut.within) && b) (place_of t) TooLarge) over
+      ap (λ b. inside types t ++ faults_if (is_clean (inside types t) && not (is_place (type_place t) cut.within) && b) (type_place t) TooLarge) over
 
   groups_cut : (so_far : ℕ) (groups : GroupTrees) → groups_faults cut_off cut types (sizes_of forms) (min so_far (1 + most_parts)) groups ≡ groups_faults written_out cut types forms so_far groups
   groups_cut so_far no_groups = refl

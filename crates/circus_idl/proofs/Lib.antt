@@ -1,5 +1,4 @@
 mod ShownFrom
-mod ShapeItems
 mod Dropped
 mod ShownSome
 mod NumberMaps

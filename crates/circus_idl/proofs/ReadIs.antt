@@ -23,6 +23,8 @@ use Rattle.circus_fault.specs.declared.fault.Fault.{Fault}
 use Rattle.circus_fault.specs.Least.{least_from}
 use Rattle.circus_fault.proofs.Items.{none_in, of_each}
 use Rattle.circus_fault.proofs.LeastIs.{least_is}
+use Rattle.circus_fault.proofs.Stopping.{no_stop}
+use Rattle.circus_fault.specs.Stopping.{cause_of, stop_faults}
 use Rattle.circus_idl.specs.declared.fault.Cause.{Cause}
 use Rattle.circus_idl.specs.declared.fault.Cause.TheVariants as cause
 use Rattle.circus_idl.specs.declared.idl_fault.IdlFault.{IdlFault}
@@ -30,23 +32,19 @@ use Rattle.circus_idl.specs.declared.idl_fault.IdlFault.TheVariants.{Expected, D
 use Rattle.circus_idl.specs.declared.interface.Interface.{Interface}
 use Rattle.circus_idl.specs.Rank.{rank_of}
 use Rattle.circus_idl.specs.Answer.{answer_at, answer_of}
-use Rattle.circus_idl.specs.Faults.{cut_of, interface_faults, stop_fault, stop_faults, read_faults}
+use Rattle.circus_idl.specs.Faults.{cut_of, interface_faults, read_faults}
 use Rattle.circus_idl.specs.Means.{Means}
 use Rattle.circus_idl.specs.ReadAt.{IsReadAt, IsTreeOf, IsRefused}
 use Rattle.circus_idl.proofs.RuleFaults.{IsOfRule, interface_rule}
 
 -- What is accepted.
 
-no_stop : (stop : Option Stop) → stop_faults stop ≡ [] → stop ≡ None
-no_stop None none = refl
-no_stop (Some s) none = absurd (cc)
-
 pub is_read : (text : List ℕ) (ts : List Token) (at : ℕ) (read : Read) (i : Interface) → All (IsTokenIn text) ts → at ≤ length ts → Answers text ts at read
     → read_faults read.stop (interface_of read.interface) ≡ [] → Means (interface_of read.interface) i → IsReadAt text ts at i read.next
 is_read text ts at read i tokens inside answers none means =
     let tree = interface_of read.interface in
-    let (going, rules) = none_in (stop_faults read.stop) (interface_faults (cut_of read.stop) tree) none in
-    let went_on = no_stop read.stop going in
+    let (going, rules) = none_in (stop_faults cause.Expected cause.Deep read.stop) (interface_faults (cut_of read.stop) tree) none in
+    let went_on = no_stop cause.Expected cause.Deep read.stop going in
     let all = placed_from text ts at in
     let whole : interface most_levels (open_at all (length text)) ≡ (tree, open_at answers.left (length text)) =
     answers.is ∙ ap (λ s. (tree, record { rest = answers.left; end = length text; stop = s })) went_on in
@@ -124,12 +122,12 @@ record IsStop (stop : Option Stop) (f : Fault Cause) : Type 0 where
   at : Stop
   stop_is : stop ≡ Some at
   place_is : f.place ≡ at.place
-  cause_is : f.cause ≡ stop_fault at.cause
+  cause_is : f.cause ≡ cause_of cause.Expected cause.Deep at.cause
 
-stop_of : (stop : Option Stop) (f : Fault Cause) → Contains (stop_faults stop) f → IsStop stop f
+stop_of : (stop : Option Stop) (f : Fault Cause) → Contains (stop_faults cause.Expected cause.Deep stop) f → IsStop stop f
 stop_of None f there = absurd (of_each (λ _. ⊥) [] f tt there)
 stop_of (Some s) f there =
-    let only : Fault Cause = record { place = s.place; cause = stop_fault s.cause } in
+    let only : Fault Cause = record { place = s.place; cause = cause_of cause.Expected cause.Deep s.cause } in
     let same : AllByRecursion (λ g. only ≡ g) (only ∷ []) = (refl, tt) in
     let is : f ≡ only =
     sym (of_each (λ g. only ≡ g) (only ∷ []) f same there) in
@@ -138,16 +136,16 @@ stop_of (Some s) f there =
 -- no rule's fault is one of reading
 of_stop : (stop : Option Stop) (tree : InterfaceTree) (f : Fault Cause) → rank_of f.cause ≤ 1 → Contains (read_faults stop tree) f → IsStop stop f
 of_stop stop tree f reading there =
-    elim (Contains-append_cases (stop_faults stop) (interface_faults (cut_of stop) tree) f there) [
+    elim (Contains-append_cases (stop_faults cause.Expected cause.Deep stop) (interface_faults (cut_of stop) tree) f there) [
       | inl stopped ↦ stop_of stop f stopped
       | inr rules ↦ absurd (let of_rule : 1 < rank_of f.cause = of_each IsOfRule _ f (interface_rule (cut_of stop) tree) rules in omega arith)
     ]
 
-flat : (c : StopCause) → stop_fault c ≡ cause.Expected → c ≡ Unexpected
+flat : (c : StopCause) → cause_of cause.Expected cause.Deep c ≡ cause.Expected → c ≡ Unexpected
 flat Unexpected is = refl
 flat TooDeep is = absurd (cc)
 
-deep : (c : StopCause) → stop_fault c ≡ cause.Deep → c ≡ TooDeep
+deep : (c : StopCause) → cause_of cause.Expected cause.Deep c ≡ cause.Deep → c ≡ TooDeep
 deep TooDeep is = refl
 deep Unexpected is = absurd (cc)
 

@@ -2,14 +2,13 @@
 use Rattle.std.specs.Prelude.{ℕ, Bool, true, false, ◌&&◌, ◌==◌, not, List, [], ◌∷◌, ◌++◌, length, Option, Some, None, is_none}
 use Rattle.circus_syntax.specs.declared.named.Named.{Named}
 use Rattle.circus_syntax.specs.declared.stopping.Stop.{Stop}
-use Rattle.circus_syntax.specs.declared.stopping.StopCause.{StopCause}
-use Rattle.circus_syntax.specs.declared.stopping.StopCause.TheVariants.{Unexpected, TooDeep}
 use Rattle.circus_syntax.specs.declared.interface_text.FieldsText.{FieldsText}
-use Rattle.circus_syntax.specs.TypeTree.{TypeTree, GroupTrees, boolean, cardinal, long_cardinal, integer, long_integer, text, enumeration, array, sequence, «record», choice, called, no_groups, more_groups, group_trees}
+use Rattle.circus_syntax.specs.TypeTree.{TypeTree, GroupTrees, no_groups, more_groups, group_trees, type_place}
 use Rattle.circus_syntax.specs.InterfaceTree.{DeclaredTree, a_type, an_error, a_procedure, InterfaceTree}
 use Rattle.circus_fault.specs.declared.fault.Fault.{Fault}
 use Rattle.circus_fault.specs.Least.{faults_if}
 use Rattle.circus_fault.specs.Known.{no_number, also_number}
+use Rattle.circus_fault.specs.Stopping.{stop_faults}
 use Rattle.circus_idl.specs.declared.fault.Cause.{Cause}
 use Rattle.circus_idl.specs.declared.fault.Cause.TheVariants.{Expected, Deep, Unknown, TooLarge}
 use Rattle.circus_idl.specs.Limits.{greatest_word, greatest_error, greatest_program}
@@ -51,26 +50,11 @@ abbrev pub is_clean : List (Fault Cause) → Bool
 is_clean [] = true
 is_clean (_ ∷ _) = false
 
--- the first byte of a type
-abbrev pub place_of : TypeTree → ℕ
-place_of (boolean at) = at
-place_of (cardinal at) = at
-place_of (long_cardinal at) = at
-place_of (integer at) = at
-place_of (long_integer at) = at
-place_of (text at) = at
-place_of (enumeration at _) = at
-place_of (array at _ _) = at
-place_of (sequence at _ _) = at
-place_of («record» at _) = at
-place_of (choice at _) = at
-place_of (called at _) = at
-
 -- the size of a whole type is tested where it has no fault inside and reading didn't stop in it
 abbrev pub whole_faults : {S : Type 0} → Scale S → Cut → (List ℕ → Bool) → (List ℕ → S) → ℕ → ℕ → TypeTree → List (Fault Cause)
 whole_faults scale cut types sizes parts n t =
     inside types t
-    ++ faults_if (is_clean (inside types t) && not (is_place (place_of t) cut.within) && scale.is_over (scale.parts_with parts n (scale.of_type sizes t)) (scale.of_type sizes t)) (place_of t) TooLarge
+    ++ faults_if (is_clean (inside types t) && not (is_place (type_place t) cut.within) && scale.is_over (scale.parts_with parts n (scale.of_type sizes t)) (scale.of_type sizes t)) (type_place t) TooLarge
 
 -- the whole types of fields, each of which several names may share
 abbrev pub groups_faults : {S : Type 0} → Scale S → Cut → (List ℕ → Bool) → (List ℕ → S) → ℕ → GroupTrees → List (Fault Cause)
@@ -156,16 +140,6 @@ abbrev pub interface_faults : Cut → InterfaceTree → List (Fault Cause)
 interface_faults cut i =
     above greatest_program i.number ++ above greatest_word i.version ++ declarations_faults written_out cut (nothing written_out) i.declared
 
--- what a stop of reading is a fault of
-abbrev pub stop_fault : StopCause → Cause
-stop_fault Unexpected = Expected
-stop_fault TooDeep = Deep
-
--- where reading stopped
-abbrev pub stop_faults : Option Stop → List (Fault Cause)
-stop_faults None = []
-stop_faults (Some s) = faults_if true s.place (stop_fault s.cause)
-
 -- all faults of what is read of a text
 abbrev pub read_faults : Option Stop → InterfaceTree → List (Fault Cause)
-read_faults stop i = stop_faults stop ++ interface_faults (cut_of stop) i
+read_faults stop i = stop_faults Expected Deep stop ++ interface_faults (cut_of stop) i

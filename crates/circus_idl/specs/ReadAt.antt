@@ -34,7 +34,7 @@ pub record IsReadAt (text : List ℕ) (ts : List Token) (at : ℕ) (i : Interfac
 -- the tree is that of the interface with which the tokens begin, or, where reading stopped, of one that they begin up to there
 abbrev pub IsTreeOf : List Placed → ℕ → Option Stop → InterfaceTree → Type 0
 IsTreeOf ts end None tree = (own rest : List Placed) × (ts ≡ own ++ rest) × IsInterface own tree × IsWithin most_levels tree
-IsTreeOf ts end (Some s) tree = (left : List Placed) × IsFilledIn ts left s.place tree × (s.place ≡ place_in left end)
+IsTreeOf ts end (Some s) tree = (left : List Placed) × IsFilledIn ts left s tree × (s.place ≡ place_in left end)
 
 -- the answer is the least fault of what is read from this token on
 pub record IsRefused (text : List ℕ) (ts : List Token) (at : ℕ) (answer : IdlFault) : Type 0 where

@@ -4,8 +4,10 @@ ghost use Rattle.circus_value.specs.ShapeTree.{boolean};
 ghost use Rattle.circus_syntax.specs.InterfaceTree.{declared_of, interface_of};
 ghost use Rattle.circus_fault.specs.declared.fault.Fault.{Fault};
 ghost use Rattle.circus_fault.specs.Least.{least_from};
+ghost use Rattle.circus_fault.specs.Stopping.{stop_faults};
 ghost use Rattle.circus_fault.specs.Seen.Tables.{known_of};
 ghost use Rattle.circus_idl.specs.declared.fault.Cause.{Cause};
+ghost use Rattle.circus_idl.specs.declared.fault.Cause.TheVariants.{Expected, Deep};
 ghost use Rattle.circus_idl.specs.Rank.{rank_of};
 ghost use Rattle.circus_idl.specs.declared.idl_fault.IdlFault.{IdlFault};
 ghost use Rattle.circus_idl.specs.Limits.{greatest_program};
@@ -14,7 +16,7 @@ ghost use Rattle.circus_idl.specs.Seen.Measured.{cut_off};
 ghost use Rattle.circus_idl.specs.Seen.Scoped.{before_of, cut_in};
 ghost use Rattle.circus_idl.specs.Seen.Drafted.{drafted};
 ghost use Rattle.circus_idl.specs.Answer.{answer_of};
-ghost use Rattle.circus_idl.specs.Faults.{nothing, cut_of, stop_faults, declarations_faults, read_faults};
+ghost use Rattle.circus_idl.specs.Faults.{nothing, cut_of, declarations_faults, read_faults};
 ghost use Rattle.circus_idl.specs.Means.{Means, meant_of, and_then, nothing_meant, declarations_meant};
 ghost use Rattle.circus_idl.specs.Meaning.{word_of};
 
@@ -27,7 +29,7 @@ use crate::measure::word;
 use crate::scope::Scope;
 use crate::types::Types;
 use circus_fault::{Best, Fault, Names, NumberSet};
-use circus_syntax::{DeclaredText, InterfaceText, Stop, StopCause};
+use circus_syntax::{DeclaredText, InterfaceText, Stop};
 use circus_value::{Duplicate, NoMemory};
 use std::alloc::Global;
 
@@ -43,21 +45,6 @@ fn answer(fault: Fault<Cause>) -> IdlFault
         Cause::OutOfRange => IdlFault::OutOfRange(place),
         Cause::TooLarge => IdlFault::TooLarge(place),
     }
-}
-
-// Where reading stopped is the first fault that is known.
-fn best_of(stop: &Option<Stop>) -> Best<Cause>
-    ensures { result.fault ≡ least_from rank_of None (stop_faults stop.now) }
-{
-    let mut best = Best { fault: None };
-    if let Some(stop) = stop {
-        let cause = match stop.cause {
-            StopCause::Unexpected => Cause::Expected,
-            StopCause::TooDeep => Cause::Deep,
-        };
-        best.note(true, stop.place, cause);
-    }
-    best
 }
 
 fn within(stop: &Option<Stop>) -> Option<u32>
@@ -79,7 +66,7 @@ fn list(stop: &Option<Stop>) -> Option<u32>
 }
 
 fn start<'a>(alloc: Global, stop: &Option<Stop>) -> Draft<'a>
-    ensures found { result.scope.best.fault ≡ least_from rank_of None (stop_faults stop.now) }
+    ensures found { result.scope.best.fault ≡ least_from rank_of None (stop_faults Expected Deep stop.now) }
     ensures cut { cut_in result.scope ≡ cut_of stop.now }
     ensures before { before_of result.scope ≡ nothing cut_off }
     ensures formed { type_form result.scope.types ≡ (λ _. boolean) }
@@ -89,7 +76,7 @@ fn start<'a>(alloc: Global, stop: &Option<Stop>) -> Draft<'a>
         alloc,
         within: within(stop),
         list: list(stop),
-        best: best_of(stop),
+        best: Best::of_stop(stop, Cause::Expected, Cause::Deep),
         names: Names::new(alloc),
         types: Types::new(alloc),
         errors: Names::new(alloc),

@@ -19,7 +19,10 @@ use Rattle.circus_fault.specs.declared.fault.Fault.{Fault}
 use Rattle.circus_fault.specs.Least.{least_from, IsLeast}
 use Rattle.circus_fault.proofs.Items.{none_in, of_each}
 use Rattle.circus_fault.proofs.LeastIs.{least_is, no_least}
+use Rattle.circus_fault.proofs.Stopping.{no_stop}
+use Rattle.circus_fault.specs.Stopping.{stop_faults}
 use Rattle.circus_placing_text.specs.declared.place_fault.PlaceCause.{PlaceCause}
+use Rattle.circus_placing_text.specs.declared.place_fault.PlaceCause.TheVariants.{Syntax, Deep}
 use Rattle.circus_placing_text.specs.declared.place_fault.PlaceFault.{PlaceFault}
 use Rattle.circus_placing_text.specs.declared.place_fault.PlaceFault.TheVariants.{Refused, NoMemory}
 use Rattle.circus_placing_text.specs.Written.{PlacingTree}
@@ -27,7 +30,7 @@ use Rattle.circus_placing_text.specs.Grammar.{IsPlacing, IsWithin, most_levels}
 use Rattle.circus_placing_text.specs.Reading.{placing}
 use Rattle.circus_placing_text.specs.Stopping.{IsUnexpected, IsTooDeep}
 use Rattle.circus_placing_text.specs.Rank.{rank_of}
-use Rattle.circus_placing_text.specs.Faults.{stop_faults, placing_faults, read_faults}
+use Rattle.circus_placing_text.specs.Faults.{placing_faults, read_faults}
 use Rattle.circus_placing_text.specs.Means.{Means}
 use Rattle.circus_placing_text.specs.ReadAs.{placed, line_of, IsReadAs, IsStopOf, IsTreeOf, IsLeastOf, IsRefused}
 use Rattle.circus_placing_text.proofs.Obeying.{meant_obeys}
@@ -59,13 +62,9 @@ refused_as : (text : List ℕ) (found : List Token) (tree : PlacingTree) (s : Re
 refused_as text found tree s answer each is (inl no_memory) = inl no_memory
 refused_as text found tree s answer each is (inr (f, least, given)) = inr (least_of text found tree s f answer each is least given)
 
-no_stop : (stop : Option Stop) → stop_faults stop ≡ [] → stop ≡ None
-no_stop None none = refl
-no_stop (Some s) none = absurd (cc)
-
 -- what was read without a fault
 pub clean : (stop : Option Stop) (tree : PlacingTree) → least_from rank_of None (read_faults stop tree) ≡ None → (stop ≡ None) × (placing_faults tree ≡ [])
-clean stop tree none = let (going, rules) = none_in (stop_faults stop) (placing_faults tree) (no_least rank_of (read_faults stop tree) none) in (no_stop stop going, rules)
+clean stop tree none = let (going, rules) = none_in (stop_faults Syntax Deep stop) (placing_faults tree) (no_least rank_of (read_faults stop tree) none) in (no_stop Syntax Deep stop going, rules)
 
 read_as : (text : List ℕ) (found : List Token) (tree : PlacingTree) (s : Reader) (p : Placing) → length text ≤ longest_text → AreTokensOf text found → All (IsTokenIn text) found
     → placing most_levels (open_at (placed text found) (length text)) ≡ (tree, s) → (s.stop ≡ None) × (placing_faults tree ≡ []) → Means tree p → IsReadAs text p

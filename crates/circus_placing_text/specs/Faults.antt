@@ -1,14 +1,13 @@
 -- The faults of a placing as it is written, in the order of its text.
-use Rattle.std.specs.Prelude.{ℕ, true, ◌+◌, ◌||◌, ◌==◌, nat_lt, List, [], ◌∷◌, ◌++◌, map, Option, Some, None, is_some, is_none}
+use Rattle.std.specs.Prelude.{ℕ, ◌+◌, ◌||◌, ◌==◌, nat_lt, List, [], ◌∷◌, ◌++◌, map, Option, Some, None, is_some, is_none}
 use Rattle.circus_syntax.specs.declared.named.Named.{Named}
 use Rattle.circus_syntax.specs.declared.named.Numeral.{Numeral}
 use Rattle.circus_syntax.specs.declared.stopping.Stop.{Stop}
-use Rattle.circus_syntax.specs.declared.stopping.StopCause.{StopCause}
-use Rattle.circus_syntax.specs.declared.stopping.StopCause.TheVariants.{Unexpected, TooDeep}
 use Rattle.circus_placing.specs.Obeys.{most_machines, most_members}
 use Rattle.circus_fault.specs.declared.fault.Fault.{Fault}
 use Rattle.circus_fault.specs.Least.{faults_if}
 use Rattle.circus_fault.specs.Known.{Known, nobody, also}
+use Rattle.circus_fault.specs.Stopping.{stop_faults}
 use Rattle.circus_placing_text.specs.declared.place_fault.PlaceCause.{PlaceCause}
 use Rattle.circus_placing_text.specs.declared.place_fault.PlaceCause.TheVariants.{Syntax, Deep, UnknownName, Repeated, OutOfRange, TooMany}
 use Rattle.circus_placing_text.specs.declared.text.AttributeText.{AttributeText}
@@ -77,16 +76,6 @@ placing_faults p =
     machines_faults nobody 0 p.machines ++ out_of most_members p.members ++ condition_faults p.members.value p.condition
     ++ present_faults (numbers_of p.machines) p.present
 
--- what a stop of reading is a fault of
-abbrev pub stop_fault : StopCause → PlaceCause
-stop_fault Unexpected = Syntax
-stop_fault TooDeep = Deep
-
--- where reading stopped
-abbrev pub stop_faults : Option Stop → List (Fault PlaceCause)
-stop_faults None = []
-stop_faults (Some s) = faults_if true s.place (stop_fault s.cause)
-
 -- all faults of what is read of a text
 abbrev pub read_faults : Option Stop → PlacingTree → List (Fault PlaceCause)
-read_faults stop p = stop_faults stop ++ placing_faults p
+read_faults stop p = stop_faults Syntax Deep stop ++ placing_faults p

@@ -5,11 +5,11 @@ ghost use Rattle.circus_fault.specs.Known.{nobody, also};
 ghost use Rattle.circus_fault.specs.Seen.Tables.{known_of};
 ghost use Rattle.circus_placing_text.specs.Written.{written_of, placing_of};
 ghost use Rattle.circus_placing_text.specs.Rank.{rank_of};
-ghost use Rattle.circus_placing_text.specs.Faults.{repeated, repeated_names, out_of, attribute_names, machine_faults, machines_faults, numbers_of, operand_faults, condition_faults, unknown_names, present_faults, stop_faults, read_faults};
+ghost use Rattle.circus_placing_text.specs.Faults.{repeated, repeated_names, out_of, attribute_names, machine_faults, machines_faults, numbers_of, operand_faults, condition_faults, unknown_names, present_faults, read_faults};
 
 use crate::{AttributeText, ConditionText, MachineText, OperandText, PlaceCause, PlacingText};
 use circus_fault::{Best, Names};
-use circus_syntax::{Named, Nameds, Numeral, Stop, StopCause};
+use circus_syntax::{Named, Nameds, Numeral, Stop};
 use circus_value::NoMemory;
 use std::alloc::Global;
 
@@ -18,21 +18,6 @@ pub const MOST_MACHINES: usize = 24;
 
 /// How many members may be placed.
 pub const MOST_MEMBERS: u64 = 5;
-
-// Where reading stopped is the first fault that is known.
-fn best_of(stop: &Option<Stop>) -> Best<PlaceCause>
-    ensures { result.fault ≡ least_from rank_of None (stop_faults stop.now) }
-{
-    let mut best = Best { fault: None };
-    if let Some(stop) = stop {
-        let cause = match stop.cause {
-            StopCause::Unexpected => PlaceCause::Syntax,
-            StopCause::TooDeep => PlaceCause::Deep,
-        };
-        best.note(true, stop.place, cause);
-    }
-    best
-}
 
 // A number that isn't 1 to the greatest.
 fn note_out_of(best: &mut Best<PlaceCause>, greatest: u64, number: Numeral)
@@ -184,7 +169,7 @@ pub fn check<'a>(
     ensures found { IfOk result (λ checked. checked.0.fault ≡ least_from rank_of None (read_faults stop.now (placing_of text.now))) }
     ensures numbered { IfOk result (λ checked. known_of checked.1 ≡ numbers_of text.now.machines) }
 {
-    let mut best = best_of(stop);
+    let mut best = Best::of_stop(stop, PlaceCause::Syntax, PlaceCause::Deep);
     let names = machines(alloc, &mut best, text.machines.as_slice())?;
     note_out_of(&mut best, MOST_MEMBERS, text.members);
     condition(&mut best, text.members.value, &text.condition);

@@ -1,6 +1,7 @@
-ghost use Rattle.std.specs.Prelude.{◌≡◌, bytes_eq};
-ghost use Rattle.std.specs.List.{list_any};
+ghost use Rattle.std.specs.Prelude.{◌≡◌};
 ghost use Rattle.circus_placing_text.specs.Words.{is_placing_word};
+
+use circus_syntax::is_one_of;
 
 // The words that name nothing in a placing.
 const WORDS: [&[u8]; 12] = [
@@ -14,10 +15,4 @@ pub fn is_placing_word(word: &[u8]) -> bool
     ensures { result ≡ is_placing_word word.now }
 {
     is_one_of(&WORDS, word)
-}
-
-fn is_one_of(words: &[&[u8]], word: &[u8]) -> bool
-    ensures { result ≡ list_any (λ w. bytes_eq w.now word.now) words.now }
-{
-    words.iter().any(|w| *w == word)
 }

@@ -1,6 +1,6 @@
 -- Shapes against shapes, part by part.
 use Rattle.std.specs.Prelude.{option_map, slice_get}
-use Rattle.std.proofs.Common.{◌≡◌, ℕ, zero, suc, ◌+◌, ◌<◌, Bool, true, false, IsTrue, ◌↔◌, ◌&&◌, bytes_eq, ◌==◌, List, [], ◌∷◌, length, get_or, drop, map, refl, sym, ap, ◌∙◌, arith}
+use Rattle.std.proofs.Common.{◌≡◌, ℕ, zero, suc, ◌+◌, ◌<◌, Bool, true, false, IsTrue, ◌↔◌, ◌&&◌, bytes_eq, ◌==◌, List, [], ◌∷◌, length, get_or, drop, map, refl, sym, ap, ◌∙◌}
 use Rattle.std.proofs.Math.Bool.{and-false}
 use Rattle.std.proofs.lemmas.List.{drop_more}
 use Rattle.circus_value.specs.declared.shape.Label.{Label}
@@ -8,7 +8,6 @@ use Rattle.circus_value.specs.declared.shape.Field.{Field}
 use Rattle.circus_value.specs.declared.shape.Arm.{Arm}
 use Rattle.circus_value.specs.ShapeTree.{FieldTree, ArmTree, «record», field_trees, arm_trees}
 use Rattle.circus_value.specs.ShapeOf.{tree_of, field_of, arm_of}
-use Rattle.circus_value.specs.Seen.ShapeWeight.{weight, field_weights, arm_weights}
 use Rattle.circus_resolve.specs.Named.{is_bare}
 use Rattle.circus_resolve.specs.Faults.{field_at, field_count}
 use Rattle.circus_resolve.specs.Same.{labels_eq, shape_eq, fields_eq, arms_eq}
@@ -63,17 +62,6 @@ bare_is true [] tells = refl
 bare_is false [] tells = tells.1 refl
 bare_is true (f ∷ fs) tells = absurd (let e = tells.0 refl in cc)
 bare_is false (f ∷ fs) tells = refl
-
--- a part is lighter than the whole
-pub weight_of_field : (fs : List Field) (i : ℕ) (f : Field) → i < length fs → f ≡ get_or fs i f → weight (tree_of f.shape) < field_weights (field_trees (map field_of fs))
-weight_of_field [] i f few is = absurd (omega arith)
-weight_of_field (g ∷ fs) zero f few is = omega (arith, ap (λ (x : Field). weight (tree_of x.shape)) is)
-weight_of_field (g ∷ fs) (suc i) f few is = omega (arith, weight_of_field fs i f (omega arith) is)
-
-pub weight_of_arm : (xs : List Arm) (i : ℕ) (x : Arm) → i < length xs → x ≡ get_or xs i x → weight (tree_of x.shape) < arm_weights (arm_trees (map arm_of xs))
-weight_of_arm [] i x few is = absurd (omega arith)
-weight_of_arm (y ∷ xs) zero x few is = omega (arith, ap (λ (a : Arm). weight (tree_of a.shape)) is)
-weight_of_arm (y ∷ xs) (suc i) x few is = omega (arith, weight_of_arm xs i x (omega arith) is)
 
 -- the shape of the field at a place, and how many there are
 pub field_at_is : (fs : List FieldTree) (n : ℕ) → option_map (λ (f : FieldTree). f.shape) (slice_get fs n) ≡ field_at (field_trees fs) n

@@ -1,11 +1,10 @@
 -- Flat operations, how many they are and how they are put together.
-use Rattle.std.proofs.Common.{◌≡◌, ℕ, suc, zero, ◌+◌, ◌<◌, List, [], ◌∷◌, ◌++◌, length, map, get_or, drop, refl, sym, ap, ◌∙◌, arith, append_assoc, length-append}
+use Rattle.std.proofs.Common.{◌≡◌, ℕ, ◌+◌, ◌<◌, List, [], ◌∷◌, ◌++◌, length, map, get_or, drop, refl, sym, ap, ◌∙◌, arith, append_assoc, length-append}
 use Rattle.std.proofs.Math.ListN.{set}
 use Rattle.std.proofs.Math.Seq.{set-append_seam}
 use Rattle.std.proofs.lemmas.List.{drop_more}
 use Rattle.circus_value.specs.ShapeTree.{ShapeTree, FieldTree, ArmTree, FieldTrees, ArmTrees, boolean, cardinal, long_cardinal, integer, long_integer, text, enumeration, array, sequence, «record», choice, no_fields, more_fields, no_arms, more_arms, field_trees, arm_trees}
 use Rattle.circus_value.specs.ShapeOf.{tree_of, field_of, arm_of}
-use Rattle.circus_value.specs.Seen.ShapeWeight.{weight, field_weights, arm_weights}
 use Rattle.circus_value.specs.declared.shape.Field.{Field}
 use Rattle.circus_value.specs.declared.shape.Arm.{Arm}
 use Rattle.circus_stub.specs.declared.operation.Operation.{Operation}
@@ -76,15 +75,3 @@ arm_added arms i a ops new whole few is is_new so_far =
     let split : ops ++ flat_arms (arm_trees (map arm_of (drop i arms))) (length ops) ≡ ops ++ (part ++ flat_arms others (length ops + 1 + operations_in s)) =
     ap (λ xs. ops ++ flat_arms (arm_trees (map arm_of xs)) (length ops)) first in
     (λ i. is_new i ++ flat_arms others (behind i)) ∙ append_assoc ops part (flat_arms others (length ops + 1 + operations_in s)) ∙ sym split ∙ so_far
-
--- a field is lighter than the list
-pub field_lighter : (fs : List Field) (i : ℕ) (f : Field) → i < length fs → f ≡ get_or fs i f → weight (tree_of f.shape) < field_weights (field_trees (map field_of fs))
-field_lighter [] i f few is = absurd (omega arith)
-field_lighter (g ∷ fs) zero f few is = omega (arith, ap (λ x. weight (tree_of x.shape)) is)
-field_lighter (g ∷ fs) (suc i) f few is = omega (arith, field_lighter fs i f (omega arith) is)
-
--- an arm is lighter than the list
-pub arm_lighter : (arms : List Arm) (i : ℕ) (a : Arm) → i < length arms → a ≡ get_or arms i a → weight (tree_of a.shape) < arm_weights (arm_trees (map arm_of arms))
-arm_lighter [] i a few is = absurd (omega arith)
-arm_lighter (b ∷ arms) zero a few is = omega (arith, ap (λ x. weight (tree_of x.shape)) is)
-arm_lighter (b ∷ arms) (suc i) a few is = omega (arith, arm_lighter arms i a (omega arith) is)

@@ -6,6 +6,9 @@ pub mod Tokens
 pub mod Types
 pub mod TypesRead
 pub mod Interfaces
+mod Cuts
+mod CutTypes
+mod CutInterfaces
 pub mod Widens
 pub mod WidensInterfaces
 pub mod Levels

@@ -16,6 +16,7 @@ use Rattle.circus_syntax.specs.Spelling.{spelling, IsEach, declared_levels, IsWi
 use Rattle.circus_syntax.specs.Stopping.{NoneIsWhole, IsUnexpected, IsTooDeep, IsFilledIn}
 use Rattle.circus_syntax.proofs.Sound.{Ran, reader, ran_is, EndsAt}
 use Rattle.circus_syntax.proofs.Interfaces.{IsInterfaceWithin, sound_interface, complete_interface}
+use Rattle.circus_syntax.proofs.CutInterfaces.{cut_interface}
 use Rattle.circus_syntax.proofs.Widens.{Wider, WiderBy}
 use Rattle.circus_syntax.proofs.WidensInterfaces.{widens_interface}
 
@@ -82,7 +83,7 @@ ended_at : (ts : List Placed) (e : ℕ) (R : Ran (interface most_levels) spellin
 ended_at ts e R s stop_is = subst (λ (o : Option Stop). EndsAt o R.left e R.more) stop_is R.ended
 
 pub interface_filled_in : (ts left : List Placed) (tree : InterfaceTree) (s : Stop) (e : ℕ) → AreTokens ts
-    → interface most_levels (reader None ts e) ≡ (tree, reader (Some s) left e) → IsFilledIn ts left s.place tree
+    → interface most_levels (reader None ts e) ≡ (tree, reader (Some s) left e) → IsFilledIn ts left s tree
 interface_filled_in ts left tree s e tokens is =
     let R = (sound_interface most_levels).runs ts e in
     let (tree_is, left_is, stop_is) = ran_parts ts left tree (Some s) e R is in
@@ -94,6 +95,7 @@ interface_filled_in ts left tree s e tokens is =
       interface = subst (IsInterface (R.taken ++ R.more)) tree_is begun;
       within = subst (IsWithin most_levels) tree_is within;
       there = (ended_at ts e R s stop_is).1;
+      cut = cut_interface most_levels ts R.taken left tree s e is (R.whole ∙ ap (λ l. R.taken ++ l) left_is);
     }
 
 no_stop : (x y : InterfaceTree × Reader) (s : Stop) → x.1.stop ≡ None → y.1.stop ≡ Some s → x ≡ y → ⊥

@@ -6,6 +6,7 @@ pub mod Placed
 pub mod Reader
 pub mod Reading
 pub mod Spelling
+pub mod Standing
 pub mod Stopping
 pub mod Read
 pub mod Seen

@@ -1,8 +1,10 @@
 -- Where reading an interface stops.
-use Rattle.std.specs.Prelude.{◌≡◌, ℕ, List, [], ◌∷◌, ◌++◌}
+use Rattle.std.specs.Prelude.{◌≡◌, ℕ, List, [], ◌∷◌, ◌++◌, length, Some, slice_get}
+use Rattle.circus_syntax.specs.declared.stopping.Stop.{Stop}
 use Rattle.circus_syntax.specs.InterfaceTree.{InterfaceTree}
 use Rattle.circus_syntax.specs.Placed.{Placed}
 use Rattle.circus_syntax.specs.Spelling.{IsInterface, IsWithin, most_levels, Begins, BeginsWithin}
+use Rattle.circus_syntax.specs.Standing.{standing}
 
 -- no interface is read whole
 abbrev pub NoneIsWhole : List Placed → Type 0
@@ -33,11 +35,13 @@ abbrev pub StandAt : ℕ → List Placed → Type 0
 StandAt at [] = Unit {0}
 StandAt at (t ∷ ts) = (t.start ≡ at) × StandAt at ts
 
--- the tree is that of an interface which the tokens in front of what is left begin, and what it has besides them stands at this place
-pub record IsFilledIn (ts left : List Placed) (at : ℕ) (tree : InterfaceTree) : Type 0 where
+-- the tree is that of an interface which the tokens in front of what is left begin; what it has besides them stands at
+-- the place of the stop, which is marked with the type and the list that the first of it stands in
+pub record IsFilledIn (ts left : List Placed) (stop : Stop) (tree : InterfaceTree) : Type 0 where
   pub read : List Placed
   pub more : List Placed
   pub whole : ts ≡ read ++ left
   pub interface : IsInterface (read ++ more) tree
   pub within : IsWithin most_levels tree
-  pub there : StandAt at more
+  pub there : StandAt stop.place more
+  pub cut : slice_get (standing tree) (length read) ≡ Some (record { within = stop.within; list = stop.list })

@@ -50,3 +50,18 @@ group_trees (g ∷ gs) = more_groups g.names g.shape (group_trees gs)
 abbrev pub arm_trees : List ArmTree → ArmTrees
 arm_trees [] = no_arms
 arm_trees (a ∷ others) = more_arms a.name a.number a.shape (arm_trees others)
+
+-- the first byte of a type
+abbrev pub type_place : TypeTree → ℕ
+type_place (boolean at) = at
+type_place (cardinal at) = at
+type_place (long_cardinal at) = at
+type_place (integer at) = at
+type_place (long_integer at) = at
+type_place (text at) = at
+type_place (enumeration at _) = at
+type_place (array at _ _) = at
+type_place (sequence at _ _) = at
+type_place («record» at _) = at
+type_place (choice at _) = at
+type_place (called at _) = at

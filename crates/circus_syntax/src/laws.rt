@@ -57,10 +57,11 @@ pub fn stops_at_the_too_deep()
 {}
 
 /// Where reading stops, the tree is that of an interface which the tokens so far begin. What it has besides them stands
-/// at the place of the stop, and none of its types is too deep.
+/// at the place of the stop, and none of its types is too deep. The stop is marked with the whole type and the list of
+/// fields in which the first token stands that it has besides, where it stands in such ones.
 pub fn a_stop_is_filled_in()
     ensures { (all left : List Placed) (tree : InterfaceTree) (stop : Stop) (end : ℕ) → AreTokens all
         → interface most_levels (open_at all end)
         ≡ (tree, record { rest = left; end = end; stop = Some stop })
-        → IsFilledIn all left stop.place tree }
+        → IsFilledIn all left stop tree }
 {}

@@ -24,7 +24,7 @@ pub use laws::{
     stops_at_the_too_deep, stops_at_the_unexpected, text_has_tokens,
 };
 pub use named::{LabelText, Named, Numeral, TypeName};
-pub use reserved::is_reserved_word;
+pub use reserved::{is_one_of, is_reserved_word};
 pub use stopping::{Stop, StopCause};
 pub use token_reader::Reader;
 pub use type_text::{ArmText, ArmTexts, ElementText, GroupText, GroupTexts, TypeKind, TypeText};

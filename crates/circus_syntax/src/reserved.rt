@@ -72,7 +72,8 @@ pub fn is_reserved_word(word: &[u8]) -> bool
     is_one_of(&RESERVED, word)
 }
 
-fn is_one_of(words: &[&[u8]], word: &[u8]) -> bool
+/// Whether a word is one of these.
+pub fn is_one_of(words: &[&[u8]], word: &[u8]) -> bool
     ensures { result ≡ list_any (λ w. bytes_eq w.now word.now) words.now }
 {
     words.iter().any(|w| *w == word)

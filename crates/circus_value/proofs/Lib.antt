@@ -2,6 +2,7 @@ pub mod PartLemmas
 pub mod FitLemmas
 pub mod Octets
 pub mod ShapeBack
+pub mod ShapeItems
 mod ItemFalls
 mod ShownMore
 pub mod EqualityLemmas

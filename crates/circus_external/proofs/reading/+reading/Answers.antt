@@ -6,9 +6,10 @@ use Rattle.circus_value.specs.ShapeOf as shapes
 use Rattle.circus_value.specs.ShapeTree.{field_trees, arm_trees}
 use Rattle.circus_value.specs.Seen.ShapeWeight.{field_weights}
 use Rattle.circus_value.specs.ArmShape.{arm_shape}
+use Rattle.circus_value.proofs.ShapeItems.{field_falls}
 use Rattle.circus_external.specs.Answer.{found}
 use Rattle.circus_external.specs.Reading.{answer_map, items_read, reading, choice_read}
-use Rattle.circus_external.proofs.ReadLemmas.{behind, items_more, items_fault, weight_field, chosen_read, unchosen_read, weight_arm, fault_mapped}
+use Rattle.circus_external.proofs.ReadLemmas.{behind, items_more, items_fault, chosen_read, unchosen_read, weight_arm, fault_mapped}
 use Rattle.circus_external.proofs.reading.+reading.Goals as goal
 
 pub read_choice-read_from-requires : goal.read_choice-read_from-requires
@@ -40,7 +41,7 @@ read_choice-returns-in-None g t c =
 
 pub read_fields-read_from-requires : goal.read_fields-read_from-requires
 read_fields-read_from-requires g t c κs within =
-    let light = weight_field c.as_slice-field-items.result.now c.loop-field.field-index c.field-item.result c.loop-field-test.true c.field-item.is in
+    let light = field_falls c.as_slice-field-items.result.now c.loop-field.field-index c.field-item.result c.loop-field-test.true c.field-item.is in
     (omega (arith, light, ap (λ fs. field_weights (field_trees fs)) c.as_slice-field-items.ensures, c.decreases), (within, c.loop-field.invariant.within))
 
 pub read_items-returns-in_err-item : goal.read_items-returns-in_err-item

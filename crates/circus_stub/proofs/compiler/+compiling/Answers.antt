@@ -2,9 +2,10 @@ use Rattle.std.proofs.Common.{◌+◌, ◌++◌, ◌∷◌, length, sym, ap, ◌
 use Rattle.circus_value.specs.Seen.ShapeWeight.{field_weights, arm_weights}
 use Rattle.circus_value.specs.ShapeOf.{tree_of}
 use Rattle.circus_value.specs.ShapeTree.{field_trees, arm_trees}
+use Rattle.circus_value.proofs.ShapeItems.{field_falls, arm_falls}
 use Rattle.circus_stub.specs.declared.operation.Operation.TheVariants as operation
 use Rattle.circus_stub.specs.Flat.{operations_in, operations_in_fields, operations_in_arms, flat, flat_fields, flat_arms}
-use Rattle.circus_stub.proofs.FlatLemmas.{length-flat, length-flat_fields, length-flat_arms, field_count-field_trees, arm_count-arm_trees, part_added, field_added, arm_added, field_lighter, arm_lighter}
+use Rattle.circus_stub.proofs.FlatLemmas.{length-flat, length-flat_fields, length-flat_arms, field_count-field_trees, arm_count-arm_trees, part_added, field_added, arm_added}
 use Rattle.circus_stub.proofs.compiler.+compiling.Goals as goal
 
 pub add_shape-returns-in_ok-add_shape-in-Array : goal.add_shape-returns-in_ok-add_shape-in-Array
@@ -46,10 +47,10 @@ add_arms-loop-arm-preserved t c =
 
 pub add_fields-add_shape-requires : goal.add_fields-add_shape-requires
 add_fields-add_shape-requires t c =
-    let light = field_lighter c.as_slice-field-items.result.now c.loop-field.field-index c.field-item.result c.loop-field-test.true c.field-item.is in
+    let light = field_falls c.as_slice-field-items.result.now c.loop-field.field-index c.field-item.result c.loop-field-test.true c.field-item.is in
     (omega (arith, light, ap (λ fs. field_weights (field_trees fs)) c.as_slice-field-items.ensures, c.decreases), tt)
 
 pub add_arms-add_shape-requires : goal.add_arms-add_shape-requires
 add_arms-add_shape-requires t c =
-    let light = arm_lighter c.as_slice-arm-items.result.now c.loop-arm.arm-index c.arm-item.result c.loop-arm-test.true c.arm-item.is in
+    let light = arm_falls c.as_slice-arm-items.result.now c.loop-arm.arm-index c.arm-item.result c.loop-arm-test.true c.arm-item.is in
     (omega (arith, light, ap (λ arms. arm_weights (arm_trees arms)) c.as_slice-arm-items.ensures, c.decreases), tt)

@@ -1,5 +1,5 @@
 use Rattle.std.proofs.Common.{arith}
-use Rattle.circus_idl.proofs.ShapeItems.{field_falls, arm_falls}
+use Rattle.circus_value.proofs.ShapeItems.{field_falls, arm_falls}
 use Rattle.circus_idl.proofs.writer.Writer.+writing.Goals as goal
 
 pub fields_inside-field-requires : goal.fields_inside-field-requires
