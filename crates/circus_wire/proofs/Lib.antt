@@ -1,0 +1,9 @@
+pub mod Changing
+pub mod Hearing
+pub mod Histories
+pub mod Kept
+pub mod Owing
+pub mod Performing
+pub mod Places
+pub mod Standing
+pub mod Ticking

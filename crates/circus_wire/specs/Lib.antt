@@ -1,0 +1,4 @@
+pub mod Wire
+pub mod WireActs
+pub mod WireStanding
+pub mod Seen
