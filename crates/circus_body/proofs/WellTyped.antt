@@ -13,8 +13,8 @@ use Rattle.circus_checked.specs.ExpressionTree as ce
 use Rattle.circus_checked.specs.StatementTree as c
 use Rattle.circus_checked.specs.Sorts.{a_truth, sort_of, Has, FieldsHave, Holds}
 use Rattle.circus_checked.specs.Sorts as h
-use Rattle.circus_body.specs.WellTyped.{EachGives, EachTakes, Take, IsTyped, AreTyped, AreHandlers}
-use Rattle.circus_body.specs.WellTyped as w
+use Rattle.circus_checked.specs.WellTyped.{EachGives, EachTakes, Take, IsTyped, AreTyped, AreHandlers}
+use Rattle.circus_checked.specs.WellTyped as w
 use Rattle.circus_fault.proofs.Items.{none_in}
 use Rattle.circus_resolve.specs.declared.cause.CheckCause.TheVariants.{Unknown}
 use Rattle.circus_resolve.specs.Passing.{is_truth, goes_into}

@@ -2,6 +2,5 @@ pub mod Context
 pub mod Faults
 pub mod Meaning
 pub mod Ending
-pub mod WellTyped
 pub mod Regular
 pub mod Seen

@@ -3,7 +3,7 @@ ghost use Rattle.std.specs.Prelude.{◌≡◌, List, []};
 ghost use Rattle.circus_value.specs.ShapeTree.{ShapeTree};
 ghost use Rattle.circus_statement.specs.StatementTree.{StatementTrees};
 ghost use Rattle.circus_checked.specs.StatementTree.{statement_trees};
-ghost use Rattle.circus_body.specs.WellTyped.{AreTyped};
+ghost use Rattle.circus_checked.specs.WellTyped.{AreTyped};
 ghost use Rattle.circus_body.specs.Context.{Context};
 ghost use Rattle.circus_body.specs.Faults.{all_faults};
 ghost use Rattle.circus_body.specs.Meaning.{all_do};

@@ -3,4 +3,5 @@ pub mod ExpressionOf
 pub mod Sorts
 pub mod StatementTree
 pub mod StatementOf
+pub mod WellTyped
 pub mod Seen
