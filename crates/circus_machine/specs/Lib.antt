@@ -5,6 +5,7 @@ pub mod Storing
 pub mod Meaning
 pub mod Bodies
 pub mod Typed
+pub mod Modules
 pub mod Tally
 pub mod Seen
 pub mod Laws

@@ -7,3 +7,5 @@ pub mod Changing
 pub mod Instructions
 pub mod Running
 pub mod Sets
+pub mod Once
+pub mod Waiting
