@@ -3,8 +3,9 @@ use Rattle.std.proofs.Common.{◌≡◌, ◌≢◌, ℕ, ◌<◌, ◌≤◌, Boo
 use Rattle.std.specs.Prelude.{slice_get, is_some, IfSome, option_copied}
 use Rattle.std.proofs.lemmas.Bool.{ne_eqb, ltb-true, ltb-false}
 use Rattle.std.proofs.lemmas.Bool.Decides.{eqb_tells}
+use Rattle.std.proofs.lemmas.List.{length-set, length-map}
 use Rattle.std.proofs.lemmas.Option.{slice_get_read, slice_get_past, slice_get_within, get_or_from_slice_get}
-use Rattle.circus_wire.specs.Wire.{PeerState, WireState, place_of, node_at, changed_at, changed, peer_at, of_peer, IsOther}
+use Rattle.circus_wire.specs.Wire.{PeerState, WireState, place_of, node_at, changed_at, changed, peer_at, of_peer, Remains, IsOther, all_ticked, peer_ticked}
 use Rattle.circus_wire.specs.Seen.Kept.{AreKept}
 use Rattle.circus_wire.proofs.Places.{set_is, place_within}
 
@@ -105,3 +106,13 @@ module _ {P : Type 0} where
       ap (λ n. given n x) at
       ∙ ap (of_peer none (given (node_at own place))) (sym here)
       ∙ ap (λ (y : WireState P). of_peer none (given (node_at y.own place)) (slice_get y.peers place)) is
+
+  pub set_remains : (w : WireState P) (own format place : ℕ) (peers : List (PeerState P)) (new : PeerState P) → ◌≡◌ {A = WireState P} (record { own = own; format = format; peers = peers }) w → Remains w (record { own = own; format = format; peers = set peers place new })
+  set_remains w own format place peers new is = record {
+    own = ap (λ (x : WireState P). x.own) is;
+    format = ap (λ (x : WireState P). x.format) is;
+    pairs = length-set peers place new ∙ ap (λ (x : WireState P). length x.peers) is;
+  }
+
+  pub all_remain : (w new : WireState P) → new ≡ all_ticked w → Remains w new
+  all_remain w new is = subst (λ x. Remains w x) (sym is) (record { own = refl; format = refl; pairs = length-map w.peers peer_ticked })

@@ -1,5 +1,5 @@
 -- The pairs of a node with the other ones, as a state, and what each act does to it.
-use Rattle.std.specs.Prelude.{◌≢◌, ℕ, zero, suc, ◌+◌, ◌-◌, ◌≤◌, Bool, false, not, ◌&&◌, List, [], ◌∷◌, ◌++◌, length, map, replicate, slice_get, Option, None, Some, Result, Ok, Err, nat_lt, ◌==◌, if◌then◌else◌}
+use Rattle.std.specs.Prelude.{◌≡◌, ◌≢◌, ℕ, zero, suc, ◌+◌, ◌-◌, ◌≤◌, Bool, false, not, ◌&&◌, List, [], ◌∷◌, ◌++◌, length, map, replicate, slice_get, Option, None, Some, Result, Ok, Err, nat_lt, ◌==◌, if◌then◌else◌}
 use Rattle.std.specs.FinMap.{FinMap, empty, get, insert, remove}
 use Rattle.std.specs.Ordering.{nat_cmp}
 use Rattle.circus_segment.specs.Segment.{Piece}
@@ -102,6 +102,12 @@ module _ {P : Type 0} where
   -- a wire before anything has happened
   abbrev pub before_any : Beginning → WireState P
   before_any b = record { own = b.own; format = b.format; peers = fresh_peers (b.nodes - 1) b.first b.format }
+
+  -- a wire is still of the same node, in the same format and with as many pairs
+  pub record Remains (old new : WireState P) : Type 0 where
+    pub own : new.own ≡ old.own
+    pub format : new.format ≡ old.format
+    pub pairs : length new.peers ≡ length old.peers
 
   -- a node is another one
   abbrev pub IsOther : WireState P → ℕ → Type 0

@@ -139,6 +139,7 @@ impl<P: Drop> Wire<P> {
         ensures sent { IfOk result (λ sent. sent ≡ model.sent_by_call self.old to message) }
         ensures state { OnOk result (self.new ≡ model.called_to self.old to message purpose) }
         ensures err { OnErr result (self.new ≡ self.old) }
+        ensures remains { model.Remains self.old self.new }
 
         // Where no number is left, and only there.
         ensures spent { model.next_number self.old to ≡ never_used → result ≡ Err (Spent to) }
@@ -158,6 +159,7 @@ impl<P: Drop> Wire<P> {
         ensures sent { IfOk result (λ datagrams. datagrams ≡ (model.sent_by_call self.old to message).datagrams) }
         ensures state { OnOk result (self.new ≡ model.called_to self.old to message purpose) }
         ensures err { OnErr result (self.new ≡ self.old) }
+        ensures remains { model.Remains self.old self.new }
         ensures spent { model.next_number self.old to ≡ never_used → result ≡ Err NoNumber }
         ensures spent_only { result ≡ Err NoNumber → model.next_number self.old to ≡ never_used }
     {
@@ -185,6 +187,7 @@ impl<P: Drop> Wire<P> {
         ensures sent { IfOk result (λ sent. sent ≡ model.sent_by_answer self.old caller message) }
         ensures state { OnOk result (self.new ≡ model.answered self.old caller message) }
         ensures err { OnErr result (self.new ≡ self.old) }
+        ensures remains { model.Remains self.old self.new }
     {
         let to = caller.node;
         if !self.awaits_return(caller) {
@@ -203,6 +206,7 @@ impl<P: Drop> Wire<P> {
         ensures sent { IfOk result (λ datagrams. datagrams ≡ (model.sent_by_answer self.old caller message).datagrams) }
         ensures state { OnOk result (self.new ≡ model.answered self.old caller message) }
         ensures err { OnErr result (self.new ≡ self.old) }
+        ensures remains { model.Remains self.old self.new }
     {
         let place = place_of(self.own, caller.node);
         self.peers[place].answer(caller.number, message)
@@ -222,6 +226,7 @@ impl<P: Drop> Wire<P> {
         ensures told { IfOk result (λ delivery. delivery.heard ≡ model.heard_from self.old from (reading datagram.now)) }
         ensures state { OnOk result (self.new ≡ model.after_datagram self.old from (reading datagram.now)) }
         ensures err { OnErr result (self.new ≡ self.old) }
+        ensures remains { model.Remains self.old self.new }
     {
         match read_segment(datagram.as_slice()) {
             Ok(segment) => self.hear(from, &segment, datagram),
@@ -247,6 +252,7 @@ impl<P: Drop> Wire<P> {
         ensures told { IfOk result (λ delivery. delivery.heard ≡ model.heard_from self.old from (Ok (piece segment.now))) }
         ensures state { OnOk result (self.new ≡ model.after_datagram self.old from (Ok (piece segment.now))) }
         ensures err { OnErr result (self.new ≡ self.old) }
+        ensures remains { model.Remains self.old self.new }
     {
         let place = place_of(self.own, from);
         self.peers[place].take(from, segment, datagram)
@@ -263,6 +269,7 @@ impl<P: Drop> Wire<P> {
         ensures state { IfOk result (λ tick. tick.0 ≡ model.all_ticked self) }
         ensures sent { IfOk result (λ tick. tick.1 ≡ model.sent_by_tick self) }
         ensures suspected { IfOk result (λ tick. tick.2 ≡ model.suspected_by_tick self) }
+        ensures remains { IfOk result (λ tick. model.Remains self tick.0) }
     {
         self.tick_all()
     }
@@ -303,6 +310,7 @@ impl<P: Drop> Wire<P> {
         requires { model.IsOther self.old node }
         ensures stands { (b : Beginning) (acts : WireActs P) → WireStands self.old b acts → WireStands self.new b (followed_by acts (StopOf node)) }
         ensures state { self.new ≡ model.stopped_at self.old node }
+        ensures remains { model.Remains self.old self.new }
     {
         let place = place_of(self.own, node);
         self.peers[place].stop();

@@ -5,7 +5,7 @@ use Rattle.circus_exchange.specs.Exchange.{IsSendable, datagrams_of_call}
 use Rattle.circus_pair.proofs.Dialogue.{not_true}
 use Rattle.circus_pair.proofs.Lasting.{lasts_called}
 use Rattle.circus_wire.specs.Wire.{PeerState, WireState, peer_called, of_peer}
-use Rattle.circus_wire.proofs.Changing.{found_by, found_within, found_at, read_found, state_is, peer_is}
+use Rattle.circus_wire.proofs.Changing.{found_by, found_within, found_at, read_found, state_is, peer_is, set_remains}
 use Rattle.circus_wire.proofs.Kept.{all_kept, same_format}
 use Rattle.circus_wire.proofs.wire.Wire.hand_call.Goals as goal
 
@@ -70,3 +70,6 @@ returns-clause-spent_only g c h =
     let same = read_found _ _ c.args.to _ _ _ c.place_of-place.ensures found.there c.index_mut.ensures.value in
     let at = peer_is _ _ _ _ c.args.to _ _ c.self.view_is found.differs c.place_of-place.ensures (found_at _ _ c.args.to _ _ _ c.place_of-place.ensures found.there same) in
     ap (of_peer 0 (λ (p : PeerState g.row.P.Denot). p.exchange.next)) at ∙ c.call.ensures.spent_only h
+
+pub returns-clause-remains : goal.returns-clause-remains
+returns-clause-remains g c = set_remains _ _ _ c.place_of-place.result _ _ c.self.view_is

@@ -4,7 +4,7 @@ use Rattle.circus_exchange.specs.Exchange.{IsSendable, awaits_return, datagrams_
 use Rattle.circus_pair.proofs.Lasting.{lasts_returned}
 use Rattle.circus_wire.specs.declared.delivery.Batch.{Batch}
 use Rattle.circus_wire.specs.Wire.{PeerState, WireState, changed, peer_answered, of_peer, sent_to}
-use Rattle.circus_wire.proofs.Changing.{found_by, found_within, found_at, read_found, state_is, peer_is}
+use Rattle.circus_wire.proofs.Changing.{found_by, found_within, found_at, read_found, state_is, peer_is, set_remains}
 use Rattle.circus_wire.proofs.Kept.{all_kept, same_format}
 use Rattle.circus_wire.proofs.wire.Wire.hand_return.Goals as goal
 
@@ -54,3 +54,6 @@ returns-clause-state g c =
     on_ok_weaker c.answer.result (λ e.
     state_is _ _ _ c.args.caller.node _ _ _ _ change c.self.view_is c.place_of-place.ensures (found_at _ _ c.args.caller.node _ _ _ c.place_of-place.ensures found.there same) e
     ∙ sym (ap (λ b. cond b (changed change c.args.self.now c.args.caller.node) c.args.self.now) c.requires.awaited)) c.answer.ensures.state
+
+pub returns-clause-remains : goal.returns-clause-remains
+returns-clause-remains g c = set_remains _ _ _ c.place_of-place.result _ _ c.self.view_is

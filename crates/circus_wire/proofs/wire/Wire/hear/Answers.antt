@@ -6,7 +6,7 @@ use Rattle.circus_pair.proofs.Lasting.{lasts_after}
 use Rattle.circus_wire.specs.declared.delivery.Batch.{Batch}
 use Rattle.circus_wire.specs.declared.delivery.Heard.TheVariants.{Dropped}
 use Rattle.circus_wire.specs.Wire.{PeerState, of_peer, peer_heard, heard_by}
-use Rattle.circus_wire.proofs.Changing.{read_other, not_own, state_is, peer_is}
+use Rattle.circus_wire.proofs.Changing.{read_other, not_own, state_is, peer_is, set_remains}
 use Rattle.circus_wire.proofs.Kept.{all_kept, same_format}
 use Rattle.circus_wire.proofs.wire.Wire.hear.Goals as goal
 
@@ -31,3 +31,6 @@ pub returns-clause-state : goal.returns-clause-state
 returns-clause-state g c =
     let item = read_other _ _ _ _ c.args.from _ _ c.self.view_is c.requires.other c.self.invariant c.place_of-place.ensures c.index_mut.ensures.value in
     on_ok_weaker c.take.result (λ e. state_is _ _ _ c.args.from _ _ _ _ (λ p. peer_heard p (piece c.args.segment.now)) c.self.view_is c.place_of-place.ensures item e) c.take.ensures.state
+
+pub returns-clause-remains : goal.returns-clause-remains
+returns-clause-remains g c = set_remains _ _ _ c.place_of-place.result _ _ c.self.view_is

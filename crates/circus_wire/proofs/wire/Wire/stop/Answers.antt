@@ -2,7 +2,7 @@ use Rattle.std.proofs.Common.{sym, ap, subst}
 use Rattle.circus_wire.specs.Wire.{PeerState, WireState, peer_stopped}
 use Rattle.circus_wire.specs.WireActs.{followed_by, StopOf}
 use Rattle.circus_wire.specs.WireStanding.{WireStands}
-use Rattle.circus_wire.proofs.Changing.{state_is, read_other}
+use Rattle.circus_wire.proofs.Changing.{state_is, read_other, set_remains}
 use Rattle.circus_wire.proofs.Kept.{all_kept}
 use Rattle.circus_wire.proofs.Standing.{stands_stopped}
 use Rattle.circus_wire.proofs.wire.Wire.stop.Goals as goal
@@ -21,3 +21,6 @@ pub returns-clause-stands : goal.returns-clause-stands
 returns-clause-stands g c b acts stands =
     subst (λ (w : WireState g.row.P.Denot). WireStands w b (followed_by acts (StopOf c.args.node))) (sym (returns-clause-state g c))
     (stands_stopped b acts c.args.self.now c.args.node c.requires.0 stands)
+
+pub returns-clause-remains : goal.returns-clause-remains
+returns-clause-remains g c = set_remains _ _ _ c.place_of-place.result _ _ c.self.view_is

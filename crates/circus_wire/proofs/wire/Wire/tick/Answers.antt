@@ -3,6 +3,7 @@ use Rattle.std.proofs.lemmas.Result.{IfOk-weaker}
 use Rattle.circus_wire.specs.Wire.{WireState}
 use Rattle.circus_wire.specs.WireActs.{followed_by, TickAll}
 use Rattle.circus_wire.specs.WireStanding.{WireStands}
+use Rattle.circus_wire.proofs.Changing.{all_remain}
 use Rattle.circus_wire.proofs.Owing.{tick_owed, suspects_owed}
 use Rattle.circus_wire.proofs.Standing.{stands_ticked}
 use Rattle.circus_wire.proofs.wire.Wire.tick.Goals as goal
@@ -16,3 +17,6 @@ returns-clause-owed g c b acts stands = IfOk-weaker c.tick_all.result _ _ (λ ti
 
 pub returns-clause-suspects : goal.returns-clause-suspects
 returns-clause-suspects g c b acts stands = IfOk-weaker c.tick_all.result _ _ (λ tick e. e ∙ suspects_owed c.args.self b acts stands) c.tick_all.ensures.suspected
+
+pub returns-clause-remains : goal.returns-clause-remains
+returns-clause-remains g c = IfOk-weaker c.tick_all.result _ _ (λ tick e. all_remain c.args.self _ e) c.tick_all.ensures.state
