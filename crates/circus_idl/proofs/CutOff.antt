@@ -1,52 +1,37 @@
 -- What is found with sizes that stop above their limits is what is found with the types written out.
-use Rattle.std.proofs.Common.{◌≡◌, ℕ, ◌+◌, ◌*◌, ◌<◌, ◌≤◌, ◌⊎◌, inl, inr, Bool, true, false, ◌&&◌, not, cond, min, List, [], ◌∷◌, ◌++◌, length, refl, sym, ◌∙◌, ap, arith, Option, Some, None, bytes_eq}
-use Rattle.std.specs.Prelude.{nat_lt, ◌||◌}
-use Rattle.std.proofs.lemmas.Bool.{cases_lt, lt-ltb, le-ltb}
+use Rattle.std.proofs.Common.{◌≡◌, ℕ, ◌+◌, ◌*◌, Bool, true, false, ◌&&◌, not, cond, min, List, [], ◌∷◌, ◌++◌, length, refl, sym, ◌∙◌, ap, Option, Some, None, bytes_eq}
+use Rattle.std.specs.Prelude.{nat_lt}
 use Rattle.circus_value.specs.ShapeTree.{ShapeTree}
 use Rattle.circus_syntax.specs.declared.named.Named.{Named}
 use Rattle.circus_syntax.specs.declared.interface_text.FieldsText.{FieldsText}
-use Rattle.circus_syntax.specs.Spelling.{most_levels}
-use Rattle.circus_syntax.specs.TypeTree.{TypeTree, GroupTrees, no_groups, more_groups, group_trees, type_place}
+use Rattle.circus_syntax.specs.TypeTree.{TypeTree, GroupTrees, no_groups, more_groups, group_trees}
 use Rattle.circus_syntax.specs.InterfaceTree.{DeclaredTree, a_type, an_error, a_procedure}
 use Rattle.circus_fault.specs.Least.{faults_if}
 use Rattle.circus_fault.specs.Known.{also_number}
 use Rattle.circus_idl.specs.declared.fault.Cause.TheVariants.{TooLarge}
-use Rattle.circus_idl.specs.declared.measure.Measure.{Measure}
-use Rattle.circus_idl.specs.Limits.{greatest_word, greatest_error, most_parts, most_zero_bytes}
-use Rattle.circus_idl.specs.Written.{levels, parts, zero_size}
+use Rattle.circus_type.specs.declared.measuring.Measure.{Measure}
+use Rattle.circus_type.specs.Limits.{greatest_word, most_parts, most_zero_bytes}
+use Rattle.circus_idl.specs.Limits.{greatest_error}
+use Rattle.circus_type.specs.Written.{parts}
 use Rattle.circus_idl.specs.Meaning.{written, written_groups, standing_for}
-use Rattle.circus_idl.specs.Scale.{is_large, written_out}
-use Rattle.circus_idl.specs.Inside.{no_name, also_name, repeated_name, repeated_number, repeated_names, above, group_names, inside, inside_groups}
-use Rattle.circus_idl.specs.Faults.{Before, Cut, nothing, is_place, is_clean, whole_faults, groups_faults, groups_parts, fields_faults, fields_parts, together_faults, reports_faults, declared_faults, behind, declarations_faults}
-use Rattle.circus_idl.specs.Seen.Measured.{measure_of, measured, measured_groups, more_parts, is_over, cut_off}
-use Rattle.circus_idl.proofs.Sizes.{stopped_times, measured_is, groups_measured, zeros_together}
-
--- a number is above a limit where it is so once it is cut off there
-above_cut : (limit n : ℕ) → nat_lt limit (min n (1 + limit)) ≡ nat_lt limit n
-above_cut limit n = by_order (cases_lt limit n)
-  where
-    by_order : (limit < n) ⊎ (n ≤ limit) → nat_lt limit (min n (1 + limit)) ≡ nat_lt limit n
-    by_order (inl over) = lt-ltb limit (min n (1 + limit)) (omega arith) ∙ sym (lt-ltb limit n over)
-    by_order (inr within) = le-ltb limit (min n (1 + limit)) (omega arith) ∙ sym (le-ltb limit n within)
-
-pub over_cut : (so_far : ℕ) (s : ShapeTree) → is_over (min so_far (1 + most_parts)) (measure_of s) ≡ is_large so_far s
-over_cut so_far s = λ i. above_cut most_zero_bytes (zero_size s) i || above_cut most_levels (levels s) i || above_cut most_parts so_far i
-
-parts_cut : (so_far n : ℕ) (s : ShapeTree) → more_parts (min so_far (1 + most_parts)) n (measure_of s) ≡ min (so_far + n * parts s) (1 + most_parts)
-parts_cut so_far n s = omega (arith, stopped_times 16385 n (parts s))
+use Rattle.circus_type.specs.Scale.{written_out}
+use Rattle.circus_type.specs.Inside.{no_name, also_name, group_names}
+use Rattle.circus_idl.specs.Inside.{repeated_name, repeated_number, repeated_names, above, inside_groups, by_name, unknown_in}
+use Rattle.circus_idl.specs.OfTypes.{of_type}
+use Rattle.circus_idl.specs.Faults.{Before, Cut, nothing, groups_faults, groups_parts, fields_faults, fields_parts, together_faults, reports_faults, declared_faults, behind, declarations_faults}
+use Rattle.circus_type.specs.Whole.{is_place, is_clean}
+use Rattle.circus_type.specs.Seen.Measured.{measure_of, measured, measured_groups, cut_off}
+use Rattle.circus_type.proofs.WholeTypes.{above_cut, with_type, whole_cut}
+use Rattle.circus_type.proofs.Sizes.{measured_is, groups_measured, zeros_together}
 
 -- the sizes of these forms
 abbrev sizes_of : (List ℕ → ShapeTree) → List ℕ → Measure
 sizes_of forms n = measure_of (forms n)
 
--- the parts with those of so many more types
-with_type : (forms : List ℕ → ShapeTree) (so_far n : ℕ) (t : TypeTree) → more_parts (min so_far (1 + most_parts)) n (measured (sizes_of forms) t) ≡ min (so_far + n * parts (written forms t)) (1 + most_parts)
-with_type forms so_far n t = ap (more_parts (min so_far (1 + most_parts)) n) (measured_is forms t) ∙ parts_cut so_far n (written forms t)
-
 groups_parts_cut : (forms : List ℕ → ShapeTree) (so_far : ℕ) (groups : GroupTrees) → groups_parts cut_off (sizes_of forms) (min so_far (1 + most_parts)) groups ≡ min (groups_parts written_out forms so_far groups) (1 + most_parts)
 groups_parts_cut forms so_far no_groups = refl
 groups_parts_cut forms so_far (more_groups names t groups) =
-    ap (λ p. groups_parts cut_off (sizes_of forms) p groups) (with_type forms so_far (length names) t)
+    ap (λ p. groups_parts cut_off (sizes_of forms) p groups) (with_type (by_name forms) so_far (length names) t)
     ∙ groups_parts_cut forms (so_far + length names * parts (written forms t)) groups
 
 fields_parts_cut : (forms : List ℕ → ShapeTree) (so_far : ℕ) (fields : Option FieldsText) → fields_parts cut_off (sizes_of forms) (min so_far (1 + most_parts)) fields ≡ min (fields_parts written_out forms so_far fields) (1 + most_parts)
@@ -54,17 +39,11 @@ fields_parts_cut forms so_far None = refl
 fields_parts_cut forms so_far (Some f) = groups_parts_cut forms so_far (group_trees f.groups)
 
 module _ (cut : Cut) (types : List ℕ → Bool) (forms : List ℕ → ShapeTree) where
-  whole_cut : (so_far n : ℕ) (t : TypeTree) → whole_faults cut_off cut types (sizes_of forms) (min so_far (1 + most_parts)) n t ≡ whole_faults written_out cut types forms so_far n t
-  whole_cut so_far n t =
-      let s = written forms t in
-      let over = (λ i. is_over (with_type forms so_far n t i) (measured_is forms t i)) ∙ over_cut (so_far + n * parts s) s in
-      ap (λ b. inside types t ++ faults_if (is_clean (inside types t) && not (is_place (type_place t) cut.within) && b) (type_place t) TooLarge) over
-
   groups_cut : (so_far : ℕ) (groups : GroupTrees) → groups_faults cut_off cut types (sizes_of forms) (min so_far (1 + most_parts)) groups ≡ groups_faults written_out cut types forms so_far groups
   groups_cut so_far no_groups = refl
   groups_cut so_far (more_groups names t groups) =
-      let rest = ap (λ p. groups_faults cut_off cut types (sizes_of forms) p groups) (with_type forms so_far (length names) t) ∙ groups_cut (so_far + length names * parts (written forms t)) groups in
-      λ i. whole_cut so_far (length names) t i ++ rest i
+      let rest = ap (λ p. groups_faults cut_off cut types (sizes_of forms) p groups) (with_type (by_name forms) so_far (length names) t) ∙ groups_cut (so_far + length names * parts (written forms t)) groups in
+      λ i. whole_cut of_type (unknown_in types) (by_name forms) cut.within so_far (length names) t i ++ rest i
 
   fields_cut : (so_far : ℕ) (fields : Option FieldsText) → fields_faults cut_off cut types (sizes_of forms) (min so_far (1 + most_parts)) fields ≡ fields_faults written_out cut types forms so_far fields
   fields_cut so_far None = refl
@@ -74,8 +53,8 @@ module _ (cut : Cut) (types : List ℕ → Bool) (forms : List ℕ → ShapeTree
   together_cut name None = refl
   together_cut name (Some f) =
       let groups = group_trees f.groups in
-      let over : nat_lt most_zero_bytes (measured_groups (sizes_of forms) groups).zeros ≡ written_out.are_over forms groups =
-      ap (λ (m : Measure). nat_lt most_zero_bytes m.zeros) (groups_measured forms groups) ∙ above_cut most_zero_bytes _ ∙ ap (nat_lt most_zero_bytes) (sym (zeros_together (written_groups forms groups))) in
+      let over : nat_lt most_zero_bytes (measured_groups (by_name (sizes_of forms)) groups).zeros ≡ written_out.are_over (by_name forms) groups =
+      ap (λ (m : Measure). nat_lt most_zero_bytes m.zeros) (groups_measured (by_name forms) groups) ∙ above_cut most_zero_bytes _ ∙ ap (nat_lt most_zero_bytes) (sym (zeros_together (written_groups forms groups))) in
       ap (λ b. faults_if (is_clean (repeated_names no_name (group_names groups) ++ inside_groups types groups) && not (is_place f.at cut.list) && b) name.at TooLarge) over
 
 -- what is declared before a place, its sizes cut off
@@ -91,7 +70,7 @@ cut_before b = record {
 }
 
 declared_cut : (cut : Cut) (b : Before ShapeTree) (d : DeclaredTree) → declared_faults cut_off cut (cut_before b) d ≡ declared_faults written_out cut b d
-declared_cut cut b (a_type name t) = ap (λ fs. repeated_name b.names name ++ fs) (whole_cut cut b.types b.sizes b.parts 1 t)
+declared_cut cut b (a_type name t) = ap (λ fs. repeated_name b.names name ++ fs) (whole_cut of_type (unknown_in b.types) (by_name b.sizes) cut.within b.parts 1 t)
 declared_cut cut b (an_error e) =
     ap (λ fs. repeated_name b.names e.name ++ fs ++ repeated_number b.error_numbers e.number ++ above greatest_error e.number)
     (fields_cut cut b.types b.sizes b.parts e.arguments)
@@ -104,8 +83,8 @@ declared_cut cut b (a_procedure p) =
     ++ reports_faults b.errors p.reports ++ repeated_number b.procedure_numbers p.number ++ above greatest_word p.number
 
 -- what a name stands for
-name_cut : (forms : List ℕ → ShapeTree) (name : List ℕ) (t : TypeTree) (other : List ℕ) → standing_for name (measured (sizes_of forms) t) (sizes_of forms) other ≡ measure_of (standing_for name (written forms t) forms other)
-name_cut forms name t other = ap (λ m. cond (bytes_eq name other) m (measure_of (forms other))) (measured_is forms t) ∙ pulled (bytes_eq name other)
+name_cut : (forms : List ℕ → ShapeTree) (name : List ℕ) (t : TypeTree) (other : List ℕ) → standing_for name (measured (by_name (sizes_of forms)) t) (sizes_of forms) other ≡ measure_of (standing_for name (written forms t) forms other)
+name_cut forms name t other = ap (λ m. cond (bytes_eq name other) m (measure_of (forms other))) (measured_is (by_name forms) t) ∙ pulled (bytes_eq name other)
   where
     pulled : (b : Bool) → cond b (measure_of (written forms t)) (measure_of (forms other)) ≡ measure_of (cond b (written forms t) (forms other))
     pulled true = refl
@@ -119,7 +98,7 @@ behind_cut b (a_type name t) = λ i. record {
   errors = b.errors;
   error_numbers = b.error_numbers;
   procedure_numbers = b.procedure_numbers;
-  parts = with_type b.sizes b.parts 1 t i;
+  parts = with_type (by_name b.sizes) b.parts 1 t i;
 }
 behind_cut b (an_error e) = λ i. record {
   names = also_name e.name.name b.names;

@@ -10,12 +10,12 @@ use Rattle.circus_fault.specs.Least.{least_from}
 use Rattle.circus_fault.proofs.LeastIs.{never_lost}
 use Rattle.circus_idl.specs.declared.fault.Cause.{Cause}
 use Rattle.circus_idl.specs.Rank.{rank_of}
-use Rattle.circus_idl.specs.declared.measure.Measure.{Measure}
+use Rattle.circus_type.specs.declared.measuring.Measure.{Measure}
 use Rattle.circus_idl.specs.declared.interface.DeclaredType.{DeclaredType}
 use Rattle.circus_idl.specs.Meaning.{standing_for}
 use Rattle.circus_idl.specs.Means.{named_shape, Meant, and_then, declared_meant, declarations_meant, forms_behind, errors_behind}
 use Rattle.circus_idl.specs.Faults.{Before, behind}
-use Rattle.circus_idl.specs.Seen.Measured.{cut_off}
+use Rattle.circus_type.specs.Seen.Measured.{cut_off}
 use Rattle.circus_syntax.specs.InterfaceTree.{DeclaredTree, a_type, an_error, a_procedure}
 use Rattle.std.proofs.Common.{append_assoc}
 

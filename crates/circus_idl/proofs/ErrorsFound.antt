@@ -3,7 +3,7 @@ use Rattle.std.proofs.Common.{◌≡◌, ℕ, ◌≤◌, cond, List, [], ◌∷�
 use Rattle.std.specs.Prelude.{◌≢◌, Contains}
 use Rattle.std.specs.List.{AllByRecursion}
 use Rattle.circus_idl.specs.declared.interface.DeclaredError.{DeclaredError}
-use Rattle.circus_idl.specs.Distinct.{AreDistinct}
+use Rattle.circus_type.specs.Distinct.{AreDistinct}
 use Rattle.circus_idl.specs.Shown.{error_name}
 use Rattle.circus_idl.specs.Meaning.{standing_for}
 use Rattle.circus_idl.proofs.DraftMore.{standing_here}

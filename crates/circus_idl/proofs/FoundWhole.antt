@@ -12,10 +12,11 @@ use Rattle.circus_idl.specs.declared.fault.Cause.{Cause}
 use Rattle.circus_idl.specs.declared.fault.Cause.TheVariants.{Expected, Deep}
 use Rattle.circus_idl.specs.Rank.{rank_of}
 use Rattle.circus_idl.specs.declared.scope.Scope.{Scope}
-use Rattle.circus_idl.specs.Limits.{greatest_word, greatest_program}
+use Rattle.circus_type.specs.Limits.{greatest_word}
+use Rattle.circus_idl.specs.Limits.{greatest_program}
 use Rattle.circus_idl.specs.Inside.{above}
 use Rattle.circus_idl.specs.Faults.{nothing, cut_of, declarations_faults, read_faults}
-use Rattle.circus_idl.specs.Seen.Measured.{cut_off}
+use Rattle.circus_type.specs.Seen.Measured.{cut_off}
 use Rattle.circus_idl.specs.Seen.Scoped.{before_of, cut_in}
 use Rattle.circus_idl.proofs.CutOff.{found_cut}
 

@@ -19,18 +19,22 @@ use Rattle.circus_idl.specs.declared.interface.DeclaredType.{DeclaredType}
 use Rattle.circus_idl.specs.declared.interface.DeclaredError.{DeclaredError}
 use Rattle.circus_idl.specs.declared.interface.Procedure.{Procedure}
 use Rattle.circus_idl.specs.declared.interface.Interface.{Interface}
-use Rattle.circus_idl.specs.Written.{parts}
-use Rattle.circus_idl.specs.Scale.{written_out}
-use Rattle.circus_idl.specs.Meaning.{word_of, written}
+use Rattle.circus_type.specs.Written.{parts}
+use Rattle.circus_type.specs.Scale.{written_out}
+use Rattle.circus_type.specs.Meaning.{word_of}
+use Rattle.circus_idl.specs.Meaning.{written}
+use Rattle.circus_idl.specs.OfTypes.{of_type}
 use Rattle.circus_idl.specs.Means.{NamedShape, named_shape, Meant, and_then, fields_meant, numbers_meant, reports_meant, declared_meant, errors_behind, declarations_meant, meant_of, Means}
-use Rattle.circus_idl.specs.Inside.{also_name, repeated_name, repeated_number, above}
+use Rattle.circus_type.specs.Inside.{also_name}
+use Rattle.circus_idl.specs.Inside.{repeated_name, repeated_number, above}
 use Rattle.circus_idl.specs.Faults.{Before, nothing, cut_of, whole_faults, fields_faults, fields_parts, together_faults, unknown_errors, reports_faults, declared_faults, behind, declarations_faults, interface_faults}
-use Rattle.circus_idl.specs.Distinct.{AreDistinct}
-use Rattle.circus_idl.specs.Whole.{shapes_of, parts_of, zero_size_of}
-use Rattle.circus_idl.specs.Obeys as rule
-use Rattle.circus_idl.specs.Obeys.{ObeysInside, ObeysWhole, ObeysError, ObeysProcedure, Obeys}
-use Rattle.circus_idl.proofs.Items.{all_appended, all_with, distinct_with}
-use Rattle.circus_idl.proofs.NoFaults.{no_fault, names_apart, numbers_apart, within, word_is}
+use Rattle.circus_type.specs.Distinct.{AreDistinct}
+use Rattle.circus_type.specs.Together.{shapes_of, parts_of, zero_size_of}
+use Rattle.circus_type.specs.Obeys as rule
+use Rattle.circus_type.specs.Obeys.{ObeysInside, ObeysWhole}
+use Rattle.circus_idl.specs.Obeys.{ObeysError, ObeysProcedure, Obeys}
+use Rattle.circus_type.proofs.Items.{all_appended, all_with, distinct_with}
+use Rattle.circus_type.proofs.NoFaults.{no_fault, names_apart, numbers_apart, within, word_is}
 use Rattle.circus_idl.proofs.WholeObeys.{uncut, AreWhole, whole_obeys, fields_whole, together_small}
 
 -- names that stand before nothing yet, and no two of which are equal
@@ -143,7 +147,7 @@ module _ (all : List DeclaredError) (before : Before ShapeTree) (linked : Linked
       let (two, number) = none_in (repeated_name before.names e.name ++ fields_faults written_out uncut before.types before.sizes before.parts e.arguments) (repeated_number before.error_numbers e.number) first in
       let (name, fields) = none_in (repeated_name before.names e.name) (fields_faults written_out uncut before.types before.sizes before.parts e.arguments) two in
       let (names, whole) = fields_whole before.types before.sizes linked.known before.parts e.arguments linked.few good.1 fields in
-      (name, names, whole, no_fault _ _ _ number, within 59999 e.number high)
+      (name, names, whole, no_fault _ _ _ number, within of_type 59999 e.number high)
 
   error_linked : (e : ErrorText) → Contains (error_numbers all) (word_of e.number) → fields_parts written_out before.sizes before.parts e.arguments ≤ 16384 → Linked all (behind written_out before (an_error e))
   error_linked e there few = record {
@@ -231,7 +235,7 @@ module _ (all : List DeclaredError) (before : Before ShapeTree) (linked : Linked
         small = together_small before.types before.sizes linked.known before.parts p.name p.arguments linked.few good.1 no_arguments no_together;
         reports = reports_obey p.reports no_reports;
         number = no_fault _ _ _ no_number;
-        in_range = within 65535 p.number high;
+        in_range = within of_type 65535 p.number high;
       }
 
   procedure_linked : (p : ProcedureText) → IsClean p → Linked all (behind written_out before (a_procedure p))

@@ -9,10 +9,12 @@ use Rattle.circus_idl.specs.declared.interface.DeclaredType.{DeclaredType}
 use Rattle.circus_idl.specs.declared.interface.DeclaredError.{DeclaredError}
 use Rattle.circus_idl.specs.declared.interface.Procedure.{Procedure}
 use Rattle.circus_idl.specs.declared.interface.Interface.{Interface}
-use Rattle.circus_idl.specs.Distinct.{AreDistinct}
+use Rattle.circus_type.specs.Distinct.{AreDistinct}
 use Rattle.circus_idl.specs.Shown.{error_name}
-use Rattle.circus_idl.specs.Whole.{declared_names, shapes_of, names_of, zero_size_of}
-use Rattle.circus_idl.specs.Obeys.{IsName, ObeyFields, AreFieldNames, ObeysWhole, ObeysError, ObeysProcedure, Obeys}
+use Rattle.circus_idl.specs.Whole.{declared_names}
+use Rattle.circus_type.specs.Together.{shapes_of, names_of, zero_size_of}
+use Rattle.circus_type.specs.Obeys.{IsName, ObeyFields, AreFieldNames, ObeysWhole}
+use Rattle.circus_idl.specs.Obeys.{ObeysError, ObeysProcedure, Obeys}
 
 -- the names and types of declared types
 abbrev pub type_names : List DeclaredType → List (List ℕ)

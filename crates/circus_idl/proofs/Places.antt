@@ -9,7 +9,7 @@ use Rattle.circus_syntax.specs.declared.named.Named.{Named}
 use Rattle.circus_syntax.specs.declared.named.Numeral.{Numeral}
 use Rattle.circus_syntax.specs.Placed.{word, Placed, Due, due, due_at, due_name, due_number, opened, IsDue, AreDue}
 use Rattle.circus_idl.specs.Lexemes.{number}
-use Rattle.circus_idl.specs.Obeys.{IsName}
+use Rattle.circus_type.specs.Obeys.{IsName}
 
 -- the first of the places, and those behind it
 abbrev pub here : List ℕ → ℕ

@@ -9,11 +9,11 @@ use Rattle.circus_idl.specs.declared.interface.DeclaredType.{DeclaredType}
 use Rattle.circus_idl.specs.declared.interface.DeclaredError.{DeclaredError}
 use Rattle.circus_idl.specs.declared.interface.Procedure.{Procedure}
 use Rattle.circus_idl.specs.declared.interface.Interface.{Interface}
-use Rattle.circus_idl.specs.Distinct.{AreDistinct}
-use Rattle.circus_idl.specs.Written.{parts}
-use Rattle.circus_idl.specs.Whole.{shapes_of, parts_of}
-use Rattle.circus_idl.specs.Scale.{written_out}
-use Rattle.circus_idl.specs.Inside.{also_name}
+use Rattle.circus_type.specs.Distinct.{AreDistinct}
+use Rattle.circus_type.specs.Written.{parts}
+use Rattle.circus_type.specs.Together.{shapes_of, parts_of}
+use Rattle.circus_type.specs.Scale.{written_out}
+use Rattle.circus_type.specs.Inside.{also_name}
 use Rattle.circus_idl.specs.Faults.{Before, nothing, cut_of, behind, fields_faults, fields_parts, unknown_errors, reports_faults, declarations_faults, interface_faults}
 use Rattle.circus_idl.specs.Shown.{error_name}
 use Rattle.circus_idl.specs.Obeys.{Obeys}

@@ -8,18 +8,19 @@ use Rattle.circus_value.specs.ShapeTree.{ShapeTree, FieldTree, field_trees}
 use Rattle.circus_value.specs.ExternalSize.{external_sizes}
 use Rattle.circus_syntax.specs.Spelling.{most_levels}
 use Rattle.circus_syntax.specs.declared.named.Named.{Named}
-use Rattle.circus_idl.specs.Limits.{most_parts, most_zero_bytes}
-use Rattle.circus_idl.specs.Distinct.{AreDistinct}
-use Rattle.circus_idl.specs.Written.{levels, parts, zero_size, zero_values}
+use Rattle.circus_type.specs.Limits.{most_parts, most_zero_bytes}
+use Rattle.circus_type.specs.Distinct.{AreDistinct}
+use Rattle.circus_type.specs.Written.{levels, parts, zero_size, zero_values}
 use Rattle.circus_idl.specs.Meaning.{written, written_groups}
-use Rattle.circus_idl.specs.Scale.{is_large, written_out}
+use Rattle.circus_type.specs.Scale.{is_large, written_out}
 use Rattle.circus_idl.specs.Shown.{type_lexemes}
-use Rattle.circus_idl.specs.Inside.{no_name, group_names, repeated_names}
+use Rattle.circus_type.specs.Inside.{no_name, group_names}
+use Rattle.circus_idl.specs.Inside.{repeated_names, by_name}
 use Rattle.circus_idl.specs.Faults.{cut_of, whole_faults, groups_faults, groups_parts, fields_faults, fields_parts, together_faults}
-use Rattle.circus_idl.specs.Obeys.{ObeysWhole}
-use Rattle.circus_idl.specs.Whole.{shapes_of, parts_of, zero_size_of}
-use Rattle.circus_idl.proofs.InsideObeys.{field_names_are}
-use Rattle.circus_idl.proofs.Sizes.{zeros_together}
+use Rattle.circus_type.specs.Obeys.{ObeysWhole}
+use Rattle.circus_type.specs.Together.{shapes_of, parts_of, zero_size_of}
+use Rattle.circus_type.proofs.InsideObeys.{field_names_are}
+use Rattle.circus_type.proofs.Sizes.{zeros_together}
 use Rattle.circus_idl.proofs.Places.{next, past}
 use Rattle.circus_idl.proofs.PlainTypes.{type_at, groups_at}
 use Rattle.circus_idl.proofs.PlainRules.{none_new, no_fault, none_then, field_names_clean, inside_clean}
@@ -81,6 +82,6 @@ pub together_clean : (fs : List FieldTree) (ps : List ℕ) (types : List ℕ →
 together_clean [] ps types forms name obey small = refl
 together_clean (f ∷ fs) ps types forms name obey small =
     no_fault _ _ _ (no_and _ _
-    (ap (written_out.are_over forms) (group_list_is (f ∷ fs) (next ps))
+    (ap (written_out.are_over (by_name forms)) (group_list_is (f ∷ fs) (next ps))
     ∙ ap (λ n. nat_lt most_zero_bytes n) (zeros_together (written_groups forms (groups_at (field_trees (f ∷ fs)) (next ps))) ∙ ap (λ ts. external_sizes (zero_values ts)) (groups_written (field_trees (f ∷ fs)) (next ps) forms (fields_obey (f ∷ fs) obey.whole)) ∙ sym (zeros_together (f ∷ fs)))
     ∙ le-ltb most_zero_bytes _ small))

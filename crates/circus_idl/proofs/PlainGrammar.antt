@@ -13,11 +13,12 @@ use Rattle.circus_idl.specs.declared.interface.DeclaredError.{DeclaredError}
 use Rattle.circus_idl.specs.declared.interface.Procedure.{Procedure}
 use Rattle.circus_idl.specs.declared.interface.Interface.{Interface}
 use Rattle.circus_idl.specs.Shown.{type_lexemes, declared_type, declared_error, declared_procedure}
-use Rattle.circus_idl.specs.Whole.{shapes_of}
-use Rattle.circus_idl.specs.Obeys.{IsName, ObeysWhole, Obeys}
+use Rattle.circus_type.specs.Together.{shapes_of}
+use Rattle.circus_type.specs.Obeys.{IsName, ObeysWhole}
+use Rattle.circus_idl.specs.Obeys.{Obeys}
 use Rattle.circus_idl.proofs.Places.{next, past}
 use Rattle.circus_idl.proofs.PlainRules.{type_is, fields_are, levels_are}
-use Rattle.circus_idl.proofs.InsideObeys.{field_names_are}
+use Rattle.circus_type.proofs.InsideObeys.{field_names_are}
 use Rattle.circus_idl.proofs.ObeysParts.{AreReports, TypeObeys, FieldsObey, ErrorObeys, ProcedureObeys, PartsObey, fields_obey, error_named}
 use Rattle.circus_idl.proofs.PlainDeclared.{behind_head, behind_arguments, group_list_at, group_list_is, fields_at, names_at, reports_at, declared_type_at, declared_error_at, declared_procedure_at, all_at, types_at, errors_at, declared_at, at_declared, interface_at}
 

@@ -11,7 +11,7 @@ use Rattle.circus_idl.specs.declared.interface.Procedure.{Procedure}
 use Rattle.circus_idl.specs.declared.interface.Interface.{Interface}
 use Rattle.circus_idl.specs.Meaning.{written_groups}
 use Rattle.circus_idl.specs.Means.{NamedShape, named_shape, Meant, and_then, fields_meant, reports_meant, numbers_meant, declarations_meant, meant_of, Means}
-use Rattle.circus_idl.specs.Distinct.{AreDistinct}
+use Rattle.circus_type.specs.Distinct.{AreDistinct}
 use Rattle.circus_idl.specs.Obeys.{Obeys}
 use Rattle.circus_idl.proofs.Places.{next}
 use Rattle.circus_idl.proofs.PlainTypes.{groups_at}

@@ -17,10 +17,12 @@ use Rattle.circus_fault.specs.declared.fault.Fault.{Fault}
 use Rattle.circus_fault.specs.Least.{faults_if}
 use Rattle.circus_fault.specs.Known.{no_number, also_number}
 use Rattle.circus_idl.specs.declared.fault.Cause.{Cause}
-use Rattle.circus_idl.specs.Written.{levels, field_levels, arm_levels}
-use Rattle.circus_idl.specs.Distinct.{AreDistinct}
-use Rattle.circus_idl.specs.Inside.{no_name, also_name, repeated_names, above, label_faults, labels_faults, group_names, arm_labels, is_bare, is_empty_record, length_faults, inside, inside_groups, inside_arms}
-use Rattle.circus_idl.specs.Obeys.{IsName, ObeysInside, ObeyFields, ObeyArmTypes, ObeyLabels, field_names, arm_names, arm_numbers}
+use Rattle.circus_type.specs.Written.{levels, field_levels, arm_levels}
+use Rattle.circus_type.specs.Distinct.{AreDistinct}
+use Rattle.circus_type.specs.Inside.{no_name, also_name, label_faults, labels_faults, group_names, arm_labels, is_bare, is_empty_record, length_faults, inside_arms}
+use Rattle.circus_idl.specs.Inside.{repeated_names, above, inside, inside_groups, unknown_in}
+use Rattle.circus_idl.specs.OfTypes.{of_type}
+use Rattle.circus_type.specs.Obeys.{IsName, ObeysInside, ObeyFields, ObeyArmTypes, ObeyLabels, field_names, arm_names, arm_numbers}
 use Rattle.circus_idl.proofs.Places.{here}
 use Rattle.circus_idl.proofs.PlainTypes.{labels_at, type_at, groups_at, arms_at, by_arm, short_number}
 
@@ -53,14 +55,14 @@ none_then fs gs f g = ap (λ l. l ++ gs) f ∙ g
 pub not_above : (limit : ℕ) (n : Numeral) → n.value ≤ limit → above limit n ≡ []
 not_above limit n fits = no_fault _ _ _ (grind (arith, nat_tests))
 
-label_clean : (names : List ℕ → Bool) (numbers : ℕ → Bool) (name : Named) (n : Numeral) → names name.name ≡ false → numbers n.value ≡ false → n.value ≤ 65535 → label_faults names numbers name n ≡ []
+label_clean : (names : List ℕ → Bool) (numbers : ℕ → Bool) (name : Named) (n : Numeral) → names name.name ≡ false → numbers n.value ≡ false → n.value ≤ 65535 → label_faults of_type names numbers name n ≡ []
 label_clean names numbers name n new_name new_number fits =
     none_then _ _ (none_then _ _ (no_fault _ _ _ new_name) (no_fault _ _ _ new_number)) (not_above 65535 n fits)
 
 labels_clean : (ls : List Label) (ps : List ℕ) (names : List ℕ → Bool) (numbers : ℕ → Bool)
     → AreNew names (map (λ (l : Label). l.name) ls) → AreDistinct (map (λ (l : Label). l.name) ls)
     → AreNew numbers (map (λ (l : Label). l.number) ls) → AreDistinct (map (λ (l : Label). l.number) ls)
-    → AllByRecursion (λ (l : Label). l.number ≤ 65535) ls → labels_faults names numbers (labels_at ls ps) ≡ []
+    → AllByRecursion (λ (l : Label). l.number ≤ 65535) ls → labels_faults of_type names numbers (labels_at ls ps) ≡ []
 labels_clean [] ps names numbers new distinct new_numbers distinct_numbers fit = refl
 labels_clean (l ∷ ls) ps names numbers new distinct new_numbers distinct_numbers fit =
     none_then _ _ (label_clean names numbers _ _ new.0 new_numbers.0 fit.0)
@@ -69,7 +71,7 @@ labels_clean (l ∷ ls) ps names numbers new distinct new_numbers distinct_numbe
 
 arm_labels_clean : (arms : shape.ArmTrees) (ps : List ℕ) (names : List ℕ → Bool) (numbers : ℕ → Bool)
     → AreNew names (arm_names arms) → AreDistinct (arm_names arms) → AreNew numbers (arm_numbers arms) → AreDistinct (arm_numbers arms)
-    → AllByRecursion (λ n. n ≤ 65535) (arm_numbers arms) → labels_faults names numbers (arm_labels (arms_at arms ps)) ≡ []
+    → AllByRecursion (λ n. n ≤ 65535) (arm_numbers arms) → labels_faults of_type names numbers (arm_labels (arms_at arms ps)) ≡ []
 arm_labels_clean shape.no_arms ps names numbers new distinct new_numbers distinct_numbers fit = refl
 arm_labels_clean (shape.more_arms name n s arms) ps names numbers new distinct new_numbers distinct_numbers fit =
     none_then _ _ (label_clean names numbers _ _ new.0 new_numbers.0 fit.0)
@@ -90,7 +92,7 @@ either_none : (b : Bool) (fs : List (Fault Cause)) → fs ≡ [] → cond b [] f
 either_none true fs none = refl
 either_none false fs none = none
 
-length_clean : (n : Numeral) → 1 ≤ n.value → n.value ≤ 65535 → length_faults n ≡ []
+length_clean : (n : Numeral) → 1 ≤ n.value → n.value ≤ 65535 → length_faults of_type n ≡ []
 length_clean n some fits = no_fault _ _ _ (grind (arith, nat_tests))
 
 -- no fault stands inside of the tree
@@ -117,7 +119,7 @@ mutual
   inside_groups_clean no_fields ps is_known obey = refl
   inside_groups_clean (more_fields name s fs) ps is_known obey = none_then _ _ (inside_clean s _ is_known obey.0) (inside_groups_clean fs _ is_known obey.1)
 
-  inside_arms_clean : (arms : shape.ArmTrees) (ps : List ℕ) (is_known : List ℕ → Bool) → ObeyArmTypes arms → inside_arms is_known (arms_at arms ps) ≡ []
+  inside_arms_clean : (arms : shape.ArmTrees) (ps : List ℕ) (is_known : List ℕ → Bool) → ObeyArmTypes arms → inside_arms of_type (unknown_in is_known) (arms_at arms ps) ≡ []
   inside_arms_clean shape.no_arms ps is_known obey = refl
   inside_arms_clean (shape.more_arms name n s arms) ps is_known obey =
       none_then _ _

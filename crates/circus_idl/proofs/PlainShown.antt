@@ -16,10 +16,11 @@ use Rattle.circus_idl.specs.declared.interface.Procedure.{Procedure}
 use Rattle.circus_idl.specs.declared.interface.Interface.{Interface}
 use Rattle.circus_syntax.specs.Placed.{word, sign}
 use Rattle.circus_idl.specs.Shown.{label_lexemes, labels_lexemes, later_labels, type_lexemes, fields_inside, later_fields, arms_inside, later_arms, fields_lexemes, optional_fields, results_lexemes, later_names, reports_lexemes, number_lexemes, head_lexemes, declared_type, declared_error, declared_procedure, signature_lexemes, declared_lexemes, lexemes}
-use Rattle.circus_idl.specs.Obeys.{IsName, ObeysInside, ObeyFields, ObeyArmTypes, Obeys, field_names, arm_names, arm_numbers}
+use Rattle.circus_type.specs.Obeys.{IsName, ObeysInside, ObeyFields, ObeyArmTypes, field_names, arm_names, arm_numbers}
+use Rattle.circus_idl.specs.Obeys.{Obeys}
 use Rattle.circus_idl.proofs.Places.{here, next, past, named_at, numeral_at, AreShown, none, shown_then, level_shown, name_then, number_then, fixed_then, first_then, a_word, a_sign}
 use Rattle.circus_idl.proofs.PlainTypes.{label_at, labels_at, type_at, groups_at, arms_at, by_arm, short_number}
-use Rattle.circus_idl.proofs.InsideObeys.{field_names_are}
+use Rattle.circus_type.proofs.InsideObeys.{field_names_are}
 use Rattle.circus_idl.proofs.ObeysParts.{AreReports, TypeObeys, FieldsObey, ErrorObeys, ProcedureObeys, PartsObey, fields_obey, error_named}
 use Rattle.circus_idl.proofs.PlainDeclared.{group_list_at, group_list_is, fields_at, names_at, reports_at, behind_head, declared_type_at, declared_error_at, declared_procedure_at, all_at, declared_at, at_declared, interface_at}
 

@@ -8,7 +8,7 @@ use Rattle.circus_value.specs.ShapeTree.{ShapeTree, FieldTrees, no_fields, more_
 use Rattle.circus_syntax.specs.declared.named.LabelText.{LabelText}
 use Rattle.circus_syntax.specs.TypeTree.{TypeTree, GroupTrees, ArmTrees, boolean, cardinal, long_cardinal, integer, long_integer, text, enumeration, array, sequence, «record», choice, no_groups, more_groups, no_arms, more_arms}
 use Rattle.circus_idl.specs.Shown.{label_lexemes, type_lexemes}
-use Rattle.circus_idl.specs.Obeys.{ObeysInside}
+use Rattle.circus_type.specs.Obeys.{ObeysInside}
 use Rattle.circus_idl.proofs.Places.{here, next, past, named_at, numeral_at}
 
 abbrev pub label_at : Label → List ℕ → LabelText

@@ -5,8 +5,10 @@ use Rattle.std.specs.List.{AllByRecursion}
 use Rattle.circus_value.specs.declared.shape.Label.{Label}
 use Rattle.circus_value.specs.ShapeTree as shape
 use Rattle.circus_value.specs.ShapeTree.{ShapeTree, FieldTrees, no_fields, more_fields, field_trees, arm_trees}
-use Rattle.circus_idl.specs.Meaning.{label_meant, written, written_groups, written_arms}
-use Rattle.circus_idl.specs.Obeys.{ObeysInside, ObeyFields, ObeyArmTypes, arm_numbers}
+use Rattle.circus_type.specs.Meaning.{label_meant, written_arms}
+use Rattle.circus_idl.specs.Inside.{by_name}
+use Rattle.circus_idl.specs.Meaning.{written, written_groups}
+use Rattle.circus_type.specs.Obeys.{ObeysInside, ObeyFields, ObeyArmTypes, arm_numbers}
 use Rattle.circus_idl.proofs.PlainTypes.{labels_at, type_at, groups_at, arms_at, by_arm}
 
 -- a number of one word is meant as it stands
@@ -36,7 +38,7 @@ mutual
   groups_written no_fields ps form obey = refl
   groups_written (more_fields name s fs) ps form obey = ap₂ (more_fields name) (type_written s _ form obey.0) (groups_written fs _ form obey.1)
 
-  arms_written : (arms : shape.ArmTrees) (ps : List ℕ) (form : List ℕ → ShapeTree) → AllByRecursion (λ n. n ≤ 65535) (arm_numbers arms) → ObeyArmTypes arms → arm_trees (written_arms form (arms_at arms ps)) ≡ arms
+  arms_written : (arms : shape.ArmTrees) (ps : List ℕ) (form : List ℕ → ShapeTree) → AllByRecursion (λ n. n ≤ 65535) (arm_numbers arms) → ObeyArmTypes arms → arm_trees (written_arms (by_name form) (arms_at arms ps)) ≡ arms
   arms_written shape.no_arms ps form fit obey = refl
   arms_written (shape.more_arms name n s arms) ps form fit obey =
       let inner = by_arm (λ t. (qs : List ℕ) → written form (type_at t qs) ≡ t) s obey.0 (λ qs. refl) (λ obeys qs. type_written s qs form obeys) in

@@ -14,12 +14,14 @@ use Rattle.circus_fault.specs.Known.{no_number, also_number}
 use Rattle.circus_idl.specs.declared.fault.Cause.{Cause}
 use Rattle.circus_idl.specs.declared.fault.Cause.TheVariants.{Unknown, OutOfRange}
 use Rattle.circus_idl.specs.Rank.{rank_of}
-use Rattle.circus_idl.specs.Inside.{repeated_name, repeated_number, repeated_names, above, label_faults, labels_faults, group_names, arm_labels, length_faults, bound_faults, called_faults, is_bare, is_empty_record, inside, inside_groups, inside_arms, no_name, also_name}
-use Rattle.circus_idl.specs.Written.{parts as shape_parts}
+use Rattle.circus_idl.specs.Inside.{repeated_name, repeated_number, repeated_names, above, inside, inside_groups, unknown_in}
+use Rattle.circus_idl.specs.OfTypes.{of_type}
+use Rattle.circus_type.specs.Inside.{label_faults, labels_faults, group_names, arm_labels, length_faults, bound_faults, is_bare, is_empty_record, no_name, also_name, inside_arms, unknown_faults}
+use Rattle.circus_type.specs.Written.{parts as shape_parts}
 use Rattle.circus_idl.specs.Meaning.{written}
-use Rattle.circus_idl.specs.Scale.{written_out}
+use Rattle.circus_type.specs.Scale.{written_out}
 use Rattle.circus_idl.specs.Faults.{Before, Cut, nothing, whole_faults, groups_faults, fields_faults, fields_parts, together_faults, unknown_errors, reports_faults, declared_faults, behind, declarations_faults, interface_faults}
-use Rattle.circus_idl.proofs.Items.{all_appended}
+use Rattle.circus_type.proofs.Items.{all_appended}
 
 -- a rule is broken
 abbrev pub IsOfRule : Fault Cause → Type 0
@@ -39,24 +41,24 @@ names_rule : (earlier : List ℕ → Bool) (ns : List Named) → OfRules (repeat
 names_rule earlier [] = tt
 names_rule earlier (n ∷ ns) = and (repeated_name earlier n) _ (one_of _ _ _ (omega arith)) (names_rule (also_name n.name earlier) ns)
 
-label_rule : (names : List ℕ → Bool) (numbers : ℕ → Bool) (name : Named) (number : Numeral) → OfRules (label_faults names numbers name number)
+label_rule : (names : List ℕ → Bool) (numbers : ℕ → Bool) (name : Named) (number : Numeral) → OfRules (label_faults of_type names numbers name number)
 label_rule names numbers name number =
     and (repeated_name names name ++ repeated_number numbers number) (above 65535 number)
     (and (repeated_name names name) (repeated_number numbers number) (one_of _ _ _ (omega arith)) (one_of _ _ _ (omega arith)))
     (one_of _ _ _ (omega arith))
 
-labels_rule : (names : List ℕ → Bool) (numbers : ℕ → Bool) (ls : List LabelText) → OfRules (labels_faults names numbers ls)
+labels_rule : (names : List ℕ → Bool) (numbers : ℕ → Bool) (ls : List LabelText) → OfRules (labels_faults of_type names numbers ls)
 labels_rule names numbers [] = tt
 labels_rule names numbers (l ∷ ls) =
-    and (label_faults names numbers l.name l.number) _ (label_rule names numbers l.name l.number) (labels_rule (also_name l.name.name names) (also_number l.number.value numbers) ls)
+    and (label_faults of_type names numbers l.name l.number) _ (label_rule names numbers l.name l.number) (labels_rule (also_name l.name.name names) (also_number l.number.value numbers) ls)
 
-bound_rule : (bound : Option Numeral) → OfRules (bound_faults bound)
+bound_rule : (bound : Option Numeral) → OfRules (bound_faults of_type bound)
 bound_rule None = tt
 bound_rule (Some n) = one_of _ _ _ (omega arith)
 
-called_rule : (types : List ℕ → Bool) (other : Option Named) (name : Named) → OfRules (called_faults types other name)
-called_rule types None name = one_of _ _ _ (omega arith)
-called_rule types (Some m) name = (omega arith, tt)
+called_rule : (unknown : Option ℕ) → OfRules (unknown_faults of_type unknown)
+called_rule None = tt
+called_rule (Some at) = (omega arith, tt)
 
 unless : (empty : Bool) (fs : List (Fault Cause)) → OfRules fs → OfRules (cond empty [] fs)
 unless true fs of_rules = tt
@@ -72,23 +74,23 @@ module _ (types : List ℕ → Bool) where
     inside_rule (long_integer _) = tt
     inside_rule (text _) = tt
     inside_rule (enumeration _ labels) = labels_rule no_name no_number labels
-    inside_rule (array _ n t) = and (length_faults n) (inside types t) (one_of _ _ _ (omega arith)) (inside_rule t)
-    inside_rule (sequence _ bound t) = and (bound_faults bound) (inside types t) (bound_rule bound) (inside_rule t)
+    inside_rule (array _ n t) = and (length_faults of_type n) (inside types t) (one_of _ _ _ (omega arith)) (inside_rule t)
+    inside_rule (sequence _ bound t) = and (bound_faults of_type bound) (inside types t) (bound_rule bound) (inside_rule t)
     inside_rule («record» at groups) =
         and (faults_if (is_bare groups) at OutOfRange ++ repeated_names no_name (group_names groups)) (inside_groups types groups)
         (and (faults_if (is_bare groups) at OutOfRange) (repeated_names no_name (group_names groups)) (one_of _ _ _ (omega arith)) (names_rule no_name (group_names groups)))
         (groups_inside_rule groups)
-    inside_rule (choice _ arms) = and (labels_faults no_name no_number (arm_labels arms)) (inside_arms types arms) (labels_rule no_name no_number (arm_labels arms)) (arms_inside_rule arms)
-    inside_rule (called _ t) = called_rule types t.«module» t.name
+    inside_rule (choice _ arms) = and (labels_faults of_type no_name no_number (arm_labels arms)) (inside_arms of_type (unknown_in types) arms) (labels_rule no_name no_number (arm_labels arms)) (arms_inside_rule arms)
+    inside_rule (called _ t) = called_rule (unknown_in types t)
 
     groups_inside_rule : (groups : GroupTrees) → OfRules (inside_groups types groups)
     groups_inside_rule no_groups = tt
     groups_inside_rule (more_groups _ t groups) = and (inside types t) (inside_groups types groups) (inside_rule t) (groups_inside_rule groups)
 
-    arms_inside_rule : (arms : ArmTrees) → OfRules (inside_arms types arms)
+    arms_inside_rule : (arms : ArmTrees) → OfRules (inside_arms of_type (unknown_in types) arms)
     arms_inside_rule no_arms = tt
     arms_inside_rule (more_arms _ _ t arms) =
-        and (cond (is_empty_record t) [] (inside types t)) (inside_arms types arms) (unless (is_empty_record t) (inside types t) (inside_rule t)) (arms_inside_rule arms)
+        and (cond (is_empty_record t) [] (inside types t)) (inside_arms of_type (unknown_in types) arms) (unless (is_empty_record t) (inside types t) (inside_rule t)) (arms_inside_rule arms)
 
 module _ (cut : Cut) where
   whole_rule : (types : List ℕ → Bool) (forms : List ℕ → ShapeTree) (parts n : ℕ) (t : TypeTree) → OfRules (whole_faults written_out cut types forms parts n t)

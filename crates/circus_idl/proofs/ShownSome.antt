@@ -9,7 +9,7 @@ use Rattle.circus_idl.specs.Shown.{results_lexemes, fields_lexemes, reports_lexe
 use Rattle.circus_text.specs.Token.{Lexeme, spaced}
 use Rattle.std.proofs.lemmas.Grind.{flat_map-append}
 use Rattle.std.specs.List.{flat_map}
-use Rattle.circus_idl.proofs.Dropped.{drop_more}
+use Rattle.circus_type.proofs.Dropped.{drop_more}
 
 pub results_some : (fs : List FieldTree) → (fs ≡ [] → ⊥) → results_lexemes fs ≡ word (codes "RETURNS") ∷ fields_lexemes fs
 results_some [] some = absurd (some refl)

@@ -7,8 +7,8 @@ use denote.Ref.{Bor}
 use Rattle.circus_idl.specs.declared.types.KnownType.{KnownType}
 use Rattle.circus_idl.specs.declared.types.Types.{Types}
 use Rattle.circus_value.specs.ShapeTree.{boolean}
-use Rattle.circus_idl.specs.Seen.Measured.{measure_of}
-use Rattle.circus_idl.specs.Inside.{also_name}
+use Rattle.circus_type.specs.Seen.Measured.{measure_of}
+use Rattle.circus_type.specs.Inside.{also_name}
 use Rattle.circus_idl.specs.Seen.Known.{type_named, is_known, type_measure, type_form, tree_or}
 use Rattle.circus_idl.specs.Meaning.{standing_for}
 

@@ -1,51 +1,35 @@
 -- Whole types and lists of fields without a fault.
-use Rattle.std.proofs.Common.{◌≡◌, ℕ, ◌+◌, ◌*◌, ◌≤◌, Bool, true, false, ◌&&◌, List, [], ◌∷◌, ◌++◌, length, refl, ◌∙◌, ap, arith, Option, Some, None}
-use Rattle.std.specs.Prelude.{nat_lt, ◌||◌}
+use Rattle.std.proofs.Common.{◌≡◌, ℕ, ◌+◌, ◌*◌, ◌≤◌, Bool, true, false, cond, List, [], ◌∷◌, ◌++◌, length, refl, ◌∙◌, ap, arith, Option, Some, None}
 use Rattle.std.specs.List.{AllByRecursion}
-use Rattle.std.proofs.lemmas.Bool.{ltb-false, or_parts}
+use Rattle.std.proofs.lemmas.Bool.{ltb-false}
 use Rattle.std.proofs.lemmas.List.Sums.{sum_by-cons}
 use Rattle.circus_value.specs.ShapeTree.{ShapeTree, FieldTree}
 use Rattle.circus_syntax.specs.declared.named.Named.{Named}
+use Rattle.circus_syntax.specs.declared.named.TypeName.{TypeName}
 use Rattle.circus_syntax.specs.declared.interface_text.FieldsText.{FieldsText}
 use Rattle.circus_syntax.specs.TypeTree.{TypeTree, GroupTrees, no_groups, more_groups, group_trees}
-use Rattle.circus_syntax.specs.Spelling.{IsType, AreGroups, AreFields, IfWritten, most_levels}
-use Rattle.circus_fault.specs.declared.fault.Fault.{Fault}
+use Rattle.circus_syntax.specs.Spelling.{IsType, AreGroups, AreFields, IfWritten}
 use Rattle.circus_fault.proofs.Items.{none_in}
-use Rattle.circus_idl.specs.declared.fault.Cause.{Cause}
-use Rattle.circus_idl.specs.Limits.{most_parts, most_zero_bytes}
-use Rattle.circus_idl.specs.Written.{levels, parts, zero_size}
-use Rattle.circus_idl.specs.Scale.{is_large, written_out}
-use Rattle.circus_idl.specs.Meaning.{fields_named, written, written_groups}
+use Rattle.circus_type.specs.Limits.{most_parts, most_zero_bytes}
+use Rattle.circus_type.specs.Written.{parts}
+use Rattle.circus_type.specs.Scale.{written_out}
+use Rattle.circus_type.specs.Meaning.{fields_named}
+use Rattle.circus_idl.specs.Meaning.{written, written_groups}
 use Rattle.circus_idl.specs.Means.{fields_meant}
-use Rattle.circus_idl.specs.Inside.{no_name, repeated_names, group_names, inside, inside_groups}
-use Rattle.circus_idl.specs.Faults.{Cut, cut_of, is_clean, whole_faults, groups_faults, groups_parts, fields_faults, fields_parts, together_faults}
-use Rattle.circus_idl.specs.Whole.{shapes_of, parts_of, zero_size_of}
-use Rattle.circus_idl.specs.Obeys.{ObeysInside, ObeysWhole, ObeyFieldList}
-use Rattle.circus_idl.proofs.NoFaults.{no_fault}
-use Rattle.circus_idl.proofs.InsideObeys.{inside_obeys, names_obey}
+use Rattle.circus_type.specs.Inside.{no_name, group_names}
+use Rattle.circus_idl.specs.Inside.{repeated_names, inside, inside_groups, by_name, unknown_at, unknown_in}
+use Rattle.circus_idl.specs.OfTypes.{of_type}
+use Rattle.circus_idl.specs.Faults.{Cut, cut_of, whole_faults, groups_faults, groups_parts, fields_faults, fields_parts, together_faults}
+use Rattle.circus_type.specs.Whole.{is_clean}
+use Rattle.circus_type.specs.Together.{shapes_of, parts_of, zero_size_of}
+use Rattle.circus_type.specs.Obeys.{ObeysInside, ObeysWhole, ObeyFieldList}
+use Rattle.circus_type.proofs.NoFaults.{no_fault}
+use Rattle.circus_type.proofs.InsideObeys.{names_obey}
+use Rattle.circus_type.proofs.WholeTypes.{clean_none, tested, whole_obeys as type_obeys}
 
 -- reading went to the end
 abbrev pub uncut : Cut
 uncut = cut_of None
-
-clean_none : (fs : List (Fault Cause)) → fs ≡ [] → is_clean fs ≡ true
-clean_none fs none = ap is_clean none
-
--- what is tested where there is no other fault
-tested : (a b : Bool) → a ≡ true → (a && true && b) ≡ false → b ≡ false
-tested true b is holds = holds
-tested false b is holds = absurd (cc)
-
-record IsSmall (counted : ℕ) (s : ShapeTree) : Type 0 where
-  zeros : zero_size s ≤ most_zero_bytes
-  levels : levels s ≤ most_levels
-  parts : counted ≤ most_parts
-
-not_large : (counted : ℕ) (s : ShapeTree) → is_large counted s ≡ false → IsSmall counted s
-not_large counted s is =
-    let (two, few) = or_parts (nat_lt most_zero_bytes (zero_size s) || nat_lt most_levels (levels s)) (nat_lt most_parts counted) is in
-    let (small, shallow) = or_parts (nat_lt most_zero_bytes (zero_size s)) (nat_lt most_levels (levels s)) two in
-    record { zeros = ltb-false most_zero_bytes (zero_size s) small; levels = ltb-false most_levels (levels s) shallow; parts = ltb-false most_parts counted few }
 
 -- fields, where there are so many parts before them and with them
 pub record AreWhole (before counted : ℕ) (fields : List FieldTree) : Type 0 where
@@ -63,14 +47,21 @@ shared_parts [] s rest = omega arith
 shared_parts (n ∷ ns) s rest = omega (arith, sum_by-cons parts s (shapes_of (fields_named ns s ++ rest)), shared_parts ns s rest)
 
 module _ (types : List ℕ → Bool) (form : List ℕ → ShapeTree) (known : (n : List ℕ) → types n ≡ true → ObeysInside (form n)) where
+  known_stands : (n : TypeName) → unknown_in types n ≡ None → ObeysInside (by_name form n)
+  known_stands n is = by_parts n.«module» n.name is
+    where
+      by_test : (b : Bool) (at : ℕ) → types n.name.name ≡ b → cond b None (Some at) ≡ None → ObeysInside (form n.name.name)
+      by_test true at is_true is = known n.name.name is_true
+      by_test false at is_false is = absurd (cc)
+
+      by_parts : (m : Option Named) → (name : Named) → unknown_at types m n.name ≡ None → ObeysInside (form n.name.name)
+      by_parts None name is = by_test (types n.name.name) n.name.at refl is
+      by_parts (Some m) name is = absurd (cc)
+
   -- a whole type, which so many names share
   pub whole_obeys : (before n : ℕ) (t : TypeTree) → IsType t → whole_faults written_out uncut types form before n t ≡ []
       → (inside types t ≡ []) × ObeysWhole (written form t) × (before + n * parts (written form t) ≤ most_parts)
-  whole_obeys before n t good clean =
-      let (none, large) = none_in (inside types t) _ clean in
-      let fits = tested (is_clean (inside types t)) _ (clean_none (inside types t) none) (no_fault _ _ _ large) in
-      let small = not_large (before + n * parts (written form t)) (written form t) fits in
-      (none, record { inside = inside_obeys types form known t good none; small = small.zeros; shallow = small.levels }, small.parts)
+  whole_obeys before n t good clean = type_obeys of_type (unknown_in types) (by_name form) known_stands before n t good clean
 
   pub groups_whole : (before : ℕ) (groups : GroupTrees) → before ≤ most_parts → AreGroups groups → groups_faults written_out uncut types form before groups ≡ []
       → (inside_groups types groups ≡ []) × AreWhole before (groups_parts written_out form before groups) (written_groups form groups)
@@ -93,7 +84,7 @@ module _ (types : List ℕ → Bool) (form : List ℕ → ShapeTree) (known : (n
   fields_whole before (Some f) few good clean =
       let groups = group_trees f.groups in
       let (names, rest) = none_in (repeated_names no_name (group_names groups)) (groups_faults written_out uncut types form before groups) clean in
-      (names_obey form groups good names, (groups_whole before groups few good rest).1)
+      (names_obey (by_name form) of_type groups good names, (groups_whole before groups few good rest).1)
 
   -- the arguments of a procedure together
   pub together_small : (before : ℕ) (name : Named) (fields : Option FieldsText) → before ≤ most_parts → IfWritten AreFields fields → fields_faults written_out uncut types form before fields ≡ [] → together_faults written_out uncut types form name fields ≡ []

@@ -1,9 +1,9 @@
 -- The faults of an interface as it is written, in the order of its declarations.
-use Rattle.std.specs.Prelude.{ℕ, Bool, true, false, ◌&&◌, ◌==◌, not, List, [], ◌∷◌, ◌++◌, length, Option, Some, None, is_none}
+use Rattle.std.specs.Prelude.{ℕ, Bool, true, ◌&&◌, not, List, [], ◌∷◌, ◌++◌, length, Option, Some, None, is_none}
 use Rattle.circus_syntax.specs.declared.named.Named.{Named}
 use Rattle.circus_syntax.specs.declared.stopping.Stop.{Stop}
 use Rattle.circus_syntax.specs.declared.interface_text.FieldsText.{FieldsText}
-use Rattle.circus_syntax.specs.TypeTree.{TypeTree, GroupTrees, no_groups, more_groups, group_trees, type_place}
+use Rattle.circus_syntax.specs.TypeTree.{TypeTree, GroupTrees, no_groups, more_groups, group_trees}
 use Rattle.circus_syntax.specs.InterfaceTree.{DeclaredTree, a_type, an_error, a_procedure, InterfaceTree}
 use Rattle.circus_fault.specs.declared.fault.Fault.{Fault}
 use Rattle.circus_fault.specs.Least.{faults_if}
@@ -11,10 +11,15 @@ use Rattle.circus_fault.specs.Known.{no_number, also_number}
 use Rattle.circus_fault.specs.Stopping.{stop_faults}
 use Rattle.circus_idl.specs.declared.fault.Cause.{Cause}
 use Rattle.circus_idl.specs.declared.fault.Cause.TheVariants.{Expected, Deep, Unknown, TooLarge}
-use Rattle.circus_idl.specs.Limits.{greatest_word, greatest_error, greatest_program}
-use Rattle.circus_idl.specs.Inside.{no_name, also_name, repeated_name, repeated_number, repeated_names, above, group_names, inside, inside_groups}
+use Rattle.circus_type.specs.Limits.{greatest_word}
+use Rattle.circus_type.specs.Whole as type
+use Rattle.circus_type.specs.Whole.{is_place, is_clean}
+use Rattle.circus_idl.specs.Limits.{greatest_error, greatest_program}
+use Rattle.circus_type.specs.Inside.{no_name, also_name, group_names}
+use Rattle.circus_idl.specs.Inside.{repeated_name, repeated_number, repeated_names, above, inside_groups, unknown_in, by_name}
+use Rattle.circus_idl.specs.OfTypes.{of_type}
 use Rattle.circus_idl.specs.Meaning.{standing_for}
-use Rattle.circus_idl.specs.Scale.{Scale, written_out}
+use Rattle.circus_type.specs.Scale.{Scale, written_out}
 
 -- what is declared before a place: the names, which of them are types and what these come to, the numbers of errors by
 -- their names, the numbers of errors and procedures, and the parts of types
@@ -40,34 +45,22 @@ abbrev pub cut_of : Option Stop → Cut
 cut_of None = record { within = None; list = None }
 cut_of (Some s) = record { within = s.within; list = s.list }
 
--- this place
-abbrev pub is_place : ℕ → Option ℕ → Bool
-is_place at None = false
-is_place at (Some p) = p == at
-
--- no faults
-abbrev pub is_clean : List (Fault Cause) → Bool
-is_clean [] = true
-is_clean (_ ∷ _) = false
-
 -- the size of a whole type is tested where it has no fault inside and reading didn't stop in it
 abbrev pub whole_faults : {S : Type 0} → Scale S → Cut → (List ℕ → Bool) → (List ℕ → S) → ℕ → ℕ → TypeTree → List (Fault Cause)
-whole_faults scale cut types sizes parts n t =
-    inside types t
-    ++ faults_if (is_clean (inside types t) && not (is_place (type_place t) cut.within) && scale.is_over (scale.parts_with parts n (scale.of_type sizes t)) (scale.of_type sizes t)) (type_place t) TooLarge
+whole_faults scale cut types sizes parts n t = type.whole_faults of_type scale (unknown_in types) (by_name sizes) cut.within parts n t
 
 -- the whole types of fields, each of which several names may share
 abbrev pub groups_faults : {S : Type 0} → Scale S → Cut → (List ℕ → Bool) → (List ℕ → S) → ℕ → GroupTrees → List (Fault Cause)
 groups_faults scale cut types sizes parts no_groups = []
 groups_faults scale cut types sizes parts (more_groups names t groups) =
     whole_faults scale cut types sizes parts (length names) t
-    ++ groups_faults scale cut types sizes (scale.parts_with parts (length names) (scale.of_type sizes t)) groups
+    ++ groups_faults scale cut types sizes (scale.parts_with parts (length names) (scale.of_type (by_name sizes) t)) groups
 
 -- the parts of types with those of fields
 abbrev pub groups_parts : {S : Type 0} → Scale S → (List ℕ → S) → ℕ → GroupTrees → ℕ
 groups_parts scale sizes parts no_groups = parts
 groups_parts scale sizes parts (more_groups names t groups) =
-    groups_parts scale sizes (scale.parts_with parts (length names) (scale.of_type sizes t)) groups
+    groups_parts scale sizes (scale.parts_with parts (length names) (scale.of_type (by_name sizes) t)) groups
 
 -- a list of fields
 abbrev pub fields_faults : {S : Type 0} → Scale S → Cut → (List ℕ → Bool) → (List ℕ → S) → ℕ → Option FieldsText → List (Fault Cause)
@@ -85,7 +78,7 @@ abbrev pub together_faults : {S : Type 0} → Scale S → Cut → (List ℕ → 
 together_faults scale cut types sizes name None = []
 together_faults scale cut types sizes name (Some f) =
     faults_if (is_clean (repeated_names no_name (group_names (group_trees f.groups)) ++ inside_groups types (group_trees f.groups))
-    && not (is_place f.at cut.list) && scale.are_over sizes (group_trees f.groups)) name.at TooLarge
+    && not (is_place f.at cut.list) && scale.are_over (by_name sizes) (group_trees f.groups)) name.at TooLarge
 
 -- the names of errors that aren't declared before
 abbrev pub unknown_errors : (List ℕ → Option ℕ) → List Named → List (Fault Cause)
@@ -115,8 +108,8 @@ abbrev pub behind : {S : Type 0} → Scale S → Before S → DeclaredTree → B
 behind scale before (a_type name t) = record before {
   names = also_name name.name before.names;
   types = also_name name.name before.types;
-  sizes = standing_for name.name (scale.of_type before.sizes t) before.sizes;
-  parts = scale.parts_with before.parts 1 (scale.of_type before.sizes t);
+  sizes = standing_for name.name (scale.of_type (by_name before.sizes) t) before.sizes;
+  parts = scale.parts_with before.parts 1 (scale.of_type (by_name before.sizes) t);
 }
 behind scale before (an_error e) = record before {
   names = also_name e.name.name before.names;

@@ -1,13 +1,11 @@
 pub mod Limits
-pub mod Distinct
-pub mod Written
 pub mod Whole
 pub mod Obeys
+pub mod OfTypes
+pub mod Inside
 pub mod Meaning
-pub mod Scale
 pub mod Means
 pub mod Rank
-pub mod Inside
 pub mod Faults
 pub mod Answer
 pub mod ReadAt

@@ -1,55 +1,15 @@
--- What a type means: the shape in which every name is written out.
-use Rattle.std.specs.Prelude.{ℕ, min, cond, bytes_eq, List, [], ◌∷◌, ◌++◌, map, Option, Some, None}
-use Rattle.circus_value.specs.declared.shape.Label.{Label}
-use Rattle.circus_value.specs.ShapeTree.{ShapeTree, FieldTree, ArmTree, field_trees, arm_trees}
-use Rattle.circus_value.specs.ShapeTree as shape
-use Rattle.circus_syntax.specs.declared.named.Named.{Named}
-use Rattle.circus_syntax.specs.declared.named.Numeral.{Numeral}
-use Rattle.circus_syntax.specs.declared.named.LabelText.{LabelText}
-use Rattle.circus_syntax.specs.TypeTree.{TypeTree, GroupTrees, ArmTrees, boolean, cardinal, long_cardinal, integer, long_integer, text, enumeration, array, sequence, «record», choice, called, no_groups, more_groups, no_arms, more_arms}
-use Rattle.circus_idl.specs.Limits.{greatest_word}
+-- What a type of an interface means, where the name of a type stands for one that is declared before.
+use Rattle.std.specs.Prelude.{ℕ, cond, bytes_eq, List}
+use Rattle.circus_value.specs.ShapeTree.{ShapeTree, FieldTree}
+use Rattle.circus_syntax.specs.TypeTree.{TypeTree, GroupTrees}
+use Rattle.circus_type.specs.Meaning as type
+use Rattle.circus_idl.specs.Inside.{by_name}
 
--- a number of one word; one that is out of range, which is a fault, counts as the greatest
-abbrev pub word_of : Numeral → ℕ
-word_of n = min n.value greatest_word
+abbrev pub written : (List ℕ → ShapeTree) → TypeTree → ShapeTree
+written form t = type.written (by_name form) t
 
--- the bound of a sequence, which is the greatest where none is given
-abbrev pub bound_of : Option Numeral → ℕ
-bound_of None = greatest_word
-bound_of (Some n) = word_of n
-
-abbrev pub label_meant : LabelText → Label
-label_meant l = record { name = l.name.name; number = word_of l.number }
-
--- a field of this shape for each of the names
-abbrev pub fields_named : List Named → ShapeTree → List FieldTree
-fields_named names s = map (λ (n : Named). record { name = n.name; shape = s }) names
-
-abbrev mutual
-  -- the shape that is meant, where this is what each name stands for
-  pub written : (List ℕ → ShapeTree) → TypeTree → ShapeTree
-  written form (boolean _) = shape.boolean
-  written form (cardinal _) = shape.cardinal
-  written form (long_cardinal _) = shape.long_cardinal
-  written form (integer _) = shape.integer
-  written form (long_integer _) = shape.long_integer
-  written form (text _) = shape.text
-  written form (enumeration _ labels) = shape.enumeration (map label_meant labels)
-  written form (array _ n t) = shape.array (word_of n) (written form t)
-  written form (sequence _ bound t) = shape.sequence (bound_of bound) (written form t)
-  written form («record» _ groups) = shape.«record» (field_trees (written_groups form groups))
-  written form (choice _ arms) = shape.choice (arm_trees (written_arms form arms))
-  written form (called _ t) = form t.name.name
-
-  -- a field for each name, with the type of its group
-  pub written_groups : (List ℕ → ShapeTree) → GroupTrees → List FieldTree
-  written_groups form no_groups = []
-  written_groups form (more_groups names t groups) = fields_named names (written form t) ++ written_groups form groups
-
-  pub written_arms : (List ℕ → ShapeTree) → ArmTrees → List ArmTree
-  written_arms form no_arms = []
-  written_arms form (more_arms name number t arms) =
-      record { name = name.name; number = word_of number; shape = written form t } ∷ written_arms form arms
+abbrev pub written_groups : (List ℕ → ShapeTree) → GroupTrees → List FieldTree
+written_groups form groups = type.written_groups (by_name form) groups
 
 -- this name stands for this, and others for what they stood for
 abbrev pub standing_for : {A : Type 0} → List ℕ → A → (List ℕ → A) → List ℕ → A

@@ -12,8 +12,10 @@ use Rattle.circus_idl.specs.declared.interface.DeclaredType.{DeclaredType}
 use Rattle.circus_idl.specs.declared.interface.DeclaredError.{DeclaredError}
 use Rattle.circus_idl.specs.declared.interface.Procedure.{Procedure}
 use Rattle.circus_idl.specs.declared.interface.Interface.{Interface}
-use Rattle.circus_idl.specs.Limits.{greatest_word, greatest_program}
-use Rattle.circus_idl.specs.Meaning.{word_of, written, written_groups, standing_for}
+use Rattle.circus_type.specs.Limits.{greatest_word}
+use Rattle.circus_idl.specs.Limits.{greatest_program}
+use Rattle.circus_type.specs.Meaning.{word_of}
+use Rattle.circus_idl.specs.Meaning.{written, written_groups, standing_for}
 
 -- a declared type, its shape as a tree
 pub record NamedShape : Type 0 where

@@ -1,6 +1,4 @@
--- How code is seen: sizes that stop above their limits, tables of types, and what a draft has. No public call cites
--- these.
-pub mod Measured
+-- How code is seen: tables of types, and what a draft has. No public call cites these.
 pub mod Known
 pub mod Scoped
 pub mod Drafted

@@ -7,15 +7,13 @@ ghost use Rattle.circus_idl.specs.Rank.{rank_of};
 ghost use Rattle.circus_idl.specs.Seen.Scoped.{before_of, cut_in};
 ghost use Rattle.circus_idl.specs.Faults.{declared_faults, behind};
 ghost use Rattle.circus_idl.specs.Seen.Known.{type_form, tree_or};
-ghost use Rattle.circus_idl.specs.Seen.Measured.{cut_off};
+ghost use Rattle.circus_type.specs.Seen.Measured.{cut_off};
 ghost use Rattle.circus_idl.specs.Meaning.{written, standing_for};
 
-use crate::fault::note_above;
-use crate::limits::{GREATEST_ERROR, GREATEST_WORD};
-use crate::names::{meet_name, meet_number};
+use crate::limits::GREATEST_ERROR;
 use crate::scope::Scope;
-use crate::written::written;
 use circus_syntax::{ErrorText, Named, ProcedureText, TypeText};
+use circus_type::{GREATEST_WORD, meet_name, meet_number, note_above, written};
 use circus_value::{NoMemory, Shape};
 
 impl<'a> Scope<'a> {

@@ -6,20 +6,18 @@ ghost use Rattle.circus_fault.specs.Least.{least_from};
 ghost use Rattle.circus_fault.specs.Seen.Tables.{known_of};
 ghost use Rattle.circus_idl.specs.Rank.{rank_of};
 ghost use Rattle.circus_idl.specs.Seen.Known.{type_form};
-ghost use Rattle.circus_idl.specs.Seen.Measured.{cut_off};
+ghost use Rattle.circus_type.specs.Seen.Measured.{cut_off};
 ghost use Rattle.circus_idl.specs.Seen.Scoped.{before_of, cut_in};
 ghost use Rattle.circus_idl.specs.Faults.{declared_faults, behind};
 ghost use Rattle.circus_idl.specs.Seen.Drafted.{drafted};
 ghost use Rattle.circus_idl.specs.Means.{and_then, fields_meant, reports_meant, numbers_meant, procedure_meant, declared_meant, forms_behind};
 
 use crate::interface::{Declared, DeclaredError, DeclaredType, Errors, Procedure, Procedures};
-use crate::limits::GREATEST_WORD;
-use crate::measure::word;
 use crate::scope::Scope;
 use crate::types::Types;
-use crate::written::written_groups;
 use circus_fault::Names;
 use circus_syntax::{DeclaredText, ErrorText, FieldsText, Named, Nameds, ProcedureText, TypeText};
+use circus_type::{GREATEST_WORD, word, written_groups};
 use circus_value::{Duplicate, Fields, NoMemory, Numbers};
 use std::alloc::Global;
 
@@ -79,7 +77,7 @@ impl<'a> Draft<'a> {
         if self.scope.best.fault.is_none() {
             self.types.push(DeclaredType {
                 name: name.name.copy()?,
-                shape: self.scope.types.shape(name.name.as_slice())?,
+                shape: self.scope.types.shaped(name.name.as_slice())?,
             })?;
         }
         Ok(())

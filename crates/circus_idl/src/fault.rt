@@ -1,11 +1,8 @@
 // Why a text is refused.
-ghost use Rattle.std.specs.Prelude.{◌≡◌};
-ghost use Rattle.circus_fault.specs.Least.{least_from};
 ghost use Rattle.circus_idl.specs.Rank.{rank_of};
-ghost use Rattle.circus_idl.specs.Inside.{above};
+ghost use Rattle.circus_idl.specs.OfTypes.{of_type};
 
-use circus_fault::Best;
-use circus_syntax::Numeral;
+use circus_type::{TypeCause, WithTypeCauses};
 
 /// Why a text is refused, in the order in which causes at one place are given.
 #[derive(Clone, Copy, Debug, PartialEq, Eq)]
@@ -33,9 +30,15 @@ impl circus_fault::Cause for Cause {
     }
 }
 
-/// Finds a number that is above a limit.
-pub fn note_above(best: &mut Best<Cause>, limit: u64, number: Numeral)
-    ensures { best.new.fault ≡ least_from rank_of best.old.fault (above limit number) }
-{
-    best.note(number.value > limit, number.at, Cause::OutOfRange);
+impl WithTypeCauses for Cause {
+    ghost embed = { of_type };
+
+    fn of_type(cause: TypeCause) -> Self {
+        match cause {
+            TypeCause::Unknown => Cause::Unknown,
+            TypeCause::Repeated => Cause::Repeated,
+            TypeCause::OutOfRange => Cause::OutOfRange,
+            TypeCause::TooLarge => Cause::TooLarge,
+        }
+    }
 }

@@ -1,22 +1,16 @@
-// What holds of every interface that obeys the rules, and of every type.
-ghost use Rattle.std.specs.Prelude.{◌≡◌, ℕ, ◌+◌, min, List, [], None};
-ghost use Rattle.circus_value.specs.ShapeTree.{ShapeTree};
+// What holds of every interface that obeys the rules.
+ghost use Rattle.std.specs.Prelude.{◌≡◌, List, [], None};
 ghost use Rattle.circus_text.specs.declared.token.Token.{Token};
 ghost use Rattle.circus_text.specs.Token.{spaced};
 ghost use Rattle.circus_text.specs.Division.{AreTokensOf};
-ghost use Rattle.circus_syntax.specs.TypeTree.{TypeTree};
 ghost use Rattle.circus_syntax.specs.InterfaceTree.{InterfaceTree};
 ghost use Rattle.circus_syntax.specs.Read.{placed_from};
 ghost use Rattle.circus_syntax.specs.Spelling.{IsInterface, IsWithin, most_levels};
 ghost use Rattle.circus_idl.specs.declared.interface.Interface.{Interface};
-ghost use Rattle.circus_idl.specs.Limits.{most_parts};
-ghost use Rattle.circus_idl.specs.Meaning.{written};
-ghost use Rattle.circus_idl.specs.Scale.{is_large};
 ghost use Rattle.circus_idl.specs.Faults.{cut_of, interface_faults};
 ghost use Rattle.circus_idl.specs.Means.{Means};
 ghost use Rattle.circus_idl.specs.Obeys.{Obeys};
 ghost use Rattle.circus_idl.specs.ReadAgain.{IsReadAs};
-ghost use Rattle.circus_idl.specs.Seen.Measured.{measured, measure_of, is_over};
 ghost use Rattle.circus_idl.specs.Shown.{lexemes};
 
 /// The text of an interface that obeys the rules has tokens, which are that interface and no other.
@@ -30,11 +24,4 @@ pub fn shown_is_read()
         → (tree : InterfaceTree) × IsInterface (placed_from (spaced (lexemes i)) found 0) tree × IsWithin most_levels tree
         × (interface_faults (cut_of None) tree ≡ [])
         × Means tree i × ((j : Interface) → Means tree j → j ≡ i) }
-{}
-
-/// The size that is counted of a type is that of the type written out, each number cut off one above its limit, and
-/// passes a limit exactly where the type written out does.
-pub fn sizes_are_cut_off()
-    ensures size { (forms : List ℕ → ShapeTree) (t : TypeTree) → measured (λ n. measure_of (forms n)) t ≡ measure_of (written forms t) }
-    ensures over { (so_far : ℕ) (s : ShapeTree) → is_over (min so_far (1 + most_parts)) (measure_of s) ≡ is_large so_far s }
 {}

@@ -2,10 +2,9 @@
 //!
 //! `interface` has an interface and its parts, and `idl_fault` what can be wrong with the text of one. `read`
 //! reads one: `check` goes over its tree, `draft` makes the interface from it, `declared` and `scope` keep what
-//! is declared before a place, `inside` finds the faults of a type, `measure` its size and `written` its shape;
-//! `types` is the table for that, `names` adds names and numbers to those before, `limits` has the limits, and
-//! `fault` why a text is refused. `show` writes an interface, token by token in `writer`, with the names of errors in
-//! `error_names`. `laws` has what holds of every text that is shown.
+//! is declared before a place, and `types` is the table of the types; `limits` has the limits, and `fault` why a text is
+//! refused. `show` writes an interface, token by token in `writer`, with the names of errors in `error_names`. `laws` has
+//! what holds of every text that is shown.
 #![tactic(auto)]
 
 mod check;
@@ -14,23 +13,19 @@ mod draft;
 mod error_names;
 mod fault;
 mod idl_fault;
-mod inside;
 mod interface;
 mod laws;
 mod limits;
-mod measure;
-mod names;
 mod read;
 mod scope;
 mod show;
 mod types;
 mod writer;
-mod written;
 
 pub use idl_fault::IdlFault;
 pub use interface::{
     Declared, DeclaredError, DeclaredType, Errors, Interface, Procedure, Procedures,
 };
-pub use laws::{shown_has_tokens, shown_is_read, sizes_are_cut_off};
+pub use laws::{shown_has_tokens, shown_is_read};
 pub use read::read_interface;
 pub use show::show_interface;

@@ -5,19 +5,20 @@ ghost use Rattle.circus_syntax.specs.TypeTree.{group_trees};
 ghost use Rattle.circus_fault.specs.Least.{least_from};
 ghost use Rattle.circus_fault.specs.Seen.Tables.{known_of};
 ghost use Rattle.circus_idl.specs.Rank.{rank_of};
-ghost use Rattle.circus_idl.specs.Seen.Measured.{measured, more_parts, is_over, cut_off};
+ghost use Rattle.circus_type.specs.Inside.{no_name, group_names};
+ghost use Rattle.circus_type.specs.Whole.{is_clean};
+ghost use Rattle.circus_type.specs.Seen.Measured.{measured, more_parts, cut_off};
 ghost use Rattle.circus_idl.specs.Seen.Known.{is_known, type_measure};
 ghost use Rattle.circus_idl.specs.Inside as faults;
+ghost use Rattle.circus_idl.specs.Inside.{by_name};
 ghost use Rattle.circus_idl.specs.Seen.Scoped.{cut_in};
 ghost use Rattle.circus_idl.specs.Faults as whole;
 
 use crate::fault::Cause;
-use crate::inside::{field_names, inside, inside_groups};
-use crate::limits::{MOST_PARTS, MOST_ZERO_BYTES};
-use crate::measure::{Measure, measured, measured_groups};
 use crate::types::Types;
 use circus_fault::{Best, Names, NumberSet};
-use circus_syntax::{FieldsText, GroupText, MOST_LEVELS, Named, Nameds, TypeText};
+use circus_syntax::{FieldsText, GroupText, Named, Nameds, TypeText};
+use circus_type::{MOST_ZERO_BYTES, Measure, field_names, inside_groups, measured_groups, whole};
 use circus_value::NoMemory;
 use std::alloc::Global;
 
@@ -39,41 +40,15 @@ pub struct Scope<'a> {
     pub parts: u32,
 }
 
-/// Whether no fault stands inside of a type.
-fn is_clean(alloc: Global, types: &Types, shape: &TypeText) -> Result<bool, NoMemory>
-    ensures { IfOk result (λ clean. clean ≡ whole.is_clean (faults.inside (is_known types.now) (tree_of shape.now))) }
-{
-    let mut own = Best { fault: None };
-    inside(alloc, types, &mut own, shape)?;
-    Ok(own.fault.is_none())
-}
-
 /// Whether no fault stands inside of the types of fields and among their names.
 fn are_clean(alloc: Global, types: &Types, groups: &[GroupText]) -> Result<bool, NoMemory>
-    ensures { IfOk result (λ clean. clean ≡ whole.is_clean (faults.repeated_names faults.no_name (faults.group_names (group_trees (map group_of groups.now)))
+    ensures { IfOk result (λ clean. clean ≡ is_clean (faults.repeated_names no_name (group_names (group_trees (map group_of groups.now)))
         ++ faults.inside_groups (is_known types.now) (group_trees (map group_of groups.now)))) }
 {
-    let mut own = Best { fault: None };
+    let mut own: Best<Cause> = Best { fault: None };
     field_names(alloc, &mut own, groups)?;
     inside_groups(alloc, types, &mut own, groups)?;
     Ok(own.fault.is_none())
-}
-
-// The parts of types with so many more of one size.
-fn more_parts(parts: u32, count: usize, size: Measure) -> u32
-    ensures { result ≡ more_parts parts count size }
-{
-    let more = (count as u64).saturating_mul(u64::from(size.parts));
-    u64::from(parts)
-        .saturating_add(more)
-        .min(u64::from(MOST_PARTS + 1)) as u32
-}
-
-// Whether a type of this size, with which there are so many parts, passes a limit.
-fn is_over(parts: u32, size: Measure) -> bool
-    ensures { result ≡ is_over parts size }
-{
-    size.zeros > MOST_ZERO_BYTES || size.levels > u32::from(MOST_LEVELS) || parts > MOST_PARTS
 }
 
 impl<'a> Scope<'a> {
@@ -81,20 +56,18 @@ impl<'a> Scope<'a> {
     pub fn whole(&mut self, count: usize, shape: &TypeText) -> Result<Measure, NoMemory>
         ensures found { OnOk result (self.new.best.fault ≡ least_from rank_of self.old.best.fault
             (whole.whole_faults cut_off (cut_in self.old) (is_known self.old.types) (type_measure self.old.types) self.old.parts count (tree_of shape.now))) }
-        ensures others { OnOk result (self.new ≡ record self.old { best = self.new.best; parts = more_parts self.old.parts count (measured (type_measure self.old.types) (tree_of shape.now)) }) }
-        ensures sized { IfOk result (λ measure. measure ≡ measured (type_measure self.old.types) (tree_of shape.now)) }
+        ensures others { OnOk result (self.new ≡ record self.old { best = self.new.best; parts = more_parts self.old.parts count (measured (by_name (type_measure self.old.types)) (tree_of shape.now)) }) }
+        ensures sized { IfOk result (λ measure. measure ≡ measured (by_name (type_measure self.old.types)) (tree_of shape.now)) }
     {
-        inside(self.alloc, &self.types, &mut self.best, shape)?;
-        let clean = is_clean(self.alloc, &self.types, shape)?;
-        let size = measured(&self.types, shape);
-        self.parts = more_parts(self.parts, count, size);
-        let tested = clean && self.within != Some(shape.at);
-        self.best.note(
-            tested && is_over(self.parts, size),
-            shape.at,
-            Cause::TooLarge,
-        );
-        Ok(size)
+        whole(
+            self.alloc,
+            &self.types,
+            &mut self.best,
+            self.within,
+            &mut self.parts,
+            count,
+            shape,
+        )
     }
 
     fn groups(&mut self, groups: &[GroupText]) -> Result<(), NoMemory>

@@ -2,12 +2,14 @@
 ghost use Rattle.std.specs.Prelude.{◌≡◌, IfOk, OnOk};
 ghost use Rattle.circus_value.specs.ShapeOf.{tree_of};
 ghost use Rattle.circus_value.specs.ShapeTree.{boolean};
-ghost use Rattle.circus_idl.specs.Seen.Measured.{measure_of};
-ghost use Rattle.circus_idl.specs.Inside.{also_name, no_name};
+ghost use Rattle.circus_type.specs.Seen.Measured.{measure_of};
+ghost use Rattle.circus_type.specs.Inside.{also_name, no_name};
 ghost use Rattle.circus_idl.specs.Seen.Known.{is_known, type_measure, type_form, tree_or};
 ghost use Rattle.circus_idl.specs.Meaning.{standing_for};
+ghost use Rattle.circus_idl.specs.Inside.{by_name, unknown_in};
 
-use crate::measure::Measure;
+use circus_syntax::TypeName;
+use circus_type::{Measure, TypeNames};
 use circus_value::{Duplicate, NoMemory, Shape};
 use std::alloc::Global;
 use std::collections::BTreeMap;
@@ -44,7 +46,7 @@ impl<'a> Types<'a> {
     }
 
     /// The size of the type of this name, or that of BOOLEAN where there is none.
-    pub fn measure(&self, name: &[u8]) -> Measure
+    pub fn measured(&self, name: &[u8]) -> Measure
         ensures { result ≡ type_measure self.now name.now }
     {
         match self.table.get(name) {
@@ -54,7 +56,7 @@ impl<'a> Types<'a> {
     }
 
     /// A copy of the shape of this name, or BOOLEAN where there is none.
-    pub fn shape(&self, name: &[u8]) -> Result<Shape, NoMemory>
+    pub fn shaped(&self, name: &[u8]) -> Result<Shape, NoMemory>
         ensures { IfOk result (λ shape. tree_of shape ≡ type_form self.now name.now) }
     {
         let Some(known) = self.table.get(name) else {
@@ -79,5 +81,29 @@ impl<'a> Types<'a> {
     {
         self.table.insert(name, KnownType { measure, shape })?;
         Ok(())
+    }
+}
+
+impl<'a> TypeNames for Types<'a> {
+    ghost unknown = { λ types. unknown_in (is_known types) };
+
+    ghost sizes = { λ types. by_name (type_measure types) };
+
+    ghost forms = { λ types. by_name (type_form types) };
+
+    fn unknown(&self, name: &TypeName) -> Option<u32> {
+        match &name.module {
+            None if self.has(name.name.name.as_slice()) => None,
+            None => Some(name.name.at),
+            Some(module) => Some(module.at),
+        }
+    }
+
+    fn measure(&self, name: &TypeName) -> Measure {
+        self.measured(name.name.name.as_slice())
+    }
+
+    fn shape(&self, name: &TypeName) -> Result<Shape, NoMemory> {
+        self.shaped(name.name.name.as_slice())
     }
 }

@@ -8,7 +8,8 @@ use Rattle.circus_value.specs.ShapeTree.{ShapeTree, FieldTrees, ArmTrees, FieldT
 use Rattle.circus_idl.specs.declared.interface.Interface.{Interface}
 use Rattle.circus_idl.specs.declared.interface.Procedure.{Procedure}
 use Rattle.circus_idl.specs.declared.interface.DeclaredError.{DeclaredError}
-use Rattle.circus_idl.specs.Obeys.{Obeys, ObeysInside, ObeyFields, ObeyArmTypes, ObeyLabels, arm_names, arm_numbers}
+use Rattle.circus_idl.specs.Obeys.{Obeys}
+use Rattle.circus_type.specs.Obeys.{ObeysInside, ObeyFields, ObeyArmTypes, ObeyLabels, arm_names, arm_numbers}
 use Rattle.circus_idl.proofs.ObeysParts.{FieldsObey, ErrorObeys, ProcedureObeys, parts_obey, fields_obey}
 use Rattle.circus_external.specs.Refusal.{is_proper, are_proper, arms_are_proper, has_arm}
 use Rattle.circus_value.specs.Among.{is_among}

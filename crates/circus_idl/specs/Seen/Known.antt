@@ -6,10 +6,10 @@ use Rattle.std.specs.BTreeMap.{get_by}
 use Rattle.circus_value.specs.declared.shape.Shape.{Shape}
 use Rattle.circus_value.specs.ShapeTree.{ShapeTree, boolean}
 use Rattle.circus_value.specs.ShapeOf.{tree_of}
-use Rattle.circus_idl.specs.declared.measure.Measure.{Measure}
+use Rattle.circus_type.specs.declared.measuring.Measure.{Measure}
 use Rattle.circus_idl.specs.declared.types.KnownType.{KnownType}
 use Rattle.circus_idl.specs.declared.types.Types.{Types}
-use Rattle.circus_idl.specs.Seen.Measured.{measure_of}
+use Rattle.circus_type.specs.Seen.Measured.{measure_of}
 
 -- the type that a name stands for
 abbrev pub type_named : Types → List ℕ → Option KnownType

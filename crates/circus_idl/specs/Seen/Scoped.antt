@@ -1,6 +1,6 @@
 -- What the tables of a scope say.
 use Rattle.circus_fault.specs.Seen.Tables.{known_of, holds_name, holds_number}
-use Rattle.circus_idl.specs.declared.measure.Measure.{Measure}
+use Rattle.circus_type.specs.declared.measuring.Measure.{Measure}
 use Rattle.circus_idl.specs.declared.scope.Scope.{Scope}
 use Rattle.circus_idl.specs.Seen.Known.{is_known, type_measure}
 use Rattle.circus_idl.specs.Faults.{Before, Cut}

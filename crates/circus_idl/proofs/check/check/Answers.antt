@@ -3,7 +3,7 @@ use Rattle.circus_syntax.specs.InterfaceTree.{declared_of, interface_of}
 use Rattle.circus_fault.specs.Seen.Tables.{known_of}
 use Rattle.circus_fault.proofs.LeastIs.{no_least}
 use Rattle.circus_idl.specs.Rank.{rank_of}
-use Rattle.circus_idl.specs.declared.measure.Measure.{Measure}
+use Rattle.circus_type.specs.declared.measuring.Measure.{Measure}
 use Rattle.circus_idl.specs.Seen.Known.{type_form}
 use Rattle.circus_idl.specs.Seen.Drafted.{drafted}
 use Rattle.circus_idl.specs.Faults.{Before, read_faults}

@@ -9,8 +9,8 @@ use Rattle.circus_idl.specs.Seen.Scoped.{before_of, cut_in}
 use Rattle.circus_idl.specs.Seen.Drafted.{drafted}
 use Rattle.circus_idl.specs.Faults.{behind, declared_faults, declarations_faults}
 use Rattle.circus_idl.specs.Means.{and_then, declared_meant, declarations_meant, forms_behind}
-use Rattle.circus_idl.specs.Seen.Measured.{cut_off}
-use Rattle.circus_idl.proofs.Dropped.{drop_more}
+use Rattle.circus_type.specs.Seen.Measured.{cut_off}
+use Rattle.circus_type.proofs.Dropped.{drop_more}
 use Rattle.circus_idl.proofs.DraftMore.{by_none, holds_of_none, none_before, meant_step}
 use Rattle.circus_idl.proofs.check.declare_all.Goals as goal
 

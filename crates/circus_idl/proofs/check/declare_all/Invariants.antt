@@ -9,7 +9,7 @@ use Rattle.circus_idl.specs.Seen.Scoped.{before_of, cut_in}
 use Rattle.circus_idl.specs.Seen.Drafted.{drafted}
 use Rattle.circus_idl.specs.Faults.{declarations_faults}
 use Rattle.circus_idl.specs.Means.{and_then, declarations_meant}
-use Rattle.circus_idl.specs.Seen.Measured.{cut_off}
+use Rattle.circus_type.specs.Seen.Measured.{cut_off}
 use Rattle.circus_idl.proofs.check.declare_all.Given as goal
 
 -- the declarations that are left decide with what is kept

@@ -5,8 +5,9 @@ use Rattle.circus_fault.specs.Least.{least_from}
 use Rattle.circus_fault.proofs.LeastMore.{least_more}
 use Rattle.circus_idl.specs.Rank.{rank_of}
 use Rattle.circus_idl.specs.Seen.Known.{is_known}
-use Rattle.circus_idl.specs.Inside.{repeated_names, no_name, group_names, inside_groups}
-use Rattle.circus_idl.proofs.ScopeMore.{clean_is, none_result}
+use Rattle.circus_idl.specs.Inside.{repeated_names, inside_groups}
+use Rattle.circus_type.specs.Inside.{no_name, group_names}
+use Rattle.circus_type.proofs.LeastMore.{clean_is, none_result}
 use Rattle.circus_idl.proofs.scope.are_clean.Goals as goal
 
 pub returns : goal.returns
@@ -16,4 +17,4 @@ returns c =
     let types = inside_groups (is_known c.args.types.now) groups in
     none_result c.is_none.result _ c.is_none.ensures
     ∙ ap is_none (c.in_ok-inside_groups.ensures ∙ ap (λ b. least_from rank_of b types) c.in_ok-field_names.ensures ∙ sym (least_more rank_of None names types))
-    ∙ clean_is _
+    ∙ clean_is rank_of _

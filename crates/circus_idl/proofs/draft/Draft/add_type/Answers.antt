@@ -17,11 +17,11 @@ returns-in_ok-push-clause-meant c =
     let fault = c.declared_type.new.self.best.fault in
     let none : fault ≡ None = none_from fault (c.is_none.ensures ∙ ap not c.if-is_none.true) in
     let formed = holds_of_none fault (type_form c.declared_type.new.self.types ≡ standing_for name s form) none c.in_ok-declared_type.ensures.formed in
-    let shaped : shapes.tree_of c.in_ok-shape.field-0 ≡ s =
-    c.in_ok-shape.ensures ∙ ap (λ n. type_form c.declared_type.new.self.types n) c.as_slice.ensures ∙ ap (λ f. f name) formed ∙ standing_here name s form in
+    let shaped : shapes.tree_of c.in_ok-shaped.field-0 ≡ s =
+    c.in_ok-shaped.ensures ∙ ap (λ n. type_form c.declared_type.new.self.types n) c.as_slice.ensures ∙ ap (λ f. f name) formed ∙ standing_here name s form in
     holds_anyway fault _
     (λ i. record {
-      types = (ap (map named_shape) c.in_ok-push.ensures.ok ∙ types_more c.args.self.now.types (record { name = c.in_ok-copy.field-0; shape = c.in_ok-shape.field-0 }) name s c.in_ok-copy.ensures shaped) i;
+      types = (ap (map named_shape) c.in_ok-push.ensures.ok ∙ types_more c.args.self.now.types (record { name = c.in_ok-copy.field-0; shape = c.in_ok-shaped.field-0 }) name s c.in_ok-copy.ensures shaped) i;
       errors = sym (append-nil c.args.self.now.errors) i;
       procedures = sym (append-nil c.args.self.now.procedures) i;
     })

@@ -4,10 +4,11 @@ use Rattle.circus_fault.specs.Least.{least_from}
 use Rattle.circus_fault.proofs.LeastMore.{least_more}
 use Rattle.circus_idl.specs.Rank.{rank_of}
 use Rattle.circus_idl.specs.Seen.Known.{is_known, type_measure}
-use Rattle.circus_idl.specs.Inside.{repeated_names, no_name, group_names}
+use Rattle.circus_idl.specs.Inside.{repeated_names}
+use Rattle.circus_type.specs.Inside.{no_name, group_names}
 use Rattle.circus_idl.specs.Seen.Scoped.{cut_in}
 use Rattle.circus_idl.specs.Faults.{groups_faults, fields_faults}
-use Rattle.circus_idl.specs.Seen.Measured.{cut_off}
+use Rattle.circus_type.specs.Seen.Measured.{cut_off}
 use Rattle.circus_idl.proofs.scope.Scope.fields.Goals as goal
 
 pub returns-in_ok-groups-clause-found : goal.returns-in_ok-groups-clause-found

@@ -5,8 +5,8 @@ use Rattle.circus_fault.specs.Least.{least_from}
 use Rattle.circus_idl.specs.Rank.{rank_of}
 use Rattle.circus_idl.specs.Seen.Known.{type_measure}
 use Rattle.circus_idl.specs.Faults.{groups_parts}
-use Rattle.circus_idl.specs.Seen.Measured.{cut_off}
-use Rattle.circus_idl.proofs.Dropped.{drop_more}
+use Rattle.circus_type.specs.Seen.Measured.{cut_off}
+use Rattle.circus_type.proofs.Dropped.{drop_more}
 use Rattle.circus_idl.proofs.ScopeMore.{found_by, groups_step, counted_step, keeps_step}
 use Rattle.circus_idl.proofs.scope.Scope.groups.Goals as goal
 

@@ -6,7 +6,7 @@ use Rattle.circus_idl.specs.Rank.{rank_of}
 use Rattle.circus_idl.specs.Seen.Known.{is_known, type_measure}
 use Rattle.circus_idl.specs.Seen.Scoped.{cut_in}
 use Rattle.circus_idl.specs.Faults.{groups_faults, groups_parts}
-use Rattle.circus_idl.specs.Seen.Measured.{cut_off}
+use Rattle.circus_type.specs.Seen.Measured.{cut_off}
 use Rattle.circus_idl.proofs.scope.Scope.groups.Given as goal
 
 -- the groups that are left decide with what is kept

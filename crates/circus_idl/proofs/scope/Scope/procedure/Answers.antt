@@ -10,7 +10,7 @@ use Rattle.circus_idl.specs.Seen.Known.{is_known, type_measure}
 use Rattle.circus_idl.specs.Seen.Scoped.{before_of, cut_in}
 use Rattle.circus_idl.specs.Inside.{repeated_name, repeated_number, above}
 use Rattle.circus_idl.specs.Faults.{together_faults, fields_faults, fields_parts, reports_faults}
-use Rattle.circus_idl.specs.Seen.Measured.{cut_off}
+use Rattle.circus_type.specs.Seen.Measured.{cut_off}
 use Rattle.circus_idl.proofs.scope.Scope.procedure.Goals as goal
 
 pub returns-clause-found : goal.returns-clause-found

@@ -1,7 +1,0 @@
-use Rattle.std.proofs.Common.{◌≡◌, ◌++◌, drop, map}
-use Rattle.circus_idl.specs.Meaning.{label_meant}
-use Rattle.circus_idl.proofs.written.labels.Given as goal
-
--- the labels that are left follow those that are written
-abbrev pub invariant-loop-label : goal.invariant-loop-label
-invariant-loop-label l = l.labels ++ map label_meant (drop l.label-index l.list) ≡ map label_meant l.list

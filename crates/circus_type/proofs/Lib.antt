@@ -1,0 +1,8 @@
+mod TypeItems
+pub mod Dropped
+pub mod Items
+pub mod LeastMore
+pub mod Sizes
+pub mod NoFaults
+pub mod InsideObeys
+pub mod WholeTypes

@@ -1,0 +1,10 @@
+pub mod Limits
+pub mod Distinct
+pub mod Inside
+pub mod Meaning
+pub mod Written
+pub mod Together
+pub mod Scale
+pub mod Whole
+pub mod Obeys
+pub mod Seen

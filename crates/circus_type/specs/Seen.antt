@@ -1,0 +1,2 @@
+-- How code is seen: sizes that stop above their limits.
+pub mod Measured

@@ -1,0 +1,108 @@
+// The shapes that types mean, with every name written out.
+ghost use Rattle.std.specs.Prelude.{◌≡◌, ◌++◌, map, IfOk, OnOk};
+ghost use Rattle.circus_value.specs.ShapeOf as shapes;
+ghost use Rattle.circus_syntax.specs.TypeOf.{tree_of, group_of, arm_of};
+ghost use Rattle.circus_syntax.specs.TypeTree.{group_trees, arm_trees};
+ghost use Rattle.circus_type.specs.Meaning as meant;
+
+use crate::TypeNames;
+use crate::measuring::word;
+use circus_syntax::{ArmText, GroupText, LabelText, Named, Numeral, TypeKind, TypeText};
+use circus_value::{Arm, Arms, Duplicate, Element, Field, Fields, Label, Labels, NoMemory, Shape};
+use std::alloc::Global;
+
+/// The shape that a type means.
+#[cycle(written)]
+pub fn written<N: TypeNames>(alloc: Global, names: &N, shape: &TypeText) -> Result<Shape, NoMemory>
+    ensures { IfOk result (λ s. shapes.tree_of s ≡ meant.written (N.forms names.now) (tree_of shape.now)) }
+{
+    Ok(match &shape.kind {
+        TypeKind::Boolean => Shape::Boolean,
+        TypeKind::Cardinal => Shape::Cardinal,
+        TypeKind::LongCardinal => Shape::LongCardinal,
+        TypeKind::Integer => Shape::Integer,
+        TypeKind::LongInteger => Shape::LongInteger,
+        TypeKind::Text => Shape::Text,
+        TypeKind::Enumeration(list) => Shape::Enumeration(labels(alloc, list.as_slice())?),
+        TypeKind::Array(len, element) => {
+            let items = written(alloc, names, element.shape())?;
+            Shape::Array(word(*len), Element::new(alloc, items)?)
+        }
+        TypeKind::Sequence(bound, element) => {
+            let items = written(alloc, names, element.shape())?;
+            Shape::Sequence(bound_of(bound), Element::new(alloc, items)?)
+        }
+        TypeKind::Record(groups) => {
+            Shape::Record(written_groups(alloc, names, groups.as_slice())?)
+        }
+        TypeKind::Choice(arms) => Shape::Choice(written_arms(alloc, names, arms.as_slice())?),
+        TypeKind::Called(name) => names.shape(name)?,
+    })
+}
+
+fn bound_of(bound: &Option<Numeral>) -> u16
+    ensures { result ≡ meant.bound_of bound.now }
+{
+    match bound {
+        Some(bound) => word(*bound),
+        None => u16::MAX,
+    }
+}
+
+fn labels(alloc: Global, list: &[LabelText]) -> Result<Labels, NoMemory>
+    ensures { IfOk result (λ labels. labels ≡ map meant.label_meant list.now) }
+{
+    let mut labels = Labels::new(alloc);
+    for label in list {
+        labels.push(Label {
+            name: label.name.name.copy()?,
+            number: word(label.number),
+        })?;
+    }
+    Ok(labels)
+}
+
+// Adds a field of this shape for each of the names.
+fn push_fields(fields: &mut Fields, names: &[Named], shape: &Shape) -> Result<(), NoMemory>
+    ensures { OnOk result (fields.new ≡ fields.old ++ meant.fields_named names.now (shapes.tree_of shape.now)) }
+{
+    for name in names {
+        fields.push(Field {
+            name: name.name.copy()?,
+            shape: shape.copy()?,
+        })?;
+    }
+    Ok(())
+}
+
+/// Fields in the order of their names.
+#[cycle(written)]
+pub fn written_groups<N: TypeNames>(
+    alloc: Global,
+    names: &N,
+    groups: &[GroupText],
+) -> Result<Fields, NoMemory>
+    ensures { IfOk result (λ fields. fields ≡ meant.written_groups (N.forms names.now) (group_trees (map group_of groups.now))) }
+{
+    let mut fields = Fields::new(alloc);
+    for group in groups {
+        let shape = written(alloc, names, &group.shape)?;
+        push_fields(&mut fields, group.names.as_slice(), &shape)?;
+    }
+    Ok(fields)
+}
+
+#[cycle(written)]
+fn written_arms<N: TypeNames>(alloc: Global, names: &N, arms: &[ArmText]) -> Result<Arms, NoMemory>
+    ensures { IfOk result (λ list. list ≡ meant.written_arms (N.forms names.now) (arm_trees (map arm_of arms.now))) }
+{
+    let mut list = Arms::new(alloc);
+    for arm in arms {
+        list.push(Arm {
+            name: arm.name.name.copy()?,
+            number: word(arm.number),
+            shape: written(alloc, names, &arm.shape)?,
+        })?;
+    }
+    Ok(list)
+}
