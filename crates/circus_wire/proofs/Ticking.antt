@@ -1,7 +1,7 @@
 -- Ticks that come to one pair after another.
 use Rattle.std.proofs.Common.{◌≡◌, ℕ, zero, suc, ◌+◌, ◌<◌, List, [], ◌∷◌, ◌++◌, length, take, drop, refl, sym, ap, ◌∙◌, arith, add-one}
 use Rattle.std.specs.Prelude.{slice_get, map, option_map}
-use Rattle.circus_wire.specs.Wire.{PeerState, WireState, changed_at, peer_ticked, all_ticked, given_below, of_peer, node_at}
+use Rattle.circus_wire.specs.Wire.{PeerState, WireState, changed_at, peer_ticked, given_below, of_peer, node_at}
 
 module _ {X : Type 0} (f : X → X) where
   -- a list of which the items below a place have changed
@@ -22,16 +22,6 @@ module _ {X : Type 0} (f : X → X) where
   not_yet (x ∷ xs) zero less = refl
   not_yet (x ∷ xs) (suc n) less = not_yet xs n (omega arith)
 
-  pub length_upto : (xs : List X) (n : ℕ) → length (upto xs n) ≡ length xs
-  length_upto [] zero = refl
-  length_upto [] (suc n) = refl
-  length_upto (x ∷ xs) zero = refl
-  length_upto (x ∷ xs) (suc n) = ap suc (length_upto xs n)
-
-  pub all_upto : (xs : List X) → upto xs (length xs) ≡ map f xs
-  all_upto [] = refl
-  all_upto (x ∷ xs) = ap (λ ys. f x ∷ ys) (all_upto xs)
-
   pub get_map : (xs : List X) (n : ℕ) → slice_get (map f xs) n ≡ option_map f (slice_get xs n)
   get_map [] n = refl
   get_map (x ∷ xs) zero = refl
@@ -43,9 +33,6 @@ module _ {P : Type 0} where
 
   pub tick_more : (w : WireState P) (n : ℕ) → n < length w.peers → ◌≡◌ {A = WireState P} (record (ticked_upto w n) { peers = changed_at peer_ticked (ticked_upto w n).peers n }) (ticked_upto w (n + 1))
   tick_more w n less = ap (λ (ps : List (PeerState P)). let x : WireState P = record w { peers = ps } in x) (one_more peer_ticked w.peers n less)
-
-  pub tick_whole : (w : WireState P) (n : ℕ) → n ≡ length w.peers → ticked_upto w n ≡ all_ticked w
-  tick_whole w n at = ap (ticked_upto w) at ∙ ap (λ (ps : List (PeerState P)). let x : WireState P = record w { peers = ps } in x) (all_upto peer_ticked w.peers)
 
   pub given_more : {X : Type 0} (given : ℕ → PeerState P → List X) (w : WireState P) (n : ℕ) → n < length w.peers → given_below given w n ++ of_peer [] (given (node_at w.own n)) (slice_get (ticked_upto w n).peers n) ≡ given_below given w (n + 1)
   unfolding given_below
