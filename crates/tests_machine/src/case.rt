@@ -47,7 +47,7 @@ pub(crate) const DONE: End = End::Returns(&[]);
 /// What is given becomes the first variable, and there are no results.
 pub(crate) const TO_FIRST: [Piece; 3] = [Piece::Place(0), Piece::Assign, Piece::Return(0)];
 
-fn outcome(alloc: Global, end: &End) -> Result<Outcome, NoMemory> {
+pub(crate) fn outcome(alloc: Global, end: &End) -> Result<Outcome, NoMemory> {
     Ok(match end {
         End::Returns(results) => Outcome::Returned(values(alloc, results)?),
         End::Raises(error, data) => Outcome::Raised(*error, values(alloc, data)?),

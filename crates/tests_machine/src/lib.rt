@@ -2,6 +2,8 @@
 //!
 //! `values` makes values of a list of pieces, and `bodies` bodies; `case` runs a body and compares what comes of it with
 //! what a row says. The rows stand in `calculations`, `conditions`, `places`, `statements`, `limits` and `calls`.
+//! `histories` runs programs alone: `vault` and `wheel` have their modules, made of `pieces` of which the trees are known, so
+//! that their bodies are well formed. `sums` has the greatest sum of the `tally`.
 #![tactic(auto)]
 
 #[cfg(test)]
@@ -15,10 +17,18 @@ mod case;
 #[cfg(test)]
 mod conditions;
 #[cfg(test)]
+mod histories;
+#[cfg(test)]
 mod limits;
+mod pieces;
 #[cfg(test)]
 mod places;
 #[cfg(test)]
 mod statements;
 #[cfg(test)]
+mod sums;
+mod tally;
+#[cfg(test)]
 mod values;
+mod vault;
+mod wheel;

@@ -1,0 +1,4 @@
+mod Agreeing
+mod OfVault
+mod OfWheel
+mod Typing
