@@ -5,7 +5,7 @@ use Rattle.std.proofs.lemmas.Grind.{common_steps}
 use Rattle.std.specs.Prelude.{◌==◌}
 use Rattle.std.proofs.lemmas.List.{length-map}
 use Rattle.std.proofs.lemmas.List.Sums.{sum_by-cons}
-use Rattle.circus_value.specs.ShapeTree.{ShapeTree, FieldTrees, ArmTrees, FieldTree, field_trees, arm_trees, no_arms, more_arms}
+use Rattle.circus_value.specs.ShapeTree.{ShapeTree, FieldTrees, ArmTrees, FieldTree, more_fields, field_trees, arm_trees, no_arms, more_arms}
 use Rattle.circus_value.specs.ShapeTree as shape
 use Rattle.circus_value.specs.ValueTree.{ValueTree}
 use Rattle.circus_value.specs.ExternalSize.{external_size, external_sizes}
@@ -17,20 +17,7 @@ use Rattle.circus_type.specs.declared.measuring.Measure.{Measure}
 use Rattle.circus_type.specs.Written.{parts, field_parts, arm_parts, levels, field_levels, arm_levels, zero_size, zero_value, zero_values, copies}
 use Rattle.circus_type.specs.Together.{shapes_of, zero_size_of}
 use Rattle.circus_type.specs.Meaning.{word_of, bound_of, label_meant, fields_named, written, written_groups, written_arms}
-use Rattle.circus_type.specs.Seen.Measured.{measure, measure_of, items_measure, sequence_measure, group_measure, arm_measure, record_measure, choice_measure, measured, measured_groups, measured_arms}
-
--- the size of fields together
-abbrev pub fields_measure : FieldTrees → Measure
-fields_measure fs = measure (field_parts fs) (field_levels fs) (external_sizes (zero_values fs))
-
--- the bytes of the zero value of the first arm
-abbrev pub first_zero : ArmTrees → ℕ
-first_zero no_arms = 0
-first_zero (more_arms _ _ s _) = zero_size s
-
--- the size of arms
-abbrev pub arms_measure : ArmTrees → Measure
-arms_measure arms = measure (arm_parts arms) (arm_levels arms) (first_zero arms)
+use Rattle.circus_type.specs.Seen.Measured.{measure, measure_of, fields_measure, arms_measure, items_measure, sequence_measure, group_measure, arm_measure, record_measure, choice_measure, measured, measured_groups, measured_arms}
 
 copies_size : (n : ℕ) (v : ValueTree) → external_sizes (copies n v) ≡ n * external_size v
 copies_size zero v = omega arith
@@ -98,23 +85,27 @@ group_is ns s rest =
     (group_levels ns s rest)
     (stopped_zeros (length ns) (zero_size s) (external_sizes (zero_values (field_trees rest))) ∙ ap (λ z. min z 65537) (sym (named_zeros ns s rest)))
 
-arm_is : (name : List ℕ) (number : ℕ) (s : ShapeTree) (arms : ArmTrees) → arm_measure (measure_of s) (arms_measure arms) ≡ arms_measure (more_arms name number s arms)
+-- one field before others
+pub field_is : (name : List ℕ) (s : ShapeTree) (rest : FieldTrees) → group_measure 1 (measure_of s) (fields_measure rest) ≡ fields_measure (more_fields name s rest)
+field_is name s rest = same_measure _ _ _ _ _ _ (omega arith) (omega arith) (omega arith)
+
+pub arm_is : (name : List ℕ) (number : ℕ) (s : ShapeTree) (arms : ArmTrees) → arm_measure (measure_of s) (arms_measure arms) ≡ arms_measure (more_arms name number s arms)
 arm_is name number s arms = same_measure _ _ _ _ _ _ (omega arith) (omega arith) (stopped_again 65537 (zero_size s))
 
-items_are : (n : ℕ) (s : ShapeTree) → items_measure n (measure_of s) ≡ measure_of (shape.array n s)
+pub items_are : (n : ℕ) (s : ShapeTree) → items_measure n (measure_of s) ≡ measure_of (shape.array n s)
 items_are n s =
     same_measure _ _ _ _ _ _ (stopped_more 16385 1 (parts s)) (stopped_more 65 1 (levels s))
     (stopped_times 65537 n (zero_size s) ∙ ap (λ z. min z 65537) (sym (copies_size n (zero_value s))))
 
-sequence_is : (n : ℕ) (s : ShapeTree) → sequence_measure (measure_of s) ≡ measure_of (shape.sequence n s)
+pub sequence_is : (n : ℕ) (s : ShapeTree) → sequence_measure (measure_of s) ≡ measure_of (shape.sequence n s)
 sequence_is n s = same_measure _ _ _ _ 2 2 (stopped_more 16385 1 (parts s)) (stopped_more 65 1 (levels s)) refl
 
-record_is : (fs : FieldTrees) → record_measure (fields_measure fs) ≡ measure_of (shape.«record» fs)
+pub record_is : (fs : FieldTrees) → record_measure (fields_measure fs) ≡ measure_of (shape.«record» fs)
 record_is fs =
     same_measure _ _ _ _ _ _ (stopped_more 16385 1 (field_parts fs)) (stopped_more 65 1 (field_levels fs))
     (stopped_again 65537 (external_sizes (zero_values fs)))
 
-choice_is : (arms : ArmTrees) → choice_measure (arms_measure arms) ≡ measure_of (shape.choice arms)
+pub choice_is : (arms : ArmTrees) → choice_measure (arms_measure arms) ≡ measure_of (shape.choice arms)
 choice_is no_arms = refl
 choice_is (more_arms name number s arms) =
     same_measure _ _ _ _ _ _ (stopped_more 16385 1 (arm_parts (more_arms name number s arms))) (stopped_more 65 1 (arm_levels (more_arms name number s arms)))

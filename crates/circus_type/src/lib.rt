@@ -20,7 +20,7 @@ pub use cause::{TypeCause, WithTypeCauses};
 pub use inner::{field_names, inside, inside_groups};
 pub use laws::{faultless_obeys, sizes_are_cut_off};
 pub use limits::{GREATEST_WORD, MOST_PARTS, MOST_ZERO_BYTES};
-pub use measuring::{Measure, measured, measured_groups, word};
+pub use measuring::{Measure, measured, measured_groups, shape_measure, word};
 pub use names::{meet_name, meet_number, note_above};
 pub use type_names::TypeNames;
 pub use wholes::whole;

@@ -1,5 +1,7 @@
 // How large a type is when it is written out, with numbers that stop above their limits.
 ghost use Rattle.std.specs.Prelude.{◌≡◌, map};
+ghost use Rattle.circus_value.specs.ShapeOf as shapes;
+ghost use Rattle.circus_value.specs.ShapeTree as shape;
 ghost use Rattle.circus_syntax.specs.TypeOf.{tree_of, group_of, arm_of};
 ghost use Rattle.circus_syntax.specs.TypeTree.{group_trees, arm_trees};
 ghost use Rattle.circus_type.specs.Meaning as meant;
@@ -8,6 +10,7 @@ ghost use Rattle.circus_type.specs.Seen.Measured as size;
 use crate::TypeNames;
 use crate::limits::{GREATEST_WORD, MOST_PARTS, MOST_ZERO_BYTES};
 use circus_syntax::{ArmText, GroupText, MOST_LEVELS, Numeral, TypeKind, TypeText};
+use circus_value::{Arm, Field, Shape};
 
 /// The size of a type, each number up to one above its limit.
 #[derive(Clone, Copy, Debug, PartialEq, Eq)]
@@ -21,6 +24,7 @@ pub struct Measure {
 }
 
 impl Measure {
+    /// These numbers, each up to one above its limit.
     pub fn new(parts: u64, levels: u64, zeros: u64) -> Self
         ensures { result ≡ size.measure parts levels zeros }
     {
@@ -157,6 +161,53 @@ fn measured_arms<N: TypeNames>(names: &N, arms: &[ArmText]) -> Measure
         place -= 1;
         let arm = &arms[place];
         size = measured(names, &arm.shape).arm(size);
+    }
+    size
+}
+
+/// The size of a shape.
+#[cycle(shaped)]
+#[tactic(auto, using(crate::proofs::Sizes::items_are, crate::proofs::Sizes::sequence_is, crate::proofs::Sizes::record_is, crate::proofs::Sizes::choice_is))]
+pub fn shape_measure(shape: &Shape) -> Measure
+    ensures { result ≡ size.measure_of (shapes.tree_of shape.now) }
+{
+    match shape {
+        Shape::LongCardinal | Shape::LongInteger => Measure::new(1, 0, 4),
+        Shape::Enumeration(labels) => Measure::new((labels.len() as u64).saturating_add(1), 0, 2),
+        Shape::Array(len, element) => shape_measure(element.shape()).items(*len),
+        Shape::Sequence(_, element) => shape_measure(element.shape()).sequence(),
+        Shape::Record(fields) => fields_measure(fields.as_slice()).of_record(),
+        Shape::Choice(arms) => arms_measure(arms.as_slice()).of_choice(),
+        _ => Measure::new(1, 0, 2),
+    }
+}
+
+// The size of fields together.
+#[cycle(shaped)]
+#[tactic(auto, using(crate::proofs::Sizes::field_is))]
+fn fields_measure(fields: &[Field]) -> Measure
+    ensures { result ≡ size.fields_measure (shape.field_trees (map shapes.field_of fields.now)) }
+{
+    let mut size = Measure::new(0, 0, 0);
+    let mut place = fields.len();
+    while place > 0 {
+        place -= 1;
+        size = shape_measure(&fields[place].shape).fields(1, size);
+    }
+    size
+}
+
+// The size of arms.
+#[cycle(shaped)]
+#[tactic(auto, using(crate::proofs::Sizes::arm_is))]
+fn arms_measure(arms: &[Arm]) -> Measure
+    ensures { result ≡ size.arms_measure (shape.arm_trees (map shapes.arm_of arms.now)) }
+{
+    let mut size = Measure::new(0, 0, 0);
+    let mut place = arms.len();
+    while place > 0 {
+        place -= 1;
+        size = shape_measure(&arms[place].shape).arm(size);
     }
     size
 }

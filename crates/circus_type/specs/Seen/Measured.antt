@@ -1,13 +1,14 @@
 -- How large a type is, with numbers that stop above their limits.
 use Rattle.std.specs.Prelude.{ℕ, ◌+◌, ◌*◌, min, max, cond, Bool, ◌==◌, ◌||◌, nat_lt, length}
-use Rattle.circus_value.specs.ShapeTree.{ShapeTree}
+use Rattle.circus_value.specs.ExternalSize.{external_sizes}
+use Rattle.circus_value.specs.ShapeTree.{ShapeTree, FieldTrees}
 use Rattle.circus_value.specs.ShapeTree as shape
 use Rattle.circus_syntax.specs.TypeTree.{TypeTree, GroupTrees, ArmTrees, boolean, cardinal, long_cardinal, integer, long_integer, text, enumeration, array, sequence, «record», choice, called, no_groups, more_groups, no_arms, more_arms}
 use Rattle.circus_syntax.specs.declared.named.TypeName.{TypeName}
 use Rattle.circus_syntax.specs.Spelling.{most_levels}
 use Rattle.circus_type.specs.declared.measuring.Measure.{Measure}
 use Rattle.circus_type.specs.Limits.{most_parts, most_zero_bytes}
-use Rattle.circus_type.specs.Written.{parts, levels, zero_size}
+use Rattle.circus_type.specs.Written.{parts, field_parts, arm_parts, levels, field_levels, arm_levels, zero_values, zero_size}
 use Rattle.circus_type.specs.Meaning.{word_of}
 use Rattle.circus_type.specs.Scale.{Scale}
 
@@ -18,6 +19,19 @@ measure p l z = record { parts = min p (1 + most_parts); levels = min l (1 + mos
 -- the size of a shape
 abbrev pub measure_of : ShapeTree → Measure
 measure_of s = measure (parts s) (levels s) (zero_size s)
+
+-- the size of fields together
+abbrev pub fields_measure : FieldTrees → Measure
+fields_measure fs = measure (field_parts fs) (field_levels fs) (external_sizes (zero_values fs))
+
+-- the bytes of the zero value of the first arm
+abbrev pub first_zero : shape.ArmTrees → ℕ
+first_zero shape.no_arms = 0
+first_zero (shape.more_arms _ _ s _) = zero_size s
+
+-- the size of arms
+abbrev pub arms_measure : shape.ArmTrees → Measure
+arms_measure arms = measure (arm_parts arms) (arm_levels arms) (first_zero arms)
 
 -- so many items of this size
 abbrev pub items_measure : ℕ → Measure → Measure
