@@ -24,7 +24,7 @@ use Rattle.circus_wire.specs.Wire.{PeerState, WireState, Beginning, IsOther, of_
 use Rattle.circus_wire.specs.WireActs.{WireAct, WireActs, begun, followed_by, CallTo, AnswerTo, CameFrom, TickAll, StopOf, act_at, acts_at, awaits_after, made_to, purpose_of, purpose_kept}
 use Rattle.circus_wire.specs.WireStanding.{pair_of, PeerStands, WireStands, outputs_for, owed_to, sent_in, arrived_from}
 use Rattle.circus_wire.proofs.Changing.{peer_is}
-use Rattle.circus_wire.proofs.Hearing.{unmade_unreturned, returned_now}
+use Rattle.circus_wire.proofs.Hearing.{unmade_unreturned, unreturned_before, returned_now}
 use Rattle.circus_wire.proofs.Owing.{found_stands}
 use Rattle.circus_wire.proofs.Performing.{other_peer}
 use Rattle.circus_wire.proofs.Standing.{down_is}
@@ -187,6 +187,9 @@ module _ {P : Type 0} where
           let no_ : has_arrived (taken_by (pair_of b) (more (acts_at (pair_of b) from acts) (Came s))) 1 n ≡ false = unmade_unreturned b.first b.format (more (acts_at (pair_of b) from acts) (Came s)) n (lawful, segment) at in
           let yes_ : has_arrived (taken_by (pair_of b) (more (acts_at (pair_of b) from acts) (Came s))) 1 n ≡ true = returned_now b.first b.format (acts_at (pair_of b) from acts) s n m lawful segment h in
           cc)
+
+  pub still_kept : (b : Beginning) (acts : WireActs P) (from n : ℕ) (s : Piece) (m : List ℕ) → IsSegment s → arrival_after (pair_of b) (acts_at (pair_of b) from acts) s ≡ ArrivedReturn n m → purpose_kept (pair_of b) from acts n ≡ purpose_of (pair_of b) from acts n
+  still_kept b acts from n s m segment h = ap (λ x. cond x None (purpose_of (pair_of b) from acts n)) (unreturned_before b.first b.format (acts_at (pair_of b) from acts) s n m segment h)
 
   pub return_takes : (b : Beginning) (acts : WireActs P) (from n : ℕ) (s : Piece) (m : List ℕ) → AreLawful b.first b.format (acts_at (pair_of b) from acts) → IsSegment s → arrival_after (pair_of b) (acts_at (pair_of b) from acts) s ≡ ArrivedReturn n m → purpose_kept (pair_of b) from (followed_by acts (CameFrom from s)) n ≡ None
   return_takes b acts from n s m lawful segment h =

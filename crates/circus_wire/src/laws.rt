@@ -36,13 +36,16 @@ pub fn calls_are_numbered<P>()
         → purpose_of (pair_of b) node acts number ≡ Some purpose → purpose_of (pair_of b) node (followed_by acts act) number ≡ Some purpose }
 {}
 
-/// A return that arrives finds the purpose of the call with its number, which is kept no longer then, nor later on
-/// (docs/PROTOCOL.md, "Segments").
+/// A return that arrives finds the purpose of the call with its number, which was kept until then, and is kept no longer
+/// then, nor later on (docs/PROTOCOL.md, "Segments").
 pub fn returns_find_their_purposes<P>()
     ensures found { (b : Beginning) (acts : WireActs P) (from number : ℕ) (s : Piece) (message : List ℕ)
         → AreLawful b.first b.format (acts_at (pair_of b) from acts) → IsSegment s
         → arrival_after (pair_of b) (acts_at (pair_of b) from acts) s ≡ ArrivedReturn number message
         → IsSome (purpose_of (pair_of b) from acts number) }
+    ensures still { (b : Beginning) (acts : WireActs P) (from number : ℕ) (s : Piece) (message : List ℕ) → IsSegment s
+        → arrival_after (pair_of b) (acts_at (pair_of b) from acts) s ≡ ArrivedReturn number message
+        → purpose_kept (pair_of b) from acts number ≡ purpose_of (pair_of b) from acts number }
     ensures kept { (b : Beginning) (acts : WireActs P) (from number : ℕ) (s : Piece) (message : List ℕ)
         → AreLawful b.first b.format (acts_at (pair_of b) from acts) → IsSegment s
         → arrival_after (pair_of b) (acts_at (pair_of b) from acts) s ≡ ArrivedReturn number message
