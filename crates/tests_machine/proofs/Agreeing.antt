@@ -82,3 +82,40 @@ module _ (callee root : Signature) (alone : callee.imports ≡ []) (no_root : ca
       subst (λ s. Agree (record { declared = s; turn = a.turn; first = a.first } ∷ b ∷ [])) (sym one)
       (subst (λ s. Agree (called a.turn b.turn a.first b.first ∷ record { declared = s; turn = b.turn; first = b.first } ∷ [])) (sym other)
       (agrees (called a.turn b.turn a.first b.first ∷ caller a.turn b.turn a.first b.first ∷ []) 1 (links a.turn b.turn a.first b.first)))
+
+-- ---- a module without imports, one that imports it, and a root that imports that one
+
+module _ (callee between root : Signature) (alone : callee.imports ≡ []) (no_root : callee.root ≡ false) (small : callee.limit ≤ most_bytes)
+    (imports : between.imports ≡ record { «module» = 0; procedures = callee.procedures } ∷ []) (no_root_too : between.root ≡ false) (small_too : between.limit ≤ most_bytes)
+    (root_imports : root.imports ≡ record { «module» = 1; procedures = between.procedures } ∷ []) (root_small : root.limit ≤ most_bytes) (root_main : root.procedures ≡ main_alone) where
+  module _ (a b c : Turns) (first second third : List ValueTree) where
+    abbrev lowest : Behaviour
+    lowest = record { declared = callee; turn = a; first = first }
+
+    abbrev middle : Behaviour
+    middle = record { declared = between; turn = b; first = second }
+
+    abbrev highest : Behaviour
+    highest = record { declared = root; turn = c; first = third }
+
+    abbrev all : List Behaviour
+    all = lowest ∷ middle ∷ highest ∷ []
+
+    each_links : (place : ℕ) (m : Behaviour) → IsAt all place m → IsLink all 2 place m
+    each_links zero m is =
+        let same : lowest ≡ m = cc in
+        subst (IsLink all 2 0) same (first_link all 2 lowest alone no_root small)
+    each_links (suc zero) m is =
+        let same : middle ≡ m = cc in
+        subst (IsLink all 2 1) same (next_link all 2 0 lowest middle refl no_root imports small_too (λ is_root. cc))
+    each_links (suc (suc zero)) m is =
+        let same : highest ≡ m = cc in
+        subst (IsLink all 2 2) same (next_link all 2 1 middle highest refl no_root_too root_imports root_small (λ is_root. (refl, root_main)))
+    each_links (suc (suc (suc place))) m is = cc
+
+  pub three_agree : (a b c : Behaviour) → a.declared ≡ callee → b.declared ≡ between → c.declared ≡ root → Agree (a ∷ b ∷ c ∷ [])
+  three_agree a b c one other last =
+      subst (λ s. Agree (record { declared = s; turn = a.turn; first = a.first } ∷ b ∷ c ∷ [])) (sym one)
+      (subst (λ s. Agree (record { declared = callee; turn = a.turn; first = a.first } ∷ record { declared = s; turn = b.turn; first = b.first } ∷ c ∷ [])) (sym other)
+      (subst (λ s. Agree (record { declared = callee; turn = a.turn; first = a.first } ∷ record { declared = between; turn = b.turn; first = b.first } ∷ record { declared = s; turn = c.turn; first = c.first } ∷ [])) (sym last)
+      (agrees (all a.turn b.turn c.turn a.first b.first c.first) 2 (each_links a.turn b.turn c.turn a.first b.first c.first))))

@@ -1,4 +1,5 @@
 mod Agreeing
+mod OfBank
 mod OfVault
 mod OfWheel
 mod Typing

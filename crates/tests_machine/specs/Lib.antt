@@ -1,3 +1,4 @@
 pub mod Pieces
 pub mod Vault
 pub mod Wheel
+pub mod Bank

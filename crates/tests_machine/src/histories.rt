@@ -1,6 +1,7 @@
 // Programs run alone, and their histories compared with what rows say.
+use crate::bank::bank_history;
 use crate::case::{DONE, End, outcome};
-use crate::values::Datum::{Cardinal, LongCardinal};
+use crate::values::Datum::{Array, Cardinal, LongCardinal, Truth};
 use crate::values::{Datum, values};
 use crate::vault::vault_history;
 use crate::wheel::wheel_history;
@@ -222,5 +223,62 @@ const TURNER: [Expected; 1] = [Expected {
 fn a_run_has_a_million_steps(rt: HostRuntime) -> Result<(), Fail> {
     let alloc = rt.alloc();
     assert!(rt; is_history(alloc, &wheel_history(alloc)?, &[&WHEEL, &TURNER])?);
+    Ok(())
+}
+
+// Whether there are so many runs, and the last one ends so, in this state, at this clock.
+fn ends_so(
+    alloc: Global,
+    runs: Option<&Runs>,
+    count: usize,
+    end: &End,
+    state: &[Datum],
+    after: &[u32],
+) -> Result<bool, NoMemory> {
+    let Some(runs) = runs else {
+        return Ok(false);
+    };
+    let Some(run) = runs.as_slice().last() else {
+        return Ok(false);
+    };
+    Ok(
+        runs.len() == count
+            && run.outcome == outcome(alloc, end)?
+            && run.state == values(alloc, state)?
+            && run.end.as_slice() == after,
+    )
+}
+
+// The balances at the end, and that the first one was there.
+const LAST_LEDGER: [Datum; 6] = [
+    LongCardinal(4),
+    LongCardinal(96),
+    LongCardinal(0),
+    LongCardinal(0),
+    Array(4),
+    Truth(true),
+];
+
+const REFUSED: End = End::Raises(1, &[LongCardinal(2)]);
+
+const NOT_PAID: End = End::Returns(&[Truth(false)]);
+
+// 16 of 20 payments of 6 are made of 100.
+#[test]
+fn a_day_passes_at_the_bank(rt: HostRuntime) -> Result<(), Fail> {
+    let alloc = rt.alloc();
+    let all = bank_history(alloc)?;
+    assert!(rt; ends_so(alloc, all.get(0), 20, &REFUSED, &LAST_LEDGER, &[20, 20, 0])?);
+    assert!(rt;
+        ends_so(
+            alloc,
+            all.get(1),
+            20,
+            &NOT_PAID,
+            &[Cardinal(4)],
+            &[20, 20, 0]
+        )?
+    );
+    assert!(rt; ends_so(alloc, all.get(2), 1, &DONE, &[Cardinal(16)], &[20, 20, 0])?);
     Ok(())
 }

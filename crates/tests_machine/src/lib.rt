@@ -2,10 +2,11 @@
 //!
 //! `values` makes values of a list of pieces, and `bodies` bodies; `case` runs a body and compares what comes of it with
 //! what a row says. The rows stand in `calculations`, `conditions`, `places`, `statements`, `limits` and `calls`.
-//! `histories` runs programs alone: `vault` and `wheel` have their modules, made of `pieces` of which the trees are known, so
-//! that their bodies are well formed. `sums` has the greatest sum of the `tally`.
+//! `histories` runs programs alone: `vault`, `wheel` and `bank` have their modules, made of `pieces` of which the trees are
+//! known, so that their bodies are well formed. `sums` has the greatest sum of the `tally`.
 #![tactic(auto)]
 
+mod bank;
 #[cfg(test)]
 mod bodies;
 #[cfg(test)]
