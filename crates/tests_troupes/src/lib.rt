@@ -7,6 +7,8 @@ mod collators;
 #[cfg(test)]
 mod joiners;
 #[cfg(test)]
+mod known;
+#[cfg(test)]
 mod requests;
 #[cfg(test)]
 mod snapshots;
