@@ -1,5 +1,7 @@
--- The order of causes at one place.
+-- The order of causes at one place, and the causes of types among them.
 use Rattle.std.specs.Prelude.{ℕ}
+use Rattle.circus_type.specs.declared.cause.TypeCause.{TypeCause}
+use Rattle.circus_type.specs.declared.cause.TypeCause.TheVariants as given
 use Rattle.circus_resolve.specs.declared.cause.CheckCause.{CheckCause}
 use Rattle.circus_resolve.specs.declared.cause.CheckCause.TheVariants.{Unknown, Repeated, OutOfRange, TooLarge, Mistyped, Unfinished, Forward, Shared, Missing, TooMany}
 
@@ -15,3 +17,9 @@ rank Forward = 6
 rank Shared = 7
 rank Missing = 8
 rank TooMany = 9
+
+abbrev pub of_type : TypeCause → CheckCause
+of_type given.Unknown = Unknown
+of_type given.Repeated = Repeated
+of_type given.OutOfRange = OutOfRange
+of_type given.TooLarge = TooLarge

@@ -1,7 +1,8 @@
 // Why a module is refused.
-ghost use Rattle.circus_resolve.specs.Causes.{rank};
+ghost use Rattle.circus_resolve.specs.Causes.{rank, of_type};
 
 use circus_fault::Cause;
+use circus_type::{TypeCause, WithTypeCauses};
 
 /// Why a module is refused, in the order in which causes at one place are given (docs/LANGUAGE.md, "Modules").
 #[derive(Clone, Copy, Debug, PartialEq, Eq)]
@@ -33,6 +34,19 @@ impl Cause for CheckCause {
             CheckCause::Shared => 7,
             CheckCause::Missing => 8,
             CheckCause::TooMany => 9,
+        }
+    }
+}
+
+impl WithTypeCauses for CheckCause {
+    ghost embed = { of_type };
+
+    fn of_type(cause: TypeCause) -> Self {
+        match cause {
+            TypeCause::Unknown => CheckCause::Unknown,
+            TypeCause::Repeated => CheckCause::Repeated,
+            TypeCause::OutOfRange => CheckCause::OutOfRange,
+            TypeCause::TooLarge => CheckCause::TooLarge,
         }
     }
 }
