@@ -5,9 +5,13 @@
 #[cfg(test)]
 mod collators;
 #[cfg(test)]
+mod histories;
+#[cfg(test)]
 mod joiners;
 #[cfg(test)]
 mod known;
+#[cfg(test)]
+mod records;
 #[cfg(test)]
 mod requests;
 #[cfg(test)]
