@@ -1,14 +1,12 @@
 // Programs run alone, and their histories compared with what rows say.
-use crate::bank::bank_history;
 use crate::case::{DONE, End, outcome};
 use crate::values::Datum::{Array, Cardinal, LongCardinal, Truth};
 use crate::values::{Datum, values};
-use crate::vault::vault_history;
-use crate::wheel::wheel_history;
 use circus_model::{Ask, History, Run, Runs};
 use circus_value::NoMemory;
 use std::alloc::Global;
 use std::test::Fail;
+use tests_programs::{bank_history, vault_history, wheel_history};
 
 /// The module, index and procedure of an ask, its arguments, the state as it asked, the reply, and the clock after it.
 type Asked = (
