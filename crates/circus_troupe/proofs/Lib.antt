@@ -1,0 +1,3 @@
+pub mod Deployments
+mod Whole
+mod Steps

@@ -1,0 +1,3 @@
+pub mod DeploymentSpelling
+pub mod DeploymentReading
+pub mod ReadAt
