@@ -21,4 +21,5 @@ pub use exchange::{Exchange, NEVER_USED, PATIENCE, WINDOW};
 pub use inbox::Inbox;
 pub use outbox::Outbox;
 pub use progress::Progress;
+pub use table::Table;
 pub use taken::{Arrived, Taken, Ticked};

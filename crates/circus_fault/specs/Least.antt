@@ -1,5 +1,5 @@
 -- The least of faults, whose causes have ranks.
-use Rattle.std.specs.Prelude.{◌≡◌, ℕ, Bool, false, ◌&&◌, ◌||◌, ◌==◌, nat_lt, cond, List, [], ◌∷◌, Option, Some, None, Contains}
+use Rattle.std.specs.Prelude.{◌≡◌, ℕ, Bool, true, false, ◌&&◌, ◌||◌, ◌==◌, nat_lt, cond, List, [], ◌∷◌, Option, Some, None, Contains}
 use Rattle.circus_fault.specs.declared.fault.Fault.{Fault}
 
 -- the least place first, at one place the least rank
@@ -24,3 +24,8 @@ least_from rank best (f ∷ fs) = least_from rank (lesser rank best f) fs
 -- a fault where it is one
 abbrev pub faults_if : {C : Type 0} → Bool → ℕ → C → List (Fault C)
 faults_if is_fault place cause = cond is_fault (record { place = place; cause = cause } ∷ []) []
+
+-- no faults
+abbrev pub is_clean : {C : Type 0} → List (Fault C) → Bool
+is_clean [] = true
+is_clean (_ ∷ _) = false

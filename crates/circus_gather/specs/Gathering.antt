@@ -10,7 +10,7 @@ use Rattle.circus_collate.specs.declared.view.View.{View}
 use Rattle.circus_collate.specs.declared.giving.Said.{Said}
 use Rattle.circus_collate.specs.Expecting.{expected_nodes}
 use Rattle.circus_collate.specs.Giving.{given}
-use Rattle.circus_gather.specs.declared.held.Caller.{Caller}
+use Rattle.circus_value.specs.declared.caller.Caller.{Caller}
 use Rattle.circus_gather.specs.declared.held.HeldCall.{HeldCall}
 use Rattle.circus_gather.specs.declared.added.Added.{Added}
 use Rattle.circus_gather.specs.declared.added.Added.TheVariants as A

@@ -2,8 +2,9 @@
 ghost use Rattle.std.specs.Prelude.{◌≡◌};
 ghost use Rattle.circus_gather.specs.Gathering as gathering;
 
-use crate::{Caller, HeldCall};
+use crate::HeldCall;
 use circus_header::CallHeader;
+use circus_value::Caller;
 use std::marker::Model;
 
 /// A call by its value: root, path, client, client index, procedure, clock and arguments. Clauses see the call.

@@ -3,17 +3,7 @@ ghost use Rattle.std.specs.Prelude.{◌≡◌};
 ghost use Rattle.circus_gather.specs.Gathering as gathering;
 
 use circus_header::CallHeader;
-use circus_value::{Duplicate, ListOf, NoMemory, Parts};
-
-/// Who made a call: the node, and the number of the call among those from that node.
-#[derive(Clone, Copy, Debug, PartialEq, Eq, Drop)]
-pub struct Caller {
-    pub node: u16,
-    pub number: u32,
-}
-
-/// In the order in which their calls arrived.
-pub type Callers = ListOf<Caller>;
+use circus_value::{Caller, Parts};
 
 /// A call that waits: its header, its arguments and who made it.
 #[derive(Drop)]
@@ -21,12 +11,6 @@ pub struct HeldCall {
     pub header: CallHeader,
     pub body: Parts,
     pub sender: Caller,
-}
-
-impl Duplicate for Caller {
-    fn copy(&self) -> Result<Self, NoMemory> {
-        Ok(*self)
-    }
 }
 
 /// Which call to a module it is.

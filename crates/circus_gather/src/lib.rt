@@ -18,4 +18,4 @@ mod waiting;
 
 pub use added::Added;
 pub use gather::Gather;
-pub use held::{Caller, Callers, HeldCall};
+pub use held::HeldCall;

@@ -3,14 +3,14 @@ ghost use Rattle.std.specs.Prelude.{◌≡◌, not, ◌++◌, [], ◌∷◌, fil
 ghost use Rattle.circus_gather.specs.Gathering as gathering;
 ghost use Rattle.circus_gather.specs.Seen.Groups.{is_in_group};
 
+use crate::HeldCall;
 use crate::call_value::CallValue;
 use crate::group::{Group, is_of_index};
 use crate::held::index_of;
 use crate::places::{Places, note, places_without, take};
 use crate::slots::{Calls, all_calls, calls_at, empty, give_up};
-use crate::{Callers, HeldCall};
 use circus_collate::{Said, Views};
-use circus_value::{ListOf, NoMemory};
+use circus_value::{Callers, ListOf, NoMemory};
 use indexmap::IndexMap;
 use std::alloc::Global;
 use std::marker::Model;

@@ -6,7 +6,7 @@ use Rattle.circus_syntax.specs.declared.named.Named.{Named}
 use Rattle.circus_syntax.specs.declared.interface_text.FieldsText.{FieldsText}
 use Rattle.circus_syntax.specs.TypeTree.{TypeTree, GroupTrees, no_groups, more_groups, group_trees}
 use Rattle.circus_syntax.specs.InterfaceTree.{DeclaredTree, a_type, an_error, a_procedure}
-use Rattle.circus_fault.specs.Least.{faults_if}
+use Rattle.circus_fault.specs.Least.{faults_if, is_clean}
 use Rattle.circus_fault.specs.Known.{also_number}
 use Rattle.circus_idl.specs.declared.fault.Cause.TheVariants.{TooLarge}
 use Rattle.circus_type.specs.declared.measuring.Measure.{Measure}
@@ -19,7 +19,7 @@ use Rattle.circus_type.specs.Inside.{no_name, also_name, group_names}
 use Rattle.circus_idl.specs.Inside.{repeated_name, repeated_number, repeated_names, above, inside_groups, by_name, unknown_in}
 use Rattle.circus_idl.specs.OfTypes.{of_type}
 use Rattle.circus_idl.specs.Faults.{Before, Cut, nothing, groups_faults, groups_parts, fields_faults, fields_parts, together_faults, reports_faults, declared_faults, behind, declarations_faults}
-use Rattle.circus_type.specs.Whole.{is_place, is_clean}
+use Rattle.circus_type.specs.Whole.{is_place}
 use Rattle.circus_type.specs.Seen.Measured.{measure_of, measured, measured_groups, cut_off}
 use Rattle.circus_type.proofs.WholeTypes.{above_cut, with_type, whole_cut}
 use Rattle.circus_type.proofs.Sizes.{measured_is, groups_measured, zeros_together}

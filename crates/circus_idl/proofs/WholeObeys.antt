@@ -20,7 +20,7 @@ use Rattle.circus_type.specs.Inside.{no_name, group_names}
 use Rattle.circus_idl.specs.Inside.{repeated_names, inside, inside_groups, by_name, unknown_at, unknown_in}
 use Rattle.circus_idl.specs.OfTypes.{of_type}
 use Rattle.circus_idl.specs.Faults.{Cut, cut_of, whole_faults, groups_faults, groups_parts, fields_faults, fields_parts, together_faults}
-use Rattle.circus_type.specs.Whole.{is_clean}
+use Rattle.circus_fault.specs.Least.{is_clean}
 use Rattle.circus_type.specs.Together.{shapes_of, parts_of, zero_size_of}
 use Rattle.circus_type.specs.Obeys.{ObeysInside, ObeysWhole, ObeyFieldList}
 use Rattle.circus_type.proofs.NoFaults.{no_fault}

@@ -6,14 +6,14 @@ use Rattle.circus_syntax.specs.declared.interface_text.FieldsText.{FieldsText}
 use Rattle.circus_syntax.specs.TypeTree.{TypeTree, GroupTrees, no_groups, more_groups, group_trees}
 use Rattle.circus_syntax.specs.InterfaceTree.{DeclaredTree, a_type, an_error, a_procedure, InterfaceTree}
 use Rattle.circus_fault.specs.declared.fault.Fault.{Fault}
-use Rattle.circus_fault.specs.Least.{faults_if}
+use Rattle.circus_fault.specs.Least.{faults_if, is_clean}
 use Rattle.circus_fault.specs.Known.{no_number, also_number}
 use Rattle.circus_fault.specs.Stopping.{stop_faults}
 use Rattle.circus_idl.specs.declared.fault.Cause.{Cause}
 use Rattle.circus_idl.specs.declared.fault.Cause.TheVariants.{Expected, Deep, Unknown, TooLarge}
 use Rattle.circus_type.specs.Limits.{greatest_word}
 use Rattle.circus_type.specs.Whole as type
-use Rattle.circus_type.specs.Whole.{is_place, is_clean}
+use Rattle.circus_type.specs.Whole.{is_place}
 use Rattle.circus_idl.specs.Limits.{greatest_error, greatest_program}
 use Rattle.circus_type.specs.Inside.{no_name, also_name, group_names}
 use Rattle.circus_idl.specs.Inside.{repeated_name, repeated_number, repeated_names, above, inside_groups, unknown_in, by_name}

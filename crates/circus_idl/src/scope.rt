@@ -2,11 +2,10 @@
 ghost use Rattle.std.specs.Prelude.{◌≡◌, ◌++◌, map, OnOk, IfOk};
 ghost use Rattle.circus_syntax.specs.TypeOf.{tree_of, group_of};
 ghost use Rattle.circus_syntax.specs.TypeTree.{group_trees};
-ghost use Rattle.circus_fault.specs.Least.{least_from};
+ghost use Rattle.circus_fault.specs.Least.{least_from, is_clean};
 ghost use Rattle.circus_fault.specs.Seen.Tables.{known_of};
 ghost use Rattle.circus_idl.specs.Rank.{rank_of};
 ghost use Rattle.circus_type.specs.Inside.{no_name, group_names};
-ghost use Rattle.circus_type.specs.Whole.{is_clean};
 ghost use Rattle.circus_type.specs.Seen.Measured.{measured, more_parts, cut_off};
 ghost use Rattle.circus_idl.specs.Seen.Known.{is_known, type_measure};
 ghost use Rattle.circus_idl.specs.Inside as faults;

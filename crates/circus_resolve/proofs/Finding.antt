@@ -3,7 +3,8 @@ use Rattle.std.proofs.Common.{◌≡◌, Bool, not, ◌||◌, [], ◌∷◌, ◌
 use Rattle.circus_fault.proofs.LeastMore.{least_more}
 use Rattle.circus_resolve.specs.declared.findings.Findings.{Findings}
 use Rattle.circus_resolve.specs.Causes.{rank}
-use Rattle.circus_resolve.specs.Faults.{Faults, is_clean}
+use Rattle.circus_fault.specs.Least.{is_clean}
+use Rattle.circus_resolve.specs.Faults.{Faults}
 use Rattle.circus_resolve.specs.Seen.Found.{with_faults}
 
 any_more : (xs ys : Faults) (any : Bool) → (not (is_clean ys) || (not (is_clean xs) || any)) ≡ (not (is_clean (xs ++ ys)) || any)

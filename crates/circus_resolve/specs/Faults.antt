@@ -20,10 +20,6 @@ use Rattle.circus_resolve.specs.Named.{label_named, FieldFound, field_named, Arm
 abbrev pub Faults : Type 0
 Faults = List (Fault CheckCause)
 
-abbrev pub is_clean : Faults → Bool
-is_clean [] = true
-is_clean (_ ∷ _) = false
-
 -- ---- names of types
 
 -- the first byte of a type's name

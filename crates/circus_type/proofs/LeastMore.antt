@@ -4,12 +4,11 @@ use Rattle.std.specs.Prelude.{OnOk}
 use Rattle.circus_syntax.specs.declared.named.Named.{Named}
 use Rattle.circus_syntax.specs.TypeTree.{GroupTree, group_trees}
 use Rattle.circus_fault.specs.declared.fault.Fault.{Fault}
-use Rattle.circus_fault.specs.Least.{least_from}
+use Rattle.circus_fault.specs.Least.{least_from, is_clean}
 use Rattle.circus_fault.proofs.LeastIs.{never_lost}
 use Rattle.circus_fault.proofs.LeastMore.{least_more}
 use Rattle.circus_type.specs.declared.cause.TypeCause.{TypeCause}
 use Rattle.circus_type.specs.Inside.{repeated_name, repeated_names, also_name, also_names, is_bare}
-use Rattle.circus_type.specs.Whole.{is_clean}
 
 -- a list that is found to be empty or not
 pub bare_is : (b : Bool) (gs : List GroupTree) → (IsTrue b ↔ (gs ≡ [])) → b ≡ is_bare (group_trees gs)

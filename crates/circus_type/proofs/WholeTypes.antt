@@ -7,7 +7,7 @@ use Rattle.circus_syntax.specs.declared.named.TypeName.{TypeName}
 use Rattle.circus_syntax.specs.Spelling.{IsType, most_levels}
 use Rattle.circus_syntax.specs.TypeTree.{TypeTree, type_place}
 use Rattle.circus_fault.specs.declared.fault.Fault.{Fault}
-use Rattle.circus_fault.specs.Least.{faults_if}
+use Rattle.circus_fault.specs.Least.{faults_if, is_clean}
 use Rattle.circus_fault.proofs.Items.{none_in}
 use Rattle.circus_type.specs.declared.cause.TypeCause.{TypeCause}
 use Rattle.circus_type.specs.declared.cause.TypeCause.TheVariants.{TooLarge}
@@ -17,7 +17,7 @@ use Rattle.circus_type.specs.Written.{levels, parts, zero_size}
 use Rattle.circus_type.specs.Meaning.{written}
 use Rattle.circus_type.specs.Scale.{is_large, written_out}
 use Rattle.circus_type.specs.Inside.{inside}
-use Rattle.circus_type.specs.Whole.{is_place, is_clean, whole_faults}
+use Rattle.circus_type.specs.Whole.{is_place, whole_faults}
 use Rattle.circus_type.specs.Obeys.{ObeysInside, ObeysWhole}
 use Rattle.circus_type.specs.Seen.Measured.{measure_of, measured, more_parts, is_over, cut_off}
 use Rattle.circus_type.proofs.Sizes.{stopped_times, measured_is}

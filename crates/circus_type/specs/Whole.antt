@@ -1,18 +1,13 @@
 -- The faults of a whole type, which is no part of another.
-use Rattle.std.specs.Prelude.{ℕ, Bool, true, false, ◌&&◌, ◌==◌, not, List, [], ◌∷◌, ◌++◌, Option, Some, None}
+use Rattle.std.specs.Prelude.{ℕ, Bool, false, ◌&&◌, ◌==◌, not, List, ◌++◌, Option, Some, None}
 use Rattle.circus_syntax.specs.declared.named.TypeName.{TypeName}
 use Rattle.circus_syntax.specs.TypeTree.{TypeTree, type_place}
 use Rattle.circus_fault.specs.declared.fault.Fault.{Fault}
-use Rattle.circus_fault.specs.Least.{faults_if}
+use Rattle.circus_fault.specs.Least.{faults_if, is_clean}
 use Rattle.circus_type.specs.declared.cause.TypeCause.{TypeCause}
 use Rattle.circus_type.specs.declared.cause.TypeCause.TheVariants.{TooLarge}
 use Rattle.circus_type.specs.Inside.{inside}
 use Rattle.circus_type.specs.Scale.{Scale}
-
--- no faults
-abbrev pub is_clean : {C : Type 0} → List (Fault C) → Bool
-is_clean [] = true
-is_clean (_ ∷ _) = false
 
 -- this place
 abbrev pub is_place : ℕ → Option ℕ → Bool

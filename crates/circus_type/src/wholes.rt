@@ -1,9 +1,9 @@
 // Whole types, which are no parts of others.
 ghost use Rattle.std.specs.Prelude.{◌≡◌, OnOk, IfOk};
 ghost use Rattle.circus_syntax.specs.TypeOf.{tree_of};
-ghost use Rattle.circus_fault.specs.Least.{least_from};
+ghost use Rattle.circus_fault.specs.Least.{least_from, is_clean};
 ghost use Rattle.circus_type.specs.Inside as faults;
-ghost use Rattle.circus_type.specs.Whole.{is_clean, whole_faults};
+ghost use Rattle.circus_type.specs.Whole.{whole_faults};
 ghost use Rattle.circus_type.specs.Seen.Measured.{measured, more_parts, is_over, cut_off};
 
 use crate::inner::inside;

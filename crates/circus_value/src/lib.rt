@@ -1,12 +1,13 @@
 //! The values of Circus, the shapes that they fit, and the lists that all crates share.
 //!
-//! `list_of` has the one list type, `value` and `shape` the two trees, `outcome` what a procedure ends with,
-//! `among` looks for a number in a list, `duplicate` has the copies of plain data and `equality` what is equal. `fitting` tests a value against a shape, `size` counts
-//! a value's bytes in external form, `parts` has bytes that are shared in parts, and `shown` and `thread_text`
-//! the texts of values, outcomes, clocks and paths.
+//! `list_of` has the one list type, `value` and `shape` the two trees, `outcome` what a procedure ends with, `caller` who
+//! made a call. `among` looks for a number in a list, `duplicate` has the copies of plain data and `equality` what is
+//! equal. `fitting` tests a value against a shape, `size` counts a value's bytes in external form, `parts` has bytes that
+//! are shared in parts, and `shown` and `thread_text` the texts of values, outcomes, clocks and paths.
 #![tactic(auto)]
 
 mod among;
+mod caller;
 mod duplicate;
 mod equality;
 mod fitting;
@@ -20,6 +21,7 @@ mod thread_text;
 mod value;
 
 pub use among::{has_label, is_among};
+pub use caller::{Caller, Callers};
 pub use duplicate::Duplicate;
 pub use equality::equal_is_the_same;
 pub use fitting::fits;

@@ -1,5 +1,8 @@
 // A list that grows at its end.
-ghost use Rattle.std.specs.Prelude.{◌≡◌, ◌<◌, List, [], ◌∷◌, ◌++◌, length, option_copied, slice_get, slice_set, OnOk, OnErr, IfOk, IsTrue, ◌↔◌};
+ghost use Rattle.std.specs.Prelude.{◌≡◌, ◌<◌, [], ◌∷◌, ◌++◌, length, option_copied, slice_get, slice_set, option_to_list, OnOk, OnErr, IfOk, IsSome, IsTrue, ◌↔◌};
+ghost use Rattle.std.specs.Borrow.{LendsIf, sem};
+ghost use Rattle.std.specs.List.{IsItemAtMut};
+ghost use Rattle.circus_value.specs.contracts.list_of.ListOf.{the_row};
 
 use crate::{Duplicate, NoMemory};
 use bytes::Bytes;
@@ -13,6 +16,8 @@ pub struct ListOf<T> {
 }
 
 impl<T> Model for ListOf<T> {
+    ghost use Rattle.std.specs.Prelude.{List};
+
     ghost Value = { List T };
 
     ghost view = { λ list. list.items.items };
@@ -60,6 +65,31 @@ impl<T> ListOf<T> {
         ensures { result ≡ items.items }
     {
         ListOf { items }
+    }
+
+    /// The items, which are not copied.
+    pub fn into_items(self) -> Vec<T>
+        ensures { result.items ≡ self }
+    {
+        self.items
+    }
+
+    /// Takes the last item out. `None` exactly where there is none.
+    pub fn pop(&mut self) -> Option<T>
+        ensures taken { self.old ≡ self.new ++ option_to_list result }
+        ensures some { IsSome result ↔ (0 < length self.old) }
+    {
+        self.items.pop()
+    }
+
+    /// The item at a place, counted from 0, to be changed where it stands. `None` exactly where the place is not below
+    /// the length.
+    pub fn get_mut(&mut self, place: usize) -> Option<&mut T>
+        ensures* writes_back { sem 𝓛 (LendsIf (the_row T.row) T.row self.entry result (slice_set self.entry.now place) self.entry.now) }
+        ensures variant { IsSome result ↔ (place < length self.old) }
+        ensures item { IsItemAtMut self.old place result }
+    {
+        self.items.get_mut(place)
     }
 }
 

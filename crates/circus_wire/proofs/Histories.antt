@@ -19,7 +19,7 @@ use Rattle.circus_pair.specs.TwoEnds.{with_act, sent_by, datagrams_by, arrived_i
 use Rattle.circus_pair.proofs.Following as following
 use Rattle.circus_pair.proofs.OneEnd.{arrived_once, arrived_stays}
 use Rattle.circus_pair.proofs.Outputs.{call_sends, return_sends, came_sends, tick_sends}
-use Rattle.circus_wire.specs.declared.delivery.Caller.{Caller}
+use Rattle.circus_value.specs.declared.caller.Caller.{Caller}
 use Rattle.circus_wire.specs.Wire.{PeerState, WireState, Beginning, IsOther, of_peer, peer_at, place_of, is_up, next_number}
 use Rattle.circus_wire.specs.WireActs.{WireAct, WireActs, begun, followed_by, CallTo, AnswerTo, CameFrom, TickAll, StopOf, act_at, acts_at, awaits_after, made_to, purpose_of, purpose_kept}
 use Rattle.circus_wire.specs.WireStanding.{pair_of, PeerStands, WireStands, outputs_for, owed_to, sent_in, arrived_from}

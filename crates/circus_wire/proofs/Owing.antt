@@ -16,7 +16,7 @@ use Rattle.circus_pair.specs.Standing.{arrival_after}
 use Rattle.circus_pair.specs.Ticking.{suspects_after}
 use Rattle.circus_pair.proofs.Following as following
 use Rattle.circus_pair.proofs.Handing.{format_stays}
-use Rattle.circus_wire.specs.declared.delivery.Caller.{Caller}
+use Rattle.circus_value.specs.declared.caller.Caller.{Caller}
 use Rattle.circus_wire.specs.declared.delivery.Batch.{Batch}
 use Rattle.circus_wire.specs.declared.delivery.Heard.{Heard}
 use Rattle.circus_wire.specs.declared.delivery.Heard.TheVariants.{Dropped}

@@ -7,7 +7,7 @@ use Rattle.circus_exchange.specs.Limits.{never_used}
 use Rattle.circus_exchange.specs.Exchange.{IsSendable, awaits_return, datagrams_of_return}
 use Rattle.circus_pair.proofs.Dialogue.{not_true}
 use Rattle.circus_pair.proofs.Following as following
-use Rattle.circus_wire.specs.declared.delivery.Caller.{Caller}
+use Rattle.circus_value.specs.declared.caller.Caller.{Caller}
 use Rattle.circus_wire.specs.declared.delivery.Batch.{Batch}
 use Rattle.circus_wire.specs.declared.delivery.Heard.TheVariants.{Dropped}
 use Rattle.circus_wire.specs.Wire.{PeerState, WireState, Beginning, place_of, peer_at, of_peer, sent_to, changed, IsOther, is_up, next_number, is_awaited, called_to, sent_by_call, answered, sent_by_answer, peer_answered, after_datagram, sent_by_datagram, heard_from, heard_by}

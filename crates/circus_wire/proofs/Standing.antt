@@ -20,7 +20,7 @@ use Rattle.circus_pair.specs.Standing.{StandsFor}
 use Rattle.circus_pair.specs.TwoEnds.{with_act}
 use Rattle.circus_pair.proofs.Flowing.{flows_after}
 use Rattle.circus_pair.proofs.Following as following
-use Rattle.circus_wire.specs.declared.delivery.Caller.{Caller}
+use Rattle.circus_value.specs.declared.caller.Caller.{Caller}
 use Rattle.circus_wire.specs.Wire.{PeerState, WireState, Beginning, place_of, node_at, changed, peer_called, peer_answered, peer_heard, peer_ticked, peer_stopped, all_ticked, before_any, fresh_peer}
 use Rattle.circus_wire.specs.WireActs.{WireAct, WireActs, begun, followed_by, CallTo, AnswerTo, CameFrom, TickAll, StopOf, act_at, acts_at, purpose_of, purpose_kept, awaits_after}
 use Rattle.circus_wire.specs.WireStanding.{pair_of, PeerStands, WireStands}

@@ -8,7 +8,7 @@ use Rattle.circus_exchange.specs.declared.exchange.Exchange.{Exchange}
 use Rattle.circus_exchange.specs.declared.taken.Arrived.{Arrived}
 use Rattle.circus_exchange.specs.declared.taken.Arrived.TheVariants.{Nothing, ArrivedCall, ArrivedReturn}
 use Rattle.circus_exchange.specs.Exchange.{start, called, datagrams_of_call, returned, datagrams_of_return, awaits_return, takes, after, datagrams_after, arrived_after, ticked, is_suspect, datagrams_of_tick, stopped}
-use Rattle.circus_wire.specs.declared.delivery.Caller.{Caller}
+use Rattle.circus_value.specs.declared.caller.Caller.{Caller}
 use Rattle.circus_wire.specs.declared.delivery.Batch.{Batch}
 use Rattle.circus_wire.specs.declared.delivery.Heard.{Heard}
 use Rattle.circus_wire.specs.declared.delivery.Heard.TheVariants.{Dropped, Taken, Called, Returned}

@@ -7,7 +7,7 @@ use Rattle.circus_pair.specs.Acts.{Act, Call, Return, Came, Tick, Stop, Acts, no
 use Rattle.circus_pair.specs.Handed.{made, return_at}
 use Rattle.circus_pair.specs.Lawful.{is_stopped_after}
 use Rattle.circus_pair.specs.TwoEnds.{with_act}
-use Rattle.circus_wire.specs.declared.delivery.Caller.{Caller}
+use Rattle.circus_value.specs.declared.caller.Caller.{Caller}
 
 -- a call to a node is handed over for a purpose, a return is handed over to a caller, a datagram of a node comes that is a segment, a tick comes, a node is declared down; an act that names no other node is none at every pair
 pub data WireAct (P : Type 0) : Type 0 where

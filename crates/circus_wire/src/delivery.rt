@@ -1,13 +1,6 @@
 //! What the calls of a wire answer.
 use circus_pair::Datagrams;
-use circus_value::{ListOf, Parts};
-
-/// Who made a call: the node, and the number of the call among those from that node.
-#[derive(Clone, Copy, Debug, PartialEq, Eq)]
-pub struct Caller {
-    pub node: u16,
-    pub number: u32,
-}
+use circus_value::{Caller, ListOf, Parts};
 
 /// Datagrams to one node, in order of sending.
 #[derive(Drop)]
@@ -17,7 +10,7 @@ pub struct Batch {
 }
 
 /// What is sent, in order.
-pub type Sends = ListOf<Batch>;
+pub type Batches = ListOf<Batch>;
 
 /// What came of a datagram.
 #[derive(Drop)]

@@ -8,7 +8,7 @@ ghost use Rattle.circus_pair.specs.Lawful.{AreLawful, is_stopped_after};
 ghost use Rattle.circus_pair.specs.Standing.{arrival_after};
 ghost use Rattle.circus_pair.specs.Taken.{has_arrived};
 ghost use Rattle.circus_pair.specs.TwoEnds.{sent_by};
-ghost use Rattle.circus_wire.specs.declared.delivery.Caller.{Caller};
+ghost use Rattle.circus_value.specs.declared.caller.Caller.{Caller};
 ghost use Rattle.circus_wire.specs.Wire.{WireState, Beginning, IsOther, is_up, next_number};
 ghost use Rattle.circus_wire.specs.WireActs.{WireAct, WireActs, followed_by, CallTo, AnswerTo, CameFrom, StopOf, acts_at, made_to, purpose_of, purpose_kept};
 ghost use Rattle.circus_wire.specs.WireStanding.{WireStands, pair_of, owed_to, sent_in, arrived_from};

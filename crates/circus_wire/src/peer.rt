@@ -8,12 +8,11 @@ ghost use Rattle.circus_exchange.specs.Limits.{never_used};
 ghost use Rattle.circus_exchange.specs.Exchange.{IsSendable, awaits_return, datagrams_of_call, datagrams_of_return, datagrams_after};
 ghost use Rattle.circus_wire.specs.Wire.{fresh_peer, peer_called, peer_answered, peer_heard, peer_ticked, peer_stopped, batches, suspicion, heard_by, told, without};
 
-use crate::delivery::{Batch, Caller, Delivery, Heard, Sends};
-use crate::purposes::Purposes;
+use crate::delivery::{Batch, Batches, Delivery, Heard};
 use bytes::Bytes;
-use circus_exchange::NEVER_USED;
+use circus_exchange::{NEVER_USED, Table};
 use circus_pair::{Arrived, Datagrams, Pair, PairFault, Segment, Taken, Ticked};
-use circus_value::{Message, NoMemory, Nodes};
+use circus_value::{Caller, Message, NoMemory, Nodes};
 use std::alloc::Global;
 use std::marker::Model;
 
@@ -21,7 +20,7 @@ use std::marker::Model;
 #[derive(Drop)]
 pub(crate) struct Peer<P> {
     pair: Pair,
-    purposes: Purposes<P>,
+    purposes: Table<P>,
     /// Whether the other node was declared down.
     stopped: bool,
 }
@@ -48,7 +47,7 @@ impl<P> Peer<P> {
     {
         Peer {
             pair: Pair::starting_at(alloc, number, format),
-            purposes: Purposes::new(alloc),
+            purposes: Table::new(alloc),
             stopped: false,
         }
     }
@@ -90,7 +89,7 @@ impl<P: Drop> Peer<P> {
         match self.pair.send_call(message) {
             Ok((_, datagrams)) => Ok(datagrams),
             Err(fault) => {
-                let _ = self.purposes.take(number);
+                let _ = self.purposes.remove(number);
                 Err(fault)
             }
         }
@@ -142,7 +141,7 @@ impl<P: Drop> Peer<P> {
     pub fn tick(
         &mut self,
         node: u16,
-        sends: &mut Sends,
+        sends: &mut Batches,
         suspects: &mut Nodes,
     ) -> Result<(), NoMemory>
         ensures state { OnOk result (self.new ≡ peer_ticked self.old) }
@@ -170,7 +169,7 @@ impl<P: Drop> Peer<P> {
 fn note_tick(
     node: u16,
     tick: Ticked,
-    sends: &mut Sends,
+    sends: &mut Batches,
     suspects: &mut Nodes,
 ) -> Result<(), NoMemory>
     ensures sent { OnOk result (sends.new ≡ sends.old ++ record { to = node; datagrams = tick.datagrams } ∷ []) }
@@ -188,14 +187,14 @@ fn note_tick(
 }
 
 // What came of a segment that was taken, by what arrived; the purpose of a call whose return arrived is handed out.
-fn hand_out<P: Drop>(purposes: &mut Purposes<P>, node: u16, arrived: Arrived) -> Heard<P>
+fn hand_out<P: Drop>(purposes: &mut Table<P>, node: u16, arrived: Arrived) -> Heard<P>
     ensures heard { result ≡ told (map.get purposes.old) node arrived }
     ensures purposes { purposes.new ≡ without arrived purposes.old }
 {
     match arrived {
         Arrived::Nothing => Heard::Taken,
         Arrived::ArrivedCall(number, message) => Heard::Called(Caller { node, number }, message),
-        Arrived::ArrivedReturn(number, message) => match purposes.take(number) {
+        Arrived::ArrivedReturn(number, message) => match purposes.remove(number) {
             Some(purpose) => Heard::Returned(number, purpose, message),
             None => Heard::Taken,
         },

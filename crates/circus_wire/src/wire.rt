@@ -11,12 +11,12 @@ ghost use Rattle.circus_wire.specs.Wire as model;
 ghost use Rattle.circus_wire.specs.WireActs.{WireActs, begun, followed_by, CallTo, AnswerTo, CameFrom, TickAll, StopOf};
 ghost use Rattle.circus_wire.specs.WireStanding.{WireStands, owed_to, heard_after, ticks_owed, suspects_owed};
 
-use crate::delivery::{Batch, Caller, Delivery, Heard, Sends};
+use crate::delivery::{Batch, Batches, Delivery, Heard};
 use crate::fault::WireFault;
 use crate::peer::Peer;
 use bytes::Bytes;
 use circus_pair::{Datagrams, PairFault, Segment, read_segment};
-use circus_value::{ListOf, Message, NoMemory, Nodes};
+use circus_value::{Caller, ListOf, Message, NoMemory, Nodes};
 use std::alloc::Global;
 use std::marker::Model;
 
@@ -260,7 +260,7 @@ impl<P: Drop> Wire<P> {
 
     /// Lets a tick come to each pair with a node that was not declared down, in node order, and answers what is sent
     /// and which nodes are suspected now (docs/PROTOCOL.md, "Ticks"). After `NoMemory` there is no wire any more.
-    pub fn tick(self) -> Result<(Self, Sends, Nodes), NoMemory>
+    pub fn tick(self) -> Result<(Self, Batches, Nodes), NoMemory>
         ensures stands { (b : Beginning) (acts : WireActs P) → WireStands self b acts → IfOk result (λ tick. WireStands tick.0 b (followed_by acts TickAll)) }
         ensures owed { (b : Beginning) (acts : WireActs P) → WireStands self b acts → IfOk result (λ tick. tick.1 ≡ ticks_owed b acts) }
         ensures suspects { (b : Beginning) (acts : WireActs P) → WireStands self b acts → IfOk result (λ tick. tick.2 ≡ suspects_owed b acts) }
@@ -274,7 +274,7 @@ impl<P: Drop> Wire<P> {
         self.tick_all()
     }
 
-    fn tick_all(mut self) -> Result<(Self, Sends, Nodes), NoMemory>
+    fn tick_all(mut self) -> Result<(Self, Batches, Nodes), NoMemory>
         ensures state { IfOk result (λ tick. tick.0 ≡ model.all_ticked self) }
         ensures sent { IfOk result (λ tick. tick.1 ≡ model.sent_by_tick self) }
         ensures suspected { IfOk result (λ tick. tick.2 ≡ model.suspected_by_tick self) }
@@ -291,7 +291,7 @@ impl<P: Drop> Wire<P> {
     fn tick_at(
         &mut self,
         place: usize,
-        sends: &mut Sends,
+        sends: &mut Batches,
         suspects: &mut Nodes,
     ) -> Result<(), NoMemory>
         requires { place < length self.old.peers }

@@ -2,9 +2,9 @@
 use circus_collate::Kind::{self, AtLeast, First, Majority, Unanimous};
 use circus_collate::Since::From;
 use circus_collate::{Entry, View, Views};
-use circus_gather::{Added, Caller, Callers, Gather};
+use circus_gather::{Added, Gather};
 use circus_header::{CallHeader, Reply};
-use circus_value::{ListOf, NoMemory, Nodes, Outcome, Parts, Values};
+use circus_value::{Caller, Callers, ListOf, NoMemory, Nodes, Outcome, Parts, Values};
 use std::alloc::Global;
 use std::test::Fail;
 

@@ -2,8 +2,8 @@
 ghost use Rattle.std.specs.Prelude.{◌≡◌, ◌<◌, ◌≤◌, IfOk};
 
 use bytes::Bytes;
-use circus_value::{Message, NoMemory};
-use circus_wire::{Batch, Caller, Heard, Wire, WireFault};
+use circus_value::{Caller, Message, NoMemory};
+use circus_wire::{Batch, Heard, Wire, WireFault};
 use std::alloc::Global;
 use std::marker::Model;
 
