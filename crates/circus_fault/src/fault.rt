@@ -1,6 +1,6 @@
 // Faults of a text with their places, and the least of them.
-ghost use Rattle.std.specs.Prelude.{◌≡◌, ℕ, None};
-ghost use Rattle.circus_fault.specs.Least.{is_before, lesser, least_from, faults_if};
+ghost use Rattle.std.specs.Prelude.{◌≡◌, ℕ, List, None};
+ghost use Rattle.circus_fault.specs.Least.{is_before, lesser, least_from, faults_if, is_clean};
 ghost use Rattle.circus_fault.specs.Stopping.{cause_of, stop_faults};
 
 use circus_syntax::{Stop, StopCause};
@@ -71,6 +71,22 @@ impl<C: Cause> Best<C> {
         };
         if !stays {
             self.fault = Some(fault);
+        }
+    }
+
+    /// Whether nothing was found.
+    pub fn is_clean(&self) -> bool
+        ensures { (faults : List (Fault C)) → self.now.fault ≡ least_from C.rank None faults → result ≡ is_clean faults }
+    {
+        self.fault.is_none()
+    }
+
+    /// Finds what was found apart.
+    pub fn join(&mut self, other: Best<C>)
+        ensures { (faults : List (Fault C)) → other.fault ≡ least_from C.rank None faults → self.new.fault ≡ least_from C.rank self.old.fault faults }
+    {
+        if let Some(fault) = other.fault {
+            self.keep(fault);
         }
     }
 

@@ -47,7 +47,7 @@ fn are_clean(alloc: Global, types: &Types, groups: &[GroupText]) -> Result<bool,
     let mut own: Best<Cause> = Best { fault: None };
     field_names(alloc, &mut own, groups)?;
     inside_groups(alloc, types, &mut own, groups)?;
-    Ok(own.fault.is_none())
+    Ok(own.is_clean())
 }
 
 impl<'a> Scope<'a> {

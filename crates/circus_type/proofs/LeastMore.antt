@@ -17,23 +17,7 @@ bare_is false [] tells = tells.1 refl
 bare_is true (g ∷ gs) tells = absurd (let e = tells.0 refl in cc)
 bare_is false (g ∷ gs) tells = refl
 
--- what is_none answers
-pub none_result : {F : Type 0} (r : Bool) (o : Option F) → is_some o ≡ not r → r ≡ is_none o
-none_result true None is = refl
-none_result false None is = absurd (cc)
-none_result true (Some f) is = absurd (cc)
-none_result false (Some f) is = refl
-
-not_none : {F : Type 0} (o : Option F) → (o ≡ None → ⊥) → is_none o ≡ false
-not_none None kept = absurd (kept refl)
-not_none (Some f) kept = refl
-
 module _ {C : Type 0} (rank : C → ℕ) where
-  -- no fault is kept exactly where none is found
-  pub clean_is : (fs : List (Fault C)) → is_none (least_from rank None fs) ≡ is_clean fs
-  clean_is [] = refl
-  clean_is (f ∷ fs) = not_none (least_from rank (Some f) fs) (never_lost rank f fs)
-
   -- what is found behind a first find
   pub onward_least : {A E : Type 0} (r : Result A E) (new mid best : Option (Fault C)) (xs ys : List (Fault C)) → mid ≡ least_from rank best xs → OnOk r (new ≡ least_from rank mid ys) → OnOk r (new ≡ least_from rank best (xs ++ ys))
   onward_least (Ok x) new mid best xs ys first then = then ∙ ap (λ b. least_from rank b ys) first ∙ sym (least_more rank best xs ys)

@@ -1,7 +1,7 @@
 // Whole types, which are no parts of others.
-ghost use Rattle.std.specs.Prelude.{◌≡◌, OnOk, IfOk};
+ghost use Rattle.std.specs.Prelude.{◌≡◌, None, OnOk, IfOk};
 ghost use Rattle.circus_syntax.specs.TypeOf.{tree_of};
-ghost use Rattle.circus_fault.specs.Least.{least_from, is_clean};
+ghost use Rattle.circus_fault.specs.Least.{least_from};
 ghost use Rattle.circus_type.specs.Inside as faults;
 ghost use Rattle.circus_type.specs.Whole.{whole_faults};
 ghost use Rattle.circus_type.specs.Seen.Measured.{measured, more_parts, is_over, cut_off};
@@ -32,17 +32,17 @@ fn is_over(parts: u32, size: Measure) -> bool
     size.zeros > MOST_ZERO_BYTES || size.levels > u32::from(MOST_LEVELS) || parts > MOST_PARTS
 }
 
-// Whether no fault stands inside of a type.
-fn is_clean<N: TypeNames, C: WithTypeCauses>(
+// The least fault inside of a type.
+fn found_inside<N: TypeNames, C: WithTypeCauses>(
     alloc: Global,
     names: &N,
     shape: &TypeText,
-) -> Result<bool, NoMemory>
-    ensures { IfOk result (λ clean. clean ≡ is_clean (faults.inside C.embed (N.unknown names.now) (tree_of shape.now))) }
+) -> Result<Best<C>, NoMemory>
+    ensures { IfOk result (λ own. own.fault ≡ least_from C.rank None (faults.inside C.embed (N.unknown names.now) (tree_of shape.now))) }
 {
     let mut own: Best<C> = Best { fault: None };
     inside(alloc, names, &mut own, shape)?;
-    Ok(own.fault.is_none())
+    Ok(own)
 }
 
 /// A whole type, which so many names share behind so many parts: finds its faults, counts its parts, and answers its size.
@@ -61,11 +61,11 @@ pub fn whole<N: TypeNames, C: WithTypeCauses>(
     ensures counted { OnOk result (parts.new ≡ more_parts parts.old count (measured (N.sizes names.now) (tree_of shape.now))) }
     ensures sized { IfOk result (λ measure. measure ≡ measured (N.sizes names.now) (tree_of shape.now)) }
 {
-    inside(alloc, names, best, shape)?;
-    let clean = is_clean::<N, C>(alloc, names, shape)?;
+    let own = found_inside::<N, C>(alloc, names, shape)?;
+    best.join(own);
     let size = measured(names, shape);
     *parts = more_parts(*parts, count, size);
-    let tested = clean && within != Some(shape.at);
+    let tested = own.is_clean() && within != Some(shape.at);
     best.note(
         tested && is_over(*parts, size),
         shape.at,

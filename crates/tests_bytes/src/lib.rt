@@ -1,4 +1,4 @@
-//! Tests of bytes and of the texts of values: external data, headers and stubs, read, refused and written.
+//! Tests of bytes and of the texts of values: external data and headers, read, refused and written.
 #![tactic(auto)]
 
 #[cfg(test)]
@@ -9,7 +9,5 @@ mod headers;
 mod parts;
 #[cfg(test)]
 mod shown;
-#[cfg(test)]
-mod stubs;
 #[cfg(test)]
 mod thread_text;

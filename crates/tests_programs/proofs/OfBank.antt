@@ -16,8 +16,8 @@ use Rattle.circus_model.specs.declared.signature.ProcedureShape.{ProcedureShape}
 use Rattle.circus_machine.specs.Typed.{Hold}
 use Rattle.circus_machine.specs.Modules.{trees, IsImported, Takes, Raises, Reports, IsBodyOf, AreBodiesOf}
 use Rattle.circus_machine.specs.declared.body.Body.{Body}
-use Rattle.tests_programs.specs.Pieces.{variable, held, cardinal, long_cardinal, import_of, IsOnly}
-use Rattle.tests_programs.specs.Bank.{moving, ledger, account, balance, opening, checking, changing, giving, move, paying, teller, asking, pay, day, paying_six, counting, pay_often, IsWith}
+use Rattle.tests_programs.specs.Pieces.{variable, held, cardinal, long_cardinal, import_of, IsWith}
+use Rattle.tests_programs.specs.Bank.{moving, ledger, account, balance, opening, checking, changing, giving, move, paying, teller, asking, pay, day, paying_six, counting, pay_often}
 use Rattle.tests_programs.proofs.Typing.{holds, reads, as_cardinal, as_long, counted}
 
 -- balances, opened, from, to, amount
@@ -156,8 +156,8 @@ day_body b is zeros = record {
 
 -- ---- the bodies of each
 
-pub ledger_bodies : (bodies : List Body) → IsOnly move bodies → AreBodiesOf ledger ledger.procedures bodies
-ledger_bodies bodies is = subst (AreBodiesOf ledger ledger.procedures) (sym is.alone) (ledger_body is.body is.does is.locals, tt)
+pub ledger_bodies : (bodies : List Body) → IsWith move [] bodies → AreBodiesOf ledger ledger.procedures bodies
+ledger_bodies bodies is = subst (AreBodiesOf ledger ledger.procedures) (sym is.alone) (ledger_body is.body is.does is.begins, tt)
 
 pub teller_bodies : (bodies : List Body) → IsWith pay (value.long_cardinal 0 ∷ value.long_cardinal 0 ∷ []) bodies → AreBodiesOf teller teller.procedures bodies
 teller_bodies bodies is = subst (AreBodiesOf teller teller.procedures) (sym is.alone) (teller_body is.body is.does is.begins, tt)

@@ -13,7 +13,7 @@ use Rattle.circus_model.specs.declared.signature.ProcedureShape.{ProcedureShape}
 use Rattle.circus_machine.specs.Typed.{Hold}
 use Rattle.circus_machine.specs.Modules.{trees, IsImported, Takes, Raises, Reports, IsBodyOf, AreBodiesOf}
 use Rattle.circus_machine.specs.declared.body.Body.{Body}
-use Rattle.tests_programs.specs.Pieces.{variable, held, cardinal, IsOnly}
+use Rattle.tests_programs.specs.Pieces.{variable, held, cardinal, IsWith}
 use Rattle.tests_programs.specs.Vault.{taking, vault, take, taker, take_twice}
 use Rattle.tests_programs.proofs.Typing.{holds, reads, as_cardinal, counted}
 
@@ -81,8 +81,8 @@ twice_is b is none = record {
   typed = subst (λ ss. AreTyped in_taker (Takes taker.imports) (Reports taker.imports) [] (Raises []) (statement_trees ss)) (sym is) twice_typed;
 }
 
-pub vault_bodies : (bodies : List Body) → IsOnly take bodies → AreBodiesOf vault vault.procedures bodies
-vault_bodies bodies is = subst (AreBodiesOf vault vault.procedures) (sym is.alone) (take_is is.body is.does is.locals, tt)
+pub vault_bodies : (bodies : List Body) → IsWith take [] bodies → AreBodiesOf vault vault.procedures bodies
+vault_bodies bodies is = subst (AreBodiesOf vault vault.procedures) (sym is.alone) (take_is is.body is.does is.begins, tt)
 
-pub taker_bodies : (bodies : List Body) → IsOnly take_twice bodies → AreBodiesOf taker taker.procedures bodies
-taker_bodies bodies is = subst (AreBodiesOf taker taker.procedures) (sym is.alone) (twice_is is.body is.does is.locals, tt)
+pub taker_bodies : (bodies : List Body) → IsWith take_twice [] bodies → AreBodiesOf taker taker.procedures bodies
+taker_bodies bodies is = subst (AreBodiesOf taker taker.procedures) (sym is.alone) (twice_is is.body is.does is.begins, tt)

@@ -15,7 +15,7 @@ use Rattle.circus_model.specs.declared.signature.ProcedureShape.{ProcedureShape}
 use Rattle.circus_machine.specs.Typed.{Hold}
 use Rattle.circus_machine.specs.Modules.{Takes, Raises, Reports, IsBodyOf, AreBodiesOf}
 use Rattle.circus_machine.specs.declared.body.Body.{Body}
-use Rattle.tests_programs.specs.Pieces.{variable, held, long_cardinal, import_of, IsOnly}
+use Rattle.tests_programs.specs.Pieces.{variable, held, long_cardinal, import_of, IsWith}
 use Rattle.tests_programs.specs.Wheel.{turning, wheel, turning_on, giving, spin, late, AreBoth, turner, often, on_other, turn_both}
 use Rattle.tests_programs.proofs.Typing.{holds, reads, as_long, counted_long}
 
@@ -86,5 +86,5 @@ main = record { number = 0; arguments = []; results = []; errors = [] }
 main_is : (b : Body) → b.statements ≡ turn_both → b.locals ≡ [] → IsBodyOf turner main b
 main_is b is none = record { locals = []; hold = subst (Hold []) (sym none) tt; typed = subst TurnerTyped (sym is) both_typed }
 
-pub turner_bodies : (bodies : List Body) → IsOnly turn_both bodies → AreBodiesOf turner turner.procedures bodies
-turner_bodies bodies is = subst (AreBodiesOf turner turner.procedures) (sym is.alone) (main_is is.body is.does is.locals, tt)
+pub turner_bodies : (bodies : List Body) → IsWith turn_both [] bodies → AreBodiesOf turner turner.procedures bodies
+turner_bodies bodies is = subst (AreBodiesOf turner turner.procedures) (sym is.alone) (main_is is.body is.does is.begins, tt)

@@ -117,10 +117,3 @@ pay_often = repeat (e.compare Less (held 1) (e.number 20)) (statement_trees paym
 
 abbrev pub four_zeros : List ValueTree
 four_zeros = value.long_cardinal 0 ∷ value.long_cardinal 0 ∷ value.long_cardinal 0 ∷ value.long_cardinal 0 ∷ []
-
--- one body, with these statements and these values of its local variables at first
-pub record IsWith (statements : List StatementTree) (locals : List ValueTree) (bodies : List Body) : Type 0 where
-  pub body : Body
-  pub alone : bodies ≡ body ∷ []
-  pub does : body.statements ≡ statements
-  pub begins : body.locals ≡ locals

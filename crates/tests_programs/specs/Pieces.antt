@@ -1,5 +1,6 @@
 -- Trees of which programs are made.
 use Rattle.std.specs.Prelude.{◌≡◌, ℕ, List, [], ◌∷◌}
+use Rattle.circus_value.specs.ValueTree.{ValueTree}
 use Rattle.circus_checked.specs.declared.kinds.NumberKind.TheVariants as kind
 use Rattle.circus_checked.specs.declared.kinds.Calculation.TheVariants.{Plus}
 use Rattle.circus_checked.specs.declared.expression.CheckedPlace.{CheckedPlace}
@@ -32,9 +33,9 @@ counts n = assign (variable n) (e.calculate Plus (held n) (e.number 1))
 abbrev pub import_of : ℕ → List ProcedureShape → Import
 import_of callee procedures = record { «module» = callee; procedures = procedures }
 
--- one body, with these statements and without local variables
-pub record IsOnly (statements : List StatementTree) (bodies : List Body) : Type 0 where
+-- one body, with these statements and these values of its local variables at first
+pub record IsWith (statements : List StatementTree) (locals : List ValueTree) (bodies : List Body) : Type 0 where
   pub body : Body
   pub alone : bodies ≡ body ∷ []
   pub does : body.statements ≡ statements
-  pub locals : body.locals ≡ []
+  pub begins : body.locals ≡ locals

@@ -8,7 +8,7 @@ ghost use Rattle.tests_programs.specs.Bank as banks;
 ghost use Rattle.tests_programs.specs.Pieces as pieces;
 
 use crate::pieces::{
-    LIMIT, alone, as_kind, calculated, compared, count, held, main_alone, one_shape, only,
+    LIMIT, alone, as_kind, calculated, compared, count, held, main_alone, one_body, one_shape, only,
     only_body, only_import, only_place, variable, zero,
 };
 use circus_checked::{
@@ -16,7 +16,7 @@ use circus_checked::{
     CheckedHandlers, CheckedOperand, CheckedPlace, CheckedStatement, CheckedStatements,
     CheckedSuffix, CheckedSuffixes, NumberKind, Order,
 };
-use circus_machine::{Bodies, Body, TextModule};
+use circus_machine::TextModule;
 use circus_model::{
     ErrorShape, ErrorShapes, History, Imports, ProcedureShape, ProcedureShapes, Signature,
     run_alone,
@@ -326,20 +326,6 @@ fn pay_often(alloc: Global) -> Result<CheckedStatements, NoMemory>
 }
 
 // ---- the modules
-
-// A body with these local variables, alone.
-fn one_body(
-    alloc: Global,
-    statements: CheckedStatements,
-    locals: Values,
-) -> Result<Bodies, NoMemory>
-    requires { size_of_values locals < 4294967296 }
-    ensures { IfOk result (banks.IsWith statements locals) }
-{
-    let mut bodies = Bodies::new(alloc);
-    bodies.push(Body::new(alloc, statements, locals)?)?;
-    Ok(bodies)
-}
 
 fn two_values(alloc: Global, first: Value, second: Value) -> Result<Values, NoMemory>
     ensures { IfOk result (λ values. values ≡ tree first ∷ tree second ∷ []) }

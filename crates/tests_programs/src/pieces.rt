@@ -1,6 +1,7 @@
 // Pieces of which worked programs are made, each with its tree.
-ghost use Rattle.std.specs.Prelude.{◌≡◌, [], ◌∷◌, IfOk};
+ghost use Rattle.std.specs.Prelude.{◌≡◌, ◌<◌, [], ◌∷◌, IfOk};
 ghost use Rattle.circus_value.specs.ValueTree.{cardinal};
+ghost use Rattle.circus_value.specs.ExternalSize.{size_of_values};
 ghost use Rattle.circus_checked.specs.ExpressionOf.{tree_of};
 ghost use Rattle.circus_checked.specs.ExpressionTree as expression;
 ghost use Rattle.circus_checked.specs.StatementOf as statements;
@@ -142,13 +143,25 @@ pub(crate) fn main_alone(alloc: Global) -> Result<ProcedureShapes, NoMemory>
     Ok(procedures)
 }
 
-/// A body without local variables, alone.
-pub(crate) fn only_body(alloc: Global, statements: CheckedStatements) -> Result<Bodies, NoMemory>
-    ensures { IfOk result (pieces.IsOnly statements) }
+/// A body with these local variables, alone.
+pub(crate) fn one_body(
+    alloc: Global,
+    statements: CheckedStatements,
+    locals: Values,
+) -> Result<Bodies, NoMemory>
+    requires { size_of_values locals < 4294967296 }
+    ensures { IfOk result (pieces.IsWith statements locals) }
 {
     let mut bodies = Bodies::new(alloc);
-    bodies.push(Body::new(alloc, statements, Values::new(alloc))?)?;
+    bodies.push(Body::new(alloc, statements, locals)?)?;
     Ok(bodies)
+}
+
+/// A body without local variables, alone.
+pub(crate) fn only_body(alloc: Global, statements: CheckedStatements) -> Result<Bodies, NoMemory>
+    ensures { IfOk result (pieces.IsWith statements []) }
+{
+    one_body(alloc, statements, Values::new(alloc))
 }
 
 /// A CARDINAL, which is 0.

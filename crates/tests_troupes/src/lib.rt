@@ -1,17 +1,13 @@
-//! Tests of the parts of a member: what collators answer, the Ringmaster's requests and tables, snapshots, and how a
-//! node joins.
+//! Tests of troupes: what collators answer, the Ringmaster's requests and tables, snapshots, how a node joins, and what
+//! a member knows of nodes and views.
 #![tactic(auto)]
 
 #[cfg(test)]
 mod collators;
 #[cfg(test)]
-mod histories;
-#[cfg(test)]
 mod joiners;
 #[cfg(test)]
 mod known;
-#[cfg(test)]
-mod records;
 #[cfg(test)]
 mod requests;
 #[cfg(test)]

@@ -1,6 +1,6 @@
 use Rattle.std.proofs.Common.{sym, subst}
 use Rattle.circus_machine.specs.Modules.{AreBodiesOf}
-use Rattle.tests_programs.specs.Bank.{IsWith}
+use Rattle.tests_programs.specs.Pieces.{IsWith}
 use Rattle.tests_programs.proofs.OfBank.{day_bodies}
 use Rattle.tests_programs.proofs.bank.day.Goals as goal
 

@@ -1,6 +1,6 @@
 use Rattle.std.proofs.Common.{sym, subst}
 use Rattle.circus_machine.specs.Modules.{AreBodiesOf}
-use Rattle.tests_programs.specs.Pieces.{IsOnly}
+use Rattle.tests_programs.specs.Pieces.{IsWith}
 use Rattle.tests_programs.proofs.OfVault.{taker_bodies}
 use Rattle.tests_programs.proofs.vault.taker.Goals as goal
 
@@ -8,4 +8,4 @@ pub new-requires-clause-bodies : goal.new-requires-clause-bodies
 new-requires-clause-bodies c =
     let bodies = c.in_ok-bodies.bodies in
     subst (λ signature. AreBodiesOf signature signature.procedures bodies) (sym c.in_ok-taker_signature.ensures)
-    (taker_bodies bodies (subst (λ ss. IsOnly ss bodies) c.in_ok-take_twice.ensures c.in_ok-bodies.ensures))
+    (taker_bodies bodies (subst (λ ss. IsWith ss [] bodies) c.in_ok-take_twice.ensures c.in_ok-bodies.ensures))

@@ -1,5 +1,5 @@
 use Rattle.std.proofs.Common.{◌≡◌, ◌+◌, length}
-use Rattle.tests_bytes.proofs.stubs.cut.Given as goal
+use Rattle.tests_stubs.proofs.stubs.cut.Given as goal
 
 -- one byte, and those so far
 abbrev pub invariant-loop-byte : goal.invariant-loop-byte

@@ -1,10 +1,10 @@
 use Rattle.std.proofs.Common.{◌++◌, ◌∷◌, [], ap, ◌∙◌}
-use Rattle.tests_programs.proofs.pieces.only_body.Goals as goal
+use Rattle.tests_programs.proofs.pieces.one_body.Goals as goal
 
 pub returns : goal.returns
 returns c = record {
   body = c.in_ok-new.field-0;
   alone = c.in_ok-push.ensures.ok ∙ ap (λ bodies. bodies ++ c.in_ok-new.field-0 ∷ []) c.new-bodies.ensures;
   does = c.in_ok-new.ensures.statements;
-  locals = c.in_ok-new.ensures.locals ∙ c.new.ensures;
+  begins = c.in_ok-new.ensures.locals;
 }
