@@ -4,7 +4,9 @@ use Rattle.std.proofs.Common.{nat_cmp, is_some, subst, eq-eqb, ne_eqb, ◌⊎◌
 use Rattle.std.proofs.lemmas.Bool.{cases_eq}
 use Rattle.std.specs.BTreeMap.{BTreeMap, get, Updates}
 use Rattle.circus_idl.proofs.NumberMaps.{get-updates}
+use Rattle.std.specs.Prelude.{find, slice_get}
 use Rattle.std.specs.List.{position_from}
+use Rattle.std.specs.Option.{option_map_or}
 use Rattle.circus_idl.specs.declared.interface.DeclaredError.{DeclaredError}
 use Rattle.circus_idl.specs.Shown.{has_number, error_name}
 
@@ -22,30 +24,39 @@ place_more n i e rest None new whole is before = more (has_number n e) is before
     more true is before = rw is before
     more false is before = rw is before
 
--- the error found from a place on has the name
+-- the error at the place that is found from a place on is the first of the number
 abbrev IsFoundFrom : ℕ → ℕ → List DeclaredError → Option ℕ → Type 0
-IsFoundFrom n i errors None = error_name errors n ≡ []
-IsFoundFrom n i errors (Some k) = (j : ℕ) × (k ≡ i + j) × (j < length errors) × ((d : DeclaredError) → (get_or errors j d).name ≡ error_name errors n)
+IsFoundFrom n i errors None = find (has_number n) errors ≡ None
+IsFoundFrom n i errors (Some k) = (j : ℕ) × (k ≡ i + j) × (slice_get errors j ≡ find (has_number n) errors)
 
 found_from : (n i : ℕ) (errors : List DeclaredError) → IsFoundFrom n i errors (position_from (has_number n) i errors)
 found_from n i [] = refl
 found_from n i (e ∷ errors) = more (has_number n e) (position_from (has_number n) (i + 1) errors) refl (found_from n (i + 1) errors)
   where
     more : (b : Bool) (o : Option ℕ) → has_number n e ≡ b → IsFoundFrom n (i + 1) errors o → IsFoundFrom n i (e ∷ errors) (cond b (Some i) o)
-    more true o is found = (0, omega arith, omega arith, λ d. rw is refl)
+    more true o is found = (0, omega arith, rw is refl)
     more false None is found = rw is found
-    more false (Some k) is found = (suc found.0, omega (arith, found.1), omega (arith, found.2), λ d. rw is (found.3 d))
+    more false (Some k) is found = (suc found.0, omega (arith, found.1), rw is found.2)
 
 -- the error that a map of first places leads to
-pub found_is : (errors : List DeclaredError) (n k : ℕ) → Some k ≡ position_from (has_number n) 0 errors → (k < length errors) × ((d : DeclaredError) → (get_or errors k d).name ≡ error_name errors n)
+pub found_is : (errors : List DeclaredError) (n k : ℕ) → Some k ≡ position_from (has_number n) 0 errors → slice_get errors k ≡ find (has_number n) errors
 found_is errors n k is =
-    let (j, same, below, name) = subst (IsFoundFrom n 0 errors) (sym is) (found_from n 0 errors) in
+    let (j, same, found) = subst (IsFoundFrom n 0 errors) (sym is) (found_from n 0 errors) in
     let e : j ≡ k = omega arith in
-    (omega arith, λ d. subst (λ i. (get_or errors i d).name ≡ error_name errors n) e (name d))
+    subst (λ i. slice_get errors i ≡ find (has_number n) errors) e found
 
 -- no error has a number without a place
-pub none_is : (errors : List DeclaredError) (n : ℕ) → None ≡ position_from (has_number n) 0 errors → [] ≡ error_name errors n
+pub none_is : (errors : List DeclaredError) (n : ℕ) → None ≡ position_from (has_number n) 0 errors → None ≡ find (has_number n) errors
 none_is errors n is = sym (subst (IsFoundFrom n 0 errors) (sym is) (found_from n 0 errors))
+
+-- the name of a number is that of the first error that has it
+pub name_found : (errors : List DeclaredError) (n : ℕ) → option_map_or (λ (e : DeclaredError). e.name) (find (has_number n) errors) [] ≡ error_name errors n
+name_found [] n = refl
+name_found (e ∷ errors) n = more (has_number n e) (name_found errors n)
+  where
+    more : (b : Bool) → option_map_or (λ (e : DeclaredError). e.name) (find (has_number n) errors) [] ≡ error_name errors n → option_map_or (λ (e : DeclaredError). e.name) (cond b (Some e) (find (has_number n) errors)) [] ≡ cond b e.name (error_name errors n)
+    more true rest = refl
+    more false rest = rest
 
 -- a number that had no place takes one
 pub place_taken : (m m' : BTreeMap ℕ ℕ) (k i n : ℕ) → Updates nat_cmp m m' k (Some i) → is_some (get nat_cmp m k) ≡ false → get nat_cmp m' n ≡ or_place (get nat_cmp m n) (cond (nat_eq k n) (Some i) None)

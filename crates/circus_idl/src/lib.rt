@@ -3,14 +3,14 @@
 //! `interface` has an interface and its parts, and `idl_fault` what can be wrong with the text of one. `read`
 //! reads one: `check` goes over its tree, `draft` makes the interface from it, `declared` and `scope` keep what
 //! is declared before a place, and `types` is the table of the types; `limits` has the limits, and `fault` why a text is
-//! refused. `show` writes an interface, token by token in `writer`, with the names of errors in `error_names`. `laws` has
+//! refused. `show` writes an interface, token by token in `writer`, with the names of errors in `errors_by_number`. `laws` has
 //! what holds of every text that is shown.
 #![tactic(auto)]
 
 mod check;
 mod declared;
 mod draft;
-mod error_names;
+mod errors_by_number;
 mod fault;
 mod idl_fault;
 mod interface;
@@ -22,6 +22,7 @@ mod show;
 mod types;
 mod writer;
 
+pub use errors_by_number::ErrorsByNumber;
 pub use idl_fault::IdlFault;
 pub use interface::{
     Declared, DeclaredError, DeclaredType, Errors, Interface, Procedure, Procedures,

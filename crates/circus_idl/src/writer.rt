@@ -7,7 +7,7 @@ ghost use Rattle.circus_idl.specs.Lexemes.{led};
 ghost use Rattle.circus_idl.specs.Lexemes as lexeme;
 ghost use Rattle.circus_idl.specs.Shown as shown;
 
-use crate::error_names::ErrorNames;
+use crate::errors_by_number::ErrorsByNumber;
 use crate::interface::{DeclaredError, DeclaredType, Interface, Procedure};
 use circus_value::{
     Arm, Arms, Duplicate, Field, Fields, Label, Labels, Name, NoMemory, Octets, Shape,
@@ -271,7 +271,7 @@ impl Writer {
     {
         self.types(interface.types.as_slice())?;
         self.errors(interface.errors.as_slice())?;
-        let names = ErrorNames::new(self.alloc, interface.errors.as_slice())?;
+        let names = ErrorsByNumber::new(self.alloc, interface.errors.as_slice())?;
         self.procedures(interface.procedures.as_slice(), &names)
     }
 
@@ -294,7 +294,11 @@ impl Writer {
     }
 
     // Procedures that report some of these errors.
-    fn procedures(&mut self, procedures: &[Procedure], errors: &ErrorNames) -> Result<(), NoMemory>
+    fn procedures(
+        &mut self,
+        procedures: &[Procedure],
+        errors: &ErrorsByNumber,
+    ) -> Result<(), NoMemory>
         ensures { OnOk result (self.new ≡ self.old ++ led (flat_map (shown.declared_procedure errors.now.errors.now) procedures.now)) }
     {
         for procedure in procedures {
@@ -303,7 +307,7 @@ impl Writer {
         Ok(())
     }
 
-    fn procedure(&mut self, procedure: &Procedure, errors: &ErrorNames) -> Result<(), NoMemory>
+    fn procedure(&mut self, procedure: &Procedure, errors: &ErrorsByNumber) -> Result<(), NoMemory>
         ensures { OnOk result (self.new ≡ self.old ++ led (shown.declared_procedure errors.now.errors.now procedure.now)) }
     {
         self.name(&procedure.name)?;
@@ -313,7 +317,7 @@ impl Writer {
     }
 
     #[tactic(auto, unfolding(crate::specs::Shown::signature_lexemes))]
-    fn signature(&mut self, procedure: &Procedure, errors: &ErrorNames) -> Result<(), NoMemory>
+    fn signature(&mut self, procedure: &Procedure, errors: &ErrorsByNumber) -> Result<(), NoMemory>
         ensures { OnOk result (self.new ≡ self.old ++ led (shown.signature_lexemes errors.now.errors.now procedure.now)) }
     {
         self.optional_fields(&procedure.arguments)?;
@@ -321,7 +325,7 @@ impl Writer {
         self.reports(procedure.reports.as_slice(), errors)
     }
 
-    fn reports(&mut self, numbers: &[u16], errors: &ErrorNames) -> Result<(), NoMemory>
+    fn reports(&mut self, numbers: &[u16], errors: &ErrorsByNumber) -> Result<(), NoMemory>
         ensures { OnOk result (self.new ≡ self.old ++ led (shown.reports_lexemes errors.now.errors.now numbers.now)) }
     {
         if numbers.is_empty() {
@@ -331,7 +335,7 @@ impl Writer {
         self.names(numbers, errors)
     }
 
-    fn names(&mut self, numbers: &[u16], errors: &ErrorNames) -> Result<(), NoMemory>
+    fn names(&mut self, numbers: &[u16], errors: &ErrorsByNumber) -> Result<(), NoMemory>
         ensures { OnOk result (self.new ≡ self.old ++ led (shown.names_lexemes errors.now.errors.now numbers.now)) }
     {
         self.words(" [")?;
@@ -339,7 +343,7 @@ impl Writer {
         self.words(" ]")
     }
 
-    fn error_names(&mut self, numbers: &[u16], errors: &ErrorNames) -> Result<(), NoMemory>
+    fn error_names(&mut self, numbers: &[u16], errors: &ErrorsByNumber) -> Result<(), NoMemory>
         ensures { OnOk result (self.new ≡ self.old ++ led (shown.names_inside errors.now.errors.now numbers.now)) }
     {
         for (place, number) in numbers.iter().enumerate() {

@@ -15,4 +15,4 @@ returns c =
     let names = repeated_names no_name (group_names groups) in
     let types = inside_groups (is_known c.args.types.now) groups in
     c.is_clean.ensures (names ++ types)
-        (c.in_ok-inside_groups.ensures ∙ ap (λ b. least_from rank_of b types) c.in_ok-field_names.ensures ∙ sym (least_more rank_of None names types))
+    (c.in_ok-inside_groups.ensures ∙ ap (λ b. least_from rank_of b types) c.in_ok-field_names.ensures ∙ sym (least_more rank_of None names types))

@@ -1,5 +1,5 @@
-// The names of errors by their numbers.
-ghost use Rattle.std.specs.Prelude.{◌≡◌, ℕ, IfOk};
+// Errors by their numbers.
+ghost use Rattle.std.specs.Prelude.{◌≡◌, ℕ, find, option_copied, slice_get, IfOk};
 ghost use Rattle.std.specs.List.{position_from};
 ghost use Rattle.std.specs.Ordering.{nat_cmp};
 ghost use Rattle.std.specs.BTreeMap.{get};
@@ -12,31 +12,42 @@ use std::collections::BTreeMap;
 
 /// Errors that can be found by their numbers.
 #[derive(Drop)]
-pub struct ErrorNames<'a> {
+pub struct ErrorsByNumber<'a> {
     pub errors: &'a [DeclaredError],
     /// Where each number stands first among the errors.
     places: BTreeMap<u16, usize>,
     ghost found: { (n : ℕ) → get nat_cmp places n ≡ position_from (has_number n) 0 errors.now },
 }
 
-impl<'a> ErrorNames<'a> {
+impl<'a> ErrorsByNumber<'a> {
     pub fn new(alloc: Global, errors: &'a [DeclaredError]) -> Result<Self, NoMemory>
         ensures { IfOk result (λ names. names.errors.now ≡ errors.now) }
     {
-        Ok(ErrorNames {
+        Ok(ErrorsByNumber {
             errors,
             places: places_of(alloc, errors)?,
         })
+    }
+
+    /// The first error of this number. It takes no memory.
+    pub fn error(&self, number: u16) -> Option<&'a DeclaredError>
+        ensures { option_copied result ≡ find (has_number number) self.now.errors.now }
+    {
+        let place = self.places.get(&number)?;
+        self.at(*place)
+    }
+
+    fn at(&self, place: usize) -> Option<&'a DeclaredError>
+        ensures { option_copied result ≡ slice_get self.now.errors.now place }
+    {
+        self.errors.get(place)
     }
 
     /// The name of the first error of this number, or no bytes where there is none.
     pub fn name(&self, number: u16) -> &[u8]
         ensures { result.now ≡ error_name self.now.errors.now number }
     {
-        let Some(place) = self.places.get(&number) else {
-            return &[];
-        };
-        match self.errors.get(*place) {
+        match self.error(number) {
             Some(error) => error.name.as_slice(),
             None => &[],
         }

@@ -4,8 +4,8 @@ use Rattle.std.specs.BTreeMap.{get}
 use Rattle.circus_idl.specs.Shown.{has_number}
 use Rattle.circus_idl.proofs.FirstPlace.{or_place, place_more, place_taken, place_kept}
 use Rattle.circus_type.proofs.Dropped.{drop_more}
-use Rattle.circus_idl.proofs.error_names.places_of.Goals as goal
-use Rattle.circus_idl.proofs.error_names.places_of.Goals.{then-not-contains_key+in_ok-insert, else-not-contains_key}
+use Rattle.circus_idl.proofs.errors_by_number.places_of.Goals as goal
+use Rattle.circus_idl.proofs.errors_by_number.places_of.Goals.{then-not-contains_key+in_ok-insert, else-not-contains_key}
 
 pub loop-place-preserved : goal.loop-place-preserved
 loop-place-preserved c = λ n.

@@ -3,7 +3,7 @@ use Rattle.std.specs.List.{position_from}
 use Rattle.std.specs.BTreeMap.{get}
 use Rattle.circus_idl.specs.Shown.{has_number}
 use Rattle.circus_idl.proofs.FirstPlace.{or_place}
-use Rattle.circus_idl.proofs.error_names.places_of.Given as goal
+use Rattle.circus_idl.proofs.errors_by_number.places_of.Given as goal
 
 -- what is not in the map is among the errors that are left
 abbrev pub invariant-loop-place : goal.invariant-loop-place
