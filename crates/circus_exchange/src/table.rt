@@ -85,10 +85,17 @@ impl<V: Drop> Table<V> {
     }
 
     /// Takes out what stands under a number, if anything does.
-    pub fn remove(&mut self, number: u32) -> Option<V>
+    pub fn take(&mut self, number: u32) -> Option<V>
         ensures value { result ≡ map.get self.old number }
         ensures rest { self.new ≡ map.remove self.old number }
     {
         self.values.remove(&number)
+    }
+
+    /// Drops what stands under a number, if anything does.
+    pub fn remove(&mut self, number: u32)
+        ensures { self.new ≡ map.remove self.old number }
+    {
+        let _ = self.take(number);
     }
 }

@@ -55,10 +55,10 @@ impl TextModule {
         bodies: Bodies,
     ) -> Result<TextModule, NoMemory>
         requires first { IsState signature first }
-        requires bodies { AreBodiesOf signature signature.procedures bodies }
-        ensures signature { IfOk result (λ m. m.parts.value.signature ≡ signature) }
-        ensures first { IfOk result (λ m. m.parts.value.first ≡ first) }
-        ensures bodies { IfOk result (λ m. m.parts.value.bodies ≡ bodies) }
+        requires bodies { ∥ AreBodiesOf signature signature.procedures bodies ∥₁ }
+        ensures declared { IfOk result (λ m. ⟦<TextModule as Module>⟧.declared m ≡ signature) }
+        ensures turn { IfOk result (λ m. ⟦<TextModule as Module>⟧.turn m ≡ turn_with signature bodies) }
+        ensures first { IfOk result (λ m. ⟦<TextModule as Module>⟧.first m ≡ first) }
     {
         let parts = Parts {
             signature,

@@ -89,7 +89,7 @@ impl<P: Drop> Peer<P> {
         match self.pair.send_call(message) {
             Ok((_, datagrams)) => Ok(datagrams),
             Err(fault) => {
-                let _ = self.purposes.remove(number);
+                let _ = self.purposes.take(number);
                 Err(fault)
             }
         }
@@ -194,7 +194,7 @@ fn hand_out<P: Drop>(purposes: &mut Table<P>, node: u16, arrived: Arrived) -> He
     match arrived {
         Arrived::Nothing => Heard::Taken,
         Arrived::ArrivedCall(number, message) => Heard::Called(Caller { node, number }, message),
-        Arrived::ArrivedReturn(number, message) => match purposes.remove(number) {
+        Arrived::ArrivedReturn(number, message) => match purposes.take(number) {
             Some(purpose) => Heard::Returned(number, purpose, message),
             None => Heard::Taken,
         },

@@ -8,8 +8,8 @@ ghost use Rattle.tests_programs.specs.Bank as banks;
 ghost use Rattle.tests_programs.specs.Pieces as pieces;
 
 use crate::pieces::{
-    LIMIT, alone, as_kind, calculated, compared, count, held, main_alone, one_body, one_shape, only,
-    only_body, only_import, only_place, variable, zero,
+    LIMIT, alone, as_kind, calculated, compared, count, held, main_alone, one_body, one_shape,
+    only, only_body, only_import, only_place, variable, zero,
 };
 use circus_checked::{
     Calculation, CheckedCall, CheckedExpression, CheckedExpressions, CheckedHandler,
@@ -346,7 +346,7 @@ fn four_zeros(alloc: Global) -> Result<Values, NoMemory>
 }
 
 fn ledger(alloc: Global) -> Result<TextModule, NoMemory>
-    ensures { IfOk result (λ m. m.parts.value.signature ≡ banks.ledger) }
+    ensures { IfOk result (λ m. ⟦<TextModule as circus_model::Module>⟧.declared m ≡ banks.ledger) }
 {
     let balances = Value::Array(four_zeros(alloc)?);
     let first = two_values(alloc, balances, Value::Boolean(false))?;
@@ -355,7 +355,7 @@ fn ledger(alloc: Global) -> Result<TextModule, NoMemory>
 }
 
 fn teller(alloc: Global) -> Result<TextModule, NoMemory>
-    ensures { IfOk result (λ m. m.parts.value.signature ≡ banks.teller) }
+    ensures { IfOk result (λ m. ⟦<TextModule as circus_model::Module>⟧.declared m ≡ banks.teller) }
 {
     let locals = two_values(alloc, Value::LongCardinal(0), Value::LongCardinal(0))?;
     let bodies = one_body(alloc, pay(alloc)?, locals)?;
@@ -364,7 +364,7 @@ fn teller(alloc: Global) -> Result<TextModule, NoMemory>
 }
 
 fn day(alloc: Global) -> Result<TextModule, NoMemory>
-    ensures { IfOk result (λ m. m.parts.value.signature ≡ banks.day) }
+    ensures { IfOk result (λ m. ⟦<TextModule as circus_model::Module>⟧.declared m ≡ banks.day) }
 {
     let locals = two_values(alloc, Value::Cardinal(0), Value::Boolean(false))?;
     let bodies = one_body(alloc, pay_often(alloc)?, locals)?;

@@ -113,7 +113,7 @@ fn two_zeros(alloc: Global) -> Result<Values, NoMemory>
 
 // The vault.
 fn vault(alloc: Global) -> Result<TextModule, NoMemory>
-    ensures { IfOk result (λ m. m.parts.value.signature ≡ vaults.vault) }
+    ensures { IfOk result (λ m. ⟦<TextModule as circus_model::Module>⟧.declared m ≡ vaults.vault) }
 {
     let bodies = only_body(alloc, take(alloc)?)?;
     let first = two_zeros(alloc)?;
@@ -180,7 +180,7 @@ fn take_twice(alloc: Global) -> Result<CheckedStatements, NoMemory>
 
 // Who takes from the vault twice.
 fn taker(alloc: Global) -> Result<TextModule, NoMemory>
-    ensures { IfOk result (λ m. m.parts.value.signature ≡ vaults.taker) }
+    ensures { IfOk result (λ m. ⟦<TextModule as circus_model::Module>⟧.declared m ≡ vaults.taker) }
 {
     let bodies = only_body(alloc, take_twice(alloc)?)?;
     let first = zero(alloc)?;

@@ -115,7 +115,7 @@ fn in_order(alloc: Global, first: Body, second: Body) -> Result<Bodies, NoMemory
 }
 
 fn wheel(alloc: Global) -> Result<TextModule, NoMemory>
-    ensures { IfOk result (λ m. m.parts.value.signature ≡ wheels.wheel) }
+    ensures { IfOk result (λ m. ⟦<TextModule as circus_model::Module>⟧.declared m ≡ wheels.wheel) }
 {
     let bodies = both(alloc)?;
     TextModule::new(alloc, wheel_signature(alloc)?, Values::new(alloc), bodies)
@@ -178,7 +178,7 @@ fn turn_both(alloc: Global) -> Result<CheckedStatements, NoMemory>
 }
 
 fn turner(alloc: Global) -> Result<TextModule, NoMemory>
-    ensures { IfOk result (λ m. m.parts.value.signature ≡ wheels.turner) }
+    ensures { IfOk result (λ m. ⟦<TextModule as circus_model::Module>⟧.declared m ≡ wheels.turner) }
 {
     let bodies = only_body(alloc, turn_both(alloc)?)?;
     TextModule::new(alloc, turner_signature(alloc)?, Values::new(alloc), bodies)

@@ -7,5 +7,5 @@ use Rattle.tests_programs.proofs.vault.taker.Goals as goal
 pub new-requires-clause-bodies : goal.new-requires-clause-bodies
 new-requires-clause-bodies c =
     let bodies = c.in_ok-bodies.bodies in
-    subst (λ signature. AreBodiesOf signature signature.procedures bodies) (sym c.in_ok-taker_signature.ensures)
-    (taker_bodies bodies (subst (λ ss. IsWith ss [] bodies) c.in_ok-take_twice.ensures c.in_ok-bodies.ensures))
+    ∣ subst (λ signature. AreBodiesOf signature signature.procedures bodies) (sym c.in_ok-taker_signature.ensures)
+    (taker_bodies bodies (subst (λ ss. IsWith ss [] bodies) c.in_ok-take_twice.ensures c.in_ok-bodies.ensures)) ∣₁

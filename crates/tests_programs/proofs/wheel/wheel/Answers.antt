@@ -6,4 +6,4 @@ use Rattle.tests_programs.proofs.wheel.wheel.Goals as goal
 pub new-requires-2-clause-bodies : goal.new-requires-2-clause-bodies
 new-requires-2-clause-bodies c =
     let bodies = c.in_ok-bodies.bodies in
-    subst (λ signature. AreBodiesOf signature signature.procedures bodies) (sym c.in_ok-wheel_signature.ensures) (wheel_bodies bodies c.in_ok-bodies.ensures)
+    ∣ subst (λ signature. AreBodiesOf signature signature.procedures bodies) (sym c.in_ok-wheel_signature.ensures) (wheel_bodies bodies c.in_ok-bodies.ensures) ∣₁
