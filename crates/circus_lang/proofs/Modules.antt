@@ -1,9 +1,9 @@
 -- The productions of modules are lawful with every number of levels.
-use Rattle.std.proofs.Common.{◌≡◌, ℕ, ◌+◌, suc, ◌<◌, Bool, true, false, List, [], ◌∷◌, ◌++◌, refl, arith, ◌⊎◌, inl, inr}
-use Rattle.std.specs.Prelude.{Option, Some, codes}
+use Rattle.std.proofs.Common.{◌≡◌, ℕ, ◌+◌, suc, ◌<◌, Bool, true, false, List, [], ◌∷◌, ◌++◌, length, refl, sym, ◌∙◌, ap, subst, arith, ◌⊎◌, inl, inr}
+use Rattle.std.specs.Prelude.{◌||◌, Option, Some, None, codes}
 use Rattle.circus_syntax.specs.declared.named.Named.{Named}
 use Rattle.circus_syntax.specs.Placed.{Placed, first, word, sign, Due, due, due_at, due_name, IsDue, AreDue}
-use Rattle.circus_syntax.specs.Reader.{Reader, passes, both, either_case, repeated}
+use Rattle.circus_syntax.specs.Reader.{Reader, next, passes, sees, both, either_case, repeated}
 use Rattle.circus_syntax.specs.Reading.{fixed, name, names, behind}
 use Rattle.circus_syntax.specs.Spelling.{each, comma, spelling_name, spelling_type, IsName, IsEach, IsListed}
 use Rattle.circus_syntax.proofs.Sound.{Sound, sound_both}
@@ -15,6 +15,7 @@ use Rattle.circus_syntax.proofs.TypesRead.{NotDot}
 use Rattle.circus_syntax.proofs.TypeLevels.{lawful_type}
 use Rattle.circus_syntax.proofs.Lawful.{Lawful, Branch, lawful_at, lawful_fixed, lawful_fixed_at, lawful_name, lawful_both, lawful_then, lawful_mapped, branch_of, lawful_cased, lawful_rest, lawful_repeated, lawful_behind}
 use Rattle.circus_expression.proofs.Ends.{AllLawful}
+use Rattle.circus_expression.proofs.Stands.{either_hit, either_missed}
 use Rattle.circus_statement.specs.WrittenStatement.{WrittenStatement, ending}
 use Rattle.circus_statement.specs.WrittenStatement as statement
 use Rattle.circus_statement.specs.StatementReading.{is_word}
@@ -22,7 +23,7 @@ use Rattle.circus_statement.proofs.Lawfulness.{stays_lexeme, link_first, link_du
 use Rattle.circus_lang.specs.ModuleTree.{VariableTree}
 use Rattle.circus_lang.specs.WrittenModule.{WrittenBody, WrittenProcedure, WrittenModule, serving, root, spelling_imports, spelling_heading, spelling_variable, spelling_body, spelling_procedure, spelling_main, spelling_module, IsVariable, IsBody, IsProcedure, IsModule}
 use Rattle.circus_lang.specs.WrittenModule as written
-use Rattle.circus_lang.specs.ModuleReading.{imports, heading, variable, variables, body, procedure, procedures, main_procedure, closing, serving_module, root_module, module_text}
+use Rattle.circus_lang.specs.ModuleReading.{imports, heading, variable, variables, body, procedure, procedures, main_procedure, closing, serving_module, root_module, module_text, begins_module}
 
 -- What stands in front of the variables.
 
@@ -244,3 +245,60 @@ modules_lawful n m above = lawful_cased (passes (is_word (codes "ROOT"))) n (mod
     branches : (b : Bool) → Branch (passes (is_word (codes "ROOT"))) b n (module_by n b) (module_by m b) spelling_module IsModule (ModuleIs b) Any
     branches true = branch_of (passes (is_word (codes "ROOT"))) true n IsModule (module_good true) (lawful_root n m above)
     branches false = branch_of (passes (is_word (codes "ROOT"))) false n IsModule (module_good false) (lawful_serving n m above)
+
+-- A module begins with MODULE or ROOT, and takes it.
+
+first_of_two : (a b : Bool) → (a || b) ≡ true → b ≡ false → a ≡ true
+first_of_two true b either none = refl
+first_of_two false b either none = sym none ∙ either
+
+or_true : (b : Bool) → (b || true) ≡ true
+or_true true = refl
+or_true false = refl
+
+shrinks_serving : (n : ℕ) → Shrinks (is_word (codes "MODULE")) (serving_module n)
+unfolding serving_module
+shrinks_serving n r hit =
+    shrinks_both (is_word (codes "MODULE")) (fixed (word (codes "MODULE"))) _ (shrinks_fixed (word (codes "MODULE")))
+    (sound_both sound_name (sound_both (sound_fixed (word (codes "IMPLEMENTS"))) (sound_both sound_name (sound_both (lawful_heading n).narrow
+    (sound_both (lawful_variables n (n + 2) (omega arith)).narrow (sound_both (lawful_procedures n (n + 2) (omega arith)).narrow (lawful_closing n).narrow)))))) r hit
+
+shrinks_root : (n : ℕ) → Shrinks (is_word (codes "ROOT")) (root_module n)
+unfolding root_module
+shrinks_root n r hit =
+    shrinks_both (is_word (codes "ROOT")) (fixed (word (codes "ROOT"))) _ (shrinks_fixed (word (codes "ROOT")))
+    (sound_both sound_name (sound_both (lawful_heading n).narrow (sound_both (lawful_variables n (n + 2) (omega arith)).narrow (sound_both (lawful_main n (n + 2) (omega arith)).narrow (lawful_closing n).narrow)))) r hit
+
+pub shrinks_module : (n : ℕ) → Shrinks begins_module (module_text n)
+unfolding module_text
+shrinks_module n r hit = by_next (next r) refl hit
+  where
+    by_next : (o : Option Placed) → next r ≡ o → passes begins_module o ≡ true → length (module_text n r).1.rest < length r.rest
+    by_next None is hit = absurd (cc)
+    by_next (Some t) is hit = by_root (is_word (codes "ROOT") t) refl
+      where
+        by_root : (b : Bool) → is_word (codes "ROOT") t ≡ b → length (module_text n r).1.rest < length r.rest
+        by_root true root_is =
+            let seen : sees (is_word (codes "ROOT")) r ≡ true = ap (passes (is_word (codes "ROOT"))) is ∙ root_is in
+            subst (λ (x : WrittenModule × Reader). length x.1.rest < length r.rest) (sym (either_hit (is_word (codes "ROOT")) (root_module n) (serving_module n) r true (sym seen) refl)) (shrinks_root n r seen)
+        by_root false root_is =
+            let missed : sees (is_word (codes "ROOT")) r ≡ false = ap (passes (is_word (codes "ROOT"))) is ∙ root_is in
+            let seen : sees (is_word (codes "MODULE")) r ≡ true = ap (passes (is_word (codes "MODULE"))) is ∙ first_of_two (is_word (codes "MODULE") t) (is_word (codes "ROOT") t) hit root_is in
+            subst (λ (x : WrittenModule × Reader). length x.1.rest < length r.rest) (sym (either_missed (is_word (codes "ROOT")) (root_module n) (serving_module n) r false (sym missed) refl)) (shrinks_serving n r seen)
+
+pub module_opens : Opens spelling_module IsModule begins_module
+module_opens w ts rest good d = by_first (first (ts ++ rest)) (begun w ts rest d)
+  where
+    Begun : Option Placed → Type 0
+    Begun o = (passes (is_word (codes "MODULE")) o ≡ true) ⊎ (passes (is_word (codes "ROOT")) o ≡ true)
+
+    begun : (v : WrittenModule) (us more : List Placed) → AreDue (spelling_module v) us → Begun (first (us ++ more))
+    begun (serving k i ns vs ps) us more e =
+        inl (opens_due (word (codes "MODULE")) (due_name k ∷ due (word (codes "IMPLEMENTS")) ∷ due_name i ∷ (spelling_heading ns ++ (each spelling_variable vs ++ (each spelling_procedure ps ++ written.closing)))) us more e)
+    begun (root k ns vs at b) us more e = inr (opens_due (word (codes "ROOT")) (due_name k ∷ (spelling_heading ns ++ (each spelling_variable vs ++ (spelling_main at b ++ written.closing)))) us more e)
+
+    by_first : (o : Option Placed) → Begun o → passes begins_module o ≡ true
+    by_first None (inl is) = cc
+    by_first None (inr is) = cc
+    by_first (Some t) (inl is) = ap (λ b. b || is_word (codes "ROOT") t) is
+    by_first (Some t) (inr is) = ap (λ b. is_word (codes "MODULE") t || b) is ∙ or_true (is_word (codes "MODULE") t)

@@ -1,5 +1,5 @@
 -- What reading a module at a token of a text answers.
-use Rattle.std.proofs.Common.{◌≡◌, ℕ, ◌+◌, ◌-◌, ◌≤◌, List, ◌++◌, length, drop, refl, sym, ◌∙◌, ap, subst, arith, length-append, length-drop}
+use Rattle.std.proofs.Common.{◌≡◌, ℕ, ◌+◌, ◌-◌, ◌≤◌, List, ◌++◌, length, drop, refl, sym, ◌∙◌, ap, arith, length-append, length-drop}
 use Rattle.std.specs.Prelude.{Option, Some, None, All}
 use Rattle.std.proofs.lemmas.List.{length-map}
 use Rattle.circus_text.specs.declared.token.Token.{Token}
@@ -11,8 +11,7 @@ use Rattle.circus_syntax.specs.Placed.{Placed, placed_of, AreTokens, AreWithin}
 use Rattle.circus_syntax.specs.Read.{placed_from}
 use Rattle.circus_syntax.specs.Reader.{Reader, place_in}
 use Rattle.circus_syntax.specs.Spelling.{most_levels}
-use Rattle.circus_syntax.proofs.Sound.{Sound, reader, ran_is}
-use Rattle.circus_syntax.proofs.Repeats.{never_longer}
+use Rattle.circus_syntax.proofs.Sound.{Sound, reader}
 use Rattle.circus_syntax.proofs.Viewed.{text_tokens}
 use Rattle.circus_expression.specs.Ending.{Are, IsUnexpected, IsTooDeep}
 use Rattle.circus_expression.specs.Standing.{shown}
@@ -40,27 +39,8 @@ too_deep_module ts left w s e tokens is deep =
     let (stops, there) = too_deep modules_lawful tt most_levels ts left w s e tokens is deep in
     (stops, none_ends modules_lawful most_levels ts left w s e is, there)
 
-sound_module : Sound (module_text most_levels) spelling_module IsModule
+pub sound_module : Sound (module_text most_levels) spelling_module IsModule
 sound_module = (modules_lawful most_levels 66 (omega arith)).narrow
-
-end_kept : (r : Reader) → (module_text most_levels r).1.end ≡ r.end
-end_kept r = by_stop r.stop
-  where
-    by_stop : (stop : Option Stop) → (module_text most_levels (reader stop r.rest r.end)).1.end ≡ r.end
-    by_stop None = ap (λ (x : WrittenModule × Reader). x.1.end) (ran_is (sound_module.runs r.rest r.end))
-    by_stop (Some s) = ap (λ (x : WrittenModule × Reader). x.1.end) ((sound_module.fills s r.end).stays r.rest)
-
-pub left_few : (text : List ℕ) (ts : List Token) (at : ℕ) (r s : Reader) (tree : ModuleTree) → r ≡ reader None (placed_from text ts at) (length text) → shown module_stands_for (module_text most_levels r) ≡ (tree, s) → length s.rest ≤ length ts
-left_few text ts at r s tree r_is is =
-    let few = subst (λ (x : ModuleTree × Reader). length x.1.rest ≤ length r.rest) is (never_longer sound_module r) in
-    let many = ap (λ (q : Reader). length q.rest) r_is in
-    omega (arith, few, many, length-map (drop at ts) (placed_of text), length-drop at ts)
-
-pub answer_is : (text : List ℕ) (ts : List Token) (at : ℕ) (r s : Reader) (tree : ModuleTree) (stop : Option Stop) → r ≡ reader None (placed_from text ts at) (length text) → shown module_stands_for (module_text most_levels r) ≡ (tree, s) → stop ≡ s.stop
-    → shown module_stands_for (module_text most_levels (reader None (placed_from text ts at) (length text))) ≡ (tree, record { rest = s.rest; end = length text; stop = stop })
-answer_is text ts at r s tree stop r_is is stop_is =
-    let end_is : s.end ≡ length text = ap (λ (x : ModuleTree × Reader). x.1.end) (sym is) ∙ end_kept r ∙ ap (λ (q : Reader). q.end) r_is in
-    ap (λ (q : Reader). shown module_stands_for (module_text most_levels q)) (sym r_is) ∙ is ∙ (λ i. (tree, record { rest = s.rest; end = end_is i; stop = sym stop_is i }))
 
 -- what was read, before it stands for its tree
 written_of : List ℕ → List Token → ℕ → WrittenModule

@@ -1,7 +1,7 @@
 -- The productions of modules, as they read.
-use Rattle.std.specs.Prelude.{ℕ, List, [], codes}
+use Rattle.std.specs.Prelude.{ℕ, Bool, ◌||◌, List, [], codes}
 use Rattle.circus_syntax.specs.declared.named.Named.{Named}
-use Rattle.circus_syntax.specs.Placed.{word, sign}
+use Rattle.circus_syntax.specs.Placed.{Placed, word, sign}
 use Rattle.circus_syntax.specs.Reader.{Reader, nothing, both, mapped, either, repeated}
 use Rattle.circus_syntax.specs.Reading.{fixed, fixed_at, name, names, behind, type}
 use Rattle.circus_statement.specs.StatementReading.{is_word, semicolon, ended, block}
@@ -53,3 +53,7 @@ root_module levels =
 
 unfoldable pub module_text : ℕ → Reader → WrittenModule × Reader
 module_text levels = either (is_word (codes "ROOT")) (root_module levels) (serving_module levels)
+
+-- what a module begins with
+abbrev pub begins_module : Placed → Bool
+begins_module t = is_word (codes "MODULE") t || is_word (codes "ROOT") t

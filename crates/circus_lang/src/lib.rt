@@ -22,6 +22,7 @@ pub use laws::{
     a_stop_is_filled_in, modules_are_read, one_module, read_is_a_module, stops_at_the_too_deep,
     stops_at_the_unexpected,
 };
+pub use module_reading::{begins_module, module_or_root};
 pub use module_text::{ModuleText, ProcedureText, VariableText};
 pub use read::{ReadModule, read_module, read_module_text};
 

@@ -1,18 +1,25 @@
 // Reading modules.
 ghost use Rattle.std.specs.Prelude.{◌≡◌, ℕ, true, false, codes, map, Some, None, IfOk};
-ghost use Rattle.circus_syntax.specs.Reader.{place};
+ghost use Rattle.circus_syntax.specs.Reader.{place, sees};
 ghost use Rattle.circus_syntax.specs.Spelling.{most_levels};
 ghost use Rattle.circus_expression.specs.Standing.{shown};
 ghost use Rattle.circus_lang.specs.ModuleTree.{variable_of, procedure_of, module_of};
 ghost use Rattle.circus_lang.specs.ModuleStanding.{body_stands_for, procedure_stands_for, main_stands_for, module_stands_for};
-ghost use Rattle.circus_lang.specs.ModuleReading.{variable, variables, body, procedure, procedures, main_procedure, imports, heading, closing, serving_module, root_module, module_text};
+ghost use Rattle.circus_lang.specs.ModuleReading.{variable, variables, body, procedure, procedures, main_procedure, imports, heading, closing, serving_module, root_module, module_text, begins_module};
 
 use crate::{ModuleText, ProcedureText, ProcedureTexts, VariableText, VariableTexts};
 use circus_statement::{Statements, statements_text};
 use circus_syntax::{MOST_LEVELS, Named, Nameds, Reader};
 use circus_value::{Name, NoMemory};
 
-// Reads a module or a root.
+/// Whether the next token begins a module or a root.
+pub fn begins_module(reader: &Reader<'_>) -> bool
+    ensures { result ≡ sees begins_module reader.now }
+{
+    reader.sees_word(b"MODULE") || reader.sees_word(b"ROOT")
+}
+
+/// Reads a module or a root of at most 64 levels, or stops (docs/LANGUAGE.md, "Modules").
 pub fn module_or_root(reader: &mut Reader<'_>) -> Result<ModuleText, NoMemory>
     ensures { IfOk result (λ read. shown module_stands_for (module_text most_levels reader.old) ≡ (module_of read, reader.new)) }
 {

@@ -87,8 +87,7 @@ pub fn read_module_text(
     requires short { length text.now ≤ longest_text }
     ensures { IfOk result (λ read. Answers text.now tokens.now at read) }
 {
-    let left = &tokens.as_slice()[at..];
-    let mut reader = Reader::new(alloc, text, left);
+    let mut reader = Reader::from_token(alloc, text, tokens, at);
     let module = module_or_root(&mut reader)?;
     Ok(ReadModule {
         module,

@@ -5,7 +5,7 @@ use Rattle.circus_text.specs.Token.{Lexeme}
 use Rattle.circus_syntax.specs.declared.named.Named.{Named}
 use Rattle.circus_syntax.specs.declared.named.Numeral.{Numeral}
 use Rattle.circus_syntax.specs.declared.stopping.StopCause.TheVariants.{Unexpected}
-use Rattle.circus_syntax.specs.Placed.{Placed, first, word, sign, is_lexeme, Due, due, due_number, AreDue}
+use Rattle.circus_syntax.specs.Placed.{Placed, first, word, sign, digits, is_lexeme, Due, due, due_number, AreDue}
 use Rattle.circus_syntax.specs.Reader.{passes, stop_at}
 use Rattle.circus_syntax.specs.Spelling.{each, if_written, spelling_names, IsListed, IfWritten, IsNumeral}
 use Rattle.circus_syntax.proofs.Sound.{Sound, Ran, reader, AreDue-none}
@@ -17,7 +17,7 @@ use Rattle.circus_syntax.proofs.Levels.{Reaches, reaches_stop}
 use Rattle.circus_syntax.proofs.Lawful.{Lawful, lawful_at, lawful_weaker, lawful_fixed, lawful_number, lawful_both, lawful_then, lawful_mapped, lawful_optional}
 use Rattle.circus_placing_text.specs.declared.text.MachineText.{MachineText}
 use Rattle.circus_placing_text.specs.Written.{Written}
-use Rattle.circus_placing_text.specs.Grammar.{digits, spelling_machine, spelling_condition, spelling_present, spelling, IsOwnName, IsGrammatical}
+use Rattle.circus_placing_text.specs.Grammar.{spelling_machine, spelling_condition, spelling_present, spelling, IsOwnName, IsGrammatical}
 use Rattle.circus_placing_text.specs.Reading.{seen_comparison, present, present_if_any, ended, heading, asked, placing_of_parts, placing}
 use Rattle.circus_placing_text.proofs.Ways.{due_is}
 use Rattle.circus_placing_text.proofs.Parts.{NoMachine, lawful_own_names, lawful_machines}

@@ -10,7 +10,7 @@ use Rattle.circus_syntax.specs.Reader.{Reader, place_in}
 use Rattle.circus_syntax.proofs.Opened.{within_more}
 use Rattle.circus_syntax.proofs.Sound.{Ran, reader, ran_is, EndsAt}
 use Rattle.circus_syntax.proofs.Widens.{Wider, WiderBy}
-use Rattle.circus_syntax.proofs.Levels.{steady_of_levels}
+use Rattle.circus_syntax.proofs.Levels.{widens_of_levels}
 use Rattle.circus_placing_text.specs.Written.{PlacingTree}
 use Rattle.circus_placing_text.specs.Grammar.{spelling, IsGrammatical, IsWithin, most_levels, IsPlacing, Begins, BeginsWithin}
 use Rattle.circus_placing_text.specs.Reading.{ended, placing}
@@ -123,7 +123,7 @@ wider : (us left : List Placed) (tree : PlacingTree) (s : Stop) (e n : ℕ) → 
     → WiderBy cause (tree, reader (Some s) left e) (placing n (reader None us e))
 wider us left tree s e n above cause because is =
     let w : Wider (Some s) (tree, reader (Some s) left e) (placing n (reader None us e)) =
-    subst (λ (x : PlacingTree × Reader). Wider x.1.stop x (placing n (reader None us e))) is ((steady_of_levels most_levels (lawful_placing most_levels n above).levels).widens.wider us e) in
+    subst (λ (x : PlacingTree × Reader). Wider x.1.stop x (placing n (reader None us e))) is ((widens_of_levels most_levels (lawful_placing most_levels n above).levels).wider us e) in
     subst (λ b. WiderBy b (tree, reader (Some s) left e) (placing n (reader None us e))) because w
 
 -- the same stop before the same token

@@ -4,7 +4,7 @@ use Rattle.std.proofs.Common.{zero, suc}
 use Rattle.circus_text.specs.declared.token.TokenKind.TheVariants.{Word, Number}
 use Rattle.circus_text.specs.Token.{IsSpelling, Lexeme}
 use Rattle.circus_syntax.specs.declared.named.Named.{Named}
-use Rattle.circus_syntax.specs.Placed.{Placed, word, sign, Due, due, due_name, due_number, due_text, opened, AreWithin, AreDue}
+use Rattle.circus_syntax.specs.Placed.{Placed, word, sign, digits, Due, due, due_name, due_number, due_text, opened, AreWithin, AreDue}
 use Rattle.circus_syntax.specs.Spelling.{each, with_commas, if_written, spelling_names, IsEach, IsListed, IfWritten, IsNumeral, IsText}
 use Rattle.circus_placing.specs.declared.condition.Comparison.{Comparison}
 use Rattle.circus_placing.specs.declared.condition.Comparison.TheVariants as by
@@ -16,10 +16,6 @@ use Rattle.circus_placing_text.specs.declared.text.OperandText.{OperandText}
 use Rattle.circus_placing_text.specs.declared.text.OperandText.TheVariants as operand
 use Rattle.circus_placing_text.specs.Words.{is_placing_word}
 use Rattle.circus_placing_text.specs.Written.{Written, or, and, not, group, differ, compare, holds, PlacingTree}
-
--- this number, by its digits
-abbrev pub digits : List ℕ → Lexeme
-digits w = record { kind = Number; bytes = w }
 
 abbrev pub truth_word : Bool → Lexeme
 truth_word b = if b then word (codes "TRUE") else word (codes "FALSE")

@@ -7,7 +7,7 @@ use Rattle.circus_syntax.specs.declared.named.Named.{Named}
 use Rattle.circus_syntax.specs.declared.named.Numeral.{Numeral}
 use Rattle.circus_syntax.specs.declared.stopping.Stop.{Stop}
 use Rattle.circus_syntax.specs.declared.stopping.StopCause.TheVariants.{Unexpected, TooDeep}
-use Rattle.circus_syntax.specs.Placed.{Placed, word, sign, same_kind, is_lexeme, is_text}
+use Rattle.circus_syntax.specs.Placed.{Placed, word, sign, digits, same_kind, is_lexeme, is_text}
 use Rattle.circus_syntax.specs.Reader.{Reader, open_at, token, nothing, both, mapped, cased, either, optional, repeated, stopped, stopped_by}
 use Rattle.circus_syntax.specs.Reading.{fixed, number, quoted, behind, listed, named_of, filled_name}
 use Rattle.circus_placing.specs.declared.condition.Comparison.{Comparison}
@@ -25,7 +25,7 @@ use Rattle.circus_placing_text.specs.declared.start.AloneStart.TheVariants as be
 use Rattle.circus_placing_text.specs.Words.{is_placing_word}
 use Rattle.circus_placing_text.specs.Written.{Written, PlacingTree}
 use Rattle.circus_placing_text.specs.Written as written
-use Rattle.circus_placing_text.specs.Grammar.{digits, truth_word, sign_of, or_word, and_word}
+use Rattle.circus_placing_text.specs.Grammar.{truth_word, sign_of, or_word, and_word}
 
 abbrev pub is_own_name : Placed → Bool
 is_own_name t = same_kind t.kind Word && not (is_placing_word t.bytes)

@@ -1,27 +1,14 @@
 // Reading placings.
 ghost use Rattle.std.specs.Prelude.{◌≡◌, IfOk};
-ghost use Rattle.circus_syntax.specs.Reading.{fixed};
 ghost use Rattle.circus_placing_text.specs.Written.{placing_of};
-ghost use Rattle.circus_placing_text.specs.Grammar.{digits, most_levels};
+ghost use Rattle.circus_placing_text.specs.Grammar.{most_levels};
 ghost use Rattle.circus_placing_text.specs.Reading.{attribute, attributes, machine, machines, present, present_if_any, ended, heading, asked, placing};
 
 use crate::condition_reading::condition;
 use crate::value_reading::{constant, names, next_name, own_name};
 use crate::{AttributeText, AttributeTexts, MachineText, MachineTexts, PlacingText};
 use circus_syntax::{Nameds, Numeral, Reader, StopCause};
-use circus_text::TokenKind;
 use circus_value::NoMemory;
-
-// Reads a number that is written so, or stops.
-#[tactic(auto, unfolding(circus_syntax::specs::Reading::fixed))]
-fn digits(reader: &mut Reader, wanted: &[u8])
-    ensures { fixed (digits wanted.now) reader.old ≡ (tt, reader.new) }
-{
-    match reader.next_token() {
-        Some((TokenKind::Number, bytes)) if bytes == wanted => reader.skip(),
-        _ => reader.stop_here(StopCause::Unexpected),
-    }
-}
 
 #[tactic(auto, unfolding(crate::specs::Reading::attribute))]
 fn attribute(reader: &mut Reader) -> Result<AttributeText, NoMemory>
@@ -101,7 +88,7 @@ fn heading(reader: &mut Reader)
     ensures { heading reader.old ≡ (tt, reader.new) }
 {
     reader.word(b"PLACE");
-    digits(reader, b"1");
+    reader.digits(b"1");
     reader.sign(b";");
 }
 

@@ -1,5 +1,5 @@
 -- Interfaces: a stop is marked with the whole type and the list of fields in which the first token stands that was not read.
-use Rattle.std.proofs.Common.{◌≡◌, ℕ, zero, suc, ◌+◌, List, [], ◌∷◌, ◌++◌, length, refl, sym, ap, subst, arith, inl, inr, length-append}
+use Rattle.std.proofs.Common.{◌≡◌, ℕ, zero, suc, List, [], ◌∷◌, ◌++◌, length, refl, sym, ap, subst, arith, inl, inr, length-append}
 use Rattle.std.specs.Prelude.{Some, None, codes, slice_get}
 use Rattle.std.specs.List.{flat_map}
 use Rattle.circus_text.specs.Token.{Lexeme}
@@ -9,7 +9,7 @@ use Rattle.circus_syntax.specs.declared.stopping.Stop.{Stop}
 use Rattle.circus_syntax.specs.TypeTree.{GroupTree, group_trees}
 use Rattle.circus_syntax.specs.InterfaceTree.{InterfaceTree}
 use Rattle.circus_syntax.specs.Placed.{Placed, is_lexeme, is_name, word, sign, due}
-use Rattle.circus_syntax.specs.Reading.{fixed, names, group, groups, type, stop_in_list, fields, arguments, results, reported, reports, numbered, a_type_behind, an_error_behind, a_procedure_behind, Parts, declared_of_parts, Declaring, of_type, of_error, of_procedure, declared_start, parts_behind, declared, heading, declarations, interface_of_parts, interface}
+use Rattle.circus_syntax.specs.Reading.{fixed, group, groups, type, stop_in_list, fields, arguments, results, reported, reports, numbered, a_type_behind, an_error_behind, a_procedure_behind, Parts, declared_of_parts, Declaring, of_type, of_error, of_procedure, declared_start, parts_behind, declared, heading, declarations, interface_of_parts, interface}
 use Rattle.circus_syntax.specs.Spelling.{comma, if_written, spelling_reports, spelling_numbered}
 use Rattle.circus_syntax.specs.Standing.{Standing, outside, in_list, apart, standing_type, standing_group, standing_more_groups, standing_groups, standing_fields, standing_arguments, standing_results, standing_declared, standing}
 use Rattle.circus_syntax.proofs.Sound.{reader}

@@ -114,7 +114,7 @@ sound_parts n of_procedure = sound_mapped (λ x. inr (inr x)) spelling_parts (Ar
 abbrev pub IsDeclaredWithin : ℕ → DeclaredTree → Type 0
 IsDeclaredWithin n d = IsDeclared d × (declared_levels d ≤ n)
 
-declared_spelled : (x : Named × (Unit {0} × Parts)) → spelling_declared (declared_of_parts x.0 x.1.1) ≡ due_name x.0 ∷ due (sign (codes ":")) ∷ spelling_parts x.1.1
+pub declared_spelled : (x : Named × (Unit {0} × Parts)) → spelling_declared (declared_of_parts x.0 x.1.1) ≡ due_name x.0 ∷ due (sign (codes ":")) ∷ spelling_parts x.1.1
 declared_spelled x = by_parts x.1.1
   where
     by_parts : (y : Parts) → spelling_declared (declared_of_parts x.0 y) ≡ due_name x.0 ∷ due (sign (codes ":")) ∷ spelling_parts y

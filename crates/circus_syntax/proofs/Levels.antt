@@ -13,7 +13,7 @@ use Rattle.circus_syntax.proofs.Opened.{StandsDeeper, stand_append, stand_front,
 use Rattle.circus_syntax.proofs.Sound.{Sound, reader}
 use Rattle.circus_syntax.proofs.Repeats.{Shrinks, repeated_sees, repeated_none, sound_repeated}
 use Rattle.circus_syntax.proofs.Tokens.{spelling_fixed, sound_fixed, sound_behind, shrinks_behind, comma_sign, is_comma}
-use Rattle.circus_syntax.proofs.Widens.{Further, Wider, WiderBy, Steady, Calm, calm_of, calm_both, calm_mapped}
+use Rattle.circus_syntax.proofs.Widens.{Further, Wider, WiderBy, Widens, Calm, calm_of, calm_both, calm_mapped}
 
 -- What x read with n levels, and y of the same tokens with more.
 
@@ -426,12 +426,8 @@ wider_of n spell taken (Some s) x y deep = by_cause s.cause deep
     by_cause Unexpected same = same
     by_cause TooDeep deep = deep.0
 
-pub steady_of_levels : {A : Type 0} (n : ℕ) {p q : Reader → A × Reader} {spell : A → List Due} → Levels n p q spell → Steady p q
-steady_of_levels n {p} {q} {spell} L = record {
-  widens = record {
-    filled = L.filled;
-    wider = λ ts e. let R = L.reaches ts e in wider_of n spell R.taken (p (reader None ts e)).1.stop (p (reader None ts e)) (q (reader None ts e)) R.further;
-  };
-  narrow = L.narrow;
-  wide = L.wide;
+pub widens_of_levels : {A : Type 0} (n : ℕ) {p q : Reader → A × Reader} {spell : A → List Due} → Levels n p q spell → Widens p q
+widens_of_levels n {p} {q} {spell} L = record {
+  filled = L.filled;
+  wider = λ ts e. let R = L.reaches ts e in wider_of n spell R.taken (p (reader None ts e)).1.stop (p (reader None ts e)) (q (reader None ts e)) R.further;
 }

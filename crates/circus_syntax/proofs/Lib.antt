@@ -10,12 +10,13 @@ mod Cuts
 mod CutTypes
 mod CutInterfaces
 pub mod Widens
-pub mod WidensInterfaces
+pub mod InterfaceLevels
 pub mod Levels
 pub mod Lawful
 pub mod TypeLevels
 pub mod Whole
 pub mod Viewed
+pub mod TextRead
 pub mod Loops
 pub mod ByWord
 pub mod ByLine

@@ -24,7 +24,7 @@ use Rattle.circus_syntax.proofs.Lawful.{Lawful, lawful_weaker, lawful_fixed, law
 -- What stands no deeper has no more levels.
 
 mutual
-  type_shallow : (n : ℕ) (t : TypeTree) → AreWithin n (spelling_type t) → levels t ≤ n
+  pub type_shallow : (n : ℕ) (t : TypeTree) → AreWithin n (spelling_type t) → levels t ≤ n
   type_shallow n (boolean at) within = omega arith
   type_shallow n (cardinal at) within = omega arith
   type_shallow n (long_cardinal at) within = omega arith
@@ -50,7 +50,7 @@ mutual
       omega (arith, arms_shallow n rest (within_front n (spelling_arms rest) (due (sign (codes "}")) ∷ []) inside.1.1.1))
   type_shallow n (called at m) within = omega arith
 
-  groups_shallow : (n : ℕ) (gs : GroupTrees) → AreWithin n (spelling_groups gs) → group_levels gs ≤ n
+  pub groups_shallow : (n : ℕ) (gs : GroupTrees) → AreWithin n (spelling_groups gs) → group_levels gs ≤ n
   groups_shallow n no_groups within = omega arith
   groups_shallow n (more_groups ns t gs) within =
       let own = within_front n (spelling_names ns ++ due (sign (codes ":")) ∷ spelling_type t) (spelling_more_groups gs) within in

@@ -1,15 +1,11 @@
 -- What reading an interface says of the tokens.
-use Rattle.std.proofs.Common.{drop, ◌≡◌, ℕ, ◌+◌, ◌<◌, ◌≤◌, List, [], ◌∷◌, ◌++◌, length, refl, sym, ◌∙◌, ap, subst, arith, append_assoc, append-nil, length-append}
+use Rattle.std.proofs.Common.{◌≡◌, ℕ, ◌+◌, ◌<◌, ◌≤◌, List, [], ◌∷◌, ◌++◌, length, refl, sym, ◌∙◌, ap, subst, arith, append_assoc, append-nil, length-append}
 use Rattle.std.specs.Prelude.{Option, Some, None}
 use Rattle.std.proofs.lemmas.List.{append_cancel_right}
-use Rattle.std.proofs.lemmas.List.{length-map, length-drop}
-use Rattle.circus_text.specs.declared.token.Token.{Token}
-use Rattle.circus_syntax.specs.Read.{placed_from}
-use Rattle.circus_syntax.proofs.Repeats.{never_longer}
 use Rattle.circus_syntax.specs.declared.stopping.Stop.{Stop}
 use Rattle.circus_syntax.specs.declared.stopping.StopCause.TheVariants.{Unexpected, TooDeep}
 use Rattle.circus_syntax.specs.InterfaceTree.{DeclaredTree, InterfaceTree}
-use Rattle.circus_syntax.specs.Placed.{Placed, placed_of, first, AreTokens, AreDue}
+use Rattle.circus_syntax.specs.Placed.{Placed, first, AreTokens, AreDue}
 use Rattle.circus_syntax.specs.Reader.{Reader, place_in}
 use Rattle.circus_syntax.specs.Reading.{interface}
 use Rattle.circus_syntax.specs.Spelling.{spelling, IsEach, declared_levels, IsWithin, most_levels, IsInterface, Begins, BeginsWithin}
@@ -18,7 +14,7 @@ use Rattle.circus_syntax.proofs.Sound.{Ran, reader, ran_is, EndsAt}
 use Rattle.circus_syntax.proofs.Interfaces.{IsInterfaceWithin, sound_interface, complete_interface}
 use Rattle.circus_syntax.proofs.CutInterfaces.{cut_interface}
 use Rattle.circus_syntax.proofs.Widens.{Wider, WiderBy}
-use Rattle.circus_syntax.proofs.WidensInterfaces.{widens_interface}
+use Rattle.circus_syntax.proofs.InterfaceLevels.{widens_interface}
 
 more_levels : (n m : ℕ) → n ≤ m → (ds : List DeclaredTree) → IsEach (λ d. declared_levels d ≤ n) ds → IsEach (λ d. declared_levels d ≤ m) ds
 more_levels n m le [] g = tt
@@ -225,24 +221,3 @@ interface_too_deep ts left tree s e tokens is deep = (
         let there = reads_own most_levels ((R.taken ++ t ∷ []) ++ more) [] other e other_is within in
         no_stop (other, reader None [] e) (R.tree, reader (Some s) (t ∷ more) e) s refl refl
         (sym there ∙ ap (λ l. interface most_levels (reader None l e)) (append-nil ((R.taken ++ t ∷ []) ++ more) ∙ append_assoc R.taken (t ∷ []) more) ∙ here)
-
--- What the reader of a text answers.
-
-end_kept : (r : Reader) → (interface most_levels r).1.end ≡ r.end
-end_kept r = by_stop r.stop
-  where
-    by_stop : (stop : Option Stop) → (interface most_levels (reader stop r.rest r.end)).1.end ≡ r.end
-    by_stop None = ap (λ (x : InterfaceTree × Reader). x.1.end) (ran_is ((sound_interface most_levels).runs r.rest r.end))
-    by_stop (Some s) = ap (λ (x : InterfaceTree × Reader). x.1.end) (((sound_interface most_levels).fills s r.end).stays r.rest)
-
-pub left_few : (text : List ℕ) (ts : List Token) (at : ℕ) (r s : Reader) (tree : InterfaceTree) → r ≡ reader None (placed_from text ts at) (length text) → interface most_levels r ≡ (tree, s) → length s.rest ≤ length ts
-left_few text ts at r s tree r_is is =
-    let few = subst (λ (x : InterfaceTree × Reader). length x.1.rest ≤ length r.rest) is (never_longer (sound_interface most_levels) r) in
-    let many = ap (λ (q : Reader). length q.rest) r_is in
-    omega (arith, few, many, length-map (drop at ts) (placed_of text), length-drop at ts)
-
-pub answer_is : (text : List ℕ) (ts : List Token) (at : ℕ) (r s : Reader) (tree : InterfaceTree) (stop : Option Stop) → r ≡ reader None (placed_from text ts at) (length text) → interface most_levels r ≡ (tree, s) → stop ≡ s.stop
-    → interface most_levels (reader None (placed_from text ts at) (length text)) ≡ (tree, record { rest = s.rest; end = length text; stop = stop })
-answer_is text ts at r s tree stop r_is is stop_is =
-    let end_is : s.end ≡ length text = ap (λ (x : InterfaceTree × Reader). x.1.end) (sym is) ∙ end_kept r ∙ ap (λ (q : Reader). q.end) r_is in
-    ap (interface most_levels) (sym r_is) ∙ is ∙ (λ i. (tree, record { rest = s.rest; end = end_is i; stop = sym stop_is i }))

@@ -46,6 +46,10 @@ word w = record { kind = Word; bytes = w }
 abbrev pub sign : List ℕ → Lexeme
 sign w = record { kind = Sign; bytes = w }
 
+-- the number that is written so, wherever it stands
+abbrev pub digits : List ℕ → Lexeme
+digits w = record { kind = Number; bytes = w }
+
 abbrev pub is_lexeme : Lexeme → Placed → Bool
 is_lexeme l t = same_kind t.kind l.kind && bytes_eq t.bytes l.bytes
 

@@ -50,8 +50,7 @@ pub fn read_interface_text(
     requires short { length text.now ≤ longest_text }
     ensures { IfOk result (λ read. Answers text.now tokens.now at read) }
 {
-    let left = &tokens.as_slice()[at..];
-    let mut reader = Reader::new(alloc, text, left);
+    let mut reader = Reader::from_token(alloc, text, tokens, at);
     let interface = reader.interface()?;
     Ok(Read {
         interface,
@@ -61,7 +60,8 @@ pub fn read_interface_text(
 }
 
 impl Reader<'_> {
-    fn interface(&mut self) -> Result<InterfaceText, NoMemory>
+    /// Reads an interface whose types have at most 64 levels, or stops (docs/LANGUAGE.md, "Interfaces").
+    pub fn interface(&mut self) -> Result<InterfaceText, NoMemory>
         ensures { IfOk result (λ read. interface most_levels self.old ≡ (interface_of read, self.new)) }
     {
         let (name, number, version) = self.heading()?;

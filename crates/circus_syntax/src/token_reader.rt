@@ -1,14 +1,15 @@
 // A reader of tokens.
 ghost use Rattle.std.specs.Prelude.{◌≡◌, ℕ, ◌≤◌, true, false, length, map, All, MatchOption, IfOk, IsTrue, Some, None, option_map};
 ghost use Rattle.circus_text.specs.Token.{IsTokenIn, IsSpelling, bytes_of, content_of};
-ghost use Rattle.circus_syntax.specs.Placed.{Placed, placed_of, is_lexeme, is_name, is_number, is_text, word, sign};
+ghost use Rattle.circus_syntax.specs.Placed.{Placed, placed_of, is_lexeme, is_name, is_number, is_text, word, sign, digits};
+ghost use Rattle.circus_syntax.specs.Read.{placed_from};
 ghost use Rattle.circus_syntax.specs.Reader.{open_at, place, next, sees, skipped_by, stopped_by};
 ghost use Rattle.circus_syntax.specs.Reading.{fixed, name, number, quoted, names, stop_in_type, stop_in_list};
 ghost use Rattle.circus_text.specs.Form.{longest_text, number_value};
 
 use crate::reserved::is_reserved_word;
 use crate::{Named, Nameds, Numeral, Stop, StopCause};
-use circus_text::{Token, TokenKind};
+use circus_text::{Token, TokenKind, TokenList};
 use circus_value::{Name, NoMemory, Octets};
 use std::alloc::Global;
 use std::marker::Model;
@@ -53,6 +54,16 @@ impl<'a> Reader<'a> {
         }
     }
 
+    /// A reader at the token `at` of a text of at most 1,048,576 bytes. What it reads takes memory from this allocator.
+    pub fn from_token(alloc: Global, text: &'a [u8], tokens: &'a TokenList, at: usize) -> Self
+        requires of_text { All (IsTokenIn text.now) tokens.now }
+        requires inside { at ≤ length tokens.now }
+        requires short { length text.now ≤ longest_text }
+        ensures { result ≡ open_at (placed_from text.now tokens.now at) (length text.now) }
+    {
+        Reader::new(alloc, text, &tokens.as_slice()[at..])
+    }
+
     /// The allocator of what is read.
     pub fn alloc(&self) -> Global {
         self.alloc
@@ -95,6 +106,13 @@ impl<'a> Reader<'a> {
         ensures { result ≡ sees (is_lexeme (sign bytes.now)) self.now }
     {
         self.sees(TokenKind::Sign, bytes)
+    }
+
+    /// Whether the next token is a number that is written so.
+    pub fn sees_digits(&self, bytes: &[u8]) -> bool
+        ensures { result ≡ sees (is_lexeme (digits bytes.now)) self.now }
+    {
+        self.sees(TokenKind::Number, bytes)
     }
 
     fn sees(&self, kind: TokenKind, bytes: &[u8]) -> bool
@@ -226,6 +244,13 @@ impl<'a> Reader<'a> {
         ensures { fixed (sign bytes.now) self.old ≡ (tt, self.new) }
     {
         self.fixed(TokenKind::Sign, bytes);
+    }
+
+    /// Reads a number that is written so, or stops.
+    pub fn digits(&mut self, bytes: &[u8])
+        ensures { fixed (digits bytes.now) self.old ≡ (tt, self.new) }
+    {
+        self.fixed(TokenKind::Number, bytes);
     }
 
     #[tactic(auto, unfolding(crate::specs::Reading::fixed))]

@@ -21,13 +21,13 @@ use Rattle.circus_troupe.specs.declared.deployment_text.WrittenKind.{WrittenKind
 use Rattle.circus_troupe.specs.declared.deployment_text.WrittenKind.TheVariants.{First, Majority, Unanimous, AtLeast, Watchdog}
 use Rattle.circus_troupe.specs.declared.deployment_text.KindText.{KindText}
 use Rattle.circus_troupe.specs.declared.deployment_text.HostText.{HostText}
-use Rattle.circus_troupe.specs.DeploymentSpelling.{spelling_ringmaster, spelling_kind_at, spelling_kind, spelling_host, spelling_hosts, spelling_spares, spelling_troupe, spelling_deployment, IsRingmaster, IsReplyKind, IsCallKind, IsHost, IsTroupe, IsDeployment}
+use Rattle.circus_troupe.specs.DeploymentSpelling.{spelling_ringmaster, spelling_kind_at, spelling_kind, spelling_host, spelling_hosts, spelling_spares, spelling_troupe, spelling_deployment, IsRingmasterText, IsReplyKind, IsCallKind, IsHostText, IsTroupeText, IsDeploymentText}
 use Rattle.circus_troupe.specs.DeploymentReading.{ringmaster, kind_by, at_least, call_kind, reply_kind, host, hosts, spares, troupe_of_parts, troupe, troupes, any_token, ended, deployment}
 
-lawful_ringmaster : (n : ℕ) → Lawful n ringmaster ringmaster spelling_ringmaster IsRingmaster Any
+lawful_ringmaster : (n : ℕ) → Lawful n ringmaster ringmaster spelling_ringmaster IsRingmasterText Any
 unfolding ringmaster
 lawful_ringmaster n =
-    lawful_mapped n (λ x. record { name = x.1.0; port = x.1.1.1.0 }) spelling_ringmaster IsRingmaster (λ x. refl) (λ x g. (g.1.0, g.1.1.1.0))
+    lawful_mapped n (λ x. record { name = x.1.0; port = x.1.1.1.0 }) spelling_ringmaster IsRingmasterText (λ x. refl) (λ x g. (g.1.0, g.1.1.1.0))
     (λ r g. ((tt, (r.name, (tt, (r.port, tt)))), refl, (tt, (g.0, (tt, (g.1, tt))))))
     (lawful_then n (lawful_fixed n (word (codes "RINGMASTER"))) (lawful_then n (lawful_name n) (lawful_then n (lawful_fixed n (word (codes "PORT")))
     (lawful_then n (lawful_number n) (lawful_fixed n (sign (codes ";")))))))
@@ -180,26 +180,26 @@ lawful_reply_kind n =
 
 -- Hosts.
 
-lawful_host : (n : ℕ) → Lawful n host host spelling_host IsHost Any
+lawful_host : (n : ℕ) → Lawful n host host spelling_host IsHostText Any
 unfolding host
 lawful_host n =
-    lawful_mapped n (λ x. record { name = x.0; port = x.1.1 }) spelling_host IsHost (λ x. refl) (λ x g. (g.0, g.1.1)) (λ h g. ((h.name, (tt, h.port)), refl, (g.0, (tt, g.1))))
+    lawful_mapped n (λ x. record { name = x.0; port = x.1.1 }) spelling_host IsHostText (λ x. refl) (λ x g. (g.0, g.1.1)) (λ h g. ((h.name, (tt, h.port)), refl, (g.0, (tt, g.1))))
     (lawful_then n (lawful_name n) (lawful_then n (lawful_fixed n (word (codes "PORT"))) (lawful_number n)))
 
-pub sound_host : Sound host spelling_host IsHost
+pub sound_host : Sound host spelling_host IsHostText
 sound_host = (lawful_host 0).narrow
 
 abbrev NoComma : Option Placed → Type 0
 NoComma o = Any o × (passes is_comma o ≡ false)
 
-lawful_hosts : (n : ℕ) → Lawful n hosts hosts spelling_hosts (IsListed IsHost) NoComma
+lawful_hosts : (n : ℕ) → Lawful n hosts hosts spelling_hosts (IsListed IsHostText) NoComma
 unfolding hosts
 lawful_hosts n = lawful_listed n (λ o hit. tt) (lawful_host n)
 
 abbrev NoSpares : Option Placed → Type 0
 NoSpares o = NoComma o × (passes (is_word (codes "SPARES")) o ≡ false)
 
-lawful_spares : (n : ℕ) → Lawful n spares spares (if_written spelling_spares) (IfWritten (IsListed IsHost)) NoSpares
+lawful_spares : (n : ℕ) → Lawful n spares spares (if_written spelling_spares) (IfWritten (IsListed IsHostText)) NoSpares
 unfolding spares
 lawful_spares n =
     lawful_optional (is_word (codes "SPARES")) n (λ hs ts rest g d. opens_due (word (codes "SPARES")) (spelling_hosts hs) ts rest d)
@@ -226,10 +226,10 @@ unfolding spares_first
 spares_stay None t d = stays_lexeme NoComma (sign (codes ";")) (λ s. (tt, refl)) t d.0 d.1
 spares_stay (Some hs) t d = stays_lexeme NoComma (word (codes "SPARES")) (λ s. (tt, refl)) t d.0 d.1
 
-lawful_troupe : (n : ℕ) → Lawful n troupe troupe spelling_troupe IsTroupe Any
+lawful_troupe : (n : ℕ) → Lawful n troupe troupe spelling_troupe IsTroupeText Any
 unfolding troupe
 lawful_troupe n =
-    lawful_mapped n troupe_of_parts spelling_troupe IsTroupe (λ x. refl) (λ x g. (g.1.0, g.1.1.1.0, g.1.1.1.1.1.0, g.1.1.1.1.1.1.1.0, g.1.1.1.1.1.1.1.1.0))
+    lawful_mapped n troupe_of_parts spelling_troupe IsTroupeText (λ x. refl) (λ x g. (g.1.0, g.1.1.1.0, g.1.1.1.1.1.0, g.1.1.1.1.1.1.1.0, g.1.1.1.1.1.1.1.1.0))
     (λ t g. ((tt, (t.name, (tt, (t.calls, (tt, (t.replies, (tt, (t.members, (t.spares, tt))))))))), refl, (tt, (g.0, (tt, (g.1, (tt, (g.2, (tt, (g.3, (g.4, tt)))))))))))
     (lawful_then n (lawful_fixed n (word (codes "TROUPE"))) (lawful_then n (lawful_name n) (lawful_then n (lawful_fixed n (word (codes "CALLS"))) (lawful_then n (lawful_call_kind n)
     (lawful_then n (lawful_fixed n (word (codes "REPLIES"))) (lawful_then n (lawful_reply_kind n) (lawful_then n (lawful_fixed n (word (codes "MEMBERS")))
@@ -247,18 +247,18 @@ shrinks_troupe r hit =
 abbrev NoTroupe : Option Placed → Type 0
 NoTroupe o = Any o × (passes (is_word (codes "TROUPE")) o ≡ false)
 
-open_troupe : Opens spelling_troupe IsTroupe (is_word (codes "TROUPE"))
+open_troupe : Opens spelling_troupe IsTroupeText (is_word (codes "TROUPE"))
 open_troupe t ts rest g d =
     opens_due (word (codes "TROUPE"))
     (due_name t.name ∷ due (word (codes "CALLS")) ∷ (spelling_kind t.calls ++ due (word (codes "REPLIES")) ∷ (spelling_kind t.replies ++ due (word (codes "MEMBERS"))
     ∷ (spelling_hosts t.members ++ (if_written spelling_spares t.spares ++ semicolon ∷ []))))) ts rest d
 
-lawful_troupes : (n : ℕ) → Lawful n troupes troupes (each spelling_troupe) (IsEach IsTroupe) NoTroupe
+lawful_troupes : (n : ℕ) → Lawful n troupes troupes (each spelling_troupe) (IsEach IsTroupeText) NoTroupe
 unfolding troupes
 lawful_troupes n = lawful_repeated (is_word (codes "TROUPE")) n shrinks_troupe shrinks_troupe open_troupe (λ o hit. tt) (lawful_at (is_word (codes "TROUPE")) n (lawful_troupe n))
 
 -- the Ringmaster and the troupes, whatever stands behind them that begins no troupe
-pub lawful_listing : (n : ℕ) → Lawful n (both ringmaster troupes) (both ringmaster troupes) (λ x. spelling_ringmaster x.0 ++ each spelling_troupe x.1) (λ x. IsRingmaster x.0 × IsEach IsTroupe x.1) NoTroupe
+pub lawful_listing : (n : ℕ) → Lawful n (both ringmaster troupes) (both ringmaster troupes) (λ x. spelling_ringmaster x.0 ++ each spelling_troupe x.1) (λ x. IsRingmasterText x.0 × IsEach IsTroupeText x.1) NoTroupe
 lawful_listing n = lawful_then n (lawful_ringmaster n) (lawful_troupes n)
 
 -- The end.
@@ -303,9 +303,9 @@ lawful_ended n = lawful_cased (passes any_token) n stop_or_not stop_or_not Goes 
 link_end : Links spelling_none Always AtEnd NoTroupe
 link_end u ts rest g d stays = subst (λ (us : List Placed). NoTroupe (first (us ++ rest))) (sym (AreDue-none ts d)) (tt, ap (passes (is_word (codes "TROUPE"))) stays)
 
-pub deployments_lawful : AllLawful (λ n. deployment) spelling_deployment IsDeployment AtEnd
+pub deployments_lawful : AllLawful (λ n. deployment) spelling_deployment IsDeploymentText AtEnd
 unfolding deployment
 deployments_lawful n m above =
-    lawful_mapped n (λ x. record { ringmaster = x.0; troupes = x.1.0 }) spelling_deployment IsDeployment (λ x. ap (λ l. spelling_ringmaster x.0 ++ l) (sym (append-nil (each spelling_troupe x.1.0))))
+    lawful_mapped n (λ x. record { ringmaster = x.0; troupes = x.1.0 }) spelling_deployment IsDeploymentText (λ x. ap (λ l. spelling_ringmaster x.0 ++ l) (sym (append-nil (each spelling_troupe x.1.0))))
     (λ x g. (g.0, g.1.0)) (λ d g. ((d.ringmaster, (d.troupes, tt)), refl, (g.0, (g.1, tt))))
     (lawful_then n (lawful_ringmaster n) (lawful_both n (lawful_troupes n) (lawful_ended n) link_end))

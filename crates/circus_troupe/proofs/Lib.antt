@@ -1,3 +1,3 @@
 pub mod Deployments
-mod Whole
+pub mod Whole
 mod Steps

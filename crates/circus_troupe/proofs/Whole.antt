@@ -17,17 +17,17 @@ use Rattle.circus_statement.specs.StatementReading.{is_word}
 use Rattle.circus_troupe.specs.declared.deployment_text.RingmasterText.{RingmasterText}
 use Rattle.circus_troupe.specs.declared.deployment_text.TroupeText.{TroupeText}
 use Rattle.circus_troupe.specs.declared.deployment_text.DeploymentText.{DeploymentText}
-use Rattle.circus_troupe.specs.DeploymentSpelling.{spelling_deployment, IsDeployment}
+use Rattle.circus_troupe.specs.DeploymentSpelling.{spelling_deployment, IsDeploymentText}
 use Rattle.circus_troupe.specs.DeploymentReading.{ringmaster, troupes, ended, deployment}
 use Rattle.circus_troupe.proofs.Deployments.{lawful_listing, deployments_lawful}
 
-pub deployment_read : (all : List Placed) (tree : DeploymentText) (e : ℕ) → Are spelling_deployment IsDeployment all tree → deployment (reader None all e) ≡ (tree, reader None [] e)
+pub deployment_read : (all : List Placed) (tree : DeploymentText) (e : ℕ) → Are spelling_deployment IsDeploymentText all tree → deployment (reader None all e) ≡ (tree, reader None [] e)
 deployment_read all tree e are =
     let (n, within) = enough (spelling_deployment tree) in
     ap (λ l. deployment (reader None l e)) (sym (append-nil all)) ∙ reads deployments_lawful n all [] tree e are within refl
 
 -- and so it is in front of a token that begins no troupe, at which reading stops
-pub deployment_in_front : (own left : List Placed) (t : Placed) (tree : DeploymentText) (e : ℕ) → Are spelling_deployment IsDeployment own tree → is_word (codes "TROUPE") t ≡ false
+pub deployment_in_front : (own left : List Placed) (t : Placed) (tree : DeploymentText) (e : ℕ) → Are spelling_deployment IsDeploymentText own tree → is_word (codes "TROUPE") t ≡ false
     → deployment (reader None (own ++ t ∷ left) e) ≡ (tree, reader (Some (stop_at Unexpected t.start)) (t ∷ left) e)
 unfolding deployment ended
 deployment_in_front own left t tree e are missed =
@@ -45,18 +45,18 @@ none_left (Some s) ts left e end is = let stops : Some s ≡ None = ap (λ (r : 
 none_left None [] left e end is = ap (λ (r : Reader). r.rest) (sym is)
 none_left None (t ∷ ts) left e end is = let stops = ap (λ (r : Reader). r.stop) is in cc
 
-ended_left : (r : Reader) (left : List Placed) (e : ℕ) (tree : DeploymentText) → deployment r ≡ (tree, reader None left e) → left ≡ []
+pub ended_left : (r : Reader) (left : List Placed) (e : ℕ) (tree : DeploymentText) → deployment r ≡ (tree, reader None left e) → left ≡ []
 unfolding deployment
 ended_left r left e tree is =
     let s = (troupes (ringmaster r).1).1 in
     none_left s.stop s.rest left s.end e (ap (λ (x : DeploymentText × Reader). x.1) is)
 
 pub deployment_whole : (all left : List Placed) (tree : DeploymentText) (e : ℕ) → AreTokens all → deployment (reader None all e) ≡ (tree, reader None left e)
-    → (left ≡ []) × Are spelling_deployment IsDeployment all tree
+    → (left ≡ []) × Are spelling_deployment IsDeploymentText all tree
 deployment_whole all left tree e tokens is =
     let (own, whole, are, within) = read_whole deployments_lawful 0 all left tree e tokens is in
     let none = ended_left (reader None all e) left e tree is in
-    (none, subst (λ (ts : List Placed). Are spelling_deployment IsDeployment ts tree) (sym (whole ∙ ap (λ l. own ++ l) none ∙ append-nil own)) are)
+    (none, subst (λ (ts : List Placed). Are spelling_deployment IsDeploymentText ts tree) (sym (whole ∙ ap (λ l. own ++ l) none ∙ append-nil own)) are)
 
 -- none of its productions opens a level
 never_too_deep : (ts left : List Placed) (tree : DeploymentText) (s : Stop) (e : ℕ) → deployment (reader None ts e) ≡ (tree, reader (Some s) left e) → s.cause ≡ Unexpected
@@ -70,7 +70,7 @@ never_too_deep ts left tree s e is = by_cause s.cause refl
         absurd (omega (arith, ap length longer, length-append c left))
 
 pub deployment_stops : (ts left : List Placed) (tree : DeploymentText) (s : Stop) (e : ℕ) → AreTokens ts → deployment (reader None ts e) ≡ (tree, reader (Some s) left e)
-    → IsUnexpected spelling_deployment IsDeployment ts left × (s.place ≡ place_in left e) × (s.cause ≡ Unexpected)
+    → IsUnexpected spelling_deployment IsDeploymentText ts left × (s.place ≡ place_in left e) × (s.cause ≡ Unexpected)
 deployment_stops ts left tree s e tokens is =
     let flat = never_too_deep ts left tree s e is in
     let (stops, there) = unexpected deployments_lawful refl 0 ts left tree s e tokens is flat in
@@ -78,24 +78,5 @@ deployment_stops ts left tree s e tokens is =
 
 -- What is read of a text.
 
-sound_deployment : Sound deployment spelling_deployment IsDeployment
+pub sound_deployment : Sound deployment spelling_deployment IsDeploymentText
 sound_deployment = (deployments_lawful 0 2 (omega arith)).narrow
-
-end_kept : (r : Reader) → (deployment r).1.end ≡ r.end
-end_kept r = by_stop r.stop
-  where
-    by_stop : (stop : Option Stop) → (deployment (reader stop r.rest r.end)).1.end ≡ r.end
-    by_stop None = ap (λ (x : DeploymentText × Reader). x.1.end) (ran_is (sound_deployment.runs r.rest r.end))
-    by_stop (Some s) = ap (λ (x : DeploymentText × Reader). x.1.end) ((sound_deployment.fills s r.end).stays r.rest)
-
-pub left_few : (text : List ℕ) (ts : List Token) (at : ℕ) (r s : Reader) (tree : DeploymentText) → r ≡ reader None (placed_from text ts at) (length text) → deployment r ≡ (tree, s) → length s.rest ≤ length ts
-left_few text ts at r s tree r_is is =
-    let few = subst (λ (x : DeploymentText × Reader). length x.1.rest ≤ length r.rest) is (never_longer sound_deployment r) in
-    let many = ap (λ (q : Reader). length q.rest) r_is in
-    omega (arith, few, many, length-map (drop at ts) (placed_of text), length-drop at ts)
-
-pub answer_is : (text : List ℕ) (ts : List Token) (at : ℕ) (r s : Reader) (tree : DeploymentText) (stop : Option Stop) → r ≡ reader None (placed_from text ts at) (length text) → deployment r ≡ (tree, s) → stop ≡ s.stop
-    → deployment (reader None (placed_from text ts at) (length text)) ≡ (tree, record { rest = s.rest; end = length text; stop = stop })
-answer_is text ts at r s tree stop r_is is stop_is =
-    let end_is : s.end ≡ length text = ap (λ (x : DeploymentText × Reader). x.1.end) (sym is) ∙ end_kept r ∙ ap (λ (q : Reader). q.end) r_is in
-    ap deployment (sym r_is) ∙ is ∙ (λ i. (tree, record { rest = s.rest; end = end_is i; stop = sym stop_is i }))

@@ -52,8 +52,8 @@ spelling_troupe t =
 abbrev pub spelling_deployment : DeploymentText → List Due
 spelling_deployment d = spelling_ringmaster d.ringmaster ++ each spelling_troupe d.troupes
 
-abbrev pub IsRingmaster : RingmasterText → Type 0
-IsRingmaster r = IsName r.name × IsNumeral r.port
+abbrev pub IsRingmasterText : RingmasterText → Type 0
+IsRingmasterText r = IsName r.name × IsNumeral r.port
 
 -- a kind of replies
 abbrev pub IsReplyKind : WrittenKind → Type 0
@@ -71,14 +71,14 @@ IsCallKind Unanimous = Unit {0}
 IsCallKind (AtLeast n) = IsNumeral n
 IsCallKind Watchdog = ⊥
 
-abbrev pub IsHost : HostText → Type 0
-IsHost h = IsName h.name × IsNumeral h.port
+abbrev pub IsHostText : HostText → Type 0
+IsHostText h = IsName h.name × IsNumeral h.port
 
-abbrev pub IsTroupe : TroupeText → Type 0
-IsTroupe t =
-    IsName t.name × IsCallKind t.calls.kind × IsReplyKind t.replies.kind × IsListed IsHost t.members
-    × IfWritten (IsListed IsHost) t.spares
+abbrev pub IsTroupeText : TroupeText → Type 0
+IsTroupeText t =
+    IsName t.name × IsCallKind t.calls.kind × IsReplyKind t.replies.kind × IsListed IsHostText t.members
+    × IfWritten (IsListed IsHostText) t.spares
 
 -- its names are names, its numbers are not too great, and its lists of hosts aren't empty
-abbrev pub IsDeployment : DeploymentText → Type 0
-IsDeployment d = IsRingmaster d.ringmaster × IsEach IsTroupe d.troupes
+abbrev pub IsDeploymentText : DeploymentText → Type 0
+IsDeploymentText d = IsRingmasterText d.ringmaster × IsEach IsTroupeText d.troupes

@@ -9,7 +9,7 @@ use crate::{
 use circus_syntax::{Reader, StopCause};
 use circus_value::NoMemory;
 
-// Reads the Ringmaster and the troupes, up to the last token.
+/// Reads the Ringmaster and the troupes, up to the last token, or stops (docs/LANGUAGE.md, "Deployments").
 pub fn deployment(reader: &mut Reader<'_>) -> Result<DeploymentText, NoMemory>
     ensures { IfOk result (λ read. deployment reader.old ≡ (read, reader.new)) }
 {

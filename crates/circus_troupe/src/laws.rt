@@ -8,19 +8,19 @@ ghost use Rattle.circus_expression.specs.Ending.{Are, IsUnexpected, IsFilledIn};
 ghost use Rattle.circus_statement.specs.StatementReading.{is_word};
 ghost use Rattle.circus_troupe.specs.declared.deployment_text.DeploymentText.{DeploymentText};
 ghost use Rattle.circus_troupe.specs.DeploymentReading.{deployment};
-ghost use Rattle.circus_troupe.specs.DeploymentSpelling.{spelling_deployment, IsDeployment};
+ghost use Rattle.circus_troupe.specs.DeploymentSpelling.{spelling_deployment, IsDeploymentText};
 
 /// A deployment is read to its end, where no token stands behind it.
 pub fn deployments_are_read()
     ensures { (all : List Placed) (tree : DeploymentText) (end : ℕ)
-        → Are spelling_deployment IsDeployment all tree
+        → Are spelling_deployment IsDeploymentText all tree
         → deployment (open_at all end) ≡ (tree, open_at [] end) }
 {}
 
 /// Behind a deployment reading stops at a token that begins no troupe, and the tree is that of the deployment.
 pub fn stops_behind_a_deployment()
     ensures { (own left : List Placed) (next : Placed) (tree : DeploymentText) (end : ℕ)
-        → Are spelling_deployment IsDeployment own tree → is_word (codes "TROUPE") next ≡ false
+        → Are spelling_deployment IsDeploymentText own tree → is_word (codes "TROUPE") next ≡ false
         → deployment (open_at (own ++ next ∷ left) end)
         ≡ (tree, record { rest = next ∷ left; end = end; stop = Some (stop_at StopCause.Unexpected next.start) }) }
 {}
@@ -29,13 +29,13 @@ pub fn stops_behind_a_deployment()
 pub fn read_is_a_deployment()
     ensures { (all left : List Placed) (tree : DeploymentText) (end : ℕ) → AreTokens all
         → deployment (open_at all end) ≡ (tree, open_at left end)
-        → (left ≡ []) × Are spelling_deployment IsDeployment all tree }
+        → (left ≡ []) × Are spelling_deployment IsDeploymentText all tree }
 {}
 
 /// Tokens have one tree.
 pub fn one_deployment()
     ensures { (all : List Placed) (tree other : DeploymentText)
-        → Are spelling_deployment IsDeployment all tree → Are spelling_deployment IsDeployment all other
+        → Are spelling_deployment IsDeploymentText all tree → Are spelling_deployment IsDeploymentText all other
         → tree ≡ other }
 {}
 
@@ -44,7 +44,7 @@ pub fn one_deployment()
 pub fn stops_at_the_unexpected()
     ensures { (all left : List Placed) (tree : DeploymentText) (stop : Stop) (end : ℕ) → AreTokens all
         → deployment (open_at all end) ≡ (tree, record { rest = left; end = end; stop = Some stop })
-        → IsUnexpected spelling_deployment IsDeployment all left × (stop.place ≡ place_in left end)
+        → IsUnexpected spelling_deployment IsDeploymentText all left × (stop.place ≡ place_in left end)
         × (stop.cause ≡ StopCause.Unexpected) }
 {}
 
@@ -53,5 +53,5 @@ pub fn stops_at_the_unexpected()
 pub fn a_stop_is_filled_in()
     ensures { (all left : List Placed) (tree : DeploymentText) (stop : Stop) (end : ℕ) → AreTokens all
         → deployment (open_at all end) ≡ (tree, record { rest = left; end = end; stop = Some stop })
-        → IsFilledIn spelling_deployment IsDeployment 0 all left stop.place tree }
+        → IsFilledIn spelling_deployment IsDeploymentText 0 all left stop.place tree }
 {}

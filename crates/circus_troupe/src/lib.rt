@@ -12,6 +12,7 @@ mod laws;
 mod read;
 
 use circus_value::ListOf;
+pub use deployment_reading::deployment;
 pub use deployment_text::{
     DeploymentText, HostText, KindText, RingmasterText, TroupeText, WrittenKind,
 };

@@ -37,8 +37,7 @@ pub fn read_deployment_text(
     requires short { length text.now ≤ longest_text }
     ensures { IfOk result (λ read. Answers text.now tokens.now at read) }
 {
-    let left = &tokens.as_slice()[at..];
-    let mut reader = Reader::new(alloc, text, left);
+    let mut reader = Reader::from_token(alloc, text, tokens, at);
     let deployment = deployment(&mut reader)?;
     Ok(ReadDeployment {
         deployment,

@@ -1,26 +1,20 @@
-use Rattle.std.proofs.Common.{◌-◌, map, drop, length, arith, ◌∙◌, ap}
-use Rattle.std.proofs.lemmas.List.{take_rest}
-use Rattle.circus_syntax.specs.Placed.{placed_of}
-use Rattle.circus_syntax.specs.Reader.{open_at}
+use Rattle.std.proofs.Common.{◌-◌, arith}
+use Rattle.circus_syntax.proofs.TextRead.{left_few, answer_is}
 use Rattle.circus_lang.specs.ModuleTree.{module_of}
-use Rattle.circus_lang.proofs.ReadIs.{left_few, answer_is}
+use Rattle.circus_lang.specs.ModuleStanding.{module_stands_for}
+use Rattle.circus_lang.proofs.ReadIs.{sound_module}
 use Rattle.circus_lang.proofs.read.read_module_text.Goals as goal
 
 pub overflow_sub-result : goal.overflow_sub-result
 overflow_sub-result c =
-    let begun =
-    c.new-reader.ensures ∙ ap (λ ts. open_at (map (placed_of c.args.text.now) ts) (length c.args.text.now)) (take_rest c.as_slice.result.now c.args.at)
-    ∙ ap (λ ts. open_at (map (placed_of c.args.text.now) (drop c.args.at ts)) (length c.args.text.now)) c.as_slice.ensures in
-    let few = left_few c.args.text.now c.args.tokens.now c.args.at c.new-reader.result c.module_or_root.new.reader (module_of c.in_ok-module.«module») begun c.in_ok-module.ensures in
+    let few = left_few sound_module module_stands_for c.args.text.now c.args.tokens.now c.args.at c.from_token-reader.result c.module_or_root.new.reader (module_of c.in_ok-module.«module») c.from_token-reader.ensures c.in_ok-module.ensures in
     omega (arith, few, c.len.ensures, c.left.ensures)
 
 pub returns : goal.returns
-returns c =
-    let begun =
-    c.new-reader.ensures ∙ ap (λ ts. open_at (map (placed_of c.args.text.now) ts) (length c.args.text.now)) (take_rest c.as_slice.result.now c.args.at)
-    ∙ ap (λ ts. open_at (map (placed_of c.args.text.now) (drop c.args.at ts)) (length c.args.text.now)) c.as_slice.ensures in
-    record {
-      left = c.module_or_root.new.reader.rest;
-      is = answer_is c.args.text.now c.args.tokens.now c.args.at c.new-reader.result c.module_or_root.new.reader (module_of c.in_ok-module.«module») c.stop.result begun c.in_ok-module.ensures c.stop.ensures;
-      next = λ i. c.len.ensures i - c.left.ensures i;
-    }
+returns c = record {
+  left = c.module_or_root.new.reader.rest;
+  is =
+      answer_is sound_module module_stands_for c.args.text.now c.args.tokens.now c.args.at c.from_token-reader.result c.module_or_root.new.reader (module_of c.in_ok-module.«module») c.stop.result c.from_token-reader.ensures
+      c.in_ok-module.ensures c.stop.ensures;
+  next = λ i. c.len.ensures i - c.left.ensures i;
+}

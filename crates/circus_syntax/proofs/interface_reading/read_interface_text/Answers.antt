@@ -1,26 +1,20 @@
-use Rattle.std.proofs.Common.{◌-◌, map, drop, length, arith, ◌∙◌, ap}
-use Rattle.std.proofs.lemmas.List.{take_rest}
+use Rattle.std.proofs.Common.{◌-◌, arith}
 use Rattle.circus_syntax.specs.InterfaceTree.{interface_of}
-use Rattle.circus_syntax.specs.Placed.{placed_of}
-use Rattle.circus_syntax.specs.Reader.{open_at}
-use Rattle.circus_syntax.proofs.Whole.{left_few, answer_is}
+use Rattle.circus_syntax.specs.Spelling.{most_levels}
+use Rattle.circus_syntax.proofs.Interfaces.{sound_interface}
+use Rattle.circus_syntax.proofs.TextRead.{left_few, answer_is}
 use Rattle.circus_syntax.proofs.interface_reading.read_interface_text.Goals as goal
 
 pub overflow_sub-result : goal.overflow_sub-result
 overflow_sub-result c =
-    let begun =
-    c.new-reader.ensures ∙ ap (λ ts. open_at (map (placed_of c.args.text.now) ts) (length c.args.text.now)) (take_rest c.as_slice.result.now c.args.at)
-    ∙ ap (λ ts. open_at (map (placed_of c.args.text.now) (drop c.args.at ts)) (length c.args.text.now)) c.as_slice.ensures in
-    let few = left_few c.args.text.now c.args.tokens.now c.args.at c.new-reader.result c.interface.new.self (interface_of c.in_ok-interface.interface) begun c.in_ok-interface.ensures in
+    let few = left_few (sound_interface most_levels) (λ t. t) c.args.text.now c.args.tokens.now c.args.at c.from_token-reader.result c.interface.new.self (interface_of c.in_ok-interface.interface) c.from_token-reader.ensures c.in_ok-interface.ensures in
     omega (arith, few, c.len.ensures, c.left.ensures)
 
 pub returns : goal.returns
-returns c =
-    let begun =
-    c.new-reader.ensures ∙ ap (λ ts. open_at (map (placed_of c.args.text.now) ts) (length c.args.text.now)) (take_rest c.as_slice.result.now c.args.at)
-    ∙ ap (λ ts. open_at (map (placed_of c.args.text.now) (drop c.args.at ts)) (length c.args.text.now)) c.as_slice.ensures in
-    record {
-      left = c.interface.new.self.rest;
-      is = answer_is c.args.text.now c.args.tokens.now c.args.at c.new-reader.result c.interface.new.self (interface_of c.in_ok-interface.interface) c.stop.result begun c.in_ok-interface.ensures c.stop.ensures;
-      next = λ i. c.len.ensures i - c.left.ensures i;
-    }
+returns c = record {
+  left = c.interface.new.self.rest;
+  is =
+      answer_is (sound_interface most_levels) (λ t. t) c.args.text.now c.args.tokens.now c.args.at c.from_token-reader.result c.interface.new.self (interface_of c.in_ok-interface.interface) c.stop.result c.from_token-reader.ensures
+      c.in_ok-interface.ensures c.stop.ensures;
+  next = λ i. c.len.ensures i - c.left.ensures i;
+}
