@@ -1,2 +1,2 @@
 mod Listing
-mod WellTyped
+pub mod WellTyped

@@ -31,19 +31,19 @@ pub struct Procedures<'s> {
 
 /// A module that may be called: its number, and its procedures where what it implements is known.
 #[derive(Clone, Copy)]
-pub struct Callee<'s> {
+pub struct Callee<'m, 't> {
     pub number: u16,
-    pub procedures: Option<&'s Procedures<'s>>,
+    pub procedures: Option<&'m Procedures<'t>>,
 }
 
 /// What the statements of a body may name.
 #[derive(Drop)]
-pub struct Context<'s> {
-    pub scope: &'s Scope<'s>,
+pub struct Context<'c, 's, 'm, 't> {
+    pub scope: &'c Scope<'s, 'm, 't>,
     /// The modules that the body's own module imports.
-    pub imported: &'s BTreeMap<&'s [u8], Callee<'s>>,
+    pub imported: &'c BTreeMap<&'m [u8], Callee<'m, 't>>,
     /// What the procedure itself gives and reports.
-    pub own: &'s Offered<'s>,
+    pub own: &'c Offered<'t>,
 }
 
 impl<'s> Offered<'s> {

@@ -38,7 +38,7 @@ use std::alloc::Global;
 #[cycle(resolving)]
 pub fn resolve_statements(
     alloc: Global,
-    context: &Context<'_>,
+    context: &Context<'_, '_, '_, '_>,
     found: &mut Findings,
     statements: &Statements,
 ) -> Result<CheckedStatements, NoMemory>
@@ -56,7 +56,7 @@ pub fn resolve_statements(
 #[cycle(resolving)]
 fn resolved(
     alloc: Global,
-    context: &Context<'_>,
+    context: &Context<'_, '_, '_, '_>,
     found: &mut Findings,
     statement: &Statement,
 ) -> Result<CheckedStatement, NoMemory>
@@ -87,7 +87,7 @@ fn resolved(
 #[tactic(auto, using(circus_resolve::proofs::Finding::found_then))]
 fn assigned(
     alloc: Global,
-    context: &Context<'_>,
+    context: &Context<'_, '_, '_, '_>,
     found: &mut Findings,
     place: &PlaceText,
     value: &Expression,
@@ -105,7 +105,7 @@ fn assigned(
 #[tactic(auto, using(circus_resolve::proofs::Finding::found_then))]
 fn tested(
     alloc: Global,
-    context: &Context<'_>,
+    context: &Context<'_, '_, '_, '_>,
     found: &mut Findings,
     condition: &Expression,
 ) -> Result<CheckedExpression, NoMemory>
@@ -121,7 +121,7 @@ fn tested(
 #[tactic(auto, using(circus_resolve::proofs::Finding::found_then))]
 fn only_then(
     alloc: Global,
-    context: &Context<'_>,
+    context: &Context<'_, '_, '_, '_>,
     found: &mut Findings,
     condition: &Expression,
     statements: &Statements,
@@ -139,7 +139,7 @@ fn only_then(
 #[tactic(auto, using(circus_resolve::proofs::Finding::found_then))]
 fn then_else(
     alloc: Global,
-    context: &Context<'_>,
+    context: &Context<'_, '_, '_, '_>,
     found: &mut Findings,
     condition: &Expression,
     statements: &Statements,
@@ -158,7 +158,7 @@ fn then_else(
 #[tactic(auto, using(circus_resolve::proofs::Finding::found_then))]
 fn repeated(
     alloc: Global,
-    context: &Context<'_>,
+    context: &Context<'_, '_, '_, '_>,
     found: &mut Findings,
     condition: &Expression,
     statements: &Statements,
@@ -175,7 +175,7 @@ fn repeated(
 #[tactic(auto, using(circus_resolve::proofs::Finding::found_then))]
 fn appended(
     alloc: Global,
-    context: &Context<'_>,
+    context: &Context<'_, '_, '_, '_>,
     found: &mut Findings,
     item: &Expression,
     place: &PlaceText,
@@ -204,7 +204,7 @@ fn kind_of_known(shape: Option<&Shape>) -> Option<NumberKind>
 // RETURN, whose place is given.
 fn given(
     alloc: Global,
-    context: &Context<'_>,
+    context: &Context<'_, '_, '_, '_>,
     found: &mut Findings,
     at: u32,
     items: &Expressions,
@@ -219,7 +219,7 @@ fn given(
 #[tactic(auto, using(circus_resolve::proofs::Finding::found_then))]
 fn raised(
     alloc: Global,
-    context: &Context<'_>,
+    context: &Context<'_, '_, '_, '_>,
     found: &mut Findings,
     name: &Named,
     items: &Expressions,
@@ -237,7 +237,7 @@ fn raised(
 #[tactic(auto, using(circus_resolve::proofs::Finding::found_then))]
 fn asked(
     alloc: Global,
-    context: &Context<'_>,
+    context: &Context<'_, '_, '_, '_>,
     found: &mut Findings,
     call: &CallText,
 ) -> Result<CheckedStatement, NoMemory>
@@ -277,7 +277,7 @@ fn procedure_number(offered: Option<&Offered<'_>>) -> u16
 // The places of INTO, where it stands.
 fn results(
     alloc: Global,
-    context: &Context<'_>,
+    context: &Context<'_, '_, '_, '_>,
     found: &mut Findings,
     slots: Slots<'_>,
     into: &Option<IntoText>,
@@ -295,7 +295,7 @@ fn results(
 #[tactic(auto, using(circus_resolve::proofs::Finding::found_then))]
 fn places(
     alloc: Global,
-    context: &Context<'_>,
+    context: &Context<'_, '_, '_, '_>,
     found: &mut Findings,
     slots: Slots<'_>,
     at: u32,
@@ -311,7 +311,7 @@ fn places(
 // Places in order, to each of which a value goes.
 fn each_place(
     alloc: Global,
-    context: &Context<'_>,
+    context: &Context<'_, '_, '_, '_>,
     found: &mut Findings,
     slots: Slots<'_>,
     places: &PlaceTexts,
@@ -330,7 +330,7 @@ fn each_place(
 #[tactic(auto, using(circus_resolve::proofs::Finding::found_then))]
 fn filled(
     alloc: Global,
-    context: &Context<'_>,
+    context: &Context<'_, '_, '_, '_>,
     found: &mut Findings,
     shape: Option<&Shape>,
     place: &PlaceText,
@@ -352,7 +352,7 @@ fn filled(
 #[cycle(resolving)]
 fn handlers_of(
     alloc: Global,
-    context: &Context<'_>,
+    context: &Context<'_, '_, '_, '_>,
     found: &mut Findings,
     offered: Option<&Offered<'_>>,
     handlers: &Handlers,
@@ -398,7 +398,7 @@ fn handled_error<'c>(
 // The places that the values of an error go to, where they are told at the place.
 fn handler_places(
     alloc: Global,
-    context: &Context<'_>,
+    context: &Context<'_, '_, '_, '_>,
     found: &mut Findings,
     slots: Slots<'_>,
     at: u32,
@@ -418,7 +418,7 @@ fn handler_places(
 #[tactic(auto, using(circus_resolve::proofs::Finding::found_then))]
 fn handled(
     alloc: Global,
-    context: &Context<'_>,
+    context: &Context<'_, '_, '_, '_>,
     found: &mut Findings,
     offered: Option<&Offered<'_>>,
     handler: &Handler,

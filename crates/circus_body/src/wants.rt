@@ -18,12 +18,12 @@ use circus_value::{NoMemory, Shape};
 use std::alloc::Global;
 
 /// The number of the module that is called, and its procedure where that is known.
-pub fn called<'c>(
+pub fn called<'m, 't>(
     found: &mut Findings,
-    context: &Context<'c>,
+    context: &Context<'_, '_, 'm, 't>,
     module: &Named,
     procedure: &Named,
-) -> (u16, Option<&'c Offered<'c>>)
+) -> (u16, Option<&'m Offered<'t>>)
     ensures found { found.new ≡ with_faults found.old (faults.called_faults ((context_as context.now).called module.now.name) module.now procedure.now) }
     ensures number { result.0 ≡ meaning.module_number ((context_as context.now).called module.now.name) }
     ensures offered { known_offer result.1 ≡ faults.offered_by ((context_as context.now).called module.now.name) procedure.now.name }
@@ -127,7 +127,7 @@ pub fn sequence_of<'s>(
 #[tactic(auto, using(circus_resolve::proofs::Finding::found_then))]
 pub fn list(
     alloc: Global,
-    context: &Context<'_>,
+    context: &Context<'_, '_, '_, '_>,
     found: &mut Findings,
     slots: Slots<'_>,
     at: u32,

@@ -44,7 +44,7 @@ pub struct ResolvedPlace<'s> {
 #[cycle(resolving)]
 pub fn resolve<'s>(
     alloc: Global,
-    scope: &Scope<'s>,
+    scope: &Scope<'s, '_, '_>,
     found: &mut Findings,
     expression: &Expression,
 ) -> Result<Resolved<'s>, NoMemory>
@@ -86,7 +86,7 @@ pub fn resolve<'s>(
 #[tactic(auto, using(crate::proofs::Finding::found_then))]
 fn binary<'s>(
     alloc: Global,
-    scope: &Scope<'s>,
+    scope: &Scope<'s, '_, '_>,
     found: &mut Findings,
     operator: Operator,
     left: &Operand,
@@ -158,7 +158,7 @@ fn joined(
 #[tactic(auto, using(crate::proofs::Finding::found_then))]
 fn denied<'s>(
     alloc: Global,
-    scope: &Scope<'s>,
+    scope: &Scope<'s, '_, '_>,
     found: &mut Findings,
     operand: &Operand,
 ) -> Result<Resolved<'s>, NoMemory>
@@ -178,7 +178,7 @@ fn denied<'s>(
 #[tactic(auto, using(crate::proofs::Finding::found_then))]
 fn negative<'s>(
     alloc: Global,
-    scope: &Scope<'s>,
+    scope: &Scope<'s, '_, '_>,
     found: &mut Findings,
     operand: &Operand,
 ) -> Result<Resolved<'s>, NoMemory>
@@ -198,7 +198,7 @@ fn negative<'s>(
 #[tactic(auto, using(crate::proofs::Finding::found_then))]
 fn length<'s>(
     alloc: Global,
-    scope: &Scope<'s>,
+    scope: &Scope<'s, '_, '_>,
     found: &mut Findings,
     operand: &Operand,
 ) -> Result<Resolved<'s>, NoMemory>
@@ -219,7 +219,7 @@ fn length<'s>(
 #[tactic(auto, using(crate::proofs::Finding::found_then))]
 fn standing_at<'s>(
     alloc: Global,
-    scope: &Scope<'s>,
+    scope: &Scope<'s, '_, '_>,
     found: &mut Findings,
     operand: &Operand,
     name: &Named,
@@ -240,7 +240,7 @@ fn standing_at<'s>(
 #[tactic(auto, using(crate::proofs::Finding::found_then))]
 fn label<'s>(
     alloc: Global,
-    scope: &Scope<'s>,
+    scope: &Scope<'s, '_, '_>,
     found: &mut Findings,
     of: &TypeName,
     name: &Named,
@@ -261,7 +261,7 @@ fn label<'s>(
 #[tactic(auto, using(crate::proofs::Finding::found_then))]
 fn arm<'s>(
     alloc: Global,
-    scope: &Scope<'s>,
+    scope: &Scope<'s, '_, '_>,
     found: &mut Findings,
     of: &TypeName,
     name: &Named,
@@ -313,7 +313,7 @@ fn stored(
 #[tactic(auto, using(crate::proofs::Finding::found_then))]
 fn items_of<'s>(
     alloc: Global,
-    scope: &Scope<'s>,
+    scope: &Scope<'s, '_, '_>,
     found: &mut Findings,
     of: &TypeName,
     items: &Expressions,
@@ -336,7 +336,7 @@ fn items_of<'s>(
 #[tactic(auto, using(crate::proofs::Finding::found_then))]
 fn item_for<'s>(
     alloc: Global,
-    scope: &Scope<'s>,
+    scope: &Scope<'s, '_, '_>,
     found: &mut Findings,
     shape: Option<&Shape>,
     item: &Expression,
@@ -354,7 +354,7 @@ fn item_for<'s>(
 #[cycle(resolving)]
 pub fn resolve_each<'s>(
     alloc: Global,
-    scope: &Scope<'s>,
+    scope: &Scope<'s, '_, '_>,
     found: &mut Findings,
     slots: Slots<'_>,
     items: &Expressions,
@@ -373,7 +373,7 @@ pub fn resolve_each<'s>(
 #[cycle(resolving)]
 fn read<'s>(
     alloc: Global,
-    scope: &Scope<'s>,
+    scope: &Scope<'s, '_, '_>,
     found: &mut Findings,
     place: &PlaceText,
 ) -> Result<Resolved<'s>, NoMemory>
@@ -392,7 +392,7 @@ fn read<'s>(
 #[cycle(resolving)]
 pub fn resolve_place<'s>(
     alloc: Global,
-    scope: &Scope<'s>,
+    scope: &Scope<'s, '_, '_>,
     found: &mut Findings,
     place: &PlaceText,
 ) -> Result<ResolvedPlace<'s>, NoMemory>
@@ -435,7 +435,7 @@ struct Led<'s> {
 #[cycle(resolving)]
 fn suffixes_of<'s>(
     alloc: Global,
-    scope: &Scope<'s>,
+    scope: &Scope<'s, '_, '_>,
     found: &mut Findings,
     first: u32,
     shape: Option<&'s Shape>,
@@ -463,7 +463,7 @@ fn suffixes_of<'s>(
 #[tactic(auto, using(crate::proofs::Finding::found_then))]
 fn step<'s>(
     alloc: Global,
-    scope: &Scope<'s>,
+    scope: &Scope<'s, '_, '_>,
     found: &mut Findings,
     first: u32,
     shape: Option<&'s Shape>,

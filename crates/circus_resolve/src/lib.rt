@@ -24,6 +24,6 @@ pub use expression::{Resolved, ResolvedPlace, resolve, resolve_each, resolve_pla
 pub use findings::Findings;
 pub use laws::{faultless_is_well_formed, same_is_equal};
 pub use named::field_count;
-pub use scope::{Scope, Standing, Types, Variable};
+pub use scope::{ModuleScope, Scope, Standing, Types, Variable};
 pub use slots::Slots;
 pub use sort::{Sort, kind_of};

@@ -34,7 +34,7 @@ pub fn first_of(of: &TypeName) -> u32
 
 impl Findings {
     /// The shape that the name of a type stands for, where it stands for one.
-    pub fn named_type<'s>(&mut self, scope: &Scope<'s>, of: &TypeName) -> Option<&'s Shape>
+    pub fn named_type<'s>(&mut self, scope: &Scope<'s, '_, '_>, of: &TypeName) -> Option<&'s Shape>
         ensures found { self.new ≡ with_faults self.old (faults.type_faults (scope_as scope.now) of.now) }
         ensures shape { shape_as result ≡ faults.type_shape (scope_as scope.now) of.now }
     {

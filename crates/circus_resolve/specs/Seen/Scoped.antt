@@ -1,12 +1,15 @@
 -- What tables say of names, and what a sort of the code stands for.
-use Rattle.std.specs.Prelude.{ℕ, List, Option, Some, None, option_map}
+use Rattle.std.specs.Prelude.{ℕ, List, Option, Some, None, option_map, option_or}
 use Rattle.std.specs.Ordering.{nat_cmp}
 use Rattle.std.specs.Cmp.Lexicographic.{slice_cmp}
-use Rattle.std.specs.BTreeMap.{get_by}
+use Rattle.std.specs.BTreeMap.{BTreeMap, get_by}
 use Rattle.std.specs.Borrow.{Bor}
 use Rattle.circus_value.specs.ShapeTree.{ShapeTree, boolean, text}
 use Rattle.circus_value.specs.declared.shape.Shape.{Shape}
 use Rattle.circus_value.specs.ShapeOf.{tree_of}
+use Rattle.circus_syntax.specs.declared.named.Named.{Named}
+use Rattle.circus_syntax.specs.declared.named.TypeName.{TypeName}
+use Rattle.circus_resolve.specs.declared.scope.ModuleScope.{ModuleScope as Outer}
 use Rattle.circus_resolve.specs.declared.scope.Scope.{Scope as Table}
 use Rattle.circus_resolve.specs.declared.scope.Types.{Types}
 use Rattle.circus_resolve.specs.declared.scope.Variable.{Variable as Entry}
@@ -51,16 +54,25 @@ abbrev pub module_or : Option (List ℕ → Standing) → List ℕ → Standing
 module_or None name = no_module
 module_or (Some types) name = types name
 
-abbrev pub type_named : Table → Option (List ℕ) → List ℕ → Standing
-type_named scope None name = known_types (option_map (λ types. type_in types.now) scope.own) name
-type_named scope (Some m) name =
-    module_or (option_map (λ types. known_types (option_map (λ known. type_in known.now) types)) (get_by (λ k. slice_cmp nat_cmp m k.now) scope.imported)) name
+-- what the tables of a module say of the name of a type
+abbrev pub type_named : Outer → Option (List ℕ) → List ℕ → Standing
+type_named outer None name = known_types (option_map (λ types. type_in types.now) outer.own) name
+type_named outer (Some m) name =
+    module_or (option_map (λ types. known_types (option_map (λ known. type_in known.now) types)) (get_by (λ k. slice_cmp nat_cmp m k.now) outer.imported)) name
+
+-- what a table of variables says of a name
+abbrev pub variable_in : BTreeMap (Bor (List ℕ)) Entry → List ℕ → Option Variable
+variable_in table name = option_map variable_as (get_by (λ k. slice_cmp nat_cmp name k.now) table)
 
 abbrev pub scope_as : Table → Scope
 scope_as scope = record {
-  variable = λ name. option_map variable_as (get_by (λ k. slice_cmp nat_cmp name k.now) scope.variables);
-  type_named = type_named scope;
+  variable = λ name. option_or (variable_in scope.variables name) (variable_in scope.outer.now.state name);
+  type_named = type_named scope.outer.now;
 }
+
+-- what tables of a module say of a type
+abbrev pub standing_among : Outer → TypeName → Standing
+standing_among outer t = type_named outer (option_map (λ (m : Named). m.name) t.«module») t.name.name
 
 -- a shape that may be unknown
 abbrev pub shape_as : Option (Bor Shape) → Option ShapeTree

@@ -5,7 +5,7 @@ use Rattle.std.specs.Cmp.Lexicographic.{slice_cmp}
 use Rattle.std.specs.BTreeMap.{get_by}
 use Rattle.circus_syntax.specs.declared.named.Named.{Named}
 use Rattle.circus_resolve.specs.Seen.Scoped.{type_in, known_types, module_or, type_named}
-use Rattle.circus_resolve.proofs.scope.Scope.standing.Goals as goal
+use Rattle.circus_resolve.proofs.scope.ModuleScope.standing.Goals as goal
 
 pub returns-in-Some-get : goal.returns-in-Some-get
 returns-in-Some-get c =
