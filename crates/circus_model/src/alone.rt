@@ -3,16 +3,13 @@ ghost use Rattle.std.specs.Prelude.{◌≡◌, ℕ, ◌<◌, ◌≤◌, [], ◌�
 ghost use Rattle.circus_model.specs.Behaviour.{behaviours};
 ghost use Rattle.circus_model.specs.Agree.{Agree, IsRoot};
 ghost use Rattle.circus_model.specs.Limits.{most_modules};
-ghost use Rattle.circus_model.specs.Execution.{is_spent, fresh, thread_of, joined, history_of};
+ghost use Rattle.circus_model.specs.Execution.{fresh, thread_of, joined, history_of};
 ghost use Rattle.circus_model.specs.Seen.Ready.{IsThread, IsOrder};
 ghost use Rattle.circus_model.specs.Seen.Threads.{seen, ordered, HasPerformed, HasAnswered};
 
-use crate::{Ask, History, LanguageError, Module, Run, Runs, Turn};
+use crate::{Ask, History, LanguageError, Module, Run, Runs, Turn, is_spent};
 use circus_value::{Clock, Duplicate, ListOf, NoMemory, Outcome, Path, State, Values};
 use std::alloc::Global;
-
-// The calls that a thread may make.
-const MOST_CALLS: u64 = 16_777_216;
 
 // Who calls what.
 #[derive(Drop)]
@@ -106,7 +103,7 @@ fn answer<M: Module>(
     let procedure = order.procedure;
     let arguments = order.arguments.copy()?;
     let index = thread.clock.as_slice()[usize::from(callee)];
-    let reply = if thread.is_spent() {
+    let reply = if is_spent(&thread.clock) {
         Outcome::Raised(LanguageError::ThreadSpent.number(), Values::new(alloc))
     } else {
         thread.clock.set(usize::from(callee), index + 1);
@@ -147,18 +144,6 @@ impl Order {
 }
 
 impl Thread {
-    // Whether it has made all its calls.
-    fn is_spent(&self) -> bool
-        requires { length self.now.clock ≤ most_modules }
-        ensures { result ≡ is_spent self.now.clock }
-    {
-        let mut calls: u64 = 0;
-        for count in self.clock.as_slice() {
-            calls += u64::from(*count);
-        }
-        calls >= MOST_CALLS
-    }
-
     // The state of a module, which its run will give back.
     fn take_state<M: Module>(&mut self, module: &M, place: u16) -> Result<State, NoMemory>
         requires { place < vec_len self.old.states }
