@@ -1,0 +1,3 @@
+mod Programs
+mod Whole
+mod Steps

@@ -1,0 +1,3 @@
+pub mod WrittenProgram
+pub mod ProgramTree
+pub mod ProgramReading
