@@ -1,9 +1,11 @@
-//! Tests of the texts of modules and of deployments: which are read, and where reading the others stops; and the trees of
-//! some.
+//! Tests of the texts of modules, of deployments and of whole program files: which are read, and where reading the others
+//! stops; and the trees of some.
 #![tactic(auto)]
 
 #[cfg(test)]
 mod deployments;
+#[cfg(test)]
+mod files;
 #[cfg(test)]
 mod modules;
 #[cfg(test)]
