@@ -1,5 +1,6 @@
 -- What tables say of names, and what a sort of the code stands for.
-use Rattle.std.specs.Prelude.{ℕ, List, Option, Some, None, option_map, option_or}
+use Rattle.std.specs.Prelude.{ℕ, List, Option, Some, None, option_map}
+use Rattle.std.specs.Option.{option_or}
 use Rattle.std.specs.Ordering.{nat_cmp}
 use Rattle.std.specs.Cmp.Lexicographic.{slice_cmp}
 use Rattle.std.specs.BTreeMap.{BTreeMap, get_by}
