@@ -1,4 +1,4 @@
-use Rattle.std.proofs.Common.{sym, subst}
+use Rattle.std.proofs.Common.{[], sym, subst}
 use Rattle.circus_machine.specs.Modules.{AreBodiesOf}
 use Rattle.tests_programs.specs.Pieces.{IsWith}
 use Rattle.tests_programs.proofs.OfVault.{vault_bodies}
