@@ -1,0 +1,91 @@
+use Rattle.std.proofs.Common.{◌≡◌, refl, true≢false, ap, sym, subst, ◌∙◌, ◌++◌}
+use Rattle.std.specs.Prelude.{is_some, option_to_list, IfOk, IsSome}
+use Rattle.circus_model.specs.Behaviour.{IsModule}
+use Rattle.circus_model.specs.Gives.{Gives}
+use Rattle.circus_performing.specs.Performing.{state_after, replies_of, gone_on, with_run, most_turns, answered}
+use Rattle.circus_record.specs.declared.record.MemberRecord.{MemberRecord}
+use Rattle.circus_performing.specs.Acts.{CanAnswer}
+use Rattle.circus_performing.specs.Record.{behaviour}
+use Rattle.circus_performing.specs.Seen.UnderWay.{IsMember, IsNext}
+use Rattle.circus_performing.proofs.Members.{answering, runs_wait, something_waits, resumes, answers_next, answers_gives, answers_kept, result_for}
+use Rattle.circus_performing.proofs.performer.Performer.answer.Goals as goal
+
+pub unreachable-requires : goal.unreachable-requires
+unreachable-requires g c =
+    let i = c.self.inside in
+    let S = g.M.Module.stands i.hosted in
+    let b = behaviour g.M.Module.declared g.M.Module.turn g.M.Module.first i.hosted in
+    let lawful : IsModule b = record { first_is_state = g.met.M.Module.first_is_state i.hosted; turns_are_lawful = g.met.M.Module.turns_are_lawful i.hosted } in
+    let can = subst (λ p. CanAnswer (g.M.Module.declared p.hosted) c.args.reply p.kept) (sym c.self.view_is) c.requires in
+    something_waits S b i.began lawful i.kept c.args.reply (subst (λ q. IsMember S b i.began i.kept q) c.in_default.is c.self.invariant) can
+
+pub unreachable-unreachable : goal.unreachable-unreachable
+unreachable-unreachable g c = c.unreachable.result
+
+pub unreachable-requires-in_default-pop : goal.unreachable-requires-in_default-pop
+unreachable-requires-in_default-pop g c =
+    let i = c.self.inside in
+    let S = g.M.Module.stands i.hosted in
+    let b = behaviour g.M.Module.declared g.M.Module.turn g.M.Module.first i.hosted in
+    let lawful : IsModule b = record { first_is_state = g.met.M.Module.first_is_state i.hosted; turns_are_lawful = g.met.M.Module.turns_are_lawful i.hosted } in
+    let can = subst (λ p. CanAnswer (g.M.Module.declared p.hosted) c.args.reply p.kept) (sym c.self.view_is) c.requires in
+    let a = answering S b i.began lawful i.kept c.in-Some.paused c.args.reply (subst (λ q. IsMember S b i.began i.kept q) c.in-Some.is c.self.invariant) can in
+    let some : IsSome c.pop.result = c.pop.ensures.some.1 (runs_wait S b i.began lawful i.kept c.in-Some.paused c.args.reply a) in
+    true≢false (sym some ∙ ap is_some c.in_default-pop.is)
+
+pub unreachable-unreachable-in_default-pop : goal.unreachable-unreachable-in_default-pop
+unreachable-unreachable-in_default-pop g c = c.unreachable-in_default-pop.result
+
+pub resume-requires : goal.resume-requires
+resume-requires g c =
+    let i = c.self.inside in
+    let S = g.M.Module.stands i.hosted in
+    let b = behaviour g.M.Module.declared g.M.Module.turn g.M.Module.first i.hosted in
+    let lawful : IsModule b = record { first_is_state = g.met.M.Module.first_is_state i.hosted; turns_are_lawful = g.met.M.Module.turns_are_lawful i.hosted } in
+    let can = subst (λ p. CanAnswer (g.M.Module.declared p.hosted) c.args.reply p.kept) (sym c.self.view_is) c.requires in
+    let a = answering S b i.began lawful i.kept c.in-Some.paused c.args.reply (subst (λ q. IsMember S b i.began i.kept q) c.in-Some.is c.self.invariant) can in
+    resumes S b i.began lawful i.kept c.in-Some.paused c.args.reply a
+
+pub same-clock : goal.same-clock
+same-clock g c = refl
+
+pub on-requires-clause-next : goal.on-requires-clause-next
+on-requires-clause-next g c =
+    let i = c.self.inside in
+    let S = g.M.Module.stands i.hosted in
+    let b = behaviour g.M.Module.declared g.M.Module.turn g.M.Module.first i.hosted in
+    let lawful : IsModule b = record { first_is_state = g.met.M.Module.first_is_state i.hosted; turns_are_lawful = g.met.M.Module.turns_are_lawful i.hosted } in
+    let can = subst (λ p. CanAnswer (g.M.Module.declared p.hosted) c.args.reply p.kept) (sym c.self.view_is) c.requires in
+    let a = answering S b i.began lawful i.kept c.in-Some.paused c.args.reply (subst (λ q. IsMember S b i.began i.kept q) c.in-Some.is c.self.invariant) can in
+    let runs_are = c.pop.ensures.taken ∙ ap (λ o. c.pop.new.self ++ option_to_list o) c.in-Some-pop.is in
+    let run = c.in_ok-replied_run.field-0 in
+    subst (λ x. IsNext b x (record i.kept { runs = c.pop.new.self }) c.args.step run) (sym c.began.view_is)
+    (answers_next S b i.began lawful i.kept c.in-Some.paused c.args.reply a c.args.step c.args.clock c.pop.new.self c.in-Some-pop.run' run runs_are c.in_ok-replied_run.ensures)
+
+pub on-requires-clause-gives : goal.on-requires-clause-gives
+on-requires-clause-gives g c =
+    let i = c.self.inside in
+    let S = g.M.Module.stands i.hosted in
+    let b = behaviour g.M.Module.declared g.M.Module.turn g.M.Module.first i.hosted in
+    let lawful : IsModule b = record { first_is_state = g.met.M.Module.first_is_state i.hosted; turns_are_lawful = g.met.M.Module.turns_are_lawful i.hosted } in
+    let can = subst (λ p. CanAnswer (g.M.Module.declared p.hosted) c.args.reply p.kept) (sym c.self.view_is) c.requires in
+    let a = answering S b i.began lawful i.kept c.in-Some.paused c.args.reply (subst (λ q. IsMember S b i.began i.kept q) c.in-Some.is c.self.invariant) can in
+    let runs_are = c.pop.ensures.taken ∙ ap (λ o. c.pop.new.self ++ option_to_list o) c.in-Some-pop.is in
+    let run = c.in_ok-replied_run.field-0 in
+    subst (λ x. Gives (λ q. S q (state_after x c.pop.new.self) run.procedure run.arguments (replies_of run.asks)) (b.turn (state_after x c.pop.new.self) run.procedure run.arguments (replies_of run.asks)) c.in_ok-turn.turn) (sym c.began.view_is)
+    (answers_gives S b i.began lawful i.kept c.in-Some.paused c.args.reply a c.args.step c.args.clock c.pop.new.self c.in-Some-pop.run' run runs_are c.in_ok-replied_run.ensures c.in_ok-turn.turn c.in_ok-turn.ensures)
+
+pub returns : goal.returns
+returns g c =
+    let i = c.self.inside in
+    let S = g.M.Module.stands i.hosted in
+    let b = behaviour g.M.Module.declared g.M.Module.turn g.M.Module.first i.hosted in
+    let lawful : IsModule b = record { first_is_state = g.met.M.Module.first_is_state i.hosted; turns_are_lawful = g.met.M.Module.turns_are_lawful i.hosted } in
+    let can = subst (λ p. CanAnswer (g.M.Module.declared p.hosted) c.args.reply p.kept) (sym c.self.view_is) c.requires in
+    let a = answering S b i.began lawful i.kept c.in-Some.paused c.args.reply (subst (λ q. IsMember S b i.began i.kept q) c.in-Some.is c.self.invariant) can in
+    let runs_are = c.pop.ensures.taken ∙ ap (λ o. c.pop.new.self ++ option_to_list o) c.in-Some-pop.is in
+    let run = c.in_ok-replied_run.field-0 in
+    let kept : MemberRecord = record i.kept { runs = c.pop.new.self } in
+    let on = subst (λ x. IfOk c.on.result (λ p. p ≡ record { hosted = i.hosted; began = x; kept = with_run kept (gone_on c.args.step (b.turn (state_after x c.pop.new.self) run.procedure run.arguments) most_turns run) })) c.began.view_is c.on.ensures in
+    result_for (λ p. answered (g.M.Module.turn p.hosted) p.began c.args.step c.args.reply c.args.clock p.kept) c.on.result _ c.args.self _ c.self.view_is
+    (answers_kept S b i.began lawful i.kept c.in-Some.paused c.args.reply a c.args.step c.args.clock c.pop.new.self c.in-Some-pop.run' run runs_are c.in_ok-replied_run.ensures) on

@@ -1,0 +1,4 @@
+pub mod Performing
+pub mod Record
+pub mod Acts
+pub mod Seen

@@ -1,0 +1,314 @@
+// A member of a troupe as it performs.
+ghost use Rattle.std.specs.Prelude.{◌≡◌, true, IfOk, option_copied};
+ghost use Rattle.circus_model.specs.Lawful.{IsState};
+ghost use Rattle.circus_model.specs.Gives.{Gives};
+ghost use Rattle.circus_performing.specs.Performing as performing;
+ghost use Rattle.circus_performing.specs.Acts.{CanEnter, CanAnswer};
+ghost use Rattle.circus_performing.specs.Record.{behaviour, IsRecord};
+ghost use Rattle.circus_performing.specs.Seen.UnderWay.{IsMember, IsNext};
+
+use crate::RunStart;
+use crate::record::{active_record, is_fetching, with_run};
+use crate::run::{
+    Asked, begun, current_clock, ended_run, refusal, refused_run, replied_run, waiting_run,
+};
+use circus_collate::Table;
+use circus_model::{Module, Signature, Turn, is_spent};
+use circus_record::{AskRecord, MemberRecord, RunRecord};
+use circus_transfer::Joiner;
+use circus_value::{Clock, Duplicate, ListOf, NoMemory, Outcome, State, Values};
+use std::alloc::Global;
+use std::marker::Model;
+use std::mem;
+
+/// A member: its module, its record, and its run where that waits for a reply (docs/PROTOCOL.md, "Performing"). Clauses
+/// see the module, the state with which the member became active, and the record.
+#[derive(Drop)]
+pub struct Performer<M: Module> {
+    alloc: Global,
+    hosted: M,
+    began: State,
+    kept: MemberRecord,
+    paused: Option<M::Paused>,
+}
+
+impl<M: Module> Model for Performer<M> {
+    ghost use Rattle.circus_performing.specs.Performing.{Performing};
+    ghost use Rattle.circus_performing.specs.Seen.MemberCode.{member_code};
+    ghost use Rattle.circus_performing.specs.Record.{behaviour};
+    ghost use Rattle.circus_performing.specs.Seen.UnderWay.{IsMember};
+
+    ghost Value = { Performing M };
+
+    ghost coded = { member_code M.code };
+
+    ghost view = { λ a. record { hosted = a.hosted; began = a.began; kept = a.kept } };
+
+    ghost invariant = { λ a. IsMember (M.stands a.hosted) (behaviour M.declared M.turn M.first a.hosted) a.began a.kept a.paused };
+}
+
+// A member as one of its runs goes on. The record has the runs before it.
+#[derive(Drop)]
+struct Going<M> {
+    alloc: Global,
+    hosted: M,
+    began: State,
+    kept: MemberRecord,
+    run: RunRecord,
+}
+
+impl<M: Module> Performer<M> {
+    /// A founder, which is active from the first call on. `NoMemory` is the one fault.
+    pub fn founder(alloc: Global, hosted: M) -> Result<Self, NoMemory>
+        ensures { IfOk result (λ p. p ≡ performing.founder hosted (M.first hosted)) }
+    {
+        Performer::before_any(alloc, hosted, Joiner::Active(0))
+    }
+
+    /// A spare, which isn't active. `NoMemory` is the one fault.
+    pub fn spare(alloc: Global, hosted: M) -> Result<Self, NoMemory>
+        ensures { IfOk result (λ p. p ≡ performing.spare hosted (M.first hosted)) }
+    {
+        Performer::before_any(alloc, hosted, Joiner::Outside)
+    }
+
+    fn before_any(alloc: Global, hosted: M, phase: Joiner) -> Result<Self, NoMemory>
+        ensures { IfOk result (λ p. p ≡ record { hosted = hosted; began = M.first hosted; kept = performing.before_any phase (M.first hosted) }) }
+    {
+        let state = hosted.first_state()?;
+        let began = state.copy()?;
+        let kept = MemberRecord {
+            phase,
+            from: 0,
+            active_at: 0,
+            count: 0,
+            runs: ListOf::new(alloc),
+            state,
+        };
+        Ok(Performer {
+            alloc,
+            hosted,
+            began,
+            kept,
+            paused: None,
+        })
+    }
+
+    /// What the module declares. It takes no memory.
+    pub fn signature(&self) -> &Signature
+        ensures { result.now ≡ M.declared self.now.hosted }
+    {
+        self.hosted.signature()
+    }
+
+    /// What the member did. It takes no memory.
+    pub fn record(&self) -> &MemberRecord
+        ensures value { result.now ≡ self.now.kept }
+        ensures kept { IsRecord (behaviour M.declared M.turn M.first self.now.hosted) self.now.began self.now.kept }
+    {
+        &self.kept
+    }
+
+    /// The ask for whose reply its run waits. `None` exactly where it performs no run. It takes no memory.
+    pub fn open_ask(&self) -> Option<&AskRecord>
+        ensures { option_copied result ≡ performing.open_ask self.now.kept }
+    {
+        let run = self.last_run()?;
+        let ask = run.asks.as_slice().last()?;
+        if ask.reply.is_none() { Some(ask) } else { None }
+    }
+
+    /// The run that was entered last. It takes no memory.
+    pub fn last_run(&self) -> Option<&RunRecord>
+        ensures { option_copied result ≡ performing.last_of self.now.kept.runs }
+    {
+        self.kept.runs.as_slice().last()
+    }
+
+    /// The member is told to join its troupe. It takes no memory.
+    pub fn join(&mut self)
+        ensures { self.new ≡ record self.old { kept = performing.told_to_join self.old.kept } }
+    {
+        self.kept.phase = self.kept.phase.join();
+    }
+
+    /// The Ringmaster has answered its Join. It takes no memory.
+    pub fn take_in(&mut self, table: &Table)
+        ensures { self.new ≡ record self.old { kept = performing.taken_in table.now self.old.kept } }
+    {
+        self.kept.phase = self.kept.phase.table(table);
+    }
+
+    /// Where the member fetches a state, it has this one, and is active from the count on; else nothing changes.
+    /// After `NoMemory` the member is gone.
+    pub fn activate(self, state: State, count: u32, step: u64) -> Result<Self, NoMemory>
+        requires { IsState (M.declared self.hosted) state }
+        ensures { IfOk result (λ p. p ≡ performing.activated step state count self) }
+    {
+        if !is_fetching(self.kept.phase) {
+            return Ok(self);
+        }
+        self.made_active(state, count, step)
+    }
+
+    fn made_active(self, state: State, count: u32, step: u64) -> Result<Self, NoMemory>
+        requires state { IsState (M.declared self.hosted) state }
+        requires fetching { performing.is_fetching self.kept.phase ≡ true }
+        ensures { IfOk result (λ p. p ≡ performing.made_active step state count self) }
+    {
+        let Performer {
+            alloc,
+            hosted,
+            began: _,
+            kept,
+            paused: _,
+        } = self;
+        let kept = active_record(kept, state.copy()?, count, step);
+        Ok(Performer {
+            alloc,
+            hosted,
+            began: state,
+            kept,
+            paused: None,
+        })
+    }
+
+    /// Enters the next run in a step, and goes on until the module asks for a reply that isn't given at once, or the run
+    /// ends. A thread that has made all its calls is given the error for that (docs/PROTOCOL.md, "Performing"). After
+    /// `NoMemory` the member is gone.
+    pub fn enter(self, start: RunStart, step: u64) -> Result<Self, NoMemory>
+        requires { CanEnter (M.declared self.hosted) start self.kept }
+        ensures { IfOk result (λ p. p ≡ record self { kept = performing.entered (M.turn self.hosted) step start self.kept }) }
+    {
+        let Performer {
+            alloc,
+            hosted,
+            began,
+            mut kept,
+            paused: _,
+        } = self;
+        let state = mem::replace(&mut kept.state, Values::new(alloc));
+        let turn = hosted.start(state, start.procedure, &start.arguments)?;
+        let going = Going {
+            alloc,
+            hosted,
+            began,
+            kept,
+            run: begun(alloc, start, step),
+        };
+        going.on(turn, step)
+    }
+
+    /// Answers the open ask in a step, with the clock after it, and goes on as `enter` does. After `NoMemory` the member
+    /// is gone.
+    pub fn answer(self, reply: Outcome, clock: Clock, step: u64) -> Result<Self, NoMemory>
+        requires { CanAnswer (M.declared self.hosted) reply self.kept }
+        ensures { IfOk result (λ p. p ≡ record self { kept = performing.answered (M.turn self.hosted) self.began step reply clock self.kept }) }
+    {
+        let Performer {
+            alloc,
+            hosted,
+            began,
+            mut kept,
+            paused,
+        } = self;
+        let Some(paused) = paused else { unreachable!() };
+        let Some(run) = kept.runs.pop() else {
+            unreachable!()
+        };
+        let turn = hosted.resume(paused, &reply)?;
+        let going = Going {
+            alloc,
+            hosted,
+            began,
+            kept,
+            run: replied_run(run, reply, clock, step)?,
+        };
+        going.on(turn, step)
+    }
+}
+
+impl<M: Module> Going<M> {
+    // Goes on in a step as far as the run can.
+    fn on(self, turn: Turn<M::Paused>, step: u64) -> Result<Performer<M>, NoMemory>
+        requires next { IsNext (behaviour M.declared M.turn M.first self.hosted) self.began self.kept step self.run }
+        requires gives { let state = performing.state_after self.began self.kept.runs in let replies = performing.replies_of self.run.asks in Gives (λ paused. M.stands self.hosted paused state self.run.procedure self.run.arguments replies) (M.turn self.hosted state self.run.procedure self.run.arguments replies) turn }
+        ensures { IfOk result (λ p. p ≡ record {
+          hosted = self.hosted;
+          began = self.began;
+          kept = performing.with_run self.kept (performing.gone_on step (M.turn self.hosted (performing.state_after self.began self.kept.runs) self.run.procedure self.run.arguments) performing.most_turns self.run);
+        }) }
+    {
+        let Going {
+            alloc,
+            hosted,
+            began,
+            kept,
+            mut run,
+        } = self;
+        let mut turn = turn;
+        loop {
+            match turn {
+                Turn::Ends { outcome, state } => {
+                    let run = ended_run(run, outcome, state, step)?;
+                    let going = Going {
+                        alloc,
+                        hosted,
+                        began,
+                        kept,
+                        run,
+                    };
+                    return going.rest(None);
+                }
+                Turn::Asks {
+                    callee,
+                    procedure,
+                    arguments,
+                    state,
+                    paused,
+                } => {
+                    let asked = Asked {
+                        callee,
+                        procedure,
+                        arguments,
+                        state,
+                    };
+                    if !is_spent(current_clock(&run)) {
+                        let going = Going {
+                            alloc,
+                            hosted,
+                            began,
+                            kept,
+                            run: waiting_run(run, asked, step)?,
+                        };
+                        return going.rest(Some(paused));
+                    }
+                    turn = hosted.resume(paused, &refusal(alloc))?;
+                    run = refused_run(alloc, run, asked, step)?;
+                }
+            }
+        }
+    }
+
+    // The member once its run rests.
+    fn rest(self, paused: Option<M::Paused>) -> Result<Performer<M>, NoMemory>
+        requires { IsMember (M.stands self.hosted) (behaviour M.declared M.turn M.first self.hosted) self.began (performing.with_run self.kept self.run) paused }
+        ensures { IfOk result (λ p. p ≡ record { hosted = self.hosted; began = self.began; kept = performing.with_run self.kept self.run }) }
+    {
+        let Going {
+            alloc,
+            hosted,
+            began,
+            kept,
+            run,
+        } = self;
+        let kept = with_run(alloc, kept, run)?;
+        Ok(Performer {
+            alloc,
+            hosted,
+            began,
+            kept,
+            paused,
+        })
+    }
+}
