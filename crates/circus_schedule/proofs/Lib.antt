@@ -1,0 +1,9 @@
+pub mod Numerals
+pub mod Cutting
+pub mod Names
+pub mod LineTexts
+pub mod ReadSoFar
+pub mod Spelled
+pub mod OneAnswer
+pub mod WrittenAsRead
+pub mod NamedNodes

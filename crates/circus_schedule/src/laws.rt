@@ -1,0 +1,37 @@
+// What holds of every text.
+ghost use Rattle.std.specs.Prelude.{◌≡◌, ℕ, ◌↔◌, List, Result, Some, slice_get};
+ghost use Rattle.circus_collate.specs.Deployment.{IsDeployment};
+ghost use Rattle.circus_collate.specs.declared.deployment.Deployment.{Deployment};
+ghost use Rattle.circus_collate.specs.declared.deployment.Host.{Host};
+ghost use Rattle.circus_schedule.specs.declared.line.Line.{Line};
+ghost use Rattle.circus_schedule.specs.declared.schedule_fault.ScheduleFault.{ScheduleFault};
+ghost use Rattle.circus_schedule.specs.WrittenLine.{WrittenLine, IsName, Spells};
+ghost use Rattle.circus_schedule.specs.TextLines.{lines_of};
+ghost use Rattle.circus_schedule.specs.Meaning.{Numbers, numbers_of};
+ghost use Rattle.circus_schedule.specs.Answer.{AreReadAs, IsAnswer};
+ghost use Rattle.circus_schedule.specs.ScheduleText.{IsWrittenAs, StandFor};
+
+/// A text spells one line at most.
+pub fn one_spelling()
+    ensures { (text : List ℕ) (a b : WrittenLine) → Spells text a → Spells text b → a ≡ b }
+{}
+
+/// A text comes to one thing as a schedule: lines, or one fault.
+pub fn one_answer()
+    ensures { (numbers : Numbers) (text : List ℕ) (a b : Result (List Line) ScheduleFault)
+        → IsAnswer numbers text a → IsAnswer numbers text b → a ≡ b }
+{}
+
+/// What is written is read, and what is read is written so.
+pub fn written_is_read()
+    ensures { (numbers : Numbers) (text : List ℕ) (lines : List Line)
+        → AreReadAs numbers (lines_of text) lines
+        ↔ ((written : List WrittenLine) × IsWrittenAs text written × StandFor numbers written lines) }
+{}
+
+/// Each node of a deployment has a name that a line may have, and is found by it.
+pub fn nodes_are_named()
+    ensures { (deployment : Deployment) (number : ℕ) (node : Host) → IsDeployment deployment
+        → slice_get deployment.nodes number ≡ Some node
+        → IsName node.name × (numbers_of deployment.nodes node.name ≡ Some number) }
+{}
