@@ -16,7 +16,8 @@ use Rattle.circus_idl.specs.Obeys.{Obeys}
 use Rattle.circus_idl.proofs.Places.{next}
 use Rattle.circus_idl.proofs.PlainTypes.{groups_at}
 use Rattle.circus_idl.proofs.PlainWritten.{word_meant, type_written, groups_written}
-use Rattle.circus_value.proofs.ShapeBack.{fields_in, fields_back, shape_in, shape_back}
+use Rattle.circus_value.specs.ShapeOf.{fields_in, shape_in}
+use Rattle.circus_value.proofs.ShapeBack.{fields_back, shape_back}
 use Rattle.circus_idl.proofs.ObeysParts.{error_names, errors_distinct, TypeObeys, FieldsObey, ErrorObeys, ProcedureObeys, PartsObey, fields_obey}
 use Rattle.circus_idl.proofs.ErrorsFound.{errors_after, IsReported, are_reported}
 use Rattle.circus_idl.proofs.PlainDeclared.{group_list_is, fields_at, names_at, reports_at, behind_head, behind_arguments, behind_results, types_at, errors_at, procedures_at, declared_at, at_declared, interface_at}
