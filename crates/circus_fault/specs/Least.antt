@@ -1,5 +1,6 @@
 -- The least of faults, whose causes have ranks.
 use Rattle.std.specs.Prelude.{◌≡◌, ℕ, Bool, true, false, ◌&&◌, ◌||◌, ◌==◌, nat_lt, cond, List, [], ◌∷◌, Option, Some, None, Contains}
+use Rattle.circus_syntax.specs.declared.named.Numeral.{Numeral}
 use Rattle.circus_fault.specs.declared.fault.Fault.{Fault}
 
 -- the least place first, at one place the least rank
@@ -29,3 +30,7 @@ faults_if is_fault place cause = cond is_fault (record { place = place; cause = 
 abbrev pub is_clean : {C : Type 0} → List (Fault C) → Bool
 is_clean [] = true
 is_clean (_ ∷ _) = false
+
+-- a number that isn't 1 to the greatest
+abbrev pub out_of : {C : Type 0} → C → ℕ → Numeral → List (Fault C)
+out_of cause greatest n = faults_if ((n.value == 0) || nat_lt greatest n.value) n.at cause

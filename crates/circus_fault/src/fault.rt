@@ -1,9 +1,9 @@
 // Faults of a text with their places, and the least of them.
 ghost use Rattle.std.specs.Prelude.{◌≡◌, ℕ, List, None};
-ghost use Rattle.circus_fault.specs.Least.{is_before, lesser, least_from, faults_if, is_clean};
+ghost use Rattle.circus_fault.specs.Least.{is_before, lesser, least_from, faults_if, is_clean, out_of};
 ghost use Rattle.circus_fault.specs.Stopping.{cause_of, stop_faults};
 
-use circus_syntax::{Stop, StopCause};
+use circus_syntax::{Numeral, Stop, StopCause};
 
 /// Why a text is refused. Of two causes at one place the one of the lesser rank is given.
 pub trait Cause: Copy {
@@ -97,5 +97,16 @@ impl<C: Cause> Best<C> {
         if is_fault {
             self.keep(Fault { place, cause });
         }
+    }
+
+    /// Finds a number that isn't 1 to the greatest.
+    pub fn note_out_of(&mut self, greatest: u64, number: Numeral, cause: C)
+        ensures { self.new.fault ≡ least_from C.rank self.old.fault (out_of cause greatest number) }
+    {
+        self.note(
+            number.value == 0 || number.value > greatest,
+            number.at,
+            cause,
+        );
     }
 }

@@ -34,7 +34,8 @@ use Rattle.circus_type.specs.Obeys as rule
 use Rattle.circus_type.specs.Obeys.{ObeysInside, ObeysWhole}
 use Rattle.circus_idl.specs.Obeys.{ObeysError, ObeysProcedure, Obeys}
 use Rattle.circus_type.proofs.Items.{all_appended, all_with, distinct_with}
-use Rattle.circus_type.proofs.NoFaults.{no_fault, names_apart, numbers_apart, within, word_is}
+use Rattle.circus_fault.proofs.NoFaults.{no_fault}
+use Rattle.circus_type.proofs.NoFaults.{names_apart, numbers_apart, within, word_is}
 use Rattle.circus_idl.proofs.WholeObeys.{uncut, AreWhole, whole_obeys, fields_whole, together_small}
 
 -- names that stand before nothing yet, and no two of which are equal

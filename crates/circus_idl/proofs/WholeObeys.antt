@@ -23,7 +23,7 @@ use Rattle.circus_idl.specs.Faults.{Cut, cut_of, whole_faults, groups_faults, gr
 use Rattle.circus_fault.specs.Least.{is_clean}
 use Rattle.circus_type.specs.Together.{shapes_of, parts_of, zero_size_of}
 use Rattle.circus_type.specs.Obeys.{ObeysInside, ObeysWhole, ObeyFieldList}
-use Rattle.circus_type.proofs.NoFaults.{no_fault}
+use Rattle.circus_fault.proofs.NoFaults.{no_fault}
 use Rattle.circus_type.proofs.InsideObeys.{names_obey}
 use Rattle.circus_type.proofs.WholeTypes.{clean_none, tested, whole_obeys as type_obeys}
 

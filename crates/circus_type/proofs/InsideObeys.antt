@@ -27,7 +27,8 @@ use Rattle.circus_type.specs.Together.{names_of}
 use Rattle.circus_type.specs.Obeys as rule
 use Rattle.circus_type.specs.Obeys.{ObeyLabels, field_names, arm_names, arm_numbers, AreFieldNames, ObeyArms, ObeysInside, ObeyFields, ObeyArmTypes}
 use Rattle.circus_type.proofs.Items.{all_appended}
-use Rattle.circus_type.proofs.NoFaults.{no_fault, distinct_names, labels_clean}
+use Rattle.circus_fault.proofs.NoFaults.{no_fault}
+use Rattle.circus_type.proofs.NoFaults.{distinct_names, labels_clean}
 
 pub each_named : (ns : List Named) → IsEach IsName ns → AllByRecursion rule.IsName (map (λ (n : Named). n.name) ns)
 each_named [] named = tt

@@ -11,14 +11,11 @@ use Rattle.circus_syntax.specs.declared.named.LabelText.{LabelText}
 use Rattle.circus_fault.specs.Least.{faults_if}
 use Rattle.circus_fault.specs.Known.{also_number}
 use Rattle.circus_fault.proofs.Items.{none_in}
+use Rattle.circus_fault.proofs.NoFaults.{no_fault}
 use Rattle.circus_type.specs.declared.cause.TypeCause.{TypeCause}
 use Rattle.circus_type.specs.Inside.{also_name, repeated_name, repeated_number, repeated_names, above, label_faults, labels_faults}
 use Rattle.circus_type.specs.Meaning.{word_of, label_meant}
 use Rattle.circus_type.specs.Distinct.{AreDistinct}
-
-pub no_fault : {C : Type 0} (b : Bool) (place : ℕ) (cause : C) → faults_if b place cause ≡ [] → b ≡ false
-no_fault true place cause is = absurd (cc)
-no_fault false place cause is = refl
 
 -- Of items none of which stands among those before them, where this one stands before them too.
 module _ {X : Type 0} (same : X → X → Bool) (itself : (x : X) → same x x ≡ true) where

@@ -21,7 +21,7 @@ use Rattle.circus_type.specs.Whole.{is_place, whole_faults}
 use Rattle.circus_type.specs.Obeys.{ObeysInside, ObeysWhole}
 use Rattle.circus_type.specs.Seen.Measured.{measure_of, measured, more_parts, is_over, cut_off}
 use Rattle.circus_type.proofs.Sizes.{stopped_times, measured_is}
-use Rattle.circus_type.proofs.NoFaults.{no_fault}
+use Rattle.circus_fault.proofs.NoFaults.{no_fault}
 use Rattle.circus_type.proofs.InsideObeys.{inside_obeys}
 
 -- a number is above a limit where it is so once it is cut off there
