@@ -15,44 +15,24 @@ use Rattle.circus_placing.specs.declared.placing.Placing.{Placing}
 use Rattle.circus_placing.specs.ConditionTree.{tree_of}
 use Rattle.circus_placing.specs.ConditionTree as tree
 use Rattle.circus_placing.specs.Obeys.{most_machines, most_members, IsOfMember, AreOfMembers, Obeys}
-use Rattle.circus_fault.specs.Least.{faults_if}
+use Rattle.circus_fault.specs.Least.{faults_if, out_of}
 use Rattle.circus_fault.specs.Known.{Known, nobody, also}
 use Rattle.circus_fault.proofs.Items.{none_in}
-use Rattle.circus_placing_text.specs.declared.place_fault.PlaceCause.{PlaceCause}
+use Rattle.circus_fault.proofs.KnownNames.{IsFresh, apart, Numbered, all_numbered}
+use Rattle.circus_fault.proofs.NoFaults.{no_fault, in_range}
+use Rattle.circus_placing_text.specs.declared.place_fault.PlaceCause.TheVariants.{OutOfRange}
 use Rattle.circus_placing_text.specs.declared.text.AttributeText.{AttributeText}
 use Rattle.circus_placing_text.specs.declared.text.MachineText.{MachineText}
 use Rattle.circus_placing_text.specs.declared.text.OperandText.{OperandText}
 use Rattle.circus_placing_text.specs.declared.text.OperandText.TheVariants as operand
 use Rattle.circus_placing_text.specs.Written.{Written, or, and, not, group, differ, compare, holds, PlacingTree}
-use Rattle.circus_placing_text.specs.Faults.{repeated, repeated_names, out_of, attribute_names, machine_faults, machines_faults, numbers_behind, numbers_of, operand_faults, condition_faults, unknown_names, present_faults, placing_faults}
+use Rattle.circus_placing_text.specs.Faults.{repeated, repeated_names, attribute_names, machine_faults, machines_faults, numbers_of, operand_faults, condition_faults, unknown_names, present_faults, placing_faults}
 use Rattle.circus_placing_text.specs.Means.{attribute_meant, machine_meant, operand_meant, condition_meant, present_meant, Means}
 use Rattle.circus_placing_text.specs.Seen.Cut.{operand_cut, condition_cut, name_cut, present_cut}
-
-no_fault : (b : Bool) (place : ℕ) (cause : PlaceCause) → faults_if b place cause ≡ [] → b ≡ false
-no_fault true place cause is = absurd (cc)
-no_fault false place cause is = refl
 
 -- Names that no fault repeats.
 
 -- what is known of no name
-abbrev IsFresh : Known → List ℕ → Type 0
-IsFresh known name = is_some (known name) ≡ false
-
-unlike : (known : Known) (name other : List ℕ) (number : ℕ) → IsFresh (also name number known) other → IsFresh known other × (name ≢ other)
-unlike known name other number fresh = by_test (bytes_eq name other) refl fresh
-  where
-    by_test : (b : Bool) → bytes_eq name other ≡ b → is_some (cond b (Some number) (known other)) ≡ false → IsFresh known other × (name ≢ other)
-    by_test true same fresh = absurd (cc)
-    by_test false unlike fresh = (fresh, λ same. let equal = (bytes_eq-Decides name other).1 same in absurd (cc))
-
-apart : {X : Type 0} (name_of : X → List ℕ) (known : Known) (name : List ℕ) (number : ℕ) (ys : List X) → AllByRecursion (λ y. IsFresh (also name number known) (name_of y)) ys
-    → AllByRecursion (λ y. IsFresh known (name_of y)) ys × AllByRecursion (λ y. name ≢ name_of y) ys
-apart name_of known name number [] all = (tt, tt)
-apart name_of known name number (y ∷ ys) all =
-    let (fresh, other) = unlike known name (name_of y) number all.0 in
-    let (fresh_ones, others) = apart name_of known name number ys all.1 in
-    ((fresh, fresh_ones), (other, others))
-
 no_pairs : {X : Type 0} (R : X → X → Type 0) → AllPairs R []
 no_pairs R i j d less low = absurd (omega (arith, low))
 
@@ -96,49 +76,6 @@ machines_good known number (m ∷ ms) none =
     }
 
 -- The numbers of machines.
-
-record Numbered (known : Known) (count : ℕ) : Type 0 where
-  below : (name : List ℕ) (number : ℕ) → known name ≡ Some number → number < count
-  single : (a b : List ℕ) (number : ℕ) → known a ≡ Some number → known b ≡ Some number → a ≡ b
-
--- which of two a name has
-picked : (b : Bool) (number other : ℕ) (known : Option ℕ) → cond b (Some number) known ≡ Some other → b ≡ true → number ≡ other
-picked true number other known is hit = cc
-picked false number other known is hit = cc
-
-kept : (b : Bool) (number other : ℕ) (known : Option ℕ) → cond b (Some number) known ≡ Some other → b ≡ false → known ≡ Some other
-kept true number other known is missed = cc
-kept false number other known is missed = is
-
-also_numbered : (known : Known) (name : List ℕ) (count : ℕ) → Numbered known count → Numbered (also name count known) (count + 1)
-also_numbered known name count N = record { below = below; single = single }
-  where
-    below_by : (a : List ℕ) (number : ℕ) (b : Bool) → bytes_eq name a ≡ b → also name count known a ≡ Some number → number < count + 1
-    below_by a number true same is = omega (arith, picked (bytes_eq name a) count number (known a) is same)
-    below_by a number false other is = omega (arith, N.below a number (kept (bytes_eq name a) count number (known a) is other))
-
-    below : (a : List ℕ) (number : ℕ) → also name count known a ≡ Some number → number < count + 1
-    below a number is = below_by a number (bytes_eq name a) refl is
-
-    single_by : (a b : List ℕ) (number : ℕ) (s t : Bool) → bytes_eq name a ≡ s → bytes_eq name b ≡ t → also name count known a ≡ Some number → also name count known b ≡ Some number → a ≡ b
-    single_by a b number true true first second is also_is = sym ((bytes_eq-Decides name a).0 first) ∙ (bytes_eq-Decides name b).0 second
-    single_by a b number true false first second is also_is =
-        absurd (omega (arith, picked (bytes_eq name a) count number (known a) is first, N.below b number (kept (bytes_eq name b) count number (known b) also_is second)))
-    single_by a b number false true first second is also_is =
-        absurd (omega (arith, picked (bytes_eq name b) count number (known b) also_is second, N.below a number (kept (bytes_eq name a) count number (known a) is first)))
-    single_by a b number false false first second is also_is =
-        N.single a b number (kept (bytes_eq name a) count number (known a) is first) (kept (bytes_eq name b) count number (known b) also_is second)
-
-    single : (a b : List ℕ) (number : ℕ) → also name count known a ≡ Some number → also name count known b ≡ Some number → a ≡ b
-    single a b number is also_is = single_by a b number (bytes_eq name a) (bytes_eq name b) refl refl is also_is
-
-behind_numbered : (known : Known) (count : ℕ) (ms : List MachineText) → Numbered known count → Numbered (numbers_behind known count ms) (count + length ms)
-behind_numbered known count [] N = subst (Numbered known) (omega arith) N
-behind_numbered known count (m ∷ ms) N =
-    subst (Numbered (numbers_behind (also m.name.name count known) (count + 1) ms)) (omega arith) (behind_numbered (also m.name.name count known) (count + 1) ms (also_numbered known m.name.name count N))
-
-all_numbered : (ms : List MachineText) → Numbered (numbers_of ms) (length ms)
-all_numbered ms = subst (Numbered (numbers_of ms)) (omega arith) (behind_numbered nobody 0 ms (record { below = λ name number is. absurd (cc); single = λ a b number is also_is. absurd (cc) }))
 
 -- Which machines members are present on.
 
@@ -206,14 +143,8 @@ present_good known count (Some names) low N none =
 
 -- Members and conditions.
 
-in_range : (greatest : ℕ) (n : Numeral) → out_of greatest n ≡ [] → (0 < n.value) × (n.value ≤ greatest)
-in_range greatest n none =
-    let (zero_is, above) = or_parts (n.value == 0) (nat_lt greatest n.value) (no_fault _ _ _ none) in
-    let other : n.value ≢ 0 = λ same. let is = eq-eqb n.value 0 same in absurd (cc) in
-    (omega (arith, other), ltb-false greatest n.value above)
-
 operand_good : (members : ℕ) (a : OperandText) → operand_faults members a ≡ [] → IsOfMember members (operand_meant a)
-operand_good members (operand.Attribute m name) none = in_range members m none
+operand_good members (operand.Attribute m name) none = in_range OutOfRange members m none
 operand_good members (operand.Fixed c) none = tt
 
 condition_good : (members : ℕ) (w : Written) → condition_faults members w ≡ [] → AreOfMembers members (condition_meant w)
@@ -227,7 +158,7 @@ condition_good members (holds a) none = operand_good members a none
 
 operand_same : (members : ℕ) (a : OperandText) → members ≤ most_members → operand_faults members a ≡ [] → operand_cut a ≡ operand_meant a
 operand_same members (operand.Attribute m name) few none =
-    let same : min m.value most_members ≡ m.value = omega (arith, (in_range members m none).1, few) in
+    let same : min m.value most_members ≡ m.value = omega (arith, (in_range OutOfRange members m none).1, few) in
     ap (λ k. operand_meant (operand.Attribute (record { value = k; at = m.at }) name)) same
 operand_same members (operand.Fixed c) few none = refl
 
@@ -257,15 +188,15 @@ few_machines p M = omega (arith, M.few (omega arith), length-map p.machines mach
 is_good : (p : PlacingTree) → placing_faults p ≡ [] → IsGood p
 is_good p none =
     let numbers = numbers_of p.machines in
-    let (three, present) = none_in (machines_faults nobody 0 p.machines ++ out_of most_members p.members ++ condition_faults p.members.value p.condition) (present_faults numbers p.present) none in
-    let (two, condition) = none_in (machines_faults nobody 0 p.machines ++ out_of most_members p.members) (condition_faults p.members.value p.condition) three in
-    let (machines, members) = none_in (machines_faults nobody 0 p.machines) (out_of most_members p.members) two in
+    let (three, present) = none_in (machines_faults nobody 0 p.machines ++ out_of OutOfRange most_members p.members ++ condition_faults p.members.value p.condition) (present_faults numbers p.present) none in
+    let (two, condition) = none_in (machines_faults nobody 0 p.machines ++ out_of OutOfRange most_members p.members) (condition_faults p.members.value p.condition) three in
+    let (machines, members) = none_in (machines_faults nobody 0 p.machines) (out_of OutOfRange most_members p.members) two in
     let M = machines_good nobody 0 p.machines machines in
     record {
       machines = M;
-      members = in_range most_members p.members members;
+      members = in_range OutOfRange most_members p.members members;
       condition = condition;
-      present = present_good numbers (length p.machines) p.present (few_machines p M) (all_numbered p.machines) present;
+      present = present_good numbers (length p.machines) p.present (few_machines p M) (all_numbered (λ (m : MachineText). m.name.name) p.machines) present;
     }
 
 -- what is made of a placing without a fault, each number cut off, is what it means

@@ -5,8 +5,9 @@ use Rattle.circus_syntax.specs.declared.named.Numeral.{Numeral}
 use Rattle.circus_syntax.specs.declared.stopping.Stop.{Stop}
 use Rattle.circus_placing.specs.Obeys.{most_machines, most_members}
 use Rattle.circus_fault.specs.declared.fault.Fault.{Fault}
-use Rattle.circus_fault.specs.Least.{faults_if}
+use Rattle.circus_fault.specs.Least.{faults_if, out_of}
 use Rattle.circus_fault.specs.Known.{Known, nobody, also}
+use Rattle.circus_fault.specs.Known as names
 use Rattle.circus_fault.specs.Stopping.{stop_faults}
 use Rattle.circus_placing_text.specs.declared.place_fault.PlaceCause.{PlaceCause}
 use Rattle.circus_placing_text.specs.declared.place_fault.PlaceCause.TheVariants.{Syntax, Deep, UnknownName, Repeated, OutOfRange, TooMany}
@@ -24,10 +25,6 @@ abbrev pub repeated_names : Known → List Named → List (Fault PlaceCause)
 repeated_names known [] = []
 repeated_names known (n ∷ ns) = repeated known n ++ repeated_names (also n.name 0 known) ns
 
--- a number that isn't 1 to the greatest
-abbrev pub out_of : ℕ → Numeral → List (Fault PlaceCause)
-out_of greatest n = faults_if ((n.value == 0) || nat_lt greatest n.value) n.at OutOfRange
-
 abbrev pub attribute_names : List AttributeText → List Named
 attribute_names attributes = map (λ (a : AttributeText). a.name) attributes
 
@@ -42,15 +39,11 @@ machines_faults known number [] = []
 machines_faults known number (m ∷ ms) = machine_faults known number m ++ machines_faults (also m.name.name number known) (number + 1) ms
 
 -- the numbers of machines by their names
-abbrev pub numbers_behind : Known → ℕ → List MachineText → Known
-numbers_behind known number [] = known
-numbers_behind known number (m ∷ ms) = numbers_behind (also m.name.name number known) (number + 1) ms
-
 abbrev pub numbers_of : List MachineText → Known
-numbers_of machines = numbers_behind nobody 0 machines
+numbers_of machines = names.numbers_of (λ (m : MachineText). m.name.name) machines
 
 abbrev pub operand_faults : ℕ → OperandText → List (Fault PlaceCause)
-operand_faults members (operand.Attribute member name) = out_of members member
+operand_faults members (operand.Attribute member name) = out_of OutOfRange members member
 operand_faults members (operand.Fixed c) = []
 
 abbrev pub condition_faults : ℕ → Written → List (Fault PlaceCause)
@@ -73,7 +66,7 @@ present_faults machines (Some names) = unknown_names machines names ++ repeated_
 
 abbrev pub placing_faults : PlacingTree → List (Fault PlaceCause)
 placing_faults p =
-    machines_faults nobody 0 p.machines ++ out_of most_members p.members ++ condition_faults p.members.value p.condition
+    machines_faults nobody 0 p.machines ++ out_of OutOfRange most_members p.members ++ condition_faults p.members.value p.condition
     ++ present_faults (numbers_of p.machines) p.present
 
 -- all faults of what is read of a text

@@ -5,7 +5,7 @@ ghost use Rattle.circus_fault.specs.Known.{nobody, also};
 ghost use Rattle.circus_fault.specs.Seen.Tables.{known_of};
 ghost use Rattle.circus_placing_text.specs.Written.{written_of, placing_of};
 ghost use Rattle.circus_placing_text.specs.Rank.{rank_of};
-ghost use Rattle.circus_placing_text.specs.Faults.{repeated, repeated_names, out_of, attribute_names, machine_faults, machines_faults, numbers_of, operand_faults, condition_faults, unknown_names, present_faults, read_faults};
+ghost use Rattle.circus_placing_text.specs.Faults.{repeated, repeated_names, attribute_names, machine_faults, machines_faults, numbers_of, operand_faults, condition_faults, unknown_names, present_faults, read_faults};
 
 use crate::{AttributeText, ConditionText, MachineText, OperandText, PlaceCause, PlacingText};
 use circus_fault::{Best, Names};
@@ -18,17 +18,6 @@ pub const MOST_MACHINES: usize = 24;
 
 /// How many members may be placed.
 pub const MOST_MEMBERS: u64 = 5;
-
-// A number that isn't 1 to the greatest.
-fn note_out_of(best: &mut Best<PlaceCause>, greatest: u64, number: Numeral)
-    ensures { best.new.fault ≡ least_from rank_of best.old.fault (out_of greatest number) }
-{
-    best.note(
-        number.value == 0 || number.value > greatest,
-        number.at,
-        PlaceCause::OutOfRange,
-    );
-}
 
 // A name with a number besides those that stand before it, one of which it may repeat.
 fn meet<'a>(
@@ -119,7 +108,7 @@ fn operand(best: &mut Best<PlaceCause>, members: u64, operand: &OperandText)
     ensures { best.new.fault ≡ least_from rank_of best.old.fault (operand_faults members operand.now) }
 {
     if let OperandText::Attribute(member, _) = operand {
-        note_out_of(best, members, *member);
+        best.note_out_of(members, *member, PlaceCause::OutOfRange);
     }
 }
 
@@ -171,7 +160,7 @@ pub fn check<'a>(
 {
     let mut best = Best::of_stop(stop, PlaceCause::Syntax, PlaceCause::Deep);
     let names = machines(alloc, &mut best, text.machines.as_slice())?;
-    note_out_of(&mut best, MOST_MEMBERS, text.members);
+    best.note_out_of(MOST_MEMBERS, text.members, PlaceCause::OutOfRange);
     condition(&mut best, text.members.value, &text.condition);
     present(alloc, &mut best, &names, &text.present)?;
     Ok((best, names))

@@ -1,11 +1,12 @@
 use Rattle.std.proofs.Common.{◌≡◌, ◌+◌, ◌∷◌, drop, sym, ◌∙◌, ap}
 use Rattle.std.proofs.lemmas.List.{drop_more}
 use Rattle.circus_fault.specs.Least.{least_from}
-use Rattle.circus_fault.specs.Known.{also}
+use Rattle.circus_fault.specs.Known.{also, numbers_behind}
 use Rattle.circus_fault.specs.Seen.Tables.{known_of}
 use Rattle.circus_fault.proofs.LeastMore.{least_step}
 use Rattle.circus_placing_text.specs.Rank.{rank_of}
-use Rattle.circus_placing_text.specs.Faults.{machine_faults, machines_faults, numbers_behind}
+use Rattle.circus_placing_text.specs.declared.text.MachineText.{MachineText}
+use Rattle.circus_placing_text.specs.Faults.{machine_faults, machines_faults}
 use Rattle.circus_placing_text.proofs.check.machines.Goals as goal
 
 pub loop-number-preserved : goal.loop-number-preserved
@@ -24,6 +25,6 @@ loop-number-preserved c =
           ∙ least_step rank_of new best _ (machine_faults known n m) (machines_faults (also m.name.name n known) (n + 1) rest) c.in_ok-machine.ensures.found
           (ap (λ ms. least_from rank_of best (machines_faults known n ms)) (sym left) ∙ c.loop-number.invariant.found);
       numbered =
-          ap (λ k. numbers_behind k (n + 1) rest) c.in_ok-machine.ensures.added
-          ∙ ap (λ ms. numbers_behind known n ms) (sym left) ∙ c.loop-number.invariant.numbered;
+          ap (λ k. numbers_behind (λ (m : MachineText). m.name.name) k (n + 1) rest) c.in_ok-machine.ensures.added
+          ∙ ap (λ ms. numbers_behind (λ (m : MachineText). m.name.name) known n ms) (sym left) ∙ c.loop-number.invariant.numbered;
     }
