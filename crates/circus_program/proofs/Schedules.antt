@@ -11,7 +11,7 @@ use Rattle.std.proofs.lemmas.List.Elements.{All-cons, All-head, All-nil, All-tai
 use Rattle.std.proofs.lemmas.List.Sums.{passes_at_first, split_at_first}
 use Rattle.std.proofs.lemmas.Str.Parse.{digit_from_value}
 use borrow.Author.Tests.{eqb-true}
-use Rattle.circus_program.proofs.Numerals.{own}
+use Rattle.circus_schedule.proofs.Numerals.{own}
 use Rattle.circus_program.specs.Thin.{IsLineInRange, IsThinSchedule, line_text, lines_text}
 use Rattle.circus_world.specs.declared.line.Line.{Line}
 use Rattle.circus_world.specs.declared.line.Line.TheVariants.{Deliver}

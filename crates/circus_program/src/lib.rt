@@ -7,7 +7,6 @@
 
 mod answer;
 mod call;
-mod decimal;
 mod laws;
 mod names;
 mod placed;

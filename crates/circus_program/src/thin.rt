@@ -4,7 +4,7 @@ ghost use Rattle.circus_world.specs.declared.line.Line.{Line};
 ghost use Rattle.std.specs.List.{after_first, before_first};
 ghost use Rattle.std.specs.Prelude.{◌≡◌, ◌≢◌, ◌==◌, ◌++◌, ℕ, List, IfNone, IfOk, IfSome, position};
 
-use crate::decimal::decimal_at_most;
+use circus_schedule::decimal_at_most;
 use circus_value::NoMemory;
 use circus_world::{Line, Lines};
 use std::alloc::Global;

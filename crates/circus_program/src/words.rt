@@ -4,7 +4,7 @@ ghost use Rattle.circus_program.specs.Seen.Words.{form_of};
 ghost use Rattle.std.specs.Prelude.{[], ◌∷◌, IfNone, IfSome, map};
 ghost use Rattle.std.specs.String.{string_bytes};
 
-use crate::decimal::decimal_at_most;
+use circus_schedule::decimal_at_most;
 
 const MOST_TURNS: u64 = 100_000;
 
