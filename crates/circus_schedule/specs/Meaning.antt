@@ -1,5 +1,5 @@
 -- What a line of a schedule stands for, by the numbers of nodes.
-use Rattle.std.specs.Prelude.{ℕ, ◌≡◌, List, [], ◌∷◌, Option, Some, option_map, option_and_then, is_none, find, bytes_eq}
+use Rattle.std.specs.Prelude.{ℕ, ◌≡◌, ◌<◌, List, [], ◌∷◌, Option, Some, option_map, option_and_then, is_none, find, bytes_eq}
 use Rattle.std.specs.List.{position_from}
 use Rattle.circus_collate.specs.declared.deployment.Host.{Host}
 use Rattle.circus_schedule.specs.WrittenLine.{WrittenLine, deliver, tick, crash, down, join, Spells}
@@ -37,3 +37,11 @@ line_of numbers (join node) = option_map Join (numbers node)
 -- the text is that of a line which stands for this one
 abbrev pub IsReadAs : Numbers → List ℕ → Line → Type 0
 IsReadAs numbers text line = (written : WrittenLine) × Spells text written × (line_of numbers written ≡ Some line)
+
+-- the line asks for nodes below this number alone
+abbrev pub NamesBelow : ℕ → Line → Type 0
+NamesBelow count (Deliver number) = Unit {0}
+NamesBelow count (Tick node) = node < count
+NamesBelow count (Crash node) = node < count
+NamesBelow count (Down node told) = (node < count) × (told < count)
+NamesBelow count (Join node) = node < count

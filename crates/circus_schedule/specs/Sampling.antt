@@ -1,7 +1,7 @@
 -- How the lines of a sample are drawn.
-use Rattle.std.specs.Prelude.{ℕ, ◌+◌, ◌-◌, ◌*◌, ◌/◌, ◌%◌, ◌^◌, ◌||◌, ◌==◌, nat_le, min, Option, Some, None, if◌then◌else◌}
+use Rattle.std.specs.Prelude.{ℕ, ◌≡◌, ◌<◌, ◌+◌, ◌-◌, ◌*◌, ◌/◌, ◌%◌, ◌^◌, ◌||◌, ◌==◌, nat_le, min, Option, Some, None, if◌then◌else◌}
 use Rattle.circus_schedule.specs.declared.line.Line.{Line}
-use Rattle.circus_schedule.specs.declared.line.Line.TheVariants.{Deliver, Tick, Join}
+use Rattle.circus_schedule.specs.declared.line.Line.TheVariants.{Deliver, Tick, Crash, Down, Join}
 use Rattle.circus_schedule.specs.declared.sample.Facts.{Facts}
 
 -- the word behind a word
@@ -20,3 +20,11 @@ drawn a b sent nodes None = step_drawn a b sent nodes
 -- the line that a word draws: a is the 6 bits of the word above its lowest 33, b the bits above these
 abbrev pub line_drawn : ℕ → Facts → Line
 line_drawn word facts = drawn (word / 2 ^ 33 % 64) (word / 2 ^ 33 / 64) facts.sent facts.nodes facts.spare
+
+-- the line can be asked for: it delivers what was sent, ticks a node that there is, or joins the spare
+abbrev pub IsPossible : Facts → Line → Type 0
+IsPossible facts (Deliver number) = number < facts.sent
+IsPossible facts (Tick node) = node < facts.nodes
+IsPossible facts (Crash node) = ⊥
+IsPossible facts (Down node told) = ⊥
+IsPossible facts (Join node) = facts.spare ≡ Some node

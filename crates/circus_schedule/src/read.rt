@@ -1,9 +1,9 @@
 // Schedules, read line by line.
-ghost use Rattle.std.specs.Prelude.{◌≡◌, ◌≤◌, ◌^◌, ◌⊎◌, [], ◌∷◌, ◌≢◌, length, List, Result, Err, Some, IfErr, IfOk};
+ghost use Rattle.std.specs.Prelude.{◌≡◌, ◌≤◌, ◌^◌, ◌⊎◌, [], ◌∷◌, ◌≢◌, length, List, Result, Err, Some, IfErr, IfOk, All};
 ghost use Rattle.circus_schedule.specs.declared.line.Line.{Line};
 ghost use Rattle.circus_schedule.specs.declared.schedule_fault.ScheduleFault.{ScheduleFault};
 ghost use Rattle.circus_schedule.specs.TextLines.{lines_of};
-ghost use Rattle.circus_schedule.specs.Meaning.{numbers_of, names_in, first_unknown, line_of, IsReadAs};
+ghost use Rattle.circus_schedule.specs.Meaning.{numbers_of, names_in, first_unknown, line_of, IsReadAs, NamesBelow};
 ghost use Rattle.circus_schedule.specs.Answer.{most_lines, HasFault, IsAnswer};
 ghost use Rattle.circus_schedule.specs.Seen.Table.{number_in};
 ghost use Rattle.circus_schedule.specs.Seen.Written.{written_as};
@@ -36,6 +36,9 @@ pub fn read_schedule(
     // A text has one answer, so no other is given unless memory runs out.
     ensures only { (answer : Result (List Line) ScheduleFault) → IsAnswer (numbers_of deployment.now.nodes) bytes.now answer
         → (result ≡ answer) ⊎ (result ≡ Err ScheduleFault.NoMemory) }
+
+    // Each line asks for nodes of the deployment alone.
+    ensures nodes { IfOk result (All (NamesBelow (length deployment.now.nodes))) }
 {
     let numbers = NodeNumbers::of(alloc, deployment.nodes.as_slice())?;
     read_lines(alloc, bytes, &numbers)

@@ -1,6 +1,6 @@
 // The lines of a sample, as they are drawn.
 ghost use Rattle.std.specs.Prelude.{◌≡◌, ◌≤◌};
-ghost use Rattle.circus_schedule.specs.Sampling.{word_behind, step_drawn, line_drawn};
+ghost use Rattle.circus_schedule.specs.Sampling.{word_behind, step_drawn, line_drawn, IsPossible};
 
 use crate::Line;
 
@@ -30,7 +30,8 @@ pub fn next_word(word: u64) -> u64
 /// were sent last (docs/FORMATS.md, "Samples"). It takes no memory.
 pub fn sample_line(word: u64, facts: &Facts) -> Line
     requires { 1 ≤ facts.now.nodes }
-    ensures { result ≡ line_drawn word facts.now }
+    ensures drawn { result ≡ line_drawn word facts.now }
+    ensures possible { IsPossible facts.now result }
 {
     let high = word / (1 << 33);
     let kind = high % 64;
@@ -44,7 +45,8 @@ pub fn sample_line(word: u64, facts: &Facts) -> Line
 // A tick, or a delivery of one of the datagrams that were sent last.
 fn step_line(kind: u64, choice: u64, facts: &Facts) -> Line
     requires { 1 ≤ facts.now.nodes }
-    ensures { result ≡ step_drawn kind choice facts.now.sent facts.now.nodes }
+    ensures drawn { result ≡ step_drawn kind choice facts.now.sent facts.now.nodes }
+    ensures possible { IsPossible facts.now result }
 {
     if kind <= 7 || facts.sent == 0 {
         return Line::Tick((choice % u64::from(facts.nodes)) as u16);
