@@ -16,7 +16,7 @@ use crate::code::{Code, Instruction};
 use crate::execution::{Execution, Move};
 use crate::got::Stop;
 use circus_model::{LanguageError, Turn};
-use circus_value::{NoMemory, Outcome, Values};
+use circus_value::{NoMemory, Outcome};
 use std::alloc::{AllocError, Global};
 
 /// An execution that waits for a reply.
@@ -42,7 +42,7 @@ impl Execution {
     fn failed(self, alloc: Global, error: LanguageError) -> Turn<Paused>
         ensures { result ≡ Ends (Raised (number_of error) []) (take self.variables.states self.variables.values) }
     {
-        self.ended(Outcome::Raised(error.number(), Values::new(alloc)))
+        self.ended(error.raised(alloc))
     }
 }
 

@@ -135,7 +135,7 @@ impl Module for Tally {
         arguments: &Values,
     ) -> Result<Turn<Unused>, NoMemory> {
         let Some(sum) = sum_in(&state).checked_add(u32::from(number_in(arguments))) else {
-            let outcome = Outcome::Raised(LanguageError::Range.number(), Values::new(self.alloc));
+            let outcome = LanguageError::Range.raised(self.alloc);
             return Ok(Turn::Ends { outcome, state });
         };
         Ok(Turn::Ends {
@@ -149,7 +149,7 @@ impl Module for Tally {
     fn resume(&self, _paused: Unused, _reply: &Outcome) -> Result<Turn<Unused>, NoMemory>
         ensures { IfOk result (λ turn. turn ≡ Ends (Raised (number_of Unhandled) []) (tally.one_sum 0)) }
     {
-        let outcome = Outcome::Raised(LanguageError::Unhandled.number(), Values::new(self.alloc));
+        let outcome = LanguageError::Unhandled.raised(self.alloc);
         let state = one_sum(self.alloc, 0)?;
         Ok(Turn::Ends { outcome, state })
     }

@@ -153,8 +153,7 @@ impl Module for TextModule {
     ) -> Result<Turn<Waiting>, NoMemory> {
         let parts = self.parts.as_ref();
         let Some((place, body)) = parts.find(procedure) else {
-            let number = LanguageError::Unhandled.number();
-            let outcome = Outcome::Raised(number, Values::new(self.alloc));
+            let outcome = LanguageError::Unhandled.raised(self.alloc);
             return Ok(Turn::Ends { outcome, state });
         };
         let turn = body.start(self.alloc, parts.signature.limit, state, arguments)?;

@@ -121,7 +121,7 @@ some_true test None h = cc
 some_true test (Some x) h = record { value = x; there = refl; passes = h }
 
 -- one reply more fits where it fits the ask that those before give
-fits_more : (imports : List Import) (turn : List Outcome → NextTurn) (before replies : List Outcome) (reply : Outcome) → RepliesFit imports turn before replies → ReplyFits imports (turn (before ++ replies)) reply → RepliesFit imports turn before (replies ++ reply ∷ [])
+pub fits_more : (imports : List Import) (turn : List Outcome → NextTurn) (before replies : List Outcome) (reply : Outcome) → RepliesFit imports turn before replies → ReplyFits imports (turn (before ++ replies)) reply → RepliesFit imports turn before (replies ++ reply ∷ [])
 fits_more imports turn before [] reply h fits = (rw (← append-nil before) fits, tt)
 fits_more imports turn before (r ∷ replies) reply h fits =
     (h.0, fits_more imports turn (before ++ r ∷ []) replies reply h.1 (rw (append_assoc before (r ∷ []) replies) fits))

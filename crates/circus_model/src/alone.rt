@@ -104,7 +104,7 @@ fn answer<M: Module>(
     let arguments = order.arguments.copy()?;
     let index = thread.clock.as_slice()[usize::from(callee)];
     let reply = if is_spent(&thread.clock) {
-        Outcome::Raised(LanguageError::ThreadSpent.number(), Values::new(alloc))
+        LanguageError::ThreadSpent.raised(alloc)
     } else {
         thread.clock.set(usize::from(callee), index + 1);
         perform(alloc, modules, thread, order)?

@@ -1,6 +1,10 @@
 // The errors of the language.
-ghost use Rattle.std.specs.Prelude.{◌≡◌, if◌then◌else◌, Some, None, option_map};
+ghost use Rattle.std.specs.Prelude.{◌≡◌, if◌then◌else◌, [], Some, None, option_map};
 ghost use Rattle.circus_model.specs.LanguageError.{number_of, of_number, is_language_error};
+ghost use Rattle.circus_value.specs.declared.outcome.Outcome.TheVariants.{Raised};
+
+use circus_value::{Outcome, Values};
+use std::alloc::Global;
 
 /// An error that the language raises, or the runtime of a thread. It has no values, and its number is 60,001 to
 /// 60,009 (docs/FORMATS.md, "Outcomes and lists of values").
@@ -32,6 +36,13 @@ impl LanguageError {
         ensures { result ≡ number_of self }
     {
         self as u16
+    }
+
+    /// The outcome of what raises it.
+    pub fn raised(self, alloc: Global) -> Outcome
+        ensures { result ≡ Raised (number_of self) [] }
+    {
+        Outcome::Raised(self.number(), Values::new(alloc))
     }
 
     /// The error that is raised under this number, if there is one.

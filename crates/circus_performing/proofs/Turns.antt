@@ -1,5 +1,5 @@
 -- What a turn of a run that is under way comes to.
-use Rattle.std.proofs.Common.{◌≡◌, ℕ, zero, suc, ◌+◌, ◌<◌, Bool, true, false, cond, List, [], ◌∷◌, ◌++◌, length, Some, None, ◌⊎◌, inl, inr, refl, sym, subst, ap, ◌∙◌, arith, length-append, append_assoc, append-nil}
+use Rattle.std.proofs.Common.{◌≡◌, ℕ, zero, suc, ◌+◌, ◌<◌, Bool, true, false, cond, List, [], ◌∷◌, ◌++◌, length, Some, None, ◌⊎◌, inl, inr, refl, sym, subst, ap, ◌∙◌, arith, length-append}
 use Rattle.std.specs.Prelude.{◌||◌}
 use Rattle.std.specs.Option.{option_map_or}
 use Rattle.circus_value.specs.ValueTree.{ValueTree}
@@ -12,7 +12,7 @@ use Rattle.circus_model.specs.NextTurn.{NextTurn, asks, ends}
 use Rattle.circus_model.specs.Lawful.{IsLawful, RepliesFit, ReplyFits, import_of, procedure_numbered, import_takes, import_answers, is_reported}
 use Rattle.circus_model.specs.Behaviour.{Behaviour, IsModule}
 use Rattle.circus_model.specs.Execution.{is_spent}
-use Rattle.circus_model.proofs.Turning.{some_true}
+use Rattle.circus_model.proofs.Turning.{some_true, fits_more}
 use Rattle.circus_record.specs.declared.record.AskRecord.{AskRecord}
 use Rattle.circus_record.specs.declared.record.RunRecord.{RunRecord}
 use Rattle.circus_performing.specs.declared.start.RunStart.{RunStart}
@@ -20,12 +20,6 @@ use Rattle.circus_performing.specs.Performing.{clock_after, replies_of, refusal,
 use Rattle.circus_performing.specs.Record.{start_of, turns, IsMade, IsAnswered, HasMade, HasEnded, IsOpen}
 use Rattle.circus_performing.specs.Seen.UnderWay.{IsUnderWay}
 use Rattle.circus_performing.proofs.Ends.{latest_more, replies_more, earlier_or_added}
-
--- one reply more fits where it fits the ask that those before give
-fits_more : (imports : List Import) (turn : List Outcome → NextTurn) (before replies : List Outcome) (reply : Outcome) → RepliesFit imports turn before replies → ReplyFits imports (turn (before ++ replies)) reply → RepliesFit imports turn before (replies ++ reply ∷ [])
-fits_more imports turn before [] reply h fits = (rw (← append-nil before) fits, tt)
-fits_more imports turn before (r ∷ replies) reply h fits =
-    (h.0, fits_more imports turn (before ++ r ∷ []) replies reply h.1 (rw (append_assoc before (r ∷ []) replies) fits))
 
 -- an ask of an import may be refused
 pub refusal_fits : (b : Behaviour) (callee procedure : ℕ) (arguments : List ValueTree) → import_takes b.declared.imports callee procedure arguments ≡ true → import_answers b.declared.imports callee procedure refusal ≡ true

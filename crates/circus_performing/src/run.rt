@@ -101,7 +101,7 @@ fn with_ask(run: RunRecord, ask: AskRecord) -> Result<RunRecord, NoMemory>
 pub(crate) fn refusal(alloc: Global) -> Outcome
     ensures { result ≡ performing.refusal }
 {
-    Outcome::Raised(LanguageError::ThreadSpent.number(), Values::new(alloc))
+    LanguageError::ThreadSpent.raised(alloc)
 }
 
 /// The run that waits for the reply to what it asks in a step.

@@ -1,13 +1,12 @@
 //! The Ringmaster and the troupes of a program as they are written, with the places of what stands in them, and their
 //! reading from tokens.
 //!
-//! `deployment_text` has the trees, `duplicate` copies them. `deployment_reading` reads what they are made of, and `read`
-//! all of them from a token of a text on. `laws` has what holds of every list of tokens.
+//! `deployment_text` has the trees. `deployment_reading` reads what they are made of, and `read` all of them from a token
+//! of a text on. `laws` has what holds of every list of tokens.
 #![tactic(auto)]
 
 mod deployment_reading;
 mod deployment_text;
-mod duplicate;
 mod laws;
 mod read;
 

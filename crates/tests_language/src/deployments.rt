@@ -9,7 +9,6 @@ use circus_troupe::{
     DeploymentText, HostText, KindText, ReadDeployment, TroupeText, WrittenKind,
     read_deployment_text,
 };
-use circus_value::Duplicate;
 use std::alloc::Global;
 use std::test::Fail;
 
@@ -261,14 +260,6 @@ fn what_is_read_has_its_places(rt: HostRuntime) -> Result<(), Fail> {
     let read = read_of(rt.alloc(), WHOLE)?;
     assert!(rt; read.stop.is_none() && read.next == 37);
     assert!(rt; is_whole(&read.deployment));
-    Ok(())
-}
-
-#[test]
-fn a_copy_is_the_same(rt: HostRuntime) -> Result<(), Fail> {
-    let read = read_of(rt.alloc(), WHOLE)?;
-    let copy = read.deployment.copy()?;
-    assert!(rt; is_whole(&copy));
     Ok(())
 }
 

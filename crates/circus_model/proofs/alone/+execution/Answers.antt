@@ -1,6 +1,5 @@
 use Rattle.std.proofs.Common.{◌+◌, [], ◌∷◌, get_or, sym, subst, refl, ap, ◌∙◌, arith}
 use Rattle.std.proofs.lemmas.List.{map-append}
-use Rattle.circus_value.specs.declared.outcome.Outcome.TheVariants.{Raised}
 use Rattle.circus_model.specs.declared.history.Ask.{Ask}
 use Rattle.circus_model.specs.Behaviour.{behaviours}
 use Rattle.circus_model.specs.Lawful.{CanStart}
@@ -56,7 +55,7 @@ pub answer-returns : goal.answer-returns
 answer-returns g t c =
     let program = behaviours g.M.Module.declared g.M.Module.turn g.M.Module.first c.args.modules.now in
     elim c.if-is_spent.branch [
-      | answer-then-is_spent w ↦ refused_so program c.args.thread.now _ c.args.order c.args.state _ _ _ _ _ (sym c.is_spent.ensures ∙ w.if-is_spent.true) w.thread-is (ap (λ xs. get_or xs c.from.result 0) c.as_slice.ensures ∙ ap (λ k. get_or c.args.thread.now.clock k 0) c.from.ensures) (c.arguments.view_is ∙ c.in_ok-arguments.ensures) c.state.view_is (w.reply-is ∙ (ap (λ n. Raised n w.new.result) w.number.ensures ∙ ap (Raised 60007) w.new.ensures)) c.in_ok-copy.ensures
+      | answer-then-is_spent w ↦ refused_so program c.args.thread.now _ c.args.order c.args.state _ _ _ _ _ (sym c.is_spent.ensures ∙ w.if-is_spent.true) w.thread-is (ap (λ xs. get_or xs c.from.result 0) c.as_slice.ensures ∙ ap (λ k. get_or c.args.thread.now.clock k 0) c.from.ensures) (c.arguments.view_is ∙ c.in_ok-arguments.ensures) c.state.view_is (w.reply-is ∙ w.raised.ensures) c.in_ok-copy.ensures
       | answer-else-is_spent+in_ok-reply w ↦
           let counts = counted_so program c.args.thread.now c.args.order.callee w.from-else-is_spent.result _ w.set.new.self w.set.ensures w.from-else-is_spent.ensures (ap (λ n. n + 1) (ap (λ xs. get_or xs c.from.result 0) c.as_slice.ensures ∙ ap (λ k. get_or c.args.thread.now.clock k 0) c.from.ensures)) in
           performed_so program c.args.thread.now (record { states = c.args.thread.now.states; clock = w.set.new.self; runs = c.args.thread.now.runs }) _ _ c.args.order c.args.state _ _ _ _ _ _ (sym c.is_spent.ensures ∙ w.if-is_spent.false) counts w.in_ok-reply.ensures w.thread-is w.reply-is (ap (λ xs. get_or xs c.from.result 0) c.as_slice.ensures ∙ ap (λ k. get_or c.args.thread.now.clock k 0) c.from.ensures) (c.arguments.view_is ∙ c.in_ok-arguments.ensures) c.state.view_is c.in_ok-copy.ensures
