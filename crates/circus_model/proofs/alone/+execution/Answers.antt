@@ -55,7 +55,7 @@ pub answer-returns : goal.answer-returns
 answer-returns g t c =
     let program = behaviours g.M.Module.declared g.M.Module.turn g.M.Module.first c.args.modules.now in
     elim c.if-is_spent.branch [
-      | answer-then-is_spent w ↦ refused_so program c.args.thread.now _ c.args.order c.args.state _ _ _ _ _ (sym c.is_spent.ensures ∙ w.if-is_spent.true) w.thread-is (ap (λ xs. get_or xs c.from.result 0) c.as_slice.ensures ∙ ap (λ k. get_or c.args.thread.now.clock k 0) c.from.ensures) (c.arguments.view_is ∙ c.in_ok-arguments.ensures) c.state.view_is (w.reply-is ∙ w.raised.ensures) c.in_ok-copy.ensures
+      | answer-then-is_spent w ↦ refused_so program c.args.thread.now _ c.args.order c.args.state _ _ _ _ _ (sym c.is_spent.ensures ∙ w.if-is_spent.true) w.thread-is (ap (λ xs. get_or xs c.from.result 0) c.as_slice.ensures ∙ ap (λ k. get_or c.args.thread.now.clock k 0) c.from.ensures) (c.arguments.view_is ∙ c.in_ok-arguments.ensures) c.state.view_is (w.reply-is ∙ w.raised-reply.ensures) c.in_ok-copy.ensures
       | answer-else-is_spent+in_ok-reply w ↦
           let counts = counted_so program c.args.thread.now c.args.order.callee w.from-else-is_spent.result _ w.set.new.self w.set.ensures w.from-else-is_spent.ensures (ap (λ n. n + 1) (ap (λ xs. get_or xs c.from.result 0) c.as_slice.ensures ∙ ap (λ k. get_or c.args.thread.now.clock k 0) c.from.ensures)) in
           performed_so program c.args.thread.now (record { states = c.args.thread.now.states; clock = w.set.new.self; runs = c.args.thread.now.runs }) _ _ c.args.order c.args.state _ _ _ _ _ _ (sym c.is_spent.ensures ∙ w.if-is_spent.false) counts w.in_ok-reply.ensures w.thread-is w.reply-is (ap (λ xs. get_or xs c.from.result 0) c.as_slice.ensures ∙ ap (λ k. get_or c.args.thread.now.clock k 0) c.from.ensures) (c.arguments.view_is ∙ c.in_ok-arguments.ensures) c.state.view_is c.in_ok-copy.ensures
