@@ -1,5 +1,5 @@
 //! Tests of the texts of modules, of deployments and of whole program files: which are read, and where reading the others
-//! stops; and the trees of some.
+//! stops; the trees of some; and the rules of deployments.
 #![tactic(auto)]
 
 #[cfg(test)]
@@ -8,5 +8,7 @@ mod deployments;
 mod files;
 #[cfg(test)]
 mod modules;
+#[cfg(test)]
+mod rules;
 #[cfg(test)]
 mod trees;

@@ -1,0 +1,7 @@
+mod LeastOf
+mod NodesMore
+mod Clean
+mod Hosting
+mod NumberedMore
+mod Obeying
+mod Checked

@@ -1,0 +1,7 @@
+pub mod Limits
+pub mod Rank
+pub mod Nodes
+pub mod Faults
+pub mod Meaning
+pub mod Answer
+pub mod Seen
