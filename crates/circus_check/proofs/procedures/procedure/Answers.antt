@@ -1,0 +1,52 @@
+use Rattle.std.proofs.Common.{◌≡◌, ◌+◌, min, sym, ◌∙◌, ap, arith}
+use Rattle.circus_fault.specs.Seen.Tables.{holds_name}
+use Rattle.circus_type.specs.Limits.{most_parts}
+use Rattle.circus_body.specs.Seen.Named.{known_offer}
+use Rattle.circus_lang.specs.ModuleTree.{module_of, procedure_of}
+use Rattle.circus_check.specs.Faults.{procedure_faults}
+use Rattle.circus_check.specs.Seen.Programs.{modules_in, interfaces_in}
+use Rattle.circus_check.proofs.ProceduresFound.{whole_found, whole_none, nothing_offered, kept_none, of_none, if_none_by, if_lost}
+use Rattle.circus_check.proofs.VariablesFound.{on_ok}
+use Rattle.circus_check.proofs.procedures.procedure.Goals as goal
+
+pub returns-in-Some-clause-found : goal.returns-in-Some-clause-found
+returns-in-Some-clause-found c =
+    let own = c.args.own.now in
+    on_ok c.body.result (λ then found before first full.
+    whole_found (interfaces_in c.args.program.now) (modules_in c.args.program.now) own.number (module_of own.text.now) found before (holds_name c.args.so_far.now.procedures) (procedure_of c.args.text.now)
+    c.args.best.now.fault c.head.new.best.fault c.body.new.best.fault first (c.in_ok-offers.ensures.found before full) then)
+    c.body.ensures.found
+
+pub returns-in-None-clause-found : goal.returns-in-None-clause-found
+returns-in-None-clause-found c = λ found before first full.
+    let own = c.args.own.now in
+    let interfaces = interfaces_in c.args.program.now in
+    let modules = modules_in c.args.program.now in
+    let m = module_of own.text.now in
+    let p = procedure_of c.args.text.now in
+    let best = c.args.best.now.fault in
+    let names = holds_name c.args.so_far.now.procedures in
+    let is = c.in_ok-offers.ensures.found before full in
+    whole_none interfaces modules own.number m found before names p best c.head.new.best.fault first is
+    (nothing_offered interfaces modules own.number m before names p best c.head.new.best.fault is (sym c.in_ok-offers.ensures.offered ∙ ap known_offer c.in-None.is))
+
+pub returns-in-None-clause-meant : goal.returns-in-None-clause-meant
+returns-in-None-clause-meant c =
+    let own = c.args.own.now in
+    let parts = c.args.parts.now in
+    let full : parts ≡ min parts (1 + most_parts) = omega (arith, c.requires.small) in
+    if_lost _ c.head.new.best.fault
+    (nothing_offered (interfaces_in c.args.program.now) (modules_in c.args.program.now) own.number (module_of own.text.now) parts (holds_name c.args.so_far.now.procedures) (procedure_of c.args.text.now) c.args.best.now.fault c.head.new.best.fault
+    (c.in_ok-offers.ensures.found parts full) (sym c.in_ok-offers.ensures.offered ∙ ap known_offer c.in-None.is))
+
+pub body-requires-clause-offers : goal.body-requires-clause-offers
+body-requires-clause-offers c = sym (ap known_offer c.in-Some.is) ∙ c.in_ok-offers.ensures.offered
+
+-- where no fault is kept behind the head none was kept before it
+pub body-requires-clause-around : goal.body-requires-clause-around
+body-requires-clause-around c =
+    let own = c.args.own.now in
+    let parts = c.args.parts.now in
+    let full : parts ≡ min parts (1 + most_parts) = omega (arith, c.requires.small) in
+    let heads = procedure_faults (interfaces_in c.args.program.now) (modules_in c.args.program.now) own.number (module_of own.text.now) parts (holds_name c.args.so_far.now.procedures) (procedure_of c.args.text.now) in
+    if_none_by c.head.new.best.fault (λ none. of_none c.args.best.now.fault _ c.requires.around (kept_none heads c.args.best.now.fault (sym (c.in_ok-offers.ensures.found parts full) ∙ none)))

@@ -1,0 +1,12 @@
+pub mod Limits
+pub mod Naming
+pub mod Reach
+pub mod Scope
+pub mod Faults
+pub mod Plain
+pub mod TextOrder
+pub mod Answer
+pub mod Read
+pub mod Meaning
+pub mod WellFormed
+pub mod Seen
