@@ -1,0 +1,12 @@
+mod ZeroTrees
+mod ZeroFits
+mod Trees
+mod Found
+mod Offered
+mod States
+mod WholeBodies
+mod Agreeing
+mod Behaving
+mod Whole
+mod Making
+mod Modules

@@ -1,0 +1,4 @@
+pub mod Zeros
+pub mod Signatures
+pub mod Behaviours
+pub mod Seen

@@ -1,5 +1,0 @@
-mod Agreeing
-mod OfBank
-mod OfVault
-mod OfWheel
-mod Typing

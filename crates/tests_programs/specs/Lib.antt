@@ -1,4 +1,0 @@
-pub mod Pieces
-pub mod Vault
-pub mod Wheel
-pub mod Bank
