@@ -1,3 +1,3 @@
-mod Programs
-mod Whole
+pub mod Programs
+pub mod Whole
 mod Steps

@@ -7,7 +7,7 @@ mod ScopeMore
 mod DraftMore
 mod CutOff
 mod WholeObeys
-mod Obeying
+pub mod Obeying
 mod FoundWhole
 mod RuleFaults
 mod ReadIs

@@ -22,6 +22,7 @@ mod show;
 mod types;
 mod writer;
 
+pub use check::check as check_interface;
 pub use errors_by_number::ErrorsByNumber;
 pub use idl_fault::IdlFault;
 pub use interface::{
