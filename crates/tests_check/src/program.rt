@@ -18,19 +18,19 @@ use std::test::Fail;
 /// What stands in a text in front of the place of its fault.
 const MARK: u8 = b'@';
 
-/// The text of these pieces, without the mark, and the place of the mark, or the end where there is none.
-pub fn marked(alloc: Global, pieces: &[&[u8]]) -> Result<(Octets, u64), NoMemory> {
+/// The text of a row in its frame, without the mark, and the place of the mark, or the end where there is none.
+pub fn marked(alloc: Global, frame: &[&[u8]; 2], row: &[u8]) -> Result<(Octets, u64), NoMemory> {
     let mut text = Octets::new(alloc);
     let mut place = None;
-    for piece in pieces {
-        for byte in piece.iter() {
-            if *byte == MARK {
-                place = Some(text.len() as u64);
-            } else {
-                text.push(*byte)?;
-            }
+    text.append(frame[0])?;
+    for byte in row {
+        if *byte == MARK {
+            place = Some(text.len() as u64);
+        } else {
+            text.push(*byte)?;
         }
     }
+    text.append(frame[1])?;
     let end = text.len() as u64;
     Ok((text, place.unwrap_or(end)))
 }

@@ -24,22 +24,24 @@ type Row = (&'static [u8], Cause);
 
 // Whether this fault is told at the place.
 fn is_told(fault: &CheckFault, at: u64, cause: Cause) -> bool {
-    match (fault, cause) {
-        (CheckFault::Unknown(place), Cause::Unknown) => *place == at,
-        (CheckFault::Repeated(place), Cause::Repeated) => *place == at,
-        (CheckFault::OutOfRange(place), Cause::OutOfRange) => *place == at,
-        (CheckFault::TooLarge(place), Cause::TooLarge) => *place == at,
-        (CheckFault::Mistyped(place), Cause::Mistyped) => *place == at,
-        (CheckFault::Unfinished(place), Cause::Unfinished) => *place == at,
-        (CheckFault::Forward(place), Cause::Forward) => *place == at,
-        (CheckFault::TooMany(place), Cause::TooMany) => *place == at,
-        (CheckFault::Shared(place, module, first, second), Cause::Shared(m, r, s)) => {
-            *place == at && *module == m && *first == r && *second == s
-        }
-        (CheckFault::Missing(place, name), Cause::Missing(lacking)) => {
-            *place == at && name.as_slice() == lacking
-        }
-        _ => false,
+    match fault {
+        CheckFault::NoMemory => false,
+        CheckFault::Unknown(place) => *place == at && matches!(cause, Cause::Unknown),
+        CheckFault::Repeated(place) => *place == at && matches!(cause, Cause::Repeated),
+        CheckFault::OutOfRange(place) => *place == at && matches!(cause, Cause::OutOfRange),
+        CheckFault::TooLarge(place) => *place == at && matches!(cause, Cause::TooLarge),
+        CheckFault::Mistyped(place) => *place == at && matches!(cause, Cause::Mistyped),
+        CheckFault::Unfinished(place) => *place == at && matches!(cause, Cause::Unfinished),
+        CheckFault::Forward(place) => *place == at && matches!(cause, Cause::Forward),
+        CheckFault::TooMany(place) => *place == at && matches!(cause, Cause::TooMany),
+        CheckFault::Shared(place, module, first, second) => match cause {
+            Cause::Shared(m, r, s) => *place == at && *module == m && *first == r && *second == s,
+            _ => false,
+        },
+        CheckFault::Missing(place, name) => match cause {
+            Cause::Missing(lacking) => *place == at && name.as_slice() == lacking,
+            _ => false,
+        },
     }
 }
 
@@ -51,10 +53,12 @@ fn first_other(
     rows: &[Row],
 ) -> Result<Option<usize>, Fail> {
     for (number, (text, cause)) in rows.iter().enumerate() {
-        let (whole, at) = marked(alloc, &[frame[0], text, frame[1]])?;
-        match checked(alloc, whole.as_slice(), interfaces)? {
-            Err(fault) if is_told(&fault, at, *cause) => {}
-            _ => return Ok(Some(number)),
+        let (whole, at) = marked(alloc, frame, text)?;
+        let Some(fault) = checked(alloc, whole.as_slice(), interfaces)?.err() else {
+            return Ok(Some(number));
+        };
+        if !is_told(&fault, at, *cause) {
+            return Ok(Some(number));
         }
     }
     Ok(None)
