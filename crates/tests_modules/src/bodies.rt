@@ -55,6 +55,21 @@ fn ends_so(alloc: Global, history: &[u8], end: &[u8]) -> Result<bool, NoMemory> 
     Ok(history.ends_with(line.as_slice()))
 }
 
+/// The lines of a root with these variables and these statements.
+pub fn history_of(
+    alloc: Global,
+    front: &[u8],
+    variables: &[u8],
+    statements: &[u8],
+    limit: u32,
+) -> Result<Octets, Fail>
+    requires least { 65536 ≤ limit }
+    requires most { limit ≤ 1048576 }
+{
+    let text = text_of(alloc, front, variables, statements)?;
+    lines(alloc, &(1, text.as_slice()), limit)
+}
+
 /// Whether statements come to what a row says, in a root with these variables.
 pub fn comes_to(
     alloc: Global,
@@ -67,8 +82,7 @@ pub fn comes_to(
     requires most { limit ≤ 1048576 }
 {
     let (statements, end) = row;
-    let text = text_of(alloc, front, variables, statements)?;
-    let shown = lines(alloc, &(1, text.as_slice()), limit)?;
+    let shown = history_of(alloc, front, variables, statements, limit)?;
     Ok(ends_so(alloc, shown.as_slice(), end)?)
 }
 

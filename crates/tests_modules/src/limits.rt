@@ -1,5 +1,5 @@
 // The limits of texts, of values and states, and of what leaves an execution together.
-use crate::bodies::{OF_CALLS, OF_TYPES, Row, come_to};
+use crate::bodies::{OF_CALLS, OF_TYPES, Row, come_to, history_of};
 use crate::program::{FORMAT_1, FORMAT_2};
 use std::test::Fail;
 
@@ -15,7 +15,7 @@ const IN_FORMAT_1: [Row; 5] = [
         b"IF s & \"x\" = s THEN n := 2; END;",
         b"0,0 raised 60004 [] state [1]",
     ),
-    // A record and a choice of such a text.
+    // A choice of such a text has two bytes more.
     (
         b"IF M.K#words(s) IS words THEN n := 2; END;",
         b"0,0 raised 60004 [] state [1]",
@@ -51,7 +51,7 @@ const OF_STATES: [Row; 4] = [
         b"b := \"abcd\"; n := 2; a := \"\";",
         b"0,0 returned [] state [2, \"\", \"abcd\"]",
     ),
-    // What is too long is not stored, and the way out shows it.
+    // What becomes shorter first makes room.
     (
         b"IF n = 1 THEN a := \"\"; b := \"abcde\"; END;",
         b"0,0 returned [] state [1, \"\", \"abcde\"]",
@@ -74,7 +74,23 @@ fn states_are_within_the_limit(rt: HostRuntime) -> Result<(), Fail> {
     Ok(())
 }
 
-// A text of 32,768 bytes, of which two have 4 bytes too many together, beside what the called procedure gives.
+#[test]
+fn a_state_that_is_too_long_is_not_stored(rt: HostRuntime) -> Result<(), Fail> {
+    let shown = history_of(
+        rt.alloc(),
+        OF_TYPES,
+        STATE,
+        b"b := \"abcde\"; n := 2;",
+        FORMAT_1,
+    )?;
+    let raised = b"\nend 0 clock 0,0 raised 60004 [] state [1, \"xx";
+    let text = shown.as_slice();
+    assert!(rt; text.windows(raised.len()).any(|part| part == raised));
+    assert!(rt; text.ends_with(b"yyyyyy\", \"\"]\n"));
+    Ok(())
+}
+
+// A text of 16,383 bytes. The called procedure gives each of two texts twice.
 const TOGETHER: &[u8] = b"VAR n: CARDINAL; MAIN VAR s: STRING; VAR t: STRING; BEGIN
     WHILE LENGTH(s) < 16383 DO s := s & s & \"x\"; END; n := 1; ";
 

@@ -183,8 +183,8 @@ const CALLING: [Row; 25] = [
         b"2,0 returned [] state [14, 9, {0, 0}]",
     ),
     (
-        b"WHILE n < 20 DO CALL B.Ask [n] INTO [n]; END;",
-        b"4,0 returned [] state [21, 0, {0, 0}]",
+        b"n := 10; WHILE n < 20 DO CALL B.Ask [n] INTO [n]; END;",
+        b"3,0 returned [] state [22, 0, {0, 0}]",
     ),
     (
         b"WHILE n < 20 DO CALL B.Ask [n] INTO [n] ON Nine BEGIN n := 10; m := m + 1; END; END;",
