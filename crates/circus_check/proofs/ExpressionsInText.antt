@@ -298,8 +298,8 @@ module _ (scope : Scope) where
         let sorted = wanted is_number (sort scope a) (place_of a) in
         found.joined low high ((item_faults at o ++ expression_faults scope a) ++ sorted) (suffix_faults scope at (element_for o) (suffix_trees (suffixes_stand_for ss)))
         (found.joined low high (item_faults at o ++ expression_faults scope a) sorted
-          (found.joined low high (item_faults at o) (expression_faults scope a) (item_in low high at o lies) s.faults)
-          (wanted_in low high is_number (sort scope a) (place_of a) s.begins))
+        (found.joined low high (item_faults at o) (expression_faults scope a) (item_in low high at o lies) s.faults)
+        (wanted_in low high is_number (sort scope a) (place_of a) s.begins))
         (suffixes_in low high at (element_for o) ss lies others)
 
   -- ---- places, and lists of expressions

@@ -57,13 +57,13 @@ module _ (of_name : TypeName → Option ℕ) (told : (t : TypeName) (at : ℕ) �
       let ds = spelling_type v.shape ++ semicolon ∷ [] in
       let name = behind low high (due (word (codes "VAR"))) (due_name v.name ∷ due (sign (codes ":")) ∷ ds) rise in
       let shape = front low high (spelling_type v.shape) (semicolon ∷ [])
-          (behind low high (due (sign (codes ":"))) ds (behind low high (due_name v.name) (due (sign (codes ":")) ∷ ds) name)) in
+      (behind low high (due (sign (codes ":"))) ds (behind low high (due_name v.name) (due (sign (codes ":")) ∷ ds) name)) in
       let parts_then = written_out.parts_with parts 1 (written_out.of_type sizes v.shape) in
       let over = is_clean (inside of_type of_name v.shape) && not (is_place (type_place v.shape) None) && written_out.is_over parts_then (written_out.of_type sizes v.shape) in
       joined low high (repeated_name of_type earlier v.name) (whole_faults of_type written_out of_name sizes None parts 1 v.shape)
       (one low high (earlier v.name.name) v.name.at (of_type type_cause.Repeated) (named low high v.name (due (sign (codes ":")) ∷ ds) name))
       (joined low high (inside of_type of_name v.shape) (faults_if over (type_place v.shape) (of_type type_cause.TooLarge))
-        (type_in of_name told low high v.shape well.1 shape) (one low high over (type_place v.shape) (of_type type_cause.TooLarge) (type_begins of_name told low high v.shape well.1 shape)))
+      (type_in of_name told low high v.shape well.1 shape) (one low high over (type_place v.shape) (of_type type_cause.TooLarge) (type_begins of_name told low high v.shape well.1 shape)))
 
   variables_in : (low high parts : ℕ) (earlier : List ℕ → Bool) (vs : List VariableTree) → IsEach IsVariable vs → Rise low high (each spelling_variable vs) → AreIn low high (variables_faults written_out of_name sizes parts earlier vs)
   variables_in low high parts earlier [] well rise = tt
@@ -109,7 +109,7 @@ module _ (interfaces : List Interface) (modules : List ModuleTree) where
         let over = below mid s.mid (each spelling_variable b.variables) s.front in
         let name = lies_wider low mid low s.mid n.at (omega arith) over lies in
         let statements = unopened s.mid high (due (word (codes "BEGIN")) ∷ spelling_statements (written_statements b.statements))
-            (front s.mid high (spelling_listed (codes "BEGIN") b.statements) ending s.back) in
+        (front s.mid high (spelling_listed (codes "BEGIN") b.statements) ending s.back) in
         let names = also_fields (arguments_of (offered interfaces modules i m p)) (also_variables m.variables no_name) in
         let variables = variables_faults written_out (unknown interfaces modules i m) (forms interfaces modules i m) parts names b.variables in
         let is_unknown = is_none (offered interfaces modules i m p) in
@@ -120,11 +120,11 @@ module _ (interfaces : List Interface) (modules : List ModuleTree) where
           under = below s.mid high block s.back;
           head = joined low s.mid ((faults_if is_unknown n.at Unknown ++ repeated_name of_type earlier n) ++ faults_if goes_on n.at Unfinished) variables
               (joined low s.mid (faults_if is_unknown n.at Unknown ++ repeated_name of_type earlier n) (faults_if goes_on n.at Unfinished)
-                (joined low s.mid (faults_if is_unknown n.at Unknown) (repeated_name of_type earlier n)
-                  (one low s.mid is_unknown n.at Unknown name) (one low s.mid (earlier n.name) n.at (of_type type_cause.Repeated) name))
-                (one low s.mid goes_on n.at Unfinished name))
+              (joined low s.mid (faults_if is_unknown n.at Unknown) (repeated_name of_type earlier n)
+              (one low s.mid is_unknown n.at Unknown name) (one low s.mid (earlier n.name) n.at (of_type type_cause.Repeated) name))
+              (one low s.mid goes_on n.at Unfinished name))
               (wider mid s.mid low s.mid variables up (omega arith)
-                (variables_in (unknown interfaces modules i m) told (forms interfaces modules i m) mid s.mid parts names b.variables well.0 s.front));
+              (variables_in (unknown interfaces modules i m) told (forms interfaces modules i m) mid s.mid parts names b.variables well.0 s.front));
           body = listed_in (context interfaces modules i m p) s.mid high b.statements well.1
               (behind s.mid high (due (word (codes "BEGIN"))) (spelling_statements (written_statements b.statements)) statements);
         }
@@ -137,15 +137,18 @@ module _ (interfaces : List Interface) (modules : List ModuleTree) where
     one_more : (low mid high : ℕ) (found : Faults) (parts : ℕ) (earlier : List ℕ → Bool) (p : ProcedureOf StatementTree) (ps : List (ProcedureOf StatementTree))
         → low ≤ mid → mid ≤ high → AreIn 0 low found → Cut low mid parts earlier p
         → Ordered mid high (found ++ (procedure_faults interfaces modules i m parts earlier p ++ body_faults interfaces modules i m p))
-            (variables_parts written_out (forms interfaces modules i m) parts p.body.variables) (also_name p.name.name earlier) ps
+        (variables_parts written_out (forms interfaces modules i m) parts p.body.variables) (also_name p.name.name earlier) ps
         → Ordered low high found parts earlier (p ∷ ps)
     one_more low mid high found parts earlier p ps up over before_it cut others =
         let head = procedure_faults interfaces modules i m parts earlier p in
         let body = body_faults interfaces modules i m p in
         let later = procedures_all interfaces modules i m (variables_parts written_out (forms interfaces modules i m) parts p.body.variables) (also_name p.name.name earlier) ps in
         record {
-          order = (before 0 cut.at mid (found ++ head) body
-              (joined 0 cut.at found head (wider 0 low 0 cut.at found (omega arith) cut.over before_it) (wider low cut.at 0 cut.at head (omega arith) (omega arith) cut.head)) cut.body, others.order);
+          order = (
+            before 0 cut.at mid (found ++ head) body
+                (joined 0 cut.at found head (wider 0 low 0 cut.at found (omega arith) cut.over before_it) (wider low cut.at 0 cut.at head (omega arith) (omega arith) cut.head)) cut.body,
+            others.order,
+          );
           within = joined low high (head ++ body) later
               (joined low high head body (wider low cut.at low high head (omega arith) (omega (arith, cut.under, over)) cut.head) (wider cut.at mid low high body cut.over over cut.body))
               (wider mid high low high later up (omega arith) others.within);
@@ -170,7 +173,7 @@ module _ (interfaces : List Interface) (modules : List ModuleTree) where
         let cut = procedure_cut low t.mid s.mid parts earlier p.name p.body (below low t.mid (due_name p.name ∷ []) t.front) (named low t.mid p.name [] t.front) well.0.1 t.back in
         one_more low s.mid high found parts earlier tree (map procedure_stands_for ps) up (below s.mid high (each spelling_procedure ps) s.back) before_it cut
         (procedures_in s.mid high (found ++ (procedure_faults interfaces modules i m parts earlier tree ++ body_faults interfaces modules i m tree))
-          (variables_parts written_out (forms interfaces modules i m) parts tree.body.variables) (also_name p.name.name earlier) ps well.1 (found_then low s.mid parts earlier tree found up before_it cut) s.back)
+        (variables_parts written_out (forms interfaces modules i m) parts tree.body.variables) (also_name p.name.name earlier) ps well.1 (found_then low s.mid parts earlier tree found up before_it cut) s.back)
 
     main_in : (low high : ℕ) (found : Faults) (parts : ℕ) (earlier : List ℕ → Bool) (at : ℕ) (b : WrittenBody) → IsBody b → AreIn 0 low found → Rise low high (spelling_main at b)
         → Ordered low high found parts earlier (main_stands_for (at, b) ∷ [])
@@ -218,15 +221,15 @@ module _ (interfaces : List Interface) (modules : List ModuleTree) where
         let variables = variables_faults written_out (unknown interfaces modules i m) (forms interfaces modules i m) 0 (parameters_of own) m.variables in
         let state = state_faults (unknown interfaces modules i m) (forms interfaces modules i m) (parameters_of own) m in
         let names_in = joined low high (repeated ++ many) shared
-            (joined low high repeated many (one low high (is_later (module_named modules m.name.name) i) at Repeated h.name) (one low high (i == most_modules) at TooMany h.name))
-            (one low high (is_some (shared_at modules i)) at cause.Shared h.name) in
+        (joined low high repeated many (one low high (is_later (module_named modules m.name.name) i) at Repeated h.name) (one low high (i == most_modules) at TooMany h.name))
+        (one low high (is_some (shared_at modules i)) at cause.Shared h.name) in
         let is_large = is_clean (plain_faults (unknown interfaces modules i m) (parameters_of own) m.variables) && nat_lt most_zero_bytes (zero_size_of (fields_of (forms interfaces modules i m) m.variables)) in
         joined low high ((((names ++ of_interface) ++ imports) ++ missing) ++ variables) state
         (joined low high (((names ++ of_interface) ++ imports) ++ missing) variables
-          (joined low high ((names ++ of_interface) ++ imports) missing
-            (joined low high (names ++ of_interface) imports (joined low high names of_interface names_in h.of_interface) (imports_in low high m.imports h.imports))
-            (one low high (is_some (lacking own m.procedures)) at Missing h.name))
-          h.variables)
+        (joined low high ((names ++ of_interface) ++ imports) missing
+        (joined low high (names ++ of_interface) imports (joined low high names of_interface names_in h.of_interface) (imports_in low high m.imports h.imports))
+        (one low high (is_some (lacking own m.procedures)) at Missing h.name))
+        h.variables)
         (one low high is_large at TooLarge h.name)
 
     -- ---- a module
@@ -275,8 +278,8 @@ module _ (interfaces : List Interface) (modules : List ModuleTree) where
             (variables_in (unknown interfaces modules i m) (told i m) (forms interfaces modules i m) s.mid t.mid 0 (parameters_of (interface interfaces modules i m)) vs variables_good t.front);
       })
       (λ earlier there. (
-        let ordered = procedures_in i m t.mid u.mid earlier (variables_parts written_out (forms interfaces modules i m) 0 vs) no_name ps procedures_good there u.front in
-        record { order = ordered.order; within = wider t.mid u.mid t.mid high _ (omega arith) ends ordered.within }))
+      let ordered = procedures_in i m t.mid u.mid earlier (variables_parts written_out (forms interfaces modules i m) 0 vs) no_name ps procedures_good there u.front in
+      record { order = ordered.order; within = wider t.mid u.mid t.mid high _ (omega arith) ends ordered.within }))
   module_in low high found i (root n ns vs at b) (name_good, imports_good, variables_good, body_good) before_it rise =
       let m = module_stands_for (root n ns vs at b) in
       let variables = each spelling_variable vs in
@@ -308,9 +311,11 @@ module _ (interfaces : List Interface) (modules : List ModuleTree) where
       let s = split low high (spelling_module w) (each spelling_module ws) rise in
       let up = below low s.mid (spelling_module w) s.front in
       let it = module_in low s.mid found i w well.0 before_it s.front in
-      let all = module_all interfaces modules i (module_stands_for w) in
-      (it.order, modules_in k (suc i) s.mid high (found ++ all) ws well.1
-        (joined 0 s.mid found all (wider 0 low 0 s.mid found (omega arith) up before_it) (wider low s.mid 0 s.mid all (omega arith) (omega arith) it.within)) s.back)
+      let all = module_all interfaces modules i (module_stands_for w) in (
+        it.order,
+        modules_in k (suc i) s.mid high (found ++ all) ws well.1
+            (joined 0 s.mid found all (wider 0 low 0 s.mid found (omega arith) up before_it) (wider low s.mid 0 s.mid all (omega arith) (omega arith) it.within)) s.back,
+      )
 
 pub in_order : (interfaces : List Interface) (modules : List ModuleTree) (text : List ℕ) (are : AreModulesOf text modules) → All (IsTokenIn text) are.found × AllPairs IsBefore are.found → AreInOrder interfaces modules
 in_order interfaces modules text are lie =

@@ -13,12 +13,13 @@ AreRising low (t ∷ ts) = (low ≤ t.start) × AreRising (suc t.start) ts
 tokens_rise : (text : List ℕ) (low : ℕ) (ts : List Token) → All (λ (t : Token). low ≤ t.start) ts → All (IsTokenIn text) ts → AllPairs IsBefore ts → AreRising low (map (placed_of text) ts)
 tokens_rise text low [] from lie pairs = tt
 tokens_rise text low (t ∷ ts) from lie pairs =
-    let long : t.start < t.end = (lie 0 t (omega arith)).lies.not_empty in
-    (from 0 t (omega arith),
-    tokens_rise text (suc t.start) ts
-    (λ k d within. (let ends : t.end ≤ (slice_index_or ts k d).start = pairs 0 (suc k) d (omega arith) (omega (arith, within)) in omega (arith, long, ends)))
-    (λ k d within. lie (suc k) d (omega (arith, within)))
-    (λ i j d behind within. pairs (suc i) (suc j) d (omega (arith, behind)) (omega (arith, within))))
+    let long : t.start < t.end = (lie 0 t (omega arith)).lies.not_empty in (
+      from 0 t (omega arith),
+      tokens_rise text (suc t.start) ts
+          (λ k d within. (let ends : t.end ≤ (slice_index_or ts k d).start = pairs 0 (suc k) d (omega arith) (omega (arith, within)) in omega (arith, long, ends)))
+          (λ k d within. lie (suc k) d (omega (arith, within)))
+          (λ i j d behind within. pairs (suc i) (suc j) d (omega (arith, behind)) (omega (arith, within))),
+    )
 
 -- it stands at this place, where it tells one
 abbrev pub IsAt : Due → ℕ → Type 0

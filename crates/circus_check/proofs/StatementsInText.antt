@@ -75,7 +75,7 @@ module _ (context : Context) where
       let fits = wanted_alike (option_map sort_of (slot_at slots k)) (option_map sort_of (place_shape context.scope tree)) p.name.at in
       joined low high (own ++ fits) (places_faults context slots (k + 1) (places_stand_for ps))
       (joined low high own fits (place_in context.scope low high p rise)
-        (alike_in low high (option_map sort_of (slot_at slots k)) (option_map sort_of (place_shape context.scope tree)) p.name.at (place_begins context.scope low high p rise)))
+      (alike_in low high (option_map sort_of (slot_at slots k)) (option_map sort_of (place_shape context.scope tree)) p.name.at (place_begins context.scope low high p rise)))
       others
 
   more_places_in : (low high : ℕ) (slots : Slots) (k : ℕ) (ps : List WrittenPlace) → Rise low high (each (λ q. comma ∷ spelling_place q) ps) → AreIn low high (places_faults context slots k (places_stand_for ps))
@@ -120,8 +120,8 @@ module _ (context : Context) where
       let arguments = list_faults context (arguments_of (asked context tree)) c.procedure.at tree.arguments in
       joined low high (own ++ arguments) (results_faults context (results_of (asked context tree)) tree.into)
       (joined low high own arguments
-        (called_in low high (context.called c.«module».name) c.«module» c.procedure (named low high c.«module» (due (sign (codes ".")) ∷ procedure) first_name) lies)
-        (values_in low high (arguments_of (asked context tree)) c.procedure.at c.arguments lies (front low high (spelling_list c.arguments) (if_written spelling_into c.into) rest)))
+      (called_in low high (context.called c.«module».name) c.«module» c.procedure (named low high c.«module» (due (sign (codes ".")) ∷ procedure) first_name) lies)
+      (values_in low high (arguments_of (asked context tree)) c.procedure.at c.arguments lies (front low high (spelling_list c.arguments) (if_written spelling_into c.into) rest)))
       (results_in low high (results_of (asked context tree)) c.into (back low high (spelling_list c.arguments) (if_written spelling_into c.into) rest))
 
   handled_in : (low high : ℕ) (o : Option Offered) (at : ℕ) (n : Option Named) (ps : Option (List WrittenPlace)) → IsCaught at n ps → Rise low high (spelling_caught at n ps) → AreIn low high (handled_faults context o at n (option_map places_stand_for ps))
@@ -147,7 +147,7 @@ module _ (context : Context) where
         let ds = due (sign (codes ":=")) ∷ (spelling w ++ semicolon ∷ []) in
         let place = front low high (spelling_place p) ds rise in
         let s = written_in context.scope low high w
-            (front low high (spelling w) (semicolon ∷ []) (behind low high (due (sign (codes ":="))) (spelling w ++ semicolon ∷ []) (back low high (spelling_place p) ds rise))) in
+        (front low high (spelling w) (semicolon ∷ []) (behind low high (due (sign (codes ":="))) (spelling w ++ semicolon ∷ []) (back low high (spelling_place p) ds rise))) in
         let tree = place_stands_for p in
         let a = expression.stands_for w in
         let fits = wanted_for (place_shape context.scope tree) (sort context.scope a) (place_of a) in
@@ -167,7 +167,7 @@ module _ (context : Context) where
         let both = back low high (spelling w) chosen own in
         joined low high (tested context (expression.stands_for w) ++ all_faults context (stand_for ss)) (all_faults context (stand_for os))
         (joined low high (tested context (expression.stands_for w)) (all_faults context (stand_for ss))
-          (tested_in low high w (front low high (spelling w) chosen own)) (statements_in low high ss chosen_good (listed low high (codes "THEN") ss other both)))
+        (tested_in low high w (front low high (spelling w) chosen own)) (statements_in low high ss chosen_good (listed low high (codes "THEN") ss other both)))
         (statements_in low high os other_good (listed low high (codes "ELSE") os ending (back low high (opened (due (word (codes "THEN")) ∷ spelling_statements ss)) other both)))
     statement_in low high (while at w ss) good rise =
         let repeated = opened (due (word (codes "DO")) ∷ spelling_statements ss) ++ ending in
@@ -186,8 +186,8 @@ module _ (context : Context) where
         let fits = wanted_for (item_shape shape) (sort context.scope a) (place_of a) in
         joined low high ((expression_faults context.scope a ++ place_faults context.scope tree) ++ sequence_faults shape p.name.at) fits
         (joined low high (expression_faults context.scope a ++ place_faults context.scope tree) (sequence_faults shape p.name.at)
-          (joined low high (expression_faults context.scope a) (place_faults context.scope tree) s.faults (place_in context.scope low high p place))
-          (sequence_in low high shape p.name.at (place_begins context.scope low high p place)))
+        (joined low high (expression_faults context.scope a) (place_faults context.scope tree) s.faults (place_in context.scope low high p place))
+        (sequence_in low high shape p.name.at (place_begins context.scope low high p place)))
         (wanted_for_in low high (item_shape shape) (sort context.scope a) (place_of a) s.begins)
     statement_in low high (call at c hs) good rise =
         let ds = spelling_handlers hs ++ semicolon ∷ [] in
@@ -226,9 +226,9 @@ module _ (context : Context) where
         let handled = handled_faults context o h.at h.error (option_map places_stand_for h.places) in
         joined low high ((last_faults tree trees ++ handled) ++ all_faults context (stand_for ss)) (handlers_faults context o trees)
         (joined low high (last_faults tree trees ++ handled) (all_faults context (stand_for ss))
-          (joined low high (last_faults tree trees) handled (last_in low high tree trees lies)
-            (handled_in low high o h.at h.error h.places caught_good (front low high (spelling_handled h) block own)))
-          (statements_in low high ss statements_good (listed low high (codes "BEGIN") ss others rest)))
+        (joined low high (last_faults tree trees) handled (last_in low high tree trees lies)
+        (handled_in low high o h.at h.error h.places caught_good (front low high (spelling_handled h) block own)))
+        (statements_in low high ss statements_good (listed low high (codes "BEGIN") ss others rest)))
         (handlers_in low high o hs others_good (behind low high (due (word (codes "END"))) (spelling_handlers hs) later))
 
   -- the statements of a body

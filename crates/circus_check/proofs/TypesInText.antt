@@ -69,9 +69,10 @@ more_labelled low high (l ∷ ls) rise =
 
 all_labelled : (low high : ℕ) (ls : List LabelText) → Rise low high (with_commas spelling_label ls) → AreLabelled low high ls
 all_labelled low high [] rise = tt
-all_labelled low high (l ∷ ls) rise =
-    (labelled low high l.name l.number (due (sign (codes ")")) ∷ []) (front low high (spelling_label l) (each (λ m. comma ∷ spelling_label m) ls) rise),
-    more_labelled low high ls (back low high (spelling_label l) (each (λ m. comma ∷ spelling_label m) ls) rise))
+all_labelled low high (l ∷ ls) rise = (
+  labelled low high l.name l.number (due (sign (codes ")")) ∷ []) (front low high (spelling_label l) (each (λ m. comma ∷ spelling_label m) ls) rise),
+  more_labelled low high ls (back low high (spelling_label l) (each (λ m. comma ∷ spelling_label m) ls) rise),
+)
 
 labels_in : (low high : ℕ) (names : List ℕ → Bool) (numbers : ℕ → Bool) (ls : List LabelText) → AreLabelled low high ls → AreIn low high (labels_faults of_type names numbers ls)
 labels_in low high names numbers [] all = tt
@@ -81,7 +82,7 @@ labels_in low high names numbers (l ∷ ls) all =
     let over = one low high (nat_lt greatest_word l.number.value) l.number.at (of_type cause.OutOfRange) all.0.1 in
     joined low high (label_faults of_type names numbers l.name l.number) (labels_faults of_type (also_name l.name.name names) (also_number l.number.value numbers) ls)
     (joined low high (repeated_name of_type names l.name ++ repeated_number of_type numbers l.number) (above of_type greatest_word l.number)
-      (joined low high (repeated_name of_type names l.name) (repeated_number of_type numbers l.number) name number) over)
+    (joined low high (repeated_name of_type names l.name) (repeated_number of_type numbers l.number) name number) over)
     (labels_in low high (also_name l.name.name names) (also_number l.number.value numbers) ls all.1)
 
 -- ---- names of types
@@ -180,14 +181,14 @@ module _ (unknown : TypeName → Option ℕ) (told : (t : TypeName) (at : ℕ) �
         labels_in low high no_name no_number ls (all_labelled low high ls (front low high (with_commas spelling_label ls) (due (sign (codes "}")) ∷ []) own))
     type_in low high (array at n t) good rise =
         let own = behind low high (due_at (word (codes "ARRAY")) at) (due_number n ∷ due (word (codes "OF")) ∷ spelling_type t)
-            (unopened low high (due_at (word (codes "ARRAY")) at ∷ due_number n ∷ due (word (codes "OF")) ∷ spelling_type t) rise) in
+        (unopened low high (due_at (word (codes "ARRAY")) at ∷ due_number n ∷ due (word (codes "OF")) ∷ spelling_type t) rise) in
         let element = behind low high (due (word (codes "OF"))) (spelling_type t) (behind low high (due_number n) (due (word (codes "OF")) ∷ spelling_type t) own) in
         joined low high (length_faults of_type n) (inside of_type unknown t)
         (length_in low high n (numbered low high n (due (word (codes "OF")) ∷ spelling_type t) own)) (type_in low high t good.1 element)
     type_in low high (sequence at bound t) good rise =
         let written = if_written spelling_number bound in
         let own = behind low high (due_at (word (codes "SEQUENCE")) at) (written ++ due (word (codes "OF")) ∷ spelling_type t)
-            (unopened low high (due_at (word (codes "SEQUENCE")) at ∷ (written ++ due (word (codes "OF")) ∷ spelling_type t)) rise) in
+        (unopened low high (due_at (word (codes "SEQUENCE")) at ∷ (written ++ due (word (codes "OF")) ∷ spelling_type t)) rise) in
         let element = behind low high (due (word (codes "OF"))) (spelling_type t) (back low high written (due (word (codes "OF")) ∷ spelling_type t) own) in
         joined low high (bound_faults of_type bound) (inside of_type unknown t)
         (bound_in low high bound (due (word (codes "OF")) ∷ spelling_type t) own) (type_in low high t good.1 element)
@@ -199,8 +200,8 @@ module _ (unknown : TypeName → Option ℕ) (told : (t : TypeName) (at : ℕ) �
         let (names, types) = groups_in low high gs good groups in
         joined low high (faults_if (is_bare gs) at (of_type cause.OutOfRange) ++ repeated_names of_type no_name (group_names gs)) (inside_groups of_type unknown gs)
         (joined low high (faults_if (is_bare gs) at (of_type cause.OutOfRange)) (repeated_names of_type no_name (group_names gs))
-          (one low high (is_bare gs) at (of_type cause.OutOfRange) (first low high (due_at (word (codes "RECORD")) at) ds at (λ p is. is) all))
-          (repeated_in low high no_name (group_names gs) names))
+        (one low high (is_bare gs) at (of_type cause.OutOfRange) (first low high (due_at (word (codes "RECORD")) at) ds at (λ p is. is) all))
+        (repeated_in low high no_name (group_names gs) names))
         types
     type_in low high (choice at no_arms) good rise = absurd good
     type_in low high (choice at (more_arms n k t rest)) (name_good, number_good, type_good, others_good) rise =
@@ -208,14 +209,14 @@ module _ (unknown : TypeName → Option ℕ) (told : (t : TypeName) (at : ℕ) �
         let ds = due (word (codes "OF")) ∷ due (sign (codes "{")) ∷ (spelling_arms arms ++ due (sign (codes "}")) ∷ []) in
         let all = behind low high (due_at (word (codes "CHOICE")) at) ds (unopened low high (due_at (word (codes "CHOICE")) at ∷ ds) rise) in
         let own = behind low high (due (sign (codes "{"))) (spelling_arms arms ++ due (sign (codes "}")) ∷ [])
-            (behind low high (due (word (codes "OF"))) (due (sign (codes "{")) ∷ (spelling_arms arms ++ due (sign (codes "}")) ∷ [])) all) in
+        (behind low high (due (word (codes "OF"))) (due (sign (codes "{")) ∷ (spelling_arms arms ++ due (sign (codes "}")) ∷ [])) all) in
         let listed = front low high (spelling_arms arms) (due (sign (codes "}")) ∷ []) own in
         let arm = front low high (spelling_arm n k t) (spelling_more_arms rest) listed in
         let (labels, more_types) = more_arms_in low high rest others_good (back low high (spelling_arm n k t) (spelling_more_arms rest) listed) in
         joined low high (labels_faults of_type no_name no_number (arm_labels arms)) (inside_arms of_type unknown arms)
         (labels_in low high no_name no_number (arm_labels arms) (arm_labelled low high n k t arm, labels))
         (joined low high (cond (is_empty_record t) [] (inside of_type unknown t)) (inside_arms of_type unknown rest)
-          (unless_bare low high (is_empty_record t) (inside of_type unknown t) (type_in low high t type_good (arm_type low high n k t arm))) more_types)
+        (unless_bare low high (is_empty_record t) (inside of_type unknown t) (type_in low high t type_good (arm_type low high n k t arm))) more_types)
     type_in low high (called at name) good rise = unknown_in low high name (unknown name) refl (type_named low high name.«module» name.name [] rise)
 
     groups_in : (low high : ℕ) (gs : GroupTrees) → AreGroups gs → Rise low high (spelling_groups gs) → AreNamed low high (group_names gs) × AreIn low high (inside_groups of_type unknown gs)
