@@ -83,7 +83,7 @@ fn a_state_that_is_too_long_is_not_stored(rt: HostRuntime) -> Result<(), Fail> {
         b"b := \"abcde\"; n := 2;",
         FORMAT_1,
     )?;
-    let raised = b"\nend 0 clock 0,0 raised 60004 [] state [1, \"xx";
+    let raised: &[u8] = b"\nend 0 clock 0,0 raised 60004 [] state [1, \"xx";
     let text = shown.as_slice();
     assert!(rt; text.windows(raised.len()).any(|part| part == raised));
     assert!(rt; text.ends_with(b"yyyyyy\", \"\"]\n"));
