@@ -20,7 +20,9 @@ fn sum_of(alloc: Global, sum: u32) -> Result<Values, NoMemory> {
 }
 
 // What a tally does at this sum, to which a number is added.
-fn added(alloc: Global, state: State, number: u16) -> Result<Turn<Unused>, NoMemory> {
+fn added(alloc: Global, sum: u32, number: u16) -> Result<Turn<Unused>, NoMemory> {
+    let mut state = State::new(alloc);
+    state.push(Value::LongCardinal(sum))?;
     let mut arguments = Values::new(alloc);
     arguments.push(Value::Cardinal(number))?;
     Tally::new(alloc)?.start(state, 1, &arguments)
@@ -32,7 +34,7 @@ fn ends_so(alloc: Global, sum: u32, number: u16, gives: Option<u32>) -> Result<b
         Some(new) => Outcome::Returned(sum_of(alloc, new)?),
         None => LanguageError::Range.raised(alloc),
     };
-    match added(alloc, sum_of(alloc, sum)?, number)? {
+    match added(alloc, sum, number)? {
         Turn::Ends { outcome, state } => {
             Ok(outcome == expected && state == sum_of(alloc, gives.unwrap_or(sum))?)
         }
