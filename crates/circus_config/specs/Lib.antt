@@ -1,0 +1,8 @@
+pub mod Limits
+pub mod Rank
+pub mod Told
+pub mod Lines
+pub mod Reading
+pub mod Checking
+pub mod Program
+pub mod Seen

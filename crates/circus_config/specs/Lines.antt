@@ -1,0 +1,6 @@
+-- The line of a place.
+use Rattle.std.specs.Prelude.{ℕ, ◌+◌, ◌==◌, List, take, count_by}
+
+-- counted from 1
+abbrev pub line_of : List ℕ → ℕ → ℕ
+line_of text place = 1 + count_by (λ b. b == 10) (take place text)

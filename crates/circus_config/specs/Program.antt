@@ -1,0 +1,127 @@
+-- *Program*: which program a file is, and else the line and the cause of its refusal. Three passes are made, and the first one
+-- with a fault decides: tokens; reading, with the rules of interfaces; checking of modules and deployment.
+use Rattle.std.specs.Prelude.{◌≡◌, ◌⊎◌, ℕ, ◌<◌, ◌≤◌, List, [], ◌∷◌, length, map, Err, Option, Some, None}
+use Rattle.circus_text.specs.declared.token.Token.{Token}
+use Rattle.circus_text.specs.declared.lex_fault.LexFault.{LexFault}
+use Rattle.circus_text.specs.declared.lex_fault.LexFault.TheVariants as lexical
+use Rattle.circus_text.specs.Form.{longest_text}
+use Rattle.circus_text.specs.Division.{AreTokensOf, IsAnswer}
+use Rattle.circus_syntax.specs.declared.stopping.Stop.{Stop}
+use Rattle.circus_syntax.specs.declared.stopping.StopCause.{StopCause}
+use Rattle.circus_syntax.specs.declared.stopping.StopCause.TheVariants.{Unexpected, TooDeep}
+use Rattle.circus_syntax.specs.InterfaceTree.{InterfaceTree}
+use Rattle.circus_syntax.specs.Placed.{Placed, AreWithin}
+use Rattle.circus_syntax.specs.Read.{placed_from}
+use Rattle.circus_syntax.specs.Reader.{open_at, place_in}
+use Rattle.circus_syntax.specs.Spelling.{most_levels}
+use Rattle.circus_expression.specs.Ending.{Are, IsUnexpected, IsTooDeep, IsFilledIn}
+use Rattle.circus_fault.specs.declared.fault.Fault.{Fault}
+use Rattle.circus_fault.specs.Least.{IsLeast}
+use Rattle.circus_idl.specs.declared.interface.Interface.{Interface}
+use Rattle.circus_idl.specs.Means.{Means}
+use Rattle.circus_file.specs.declared.program_text.Format.{Format}
+use Rattle.circus_file.specs.declared.program_text.Format.TheVariants.{One, Two}
+use Rattle.circus_file.specs.WrittenProgram.{WrittenProgram, spelling_program, IsProgram}
+use Rattle.circus_file.specs.ProgramTree.{ProgramTree, program_stands_for}
+use Rattle.circus_file.specs.ProgramReading.{program}
+use Rattle.circus_check.specs.Meaning.{modules_meant}
+use Rattle.circus_check.specs.Seen.Meant.{module_as}
+use Rattle.circus_deployment.specs.Meaning.{deployment_meant}
+use Rattle.circus_config.specs.declared.plan.Plan.{Plan}
+use Rattle.circus_config.specs.declared.program_fault.ProgramCause.{ProgramCause}
+use Rattle.circus_config.specs.declared.program_fault.ProgramCause.TheVariants.{BadCharacter, OpenString, LongNumber, TooLarge}
+use Rattle.circus_config.specs.declared.program_fault.ProgramFault.{ProgramFault}
+use Rattle.circus_config.specs.declared.program_fault.ProgramFault.TheVariants.{Refused, NoMemory}
+use Rattle.circus_config.specs.Rank.{rank_of}
+use Rattle.circus_config.specs.Told.{module_names}
+use Rattle.circus_config.specs.Lines.{line_of}
+use Rattle.circus_config.specs.Reading.{read_faults}
+use Rattle.circus_config.specs.Checking.{checked_faults}
+
+-- the number that messages of the format have
+abbrev pub format_number : Format → ℕ
+format_number One = 1
+format_number Two = 2
+
+-- each interface is what its tree means
+abbrev pub EachMeans : List InterfaceTree → List Interface → Type 0
+EachMeans [] [] = Unit {0}
+EachMeans [] (i ∷ is) = ⊥
+EachMeans (t ∷ ts) [] = ⊥
+EachMeans (t ∷ ts) (i ∷ is) = Means t i × EachMeans ts is
+
+-- the tokens of a text
+abbrev pub placed : List ℕ → List Token → List Placed
+placed text ts = placed_from text ts 0
+
+-- ---- programs
+
+-- the text is a file whose tokens have this tree, which stands within the levels, and the interfaces in it obey their rules
+-- and mean these
+pub record IsFile (text : List ℕ) (tree : ProgramTree) (interfaces : List Interface) : Type 0 where
+  pub short : length text ≤ longest_text
+  pub found : List Token
+  pub tokens : AreTokensOf text found
+  pub written : WrittenProgram
+  pub spelled : Are spelling_program IsProgram (placed text found) written
+  pub within : AreWithin most_levels (spelling_program written)
+  pub stands : tree ≡ program_stands_for written
+  pub faultless : read_faults None tree.interfaces ≡ []
+  pub means : EachMeans tree.interfaces interfaces
+
+-- the text is a program: a file in which no rule is broken. It means this plan
+pub record IsProgramOf (text : List ℕ) (plan : Plan) : Type 0 where
+  pub tree : ProgramTree
+  pub file : IsFile text tree plan.checked.interfaces
+  pub faultless : checked_faults plan.checked.interfaces tree.modules (length text) tree.deployment ≡ []
+  pub modules : map module_as plan.checked.modules ≡ modules_meant plan.checked.interfaces tree.modules 0 tree.modules
+  pub names : plan.names ≡ module_names tree.modules
+  pub deployment : plan.deployment ≡ deployment_meant tree.modules (format_number tree.format) tree.deployment
+
+-- ---- refusals
+
+-- no program goes on with the next token, or only such as have too many levels
+abbrev pub IsStopOf : StopCause → List Placed → List Placed → Type 0
+IsStopOf Unexpected ts left = IsUnexpected spelling_program IsProgram ts left
+IsStopOf TooDeep ts left = IsTooDeep spelling_program IsProgram most_levels ts left
+
+-- what was written is the program that the tokens are, or, where reading stopped, one that they begin up to there
+abbrev pub IsReadOf : List Placed → ℕ → Option Stop → WrittenProgram → Type 0
+IsReadOf ts end None w = Are spelling_program IsProgram ts w × AreWithin most_levels (spelling_program w)
+IsReadOf ts end (Some s) w =
+    (left : List Placed) × IsFilledIn spelling_program IsProgram most_levels ts left s.place w × (s.place ≡ place_in left end) × IsStopOf s.cause ts left
+
+-- the answer to a fault of these
+abbrev pub IsAnswerTo : List ℕ → List (Fault ProgramCause) → ProgramFault → Type 0
+IsAnswerTo text faults answer = (fault : Fault ProgramCause) × IsLeast rank_of fault faults × (answer ≡ Refused (line_of text fault.place) fault.cause)
+
+-- the pass that reads finds a fault
+pub record IsMisread (text : List ℕ) (found : List Token) (answer : ProgramFault) : Type 0 where
+  pub written : WrittenProgram
+  pub stop : Option Stop
+  pub left : List Placed
+  pub is_read : program most_levels (open_at (placed text found) (length text)) ≡ (written, record { rest = left; end = length text; stop = stop })
+  pub read_of : IsReadOf (placed text found) (length text) stop written
+  pub given : IsAnswerTo text (read_faults stop written.interfaces) answer
+
+-- the pass that checks finds a fault
+pub record IsUnchecked (text : List ℕ) (answer : ProgramFault) : Type 0 where
+  pub tree : ProgramTree
+  pub interfaces : List Interface
+  pub file : IsFile text tree interfaces
+  pub given : IsAnswerTo text (checked_faults interfaces tree.modules (length text) tree.deployment) answer
+
+-- the answer that a fault of the tokens gives
+abbrev pub lexical_answer : List ℕ → LexFault → ProgramFault
+lexical_answer text (lexical.BadCharacter place) = Refused (line_of text place) BadCharacter
+lexical_answer text (lexical.OpenString place) = Refused (line_of text place) OpenString
+lexical_answer text (lexical.LongNumber place) = Refused (line_of text place) LongNumber
+lexical_answer text lexical.NoMemory = NoMemory
+
+-- the text is too long, its tokens have a fault, reading it finds one, or checking it does
+abbrev pub IsRefused : List ℕ → ProgramFault → Type 0
+IsRefused text answer =
+    ((longest_text < length text) × (answer ≡ Refused 1 TooLarge))
+    ⊎ (((length text ≤ longest_text) × ((fault : LexFault) × IsAnswer text (Err fault) × (answer ≡ lexical_answer text fault)))
+    ⊎ (((length text ≤ longest_text) × ((found : List Token) × AreTokensOf text found × IsMisread text found answer))
+    ⊎ IsUnchecked text answer))
