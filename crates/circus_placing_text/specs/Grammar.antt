@@ -1,7 +1,7 @@
 -- The grammar: what the tokens of a placing are, in their order, and which trees it has.
 use Rattle.std.specs.Prelude.{◌≡◌, ℕ, false, List, [], ◌∷◌, ◌++◌, codes, if◌then◌else◌, Bool}
 use Rattle.std.proofs.Common.{zero, suc}
-use Rattle.circus_text.specs.declared.token.TokenKind.TheVariants.{Word, Number}
+use Rattle.circus_text.specs.declared.token.TokenKind.TheVariants.{Word}
 use Rattle.circus_text.specs.Token.{IsSpelling, Lexeme}
 use Rattle.circus_syntax.specs.declared.named.Named.{Named}
 use Rattle.circus_syntax.specs.Placed.{Placed, word, sign, digits, Due, due, due_name, due_number, due_text, opened, AreWithin, AreDue}
