@@ -1,6 +1,7 @@
 -- What is found of modules and of the deployment over them.
 use Rattle.std.proofs.Common.{◌≡◌, ℕ, ◌⊎◌, inl, inr, List, [], ◌++◌, map, refl, sym, ◌∙◌, ap, subst, Option, Some, None}
 use Rattle.std.specs.Prelude.{option_map}
+use Rattle.circus_lines.specs.Lines.{line_of}
 use Rattle.circus_fault.specs.declared.fault.Fault.{Fault}
 use Rattle.circus_fault.specs.Least.{IsLeast, lesser, least_from}
 use Rattle.circus_fault.proofs.LeastIs.{joined, least_is, least_joined}
@@ -27,7 +28,6 @@ use Rattle.circus_config.specs.Told.{module_names, module_told, deployment_told}
 use Rattle.circus_config.specs.Seen.{modules_answer, deployment_answer}
 use Rattle.circus_config.specs.declared.program_fault.ProgramFault.{ProgramFault}
 use Rattle.circus_config.specs.declared.program_fault.ProgramFault.TheVariants.{Refused}
-use Rattle.circus_config.specs.Lines.{line_of}
 use Rattle.circus_config.specs.Checking.{checked_faults}
 use Rattle.circus_config.specs.Program.{IsAnswerTo}
 use Rattle.circus_config.proofs.LeastTold.{least_told}

@@ -6,6 +6,7 @@ use Rattle.circus_text.specs.declared.token.Token.{Token}
 use Rattle.circus_text.specs.Form.{longest_text}
 use Rattle.circus_text.specs.Token.{IsTokenIn}
 use Rattle.circus_text.specs.Division.{AreTokensOf}
+use Rattle.circus_lines.specs.Lines.{line_of}
 use Rattle.circus_syntax.specs.declared.stopping.Stop.{Stop}
 use Rattle.circus_syntax.specs.declared.stopping.StopCause.{StopCause}
 use Rattle.circus_syntax.specs.declared.stopping.StopCause.TheVariants.{Unexpected, TooDeep}
@@ -50,7 +51,6 @@ use Rattle.circus_config.specs.declared.least.Least.{Least}
 use Rattle.circus_config.specs.Seen.{fault_of, kept}
 use Rattle.circus_config.specs.Rank.{rank_of}
 use Rattle.circus_config.specs.Told.{module_names}
-use Rattle.circus_config.specs.Lines.{line_of}
 use Rattle.circus_config.specs.Checking.{checked_faults}
 use Rattle.circus_config.specs.Reading.{interfaces_faults, read_faults}
 use Rattle.circus_config.specs.Program.{EachMeans, placed, IsFile, IsStopOf, IsReadOf, IsAnswerTo, IsProgramOf, IsRefused, format_number}

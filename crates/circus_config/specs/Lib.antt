@@ -1,7 +1,6 @@
 pub mod Limits
 pub mod Rank
 pub mod Told
-pub mod Lines
 pub mod Reading
 pub mod Checking
 pub mod Program

@@ -6,6 +6,7 @@ use Rattle.circus_text.specs.declared.lex_fault.LexFault.{LexFault}
 use Rattle.circus_text.specs.declared.lex_fault.LexFault.TheVariants as lexical
 use Rattle.circus_text.specs.Form.{longest_text}
 use Rattle.circus_text.specs.Division.{AreTokensOf, IsAnswer}
+use Rattle.circus_lines.specs.Lines.{line_of}
 use Rattle.circus_syntax.specs.declared.stopping.Stop.{Stop}
 use Rattle.circus_syntax.specs.declared.stopping.StopCause.{StopCause}
 use Rattle.circus_syntax.specs.declared.stopping.StopCause.TheVariants.{Unexpected, TooDeep}
@@ -34,7 +35,6 @@ use Rattle.circus_config.specs.declared.program_fault.ProgramFault.{ProgramFault
 use Rattle.circus_config.specs.declared.program_fault.ProgramFault.TheVariants.{Refused, NoMemory}
 use Rattle.circus_config.specs.Rank.{rank_of}
 use Rattle.circus_config.specs.Told.{module_names}
-use Rattle.circus_config.specs.Lines.{line_of}
 use Rattle.circus_config.specs.Reading.{read_faults}
 use Rattle.circus_config.specs.Checking.{checked_faults}
 

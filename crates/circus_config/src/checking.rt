@@ -16,7 +16,7 @@ ghost use Rattle.circus_config.specs.Told.{module_names};
 ghost use Rattle.circus_config.specs.Checking.{checked_faults};
 ghost use Rattle.circus_config.specs.Program.{format_number, IsAnswerTo};
 
-use crate::lines::refused;
+use crate::least::refused;
 use crate::told::{of_deployment, of_modules};
 use crate::{Names, Plan, ProgramFault};
 use circus_check::Interfaces;

@@ -1,12 +1,16 @@
-// The least of the faults of a pass, which are found one by one.
-ghost use Rattle.std.specs.Prelude.{◌≡◌, Some, None};
+// The least of the faults of a pass, which are found one by one, and the refusal for it.
+ghost use Rattle.std.specs.Prelude.{◌≡◌, ◌≤◌, length, Some, None};
+ghost use Rattle.circus_text.specs.Form.{longest_text};
+ghost use Rattle.circus_lines.specs.Lines.{line_of};
 ghost use Rattle.circus_fault.specs.Least.{is_before, lesser, least_from, faults_if};
 ghost use Rattle.circus_fault.specs.Stopping.{cause_of, stop_faults};
 ghost use Rattle.circus_config.specs.declared.program_fault.ProgramCause.TheVariants.{Syntax, Deep};
+ghost use Rattle.circus_config.specs.declared.program_fault.ProgramFault.{ProgramFault};
 ghost use Rattle.circus_config.specs.Rank.{rank_of};
 ghost use Rattle.circus_config.specs.Seen.{fault_of, kept};
 
-use crate::ProgramCause;
+use crate::{ProgramCause, ProgramFault};
+use circus_lines::line_at;
 use circus_syntax::{Stop, StopCause};
 
 /// A fault at a place of a file, counted in bytes.
@@ -84,4 +88,12 @@ impl Least {
             self.keep(Found::at(u64::from(place), cause));
         }
     }
+}
+
+/// The refusal of a file for a fault.
+pub fn refused(text: &[u8], found: Found) -> ProgramFault
+    requires { length text.now ≤ longest_text }
+    ensures { result ≡ ProgramFault.Refused (line_of text.now found.place) found.cause }
+{
+    ProgramFault::Refused(line_at(text, found.place), found.cause)
 }

@@ -1,15 +1,14 @@
 //! Program files: which plan each of them means, and the line and the cause of the refusal of every other one.
 //!
 //! `read` goes over a file in three passes: its tokens, the interfaces with their rules in `interfaces`, and the modules and
-//! the deployment in `checking`. `told` says how each fault is told, and `least` keeps the least of them; `lines` has their
-//! lines. `plan` has what a file means, `program_fault` why one is refused, and `limits` how many interfaces there may be.
+//! the deployment in `checking`. `told` says how each fault is told; `least` keeps the least of them, and refuses a file for
+//! it. `plan` has what a file means, `program_fault` why one is refused, and `limits` how many interfaces there may be.
 #![tactic(auto)]
 
 mod checking;
 mod interfaces;
 mod least;
 mod limits;
-mod lines;
 mod plan;
 mod program_fault;
 mod read;

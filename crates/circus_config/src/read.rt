@@ -9,8 +9,7 @@ ghost use Rattle.circus_config.specs.Program.{lexical_answer, IsProgramOf, IsRef
 
 use crate::checking::plan;
 use crate::interfaces::interfaces;
-use crate::least::Found;
-use crate::lines::refused;
+use crate::least::{Found, refused};
 use crate::{Plan, ProgramCause, ProgramFault};
 use circus_file::program;
 use circus_syntax::Reader;

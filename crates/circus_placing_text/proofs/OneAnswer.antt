@@ -4,6 +4,7 @@ use Rattle.std.proofs.lemmas.Bool.Decides.{nat_tests}
 use Rattle.circus_text.specs.declared.token.Token.{Token}
 use Rattle.circus_text.specs.declared.lex_fault.LexFault.{LexFault}
 use Rattle.circus_text.proofs.Divisions.{answer_one}
+use Rattle.circus_lines.specs.Lines.{line_of}
 use Rattle.circus_syntax.specs.Reader.{Reader}
 use Rattle.circus_fault.specs.declared.fault.Fault.{Fault}
 use Rattle.circus_fault.specs.Least.{IsLeast}
@@ -14,7 +15,7 @@ use Rattle.circus_placing_text.specs.declared.place_fault.PlaceFault.TheVariants
 use Rattle.circus_placing_text.specs.Written.{PlacingTree}
 use Rattle.circus_placing_text.specs.Rank.{rank_of}
 use Rattle.circus_placing_text.specs.Faults.{read_faults}
-use Rattle.circus_placing_text.specs.ReadAs.{line_of, lexical_answer, IsLeastOf, IsRefused}
+use Rattle.circus_placing_text.specs.ReadAs.{lexical_answer, IsLeastOf, IsRefused}
 
 -- the cause of a rank
 of_rank : ℕ → PlaceCause

@@ -7,6 +7,7 @@ use Rattle.circus_text.specs.Form.{longest_text}
 use Rattle.circus_text.specs.Token.{IsTokenIn}
 use Rattle.circus_text.specs.Division.{AreTokensOf}
 use Rattle.circus_text.proofs.Divisions.{answer_one}
+use Rattle.circus_lines.specs.Lines.{line_of}
 use Rattle.circus_syntax.specs.declared.stopping.Stop.{Stop}
 use Rattle.circus_syntax.specs.declared.stopping.StopCause.{StopCause}
 use Rattle.circus_syntax.specs.declared.stopping.StopCause.TheVariants.{Unexpected, TooDeep}
@@ -32,7 +33,7 @@ use Rattle.circus_placing_text.specs.Stopping.{IsUnexpected, IsTooDeep}
 use Rattle.circus_placing_text.specs.Rank.{rank_of}
 use Rattle.circus_placing_text.specs.Faults.{placing_faults, read_faults}
 use Rattle.circus_placing_text.specs.Means.{Means}
-use Rattle.circus_placing_text.specs.ReadAs.{placed, line_of, IsReadAs, IsStopOf, IsTreeOf, IsLeastOf, IsRefused}
+use Rattle.circus_placing_text.specs.ReadAs.{placed, IsReadAs, IsStopOf, IsTreeOf, IsLeastOf, IsRefused}
 use Rattle.circus_placing_text.proofs.Obeying.{meant_obeys}
 use Rattle.circus_placing_text.proofs.Whole.{of_text, placing_one, placing_whole, placing_filled_in, placing_unexpected, placing_too_deep}
 

@@ -1,10 +1,11 @@
 -- What reading the text of a placing answers.
-use Rattle.std.specs.Prelude.{◌≡◌, ◌⊎◌, ℕ, ◌+◌, ◌<◌, ◌≤◌, ◌==◌, List, [], length, take, count_by, Err, Option, Some, None}
+use Rattle.std.specs.Prelude.{◌≡◌, ◌⊎◌, ℕ, ◌<◌, ◌≤◌, List, [], length, Err, Option, Some, None}
 use Rattle.circus_text.specs.declared.token.Token.{Token}
 use Rattle.circus_text.specs.declared.lex_fault.LexFault.{LexFault}
 use Rattle.circus_text.specs.declared.lex_fault.LexFault.TheVariants as lexical
 use Rattle.circus_text.specs.Form.{longest_text}
 use Rattle.circus_text.specs.Division.{AreTokensOf, IsAnswer}
+use Rattle.circus_lines.specs.Lines.{line_of}
 use Rattle.circus_syntax.specs.declared.stopping.Stop.{Stop}
 use Rattle.circus_syntax.specs.declared.stopping.StopCause.{StopCause}
 use Rattle.circus_syntax.specs.declared.stopping.StopCause.TheVariants.{Unexpected, TooDeep}
@@ -29,10 +30,6 @@ use Rattle.circus_placing_text.specs.Means.{Means}
 -- all tokens of a text
 abbrev pub placed : List ℕ → List Token → List Placed
 placed text ts = placed_from text ts 0
-
--- the line of a place, counted from 1
-abbrev pub line_of : List ℕ → ℕ → ℕ
-line_of text place = 1 + count_by (λ b. b == 10) (take place text)
 
 -- the text is a placing without a fault, which means this one
 pub record IsReadAs (text : List ℕ) (placing : Placing) : Type 0 where

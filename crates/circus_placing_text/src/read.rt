@@ -1,9 +1,10 @@
 // Reading the text of a placing.
-ghost use Rattle.std.specs.Prelude.{◌≡◌, ◌⊎◌, ℕ, ◌≤◌, List, [], length, take, All, IsAscii, Some, None, IfOk, IfErr};
+ghost use Rattle.std.specs.Prelude.{◌≡◌, ◌⊎◌, ℕ, ◌≤◌, List, [], length, All, IsAscii, Some, None, IfOk, IfErr};
 ghost use Rattle.circus_text.specs.declared.token.Token.{Token};
 ghost use Rattle.circus_text.specs.Form.{longest_text};
 ghost use Rattle.circus_text.specs.Token.{IsTokenIn};
 ghost use Rattle.circus_text.specs.Division.{AreTokensOf};
+ghost use Rattle.circus_lines.specs.Lines.{line_of};
 ghost use Rattle.circus_placing.specs.Obeys.{Obeys};
 ghost use Rattle.circus_fault.specs.declared.fault.Fault.{Fault};
 ghost use Rattle.circus_fault.specs.Least.{least_from};
@@ -13,42 +14,17 @@ ghost use Rattle.circus_placing_text.specs.Grammar.{IsPlacing, IsWithin, most_le
 ghost use Rattle.circus_placing_text.specs.Rank.{rank_of};
 ghost use Rattle.circus_placing_text.specs.Faults.{placing_faults, read_faults};
 ghost use Rattle.circus_placing_text.specs.Means.{Means};
-ghost use Rattle.circus_placing_text.specs.ReadAs.{placed, line_of, lexical_answer, IsReadAs, IsLeastOf, IsRefused};
+ghost use Rattle.circus_placing_text.specs.ReadAs.{placed, lexical_answer, IsReadAs, IsLeastOf, IsRefused};
 
 use crate::check::check;
 use crate::meaning::meaning;
 use crate::reading::placing;
 use crate::{PlaceCause, PlaceFault, PlacingText};
+use circus_lines::line_at;
 use circus_placing::Placing;
 use circus_syntax::{Reader, Stop};
 use circus_text::{LONGEST_TEXT, LexFault, Token, TokenList, tokens};
 use std::alloc::Global;
-
-const NEWLINE: u8 = b'\n';
-
-// What stands before a place, or the whole where it isn't inside.
-#[tactic(auto, using(std::proofs::lemmas::List::take_all))]
-fn before(text: &[u8], place: usize) -> &[u8]
-    ensures { result.now ≡ take place text.now }
-{
-    if place < text.len() {
-        &text[..place]
-    } else {
-        text
-    }
-}
-
-// The line of a place, counted from 1.
-fn line_at(text: &[u8], place: usize) -> u32
-    requires { length text.now ≤ longest_text }
-    ensures { result ≡ line_of text.now place }
-{
-    let ends = before(text, place)
-        .iter()
-        .filter(|byte| **byte == NEWLINE)
-        .count();
-    1 + ends as u32
-}
 
 fn lexical_answer(text: &[u8], fault: LexFault) -> PlaceFault
     requires { length text.now ≤ longest_text }
@@ -66,7 +42,7 @@ fn refused(text: &[u8], place: u64, cause: PlaceCause) -> PlaceFault
     requires { length text.now ≤ longest_text }
     ensures { result ≡ PlaceFault.Refused (line_of text.now place) cause }
 {
-    PlaceFault::Refused(line_at(text, place as usize), cause)
+    PlaceFault::Refused(line_at(text, place), cause)
 }
 
 // The tokens of a text, if it isn't too long.

@@ -1,0 +1,6 @@
+//! Lines of texts: on which line a place stands.
+#![tactic(auto)]
+
+mod lines;
+
+pub use lines::line_at;
