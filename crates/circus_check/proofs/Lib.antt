@@ -14,7 +14,7 @@ mod InText
 pub mod Interfaces
 mod KnownTables
 mod ModulesFound
-mod ModulesInText
+pub mod ModulesInText
 mod Named
 mod NamesApart
 mod OfBytes
@@ -26,7 +26,7 @@ mod Reaching
 mod ReadModules
 mod RegularShapes
 mod Rising
-mod SameLeast
+pub mod SameLeast
 mod Standings
 mod StatementsInText
 mod Surrounded

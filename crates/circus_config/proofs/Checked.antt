@@ -3,8 +3,8 @@ use Rattle.std.proofs.Common.{◌≡◌, ℕ, ◌⊎◌, inl, inr, List, [], ◌
 use Rattle.std.specs.Prelude.{option_map}
 use Rattle.circus_lines.specs.Lines.{line_of}
 use Rattle.circus_fault.specs.declared.fault.Fault.{Fault}
-use Rattle.circus_fault.specs.Least.{IsLeast, lesser, least_from}
-use Rattle.circus_fault.proofs.LeastIs.{joined, least_is, least_joined}
+use Rattle.circus_fault.specs.Least.{lesser, least_from}
+use Rattle.circus_fault.proofs.LeastIs.{joined, least_joined}
 use Rattle.circus_fault.proofs.LeastMore.{least_more}
 use Rattle.circus_resolve.specs.declared.cause.CheckCause.{CheckCause}
 use Rattle.circus_resolve.specs.Causes.{rank}
@@ -25,10 +25,9 @@ use Rattle.circus_deployment.specs.Faults.{lacking, deployment_faults}
 use Rattle.circus_config.specs.declared.program_fault.ProgramCause.{ProgramCause}
 use Rattle.circus_config.specs.Rank.{rank_of}
 use Rattle.circus_config.specs.Told.{module_names, module_told, deployment_told}
-use Rattle.circus_config.specs.Seen.{modules_answer, deployment_answer}
+use Rattle.circus_config.specs.Seen.{looked_faults, modules_answer, deployment_answer}
 use Rattle.circus_config.specs.declared.program_fault.ProgramFault.{ProgramFault}
 use Rattle.circus_config.specs.declared.program_fault.ProgramFault.TheVariants.{Refused}
-use Rattle.circus_config.specs.Checking.{checked_faults}
 use Rattle.circus_config.specs.Program.{IsAnswerTo}
 use Rattle.circus_config.proofs.LeastTold.{least_told}
 use Rattle.circus_config.proofs.ToldInOrder.{modules_in_order, deployments_in_order}
@@ -38,7 +37,7 @@ module _ (interfaces : List Interface) (modules : List ModuleTree) (end : ℕ) (
   -- the least of both is the lesser of the two
   both : (one other : Option (Fault ProgramCause)) → least_from rank_of None (map (module_told interfaces modules) (faults interfaces modules)) ≡ one
       → least_from rank_of None (map (deployment_told (lacking (troupe_numbers d.troupes) modules)) (deployment_faults modules end d)) ≡ other
-      → least_from rank_of None (checked_faults interfaces modules end d) ≡ joined rank_of one other
+      → least_from rank_of None (looked_faults interfaces modules end d) ≡ joined rank_of one other
   both one other first second =
       let ms = map (module_told interfaces modules) (faults interfaces modules) in
       let ds = map (deployment_told (lacking (troupe_numbers d.troupes) modules)) (deployment_faults modules end d) in
@@ -56,28 +55,25 @@ module _ (interfaces : List Interface) (modules : List ModuleTree) (end : ℕ) (
 
   -- a fault of modules alone
   pub first_alone : (f : Fault CheckCause) → least_from rank None (faults interfaces modules) ≡ Some f → deployment_faults modules end d ≡ []
-      → IsLeast rank_of (module_told interfaces modules f) (checked_faults interfaces modules end d)
+      → least_from rank_of None (looked_faults interfaces modules end d) ≡ Some (module_told interfaces modules f)
   first_alone f is none =
-      least_is rank_of _ _
-      (both (Some (module_told interfaces modules f)) None (told_of_modules f is) (ap (λ fs. least_from rank_of None (map (deployment_told (lacking (troupe_numbers d.troupes) modules)) fs)) none))
+      both (Some (module_told interfaces modules f)) None (told_of_modules f is) (ap (λ fs. least_from rank_of None (map (deployment_told (lacking (troupe_numbers d.troupes) modules)) fs)) none)
 
   -- a fault of the deployment alone
   pub second_alone : (f : Fault deployed.Cause) → faults interfaces modules ≡ [] → least_from of_deployment.rank_of None (deployment_faults modules end d) ≡ Some f
-      → IsLeast rank_of (deployment_told (lacking (troupe_numbers d.troupes) modules) f) (checked_faults interfaces modules end d)
+      → least_from rank_of None (looked_faults interfaces modules end d) ≡ Some (deployment_told (lacking (troupe_numbers d.troupes) modules) f)
   second_alone f none is =
-      least_is rank_of _ _
-      (both None (Some (deployment_told (lacking (troupe_numbers d.troupes) modules) f)) (ap (λ fs. least_from rank_of None (map (module_told interfaces modules) fs)) none) (told_of_deployment f is))
+      both None (Some (deployment_told (lacking (troupe_numbers d.troupes) modules) f)) (ap (λ fs. least_from rank_of None (map (module_told interfaces modules) fs)) none) (told_of_deployment f is)
 
   -- one of each
   pub of_both : (f : Fault CheckCause) (g : Fault deployed.Cause) (h : Fault ProgramCause) → least_from rank None (faults interfaces modules) ≡ Some f
       → least_from of_deployment.rank_of None (deployment_faults modules end d) ≡ Some g
       → Some h ≡ lesser rank_of (Some (module_told interfaces modules f)) (deployment_told (lacking (troupe_numbers d.troupes) modules) g)
-      → IsLeast rank_of h (checked_faults interfaces modules end d)
+      → least_from rank_of None (looked_faults interfaces modules end d) ≡ Some h
   of_both f g h first second is =
-      least_is rank_of _ _
-      (both (Some (module_told interfaces modules f)) (Some (deployment_told (lacking (troupe_numbers d.troupes) modules) g)) (told_of_modules f first) (told_of_deployment g second) ∙ sym is)
+      both (Some (module_told interfaces modules f)) (Some (deployment_told (lacking (troupe_numbers d.troupes) modules) g)) (told_of_modules f first) (told_of_deployment g second) ∙ sym is
 
-  pub neither : faults interfaces modules ≡ [] → deployment_faults modules end d ≡ [] → checked_faults interfaces modules end d ≡ []
+  pub neither : faults interfaces modules ≡ [] → deployment_faults modules end d ≡ [] → looked_faults interfaces modules end d ≡ []
   neither first second =
       λ i. map (module_told interfaces modules) (first i) ++ map (deployment_told (lacking (troupe_numbers d.troupes) modules)) (second i)
 
@@ -94,7 +90,7 @@ module _ (interfaces : List Interface) (modules : List ModuleTree) (end : ℕ) (
       ⊎ ((f : Fault deployed.Cause) × (least_from of_deployment.rank_of None (deployment_faults modules end d) ≡ Some f) × (fault ≡ of_deployed.answer_of (lacking (troupe_numbers d.troupes) modules) f))
 
   abbrev pub IsGiven : ProgramFault → Type 0
-  IsGiven answer = IsAnswerTo text (checked_faults interfaces modules end d) answer
+  IsGiven answer = IsAnswerTo text (looked_faults interfaces modules end d) answer
 
   -- a fault of modules is told
   module_is : (fault : CheckFault) (x : Fault ProgramCause) (f : Fault CheckCause) → modules_answer (module_names modules) fault ≡ Some x → fault ≡ of_check.answer_of interfaces modules f → x ≡ module_told interfaces modules f
@@ -118,13 +114,13 @@ module _ (interfaces : List Interface) (modules : List ModuleTree) (end : ℕ) (
       → answer ≡ Refused (line_of text x.place) x.cause → IsGiven answer
   first_given fault x answer told (inl none) clean given = absurd (module_given fault x told none)
   first_given fault x answer told (inr (f, least, is)) clean given =
-      (x, subst (λ g. IsLeast rank_of g (checked_faults interfaces modules end d)) (sym (module_is fault x f told is)) (first_alone interfaces modules end d f least clean), given)
+      (x, subst (λ g. least_from rank_of None (looked_faults interfaces modules end d) ≡ Some g) (sym (module_is fault x f told is)) (first_alone interfaces modules end d f least clean), given)
 
   pub second_given : (fault : DeploymentFault) (x : Fault ProgramCause) (answer : ProgramFault) → deployment_answer fault ≡ Some x → faults interfaces modules ≡ [] → DeploymentAnswers fault
       → answer ≡ Refused (line_of text x.place) x.cause → IsGiven answer
   second_given fault x answer told clean (inl none) given = absurd (deployment_given fault x told none)
   second_given fault x answer told clean (inr (f, least, is)) given =
-      (x, subst (λ g. IsLeast rank_of g (checked_faults interfaces modules end d)) (sym (deployment_is fault x f told is)) (second_alone interfaces modules end d f clean least), given)
+      (x, subst (λ g. least_from rank_of None (looked_faults interfaces modules end d) ≡ Some g) (sym (deployment_is fault x f told is)) (second_alone interfaces modules end d f clean least), given)
 
   pub both_given : (fault : CheckFault) (other : DeploymentFault) (x y h : Fault ProgramCause) (answer : ProgramFault) → modules_answer (module_names modules) fault ≡ Some x → ModulesAnswer fault
       → deployment_answer other ≡ Some y → DeploymentAnswers other → Some h ≡ lesser rank_of (Some x) y → answer ≡ Refused (line_of text h.place) h.cause → IsGiven answer

@@ -27,7 +27,7 @@ use Rattle.circus_fault.specs.Least.{least_from}
 use Rattle.circus_fault.specs.Stopping.{stop_faults}
 use Rattle.circus_fault.specs.Known.{nobody}
 use Rattle.circus_fault.proofs.Items.{none_in}
-use Rattle.circus_fault.proofs.LeastIs.{least_is, no_least}
+use Rattle.circus_fault.proofs.LeastIs.{no_least}
 use Rattle.circus_fault.proofs.Stopping.{no_stop}
 use Rattle.circus_idl.specs.declared.interface.Interface.{Interface}
 use Rattle.circus_idl.specs.Faults.{cut_of}
@@ -38,6 +38,7 @@ use Rattle.circus_file.specs.ProgramReading.{program}
 use Rattle.circus_file.proofs.Programs.{programs_lawful}
 use Rattle.circus_file.proofs.Whole.{program_whole}
 use Rattle.circus_check.specs.Read.{IsRead}
+use Rattle.circus_check.specs.TextOrder.{AreModulesOf}
 use Rattle.circus_check.specs.Meaning.{modules_meant}
 use Rattle.circus_check.specs.Seen.Meant.{module_as}
 use Rattle.circus_deployment.specs.Meaning.{deployment_meant}
@@ -48,12 +49,13 @@ use Rattle.circus_config.specs.declared.program_fault.ProgramFault.{ProgramFault
 use Rattle.circus_config.specs.declared.program_fault.ProgramFault.TheVariants.{Refused, NoMemory}
 use Rattle.circus_config.specs.declared.least.Found.{Found}
 use Rattle.circus_config.specs.declared.least.Least.{Least}
-use Rattle.circus_config.specs.Seen.{fault_of, kept}
+use Rattle.circus_config.specs.Seen.{fault_of, kept, looked_faults}
 use Rattle.circus_config.specs.Rank.{rank_of}
 use Rattle.circus_config.specs.Told.{module_names}
 use Rattle.circus_config.specs.Checking.{checked_faults}
 use Rattle.circus_config.specs.Reading.{interfaces_faults, read_faults}
 use Rattle.circus_config.specs.Program.{EachMeans, placed, IsFile, IsStopOf, IsReadOf, IsAnswerTo, IsProgramOf, IsRefused, format_number}
+use Rattle.circus_config.proofs.Looked.{modules_in_text, same_least, none_looked}
 use Rattle.circus_config.proofs.Rules.{clean_of, all_obey, as_many}
 
 -- the reader stays one of the same text
@@ -179,25 +181,36 @@ module _ (text : List ℕ) (found : List Token) (tree : ProgramTree) (s : Reader
           written = subst (λ (t : ProgramTree). IsDeploymentText t.deployment) (sym stands) are.good.2;
         }
 
-    pub ok_program : (r : Result Plan ProgramFault) → length text ≤ longest_text → AreTokensOf text found → IfOk r (λ p. checked_faults interfaces tree.modules (length text) tree.deployment ≡ [])
+    in_text : AreTokensOf text found → AreModulesOf text tree.modules
+    in_text tokens = subst (λ (t : ProgramTree). AreModulesOf text t.modules) (sym stands) (modules_in_text text found written tokens are)
+
+    pub ok_program : (r : Result Plan ProgramFault) → length text ≤ longest_text → AreTokensOf text found → IfOk r (λ p. looked_faults interfaces tree.modules (length text) tree.deployment ≡ [])
         → IfOk r (λ (p : Plan). p.checked.interfaces ≡ interfaces) → IfOk r (λ (p : Plan). map module_as p.checked.modules ≡ modules_meant interfaces tree.modules 0 tree.modules)
         → IfOk r (λ (p : Plan). p.names ≡ module_names tree.modules) → IfOk r (λ (p : Plan). p.deployment ≡ deployment_meant tree.modules (format_number tree.format) tree.deployment) → IfOk r (IsProgramOf text)
     ok_program (Err e) short tokens faultless same modules names deployment = tt
     ok_program (Ok p) short tokens faultless same modules names deployment = record {
       tree = tree;
       file = subst (IsFile text tree) (sym same) (file short tokens);
-      faultless = ap (λ is. checked_faults is tree.modules (length text) tree.deployment) same ∙ faultless;
+      faultless =
+          ap (λ is. checked_faults is tree.modules (length text) tree.deployment) same
+          ∙ none_looked text interfaces tree.modules (length text) tree.deployment (in_text tokens) faultless;
       modules = modules ∙ ap (λ is. modules_meant is tree.modules 0 tree.modules) (sym same);
       names = names;
       deployment = deployment;
     }
 
     pub err_program : (r : Result Plan ProgramFault) → length text ≤ longest_text → AreTokensOf text found
-        → IfErr r (λ e. (e ≡ NoMemory) ⊎ IsAnswerTo text (checked_faults interfaces tree.modules (length text) tree.deployment) e) → IfErr r (λ e. (e ≡ NoMemory) ⊎ IsRefused text e)
+        → IfErr r (λ e. (e ≡ NoMemory) ⊎ IsAnswerTo text (looked_faults interfaces tree.modules (length text) tree.deployment) e) → IfErr r (λ e. (e ≡ NoMemory) ⊎ IsRefused text e)
     err_program (Ok p) short tokens err = tt
     err_program (Err e) short tokens (inl none) = inl none
-    err_program (Err e) short tokens (inr given) = inr (inr (inr (inr (record { tree = tree; interfaces = interfaces; file = file short tokens; given = given }))))
+    err_program (Err e) short tokens (inr (fault, least, given)) =
+        inr (inr (inr (inr (record {
+          tree = tree;
+          interfaces = interfaces;
+          file = file short tokens;
+          given = (fault, sym (same_least text interfaces tree.modules (length text) tree.deployment (in_text tokens)) ∙ least, given);
+        }))))
 
 -- the least fault of the pass that reads, as what is kept
 pub answered : (text : List ℕ) (faults : List (Fault ProgramCause)) (x : Fault ProgramCause) (answer : ProgramFault) → least_from rank_of None faults ≡ Some x → answer ≡ Refused (line_of text x.place) x.cause → IsAnswerTo text faults answer
-answered text faults x answer least given = (x, least_is rank_of faults x least, given)
+answered text faults x answer least given = (x, least, given)

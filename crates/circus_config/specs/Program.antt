@@ -17,7 +17,7 @@ use Rattle.circus_syntax.specs.Reader.{open_at, place_in}
 use Rattle.circus_syntax.specs.Spelling.{most_levels}
 use Rattle.circus_expression.specs.Ending.{Are, IsUnexpected, IsTooDeep, IsFilledIn}
 use Rattle.circus_fault.specs.declared.fault.Fault.{Fault}
-use Rattle.circus_fault.specs.Least.{IsLeast}
+use Rattle.circus_fault.specs.Least.{least_from}
 use Rattle.circus_idl.specs.declared.interface.Interface.{Interface}
 use Rattle.circus_idl.specs.Means.{Means}
 use Rattle.circus_file.specs.declared.program_text.Format.{Format}
@@ -78,6 +78,13 @@ pub record IsProgramOf (text : List ℕ) (plan : Plan) : Type 0 where
   pub names : plan.names ≡ module_names tree.modules
   pub deployment : plan.deployment ≡ deployment_meant tree.modules (format_number tree.format) tree.deployment
 
+-- two plans say the same: deployments, names, interfaces and modules are equal
+pub record SaysSame (plan other : Plan) : Type 0 where
+  pub deployment : plan.deployment ≡ other.deployment
+  pub names : plan.names ≡ other.names
+  pub interfaces : plan.checked.interfaces ≡ other.checked.interfaces
+  pub modules : map module_as plan.checked.modules ≡ map module_as other.checked.modules
+
 -- ---- refusals
 
 -- no program goes on with the next token, or only such as have too many levels
@@ -91,9 +98,10 @@ IsReadOf ts end None w = Are spelling_program IsProgram ts w × AreWithin most_l
 IsReadOf ts end (Some s) w =
     (left : List Placed) × IsFilledIn spelling_program IsProgram most_levels ts left s.place w × (s.place ≡ place_in left end) × IsStopOf s.cause ts left
 
--- the answer to a fault of these
+-- the answer to faults: the line and the cause of the least of them
 abbrev pub IsAnswerTo : List ℕ → List (Fault ProgramCause) → ProgramFault → Type 0
-IsAnswerTo text faults answer = (fault : Fault ProgramCause) × IsLeast rank_of fault faults × (answer ≡ Refused (line_of text fault.place) fault.cause)
+IsAnswerTo text faults answer =
+    (fault : Fault ProgramCause) × (least_from rank_of None faults ≡ Some fault) × (answer ≡ Refused (line_of text fault.place) fault.cause)
 
 -- the pass that reads finds a fault
 pub record IsMisread (text : List ℕ) (found : List Token) (answer : ProgramFault) : Type 0 where

@@ -1,23 +1,35 @@
--- How code is seen: what is found so far, and how the answers of the crates below are told.
-use Rattle.std.specs.Prelude.{ℕ, List, Option, Some, None, option_map}
+-- How code is seen: what is found so far, which faults are looked for, and how the answers of the crates below are told.
+use Rattle.std.specs.Prelude.{ℕ, List, ◌++◌, map, Option, Some, None, option_map}
 use Rattle.circus_fault.specs.declared.fault.Fault.{Fault}
+use Rattle.circus_idl.specs.declared.interface.Interface.{Interface}
 use Rattle.circus_idl.specs.declared.idl_fault.IdlFault.{IdlFault}
 use Rattle.circus_idl.specs.declared.idl_fault.IdlFault.TheVariants as interface
+use Rattle.circus_lang.specs.ModuleTree.{ModuleTree}
+use Rattle.circus_check.specs.Faults.{faults}
 use Rattle.circus_check.specs.declared.check_fault.CheckFault.{CheckFault}
 use Rattle.circus_check.specs.declared.check_fault.CheckFault.TheVariants as check
+use Rattle.circus_troupe.specs.declared.deployment_text.DeploymentText.{DeploymentText}
+use Rattle.circus_deployment.specs.Nodes.{troupe_numbers}
+use Rattle.circus_deployment.specs.Faults.{lacking, deployment_faults}
 use Rattle.circus_deployment.specs.declared.deployment_fault.DeploymentFault.{DeploymentFault}
 use Rattle.circus_deployment.specs.declared.deployment_fault.DeploymentFault.TheVariants as deployment
 use Rattle.circus_config.specs.declared.program_fault.ProgramCause.{ProgramCause}
 use Rattle.circus_config.specs.declared.program_fault.ProgramCause.TheVariants.{Syntax, Deep, UnknownName, Repeated, OutOfRange, TooLarge, Mistyped, NoReturn, Forward, Shared, Missing, TooMany}
 use Rattle.circus_config.specs.declared.least.Found.{Found}
 use Rattle.circus_config.specs.declared.least.Least.{Least}
-use Rattle.circus_config.specs.Told.{name_at}
+use Rattle.circus_config.specs.Told.{name_at, module_told, deployment_told}
 
 abbrev pub fault_of : Found → Fault ProgramCause
 fault_of f = record { place = f.place; cause = f.cause }
 
 abbrev pub kept : Least → Option (Fault ProgramCause)
 kept l = option_map fault_of l.found
+
+-- the faults of the pass that checks, where bodies behind a fault aren't looked into
+abbrev pub looked_faults : List Interface → List ModuleTree → ℕ → DeploymentText → List (Fault ProgramCause)
+looked_faults interfaces modules end d =
+    map (module_told interfaces modules) (faults interfaces modules)
+    ++ map (deployment_told (lacking (troupe_numbers d.troupes) modules)) (deployment_faults modules end d)
 
 -- ---- answers of the crates below; want of memory is no fault of a file
 

@@ -1,5 +1,5 @@
 -- The faults of interfaces, of modules and of deployments as a program file tells them: modules by their names.
-use Rattle.std.specs.Prelude.{ℕ, suc, List, [], map, take, Option, Some, None, unwrap_or, slice_get}
+use Rattle.std.specs.Prelude.{ℕ, suc, List, [], ◌∷◌, map, take, Option, Some, None, unwrap_or, slice_get}
 use Rattle.circus_fault.specs.declared.fault.Fault.{Fault}
 use Rattle.circus_idl.specs.declared.fault.Cause as idl
 use Rattle.circus_idl.specs.declared.fault.Cause.TheVariants as interface
@@ -13,7 +13,9 @@ use Rattle.circus_check.specs.Answer.{lacks, shares, SharedBy}
 use Rattle.circus_deployment.specs.declared.cause.Cause as deployed
 use Rattle.circus_deployment.specs.declared.cause.Cause.TheVariants as deployment
 use Rattle.circus_config.specs.declared.program_fault.ProgramCause.{ProgramCause}
-use Rattle.circus_config.specs.declared.program_fault.ProgramCause.TheVariants.{Syntax, Deep, UnknownName, Repeated, OutOfRange, TooLarge, Mistyped, NoReturn, Forward, Shared, Missing, TooMany}
+use Rattle.circus_config.specs.declared.program_fault.ProgramCause.TheVariants.{BadCharacter, OpenString, LongNumber, Syntax, Deep, UnknownName, Repeated, OutOfRange, TooLarge, Mistyped, NoReturn, Forward, Shared, Missing, TooMany}
+use Rattle.circus_config.specs.declared.program_fault.ProgramFault.{ProgramFault}
+use Rattle.circus_config.specs.declared.program_fault.ProgramFault.TheVariants.{Refused, NoMemory}
 
 -- ---- interfaces
 
@@ -75,3 +77,26 @@ deployment_cause lacks deployment.TooMany = TooMany
 
 abbrev pub deployment_told : Option (List ℕ) → Fault deployed.Cause → Fault ProgramCause
 deployment_told lacks f = record { place = f.place; cause = deployment_cause lacks f.cause }
+
+-- ---- what an answer names
+
+abbrev pub names_in : ProgramCause → List (List ℕ)
+names_in BadCharacter = []
+names_in OpenString = []
+names_in LongNumber = []
+names_in Syntax = []
+names_in Deep = []
+names_in UnknownName = []
+names_in Repeated = []
+names_in OutOfRange = []
+names_in TooLarge = []
+names_in Mistyped = []
+names_in NoReturn = []
+names_in Forward = []
+names_in (Shared shared first second) = shared ∷ first ∷ second ∷ []
+names_in (Missing name) = name ∷ []
+names_in TooMany = []
+
+abbrev pub names_told : ProgramFault → List (List ℕ)
+names_told (Refused line cause) = names_in cause
+names_told NoMemory = []

@@ -9,11 +9,12 @@ ghost use Rattle.circus_file.specs.ProgramTree.{program_of};
 ghost use Rattle.circus_check.specs.Read.{IsRead};
 ghost use Rattle.circus_check.specs.Meaning.{modules_meant};
 ghost use Rattle.circus_check.specs.Seen.Meant.{module_as};
+ghost use Rattle.circus_check.specs.WellFormed.{AreWellFormed};
 ghost use Rattle.circus_collate.specs.Deployment.{IsDeployment};
 ghost use Rattle.circus_deployment.specs.Meaning.{deployment_meant};
 ghost use Rattle.circus_config.specs.declared.program_fault.ProgramFault.{ProgramFault};
 ghost use Rattle.circus_config.specs.Told.{module_names};
-ghost use Rattle.circus_config.specs.Checking.{checked_faults};
+ghost use Rattle.circus_config.specs.Seen.{looked_faults};
 ghost use Rattle.circus_config.specs.Program.{format_number, IsAnswerTo};
 
 use crate::least::refused;
@@ -56,13 +57,14 @@ pub fn plan(
     requires few { length interfaces ≤ 32 }
     requires read { AllByRecursion IsRead (program_of text).modules }
     requires written { IsDeploymentText text.deployment }
-    ensures faultless { IfOk result (λ plan. checked_faults interfaces (program_of text).modules (length bytes.now) text.deployment ≡ []) }
+    ensures faultless { IfOk result (λ plan. looked_faults interfaces (program_of text).modules (length bytes.now) text.deployment ≡ []) }
     ensures same { IfOk result (λ plan. plan.checked.interfaces ≡ interfaces) }
     ensures modules { IfOk result (λ plan. map module_as plan.checked.modules ≡ modules_meant interfaces (program_of text).modules 0 (program_of text).modules) }
+    ensures well_formed { IfOk result (λ plan. AreWellFormed plan.checked.interfaces (map module_as plan.checked.modules)) }
     ensures names { IfOk result (λ plan. plan.names ≡ module_names (program_of text).modules) }
     ensures deployment { IfOk result (λ plan. plan.deployment ≡ deployment_meant (program_of text).modules (format_number text.format) text.deployment) }
     ensures obeys { IfOk result (λ plan. IsDeployment plan.deployment) }
-    ensures err { IfErr result (λ e. (e ≡ ProgramFault.NoMemory) ⊎ IsAnswerTo bytes.now (checked_faults interfaces (program_of text).modules (length bytes.now) text.deployment) e) }
+    ensures err { IfErr result (λ e. (e ≡ ProgramFault.NoMemory) ⊎ IsAnswerTo bytes.now (looked_faults interfaces (program_of text).modules (length bytes.now) text.deployment) e) }
 {
     let ProgramText {
         format,

@@ -2,11 +2,13 @@
 //!
 //! `read` goes over a file in three passes: its tokens, the interfaces with their rules in `interfaces`, and the modules and
 //! the deployment in `checking`. `told` says how each fault is told; `least` keeps the least of them, and refuses a file for
-//! it. `plan` has what a file means, `program_fault` why one is refused, and `limits` how many interfaces there may be.
+//! it. `plan` has what a file means, `program_fault` why one is refused, `limits` how many interfaces there may be and how
+//! large values, and `laws` what holds of every file.
 #![tactic(auto)]
 
 mod checking;
 mod interfaces;
+mod laws;
 mod least;
 mod limits;
 mod plan;
@@ -14,6 +16,7 @@ mod program_fault;
 mod read;
 mod told;
 
+pub use laws::{answer_is_least, one_answer};
 pub use plan::{Names, Plan};
 pub use program_fault::{ProgramCause, ProgramFault};
 pub use read::read_program;

@@ -1,4 +1,8 @@
 // What a program file means.
+ghost use Rattle.std.specs.Prelude.{◌≡◌};
+ghost use Rattle.circus_config.specs.Limits.{limit_of};
+
+use crate::limits::{FIRST_LIMIT, SECOND_LIMIT};
 use circus_check::Checked;
 use circus_collate::Deployment;
 use circus_value::{ListOf, Name};
@@ -12,4 +16,17 @@ pub struct Plan {
     pub deployment: Deployment,
     pub names: Names,
     pub checked: Checked,
+}
+
+impl Plan {
+    /// How many bytes a value of the program has at most, and so the state of a module: 65,536 or 1,048,576, by its format.
+    pub fn limit(&self) -> u32
+        ensures { result ≡ limit_of self.now.deployment.format }
+    {
+        if self.deployment.format == 1 {
+            FIRST_LIMIT
+        } else {
+            SECOND_LIMIT
+        }
+    }
 }

@@ -1,10 +1,15 @@
 // Reading program files.
-ghost use Rattle.std.specs.Prelude.{◌≡◌, ◌⊎◌, ◌≤◌, All, length, IfOk, IfErr};
+ghost use Rattle.std.specs.Prelude.{◌≡◌, ◌⊎◌, ◌≤◌, All, IsAscii, length, map, IfOk, IfErr};
+ghost use Rattle.std.specs.List.{AllByRecursion};
 ghost use Rattle.circus_text.specs.Form.{longest_text};
 ghost use Rattle.circus_text.specs.Token.{IsTokenIn};
 ghost use Rattle.circus_text.specs.Division.{AreTokensOf};
+ghost use Rattle.circus_idl.specs.Obeys.{Obeys};
+ghost use Rattle.circus_check.specs.Seen.Meant.{module_as};
+ghost use Rattle.circus_check.specs.WellFormed.{AreWellFormed};
 ghost use Rattle.circus_collate.specs.Deployment.{IsDeployment};
 ghost use Rattle.circus_config.specs.declared.program_fault.ProgramFault.{ProgramFault};
+ghost use Rattle.circus_config.specs.Told.{names_told};
 ghost use Rattle.circus_config.specs.Program.{lexical_answer, IsProgramOf, IsRefused};
 
 use crate::checking::plan;
@@ -52,6 +57,7 @@ fn read_tokens(alloc: Global, bytes: &[u8], found: &[Token]) -> Result<Plan, Pro
     requires tokens { AreTokensOf bytes.now found.now }
     requires each { All (IsTokenIn bytes.now) found.now }
     ensures ok { IfOk result (IsProgramOf bytes.now) }
+    ensures well_formed { IfOk result (λ plan. AreWellFormed plan.checked.interfaces (map module_as plan.checked.modules)) }
     ensures deployed { IfOk result (λ plan. IsDeployment plan.deployment) }
     ensures err { IfErr result (λ e. (e ≡ ProgramFault.NoMemory) ⊎ IsRefused bytes.now e) }
 {
@@ -73,7 +79,23 @@ fn read_tokens(alloc: Global, bytes: &[u8], found: &[Token]) -> Result<Plan, Pro
 pub fn read_program(alloc: Global, bytes: &[u8]) -> Result<Plan, ProgramFault>
     ensures ok { IfOk result (IsProgramOf bytes.now) }
 
-    // The deployment obeys the rules of deployments as a whole.
+    // The interfaces, the modules and the deployment obey their rules as a whole.
+    ensures obey { IfOk result (λ plan. AllByRecursion Obeys plan.checked.interfaces) }
+    ensures well_formed { IfOk result (λ plan. AreWellFormed plan.checked.interfaces (map module_as plan.checked.modules)) }
+    ensures deployed { IfOk result (λ plan. IsDeployment plan.deployment) }
+    ensures err { IfErr result (λ e. (e ≡ ProgramFault.NoMemory) ⊎ IsRefused bytes.now e) }
+
+    // What is named is ASCII.
+    ensures named { IfOk result (λ plan. All IsAscii plan.names) }
+    ensures told { IfErr result (λ e. All IsAscii (names_told e)) }
+{
+    read_lexed(alloc, bytes)
+}
+
+// Reads the tokens, where the file has them.
+fn read_lexed(alloc: Global, bytes: &[u8]) -> Result<Plan, ProgramFault>
+    ensures ok { IfOk result (IsProgramOf bytes.now) }
+    ensures well_formed { IfOk result (λ plan. AreWellFormed plan.checked.interfaces (map module_as plan.checked.modules)) }
     ensures deployed { IfOk result (λ plan. IsDeployment plan.deployment) }
     ensures err { IfErr result (λ e. (e ≡ ProgramFault.NoMemory) ⊎ IsRefused bytes.now e) }
 {

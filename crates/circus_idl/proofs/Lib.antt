@@ -21,7 +21,7 @@ mod ErrorsFound
 mod PlainGrammar
 mod PlainFields
 mod PlainFaults
-mod PlainMeaning
+pub mod PlainMeaning
 mod PlainShown
 mod ShownAgain
 mod ReadAgain
