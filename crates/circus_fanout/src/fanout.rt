@@ -140,6 +140,13 @@ impl Fanout {
         }
     }
 
+    /// What was said at a place, by which node. `None` exactly past the last. It takes no memory.
+    pub fn said_at(&self, place: usize) -> Option<&Said<Reply>>
+        ensures { option_copied result ≡ slice_get self.now.said place }
+    {
+        self.said.get(place)
+    }
+
     /// The header that it began with. It takes no memory.
     pub fn header(&self) -> &CallHeader
         ensures { result.now ≡ self.now.header }

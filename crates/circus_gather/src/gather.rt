@@ -100,6 +100,13 @@ impl Gather {
         self.replies.get(&index)
     }
 
+    /// The greatest incarnation of the state requests so far, or 0. It takes no memory.
+    pub fn required(&self) -> u32
+        ensures { result ≡ self.now.required }
+    {
+        self.required
+    }
+
     /// The held call that the collator gives for the run of an index, over those that count: they are of that index
     /// and not of an older view than required, and their client's view is known. `None` exactly where it gives none.
     pub fn ready(

@@ -227,7 +227,8 @@ activates b step state count p is_state within h = by_test (is_fetching p.kept.p
         let none : p.kept.runs ≡ [] = h.inactive (fetching_is_inactive p.kept.phase is) in
         rw none (record { now = inl (none_performed b (Active count) count step state within is_state); inactive = λ _. refl })
 
-act_keeps : (b : Behaviour) → IsModule b → (act : Act) (p : Performing Behaviour) → CanHappen b act p.kept → IsRecord b p.began p.kept → IsRecord b (after b act p).began (after b act p).kept
+-- what each lawful act keeps
+pub act_keeps : (b : Behaviour) → IsModule b → (act : Act) (p : Performing Behaviour) → CanHappen b act p.kept → IsRecord b p.began p.kept → IsRecord b (after b act p).began (after b act p).kept
 act_keeps b lawful Joins p can h = in_phase b (after_join p.kept.phase) p.began p.kept (still_inactive_joining p.kept.phase) h
 act_keeps b lawful (Tabled table) p can h = in_phase b (after_table table p.kept.phase) p.began p.kept (still_inactive_taken table p.kept.phase) h
 act_keeps b lawful (Activates step state count) p can h = activates b step state count p can.0 can.1 h

@@ -2,5 +2,5 @@ mod Booting
 mod Deploying
 mod Performing
 mod Staying
-mod Tabling
+pub mod Tabling
 mod TableSteps
