@@ -199,5 +199,5 @@ pub fn show_history(
         history,
     };
     let shown = format!(in alloc; "{text}")?;
-    ListOf::from_text(alloc, &shown)
+    Ok(ListOf::of(shown.into_bytes()))
 }

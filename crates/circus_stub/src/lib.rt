@@ -25,7 +25,7 @@ pub use compiler::compile;
 pub use fault::StubFault;
 pub use laws::{obeying_interfaces_are_proper, packed_is_unpacked, unpacked_is_packed};
 pub use operation::Operation;
-pub use show::show_stubs;
+pub use show::{append_stubs, show_stubs};
 pub use stubs::{Stubs, StubsList};
 
 /// Operations in order.

@@ -24,12 +24,25 @@ pub fn show_stubs(alloc: Global, interface: &Interface, stubs: &Stubs) -> Result
     ensures { IfOk result (λ text. text ≡ stubs_text interface.now) }
 {
     let mut text = Octets::new(alloc);
-    add_interface(alloc, &mut text, interface)?;
-    let errors = interface.errors.as_slice();
-    add_errors(alloc, &mut text, errors, stubs.errors.as_slice())?;
-    let procedures = interface.procedures.as_slice();
-    add_procedures(alloc, &mut text, procedures, stubs.procedures.as_slice())?;
+    append_stubs(alloc, &mut text, interface, stubs)?;
     Ok(text)
+}
+
+/// Adds the text of an interface's stubs behind what stands there. After `NoMemory` a part of it is added.
+pub fn append_stubs(
+    alloc: Global,
+    text: &mut Octets,
+    interface: &Interface,
+    stubs: &Stubs,
+) -> Result<(), NoMemory>
+    requires { stubs.now ≡ compiled interface.now stubs.now.limit }
+    ensures { OnOk result (text.new ≡ text.old ++ stubs_text interface.now) }
+{
+    add_interface(alloc, text, interface)?;
+    let errors = interface.errors.as_slice();
+    add_errors(alloc, text, errors, stubs.errors.as_slice())?;
+    let procedures = interface.procedures.as_slice();
+    add_procedures(alloc, text, procedures, stubs.procedures.as_slice())
 }
 
 fn add_interface(alloc: Global, text: &mut Octets, interface: &Interface) -> Result<(), NoMemory>
