@@ -1,8 +1,8 @@
 // Modules that are accepted.
-use crate::program::checked;
 use circus_value::Numbers;
 use std::alloc::Global;
 use std::test::Fail;
+use tests_sources::checked;
 
 /// How many interfaces stand in a text, the text, and how many modules are answered.
 type Row = (usize, &'static [u8], usize);
@@ -63,7 +63,7 @@ const PROGRAMS: [Row; 11] = [
 
 // How many modules are answered of a text.
 fn accepted(alloc: Global, interfaces: usize, text: &[u8]) -> Result<Option<usize>, Fail> {
-    match checked(alloc, text, interfaces)? {
+    match checked(alloc, interfaces, text)? {
         Ok(checked) => Ok(Some(checked.modules.len())),
         Err(_) => Ok(None),
     }
@@ -84,7 +84,7 @@ const WHEEL: &[u8] =
 // How many statements the bodies of the first module have.
 fn statements(alloc: Global, text: &[u8]) -> Result<Numbers, Fail> {
     let mut counts = Numbers::new(alloc);
-    if let Ok(checked) = checked(alloc, text, 1)? {
+    if let Ok(checked) = checked(alloc, 1, text)? {
         if let Some(module) = checked.modules.get(0) {
             for body in module.bodies.as_slice() {
                 counts.push(body.statements.len().min(65_535) as u16)?;
@@ -103,7 +103,7 @@ fn bodies_stand_in_the_order_of_the_interface(rt: HostRuntime) -> Result<(), Fai
 
 #[test]
 fn interfaces_are_handed_back(rt: HostRuntime) -> Result<(), Fail> {
-    let count = match checked(rt.alloc(), WHEEL, 1)? {
+    let count = match checked(rt.alloc(), 1, WHEEL)? {
         Ok(checked) => checked.interfaces().len(),
         Err(_) => 0,
     };

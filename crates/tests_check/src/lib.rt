@@ -4,6 +4,4 @@
 #[cfg(test)]
 mod accepted;
 #[cfg(test)]
-mod program;
-#[cfg(test)]
 mod refused;

@@ -1,8 +1,12 @@
 // Modules that are refused. The mark in each text stands in front of the place that is told.
-use crate::program::{checked, marked};
 use circus_check::CheckFault;
+use circus_value::{NoMemory, Octets};
 use std::alloc::Global;
 use std::test::Fail;
+use tests_sources::checked;
+
+/// What stands in a text in front of the place of its fault.
+const MARK: u8 = b'@';
 
 /// Why a module is refused.
 #[derive(Clone, Copy)]
@@ -21,6 +25,23 @@ enum Cause {
 
 /// A text, and why it is refused.
 type Row = (&'static [u8], Cause);
+
+// The text of a row in its frame, without the mark, and the place of the mark, or the end where there is none.
+fn marked(alloc: Global, frame: &[&[u8]; 2], row: &[u8]) -> Result<(Octets, u64), NoMemory> {
+    let mut text = Octets::new(alloc);
+    let mut place = None;
+    text.append(frame[0])?;
+    for byte in row {
+        if *byte == MARK {
+            place = Some(text.len() as u64);
+        } else {
+            text.push(*byte)?;
+        }
+    }
+    text.append(frame[1])?;
+    let end = text.len() as u64;
+    Ok((text, place.unwrap_or(end)))
+}
 
 // Whether this fault is told at the place.
 fn is_told(fault: &CheckFault, at: u64, cause: Cause) -> bool {
@@ -54,7 +75,7 @@ fn first_other(
 ) -> Result<Option<usize>, Fail> {
     for (number, (text, cause)) in rows.iter().enumerate() {
         let (whole, at) = marked(alloc, frame, text)?;
-        let Some(fault) = checked(alloc, whole.as_slice(), interfaces)?.err() else {
+        let Some(fault) = checked(alloc, interfaces, whole.as_slice())?.err() else {
             return Ok(Some(number));
         };
         if !is_told(&fault, at, *cause) {

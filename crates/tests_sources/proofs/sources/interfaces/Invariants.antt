@@ -1,6 +1,6 @@
 use Rattle.std.specs.List.{AllByRecursion}
 use Rattle.circus_idl.specs.Obeys.{Obeys}
-use Rattle.tests_modules.proofs.program.interfaces.Given as goal
+use Rattle.tests_sources.proofs.sources.interfaces.Given as goal
 
 abbrev pub invariant-loop : goal.invariant-loop
 invariant-loop l = AllByRecursion Obeys l.list

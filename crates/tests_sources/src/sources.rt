@@ -1,4 +1,4 @@
-// Programs as their texts stand, and what checking each of them answers.
+// Programs as their texts stand.
 ghost use Rattle.std.specs.Prelude.{◌≤◌, length, map, All, IfOk};
 ghost use Rattle.std.specs.List.{AllByRecursion};
 ghost use Rattle.circus_text.specs.Form.{longest_text};
@@ -6,34 +6,18 @@ ghost use Rattle.circus_text.specs.Token.{IsTokenIn};
 ghost use Rattle.circus_idl.specs.Obeys.{Obeys};
 ghost use Rattle.circus_lang.specs.ModuleTree.{module_of};
 ghost use Rattle.circus_check.specs.Read.{IsRead};
+ghost use Rattle.circus_check.specs.Seen.Meant.{module_as};
+ghost use Rattle.circus_check.specs.WellFormed.{AreWellFormed};
 
+use crate::Unread;
 use circus_check::{CheckFault, Checked, Interfaces, check};
 use circus_idl::read_interface;
 use circus_lang::{ModuleTexts, read_module};
 use circus_text::{LONGEST_TEXT, TokenList, tokens};
-use circus_value::{NoMemory, Octets};
 use std::alloc::Global;
-use std::test::Fail;
 
-/// What stands in a text in front of the place of its fault.
-const MARK: u8 = b'@';
-
-/// The text of a row in its frame, without the mark, and the place of the mark, or the end where there is none.
-pub fn marked(alloc: Global, frame: &[&[u8]; 2], row: &[u8]) -> Result<(Octets, u64), NoMemory> {
-    let mut text = Octets::new(alloc);
-    let mut place = None;
-    text.append(frame[0])?;
-    for byte in row {
-        if *byte == MARK {
-            place = Some(text.len() as u64);
-        } else {
-            text.push(*byte)?;
-        }
-    }
-    text.append(frame[1])?;
-    let end = text.len() as u64;
-    Ok((text, place.unwrap_or(end)))
-}
+// How many interfaces a program has at most.
+const MOST_INTERFACES: usize = 32;
 
 // The interfaces at the front of a text, and the token behind them.
 fn interfaces(
@@ -41,7 +25,7 @@ fn interfaces(
     text: &[u8],
     found: &TokenList,
     count: usize,
-) -> Result<(Interfaces, usize), Fail>
+) -> Result<(Interfaces, usize), Unread>
     requires of_text { All (IsTokenIn text.now) found.now }
     requires short { length text.now ≤ longest_text }
     ensures { IfOk result (λ read. AllByRecursion Obeys read.0) }
@@ -49,8 +33,8 @@ fn interfaces(
     let mut list = Interfaces::new(alloc);
     let mut at = 0;
     for _ in 0..count {
-        if at > found.len() {
-            return Ok((list, at));
+        if at >= found.len() {
+            return Err(Unread::TooFew);
         }
         let (interface, next) = read_interface(alloc, text, found, at)?;
         list.push(interface)?;
@@ -59,17 +43,22 @@ fn interfaces(
     Ok((list, at))
 }
 
-// The modules behind a token.
-fn modules(alloc: Global, text: &[u8], found: &TokenList, from: usize) -> Result<ModuleTexts, Fail>
+// The modules from a token on.
+fn modules(
+    alloc: Global,
+    text: &[u8],
+    found: &TokenList,
+    from: usize,
+) -> Result<ModuleTexts, Unread>
     requires of_text { All (IsTokenIn text.now) found.now }
     requires short { length text.now ≤ longest_text }
     ensures { IfOk result (λ list. AllByRecursion IsRead (map module_of list)) }
 {
     let mut list = ModuleTexts::new(alloc);
     let mut at = from;
-    for _ in 0..text.len() {
+    for _ in 0..found.len() {
         if at >= found.len() {
-            return Ok(list);
+            break;
         }
         let (module, next) = read_module(alloc, text, found, at)?;
         list.push(module)?;
@@ -78,20 +67,24 @@ fn modules(alloc: Global, text: &[u8], found: &TokenList, from: usize) -> Result
     Ok(list)
 }
 
-/// What the check answers of a text, in which so many interfaces stand in front of modules.
+/// What the check answers of a text, in which so many interfaces stand in front of modules. What each text is read as is
+/// said by the tests alone.
 pub fn checked(
     alloc: Global,
-    text: &[u8],
     count: usize,
-) -> Result<Result<Checked, CheckFault>, Fail> {
+    text: &[u8],
+) -> Result<Result<Checked, CheckFault>, Unread>
+    ensures obey { IfOk result (λ answer. IfOk answer (λ checked. AllByRecursion Obeys checked.interfaces)) }
+    ensures well_formed { IfOk result (λ answer. IfOk answer (λ checked. AreWellFormed checked.interfaces (map module_as checked.modules))) }
+{
     if text.len() > LONGEST_TEXT {
-        return Ok(Err(CheckFault::NoMemory));
+        return Err(Unread::TooLong);
     }
     let found = tokens(alloc, text)?;
-    let (list, at) = interfaces(alloc, text, &found, count)?;
-    if list.len() > 32 || at > found.len() {
-        return Ok(Err(CheckFault::NoMemory));
+    let (list, behind) = interfaces(alloc, text, &found, count)?;
+    if list.len() > MOST_INTERFACES {
+        return Err(Unread::TooMany);
     }
-    let texts = modules(alloc, text, &found, at)?;
+    let texts = modules(alloc, text, &found, behind)?;
     Ok(check(alloc, list, texts))
 }
