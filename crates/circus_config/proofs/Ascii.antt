@@ -1,11 +1,10 @@
 -- What a file and its refusal name is ASCII.
-use Rattle.std.proofs.Common.{◌≡◌, ℕ, zero, suc, ◌+◌, ◌<◌, ◌⊎◌, inl, inr, Bool, true, false, cond, List, [], ◌∷◌, ◌++◌, map, take, sym, ap, subst, Option, Some, None, Result, Ok, Err, IfOk, IfErr}
+use Rattle.std.proofs.Common.{◌≡◌, ℕ, zero, suc, ◌+◌, ◌<◌, ◌⊎◌, inl, inr, Bool, true, false, cond, List, [], ◌∷◌, ◌++◌, map, take, sym, subst, Option, Some, None, Result, Ok, Err, IfOk, IfErr}
 use Rattle.std.specs.Prelude.{◌==◌, is_some, is_none, IfSome, All, IsAscii, unwrap_or, slice_get}
 use Rattle.std.specs.List.{AllByRecursion}
-use Rattle.std.proofs.lemmas.List.Elements.{All-from_recursion, recursion_from_All}
+use Rattle.std.proofs.lemmas.List.Elements.{All-from_recursion}
 use Rattle.std.proofs.lemmas.Str.Ascii.{IsAscii-from_all}
 use Rattle.circus_text.specs.declared.lex_fault.LexFault.TheVariants as lexical
-use Rattle.circus_text.specs.declared.lex_fault.LexFault.{LexFault}
 use Rattle.circus_syntax.specs.declared.named.Named.{Named}
 use Rattle.circus_syntax.specs.declared.stopping.Stop.{Stop}
 use Rattle.circus_syntax.specs.declared.stopping.StopCause.{StopCause}
@@ -28,23 +27,21 @@ use Rattle.circus_resolve.specs.declared.cause.CheckCause.TheVariants as check
 use Rattle.circus_lang.specs.ModuleTree.{ModuleTree}
 use Rattle.circus_lang.specs.ModuleStanding.{module_stands_for}
 use Rattle.circus_lang.specs.WrittenModule.{WrittenModule, serving, root, IsModule}
-use Rattle.circus_file.specs.WrittenProgram.{WrittenProgram}
-use Rattle.circus_file.specs.ProgramTree.{ProgramTree, program_stands_for}
+use Rattle.circus_file.specs.ProgramTree.{ProgramTree}
 use Rattle.circus_check.specs.Limits.{most_modules}
 use Rattle.circus_check.specs.Naming.{at_number, interface_named, interface_called}
 use Rattle.circus_check.specs.Scope.{implemented_by}
 use Rattle.circus_check.specs.Faults.{has_procedure, lacking_of, lacking}
 use Rattle.circus_check.specs.Plain.{all}
-use Rattle.circus_check.specs.Answer.{SharedBy, or_else, lacks, shares}
+use Rattle.circus_check.specs.Answer.{SharedBy, or_else, lacks}
 use Rattle.circus_deployment.specs.declared.cause.Cause as deployed
 use Rattle.circus_deployment.specs.declared.cause.Cause.TheVariants as deployment
 use Rattle.circus_deployment.specs.Nodes.{troupe_numbers}
 use Rattle.circus_deployment.specs.Faults.{deployment_faults}
 use Rattle.circus_deployment.specs.Faults as of_deployment
-use Rattle.circus_troupe.specs.declared.deployment_text.DeploymentText.{DeploymentText}
 use Rattle.circus_config.specs.declared.plan.Plan.{Plan}
 use Rattle.circus_config.specs.declared.program_fault.ProgramCause.{ProgramCause}
-use Rattle.circus_config.specs.declared.program_fault.ProgramCause.TheVariants.{Syntax, Deep, Shared, Missing, Repeated, TooMany}
+use Rattle.circus_config.specs.declared.program_fault.ProgramCause.TheVariants.{Syntax, Deep, Repeated, TooMany}
 use Rattle.circus_config.specs.declared.program_fault.ProgramFault.{ProgramFault}
 use Rattle.circus_config.specs.declared.program_fault.ProgramFault.TheVariants.{NoMemory}
 use Rattle.circus_config.specs.Limits.{most_interfaces}
@@ -52,7 +49,7 @@ use Rattle.circus_config.specs.Rank.{rank_of}
 use Rattle.circus_config.specs.Told.{interface_cause, interface_told, module_names, name_at, shared_cause, lacking_cause, module_cause, module_told, deployment_cause, deployment_told, names_in, names_told}
 use Rattle.circus_config.specs.Reading.{name_faults, interfaces_faults, read_faults}
 use Rattle.circus_config.specs.Checking.{checked_faults}
-use Rattle.circus_config.specs.Program.{IsFile, IsProgramOf, IsAnswerTo, IsMisread, IsUnchecked, IsRefused}
+use Rattle.circus_config.specs.Program.{IsFile, IsProgramOf, IsAnswerTo, IsRefused}
 use Rattle.circus_lines.proofs.Words.{word_ascii}
 use Rattle.circus_config.proofs.Rules.{clean_of, all_obey}
 

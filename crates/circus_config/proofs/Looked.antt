@@ -1,5 +1,5 @@
 -- Bodies that aren't looked into change no answer, since modules that stand in a text are in its order.
-use Rattle.std.proofs.Common.{◌≡◌, ℕ, suc, List, [], ◌++◌, map, take, refl, sym, ◌∙◌, ap, subst, Option, Some, None, append_assoc}
+use Rattle.std.proofs.Common.{◌≡◌, ℕ, suc, List, [], ◌++◌, map, take, refl, sym, ◌∙◌, ap, subst, None, append_assoc}
 use Rattle.std.specs.Prelude.{option_map}
 use Rattle.circus_text.specs.declared.token.Token.{Token}
 use Rattle.circus_text.specs.Division.{AreTokensOf}
@@ -7,11 +7,9 @@ use Rattle.circus_text.proofs.TokensLie.{tokens_in, tokens_in_order}
 use Rattle.circus_syntax.specs.Placed.{Due, AreDue}
 use Rattle.circus_syntax.specs.Spelling.{each, spelling}
 use Rattle.circus_expression.specs.Ending.{Are}
-use Rattle.circus_fault.specs.declared.fault.Fault.{Fault}
 use Rattle.circus_fault.specs.Least.{least_from}
 use Rattle.circus_fault.proofs.LeastIs.{no_least}
 use Rattle.circus_fault.proofs.LeastMore.{least_more}
-use Rattle.circus_resolve.specs.declared.cause.CheckCause.{CheckCause}
 use Rattle.circus_resolve.specs.Causes.{rank}
 use Rattle.circus_idl.specs.declared.interface.Interface.{Interface}
 use Rattle.circus_lang.specs.ModuleTree.{ModuleTree}
@@ -28,7 +26,6 @@ use Rattle.circus_check.proofs.ModulesInText.{in_order}
 use Rattle.circus_check.proofs.SameLeast.{modules_same}
 use Rattle.circus_deployment.specs.Nodes.{troupe_numbers}
 use Rattle.circus_deployment.specs.Faults.{lacking, deployment_faults}
-use Rattle.circus_config.specs.declared.program_fault.ProgramCause.{ProgramCause}
 use Rattle.circus_config.specs.Rank.{rank_of}
 use Rattle.circus_config.specs.Told.{module_told, deployment_told}
 use Rattle.circus_config.specs.Checking.{checked_faults}

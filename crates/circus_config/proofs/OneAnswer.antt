@@ -1,14 +1,12 @@
 -- A file is one program, or is refused in one way, and not both.
-use Rattle.std.proofs.Common.{◌≡◌, ℕ, ◌⊎◌, inl, inr, List, [], ◌∷◌, length, map, refl, sym, ap, subst, ◌∙◌, arith, Option, Some, None, Result, Ok, Err}
+use Rattle.std.proofs.Common.{◌≡◌, ℕ, inl, inr, List, [], ◌∷◌, length, refl, sym, ap, subst, ◌∙◌, arith, Option, Some, None, Result, Ok, Err}
 use Rattle.circus_text.specs.declared.token.Token.{Token}
 use Rattle.circus_text.specs.declared.lex_fault.LexFault.{LexFault}
 use Rattle.circus_text.specs.Division.{AreTokensOf, IsAnswer}
 use Rattle.circus_text.proofs.Divisions.{answer_one}
 use Rattle.circus_lines.specs.Lines.{line_of}
-use Rattle.circus_syntax.specs.declared.stopping.Stop.{Stop}
 use Rattle.circus_syntax.specs.InterfaceTree.{InterfaceTree}
 use Rattle.circus_syntax.specs.Reader.{Reader, open_at}
-use Rattle.circus_syntax.specs.Spelling.{most_levels}
 use Rattle.circus_expression.specs.Ending.{Are}
 use Rattle.circus_fault.specs.declared.fault.Fault.{Fault}
 use Rattle.circus_fault.specs.Least.{least_from}
@@ -16,7 +14,6 @@ use Rattle.circus_idl.specs.declared.interface.Interface.{Interface}
 use Rattle.circus_idl.proofs.PlainMeaning.{one_meant}
 use Rattle.circus_file.specs.WrittenProgram.{WrittenProgram, spelling_program, IsProgram}
 use Rattle.circus_file.specs.ProgramTree.{ProgramTree, program_stands_for}
-use Rattle.circus_file.specs.ProgramReading.{program}
 use Rattle.circus_file.proofs.Whole.{program_read, program_one}
 use Rattle.circus_check.specs.Meaning.{modules_meant}
 use Rattle.circus_deployment.specs.Meaning.{deployment_meant}
