@@ -1,13 +1,11 @@
 pub mod PutLemmas
 pub mod AnswerLemmas
-pub mod Appended
 pub mod Between
 pub mod ReplayLemmas
 pub mod Schedules
 pub mod ToldLemmas
 pub mod Decided
 pub mod DecidedWords
-pub mod OneEnding
 pub mod OneProgram
 pub mod OneDue
 pub mod SomeDue

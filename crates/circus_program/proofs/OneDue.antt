@@ -5,11 +5,16 @@ use Rattle.circus_world.specs.declared.line.Line.{Line}
 use Rattle.circus_world.specs.Course.{booted}
 use Rattle.circus_program.specs.Form.{Form, stubs, run, replay, node, sample, settle, place, audit, words_of, files_of, IsOfForm}
 use Rattle.circus_program.specs.Thin.{IsThinProgram}
-use Rattle.circus_program.specs.Replay.{Ending, replayed}
-use Rattle.circus_program.specs.Placed.{IsEndOfPlacing}
-use Rattle.circus_program.specs.Answer.{Due, fetch, finish, not_built, IsDueOfSchedule, IsDueOfReplay, IsDueOfPlace, IsDueUnbuilt, IsDueOfForm, AreContents, IsDue}
+use Rattle.circus_ending.specs.Ending.{Ending}
+use Rattle.circus_program.specs.Replay.{replayed}
+use Rattle.circus_ending.specs.declared.one_file.OneFile.{OneFile}
+use Rattle.circus_ending.specs.declared.one_file.OneFile.TheVariants.{Stubs, Run, Place}
+use Rattle.circus_ending.specs.OneFile.{IsEndOf}
+use Rattle.circus_ending.specs.Refusal.{IsGood}
+use Rattle.circus_program.specs.Answer.{Due, fetch, finish, not_built, IsDueOfRefused, IsDueOfSchedule, IsDueOfReplay, IsDueOfFile, IsDueUnbuilt, IsDueOfForm, AreContents, IsDue}
 use Rattle.circus_program.specs.Last.{IsLast, IsDueLast}
-use Rattle.circus_program.proofs.OneEnding.{ending_one}
+use Rattle.circus_ending.proofs.OneProgram.{refused_one, good_or_refused}
+use Rattle.circus_ending.proofs.OneEnding.{end_one}
 use Rattle.circus_program.proofs.OneProgram.{program_one}
 use Rattle.circus_program.proofs.Schedules.{schedule_one}
 
@@ -17,21 +22,23 @@ use Rattle.circus_program.proofs.Schedules.{schedule_one}
 
 pub data Asked : Type 0 where
   replaying : List ℕ → List ℕ → Asked
-  placing : List ℕ → Asked
+  reading : OneFile → List ℕ → Asked
   unbuilt : Asked
 
 abbrev pub asked_by : Form → Asked
 asked_by (replay program schedule) = replaying program schedule
-asked_by (place placing_file) = placing placing_file
-asked_by (stubs _) = unbuilt
-asked_by (run _) = unbuilt
+asked_by (place placing) = reading Place placing
+asked_by (stubs program) = reading Stubs program
+asked_by (run program) = reading Run program
 asked_by (node _ _ _) = unbuilt
 asked_by (sample _ _ _) = unbuilt
 asked_by (settle _ _) = unbuilt
 asked_by (audit _ _) = unbuilt
 
 abbrev asked_of : List (List ℕ) → Asked
-asked_of (command ∷ file ∷ []) = cond (bytes_eq command (codes "place")) (placing file) unbuilt
+asked_of (command ∷ file ∷ []) =
+    cond (bytes_eq command (codes "place")) (reading Place file)
+    (cond (bytes_eq command (codes "stubs")) (reading Stubs file) (cond (bytes_eq command (codes "run")) (reading Run file) unbuilt))
 asked_of (command ∷ program ∷ schedule ∷ []) = cond (bytes_eq command (codes "replay")) (replaying program schedule) unbuilt
 asked_of _ = unbuilt
 
@@ -58,24 +65,27 @@ module _ (contents : List ℕ → Option (List ℕ)) where
       ((contents schedule ≡ None) × (due ≡ fetch schedule))
       ⊎ ((bytes : List ℕ) × (contents schedule ≡ Some bytes) × IsDueOfSchedule number bytes due)
 
-  abbrev pub OfProgram : List ℕ → List ℕ → Due → Type 0
-  OfProgram schedule program due =
+  abbrev pub OfGood : List ℕ → List ℕ → Due → Type 0
+  OfGood schedule program due =
       ((number : ℕ) × IsThinProgram program number × OfSchedule schedule number due)
       ⊎ (((number : ℕ) → IsThinProgram program number → ⊥) × (due ≡ not_built))
+
+  abbrev pub OfProgram : List ℕ → List ℕ → Due → Type 0
+  OfProgram schedule program due = (IsGood program × OfGood schedule program due) ⊎ IsDueOfRefused program due
 
   abbrev pub OfReplay : List ℕ → List ℕ → Due → Type 0
   OfReplay program schedule due =
       ((contents program ≡ None) × (due ≡ fetch program))
       ⊎ ((bytes : List ℕ) × (contents program ≡ Some bytes) × OfProgram schedule bytes due)
 
-  abbrev pub OfPlace : List ℕ → Due → Type 0
-  OfPlace file due =
+  abbrev pub OfFile : OneFile → List ℕ → Due → Type 0
+  OfFile command file due =
       ((contents file ≡ None) × (due ≡ fetch file))
-      ⊎ ((text : List ℕ) × (contents file ≡ Some text) × ((ending : Ending) × IsEndOfPlacing text ending × (due ≡ finish ending)))
+      ⊎ ((bytes : List ℕ) × (contents file ≡ Some bytes) × ((ending : Ending) × IsEndOf command bytes ending × (due ≡ finish ending)))
 
   abbrev pub OfAsked : Asked → Due → Type 0
   OfAsked (replaying program schedule) due = OfReplay program schedule due
-  OfAsked (placing file) due = OfPlace file due
+  OfAsked (reading command file) due = OfFile command file due
   OfAsked unbuilt due = due ≡ not_built
 
   -- a file that is due at last is not there
@@ -84,17 +94,18 @@ module _ (contents : List ℕ → Option (List ℕ)) where
 
   of_replay : (program schedule : List ℕ) (files : List (List ℕ)) (due : Due) → AreContents contents (program ∷ schedule ∷ []) files → IsDueOfReplay program schedule files due → IsLast contents due → OfReplay program schedule due
   of_replay program schedule [] due fetched is last = inl (lacking program due is last, is)
-  of_replay program schedule (bytes ∷ []) due fetched (inl (number, thin, is)) last =
-      inr (bytes, fetched.0, inl (number, thin, inl (lacking schedule due is last, is)))
-  of_replay program schedule (bytes ∷ []) due fetched (inr other) last = inr (bytes, fetched.0, inr other)
-  of_replay program schedule (bytes ∷ more ∷ []) due fetched (number, thin, is) last =
-      inr (bytes, fetched.0, inl (number, thin, inr (more, fetched.1.0, is)))
+  of_replay program schedule (bytes ∷ []) due fetched (inl (good, (inl (number, thin, is)))) last =
+      inr (bytes, fetched.0, inl (good, inl (number, thin, inl (lacking schedule due is last, is))))
+  of_replay program schedule (bytes ∷ []) due fetched (inl (good, (inr other))) last = inr (bytes, fetched.0, inl (good, inr other))
+  of_replay program schedule (bytes ∷ []) due fetched (inr refused) last = inr (bytes, fetched.0, inr refused)
+  of_replay program schedule (bytes ∷ more ∷ []) due fetched (good, number, thin, is) last =
+      inr (bytes, fetched.0, inl (good, inl (number, thin, inr (more, fetched.1.0, is))))
   of_replay program schedule (_ ∷ _ ∷ _ ∷ _) due fetched is last = absurd is
 
-  of_place : (file : List ℕ) (files : List (List ℕ)) (due : Due) → AreContents contents (file ∷ []) files → IsDueOfPlace file files due → IsLast contents due → OfPlace file due
-  of_place file [] due fetched is last = inl (lacking file due is last, is)
-  of_place file (text ∷ []) due fetched is last = inr (text, fetched.0, is)
-  of_place file (_ ∷ _ ∷ _) due fetched is last = absurd is
+  of_file : (command : OneFile) (file : List ℕ) (files : List (List ℕ)) (due : Due) → AreContents contents (file ∷ []) files → IsDueOfFile command file files due → IsLast contents due → OfFile command file due
+  of_file command file [] due fetched is last = inl (lacking file due is last, is)
+  of_file command file (bytes ∷ []) due fetched is last = inr (bytes, fetched.0, is)
+  of_file command file (_ ∷ _ ∷ _) due fetched is last = absurd is
 
   of_unbuilt : (files : List (List ℕ)) (due : Due) → IsDueUnbuilt files due → due ≡ not_built
   of_unbuilt [] due is = is
@@ -102,9 +113,9 @@ module _ (contents : List ℕ → Option (List ℕ)) where
 
   pub of_form : (form : Form) (files : List (List ℕ)) (due : Due) → AreContents contents (files_of form) files → IsDueOfForm form files due → IsLast contents due → OfAsked (asked_by form) due
   of_form (replay program schedule) files due fetched is last = of_replay program schedule files due fetched is last
-  of_form (place file) files due fetched is last = of_place file files due fetched is last
-  of_form (stubs _) files due fetched is last = of_unbuilt files due is
-  of_form (run _) files due fetched is last = of_unbuilt files due is
+  of_form (place file) files due fetched is last = of_file Place file files due fetched is last
+  of_form (stubs file) files due fetched is last = of_file Stubs file files due fetched is last
+  of_form (run file) files due fetched is last = of_file Run file files due fetched is last
   of_form (node _ _ _) files due fetched is last = of_unbuilt files due is
   of_form (sample _ _ _) files due fetched is last = of_unbuilt files due is
   of_form (settle _ _) files due fetched is last = of_unbuilt files due is
@@ -129,12 +140,18 @@ module _ (contents : List ℕ → Option (List ℕ)) where
   one_of_schedule schedule number one other (inr (bytes, there, is)) (inr (others, here, also)) =
       one_of_lines number others one other (subst (λ b. IsDueOfSchedule number b one) (there_once schedule bytes others there here) is) also
 
-  one_of_program : (schedule program : List ℕ) (one other : Due) → OfProgram schedule program one → OfProgram schedule program other → one ≡ other
-  one_of_program schedule program one other (inl (number, thin, is)) (inl (also_number, also_thin, also)) =
+  one_of_good : (schedule program : List ℕ) (one other : Due) → OfGood schedule program one → OfGood schedule program other → one ≡ other
+  one_of_good schedule program one other (inl (number, thin, is)) (inl (also_number, also_thin, also)) =
       one_of_schedule schedule also_number one other (subst (λ n. OfSchedule schedule n one) (program_one program number also_number thin also_thin) is) also
-  one_of_program schedule program one other (inl (number, thin, is)) (inr (none, also)) = absurd (none number thin)
-  one_of_program schedule program one other (inr (none, is)) (inl (number, thin, also)) = absurd (none number thin)
-  one_of_program schedule program one other (inr (none, is)) (inr (neither, also)) = is ∙ sym also
+  one_of_good schedule program one other (inl (number, thin, is)) (inr (none, also)) = absurd (none number thin)
+  one_of_good schedule program one other (inr (none, is)) (inl (number, thin, also)) = absurd (none number thin)
+  one_of_good schedule program one other (inr (none, is)) (inr (neither, also)) = is ∙ sym also
+
+  one_of_program : (schedule program : List ℕ) (one other : Due) → OfProgram schedule program one → OfProgram schedule program other → one ≡ other
+  one_of_program schedule program one other (inl (good, is)) (inl (also_good, also)) = one_of_good schedule program one other is also
+  one_of_program schedule program one other (inl ((plan, means), is)) (inr (ending, refused, so)) = absurd (good_or_refused program plan ending means refused)
+  one_of_program schedule program one other (inr (ending, refused, is)) (inl ((plan, means), also)) = absurd (good_or_refused program plan ending means refused)
+  one_of_program schedule program one other (inr (ending, refused, is)) (inr (another, again, so)) = is ∙ ap finish (refused_one program ending another refused again) ∙ sym so
 
   one_of_replay : (program schedule : List ℕ) (one other : Due) → OfReplay program schedule one → OfReplay program schedule other → one ≡ other
   one_of_replay program schedule one other (inl (none, is)) (inl (neither, also)) = is ∙ sym also
@@ -143,19 +160,16 @@ module _ (contents : List ℕ → Option (List ℕ)) where
   one_of_replay program schedule one other (inr (bytes, there, is)) (inr (others, here, also)) =
       one_of_program schedule others one other (subst (λ b. OfProgram schedule b one) (there_once program bytes others there here) is) also
 
-  one_of_text : (text : List ℕ) (one other : Due) (ending also : Ending) → IsEndOfPlacing text ending → IsEndOfPlacing text also → one ≡ finish ending → other ≡ finish also → one ≡ other
-  one_of_text text one other ending also first second is so = is ∙ ap finish (ending_one text ending also first second) ∙ sym so
-
-  one_of_place : (file : List ℕ) (one other : Due) → OfPlace file one → OfPlace file other → one ≡ other
-  one_of_place file one other (inl (none, is)) (inl (neither, also)) = is ∙ sym also
-  one_of_place file one other (inl (none, is)) (inr (text, there, also)) = absurd cc
-  one_of_place file one other (inr (text, there, is)) (inl (none, also)) = absurd cc
-  one_of_place file one other (inr (text, there, (ending, first, is))) (inr (others, here, (also, second, so))) =
-      one_of_text others one other ending also (subst (λ t. IsEndOfPlacing t ending) (there_once file text others there here) first) second is so
+  one_of_file : (command : OneFile) (file : List ℕ) (one other : Due) → OfFile command file one → OfFile command file other → one ≡ other
+  one_of_file command file one other (inl (none, is)) (inl (neither, also)) = is ∙ sym also
+  one_of_file command file one other (inl (none, is)) (inr (bytes, there, also)) = absurd cc
+  one_of_file command file one other (inr (bytes, there, is)) (inl (none, also)) = absurd cc
+  one_of_file command file one other (inr (bytes, there, (ending, first, is))) (inr (others, here, (also, second, so))) =
+      is ∙ ap finish (end_one command others ending also (subst (λ b. IsEndOf command b ending) (there_once file bytes others there here) first) second) ∙ sym so
 
   one_of_asked : (asked : Asked) (one other : Due) → OfAsked asked one → OfAsked asked other → one ≡ other
   one_of_asked (replaying program schedule) one other is also = one_of_replay program schedule one other is also
-  one_of_asked (placing file) one other is also = one_of_place file one other is also
+  one_of_asked (reading command file) one other is also = one_of_file command file one other is also
   one_of_asked unbuilt one other is also = is ∙ sym also
 
   one_of_words : (words : List (List ℕ)) (one other : Due) → IsDue (Some contents) words one → IsDue (Some contents) words other → IsLast contents one → IsLast contents other → one ≡ other

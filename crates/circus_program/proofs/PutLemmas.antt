@@ -1,9 +1,9 @@
 -- The clauses of the top call.
 use Rattle.std.proofs.Common.{◌≡◌, ℕ, ◌==◌, false, if◌then◌else◌, Option, List, sym, subst, ap, ◌∙◌, inl, inr, refl}
 use Rattle.std.specs.Prelude.{IsTrue}
-use Rattle.circus_program.specs.declared.status.Status.{Status}
-use Rattle.circus_program.specs.declared.status.Status.TheVariants.{Done, BadCommandLine, BadSchedule, ShelfFault, SinkFault, NoMemory, NotBuilt, BadPlacing, NoPlacement}
-use Rattle.circus_program.specs.Status.{code_of, is_end}
+use Rattle.circus_ending.specs.declared.status.Status.{Status}
+use Rattle.circus_ending.specs.declared.status.Status.TheVariants.{Done, BadCommandLine, BadProgram, BadSchedule, ShelfFault, SinkFault, NoMemory, NotBuilt, BadPlacing, NoPlacement}
+use Rattle.circus_ending.specs.Status.{code_of, is_end}
 use Rattle.circus_program.specs.Answer.{Finishes, Lacks, IsText, WasLast, Writes, WritesPart, WritesEnd, shelf_fault}
 use Rattle.circus_program.specs.Seen.Put.{IsPut, IsAnswer}
 
@@ -12,18 +12,20 @@ status_of : ℕ → Status
 status_of n =
     if n == 0 then Done
     else (if n == 1 then BadCommandLine
+    else (if n == 2 then BadProgram
     else (if n == 3 then BadSchedule
     else (if n == 4 then ShelfFault
     else (if n == 5 then SinkFault
     else (if n == 7 then NoMemory
     else (if n == 9 then NotBuilt
     else (if n == 11 then BadPlacing
-    else NoPlacement)))))))
+    else NoPlacement))))))))
 
 status_of-code_of : (s : Status) → status_of (code_of s) ≡ s
 unfolding status_of
 status_of-code_of Done = refl
 status_of-code_of BadCommandLine = refl
+status_of-code_of BadProgram = refl
 status_of-code_of BadSchedule = refl
 status_of-code_of ShelfFault = refl
 status_of-code_of SinkFault = refl

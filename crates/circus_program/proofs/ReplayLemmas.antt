@@ -9,9 +9,10 @@ use Rattle.circus_world.specs.Course.{IsLegal, stepped}
 use Rattle.circus_world.specs.declared.line.Cause.{Cause}
 use Rattle.circus_world.specs.Refusal.{IsRefusal}
 use Rattle.circus_world.specs.declared.world.WorldFault.TheVariants.{Illegal}
-use Rattle.circus_program.specs.declared.status.Status.TheVariants.{BadSchedule}
+use Rattle.circus_ending.specs.declared.status.Status.TheVariants.{BadSchedule}
 use Rattle.circus_program.specs.Report.{Names, Member, member_lines, members_lines}
-use Rattle.circus_program.specs.Replay.{Ending, replayed, refused, refusal_text, is_legal}
+use Rattle.circus_ending.specs.Ending.{Ending}
+use Rattle.circus_program.specs.Replay.{replayed, refused, refusal_text, is_legal}
 
 -- what the test says of a line that is not legal
 is_legal-refused : (w : WorldView) (line : Line) → (IsLegal w line → ⊥) → is_legal w line ≡ false

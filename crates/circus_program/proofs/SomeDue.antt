@@ -1,11 +1,12 @@
 -- Words come to something.
-use Rattle.std.proofs.Common.{◌≡◌, ℕ, ◌⊎◌, inl, inr, Option, Some, None, List, [], ◌∷◌, refl, subst}
+use Rattle.std.proofs.Common.{◌≡◌, ℕ, ◌⊎◌, inl, inr, Option, Some, None, List, [], ◌∷◌, refl, sym, subst}
 use Rattle.circus_world.specs.Course.{booted}
 use Rattle.circus_program.specs.Form.{Form, stubs, run, replay, node, sample, settle, place, audit, files_of, IsOfForm}
 use Rattle.circus_program.specs.Thin.{IsThinProgram}
 use Rattle.circus_program.specs.Replay.{replayed}
+use Rattle.circus_ending.specs.Refusal.{IsGood}
 use Rattle.circus_program.specs.Answer.{Due, fetch, finish, not_built, bad_command_line, IsDueOfForm, AreContents}
-use Rattle.circus_program.specs.Last.{IsLast, IsDueLast}
+use Rattle.circus_program.specs.Last.{IsLast, IsDueLast, file_read, IsToBeRead, IsAnswered}
 use Rattle.circus_program.proofs.Decided.{decided_program, decided_schedule}
 use Rattle.circus_program.proofs.DecidedWords.{decided_form}
 
@@ -17,64 +18,88 @@ module _ (contents : List ℕ → Option (List ℕ)) where
     is_due : IsDueOfForm form files due
     last : IsLast contents due
 
-  -- the text of a placing is there, and has to be read
-  abbrev IsToBeRead : Form → Type 0
-  IsToBeRead form = (placing : List ℕ) × (text : List ℕ) × (form ≡ place placing) × (contents placing ≡ Some text)
+  -- a form that has these words
+  due_of : (words : List (List ℕ)) (form : Form) → IsOfForm words form → Comes form → (due : Due) × IsDueLast contents words due
+  due_of words form of c = (c.due, record { is_due = inl (record { form = form; of_form = of; files = c.files; fetched = c.fetched; is_due = c.is_due }); last = c.last })
 
-  replay_schedule : (program schedule bytes : List ℕ) (number : ℕ) → contents program ≡ Some bytes → IsThinProgram bytes number → Comes (replay program schedule)
-  replay_schedule program schedule bytes number there thin =
+  -- ---- the first file isn't there, or is to be read
+
+  abbrev IsThere : Form → Type 0
+  IsThere form = (name : List ℕ) × (bytes : List ℕ) × (file_read form ≡ Some name) × (contents name ≡ Some bytes)
+
+  first_file : (form : Form) (name : List ℕ) → file_read form ≡ Some name → (contents name ≡ None → Comes form) → Comes form ⊎ IsThere form
+  first_file form name first absent =
+      elim (contents name) as (λ o. contents name ≡ o → Comes form ⊎ IsThere form) [
+        | None ↦ λ none. inl (absent none)
+        | Some bytes ↦ λ there. inr (name, bytes, first, there)
+      ] refl
+
+  comes_to : (form : Form) → Comes form ⊎ IsThere form
+  comes_to (replay program schedule) = first_file (replay program schedule) program refl (λ none. record { due = fetch program; files = []; fetched = tt; is_due = refl; last = none })
+  comes_to (place placing) = first_file (place placing) placing refl (λ none. record { due = fetch placing; files = []; fetched = tt; is_due = refl; last = none })
+  comes_to (stubs program) = first_file (stubs program) program refl (λ none. record { due = fetch program; files = []; fetched = tt; is_due = refl; last = none })
+  comes_to (run program) = first_file (run program) program refl (λ none. record { due = fetch program; files = []; fetched = tt; is_due = refl; last = none })
+  comes_to (node _ _ _) = inl (record { due = not_built; files = []; fetched = tt; is_due = refl; last = tt })
+  comes_to (sample _ _ _) = inl (record { due = not_built; files = []; fetched = tt; is_due = refl; last = tt })
+  comes_to (settle _ _) = inl (record { due = not_built; files = []; fetched = tt; is_due = refl; last = tt })
+  comes_to (audit _ _) = inl (record { due = not_built; files = []; fetched = tt; is_due = refl; last = tt })
+
+  pub some_due : (words : List (List ℕ)) → ((due : Due) × IsDueLast contents words due) ⊎ IsToBeRead contents words
+  some_due words = elim (decided_form words) [
+    | inr none ↦ inl (bad_command_line, record { is_due = inr (none, refl); last = tt })
+    | inl (form, of_form) ↦ elim (comes_to form) [
+      | inl c ↦ inl (due_of words form of_form c)
+      | inr (name, bytes, first, there) ↦ inr (record { form = form; of_form = of_form; name = name; first = first; bytes = bytes; there = there })
+    ]
+  ]
+
+  -- ---- it is read
+
+  read_schedule : (program schedule bytes : List ℕ) (number : ℕ) → contents program ≡ Some bytes → IsGood bytes → IsThinProgram bytes number → Comes (replay program schedule)
+  read_schedule program schedule bytes number there good thin =
       elim (contents schedule) as (λ o. contents schedule ≡ o → Comes (replay program schedule)) [
-        | None ↦ λ none. record { due = fetch schedule; files = bytes ∷ []; fetched = (there, tt); is_due = inl (number, thin, refl); last = none }
+        | None ↦ λ none. record { due = fetch schedule; files = bytes ∷ []; fetched = (there, tt); is_due = inl (good, inl (number, thin, refl)); last = none }
         | Some more ↦ λ here. elim (decided_schedule more) [
           | inl (lines, spelled) ↦ record {
             due = finish (replayed 1 (booted number) lines);
             files = bytes ∷ more ∷ [];
             fetched = (there, (here, tt));
-            is_due = (number, thin, inl (lines, spelled, refl));
+            is_due = (good, number, thin, inl (lines, spelled, refl));
             last = tt;
           }
           | inr none ↦ record {
             due = not_built;
             files = bytes ∷ more ∷ [];
             fetched = (there, (here, tt));
-            is_due = (number, thin, inr ((λ lines spelled. none (lines, spelled)), refl));
+            is_due = (good, number, thin, inr ((λ lines spelled. none (lines, spelled)), refl));
             last = tt;
           }
         ]
       ] refl
 
-  replay_program : (program schedule : List ℕ) → Comes (replay program schedule)
-  replay_program program schedule =
-      elim (contents program) as (λ o. contents program ≡ o → Comes (replay program schedule)) [
-        | None ↦ λ none. record { due = fetch program; files = []; fetched = tt; is_due = refl; last = none }
-        | Some bytes ↦ λ there. elim (decided_program bytes) [
-          | inl (number, thin) ↦ replay_schedule program schedule bytes number there thin
-          | inr none ↦ record { due = not_built; files = bytes ∷ []; fetched = (there, tt); is_due = inr ((λ number thin. none (number, thin)), refl); last = tt }
-        ]
-      ] refl
-
-  placed : (placing : List ℕ) → Comes (place placing) ⊎ IsToBeRead (place placing)
-  placed placing =
-      elim (contents placing) as (λ o. contents placing ≡ o → Comes (place placing) ⊎ IsToBeRead (place placing)) [
-        | None ↦ λ none. inl (record { due = fetch placing; files = []; fetched = tt; is_due = refl; last = none })
-        | Some text ↦ λ there. inr (placing, text, refl, there)
-      ] refl
-
-  comes_to : (form : Form) → Comes form ⊎ IsToBeRead form
-  comes_to (replay program schedule) = inl (replay_program program schedule)
-  comes_to (place placing) = placed placing
-  comes_to (stubs _) = inl (record { due = not_built; files = []; fetched = tt; is_due = refl; last = tt })
-  comes_to (run _) = inl (record { due = not_built; files = []; fetched = tt; is_due = refl; last = tt })
-  comes_to (node _ _ _) = inl (record { due = not_built; files = []; fetched = tt; is_due = refl; last = tt })
-  comes_to (sample _ _ _) = inl (record { due = not_built; files = []; fetched = tt; is_due = refl; last = tt })
-  comes_to (settle _ _) = inl (record { due = not_built; files = []; fetched = tt; is_due = refl; last = tt })
-  comes_to (audit _ _) = inl (record { due = not_built; files = []; fetched = tt; is_due = refl; last = tt })
-
-  pub some_due : (words : List (List ℕ)) → ((due : Due) × IsDueLast contents words due) ⊎ ((placing : List ℕ) × (text : List ℕ) × IsOfForm words (place placing) × (contents placing ≡ Some text))
-  some_due words = elim (decided_form words) [
-    | inr none ↦ inl (bad_command_line, record { is_due = inr (none, refl); last = tt })
-    | inl (form, of_form) ↦ elim (comes_to form) [
-      | inl c ↦ inl (c.due, record { is_due = inl (record { form = form; of_form = of_form; files = c.files; fetched = c.fetched; is_due = c.is_due }); last = c.last })
-      | inr (placing, text, same, there) ↦ inr (placing, text, subst (IsOfForm words) same of_form, there)
-    ]
+  read_good : (program schedule bytes : List ℕ) → contents program ≡ Some bytes → IsGood bytes → Comes (replay program schedule)
+  read_good program schedule bytes there good = elim (decided_program bytes) [
+    | inl (number, thin) ↦ read_schedule program schedule bytes number there good thin
+    | inr none ↦ record { due = not_built; files = bytes ∷ []; fetched = (there, tt); is_due = inl (good, inr ((λ number thin. none (number, thin)), refl)); last = tt }
   ]
+
+  same_name : (name other bytes : List ℕ) → Some other ≡ Some name → contents name ≡ Some bytes → contents other ≡ Some bytes
+  same_name name other bytes first there = let same : other ≡ name = cc in subst (λ n. contents n ≡ Some bytes) (sym same) there
+
+  comes_read : (form : Form) (name bytes : List ℕ) → file_read form ≡ Some name → contents name ≡ Some bytes → IsAnswered form bytes → Comes form
+  comes_read (replay program schedule) name bytes first there (inl good) = read_good program schedule bytes (same_name name program bytes first there) good
+  comes_read (replay program schedule) name bytes first there (inr (ending, refused)) =
+      record { due = finish ending; files = bytes ∷ []; fetched = (same_name name program bytes first there, tt); is_due = inr (ending, refused, refl); last = tt }
+  comes_read (stubs program) name bytes first there (ending, end) =
+      record { due = finish ending; files = bytes ∷ []; fetched = (same_name name program bytes first there, tt); is_due = (ending, end, refl); last = tt }
+  comes_read (run program) name bytes first there (ending, end) =
+      record { due = finish ending; files = bytes ∷ []; fetched = (same_name name program bytes first there, tt); is_due = (ending, end, refl); last = tt }
+  comes_read (place placing) name bytes first there (ending, end) =
+      record { due = finish ending; files = bytes ∷ []; fetched = (same_name name placing bytes first there, tt); is_due = (ending, end, refl); last = tt }
+  comes_read (node _ _ _) name bytes first there answered = absurd answered
+  comes_read (sample _ _ _) name bytes first there answered = absurd answered
+  comes_read (settle _ _) name bytes first there answered = absurd answered
+  comes_read (audit _ _) name bytes first there answered = absurd answered
+
+  pub read_due : (words : List (List ℕ)) (file : IsToBeRead contents words) → IsAnswered file.form file.bytes → (due : Due) × IsDueLast contents words due
+  read_due words file answered = due_of words file.form file.of_form (comes_read file.form file.name file.bytes file.first file.there answered)

@@ -4,15 +4,23 @@ use Rattle.std.specs.Prelude.{cond}
 use Rattle.circus_world.specs.declared.line.Line.{Line}
 use Rattle.circus_world.specs.WorldView.{WorldView}
 use Rattle.circus_world.specs.Course.{booted, stepped}
-use Rattle.circus_program.specs.declared.status.Status.{Status}
-use Rattle.circus_program.specs.declared.status.Status.TheVariants.{Done, BadCommandLine, BadSchedule, NotBuilt, BadPlacing, NoPlacement}
+use Rattle.circus_ending.specs.declared.status.Status.{Status}
+use Rattle.circus_ending.specs.declared.status.Status.TheVariants.{Done, BadCommandLine, BadProgram, BadSchedule, NotBuilt, BadPlacing, NoPlacement}
 use Rattle.circus_program.specs.Form.{Form, stubs, run, replay, node, sample, settle, place, audit, files_of, IsOfForm, IsOfNoForm}
 use Rattle.circus_program.specs.Thin.{IsThinProgram, IsThinSchedule}
-use Rattle.circus_program.specs.Replay.{Ending, is_legal, replayed, refused}
-use Rattle.circus_program.specs.Placed.{IsEndOfPlacing}
+use Rattle.circus_ending.specs.Ending.{Ending}
+use Rattle.circus_program.specs.Replay.{is_legal, replayed, refused}
+use Rattle.circus_config.specs.declared.plan.Plan.{Plan}
+use Rattle.circus_config.specs.declared.program_fault.ProgramCause.{ProgramCause}
+use Rattle.circus_ending.specs.declared.one_file.OneFile.{OneFile}
+use Rattle.circus_ending.specs.declared.one_file.OneFile.TheVariants.{Stubs, Run, Place}
+use Rattle.circus_ending.specs.Refusal.{IsGood, refused_text, IsEndOfRefused}
+use Rattle.circus_ending.specs.Program.{history_lines, stubs_lines, IsEndOfProgram}
+use Rattle.circus_ending.specs.Placed.{IsEndOfPlacing}
+use Rattle.circus_ending.specs.OneFile.{IsEndOf}
 use Rattle.circus_program.specs.Answer.{Due, fetch, finish, not_built, bad_command_line, IsDueOfForm, AreContents, IsDue}
-use Rattle.circus_program.specs.Last.{IsLast, IsDueLast, EndsWith, HasRefused, IsReplayOf, IsRefusedReplay, IsUnbuilt, IsNotBuilt}
-use Rattle.circus_program.proofs.OneDue.{asked_by, of_form, OfAsked, OfReplay, OfPlace, OfSchedule, one_due}
+use Rattle.circus_program.specs.Last.{IsLast, IsDueLast, EndsWith, program_read, IsRefusedProgram, HasRefused, IsReplayOf, IsRefusedReplay, IsUnbuilt, IsNotBuilt}
+use Rattle.circus_program.proofs.OneDue.{asked_by, of_form, OfAsked, OfReplay, OfFile, OfSchedule, one_due}
 
 -- ---- the ends that there are
 
@@ -39,20 +47,59 @@ refused_status number w (line ∷ lines) (inr (legal, later)) =
     ap (λ b. (cond b (replayed (number + 1) (stepped w line) lines) (refused number w line)).status) legal
     ∙ refused_status (number + 1) (stepped w line) lines later
 
--- a placing ends with a choice, without one, or is refused
-abbrev IsPlacingStatus : Status → Type 0
-IsPlacingStatus status = (status ≡ Done) ⊎ ((status ≡ NoPlacement) ⊎ (status ≡ BadPlacing))
+-- a program is told of, or is refused; a placing ends with a choice, without one, or is refused
+abbrev IsEndStatus : OneFile → Status → Type 0
+IsEndStatus Place status = (status ≡ Done) ⊎ ((status ≡ NoPlacement) ⊎ (status ≡ BadPlacing))
+IsEndStatus Stubs status = (status ≡ Done) ⊎ (status ≡ BadProgram)
+IsEndStatus Run status = (status ≡ Done) ⊎ (status ≡ BadProgram)
 
-placing_status : (text : List ℕ) (ending : Ending) → IsEndOfPlacing text ending → IsPlacingStatus ending.status
+program_status : (lines : Plan → List ℕ) (bytes : List ℕ) (ending : Ending) → IsEndOfProgram lines bytes ending → (ending.status ≡ Done) ⊎ ((ending.status ≡ BadProgram) × IsEndOfRefused bytes ending)
+program_status lines bytes ending (inl (plan, means, is)) = inl (ap (λ (e : Ending). e.status) is)
+program_status lines bytes ending (inr (number, cause, refused_is, is)) = inr (ap (λ (e : Ending). e.status) is, (number, cause, refused_is, is))
+
+placing_status : (text : List ℕ) (ending : Ending) → IsEndOfPlacing text ending → IsEndStatus Place ending.status
 placing_status text ending (inl (p, read, (inl (choice, best, is)))) = inl (ap (λ (e : Ending). e.status) is)
 placing_status text ending (inl (p, read, (inr (none, is)))) = inr (inl (ap (λ (e : Ending). e.status) is))
 placing_status text ending (inr (number, cause, refused_is, is)) = inr (inr (ap (λ (e : Ending). e.status) is))
 
-never_placed : (status : Status) (text : List ℕ) (ending : Ending) → IsEndOfPlacing text ending → (Done ≡ status → ⊥) → (NoPlacement ≡ status → ⊥) → (BadPlacing ≡ status → ⊥) → ending.status ≡ status → ⊥
-never_placed status text ending end no_done no_none no_bad same = elim (placing_status text ending end) [
-  | inl done ↦ no_done (sym done ∙ same)
-  | inr (inl none) ↦ no_none (sym none ∙ same)
-  | inr (inr bad) ↦ no_bad (sym bad ∙ same)
+of_program : (lines : Plan → List ℕ) (bytes : List ℕ) (ending : Ending) → IsEndOfProgram lines bytes ending → (ending.status ≡ Done) ⊎ (ending.status ≡ BadProgram)
+of_program lines bytes ending end = elim (program_status lines bytes ending end) [
+  | inl done ↦ inl done
+  | inr (bad, why) ↦ inr bad
+]
+
+end_status : (command : OneFile) (bytes : List ℕ) (ending : Ending) → IsEndOf command bytes ending → IsEndStatus command ending.status
+end_status Place bytes ending end = placing_status bytes ending end
+end_status Stubs bytes ending end = of_program stubs_lines bytes ending end
+end_status Run bytes ending end = of_program history_lines bytes ending end
+
+-- a status that no command of one file ends with
+never_ends : (status : Status) (command : OneFile) (bytes : List ℕ) (ending : Ending) → IsEndOf command bytes ending → (Done ≡ status → ⊥) → (BadProgram ≡ status → ⊥) → (NoPlacement ≡ status → ⊥) → (BadPlacing ≡ status → ⊥) → ending.status ≡ status → ⊥
+never_ends status command bytes ending end no_done no_program no_none no_bad same = by_command command (end_status command bytes ending end)
+  where
+    by_command : (c : OneFile) → IsEndStatus c ending.status → ⊥
+    by_command Place (inl done) = no_done (sym done ∙ same)
+    by_command Place (inr (inl none)) = no_none (sym none ∙ same)
+    by_command Place (inr (inr bad)) = no_bad (sym bad ∙ same)
+    by_command Stubs (inl done) = no_done (sym done ∙ same)
+    by_command Stubs (inr bad) = no_program (sym bad ∙ same)
+    by_command Run (inl done) = no_done (sym done ∙ same)
+    by_command Run (inr bad) = no_program (sym bad ∙ same)
+
+-- a program is refused where the end says so
+refused_end : (command : OneFile) (bytes : List ℕ) (ending : Ending) → IsEndOf command bytes ending → ending.status ≡ BadProgram → IsEndOfRefused bytes ending
+refused_end Place bytes ending end same = elim (placing_status bytes ending end) [
+  | inl done ↦ absurd (let clash : Done ≡ BadProgram = sym done ∙ same in cc)
+  | inr (inl none) ↦ absurd (let clash : NoPlacement ≡ BadProgram = sym none ∙ same in cc)
+  | inr (inr bad) ↦ absurd (let clash : BadPlacing ≡ BadProgram = sym bad ∙ same in cc)
+]
+refused_end Stubs bytes ending end same = elim (program_status stubs_lines bytes ending end) [
+  | inl done ↦ absurd (let clash : Done ≡ BadProgram = sym done ∙ same in cc)
+  | inr (bad, why) ↦ why
+]
+refused_end Run bytes ending end same = elim (program_status history_lines bytes ending end) [
+  | inl done ↦ absurd (let clash : Done ≡ BadProgram = sym done ∙ same in cc)
+  | inr (bad, why) ↦ why
 ]
 
 ends_as : (status : Status) (due : Due) (ending : Ending) → due ≡ finish ending → EndsWith status due → ending.status ≡ status
@@ -61,7 +108,17 @@ ends_as status due ending is ends = subst (EndsWith status) is ends
 never_fetch : {X : Type 0} (status : Status) (due : Due) (name : List ℕ) → due ≡ fetch name → EndsWith status due → X
 never_fetch status due name is ends = absurd (let none : ⊥ = subst (EndsWith status) is ends in none)
 
+-- the end of a program that is refused
+abbrev refused_with : ℕ → ProgramCause → Ending
+refused_with number cause = record { status = BadProgram; text = refused_text number cause }
+
 -- ---- what comes of each form
+
+-- a command of one file, as a form
+abbrev form_by : OneFile → List ℕ → Form
+form_by Stubs file = stubs file
+form_by Run file = run file
+form_by Place file = place file
 
 -- what may come of words
 data Comes (contents : List ℕ → Option (List ℕ)) (words : List (List ℕ)) (due : Due) : Type 0 where
@@ -69,31 +126,33 @@ data Comes (contents : List ℕ → Option (List ℕ)) (words : List (List ℕ))
   lacking : (name : List ℕ) → due ≡ fetch name → Comes contents words due
   unbuilt : IsNotBuilt contents words → due ≡ not_built → Comes contents words due
   replay_of : (number : ℕ) (schedule : List ℕ) (lines : List Line) → IsReplayOf contents words number schedule → IsThinSchedule schedule lines → due ≡ finish (replayed 1 (booted number) lines) → Comes contents words due
-  placed : (text : List ℕ) (ending : Ending) → IsEndOfPlacing text ending → due ≡ finish ending → Comes contents words due
+  refused_replay : (program name bytes : List ℕ) (ending : Ending) → IsOfForm words (replay program name) → contents program ≡ Some bytes → IsEndOfRefused bytes ending → due ≡ finish ending → Comes contents words due
+  ended : (command : OneFile) (file bytes : List ℕ) (ending : Ending) → IsOfForm words (form_by command file) → contents file ≡ Some bytes → IsEndOf command bytes ending → due ≡ finish ending → Comes contents words due
 
 module _ (contents : List ℕ → Option (List ℕ)) (words : List (List ℕ)) where
-  comes_schedule : (program name bytes : List ℕ) (number : ℕ) (due : Due) → IsOfForm words (replay program name) → contents program ≡ Some bytes → IsThinProgram bytes number → OfSchedule contents name number due → Comes contents words due
-  comes_schedule program name bytes number due form there thin (inl (none, is)) = lacking name is
-  comes_schedule program name bytes number due form there thin (inr (schedule, here, inl (lines, spelled, is))) =
-      replay_of number schedule lines (record { program = program; name = name; of_form = form; bytes = bytes; program_is = there; thin = thin; schedule_is = here }) spelled is
-  comes_schedule program name bytes number due form there thin (inr (schedule, here, inr (other, is))) =
-      unbuilt (inr (inr (record { number = number; schedule = schedule; replayed = record { program = program; name = name; of_form = form; bytes = bytes; program_is = there; thin = thin; schedule_is = here }; other = other }))) is
+  comes_schedule : (program name bytes : List ℕ) (number : ℕ) (due : Due) → IsOfForm words (replay program name) → contents program ≡ Some bytes → IsGood bytes → IsThinProgram bytes number → OfSchedule contents name number due → Comes contents words due
+  comes_schedule program name bytes number due form there good thin (inl (none, is)) = lacking name is
+  comes_schedule program name bytes number due form there good thin (inr (schedule, here, inl (lines, spelled, is))) =
+      replay_of number schedule lines (record { program = program; name = name; of_form = form; bytes = bytes; program_is = there; good = good; thin = thin; schedule_is = here }) spelled is
+  comes_schedule program name bytes number due form there good thin (inr (schedule, here, inr (other, is))) =
+      unbuilt (inr (inr (record { number = number; schedule = schedule; replayed = record { program = program; name = name; of_form = form; bytes = bytes; program_is = there; good = good; thin = thin; schedule_is = here }; other = other }))) is
 
   comes_replay : (program name : List ℕ) (due : Due) → IsOfForm words (replay program name) → OfReplay contents program name due → Comes contents words due
   comes_replay program name due form (inl (none, is)) = lacking program is
-  comes_replay program name due form (inr (bytes, there, inl (number, thin, behind))) = comes_schedule program name bytes number due form there thin behind
-  comes_replay program name due form (inr (bytes, there, inr (other, is))) =
-      unbuilt (inr (inl (record { program = program; name = name; of_form = form; bytes = bytes; program_is = there; other = other }))) is
+  comes_replay program name due form (inr (bytes, there, inl (good, inl (number, thin, behind)))) = comes_schedule program name bytes number due form there good thin behind
+  comes_replay program name due form (inr (bytes, there, inl (good, inr (other, is)))) =
+      unbuilt (inr (inl (record { program = program; name = name; of_form = form; bytes = bytes; program_is = there; good = good; other = other }))) is
+  comes_replay program name due form (inr (bytes, there, inr (ending, refusal, is))) = refused_replay program name bytes ending form there refusal is
 
-  comes_place : (file : List ℕ) (due : Due) → OfPlace contents file due → Comes contents words due
-  comes_place file due (inl (none, is)) = lacking file is
-  comes_place file due (inr (text, there, (ending, end, is))) = placed text ending end is
+  comes_file : (command : OneFile) (file : List ℕ) (due : Due) → IsOfForm words (form_by command file) → OfFile contents command file due → Comes contents words due
+  comes_file command file due form (inl (none, is)) = lacking file is
+  comes_file command file due form (inr (bytes, there, (ending, end, is))) = ended command file bytes ending form there end is
 
   comes_form : (form : Form) (due : Due) → IsOfForm words form → OfAsked contents (asked_by form) due → Comes contents words due
   comes_form (replay program name) due form of = comes_replay program name due form of
-  comes_form (place file) due form of = comes_place file due of
-  comes_form (stubs program) due form of = unbuilt (inl (stubs program, form, tt)) of
-  comes_form (run program) due form of = unbuilt (inl (run program, form, tt)) of
+  comes_form (place file) due form of = comes_file Place file due form of
+  comes_form (stubs program) due form of = comes_file Stubs program due form of
+  comes_form (run program) due form of = comes_file Run program due form of
   comes_form (node program name turns) due form of = unbuilt (inl (node program name turns, form, tt)) of
   comes_form (sample program seed steps) due form of = unbuilt (inl (sample program seed steps, form, tt)) of
   comes_form (settle program deliveries) due form of = unbuilt (inl (settle program deliveries, form, tt)) of
@@ -116,7 +175,34 @@ module _ (contents : List ℕ → Option (List ℕ)) (words : List (List ℕ)) w
     | inl done ↦ absurd (let clash : Done ≡ BadCommandLine = sym done ∙ ends_as BadCommandLine due _ is ends in cc)
     | inr (bad, later) ↦ absurd (let clash : BadSchedule ≡ BadCommandLine = sym bad ∙ ends_as BadCommandLine due _ is ends in cc)
   ]
-  why_words due (placed text ending end is) ends = absurd (never_placed BadCommandLine text ending end (λ same. cc) (λ same. cc) (λ same. cc) (ends_as BadCommandLine due _ is ends))
+  why_words due (refused_replay program name bytes ending form there (number, cause, refusal, means) is) ends =
+      absurd (let clash : BadProgram ≡ BadCommandLine = sym (ap (λ (e : Ending). e.status) means) ∙ ends_as BadCommandLine due ending is ends in cc)
+  why_words due (ended command file bytes ending form there end is) ends =
+      absurd (never_ends BadCommandLine command bytes ending end (λ same. cc) (λ same. cc) (λ same. cc) (λ same. cc) (ends_as BadCommandLine due ending is ends))
+
+  refused_program : (form : Form) (program bytes : List ℕ) (ending : Ending) → IsOfForm words form → program_read form ≡ Some program → contents program ≡ Some bytes → IsEndOfRefused bytes ending → IsRefusedProgram contents words
+  refused_program form program bytes ending of program_is there (number, cause, refusal, is) =
+      record { form = form; of_form = of; program = program; program_is = program_is; bytes = bytes; there = there; number = number; cause = cause; refused = refusal }
+
+  refused_file : (command : OneFile) (file bytes : List ℕ) (ending : Ending) → IsOfForm words (form_by command file) → contents file ≡ Some bytes → IsEndOf command bytes ending → ending.status ≡ BadProgram → IsRefusedProgram contents words
+  refused_file Stubs file bytes ending form there end bad = refused_program (stubs file) file bytes ending form refl there (refused_end Stubs bytes ending end bad)
+  refused_file Run file bytes ending form there end bad = refused_program (run file) file bytes ending form refl there (refused_end Run bytes ending end bad)
+  refused_file Place file bytes ending form there end bad = absurd (elim (placing_status bytes ending end) [
+    | inl done ↦ let clash : Done ≡ BadProgram = sym done ∙ bad in cc
+    | inr (inl none) ↦ let clash : NoPlacement ≡ BadProgram = sym none ∙ bad in cc
+    | inr (inr bad_placing) ↦ let clash : BadPlacing ≡ BadProgram = sym bad_placing ∙ bad in cc
+  ])
+
+  why_program : (due : Due) → Comes contents words due → EndsWith BadProgram due → IsRefusedProgram contents words
+  why_program due (nothing none is) ends = absurd (let clash : BadCommandLine ≡ BadProgram = ends_as BadProgram due _ is ends in cc)
+  why_program due (lacking name is) ends = never_fetch BadProgram due name is ends
+  why_program due (unbuilt why is) ends = absurd (let clash : NotBuilt ≡ BadProgram = ends_as BadProgram due _ is ends in cc)
+  why_program due (replay_of number schedule lines of spelled is) ends = elim (replay_status 1 (booted number) lines) [
+    | inl done ↦ absurd (let clash : Done ≡ BadProgram = sym done ∙ ends_as BadProgram due _ is ends in cc)
+    | inr (bad, later) ↦ absurd (let clash : BadSchedule ≡ BadProgram = sym bad ∙ ends_as BadProgram due _ is ends in cc)
+  ]
+  why_program due (refused_replay program name bytes ending form there refusal is) ends = refused_program (replay program name) program bytes ending form refl there refusal
+  why_program due (ended command file bytes ending form there end is) ends = refused_file command file bytes ending form there end (ends_as BadProgram due ending is ends)
 
   why_schedule : (due : Due) → Comes contents words due → EndsWith BadSchedule due → IsRefusedReplay contents words
   why_schedule due (nothing none is) ends = absurd (let clash : BadCommandLine ≡ BadSchedule = ends_as BadSchedule due _ is ends in cc)
@@ -126,7 +212,10 @@ module _ (contents : List ℕ → Option (List ℕ)) (words : List (List ℕ)) w
     | inl done ↦ absurd (let clash : Done ≡ BadSchedule = sym done ∙ ends_as BadSchedule due _ is ends in cc)
     | inr (bad, later) ↦ record { number = number; schedule = schedule; replayed = of; lines = lines; spelled = spelled; refused = later }
   ]
-  why_schedule due (placed text ending end is) ends = absurd (never_placed BadSchedule text ending end (λ same. cc) (λ same. cc) (λ same. cc) (ends_as BadSchedule due _ is ends))
+  why_schedule due (refused_replay program name bytes ending form there (number, cause, refusal, means) is) ends =
+      absurd (let clash : BadProgram ≡ BadSchedule = sym (ap (λ (e : Ending). e.status) means) ∙ ends_as BadSchedule due ending is ends in cc)
+  why_schedule due (ended command file bytes ending form there end is) ends =
+      absurd (never_ends BadSchedule command bytes ending end (λ same. cc) (λ same. cc) (λ same. cc) (λ same. cc) (ends_as BadSchedule due ending is ends))
 
   why_unbuilt : (due : Due) → Comes contents words due → EndsWith NotBuilt due → IsNotBuilt contents words
   why_unbuilt due (nothing none is) ends = absurd (let clash : BadCommandLine ≡ NotBuilt = ends_as NotBuilt due _ is ends in cc)
@@ -136,7 +225,10 @@ module _ (contents : List ℕ → Option (List ℕ)) (words : List (List ℕ)) w
     | inl done ↦ absurd (let clash : Done ≡ NotBuilt = sym done ∙ ends_as NotBuilt due _ is ends in cc)
     | inr (bad, later) ↦ absurd (let clash : BadSchedule ≡ NotBuilt = sym bad ∙ ends_as NotBuilt due _ is ends in cc)
   ]
-  why_unbuilt due (placed text ending end is) ends = absurd (never_placed NotBuilt text ending end (λ same. cc) (λ same. cc) (λ same. cc) (ends_as NotBuilt due _ is ends))
+  why_unbuilt due (refused_replay program name bytes ending form there (number, cause, refusal, means) is) ends =
+      absurd (let clash : BadProgram ≡ NotBuilt = sym (ap (λ (e : Ending). e.status) means) ∙ ends_as NotBuilt due ending is ends in cc)
+  why_unbuilt due (ended command file bytes ending form there end is) ends =
+      absurd (never_ends NotBuilt command bytes ending end (λ same. cc) (λ same. cc) (λ same. cc) (λ same. cc) (ends_as NotBuilt due ending is ends))
 
   -- ---- and where the reason holds the end is that one
 
@@ -151,19 +243,42 @@ module _ (contents : List ℕ → Option (List ℕ)) (words : List (List ℕ)) w
   bad_words due is none =
       same_status BadCommandLine due bad_command_line is (record { is_due = inr (none, refl); last = tt }) refl
 
+  refused_due : (has : IsRefusedProgram contents words) (form : Form) → IsOfForm words form → program_read form ≡ Some has.program
+      → IsDueLast contents words (finish (refused_with has.number has.cause))
+  refused_due has form of is = by_form form of is
+    where
+      refusal : IsEndOfRefused has.bytes (refused_with has.number has.cause)
+      refusal = (has.number, has.cause, has.refused, refl)
+
+      found : (name : List ℕ) → Some name ≡ Some has.program → contents name ≡ Some has.bytes
+      found name same = let is : name ≡ has.program = cc in subst (λ n. contents n ≡ Some has.bytes) (sym is) has.there
+
+      by_form : (f : Form) → IsOfForm words f → program_read f ≡ Some has.program → IsDueLast contents words (finish (refused_with has.number has.cause))
+      by_form (stubs program) of is = due_of_form (stubs program) (has.bytes ∷ []) (finish (refused_with has.number has.cause)) of (found program is, tt) (refused_with has.number has.cause, inr refusal, refl) tt
+      by_form (run program) of is = due_of_form (run program) (has.bytes ∷ []) (finish (refused_with has.number has.cause)) of (found program is, tt) (refused_with has.number has.cause, inr refusal, refl) tt
+      by_form (replay program name) of is = due_of_form (replay program name) (has.bytes ∷ []) (finish (refused_with has.number has.cause)) of (found program is, tt) (inr (refused_with has.number has.cause, refusal, refl)) tt
+      by_form (place _) of is = absurd cc
+      by_form (node _ _ _) of is = absurd cc
+      by_form (sample _ _ _) of is = absurd cc
+      by_form (settle _ _) of is = absurd cc
+      by_form (audit _ _) of is = absurd cc
+
+  bad_program : (due : Due) → IsDueLast contents words due → IsRefusedProgram contents words → EndsWith BadProgram due
+  bad_program due is has = same_status BadProgram due _ is (refused_due has has.form has.of_form has.program_is) refl
+
   bad_schedule : (due : Due) → IsDueLast contents words due → IsRefusedReplay contents words → EndsWith BadSchedule due
   bad_schedule due is has =
       let r = has.replayed in
       let ending = replayed 1 (booted has.number) has.lines in
       let status = refused_status 1 (booted has.number) has.lines has.refused in
-      let other = due_of_form (replay r.program r.name) (r.bytes ∷ has.schedule ∷ []) (finish ending) r.of_form (r.program_is, (r.schedule_is, tt)) (has.number, r.thin, inl (has.lines, has.spelled, refl)) tt in
+      let other = due_of_form (replay r.program r.name) (r.bytes ∷ has.schedule ∷ []) (finish ending) r.of_form (r.program_is, (r.schedule_is, tt)) (r.good, has.number, r.thin, inl (has.lines, has.spelled, refl)) tt in
       same_status BadSchedule due (finish ending) is other status
 
   unbuilt_form : (form : Form) → IsUnbuilt form → IsDueOfForm form [] not_built
   unbuilt_form (replay _ _) un = absurd un
   unbuilt_form (place _) un = absurd un
-  unbuilt_form (stubs _) un = refl
-  unbuilt_form (run _) un = refl
+  unbuilt_form (stubs _) un = absurd un
+  unbuilt_form (run _) un = absurd un
   unbuilt_form (node _ _ _) un = refl
   unbuilt_form (sample _ _ _) un = refl
   unbuilt_form (settle _ _) un = refl
@@ -171,16 +286,19 @@ module _ (contents : List ℕ → Option (List ℕ)) (words : List (List ℕ)) w
 
   unbuilt_due : IsNotBuilt contents words → IsDueLast contents words not_built
   unbuilt_due (inl (form, of, un)) = due_of_form form [] not_built of tt (unbuilt_form form un) tt
-  unbuilt_due (inr (inl o)) = due_of_form (replay o.program o.name) (o.bytes ∷ []) not_built o.of_form (o.program_is, tt) (inr (o.other, refl)) tt
+  unbuilt_due (inr (inl o)) = due_of_form (replay o.program o.name) (o.bytes ∷ []) not_built o.of_form (o.program_is, tt) (inl (o.good, inr (o.other, refl))) tt
   unbuilt_due (inr (inr o)) =
       let r = o.replayed in
-      due_of_form (replay r.program r.name) (r.bytes ∷ o.schedule ∷ []) not_built r.of_form (r.program_is, (r.schedule_is, tt)) (o.number, r.thin, inr (o.other, refl)) tt
+      due_of_form (replay r.program r.name) (r.bytes ∷ o.schedule ∷ []) not_built r.of_form (r.program_is, (r.schedule_is, tt)) (r.good, o.number, r.thin, inr (o.other, refl)) tt
 
   not_built_why : (due : Due) → IsDueLast contents words due → IsNotBuilt contents words → EndsWith NotBuilt due
   not_built_why due is why = same_status NotBuilt due not_built is (unbuilt_due why) refl
 
   pub words_why : (due : Due) → IsDueLast contents words due → (EndsWith BadCommandLine due ↔ IsOfNoForm words)
   words_why due is = (why_words due (comes_to due is), bad_words due is)
+
+  pub program_why : (due : Due) → IsDueLast contents words due → (EndsWith BadProgram due ↔ IsRefusedProgram contents words)
+  program_why due is = (why_program due (comes_to due is), bad_program due is)
 
   pub schedule_why : (due : Due) → IsDueLast contents words due → (EndsWith BadSchedule due ↔ IsRefusedReplay contents words)
   schedule_why due is = (why_schedule due (comes_to due is), bad_schedule due is)

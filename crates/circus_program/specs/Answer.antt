@@ -3,13 +3,17 @@ use Rattle.std.specs.Prelude.{ℕ, ◌≡◌, ◌⊎◌, Option, Some, List, [],
 use Rattle.circus_outside.specs.Told.{told_more}
 use Rattle.circus_world.specs.declared.line.Line.{Line}
 use Rattle.circus_world.specs.Course.{booted}
-use Rattle.circus_program.specs.declared.status.Status.{Status}
-use Rattle.circus_program.specs.declared.status.Status.TheVariants.{BadCommandLine, NotBuilt}
+use Rattle.circus_ending.specs.declared.status.Status.{Status}
+use Rattle.circus_ending.specs.declared.status.Status.TheVariants.{BadCommandLine, NotBuilt}
 use Rattle.circus_program.specs.Form.{Form, stubs, run, replay, node, sample, settle, place, audit, IsOfForm, IsOfNoForm, files_of}
 use Rattle.circus_program.specs.Thin.{IsThinProgram, IsThinSchedule}
-use Rattle.circus_program.specs.Replay.{Ending, replayed}
-use Rattle.circus_program.specs.Placed.{IsEndOfPlacing}
-use Rattle.circus_program.specs.Report.{line}
+use Rattle.circus_ending.specs.Ending.{Ending}
+use Rattle.circus_program.specs.Replay.{replayed}
+use Rattle.circus_ending.specs.declared.one_file.OneFile.{OneFile}
+use Rattle.circus_ending.specs.declared.one_file.OneFile.TheVariants.{Stubs, Run, Place}
+use Rattle.circus_ending.specs.Refusal.{IsGood, IsEndOfRefused}
+use Rattle.circus_ending.specs.OneFile.{IsEndOf}
+use Rattle.circus_record.specs.Line.{line}
 
 -- what is due next: the contents of a file, or the end
 pub data Due : Type 0 where
@@ -24,11 +28,19 @@ bad_command_line = finish (record { status = BadCommandLine; text = line (codes 
 abbrev pub not_built : Due
 not_built = finish (record { status = NotBuilt; text = line (codes "not built") })
 
--- what is due once a replay's program is fetched
-abbrev pub IsDueOfProgram : List ℕ → List ℕ → Due → Type 0
-IsDueOfProgram schedule program due =
+-- what is due once a replay's program is fetched, and is a program
+abbrev pub IsDueOfGood : List ℕ → List ℕ → Due → Type 0
+IsDueOfGood schedule program due =
     ((number : ℕ) × IsThinProgram program number × (due ≡ fetch schedule))
     ⊎ (((number : ℕ) → IsThinProgram program number → ⊥) × (due ≡ not_built))
+
+-- what is due of a file that is no program
+abbrev pub IsDueOfRefused : List ℕ → Due → Type 0
+IsDueOfRefused program due = (ending : Ending) × IsEndOfRefused program ending × (due ≡ finish ending)
+
+-- what is due once a replay's first file is fetched
+abbrev pub IsDueOfProgram : List ℕ → List ℕ → Due → Type 0
+IsDueOfProgram schedule program due = (IsGood program × IsDueOfGood schedule program due) ⊎ IsDueOfRefused program due
 
 -- what is due once its schedule is fetched too
 abbrev pub IsDueOfSchedule : ℕ → List ℕ → Due → Type 0
@@ -41,14 +53,14 @@ abbrev pub IsDueOfReplay : List ℕ → List ℕ → List (List ℕ) → Due →
 IsDueOfReplay program schedule [] due = due ≡ fetch program
 IsDueOfReplay program schedule (bytes ∷ []) due = IsDueOfProgram schedule bytes due
 IsDueOfReplay program schedule (bytes ∷ more ∷ []) due =
-    (number : ℕ) × IsThinProgram bytes number × IsDueOfSchedule number more due
+    IsGood bytes × (number : ℕ) × IsThinProgram bytes number × IsDueOfSchedule number more due
 IsDueOfReplay program schedule (_ ∷ _ ∷ _ ∷ _) due = ⊥
 
--- what is due of a placing, whose text so far is this
-abbrev pub IsDueOfPlace : List ℕ → List (List ℕ) → Due → Type 0
-IsDueOfPlace placing [] due = due ≡ fetch placing
-IsDueOfPlace placing (text ∷ []) due = (ending : Ending) × IsEndOfPlacing text ending × (due ≡ finish ending)
-IsDueOfPlace placing (_ ∷ _ ∷ _) due = ⊥
+-- what is due of a command of one file, whose bytes so far are these
+abbrev pub IsDueOfFile : OneFile → List ℕ → List (List ℕ) → Due → Type 0
+IsDueOfFile command name [] due = due ≡ fetch name
+IsDueOfFile command name (bytes ∷ []) due = (ending : Ending) × IsEndOf command bytes ending × (due ≡ finish ending)
+IsDueOfFile command name (_ ∷ _ ∷ _) due = ⊥
 
 -- what is due of a form that is not built, before any file is fetched
 abbrev pub IsDueUnbuilt : List (List ℕ) → Due → Type 0
@@ -58,12 +70,12 @@ IsDueUnbuilt (_ ∷ _) due = ⊥
 -- what is due of a form, once these of its files are fetched, in order
 abbrev pub IsDueOfForm : Form → List (List ℕ) → Due → Type 0
 IsDueOfForm (replay program schedule) files due = IsDueOfReplay program schedule files due
-IsDueOfForm (stubs _) files due = IsDueUnbuilt files due
-IsDueOfForm (run _) files due = IsDueUnbuilt files due
+IsDueOfForm (stubs program) files due = IsDueOfFile Stubs program files due
+IsDueOfForm (run program) files due = IsDueOfFile Run program files due
 IsDueOfForm (node _ _ _) files due = IsDueUnbuilt files due
 IsDueOfForm (sample _ _ _) files due = IsDueUnbuilt files due
 IsDueOfForm (settle _ _) files due = IsDueUnbuilt files due
-IsDueOfForm (place placing) files due = IsDueOfPlace placing files due
+IsDueOfForm (place placing) files due = IsDueOfFile Place placing files due
 IsDueOfForm (audit _ _) files due = IsDueUnbuilt files due
 
 -- the files are those that the shelf has under the first of the names

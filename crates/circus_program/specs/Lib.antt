@@ -1,10 +1,8 @@
-pub mod Status
 pub mod Form
 pub mod Thin
 pub mod Names
 pub mod Report
 pub mod Replay
-pub mod Placed
 pub mod Answer
 pub mod Last
 pub mod Seen

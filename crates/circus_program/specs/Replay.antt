@@ -9,15 +9,11 @@ use Rattle.circus_world.specs.Refusal.{cause_of}
 use Rattle.circus_world.specs.declared.record.MemberRecord.{MemberRecord}
 use Rattle.circus_world.specs.WorldView.{WorldView}
 use Rattle.circus_world.specs.Course.{stepped, kept_of}
-use Rattle.circus_program.specs.declared.status.Status.{Status}
-use Rattle.circus_program.specs.declared.status.Status.TheVariants.{Done, BadSchedule}
+use Rattle.circus_ending.specs.declared.status.Status.TheVariants.{Done, BadSchedule}
+use Rattle.circus_ending.specs.Ending.{Ending}
 use Rattle.circus_program.specs.Names.{names}
-use Rattle.circus_program.specs.Report.{Member, Viewed, line, first_line, sent_lines, report_text}
-
--- what a command ends with: its status and all that it writes
-pub record Ending : Type 0 where
-  pub status : Status
-  pub text : List ℕ
+use Rattle.circus_record.specs.Line.{line}
+use Rattle.circus_program.specs.Report.{Member, Viewed, first_line, sent_lines, report_text}
 
 -- a troupe of one founder, as it was at boot
 abbrev pub founded : ℕ → ℕ → Viewed

@@ -8,6 +8,7 @@ use Rattle.circus_value.specs.Shown.{shown_list}
 use Rattle.circus_value.specs.ThreadText.{clock_text, path_text}
 use Rattle.circus_value.specs.OutcomeText.{outcome_text}
 use Rattle.circus_value.specs.declared.outcome.Outcome.{Outcome}
+use Rattle.circus_record.specs.Line.{line}
 use Rattle.circus_world.specs.declared.sent.Sent.{Sent}
 use Rattle.circus_world.specs.declared.record.Joiner.{Joiner}
 use Rattle.circus_world.specs.declared.record.Joiner.TheVariants.{Outside, Asking, Fetching, Active}
@@ -37,10 +38,6 @@ pub record Viewed : Type 0 where
   pub troupe : ℕ
   pub incarnation : ℕ
   pub entries : List Entered
-
--- a line with its newline
-abbrev pub line : List ℕ → List ℕ
-line text = text ++ 10 ∷ []
 
 -- live, or the step of the crash
 abbrev pub status_text : Option ℕ → List ℕ

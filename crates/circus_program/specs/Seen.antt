@@ -1,6 +1,5 @@
 -- How code is seen: what its forms, endings and steps say as plain data. No public call cites these.
 pub mod Words
-pub mod Ending
 pub mod Step
 pub mod Put
 pub mod Built

@@ -2,14 +2,13 @@
 ghost use Rattle.std.specs.Prelude.{◌≡◌, ◌∷◌, [], map, string_bytes, IsTrue, IfOk, IfSome, IfNone};
 ghost use Rattle.circus_program.specs.Seen.Words.{form_of};
 ghost use Rattle.circus_program.specs.Answer.{IsDue, IsDueOfForm, IsDueOfSchedule, AsksOnly, AsksFirstOf, finish, not_built};
-ghost use Rattle.circus_program.specs.Status.{is_end};
-ghost use Rattle.circus_program.specs.Seen.Ending.{ending_of};
+ghost use Rattle.circus_ending.specs.Status.{is_end};
+ghost use Rattle.circus_ending.specs.Seen.Ending.{ending_of};
 
-use crate::Status;
-use crate::placed::placed;
-use crate::replay::{Ending, replay_lines};
+use crate::replay::replay_lines;
 use crate::thin::{read_thin_program, read_thin_schedule};
 use crate::words::{Form, read_words};
+use circus_ending::{Ending, OneFile, Status, end_of, refusal_of};
 use circus_outside::{Shelf, ShelfFault};
 use circus_value::NoMemory;
 use std::alloc::{AllocError, Global};
@@ -21,19 +20,8 @@ pub enum Step<'a> {
     Lack(&'a str),
 }
 
-ghost use Rattle.circus_program.specs.Seen.Step.{due_of, HasEndStatus, IsLackNoted, IsStepBehind, IsStepOfReplay, IsStepOfPlace};
+ghost use Rattle.circus_program.specs.Seen.Step.{due_of, HasEndStatus, IsLackNoted, IsStepBehind, IsStepOfProgram, IsStepOfReplay, IsStepOfFile};
 ghost use Rattle.circus_program.specs.Seen.Built.{built_form};
-
-/// An end whose text is this line.
-fn ending(alloc: Global, status: Status, line: &str) -> Result<Ending, NoMemory>
-    ensures ending { IfOk result (λ ending. ending_of ending ≡ record { status = status; text = line.now }) }
-    ensures status { IfOk result (λ ending. ending.status ≡ status) }
-{
-    Ok(Ending {
-        status,
-        text: String::from_str(alloc, line)?,
-    })
-}
 
 /// What comes of a replay whose two files are fetched.
 fn replay_schedule(alloc: Global, number: u16, schedule: &[u8]) -> Result<Ending, NoMemory>
@@ -41,15 +29,15 @@ fn replay_schedule(alloc: Global, number: u16, schedule: &[u8]) -> Result<Ending
     ensures status { IfOk result (λ ending. IsTrue (is_end ending.status)) }
 {
     let Some(lines) = read_thin_schedule(alloc, schedule)? else {
-        let unbuilt = ending(alloc, Status::NotBuilt, "not built\n")?;
+        let unbuilt = Ending::of_line(alloc, Status::NotBuilt, "not built\n")?;
         return Ok(unbuilt);
     };
     let replayed = replay_lines(alloc, number, lines.as_slice())?;
     Ok(replayed)
 }
 
-/// What comes of a replay whose program is fetched.
-fn replay_program<'a, S: Shelf>(
+/// What comes of a replay whose first file is fetched, and is a program.
+fn replay_good<'a, S: Shelf>(
     alloc: Global,
     program: &[u8],
     schedule: &'a str,
@@ -61,7 +49,7 @@ fn replay_program<'a, S: Shelf>(
     ensures asked { AsksFirstOf (S.fetched shelf.old) (S.fetched shelf.new) (schedule.now ∷ []) }
 {
     let Some(number) = read_thin_program(program) else {
-        let unbuilt = ending(alloc, Status::NotBuilt, "not built\n")?;
+        let unbuilt = Ending::of_line(alloc, Status::NotBuilt, "not built\n")?;
         return Ok(Step::Finish(unbuilt));
     };
     let bytes = match shelf.fetch(schedule) {
@@ -71,6 +59,24 @@ fn replay_program<'a, S: Shelf>(
     };
     let replayed = replay_schedule(alloc, number, bytes.as_slice())?;
     Ok(Step::Finish(replayed))
+}
+
+/// What comes of a replay whose first file is fetched.
+fn replay_program<'a, S: Shelf>(
+    alloc: Global,
+    program: &[u8],
+    schedule: &'a str,
+    shelf: &mut S,
+) -> Result<Step<'a>, NoMemory>
+    ensures due { IfOk result (λ step. IsStepOfProgram (S.contents shelf.old) program.now schedule.now (due_of step)) }
+    ensures status { IfOk result HasEndStatus }
+    ensures lack { IfOk result (IsLackNoted (S.fetched shelf.new) (S.faults shelf.old) (S.faults shelf.new)) }
+    ensures asked { AsksFirstOf (S.fetched shelf.old) (S.fetched shelf.new) (schedule.now ∷ []) }
+{
+    match refusal_of(alloc, program)? {
+        Some(refused) => Ok(Step::Finish(refused)),
+        None => replay_good(alloc, program, schedule, shelf),
+    }
 }
 
 /// What comes of a replay of two files.
@@ -94,24 +100,31 @@ fn replay<'a, S: Shelf>(
     Ok(step)
 }
 
-/// What comes of a placing.
-fn place<'a, S: Shelf>(alloc: Global, placing: &'a str, shelf: &mut S) -> Result<Step<'a>, NoMemory>
-    ensures due { IfOk result (λ step. IsStepOfPlace (S.contents shelf.old) placing.now (due_of step)) }
+/// What comes of a command of one file.
+fn one_file<'a, S: Shelf>(
+    alloc: Global,
+    command: OneFile,
+    name: &'a str,
+    shelf: &mut S,
+) -> Result<Step<'a>, NoMemory>
+    ensures due { IfOk result (λ step. IsStepOfFile (S.contents shelf.old) command name.now (due_of step)) }
     ensures status { IfOk result HasEndStatus }
     ensures lack { IfOk result (IsLackNoted (S.fetched shelf.new) (S.faults shelf.old) (S.faults shelf.new)) }
-    ensures asked { AsksFirstOf (S.fetched shelf.old) (S.fetched shelf.new) (placing.now ∷ []) }
+    ensures asked { AsksFirstOf (S.fetched shelf.old) (S.fetched shelf.new) (name.now ∷ []) }
 {
-    let bytes = match shelf.fetch(placing) {
+    let bytes = match shelf.fetch(name) {
         Ok(bytes) => bytes,
         Err(ShelfFault::NoMemory) => return Err(AllocError),
-        Err(ShelfFault::Failed) => return Ok(Step::Lack(placing)),
+        Err(ShelfFault::Failed) => return Ok(Step::Lack(name)),
     };
-    let ending = placed(alloc, bytes.as_slice())?;
+    let ending = end_of(alloc, command, bytes.as_slice())?;
     Ok(Step::Finish(ending))
 }
 
 /// A form that is built.
 enum Built<'a> {
+    Stubs(&'a str),
+    Run(&'a str),
     Replay(&'a str, &'a str),
     Place(&'a str),
 }
@@ -122,14 +135,11 @@ fn built_of(form: Form<'_>) -> Option<Built<'_>>
     ensures other { IfNone result (IsDueOfForm (form_of form.entry) [] not_built) }
 {
     match form {
+        Form::Stubs { program } => Some(Built::Stubs(program)),
+        Form::Run { program } => Some(Built::Run(program)),
         Form::Replay { program, schedule } => Some(Built::Replay(program, schedule)),
         Form::Place { placing } => Some(Built::Place(placing)),
-        Form::Stubs { .. }
-        | Form::Run { .. }
-        | Form::Node { .. }
-        | Form::Sample { .. }
-        | Form::Settle { .. }
-        | Form::Audit { .. } => None,
+        Form::Node { .. } | Form::Sample { .. } | Form::Settle { .. } | Form::Audit { .. } => None,
     }
 }
 
@@ -145,14 +155,16 @@ pub fn follow<'a, S: Shelf>(
     ensures asked { AsksOnly (S.fetched shelf.old) (S.fetched shelf.new) (map string_bytes words.now) }
 {
     let Some(form) = read_words(words) else {
-        let refused = ending(alloc, Status::BadCommandLine, "circus: bad command line\n")?;
+        let refused = Ending::of_line(alloc, Status::BadCommandLine, "circus: bad command line\n")?;
         return Ok(Step::Finish(refused));
     };
     match built_of(form) {
+        Some(Built::Stubs(program)) => one_file(alloc, OneFile::Stubs, program, shelf),
+        Some(Built::Run(program)) => one_file(alloc, OneFile::Run, program, shelf),
         Some(Built::Replay(program, schedule)) => replay(alloc, program, schedule, shelf),
-        Some(Built::Place(placing)) => place(alloc, placing, shelf),
+        Some(Built::Place(placing)) => one_file(alloc, OneFile::Place, placing, shelf),
         None => {
-            let unbuilt = ending(alloc, Status::NotBuilt, "not built\n")?;
+            let unbuilt = Ending::of_line(alloc, Status::NotBuilt, "not built\n")?;
             Ok(Step::Finish(unbuilt))
         }
     }

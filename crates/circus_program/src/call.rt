@@ -2,30 +2,31 @@
 ghost use Rattle.std.specs.Prelude.{◌≡◌, map, string_bytes, IfOk};
 ghost use Rattle.circus_outside.specs.Faults.{Rose};
 ghost use Rattle.circus_program.specs.Answer.{AsksOnly, WritesEnd, WritesLack, WritesPartOfText, shelf_fault as fault_line};
-ghost use Rattle.circus_program.specs.declared.status.Status.{Status as Ended};
-ghost use Rattle.circus_program.specs.declared.status.Status.TheVariants.{Done, BadCommandLine, BadSchedule, ShelfFault, SinkFault, NoMemory, NotBuilt, BadPlacing, NoPlacement};
-ghost use Rattle.circus_program.specs.Status.{code_of};
+ghost use Rattle.circus_ending.specs.declared.status.Status.{Status as Ended};
+ghost use Rattle.circus_ending.specs.declared.status.Status.TheVariants.{Done, BadCommandLine, BadProgram, BadSchedule, ShelfFault, SinkFault, NoMemory, NotBuilt, BadPlacing, NoPlacement};
+ghost use Rattle.circus_ending.specs.Status.{code_of};
 ghost use Rattle.circus_program.specs.Seen.Put.{IsPut, IsAnswer};
 
-use crate::Status;
 use crate::answer::{Step, follow};
 use crate::put::{PutFault, put_lines};
+use circus_ending::Status;
 use circus_outside::{Link, Shelf, Sink};
 use circus_value::NoMemory;
 use std::alloc::Global;
 
 /// Does what the words ask for: fetches files from the shelf, writes to the sink line by line, and answers
-/// the status (docs/GUIDE.md, "Statuses"). So far `place` is built, and `replay` for one program and schedules of
-/// deliveries; the link is not used.
+/// the status (docs/GUIDE.md, "Statuses"). So far `stubs`, `run` and `place` are built, and `replay` for one program and
+/// schedules of deliveries; the link is not used.
 ///
-/// - 0: the report of a replay, or the best choice of a placing is written.
+/// - 0: the stubs or the history of a program, the report of a replay, or the best choice of a placing is written.
 /// - 1: exactly where the words are of no form.
+/// - 2: exactly where the file of `stubs`, `run` or `replay` is no program; its line and cause are written.
 /// - 3: exactly where a line of the schedule is refused, which the last line written names.
 /// - 4: only where the shelf's count of faults rose; the name fetched last is written.
 /// - 5: only where the sink's count of faults rose; what was written is a part of the text.
 /// - 7: where there is no memory; what was written is a part of the text.
-/// - 9: exactly where the words are of another form than `replay` and `place`, else the program is not one that is
-///   built, else the schedule.
+/// - 9: exactly where the words are of another form than these, else the program of a replay is not the one that is built,
+///   else the schedule.
 /// - 11: exactly where the text of a placing is refused, whose line and cause are written.
 /// - 12: exactly where no choice of machines satisfies a placing.
 pub fn circus<S: Shelf, K: Sink, L: Link>(
@@ -41,6 +42,7 @@ pub fn circus<S: Shelf, K: Sink, L: Link>(
 
     ensures done { result ≡ code_of Done → WritesEnd (S.contents shelf.old) (map string_bytes words.now) (K.written sink.old) (K.written sink.new) Done }
     ensures bad_words { result ≡ code_of BadCommandLine → WritesEnd (S.contents shelf.old) (map string_bytes words.now) (K.written sink.old) (K.written sink.new) BadCommandLine }
+    ensures bad_program { result ≡ code_of BadProgram → WritesEnd (S.contents shelf.old) (map string_bytes words.now) (K.written sink.old) (K.written sink.new) BadProgram }
     ensures bad_schedule { result ≡ code_of BadSchedule → WritesEnd (S.contents shelf.old) (map string_bytes words.now) (K.written sink.old) (K.written sink.new) BadSchedule }
     ensures not_built { result ≡ code_of NotBuilt → WritesEnd (S.contents shelf.old) (map string_bytes words.now) (K.written sink.old) (K.written sink.new) NotBuilt }
     ensures bad_placing { result ≡ code_of BadPlacing → WritesEnd (S.contents shelf.old) (map string_bytes words.now) (K.written sink.old) (K.written sink.new) BadPlacing }
@@ -70,7 +72,7 @@ fn answer<S: Shelf, K: Sink>(alloc: Global, words: &[String], shelf: &mut S, sin
         Err(_) => return Status::NoMemory,
     };
     match step {
-        Step::Finish(ending) => put(sink, ending.status, ending.text.as_bytes()),
+        Step::Finish(ending) => put(sink, ending.status, ending.text.as_slice()),
         Step::Lack(name) => match shelf_fault(alloc, name) {
             Ok(text) => put(sink, Status::ShelfFault, text.as_bytes()),
             Err(_) => Status::NoMemory,

@@ -1,16 +1,17 @@
 // A replay: the world that the lines leave, and its report.
 ghost use Rattle.std.specs.Prelude.{◌≡◌, ◌++◌, ◌≤◌, length, None, IfOk, OnOk, string_bytes, codes, IsTrue};
-ghost use Rattle.circus_program.specs.Status.{is_end};
+ghost use Rattle.circus_ending.specs.Status.{is_end};
 ghost use Rattle.std.specs.Fmt.{decimal};
 ghost use Rattle.circus_world.specs.Course.{booted, kept_of};
-ghost use Rattle.circus_program.specs.Seen.Ending.{ending_of};
+ghost use Rattle.circus_ending.specs.Seen.Ending.{ending_of};
 ghost use Rattle.circus_program.specs.Names.{names};
-ghost use Rattle.circus_program.specs.Report.{line, rest_text, members_lines, view_line, view_lines};
+ghost use Rattle.circus_record.specs.Line.{line};
+ghost use Rattle.circus_program.specs.Report.{rest_text, members_lines, view_line, view_lines};
 ghost use Rattle.circus_program.specs.Replay.{founded, founded_views, member_of, members_of, report_of, refusal_text, cause_text, replayed};
 
-use crate::Status;
 use crate::names::{name_of_node, name_of_troupe};
 use crate::report::{append_all_sent, append_member, append_words};
+use circus_ending::{Ending, Status};
 use circus_value::NoMemory;
 use circus_world::{BootFault, Cause, Line, World, WorldFault};
 use std::alloc::{AllocError, Global};
@@ -22,13 +23,6 @@ const ROOT: u16 = 2;
 const COUNTER: u16 = 0;
 
 const MAIN: u16 = 1;
-
-/// What a command ends with: its status, and all that it writes.
-#[derive(Drop)]
-pub struct Ending {
-    pub status: Status,
-    pub text: String,
-}
 
 /// Replays lines of which each is one step, over the program whose root calls with this number.
 pub fn replay_lines(alloc: Global, number: u16, lines: &[Line]) -> Result<Ending, NoMemory>
@@ -52,10 +46,7 @@ pub fn replay_lines(alloc: Global, number: u16, lines: &[Line]) -> Result<Ending
         };
         line_number += 1;
     }
-    Ok(Ending {
-        status: Status::Done,
-        text: report(alloc, &world)?,
-    })
+    Ok(Ending::of(Status::Done, report(alloc, &world)?))
 }
 
 /// The end of a replay whose line with this number is refused.
@@ -73,10 +64,7 @@ fn refusal(
     append_words(&mut text, "circus report 1\n")?;
     append_all_sent(alloc, &mut text, world.sent().as_slice())?;
     append_refusal(&mut text, line_number, cause)?;
-    Ok(Ending {
-        status: Status::BadSchedule,
-        text,
-    })
+    Ok(Ending::of(Status::BadSchedule, text))
 }
 
 /// Adds why the line with this number is refused.

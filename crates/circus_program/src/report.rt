@@ -1,7 +1,8 @@
 // The report's lines.
 ghost use Rattle.std.specs.Prelude.{◌≡◌, ◌++◌, ◌+◌, ◌<◌, ◌^◌, length, None, OnOk, string_bytes, codes};
 ghost use Rattle.circus_program.specs.Names.{names};
-ghost use Rattle.circus_program.specs.Report.{sent_line, sent_lines, ask_head, ask_rest, ask_line, reply_line, ask_lines, run_head, run_rest, run_line, end_line, run_lines, runs_lines, member_lines, active_lines, head_line, now_line, waiting_text, line};
+ghost use Rattle.circus_record.specs.Line.{line};
+ghost use Rattle.circus_program.specs.Report.{sent_line, sent_lines, ask_head, ask_rest, ask_line, reply_line, ask_lines, run_head, run_rest, run_line, end_line, run_lines, runs_lines, member_lines, active_lines, head_line, now_line, waiting_text};
 ghost use Rattle.std.specs.Fmt.{decimal};
 ghost use Rattle.circus_value.specs.Shown.{shown_list};
 

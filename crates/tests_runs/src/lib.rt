@@ -9,6 +9,4 @@ mod placings;
 #[cfg(test)]
 mod replays;
 #[cfg(test)]
-mod run;
-#[cfg(test)]
 mod words;

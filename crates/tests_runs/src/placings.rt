@@ -1,11 +1,11 @@
 // Whole runs of the form `place` over a shelf and a sink in memory: the file `f`, what is written to the byte, and
 // the status.
-use crate::run::{Ended, file, perform};
 use circus_outside::{Failing, Files};
 use circus_value::NoMemory;
 use std::alloc::Global;
 use std::process::Abort;
 use std::test::Fail;
+use tests_command::{Ended, file, perform};
 
 // examples/first.place.
 const FIRST: &str = "\
@@ -124,7 +124,7 @@ fn placed(
     failing: Option<u64>,
 ) -> Result<Ended, NoMemory> {
     let mut files = Files::new(alloc);
-    files.push(file(alloc, "f", placing)?)?;
+    files.push(file(alloc, "f", placing.as_bytes())?)?;
     let mut puts = Failing::new(alloc);
     if let Some(number) = failing {
         puts.push(number)?;

@@ -1,11 +1,11 @@
 // Whole runs of the command over a shelf, a sink and a link in memory. Of a program and a schedule
 // they have what is written to the byte, the status, and how many files were fetched.
-use crate::run::{file, perform};
 use circus_outside::{Failing, Files};
 use circus_value::NoMemory;
 use std::alloc::Global;
 use std::process::Abort;
 use std::test::Fail;
+use tests_command::{file, perform};
 
 const BEFORE_NUMBER: &str = "\
 CIRCUS 1;
@@ -106,6 +106,26 @@ end 0 step 3 clock 1,0 returned [] state [65535]
 now idle state [65535]
 ";
 
+const HISTORY: &str = "\
+circus history 1
+module Counter count 1
+run 0 path Main.0 procedure 1 clock 1,0 arguments [5]
+end 0 clock 1,0 returned [5] state [5]
+module Main count 1
+run 0 path Main procedure 0 clock 0,0 arguments []
+ask 0 to Counter index 0 procedure 1 arguments [5] state [0]
+reply 0 clock 1,0 returned [5]
+end 0 clock 1,0 returned [] state [5]
+";
+
+const STUBS: &str = "\
+circus stubs 1
+interface Count 1 version 1
+procedure Add 1
+call cardinal
+return cardinal
+";
+
 const NOT_BUILT: &str = "not built\n";
 
 // The texts, one behind another.
@@ -119,8 +139,8 @@ fn joined(alloc: Global, texts: &[&str]) -> Result<String, NoMemory> {
 
 fn files(alloc: Global, program: &str, schedule: &str) -> Result<Files, NoMemory> {
     let mut files = Files::new(alloc);
-    files.push(file(alloc, "p", program)?)?;
-    files.push(file(alloc, "s", schedule)?)?;
+    files.push(file(alloc, "p", program.as_bytes())?)?;
+    files.push(file(alloc, "s", schedule.as_bytes())?)?;
     Ok(files)
 }
 
@@ -202,7 +222,43 @@ const REPLAYED: [Row; 5] = [
     },
 ];
 
-const REFUSED: [Row; 5] = [
+// Of the program alone.
+const SHOWN: [Row; 4] = [
+    Row {
+        words: &["run", "p"],
+        program: CALLS_WITH_5,
+        schedule: "",
+        written: &[HISTORY],
+        status: 0,
+        fetched: 1,
+    },
+    Row {
+        words: &["stubs", "p"],
+        program: CALLS_WITH_5,
+        schedule: "",
+        written: &[STUBS],
+        status: 0,
+        fetched: 1,
+    },
+    Row {
+        words: &["run", "p"],
+        program: &["CIRCUS"],
+        schedule: "",
+        written: &["program line 1: syntax\n"],
+        status: 2,
+        fetched: 1,
+    },
+    Row {
+        words: &["stubs", "p"],
+        program: &[BEFORE_NUMBER, "5", "] INTO [gone];\n"],
+        schedule: "",
+        written: &["program line 19: syntax\n"],
+        status: 2,
+        fetched: 1,
+    },
+];
+
+const REFUSED: [Row; 6] = [
     Row {
         words: &[],
         program: CALLS_WITH_5,
@@ -220,7 +276,7 @@ const REFUSED: [Row; 5] = [
         fetched: 1,
     },
     Row {
-        words: &["stubs", "p"],
+        words: &["sample", "p", "1", "1"],
         program: CALLS_WITH_5,
         schedule: DELIVER_ALL,
         written: &[NOT_BUILT],
@@ -229,10 +285,18 @@ const REFUSED: [Row; 5] = [
     },
     Row {
         words: REPLAY,
-        program: &["CIRCUS 1;\n"],
+        program: &["CIRCUS 1;\nRINGMASTER ring PORT 9000;\n"],
         schedule: DELIVER_ALL,
         written: &[NOT_BUILT],
         status: 9,
+        fetched: 1,
+    },
+    Row {
+        words: REPLAY,
+        program: &["CIRCUS 1;\n"],
+        schedule: DELIVER_ALL,
+        written: &["program line 2: syntax\n"],
+        status: 2,
         fetched: 1,
     },
     Row {
@@ -260,6 +324,14 @@ fn leaves(rt: &impl Abort, alloc: Global, row: &Row) -> Result<(), NoMemory> {
 #[test]
 fn replays_are_reported(rt: HostRuntime) -> Result<(), Fail> {
     for row in &REPLAYED {
+        leaves(&rt, rt.alloc(), row)?;
+    }
+    Ok(())
+}
+
+#[test]
+fn programs_are_shown(rt: HostRuntime) -> Result<(), Fail> {
+    for row in &SHOWN {
         leaves(&rt, rt.alloc(), row)?;
     }
     Ok(())

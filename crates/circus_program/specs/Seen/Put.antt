@@ -1,8 +1,8 @@
 -- What a call answers, as one fact.
 use Rattle.std.specs.Prelude.{◌≡◌, ◌⊎◌, ℕ, Option, List, IsTrue}
-use Rattle.circus_program.specs.declared.status.Status.{Status}
-use Rattle.circus_program.specs.declared.status.Status.TheVariants.{ShelfFault, SinkFault, NoMemory}
-use Rattle.circus_program.specs.Status.{is_end}
+use Rattle.circus_ending.specs.declared.status.Status.{Status}
+use Rattle.circus_ending.specs.declared.status.Status.TheVariants.{ShelfFault, SinkFault, NoMemory}
+use Rattle.circus_ending.specs.Status.{is_end}
 use Rattle.circus_program.specs.Answer.{Writes, WritesPart, WritesPartOfText, WritesEnd, WritesLack}
 
 -- a text was put with this status, or a part of it, and the sink failed or there was no memory

@@ -1,10 +1,12 @@
-use Rattle.std.proofs.Common.{[], ◌∷◌}
+use Rattle.std.proofs.Common.{[], ◌∷◌, subst}
+use Rattle.circus_program.specs.Seen.Step.{due_of, IsStepOfProgram}
 use Rattle.circus_program.proofs.AnswerLemmas.{step-of_replay, asks-more}
 use Rattle.circus_program.proofs.answer.replay.Goals as goal
 
 pub returns-clause-due : goal.returns-clause-due
 returns-clause-due g c =
-    let behind = rw (c.in-Ok.ensures.contents, c.as_slice.ensures) at c.in_ok-step.ensures.due in
+    let told = rw c.in-Ok.ensures.contents at c.in_ok-step.ensures.due in
+    let behind = subst (λ b. IsStepOfProgram (g.S.Shelf.contents c.args.shelf.now) b c.args.schedule.now (due_of c.in_ok-step.step)) c.as_slice.ensures told in
     step-of_replay (g.S.Shelf.contents c.args.shelf.now) c.args.program.now c.in-Ok.bytes c.args.schedule.now _ c.in-Ok.ensures.told behind
 
 pub returns-clause-asked : goal.returns-clause-asked

@@ -1,30 +1,16 @@
-use Rattle.std.proofs.Common.{ap, inl, inr, refl, [], ◌∷◌}
-use Rattle.circus_program.specs.Answer.{finish}
-use Rattle.circus_program.proofs.AnswerLemmas.{fetched-none, fetched-more}
+use Rattle.std.proofs.Common.{inr, refl, subst}
+use Rattle.std.specs.Prelude.{IfSome, IfNone}
+use Rattle.circus_ending.specs.Refusal.{IsGood, IsEndOfRefused}
+use Rattle.circus_ending.specs.Seen.Ending.{ending_of}
+use Rattle.circus_program.proofs.AnswerLemmas.{behind-good}
 use Rattle.circus_program.proofs.answer.replay_program.Goals as goal
 
-pub returns-in_default-clause-due : goal.returns-in_default-clause-due
-returns-in_default-clause-due g c =
-    record {
-      files = [];
-      fetched = fetched-none (g.S.Shelf.contents c.args.shelf.now) (c.args.schedule.now ∷ []);
-      is_due = inr (c.in_default.ensures.none, ap finish c.in_ok-unbuilt.ensures.ending);
-    }
+pub returns-in-Some-clause-due : goal.returns-in-Some-clause-due
+returns-in-Some-clause-due g c =
+    let refused = subst (λ o. IfSome o (λ e. IsEndOfRefused c.args.program.now (ending_of e))) c.in-Some.is c.in_ok-refused.ensures.refused in
+    inr (ending_of c.in-Some.refused, refused, refl)
 
-pub returns-in-Err-Failed-clause-due : goal.returns-in-Err-Failed-clause-due
-returns-in-Err-Failed-clause-due g c =
-    record {
-      files = [];
-      fetched = fetched-none (g.S.Shelf.contents c.args.shelf.now) (c.args.schedule.now ∷ []);
-      is_due = inl (c.in-Some.number, c.in-Some.ensures.some, refl);
-    }
-
-pub returns-clause-due : goal.returns-clause-due
-returns-clause-due g c =
-    let shelf = g.S.Shelf.contents c.args.shelf.now in
-    let due = rw c.as_slice.ensures at c.in_ok-replayed.ensures.due in
-    record {
-      files = c.in-Ok.bytes ∷ [];
-      fetched = fetched-more shelf c.args.schedule.now c.in-Ok.bytes [] [] c.in-Ok.ensures.told (fetched-none shelf []);
-      is_due = (c.in-Some.number, c.in-Some.ensures.some, due);
-    }
+pub returns-in-None-clause-due : goal.returns-in-None-clause-due
+returns-in-None-clause-due g c =
+    let good = subst (λ o. IfNone o (IsGood c.args.program.now)) c.in-None.is c.in_ok-refused.ensures.good in
+    behind-good (g.S.Shelf.contents c.args.shelf.now) c.args.program.now c.args.schedule.now c.replay_good.result good c.replay_good.ensures.due

@@ -1,5 +1,5 @@
 use Rattle.std.proofs.Common.{refl}
-use Rattle.circus_program.specs.declared.status.Status.TheVariants.{Done, BadCommandLine, BadSchedule, ShelfFault, SinkFault, NoMemory, NotBuilt, BadPlacing, NoPlacement}
+use Rattle.circus_ending.specs.declared.status.Status.TheVariants.{Done, BadCommandLine, BadProgram, BadSchedule, ShelfFault, SinkFault, NoMemory, NotBuilt, BadPlacing, NoPlacement}
 use Rattle.circus_program.proofs.PutLemmas.{ended_as, one_status}
 use Rattle.circus_program.proofs.call.circus.Goals as goal
 
@@ -11,6 +11,9 @@ returns-clause-done g c = λ is. ended_as _ _ _ _ _ _ _ c.answer-status.result D
 
 pub returns-clause-bad_words : goal.returns-clause-bad_words
 returns-clause-bad_words g c = λ is. ended_as _ _ _ _ _ _ _ c.answer-status.result BadCommandLine c.code.result c.answer-status.ensures.answer c.code.ensures refl is
+
+pub returns-clause-bad_program : goal.returns-clause-bad_program
+returns-clause-bad_program g c = λ is. ended_as _ _ _ _ _ _ _ c.answer-status.result BadProgram c.code.result c.answer-status.ensures.answer c.code.ensures refl is
 
 pub returns-clause-bad_schedule : goal.returns-clause-bad_schedule
 returns-clause-bad_schedule g c = λ is. ended_as _ _ _ _ _ _ _ c.answer-status.result BadSchedule c.code.result c.answer-status.ensures.answer c.code.ensures refl is

@@ -1,8 +1,11 @@
-use Rattle.circus_program.proofs.Why.{words_why, schedule_why, unbuilt_why}
+use Rattle.circus_program.proofs.Why.{words_why, program_why, schedule_why, unbuilt_why}
 use Rattle.circus_program.proofs.laws.ends_tell_why.Goals as goal
 
 pub returns-clause-bad_words : goal.returns-clause-bad_words
 returns-clause-bad_words c = words_why
+
+pub returns-clause-bad_program : goal.returns-clause-bad_program
+returns-clause-bad_program c = program_why
 
 pub returns-clause-bad_schedule : goal.returns-clause-bad_schedule
 returns-clause-bad_schedule c = schedule_why

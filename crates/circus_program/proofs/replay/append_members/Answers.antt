@@ -2,7 +2,7 @@ use Rattle.std.proofs.Common.{◌∙◌, ◌++◌, ap, sym, string_bytes}
 use Rattle.circus_world.specs.Course.{kept_of}
 use Rattle.circus_program.specs.Names.{names}
 use Rattle.circus_program.specs.Replay.{member_of}
-use Rattle.circus_program.proofs.Appended.{appended_twice}
+use Rattle.circus_ending.proofs.Appended.{appended_twice}
 use Rattle.circus_program.proofs.ReplayLemmas.{members_lines-append}
 use Rattle.circus_program.proofs.replay.append_members.Goals as goal
 

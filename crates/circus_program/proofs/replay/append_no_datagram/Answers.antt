@@ -1,4 +1,4 @@
-use Rattle.circus_program.proofs.Appended.{appended_twice}
+use Rattle.circus_ending.proofs.Appended.{appended_twice}
 use Rattle.circus_program.proofs.replay.append_no_datagram.Goals as goal
 
 pub returns : goal.returns

@@ -2,7 +2,7 @@ use Rattle.std.proofs.Common.{◌∙◌, ◌++◌, ap, sym, string_bytes, append
 use Rattle.circus_program.specs.Names.{names}
 use Rattle.circus_program.specs.Report.{view_line}
 use Rattle.circus_program.specs.Replay.{founded}
-use Rattle.circus_program.proofs.Appended.{appended_twice}
+use Rattle.circus_ending.proofs.Appended.{appended_twice}
 use Rattle.circus_program.proofs.replay.append_views.Goals as goal
 
 pub returns : goal.returns

@@ -1,4 +1,4 @@
-use Rattle.circus_program.proofs.Appended.{written_thrice}
+use Rattle.circus_ending.proofs.Appended.{written_thrice}
 use Rattle.circus_program.proofs.replay.report.Goals as goal
 
 pub returns : goal.returns

@@ -1,7 +1,7 @@
 use Rattle.std.proofs.Common.{◌<◌, ◌++◌, length, refl, arith}
 use Rattle.circus_program.specs.Names.{names}
 use Rattle.circus_program.specs.Report.{ask_line, reply_line, ask_lines}
-use Rattle.circus_program.proofs.Appended.{appended_twice, numbered_more}
+use Rattle.circus_ending.proofs.Appended.{appended_twice, numbered_more}
 use Rattle.circus_program.proofs.report.append_asks.Goals as goal
 
 pub loop-ask-preserved : goal.loop-ask-preserved

@@ -1,7 +1,7 @@
 use Rattle.std.proofs.Common.{◌<◌, length, refl, arith}
 use Rattle.circus_program.specs.Names.{names}
 use Rattle.circus_program.specs.Report.{run_lines, runs_lines}
-use Rattle.circus_program.proofs.Appended.{numbered_more}
+use Rattle.circus_ending.proofs.Appended.{numbered_more}
 use Rattle.circus_program.proofs.report.append_runs.Goals as goal
 
 pub loop-run-preserved : goal.loop-run-preserved

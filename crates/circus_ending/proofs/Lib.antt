@@ -1,0 +1,4 @@
+pub mod Appended
+mod Told
+pub mod OneProgram
+pub mod OneEnding

@@ -1,0 +1,7 @@
+pub mod Status
+pub mod Ending
+pub mod Refusal
+pub mod Program
+pub mod Placed
+pub mod OneFile
+pub mod Seen

@@ -1,0 +1,50 @@
+// The history of a program when nothing is replicated.
+ghost use Rattle.std.specs.Prelude.{◌≡◌, All, IsAscii, IsTrue, map, IfOk};
+ghost use Rattle.std.specs.List.{AllByRecursion};
+ghost use Rattle.circus_idl.specs.Obeys.{Obeys};
+ghost use Rattle.circus_check.specs.Seen.Meant.{module_as};
+ghost use Rattle.circus_check.specs.WellFormed.{AreWellFormed};
+ghost use Rattle.circus_ending.specs.Program.{history_lines, IsEndOfProgram};
+ghost use Rattle.circus_ending.specs.Seen.Ending.{ending_of};
+ghost use Rattle.circus_ending.specs.Status.{is_end};
+
+use crate::refused::plan_of;
+use crate::{Ending, Status};
+use circus_config::Plan;
+use circus_history::show_history;
+use circus_model::run_alone;
+use circus_modules::modules_of;
+use circus_value::{NoMemory, Octets};
+use std::alloc::Global;
+
+// The lines of what the modules of a plan perform.
+fn history_lines(alloc: Global, plan: Plan) -> Result<Octets, NoMemory>
+    requires obey { AllByRecursion Obeys plan.checked.interfaces }
+    requires well_formed { AreWellFormed plan.checked.interfaces (map module_as plan.checked.modules) }
+    requires named { All IsAscii plan.names }
+    ensures { IfOk result (λ text. text ≡ history_lines plan) }
+{
+    let limit = plan.limit();
+    let Plan {
+        deployment: _,
+        names,
+        checked,
+    } = plan;
+    let (_, modules) = modules_of(alloc, limit, checked)?;
+    let history = run_alone(alloc, modules.as_slice())?;
+    show_history(alloc, &names, &history)
+}
+
+/// What comes of a program that is run unreplicated.
+pub fn unreplicated(alloc: Global, bytes: &[u8]) -> Result<Ending, NoMemory>
+    ensures ending { IfOk result (λ ending. IsEndOfProgram history_lines bytes.now (ending_of ending)) }
+    ensures status { IfOk result (λ ending. IsTrue (is_end ending.status)) }
+{
+    match plan_of(alloc, bytes)? {
+        Ok(plan) => Ok(Ending {
+            status: Status::Done,
+            text: history_lines(alloc, plan)?,
+        }),
+        Err(refused) => Ok(refused),
+    }
+}
