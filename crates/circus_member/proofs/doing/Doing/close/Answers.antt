@@ -1,0 +1,15 @@
+use Rattle.std.proofs.Common.{ap, ◌∙◌}
+use Rattle.circus_member.specs.MemberState.{is_waiting}
+use Rattle.circus_member.specs.Rules.{close_by}
+use Rattle.circus_member.specs.Step.{closed_by}
+use Rattle.circus_member.proofs.Parts.{doing_of}
+use Rattle.circus_member.proofs.Unsettled.{waits_as}
+use Rattle.circus_member.proofs.doing.Doing.close.Goals as goal
+
+pub returns : goal.returns
+returns g c =
+    let i = c.self.inside in
+    let waits = ap is_waiting c.name_of_open-waits.ensures ∙ waits_as i.performer.kept in
+    let asks = c.close_by.ensures ∙ ap (λ f. close_by i.known f c.args.concern c.args.waited i.asks) waits in
+    (λ j. doing_of i.place i.known i.gather i.performer (asks j) i.requests i.effects)
+    ∙ ap (λ d. closed_by c.args.concern c.args.waited d) c.self.view_is

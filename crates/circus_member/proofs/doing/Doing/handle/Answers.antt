@@ -1,0 +1,166 @@
+use Rattle.std.proofs.Common.{◌≡◌, Option, refl, sym, subst}
+use Rattle.std.proofs.lemmas.Result.{IfOk-weaker}
+use Rattle.circus_model.specs.Behaviour.{IsModule}
+use Rattle.circus_performing.specs.Record.{behaviour}
+use Rattle.circus_member.specs.declared.occurrence.Difference.{Difference}
+use Rattle.circus_member.specs.MemberState.{Doing, behind}
+use Rattle.circus_member.specs.Step.{replied}
+use Rattle.circus_member.specs.Seen.Sound.{IsSound}
+use Rattle.circus_member.proofs.Homes.{are_views, all_may_call}
+use Rattle.circus_member.proofs.Handled.{sound_asked, sound_fetched, sound_replied, sound_stale, sound_before, sound_told, sound_declared, sound_joins}
+use Rattle.circus_member.proofs.doing.Doing.handle.Goals as goal
+
+pub asked-requires : goal.asked-requires
+asked-requires g c = c.requires.sound.replies
+
+pub returns-in_ok-asked-in-Asked-clause-kept : goal.returns-in_ok-asked-in-Asked-clause-kept
+returns-in_ok-asked-in-Asked-clause-kept g c = rw c.in-Asked.is c.in_ok-asked-in-Asked.ensures
+
+pub returns-in_ok-asked-in-Asked-clause-told : goal.returns-in_ok-asked-in-Asked-clause-told
+returns-in_ok-asked-in-Asked-clause-told g c = rw c.in-Asked.is refl
+
+pub returns-in_ok-asked-in-Asked-clause-sound : goal.returns-in_ok-asked-in-Asked-clause-sound
+returns-in_ok-asked-in-Asked-clause-sound g c =
+    let m = c.args.self.member in
+    let b = behaviour g.M.Module.declared g.M.Module.turn g.M.Module.first m.performing.hosted in
+    subst (λ (d : Doing g.row.M.Denot). IsSound (behaviour g.M.Module.declared g.M.Module.turn g.M.Module.first d.member.performing.hosted) d.member) (sym c.in_ok-asked-in-Asked.ensures)
+    (sound_asked b m c.in-Asked.header c.in-Asked.body c.in-Asked.sender (rw c.in-Asked.is at c.requires.can) c.requires.sound)
+
+pub fetched-requires : goal.fetched-requires
+fetched-requires g c = rw c.in-Fetched.is at c.requires.can
+
+pub returns-in_ok-fetched-in-Fetched-clause-kept : goal.returns-in_ok-fetched-in-Fetched-clause-kept
+returns-in_ok-fetched-in-Fetched-clause-kept g c = rw c.in-Fetched.is c.in_ok-fetched-in-Fetched.ensures
+
+pub returns-in_ok-fetched-in-Fetched-clause-told : goal.returns-in_ok-fetched-in-Fetched-clause-told
+returns-in_ok-fetched-in-Fetched-clause-told g c = rw c.in-Fetched.is refl
+
+pub returns-in_ok-fetched-in-Fetched-clause-sound : goal.returns-in_ok-fetched-in-Fetched-clause-sound
+returns-in_ok-fetched-in-Fetched-clause-sound g c =
+    let m = c.args.self.member in
+    let b = behaviour g.M.Module.declared g.M.Module.turn g.M.Module.first m.performing.hosted in
+    subst (λ (d : Doing g.row.M.Denot). IsSound (behaviour g.M.Module.declared g.M.Module.turn g.M.Module.first d.member.performing.hosted) d.member) (sym c.in_ok-fetched-in-Fetched.ensures)
+    (sound_fetched b m c.in-Fetched.incarnation c.in-Fetched.sender c.requires.sound)
+
+pub returns-in-Replied-clause-kept : goal.returns-in-Replied-clause-kept
+returns-in-Replied-clause-kept g c = rw c.in-Replied.is c.replied.ensures.kept
+
+pub returns-in-Replied-clause-told : goal.returns-in-Replied-clause-told
+returns-in-Replied-clause-told g c = rw c.in-Replied.is c.replied.ensures.told
+
+pub returns-in-Replied-clause-sound : goal.returns-in-Replied-clause-sound
+returns-in-Replied-clause-sound g c =
+    let m = c.args.self.member in
+    let b = behaviour g.M.Module.declared g.M.Module.turn g.M.Module.first m.performing.hosted in
+    let a = c.in-Replied in
+    IfOk-weaker c.replied.result
+    (λ (done : Doing g.row.M.Denot × Option Difference). done.0 ≡ behind c.args.self (replied m a.name a.from a.reply))
+    (λ (done : Doing g.row.M.Denot × Option Difference). IsSound (behaviour g.M.Module.declared g.M.Module.turn g.M.Module.first done.0.member.performing.hosted) done.0.member)
+    (λ done is. subst (λ (d : Doing g.row.M.Denot). IsSound (behaviour g.M.Module.declared g.M.Module.turn g.M.Module.first d.member.performing.hosted) d.member) (sym is) (sound_replied b m a.name a.from a.reply (rw a.is at c.requires.can) c.requires.sound))
+    c.replied.ensures.kept
+
+pub stale-requires-clause-asks : goal.stale-requires-clause-asks
+stale-requires-clause-asks g c =
+    let m = c.args.self.member in
+    all_may_call (g.M.Module.declared m.performing.hosted) m.place m.known m.asks c.requires.sound.home c.requires.sound.asks
+
+pub stale-requires-clause-views : goal.stale-requires-clause-views
+stale-requires-clause-views g c = are_views c.args.self.member.known c.requires.sound.home.incarnations
+
+pub returns-in_ok-stale-in-IsStale-clause-kept : goal.returns-in_ok-stale-in-IsStale-clause-kept
+returns-in_ok-stale-in-IsStale-clause-kept g c = rw c.in-IsStale.is c.in_ok-stale-in-IsStale.ensures
+
+pub returns-in_ok-stale-in-IsStale-clause-told : goal.returns-in_ok-stale-in-IsStale-clause-told
+returns-in_ok-stale-in-IsStale-clause-told g c = rw c.in-IsStale.is refl
+
+pub returns-in_ok-stale-in-IsStale-clause-sound : goal.returns-in_ok-stale-in-IsStale-clause-sound
+returns-in_ok-stale-in-IsStale-clause-sound g c =
+    let m = c.args.self.member in
+    let b = behaviour g.M.Module.declared g.M.Module.turn g.M.Module.first m.performing.hosted in
+    subst (λ (d : Doing g.row.M.Denot). IsSound (behaviour g.M.Module.declared g.M.Module.turn g.M.Module.first d.member.performing.hosted) d.member) (sym c.in_ok-stale-in-IsStale.ensures)
+    (sound_stale b m c.in-IsStale.name c.in-IsStale.server c.in-IsStale.from c.in-IsStale.incarnation c.requires.sound)
+
+pub returns-in-IsBefore-clause-kept : goal.returns-in-IsBefore-clause-kept
+returns-in-IsBefore-clause-kept g c = rw c.in-IsBefore.is c.before-in-IsBefore.ensures
+
+pub returns-in-IsBefore-clause-told : goal.returns-in-IsBefore-clause-told
+returns-in-IsBefore-clause-told g c = rw c.in-IsBefore.is refl
+
+pub returns-in-IsBefore-clause-sound : goal.returns-in-IsBefore-clause-sound
+returns-in-IsBefore-clause-sound g c =
+    let m = c.args.self.member in
+    let b = behaviour g.M.Module.declared g.M.Module.turn g.M.Module.first m.performing.hosted in
+    subst (λ (d : Doing g.row.M.Denot). IsSound (behaviour g.M.Module.declared g.M.Module.turn g.M.Module.first d.member.performing.hosted) d.member) (sym c.before-in-IsBefore.ensures)
+    (sound_before b m c.in-IsBefore.name c.in-IsBefore.from c.requires.sound)
+
+pub told-requires-clause-home : goal.told-requires-clause-home
+told-requires-clause-home g c = c.requires.sound.home
+
+pub told-requires-clause-asks : goal.told-requires-clause-asks
+told-requires-clause-asks g c = c.requires.sound.asks
+
+pub told-requires-clause-table : goal.told-requires-clause-table
+told-requires-clause-table g c = rw c.in-Told.is at c.requires.can
+
+pub returns-in_ok-told-in-Told-clause-kept : goal.returns-in_ok-told-in-Told-clause-kept
+returns-in_ok-told-in-Told-clause-kept g c = rw c.in-Told.is c.in_ok-told-in-Told.ensures
+
+pub returns-in_ok-told-in-Told-clause-told : goal.returns-in_ok-told-in-Told-clause-told
+returns-in_ok-told-in-Told-clause-told g c = rw c.in-Told.is refl
+
+pub returns-in_ok-told-in-Told-clause-sound : goal.returns-in_ok-told-in-Told-clause-sound
+returns-in_ok-told-in-Told-clause-sound g c =
+    let m = c.args.self.member in
+    let b = behaviour g.M.Module.declared g.M.Module.turn g.M.Module.first m.performing.hosted in
+    let lawful : IsModule b = record { first_is_state = g.met.M.Module.first_is_state m.performing.hosted; turns_are_lawful = g.met.M.Module.turns_are_lawful m.performing.hosted } in
+    subst (λ (d : Doing g.row.M.Denot). IsSound (behaviour g.M.Module.declared g.M.Module.turn g.M.Module.first d.member.performing.hosted) d.member) (sym c.in_ok-told-in-Told.ensures)
+    (sound_told b lawful m c.in-Told.request c.in-Told.table (rw c.in-Told.is at c.requires.can) c.requires.sound)
+
+pub restored-requires-clause-sound : goal.restored-requires-clause-sound
+restored-requires-clause-sound g c = c.requires.sound
+
+pub restored-requires-clause-state : goal.restored-requires-clause-state
+restored-requires-clause-state g c = rw c.in-Restored.is at c.requires.can
+
+pub returns-in_ok-restored-in-Restored-clause-kept : goal.returns-in_ok-restored-in-Restored-clause-kept
+returns-in_ok-restored-in-Restored-clause-kept g c = rw c.in-Restored.is c.in_ok-restored-in-Restored.ensures.kept
+
+pub returns-in_ok-restored-in-Restored-clause-told : goal.returns-in_ok-restored-in-Restored-clause-told
+returns-in_ok-restored-in-Restored-clause-told g c = rw c.in-Restored.is refl
+
+pub returns-in_ok-restored-in-Restored-clause-sound : goal.returns-in_ok-restored-in-Restored-clause-sound
+returns-in_ok-restored-in-Restored-clause-sound g c = c.in_ok-restored-in-Restored.ensures.sound
+
+pub declared-requires : goal.declared-requires
+declared-requires g c = c.requires.sound.home.hosts
+
+pub returns-in_ok-declared-in-Declared-clause-kept : goal.returns-in_ok-declared-in-Declared-clause-kept
+returns-in_ok-declared-in-Declared-clause-kept g c = rw c.in-Declared.is c.in_ok-declared-in-Declared.ensures
+
+pub returns-in_ok-declared-in-Declared-clause-told : goal.returns-in_ok-declared-in-Declared-clause-told
+returns-in_ok-declared-in-Declared-clause-told g c = rw c.in-Declared.is refl
+
+pub returns-in_ok-declared-in-Declared-clause-sound : goal.returns-in_ok-declared-in-Declared-clause-sound
+returns-in_ok-declared-in-Declared-clause-sound g c =
+    let m = c.args.self.member in
+    let b = behaviour g.M.Module.declared g.M.Module.turn g.M.Module.first m.performing.hosted in
+    let lawful : IsModule b = record { first_is_state = g.met.M.Module.first_is_state m.performing.hosted; turns_are_lawful = g.met.M.Module.turns_are_lawful m.performing.hosted } in
+    subst (λ (d : Doing g.row.M.Denot). IsSound (behaviour g.M.Module.declared g.M.Module.turn g.M.Module.first d.member.performing.hosted) d.member) (sym c.in_ok-declared-in-Declared.ensures)
+    (sound_declared b lawful m c.in-Declared.node c.requires.sound)
+
+pub joins-requires : goal.joins-requires
+joins-requires g c = c.requires.sound.home
+
+pub returns-in_ok-joins-in-Joins-clause-kept : goal.returns-in_ok-joins-in-Joins-clause-kept
+returns-in_ok-joins-in-Joins-clause-kept g c = rw c.in-Joins.is c.in_ok-joins-in-Joins.ensures
+
+pub returns-in_ok-joins-in-Joins-clause-told : goal.returns-in_ok-joins-in-Joins-clause-told
+returns-in_ok-joins-in-Joins-clause-told g c = rw c.in-Joins.is refl
+
+pub returns-in_ok-joins-in-Joins-clause-sound : goal.returns-in_ok-joins-in-Joins-clause-sound
+returns-in_ok-joins-in-Joins-clause-sound g c =
+    let m = c.args.self.member in
+    let b = behaviour g.M.Module.declared g.M.Module.turn g.M.Module.first m.performing.hosted in
+    let lawful : IsModule b = record { first_is_state = g.met.M.Module.first_is_state m.performing.hosted; turns_are_lawful = g.met.M.Module.turns_are_lawful m.performing.hosted } in
+    subst (λ (d : Doing g.row.M.Denot). IsSound (behaviour g.M.Module.declared g.M.Module.turn g.M.Module.first d.member.performing.hosted) d.member) (sym c.in_ok-joins-in-Joins.ensures)
+    (sound_joins b lawful m c.requires.sound)

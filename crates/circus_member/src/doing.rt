@@ -1,0 +1,559 @@
+// A step so far: what the member is, and what it has made.
+ghost use Rattle.std.specs.Prelude.{◌≡◌, ◌≤◌, [], if◌then◌else◌, length, IfOk, OnOk, option_map};
+ghost use Rattle.circus_header.specs.CallFields.{IsIncarnation};
+ghost use Rattle.circus_model.specs.Lawful.{IsState};
+ghost use Rattle.circus_performing.specs.Performing as performing;
+ghost use Rattle.circus_performing.specs.Record.{behaviour};
+ghost use Rattle.circus_member.specs.MemberState.{behind};
+ghost use Rattle.circus_member.specs.Rules as rules;
+ghost use Rattle.circus_member.specs.Step as step;
+ghost use Rattle.circus_member.specs.Callable.{AreViews, AllMayCall, AreReplies, AreHosts};
+ghost use Rattle.circus_member.specs.Happening.{IsHome, CanHappen};
+ghost use Rattle.circus_member.specs.Seen.Sound.{AreOpen, IsSound, HasTurned, MayStart};
+
+use crate::calls_in::{answer_all, begin_at, take_call, take_state_request};
+use crate::calls_out::{calls_of_ask, value_of_ask};
+use crate::closing::{Concern, close_by};
+use crate::joining::{ask_for_states, givers, look_up, request_to_ring, tell_gone};
+use crate::messages::{body_of, reply_message};
+use crate::open_asks::OpenAsks;
+use crate::running::{
+    header_of_ask, index_of_last, is_idle, name_of_last, name_of_open, reply_of_run, start_of_call,
+};
+use crate::{AskName, Difference, Effects, Occurrence, Place};
+use circus_collate::{Table, View};
+use circus_fanout::Fanout;
+use circus_gather::Gather;
+use circus_header::{CallHeader, Reply, Request};
+use circus_known::Known;
+use circus_model::Module;
+use circus_performing::{Performer, RunStart};
+use circus_transfer::{Joiner, snapshot};
+use circus_value::{Caller, Callers, Duplicate, ListOf, NoMemory, Nodes, Parts, State};
+use std::alloc::Global;
+use std::marker::Model;
+
+/// A member in a step, and what it has made so far.
+#[derive(Drop)]
+pub(crate) struct Doing<M: Module> {
+    pub alloc: Global,
+    pub place: Place,
+    pub known: Known,
+    pub gather: Gather,
+    pub performer: Performer<M>,
+    pub asks: OpenAsks,
+    pub requests: Callers,
+    pub effects: Effects,
+}
+
+impl<M: Module> Model for Doing<M> {
+    ghost use Rattle.circus_member.specs.MemberState.{Doing};
+    ghost use Rattle.circus_member.specs.Seen.StateCode.{doing_code};
+
+    ghost Value = { Doing M };
+
+    ghost coded = { doing_code M.code };
+
+    ghost view = { λ a. record {
+      member = record { place = a.place; known = a.known; gathered = a.gather; performing = a.performer; asks = a.asks; requests = a.requests };
+      effects = a.effects;
+    } };
+}
+
+impl<M: Module> Doing<M> {
+    /// What happens is handled, and a reply that differs is told.
+    pub fn handle(
+        self,
+        at: u64,
+        occurrence: Occurrence,
+    ) -> Result<(Self, Option<Difference>), NoMemory>
+        requires sound { IsSound (behaviour M.declared M.turn M.first self.member.performing.hosted) self.member }
+        requires can { CanHappen (M.declared self.member.performing.hosted) self.member occurrence }
+        ensures kept { IfOk result (λ done. done.0 ≡ behind self (step.handled at occurrence self.member)) }
+        ensures told { IfOk result (λ done. done.1 ≡ step.difference occurrence self.member) }
+        ensures sound { IfOk result (λ done. IsSound (behaviour M.declared M.turn M.first done.0.member.performing.hosted) done.0.member) }
+    {
+        match occurrence {
+            Occurrence::Asked {
+                header,
+                body,
+                sender,
+            } => Ok((self.asked(header, body, sender)?, None)),
+            Occurrence::Fetched {
+                incarnation,
+                sender,
+            } => Ok((self.fetched(incarnation, sender)?, None)),
+            Occurrence::Replied { name, from, reply } => self.replied(name, from, reply),
+            Occurrence::IsStale {
+                name,
+                server,
+                from,
+                incarnation,
+            } => Ok((self.stale(name, server, from, incarnation)?, None)),
+            Occurrence::IsBefore { name, from } => Ok((self.before(name, from), None)),
+            Occurrence::Told { request, table } => Ok((self.told(request, table)?, None)),
+            Occurrence::Restored { state, count } => Ok((self.restored(at, state, count)?, None)),
+            Occurrence::Declared(node) => Ok((self.declared(node)?, None)),
+            Occurrence::Joins => Ok((self.joins()?, None)),
+        }
+    }
+
+    fn asked(mut self, header: CallHeader, body: Parts, sender: Caller) -> Result<Self, NoMemory>
+        requires { AreReplies self.member.gathered.replies }
+        ensures { IfOk result (λ d. d ≡ behind self (step.asked self.member header body sender)) }
+    {
+        take_call(
+            self.alloc,
+            &mut self.known,
+            &mut self.gather,
+            &mut self.effects,
+            header,
+            body,
+            sender,
+        )?;
+        Ok(self)
+    }
+
+    fn fetched(mut self, incarnation: u32, sender: Caller) -> Result<Self, NoMemory>
+        requires { IsIncarnation incarnation }
+        ensures { IfOk result (λ d. d ≡ behind self (step.fetched self.member incarnation sender)) }
+    {
+        take_state_request(
+            self.alloc,
+            &mut self.gather,
+            &mut self.requests,
+            &mut self.effects,
+            incarnation,
+            sender,
+        )?;
+        Ok(self)
+    }
+
+    fn replied(
+        mut self,
+        name: AskName,
+        from: u16,
+        reply: Reply,
+    ) -> Result<(Self, Option<Difference>), NoMemory>
+        ensures kept { IfOk result (λ done. done.0 ≡ behind self (step.replied self.member name from reply)) }
+        ensures told { IfOk result (λ done. done.1 ≡ step.difference (Occurrence.Replied name from reply) self.member) }
+    {
+        let difference = self.asks.replied(name, from, reply)?;
+        Ok((self, difference))
+    }
+
+    fn stale(
+        mut self,
+        name: AskName,
+        server: u16,
+        from: u16,
+        incarnation: u32,
+    ) -> Result<Self, NoMemory>
+        requires asks { AllMayCall self.member.known self.member.asks }
+        requires views { AreViews self.member.known }
+        ensures { IfOk result (λ d. d ≡ behind self (step.stale self.member name server from incarnation)) }
+    {
+        self.asks.stale(
+            self.alloc,
+            &self.known,
+            name,
+            from,
+            incarnation,
+            &mut self.effects,
+        )?;
+        self.known.want(server, incarnation);
+        Ok(self)
+    }
+
+    fn before(mut self, name: AskName, from: u16) -> Self
+        ensures { result ≡ behind self (step.before self.member name from) }
+    {
+        self.asks.before(name, from);
+        self
+    }
+
+    fn told(mut self, request: Request, table: Table) -> Result<Self, NoMemory>
+        requires home { IsHome (M.declared self.member.performing.hosted) self.member.place self.member.known.views }
+        requires asks { AreOpen (M.declared self.member.performing.hosted) self.member.place.troupe (length self.member.known.views) self.member.asks }
+        requires table { IsIncarnation table.view.incarnation }
+        ensures { IfOk result (λ d. d ≡ behind self (step.told self.member request table)) }
+    {
+        self.take_table(request, table)?;
+        Ok(self)
+    }
+
+    // Takes the table that answers a request.
+    fn take_table(&mut self, request: Request, table: Table) -> Result<(), NoMemory>
+        requires home { IsHome (M.declared self.old.member.performing.hosted) self.old.member.place self.old.member.known.views }
+        requires asks { AreOpen (M.declared self.old.member.performing.hosted) self.old.member.place.troupe (length self.old.member.known.views) self.old.member.asks }
+        requires table { IsIncarnation table.view.incarnation }
+        ensures { OnOk result (self.new ≡ behind self.old (step.told self.old.member request table)) }
+    {
+        let before = self.performer.record().phase;
+        take_in(&mut self.performer, request, &table);
+        let taken_in = is_taken_in(before, self.performer.record().phase);
+        let incarnation = table.view.incarnation;
+        let nodes = self.givers_once(taken_in, &table.view)?;
+        self.know(request, table.view)?;
+        ask_for_states(
+            self.alloc,
+            self.place.troupe,
+            incarnation,
+            nodes.as_slice(),
+            &mut self.effects,
+        )
+    }
+
+    // Those that are asked for the state, once the member was taken in.
+    fn givers_once(&self, taken_in: bool, view: &View) -> Result<Nodes, NoMemory>
+        ensures { IfOk result (λ nodes. nodes ≡ (if taken_in then rules.givers self.now.member.place.node self.now.member.known.down view.now else [])) }
+    {
+        if !taken_in {
+            return Ok(ListOf::new(self.alloc));
+        }
+        givers(self.alloc, self.place.node, self.known.down(), view)
+    }
+
+    // The Ringmaster has answered with a view, which is known where it is newer.
+    fn know(&mut self, request: Request, view: View) -> Result<(), NoMemory>
+        requires home { IsHome (M.declared self.old.member.performing.hosted) self.old.member.place self.old.member.known.views }
+        requires asks { AreOpen (M.declared self.old.member.performing.hosted) self.old.member.place.troupe (length self.old.member.known.views) self.old.member.asks }
+        requires view { IsIncarnation view.incarnation }
+        ensures { OnOk result (self.new ≡ step.seen_by self.old request view) }
+    {
+        let troupe = view.troupe;
+        hear(&mut self.known, request, troupe);
+        if !self.known.tell(view) {
+            return Ok(());
+        }
+        let Some(view) = self.known.view(troupe) else {
+            return Ok(());
+        };
+        self.asks
+            .new_view(self.alloc, &self.known, view, &mut self.effects)
+    }
+
+    fn declared(mut self, node: u16) -> Result<Self, NoMemory>
+        requires { AreHosts self.member.place }
+        ensures { IfOk result (λ d. d ≡ behind self (step.declared_down self.member node)) }
+    {
+        self.known.declare(node)?;
+        tell_gone(
+            self.alloc,
+            &self.place,
+            &self.known,
+            node,
+            &mut self.effects,
+        )?;
+        Ok(self)
+    }
+
+    fn joins(mut self) -> Result<Self, NoMemory>
+        requires { IsHome (M.declared self.member.performing.hosted) self.member.place self.member.known.views }
+        ensures { IfOk result (λ d. d ≡ behind self (step.joins self.member)) }
+    {
+        self.performer.join();
+        let request = Request::Join(self.place.troupe, self.place.node);
+        request_to_ring(self.alloc, &self.known, request, &mut self.effects)?;
+        Ok(self)
+    }
+
+    // A state comes: one that fetches a state has it, and is active from its count on.
+    fn restored(self, at: u64, state: State, count: u32) -> Result<Self, NoMemory>
+        requires sound { IsSound (behaviour M.declared M.turn M.first self.member.performing.hosted) self.member }
+        requires state { IsState (M.declared self.member.performing.hosted) state }
+        ensures kept { IfOk result (λ d. d ≡ behind self (step.restored at self.member state count)) }
+        ensures sound { IfOk result (λ d. IsSound (behaviour M.declared M.turn M.first d.member.performing.hosted) d.member) }
+    {
+        if !is_fetching(self.performer.record().phase) {
+            return Ok(self);
+        }
+        let Doing {
+            alloc,
+            place,
+            known,
+            gather,
+            performer,
+            asks,
+            requests,
+            effects,
+        } = self;
+        let mut doing = Doing {
+            alloc,
+            place,
+            known,
+            gather,
+            performer: performer.activate(state, count, at)?,
+            asks,
+            requests,
+            effects,
+        };
+        doing.begin(count)?;
+        Ok(doing)
+    }
+
+    // The member is active from this call on, and tells so.
+    fn begin(&mut self, count: u32) -> Result<(), NoMemory>
+        requires { IsHome (M.declared self.old.member.performing.hosted) self.old.member.place self.old.member.known.views }
+        ensures { OnOk result (self.new ≡ step.begun self.old count) }
+    {
+        let request = Request::Active(self.place.troupe, self.place.node, count);
+        request_to_ring(self.alloc, &self.known, request, &mut self.effects)?;
+        begin_at(self.alloc, &mut self.gather, &mut self.effects, count)
+    }
+
+    /// The execution goes on as far as it can.
+    pub fn execute(self, at: u64) -> Result<Self, NoMemory>
+        requires { IsSound (behaviour M.declared M.turn M.first self.member.performing.hosted) self.member }
+        ensures { IfOk result (λ d. d ≡ step.executed M.declared M.turn at self) }
+    {
+        let mut doing = self.answer_open(at)?;
+        'starts: loop {
+            doing.give_states()?;
+            match doing.next_start()? {
+                Some(start) => doing = doing.enter(start, at)?,
+                None => return Ok(doing),
+            }
+        }
+    }
+
+    // The open ask is answered, if its collator gives a value, and the run goes on.
+    fn answer_open(self, at: u64) -> Result<Self, NoMemory>
+        requires { IsSound (behaviour M.declared M.turn M.first self.member.performing.hosted) self.member }
+        ensures { IfOk result (λ d. d ≡ step.answered_open M.turn at self) }
+    {
+        match self.value_of_open()? {
+            Some(reply) => self.answer(reply, at),
+            None => Ok(self),
+        }
+    }
+
+    fn value_of_open(&self) -> Result<Option<Reply>, NoMemory>
+        ensures { IfOk result (λ value. value ≡ step.value_of_open self.now.member) }
+    {
+        let Some(name) = name_of_open(&self.performer) else {
+            return Ok(None);
+        };
+        let Some(fanout) = self.asks.get(name) else {
+            return Ok(None);
+        };
+        match value_of_ask(&self.known, fanout) {
+            Some(reply) => Ok(Some(reply.copy()?)),
+            None => Ok(None),
+        }
+    }
+
+    fn answer(self, reply: Reply, at: u64) -> Result<Self, NoMemory>
+        requires sound { IsSound (behaviour M.declared M.turn M.first self.member.performing.hosted) self.member }
+        requires value { step.value_of_open self.member ≡ Some reply }
+        ensures { IfOk result (λ d. d ≡ step.answered_by M.turn at self reply) }
+    {
+        let Doing {
+            alloc,
+            place,
+            known,
+            gather,
+            performer,
+            asks,
+            requests,
+            effects,
+        } = self;
+        let mut doing = Doing {
+            alloc,
+            place,
+            known,
+            gather,
+            performer: performer.answer(reply.outcome, reply.clock, at)?,
+            asks,
+            requests,
+            effects,
+        };
+        doing.after_turns()?;
+        Ok(doing)
+    }
+
+    /// A run is entered.
+    pub fn enter(self, start: RunStart, at: u64) -> Result<Self, NoMemory>
+        requires sound { IsSound (behaviour M.declared M.turn M.first self.member.performing.hosted) self.member }
+        requires may { MayStart (M.declared self.member.performing.hosted) self.member start }
+        ensures { IfOk result (λ d. d ≡ step.entered M.turn at self start) }
+    {
+        let Doing {
+            alloc,
+            place,
+            known,
+            mut gather,
+            performer,
+            asks,
+            requests,
+            effects,
+        } = self;
+        gather.started(performer.record().count);
+        let mut doing = Doing {
+            alloc,
+            place,
+            known,
+            gather,
+            performer: performer.enter(start, at)?,
+            asks,
+            requests,
+            effects,
+        };
+        doing.after_turns()?;
+        Ok(doing)
+    }
+
+    // Behind turns of the last run: it asks, or has ended.
+    fn after_turns(&mut self) -> Result<(), NoMemory>
+        requires { HasTurned (behaviour M.declared M.turn M.first self.old.member.performing.hosted) self.old.member }
+        ensures { OnOk result (self.new ≡ step.after_turns self.old) }
+    {
+        if self.performer.open_ask().is_some() {
+            self.open_ask()
+        } else {
+            self.end_run()
+        }
+    }
+
+    // A call is sent to each entry of the view that isn't down.
+    fn open_ask(&mut self) -> Result<(), NoMemory>
+        requires { HasTurned (behaviour M.declared M.turn M.first self.old.member.performing.hosted) self.old.member }
+        ensures { OnOk result (self.new ≡ step.opened_last self.old) }
+    {
+        let Some(last) = self.performer.last_run() else {
+            return Ok(());
+        };
+        let Some(ask) = self.performer.open_ask() else {
+            return Ok(());
+        };
+        let Some(view) = self.known.view(ask.callee) else {
+            return Ok(());
+        };
+        let record = self.performer.record();
+        let name = name_of_last(record);
+        let header = header_of_ask(self.alloc, self.place.troupe, record, last, ask)?;
+        let body = body_of(self.alloc, &ask.arguments)?;
+        let (fanout, sends) = Fanout::begin(
+            self.alloc,
+            header,
+            body,
+            self.place.replies,
+            view,
+            self.known.down(),
+        )?;
+        calls_of_ask(
+            self.alloc,
+            &self.known,
+            name,
+            &fanout,
+            sends.as_slice(),
+            &mut self.effects,
+        )?;
+        self.asks.open(name, fanout)
+    }
+
+    // The run has ended: its callers are answered, and its reply is kept.
+    fn end_run(&mut self) -> Result<(), NoMemory>
+        requires turned { HasTurned (behaviour M.declared M.turn M.first self.old.member.performing.hosted) self.old.member }
+        requires ended { performing.open_ask self.old.member.performing.kept ≡ None }
+        ensures { OnOk result (self.new ≡ step.ended_last self.old) }
+    {
+        let Some(last) = self.performer.last_run() else {
+            return Ok(());
+        };
+        let index = index_of_last(self.performer.record());
+        let reply = reply_of_run(self.alloc, last)?;
+        let message = reply_message(self.alloc, &reply)?;
+        let callers = self.gather.finish(index, reply)?;
+        answer_all(&callers, &message, &mut self.effects)
+    }
+
+    // Those that asked for its state are given it.
+    fn give_states(&mut self) -> Result<(), NoMemory>
+        ensures { OnOk result (self.new ≡ step.given_states self.old) }
+    {
+        if self.requests.is_empty() {
+            return Ok(());
+        }
+        if !is_idle(&self.performer) {
+            return Ok(());
+        }
+        let record = self.performer.record();
+        let variables = &self.performer.signature().variables;
+        let message = snapshot(self.alloc, &record.state, variables, record.count)?;
+        answer_all(&self.requests, &message, &mut self.effects)?;
+        self.requests = ListOf::new(self.alloc);
+        Ok(())
+    }
+
+    // How the run of the call that starts next is entered.
+    fn next_start(&self) -> Result<Option<RunStart>, NoMemory>
+        ensures { IfOk result (λ start. start ≡ option_map (step.start_by_call self.now.member.place.troupe (M.declared self.now.member.performing.hosted).procedures) (step.next_start self.now.member)) }
+    {
+        if !is_idle(&self.performer) {
+            return Ok(None);
+        }
+        let ready = self.gather.ready(
+            self.performer.record().count,
+            self.place.calls,
+            self.known.views(),
+            self.known.down(),
+        )?;
+        match ready {
+            Some(call) => {
+                let procedures = &self.performer.signature().procedures;
+                let start = start_of_call(self.alloc, self.place.troupe, procedures, call)?;
+                Ok(Some(start))
+            }
+            None => Ok(None),
+        }
+    }
+
+    /// The asks that a step concerns are closed, and the one that waited before it.
+    pub fn close(&mut self, concern: Concern, waited: Option<AskName>)
+        ensures { self.new ≡ step.closed_by concern waited self.old }
+    {
+        let waits = name_of_open(&self.performer);
+        close_by(&mut self.asks, &self.known, waits, concern, waited);
+    }
+
+    /// The views that are wanted are looked up.
+    pub fn look_up(&mut self) -> Result<(), NoMemory>
+        requires { length self.old.member.known.views ≤ 32 }
+        ensures { OnOk result (self.new ≡ step.looked_up self.old) }
+    {
+        look_up(self.alloc, &mut self.known, &mut self.effects)
+    }
+}
+
+// Whether a member fetches a state.
+fn is_fetching(phase: Joiner) -> bool
+    ensures { result ≡ performing.is_fetching phase }
+{
+    matches!(phase, Joiner::Fetching(_))
+}
+
+// Whether a member has been taken in between these phases.
+fn is_taken_in(before: Joiner, after: Joiner) -> bool
+    ensures { result ≡ step.is_taken_in before after }
+{
+    !is_fetching(before) && is_fetching(after)
+}
+
+// The Ringmaster has answered a request for a troupe's view.
+fn hear(known: &mut Known, request: Request, troupe: u16)
+    ensures { known.new ≡ step.answered_by_ring known.old request troupe }
+{
+    if let Request::Lookup(_) = request {
+        known.answer(troupe);
+    }
+}
+
+// It has answered the member's Join.
+fn take_in<M: Module>(performer: &mut Performer<M>, request: Request, table: &Table)
+    ensures { performer.new ≡ record performer.old { kept = step.kept_by_table performer.old.kept request table.now } }
+{
+    if let Request::Join(_, _) = request {
+        performer.take_in(table);
+    }
+}

@@ -1,0 +1,213 @@
+// A member of a troupe.
+ghost use Rattle.std.specs.Prelude.{◌≡◌, ◌≤◌, length, [], IfOk, option_copied, option_map};
+ghost use Rattle.circus_header.specs.Limits.{most_modules};
+ghost use Rattle.circus_fanout.specs.Asking.{Asking};
+ghost use Rattle.circus_member.specs.MemberState.{asking_of};
+ghost use Rattle.circus_member.specs.Step as step;
+ghost use Rattle.circus_member.specs.Happening.{IsHome, CanHappen};
+ghost use Rattle.circus_member.specs.GoneOn.{HasGoneOn};
+ghost use Rattle.circus_member.specs.Seen.Sound.{IsRested};
+ghost use Rattle.circus_performing.specs.Record.{behaviour};
+
+use crate::closing::concern_of;
+use crate::doing::Doing;
+use crate::open_asks::OpenAsks;
+use crate::running::{main_start, name_of_open};
+use crate::{AskName, Beginning, Difference, Effects, Occurrence, Place};
+use circus_collate::Views;
+use circus_gather::Gather;
+use circus_header::CallHeader;
+use circus_known::Known;
+use circus_model::Module;
+use circus_performing::Performer;
+use circus_record::MemberRecord;
+use circus_value::{Callers, Duplicate, ListOf, NoMemory};
+use std::alloc::Global;
+use std::marker::Model;
+
+/// A member: what it knows, the calls to it, what it performs, and what it asks (docs/PROTOCOL.md, "Members").
+#[derive(Drop)]
+pub struct Member<M: Module> {
+    alloc: Global,
+    place: Place,
+    known: Known,
+    gather: Gather,
+    performer: Performer<M>,
+    asks: OpenAsks,
+    requests: Callers,
+}
+
+impl<M: Module> Model for Member<M> {
+    ghost use Rattle.circus_member.specs.MemberState.{MemberState};
+    ghost use Rattle.circus_member.specs.Seen.StateCode.{state_code};
+    ghost use Rattle.circus_member.specs.Seen.Sound.{IsRested};
+    ghost use Rattle.circus_performing.specs.Record.{behaviour};
+
+    ghost Value = { MemberState M };
+
+    ghost coded = { state_code M.code };
+
+    ghost view = { λ a. record { place = a.place; known = a.known; gathered = a.gather; performing = a.performer; asks = a.asks; requests = a.requests } };
+
+    ghost invariant = { λ a. IsRested (behaviour M.declared M.turn M.first a.performer.hosted) (record { place = a.place; known = a.known; gathered = a.gather; performing = a.performer; asks = a.asks; requests = a.requests }) };
+}
+
+impl<M: Module> Member<M> {
+    /// A member at boot, where these views are known, and what it makes then: a founder of a root has entered its MAIN.
+    pub fn boot(
+        alloc: Global,
+        place: Place,
+        views: Views,
+        beginning: Beginning,
+        hosted: M,
+    ) -> Result<(Self, Effects), NoMemory>
+        requires { IsHome (M.declared hosted) place views }
+        ensures member { IfOk result (λ booted. booted.0 ≡ (step.booted M.declared M.turn M.first place views beginning hosted).member) }
+        ensures effects { IfOk result (λ booted. booted.1 ≡ (step.booted M.declared M.turn M.first place views beginning hosted).effects) }
+    {
+        let starts = starts_at_boot(beginning, &hosted);
+        let start = main_start(alloc, place.troupe, views.as_slice())?;
+        let doing = before_any(alloc, place, views, beginning, hosted)?;
+        if starts {
+            Ok(Member::of(doing.enter(start, 0)?))
+        } else {
+            Ok(Member::of(doing))
+        }
+    }
+
+    /// What happens in a step, and what it makes: the member, the calls and returns in their order, and a reply that
+    /// differs. After `NoMemory` the member is gone.
+    pub fn step(
+        self,
+        at: u64,
+        occurrence: Occurrence,
+    ) -> Result<(Self, Effects, Option<Difference>), NoMemory>
+        requires { CanHappen (M.declared self.performing.hosted) self occurrence }
+        ensures member { IfOk result (λ stepped. stepped.0 ≡ (step.stepped M.declared M.turn at occurrence self).member) }
+        ensures effects { IfOk result (λ stepped. stepped.1 ≡ (step.stepped M.declared M.turn at occurrence self).effects) }
+        ensures difference { IfOk result (λ stepped. stepped.2 ≡ step.difference occurrence self) }
+        ensures rest { IfOk result (λ stepped. HasGoneOn stepped.0) }
+    {
+        let waited = name_of_open(&self.performer);
+        let concern = concern_of(&occurrence);
+        let (doing, difference) = self.begun().handle(at, occurrence)?;
+        let mut doing = doing.execute(at)?;
+        doing.close(concern, waited);
+        doing.look_up()?;
+        let (member, effects) = Member::of(doing);
+        Ok((member, effects, difference))
+    }
+
+    /// What the member did. It takes no memory.
+    pub fn record(&self) -> &MemberRecord
+        ensures { result.now ≡ self.now.performing.kept }
+    {
+        self.performer.record()
+    }
+
+    /// What an open ask asks. It takes no memory.
+    pub fn asked(&self, name: AskName) -> Option<&CallHeader>
+        ensures { option_copied result ≡ option_map (λ (a : Asking). a.header) (asking_of self.now.asks name) }
+    {
+        Some(self.asks.get(name)?.header())
+    }
+
+    fn begun(self) -> Doing<M>
+        ensures { result ≡ record { member = self; effects = [] } }
+    {
+        let Member {
+            alloc,
+            place,
+            known,
+            gather,
+            performer,
+            asks,
+            requests,
+        } = self;
+        Doing {
+            alloc,
+            place,
+            known,
+            gather,
+            performer,
+            asks,
+            requests,
+            effects: ListOf::new(alloc),
+        }
+    }
+
+    fn of(doing: Doing<M>) -> (Self, Effects)
+        requires { IsRested (behaviour M.declared M.turn M.first doing.member.performing.hosted) doing.member }
+        ensures member { result.0 ≡ doing.member }
+        ensures effects { result.1 ≡ doing.effects }
+    {
+        let Doing {
+            alloc,
+            place,
+            known,
+            gather,
+            performer,
+            asks,
+            requests,
+            effects,
+        } = doing;
+        let member = Member {
+            alloc,
+            place,
+            known,
+            gather,
+            performer,
+            asks,
+            requests,
+        };
+        (member, effects)
+    }
+}
+
+// A founder of a root enters its MAIN.
+fn starts_at_boot<M: Module>(beginning: Beginning, hosted: &M) -> bool
+    ensures { result ≡ step.starts_at_boot M.declared M.turn beginning hosted.now }
+{
+    match beginning {
+        Beginning::Founder => hosted.signature().root,
+        Beginning::Spare => false,
+    }
+}
+
+// A member to which nothing has happened.
+fn before_any<M: Module>(
+    alloc: Global,
+    place: Place,
+    views: Views,
+    beginning: Beginning,
+    hosted: M,
+) -> Result<Doing<M>, NoMemory>
+    requires { length views ≤ most_modules }
+    ensures { IfOk result (λ d. d ≡ record { member = step.before_any M.declared M.turn place views (step.performer_at_boot M.first beginning hosted); effects = [] }) }
+{
+    let gather = Gather::new(alloc, place.troupe, 0);
+    Ok(Doing {
+        alloc,
+        place,
+        known: Known::new(alloc, views)?,
+        gather,
+        performer: performer_at_boot(alloc, beginning, hosted)?,
+        asks: OpenAsks::new(alloc),
+        requests: ListOf::new(alloc),
+        effects: ListOf::new(alloc),
+    })
+}
+
+// A founder, or a spare.
+fn performer_at_boot<M: Module>(
+    alloc: Global,
+    beginning: Beginning,
+    hosted: M,
+) -> Result<Performer<M>, NoMemory>
+    ensures { IfOk result (λ p. p ≡ step.performer_at_boot M.first beginning hosted) }
+{
+    match beginning {
+        Beginning::Founder => Performer::founder(alloc, hosted),
+        Beginning::Spare => Performer::spare(alloc, hosted),
+    }
+}
