@@ -18,7 +18,7 @@ use circus_collate::Views;
 use circus_gather::Gather;
 use circus_header::CallHeader;
 use circus_known::Known;
-use circus_model::Module;
+use circus_model::{Module, Signature};
 use circus_performing::Performer;
 use circus_record::MemberRecord;
 use circus_value::{Callers, Duplicate, ListOf, NoMemory};
@@ -96,6 +96,20 @@ impl<M: Module> Member<M> {
         doing.look_up()?;
         let (member, effects) = Member::of(doing);
         Ok((member, effects, difference))
+    }
+
+    /// Where it stands. It takes no memory.
+    pub fn place(&self) -> &Place
+        ensures { result.now ≡ self.now.place }
+    {
+        &self.place
+    }
+
+    /// What its module declares. It takes no memory.
+    pub fn signature(&self) -> &Signature
+        ensures { result.now ≡ M.declared self.now.performing.hosted }
+    {
+        self.performer.signature()
     }
 
     /// What the member did. It takes no memory.

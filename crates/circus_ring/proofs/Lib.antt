@@ -1,6 +1,6 @@
-mod Booting
-mod Deploying
-mod Performing
-mod Staying
+pub mod Booting
+pub mod Deploying
+pub mod Performing
+pub mod Staying
 pub mod Tabling
 mod TableSteps

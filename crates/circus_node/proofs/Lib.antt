@@ -1,0 +1,9 @@
+pub mod HeadLemmas
+pub mod BodyLemmas
+pub mod ViewLemmas
+pub mod SendLemmas
+pub mod RingLemmas
+pub mod BootLemmas
+pub mod OtherLemmas
+pub mod GoLemmas
+pub mod NodeLemmas

@@ -1,0 +1,29 @@
+use Rattle.std.proofs.Common.{◌≡◌, List, Option, sym, ap, subst, ◌∙◌}
+use Rattle.std.specs.Option.{option_to_list}
+use Rattle.circus_member.specs.declared.occurrence.Effect.{Effect}
+use Rattle.circus_member.specs.declared.occurrence.Difference.{Difference}
+use Rattle.circus_member.specs.MemberState.{MemberState}
+use Rattle.circus_node.specs.declared.acting.Consequences.{Consequences}
+use Rattle.circus_node.specs.NodeState.{Acting, member}
+use Rattle.circus_node.specs.Making.{consequences}
+use Rattle.circus_node.specs.Seen.Kept.{IsActing}
+use Rattle.circus_node.proofs.ViewLemmas.{still_member}
+use Rattle.circus_node.proofs.acting.happen.Goals as goal
+
+both_came : (came : Consequences) (es made : List Effect) (o p : Option Difference)
+    → came ≡ consequences es (option_to_list o) → es ≡ made → o ≡ p → came ≡ consequences made (option_to_list p)
+both_came came es made o p is effects difference =
+    is ∙ ap (λ x. consequences x (option_to_list o)) effects ∙ ap (λ x. consequences made (option_to_list x)) difference
+
+pub returns-clause-acting : goal.returns-clause-acting
+returns-clause-acting g c = c.member-2.ensures ∙ ap (λ (m : MemberState g.row.M.Denot). member m) c.in_ok-member.ensures.member
+
+pub returns-clause-came : goal.returns-clause-came
+returns-clause-came g c =
+    both_came c.in_ok-came.came c.in_ok-member.effects _ c.in_ok-member.difference _ c.in_ok-came.ensures c.in_ok-member.ensures.effects c.in_ok-member.ensures.difference
+
+pub returns-clause-kept : goal.returns-clause-kept
+returns-clause-kept g c d of =
+    let M = g.M.Module in
+    subst (λ (a : Acting g.row.M.Denot). IsActing d a) (sym c.member-2.ensures)
+    (still_member M.declared M.turn c.args.at c.args.occurrence c.args.member c.in_ok-member.member d of c.in_ok-member.ensures.member)

@@ -1,0 +1,31 @@
+use Rattle.std.proofs.Common.{◌≡◌, refl, sym, subst, Err, Ok}
+use Rattle.std.proofs.lemmas.Result.{err_from_is_err_and}
+use Rattle.circus_node.specs.Step.{IsEnded, ticked}
+use Rattle.circus_node.specs.Seen.StationOf.{node_of}
+use Rattle.circus_node.specs.Seen.Kept.{IsActing}
+use Rattle.circus_node.proofs.OtherLemmas.{still_stands}
+use Rattle.circus_node.proofs.SendLemmas.{ticked_is, ticked_fault}
+use Rattle.circus_node.proofs.node_core.NodeCore.tick.Goals as goal
+
+pub returns-in_err-station : goal.returns-in_err-station
+returns-in_err-station g c =
+    let p = err_from_is_err_and c.from_residual.result c.from_residual.ensures.1 in
+    subst (λ n. IsEnded c.from_residual.result (ticked n)) c.self.view_is
+    (subst (λ r. IsEnded r (ticked (node_of c.self.inside.station c.self.inside.acting))) (sym p.1)
+    (subst (λ f. IsEnded (Err f) (ticked (node_of c.self.inside.station c.self.inside.acting))) (sym p.2)
+    (ticked_fault c.self.inside.station c.self.inside.acting c.in_err-station.field-0.0 c.in_err-station.ensures)))
+
+pub same-acting : goal.same-acting
+same-acting g c = refl
+
+pub invariant_of-result : goal.invariant_of-result
+invariant_of-result g c =
+    let came = c.in_ok-station.ensures in (
+      still_stands c.self.inside.station c.in_ok-station.station c.self.invariant.0 came.deployment came.node came.remains,
+      subst (λ d. IsActing d c.self.inside.acting) (sym came.deployment) c.self.invariant.1,
+    )
+
+pub returns : goal.returns
+returns g c =
+    subst (λ n. ticked n ≡ Ok (node_of c.in_ok-station.station c.self.inside.acting, c.in_ok-station.outputs)) c.self.view_is
+    (ticked_is c.self.inside.station c.self.inside.acting (c.in_ok-station.station, c.in_ok-station.outputs) c.in_ok-station.ensures)

@@ -1,0 +1,10 @@
+pub mod Headers
+pub mod Bodies
+pub mod Node
+pub mod NodeState
+pub mod Accepting
+pub mod Making
+pub mod Sending
+pub mod Step
+pub mod Booting
+pub mod Seen

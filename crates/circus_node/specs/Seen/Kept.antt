@@ -1,0 +1,32 @@
+-- What code keeps true of a node.
+use Rattle.std.specs.Prelude.{◌≡◌, ℕ, List, length, Option, Some}
+use Rattle.circus_collate.specs.Deployment.{IsDeployment}
+use Rattle.circus_collate.specs.declared.deployment.Deployment.{Deployment}
+use Rattle.circus_header.specs.declared.call.Request.{Request}
+use Rattle.circus_ring.specs.RingTable.{Kept, kept_after}
+use Rattle.circus_model.specs.declared.signature.Signature.{Signature}
+use Rattle.circus_member.specs.MemberState.{MemberState}
+use Rattle.circus_node.specs.declared.home.Home.{Home}
+use Rattle.circus_node.specs.NodeState.{Acting, member, ringmaster}
+use Rattle.circus_node.specs.Booting.{home_of, IsOfTroupe}
+
+-- the member knows a view of each troupe
+pub record IsMemberOf {M : Type 0} (d : Deployment) (m : MemberState M) : Type 0 where
+  pub views : length m.known.views ≡ length d.troupes
+
+-- the views are those after some requests
+pub record IsRingOf (d : Deployment) (kept : Kept) : Type 0 where
+  pub deployment : IsDeployment d
+  pub requests : List Request
+  pub kept_is : kept ≡ kept_after d.troupes requests
+
+abbrev pub IsActing : {M : Type 0} → Deployment → Acting M → Type 0
+IsActing d (member m) = IsMemberOf d m
+IsActing d (ringmaster kept) = IsRingOf d kept
+
+-- where a member of a node stands, and its module is one of its troupe
+pub record MayStand {M : Type 0} (declared : M → Signature) (d : Deployment) (home : Option Home) (hosted : Option M) : Type 0 where
+  pub deployment : IsDeployment d
+  pub node : ℕ
+  pub home_is : home ≡ home_of d node
+  pub fits : (h : Home) (m : M) → home ≡ Some h → hosted ≡ Some m → IsOfTroupe d h.place.troupe (declared m)

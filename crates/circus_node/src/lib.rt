@@ -1,0 +1,25 @@
+//! A node of a program as a pure machine: datagrams, ticks, declarations and the order to join come in, and datagrams go
+//! out.
+//!
+//! `event` has what comes to a node and what it gives, `node_core` the node and its step. `acting` is what the node does, a
+//! member or the Ringmaster, and what it makes of what happens; `home` says which of them it is. `sending` hands what is
+//! made to the pairs, and `station` has these. `accepting` tests which messages are accepted, of `calls_accepted` and `returns_accepted`, by the
+//! headers that `heads` reads and the values that `bodies` reads; `program` says what a node knows of the program.
+#![tactic(auto)]
+
+mod accepting;
+mod acting;
+mod bodies;
+mod calls_accepted;
+mod event;
+mod heads;
+mod home;
+mod node_core;
+mod program;
+mod returns_accepted;
+mod sending;
+mod station;
+
+pub use circus_member::Difference;
+pub use event::{Differences, Event, Give, Gives, Outputs, StepFault};
+pub use node_core::NodeCore;

@@ -1,0 +1,198 @@
+// A node.
+ghost use Rattle.std.specs.Prelude.{◌≡◌, ℕ, option_copied, option_map, IfOk};
+ghost use Rattle.circus_collate.specs.declared.deployment.Deployment.{Deployment as Deployed};
+ghost use Rattle.circus_segment.specs.Segment.{reading};
+ghost use Rattle.circus_wire.specs.Wire.{IsOther};
+ghost use Rattle.circus_node.specs.Booting as booting;
+ghost use Rattle.circus_node.specs.Step as step;
+ghost use Rattle.circus_node.specs.Node.{IsNodeOf, GoToOthers};
+ghost use Rattle.circus_node.specs.Seen.Kept.{IsActing};
+ghost use Rattle.circus_node.specs.Seen.StationOf.{node_of, IsStation};
+ghost use Rattle.circus_node.specs.NodeState.{member_record as record_of, ring_views as views_of};
+
+use crate::acting::{Acting, Consequences};
+use crate::home::home_of;
+use crate::station::Station;
+use crate::{Event, Gives, Outputs, StepFault};
+use bytes::Bytes;
+use circus_collate::{Deployment, Views};
+use circus_model::Module;
+use circus_record::MemberRecord;
+use std::alloc::Global;
+use std::marker::Model;
+
+/// A node of a program: a member of a troupe, or the Ringmaster, behind pairs with all other nodes (docs/PROTOCOL.md,
+/// "Order within a step").
+///
+/// Clauses see the program's troupes and nodes, the pairs, what the node does, and how much it has dropped;
+/// `specs/Step.antt` says what a step does to them.
+#[derive(Drop)]
+pub struct NodeCore<M: Module> {
+    station: Station,
+    acting: Acting<M>,
+}
+
+impl<M: Module> Model for NodeCore<M> {
+    ghost use Rattle.circus_node.specs.NodeState.{NodeState};
+    ghost use Rattle.circus_node.specs.Seen.NodeCode.{node_code};
+    ghost use Rattle.circus_node.specs.Seen.StationOf.{node_of, IsStation};
+    ghost use Rattle.circus_node.specs.Seen.Kept.{IsActing};
+
+    ghost Value = { NodeState M };
+
+    ghost coded = { node_code M.code };
+
+    ghost view = { λ a. node_of a.station a.acting };
+
+    ghost invariant = { λ a. IsStation a.station × IsActing a.station.deployment a.acting };
+}
+
+impl<M: Module> NodeCore<M> {
+    /// A node of a program at boot, which is step 0, and what it gives: a founder of a root has entered its MAIN. The
+    /// module is that of the node's troupe, and none at the Ringmaster's node; its conditions are in `CanBoot`. What it
+    /// gives goes to other nodes.
+    ///
+    /// `NoMemory` where memory runs out.
+    pub fn boot(
+        alloc: Global,
+        deployment: &Deployment,
+        module: Option<M>,
+        node: u16,
+    ) -> Result<(Self, Outputs), StepFault>
+        requires { booting.CanBoot deployment.now node (option_map M.declared «module») }
+        ensures booted { step.IsEnded result (booting.booted M.declared M.turn M.first deployment.now «module» node) }
+        ensures node { IfOk result (λ booted. IsNodeOf deployment.now node booted.0) }
+        ensures others { IfOk result (λ booted. GoToOthers booted.0 booted.1.gives) }
+    {
+        NodeCore::begin(alloc, deployment, module, node)
+    }
+
+    /// A step, which has this number, and what the node gives in it (docs/PROTOCOL.md, "Order within a step"). What comes
+    /// names another node of the program; its conditions are in `CanCome`.
+    ///
+    /// After `NoMemory` and `Spent`, which names the node to which no number is left, there is no node, and nothing of
+    /// the step was sent.
+    pub fn step(self, at: u64, event: Event) -> Result<(Self, Outputs), StepFault>
+        requires { step.CanCome self event }
+        ensures stepped { step.IsEnded result (step.stepped M.declared M.turn at event self) }
+        ensures node { (program : Deployed) (number : ℕ) → IsNodeOf program number self → IfOk result (λ stepped. IsNodeOf program number stepped.0) }
+        ensures others { IfOk result (λ stepped. GoToOthers stepped.0 stepped.1.gives) }
+    {
+        self.follow(at, event)
+    }
+
+    /// What the member did. `None` exactly at the Ringmaster's node. It takes no memory.
+    pub fn member_record(&self) -> Option<&MemberRecord>
+        ensures { option_copied result ≡ record_of self.now.acting }
+    {
+        self.acting.record()
+    }
+
+    /// The views that the Ringmaster keeps, one a troupe. `None` exactly at another node. It takes no memory.
+    pub fn ring_views(&self) -> Option<&Views>
+        ensures { option_copied result ≡ views_of self.now.acting }
+    {
+        self.acting.views()
+    }
+
+    /// How many datagrams counted for nothing, and how many messages that arrived were not accepted (docs/PROTOCOL.md,
+    /// "Accepted messages"). It stays at the greatest. It takes no memory.
+    pub fn dropped(&self) -> u64
+        ensures { result ≡ self.now.dropped }
+    {
+        self.station.dropped
+    }
+
+    // Step 0.
+    fn begin(
+        alloc: Global,
+        deployment: &Deployment,
+        module: Option<M>,
+        node: u16,
+    ) -> Result<(Self, Outputs), StepFault>
+        requires { booting.CanBoot deployment.now node (option_map M.declared «module») }
+        ensures { step.IsEnded result (booting.booted M.declared M.turn M.first deployment.now «module» node) }
+    {
+        let home = home_of(alloc, deployment, node)?;
+        let (acting, came) = Acting::boot(alloc, deployment, home, module)?;
+        let station = Station::new(alloc, deployment, node)?;
+        NodeCore::conclude(station, Gives::new(alloc), acting, came)
+    }
+
+    // A later step.
+    fn follow(self, at: u64, event: Event) -> Result<(Self, Outputs), StepFault>
+        requires { step.CanCome self event }
+        ensures { step.IsEnded result (step.stepped M.declared M.turn at event self) }
+    {
+        match event {
+            Event::Datagram(from, bytes) => self.receive(at, from, &bytes),
+            Event::Tick => self.tick(),
+            Event::Down(node) => self.lose(at, node),
+            Event::Join => self.join(at),
+        }
+    }
+
+    // A datagram of a node comes.
+    fn receive(self, at: u64, from: u16, bytes: &Bytes) -> Result<(Self, Outputs), StepFault>
+        requires { IsOther self.wire from }
+        ensures { step.IsEnded result (step.received M.declared M.turn at from (reading bytes.now) self) }
+    {
+        let NodeCore {
+            mut station,
+            acting,
+        } = self;
+        let (gives, heard) = station.receive(from, bytes)?;
+        let alloc = station.alloc;
+        let (acting, came) = acting.hear(alloc, &station.deployment, at, from, heard)?;
+        NodeCore::conclude(station, gives, acting, came)
+    }
+
+    // A tick touches the pairs alone.
+    fn tick(self) -> Result<(Self, Outputs), StepFault>
+        ensures { step.IsEnded result (step.ticked self) }
+    {
+        let NodeCore { station, acting } = self;
+        let (station, outputs) = station.tick()?;
+        Ok((NodeCore { station, acting }, outputs))
+    }
+
+    // A node is declared to be down: its pair stops first.
+    fn lose(self, at: u64, node: u16) -> Result<(Self, Outputs), StepFault>
+        requires { IsOther self.wire node }
+        ensures { step.IsEnded result (step.lost M.declared M.turn at node self) }
+    {
+        let NodeCore {
+            mut station,
+            acting,
+        } = self;
+        let alloc = station.alloc;
+        station.wire.stop(node);
+        let (acting, came) = acting.learn_down(alloc, at, node)?;
+        NodeCore::conclude(station, Gives::new(alloc), acting, came)
+    }
+
+    // The node is told to join its troupe.
+    fn join(self, at: u64) -> Result<(Self, Outputs), StepFault>
+        ensures { step.IsEnded result (step.joining M.declared M.turn at self) }
+    {
+        let NodeCore { station, acting } = self;
+        let alloc = station.alloc;
+        let (acting, came) = acting.join(alloc, at)?;
+        NodeCore::conclude(station, Gives::new(alloc), acting, came)
+    }
+
+    // What came of a step is sent, behind what was given already.
+    fn conclude(
+        station: Station,
+        gives: Gives,
+        acting: Acting<M>,
+        came: Consequences,
+    ) -> Result<(Self, Outputs), StepFault>
+        requires station { IsStation station }
+        requires acting { IsActing station.deployment acting }
+        ensures { step.IsEnded result (step.concluded (node_of station acting) gives came) }
+    {
+        let (station, outputs) = station.conclude(gives, came)?;
+        Ok((NodeCore { station, acting }, outputs))
+    }
+}

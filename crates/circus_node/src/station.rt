@@ -1,0 +1,110 @@
+// A node among the others: its pairs with them, and how much it has dropped.
+ghost use Rattle.std.specs.Prelude.{◌<◌, length, IfOk};
+ghost use Rattle.circus_collate.specs.Deployment.{IsDeployment};
+ghost use Rattle.circus_segment.specs.Segment.{reading};
+ghost use Rattle.circus_wire.specs.Wire.{IsOther};
+ghost use Rattle.circus_node.specs.Seen.StationOf as stations;
+
+use crate::acting::Consequences;
+use crate::sending::{add_all_gives, add_gives, hand_all};
+use crate::{Gives, Outputs, StepFault};
+use bytes::Bytes;
+use circus_collate::Deployment;
+use circus_member::Purpose;
+use circus_value::{Duplicate, ListOf, NoMemory};
+use circus_wire::{Heard, Wire};
+use std::alloc::Global;
+
+/// The program's troupes and nodes, the pairs with the other nodes, and a count.
+#[derive(Drop)]
+pub(crate) struct Station {
+    pub alloc: Global,
+    pub deployment: Deployment,
+    pub node: u16,
+    pub wire: Wire<Purpose>,
+    /// How many datagrams counted for nothing, and how many messages that arrived were not accepted.
+    pub dropped: u64,
+}
+
+impl Station {
+    /// That of a node before anything has happened.
+    pub fn new(alloc: Global, deployment: &Deployment, node: u16) -> Result<Self, NoMemory>
+        requires deployment { IsDeployment deployment.now }
+        requires node { node < length deployment.now.nodes }
+        ensures { IfOk result (stations.IsFresh deployment.now node) }
+    {
+        Ok(Station {
+            alloc,
+            deployment: deployment.copy()?,
+            node,
+            wire: Wire::new(alloc, node, deployment.nodes.len(), deployment.format)?,
+            dropped: 0,
+        })
+    }
+
+    /// A datagram of another node comes: what is sent at once, and what is heard. After `NoMemory` it may have been taken.
+    pub fn receive(&mut self, from: u16, bytes: &Bytes) -> Result<(Gives, Heard<Purpose>), NoMemory>
+        requires { IsOther self.old.wire from }
+        ensures { IfOk result (stations.HasReceived from (reading bytes.now) self.old self.new) }
+    {
+        let delivery = self.wire.deliver(from, bytes)?;
+        let mut gives = Gives::new(self.alloc);
+        add_gives(delivery.sent, &mut gives)?;
+        Ok((gives, delivery.heard))
+    }
+
+    /// What came of a step is sent, behind what was given already.
+    pub fn conclude(
+        mut self,
+        mut gives: Gives,
+        came: Consequences,
+    ) -> Result<(Self, Outputs), StepFault>
+        requires { stations.IsStation self }
+        ensures { stations.IsConcluded result self gives came }
+    {
+        let Consequences {
+            effects,
+            differences,
+            dropped,
+        } = came;
+        hand_all(self.deployment.format, &mut self.wire, effects, &mut gives)?;
+        if dropped {
+            self.dropped = self.dropped.saturating_add(1);
+        }
+        let outputs = Outputs {
+            gives,
+            suspects: ListOf::new(self.alloc),
+            differences,
+        };
+        Ok((self, outputs))
+    }
+
+    /// A tick comes.
+    pub fn tick(self) -> Result<(Self, Outputs), StepFault>
+        ensures { stations.IsTicked result self }
+    {
+        let Station {
+            alloc,
+            deployment,
+            node,
+            wire,
+            dropped,
+        } = self;
+        let (wire, batches, suspects) = wire.tick()?;
+        let mut gives = Gives::new(alloc);
+        add_all_gives(batches, &mut gives)?;
+        let station = Station {
+            alloc,
+            deployment,
+            node,
+            wire,
+            dropped,
+        };
+        let outputs = Outputs {
+            gives,
+            suspects,
+            differences: ListOf::new(alloc),
+        };
+        Ok((station, outputs))
+    }
+}
