@@ -7,3 +7,4 @@ pub mod BootLemmas
 pub mod OtherLemmas
 pub mod GoLemmas
 pub mod NodeLemmas
+pub mod NoticeLemmas

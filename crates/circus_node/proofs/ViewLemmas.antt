@@ -12,7 +12,7 @@ use Rattle.circus_ring.specs.RingTable.{boot_views}
 use Rattle.circus_ring.proofs.Booting.{length_boot}
 use Rattle.circus_gather.specs.Gathering as gathering
 use Rattle.circus_gather.specs.declared.held.HeldCall.{HeldCall}
-use Rattle.circus_known.specs.Knowing.{Knowing}
+use Rattle.circus_known.specs.Knowing.{Knowing, at_boot}
 use Rattle.circus_model.specs.NextTurn.{NextTurn}
 use Rattle.circus_model.specs.declared.signature.Signature.{Signature}
 use Rattle.circus_record.specs.declared.record.RunRecord.{RunRecord}
@@ -68,7 +68,7 @@ module _ {M : Type 0} where
   told_many m request table = told_as_many _ table.view ∙ ap length (ring_views m.known request table.view.troupe)
 
   -- a member has the state that it fetched
-  abbrev with_state : ℕ → MemberState M → List ValueTree → ℕ → Doing M
+  abbrev pub with_state : ℕ → MemberState M → List ValueTree → ℕ → Doing M
   with_state step m state count =
       record {
         member = record m { performing = made_active step state count m.performing; gathered = gathering.with_first m.gathered count };
@@ -123,7 +123,7 @@ module _ {M : Type 0} (declared : M → Signature) (turn : M → List ValueTree 
       (λ call. starting_knows step left (entered turn step e (start call)) ∙ entered_knows step e (start call) ∙ states_know d)
       (states_know d)
 
-  executed_knows : (step : ℕ) (d : Doing M) → Knows d.member.known (executed declared turn step d)
+  pub executed_knows : (step : ℕ) (d : Doing M) → Knows d.member.known (executed declared turn step d)
   executed_knows step d =
       let e = answered_open turn step d in
       starting_knows step (length e.member.gathered.held) e ∙ answered_knows step d
@@ -135,13 +135,17 @@ module _ {M : Type 0} (declared : M → Signature) (turn : M → List ValueTree 
   pub still_member : (step : ℕ) (o : Occurrence) (m n : MemberState M) (d : Deployment) → IsMemberOf d m → n ≡ (stepped declared turn step o m).member → IsMemberOf d n
   still_member step o m n d of is = record { views = ap (λ (x : MemberState M). length x.known.views) is ∙ stepped_many step o m ∙ of.views }
 
-  booted_many : (first : M → List ValueTree) (place : Place) (views : List View) (beginning : Beginning) (hosted : M)
-      → length (booted declared turn first place views beginning hosted).member.known.views ≡ length views
-  booted_many first place views beginning hosted =
+  -- a member knows the views that it boots with
+  pub booted_knows : (first : M → List ValueTree) (place : Place) (views : List View) (beginning : Beginning) (hosted : M)
+      → (booted declared turn first place views beginning hosted).member.known ≡ at_boot views
+  booted_knows first place views beginning hosted =
       let d : Doing M = record { member = before_any declared turn place views (performer_at_boot first beginning hosted); effects = [] } in
       let start = main_start place.troupe views in
-      by_test (λ (e : Doing M). length e.member.known.views ≡ length views) (starts_at_boot declared turn beginning hosted) (entered turn 0 d start) d
-      (ap (λ (k : Knowing). length k.views) (entered_knows 0 d start)) refl
+      by_test (Knows (at_boot views)) (starts_at_boot declared turn beginning hosted) (entered turn 0 d start) d (entered_knows 0 d start) refl
+
+  booted_many : (first : M → List ValueTree) (place : Place) (views : List View) (beginning : Beginning) (hosted : M)
+      → length (booted declared turn first place views beginning hosted).member.known.views ≡ length views
+  booted_many first place views beginning hosted = ap (λ (k : Knowing). length k.views) (booted_knows first place views beginning hosted)
 
   -- a member that boots with the views that every node boots with is one of its deployment
   pub booted_of : (first : M → List ValueTree) (place : Place) (views : List View) (beginning : Beginning) (hosted : M) (n : MemberState M) (d : Deployment)

@@ -7,4 +7,5 @@ pub mod Making
 pub mod Sending
 pub mod Step
 pub mod Booting
+pub mod Noticing
 pub mod Seen
