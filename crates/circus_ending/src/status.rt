@@ -18,6 +18,8 @@ pub enum Status {
     SinkFault = 5,
     /// There is no memory.
     NoMemory = 7,
+    /// A node has no number left for a call to another one.
+    Spent = 8,
     /// What was asked for is not built.
     NotBuilt = 9,
     /// The text of a placing is refused.

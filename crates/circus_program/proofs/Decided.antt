@@ -7,8 +7,8 @@ use Rattle.std.proofs.lemmas.Bool.{cases_lt}
 use Rattle.std.proofs.lemmas.Bool.Decides.{not_from_Decides}
 use Rattle.std.proofs.lemmas.List.{length-append, length-drop}
 use Rattle.std.proofs.lemmas.Slice.Eq.{bytes_eq-Decides}
-use Rattle.circus_world.specs.declared.line.Line.{Line}
-use Rattle.circus_world.specs.declared.line.Line.TheVariants.{Deliver}
+use Rattle.circus_thin.specs.declared.line.Line.{Line}
+use Rattle.circus_thin.specs.declared.line.Line.TheVariants.{Deliver}
 use Rattle.circus_program.specs.Thin.{IsLineInRange, IsThinProgram, IsThinSchedule, line_text}
 use Rattle.circus_program.specs.declared.thin.TheConstants.{BEFORE_NUMBER, AFTER_NUMBER}
 use Rattle.circus_program.proofs.Schedules.{is_newline, IsReadSoFar, IsReadSoFar-start, IsReadSoFar-more, IsThinSchedule-read, no_schedule-bad_line, no_schedule-too_many}

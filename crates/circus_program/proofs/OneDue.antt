@@ -1,8 +1,8 @@
 -- Words come to one thing.
 use Rattle.std.proofs.Common.{◌≡◌, ℕ, ◌⊎◌, inl, inr, Option, Some, None, List, [], ◌∷◌, refl, sym, ap, subst, ◌∙◌, codes}
 use Rattle.std.specs.Prelude.{cond, bytes_eq}
-use Rattle.circus_world.specs.declared.line.Line.{Line}
-use Rattle.circus_world.specs.Course.{booted}
+use Rattle.circus_thin.specs.declared.line.Line.{Line}
+use Rattle.circus_thin.specs.Course.{booted}
 use Rattle.circus_program.specs.Form.{Form, stubs, run, replay, node, sample, settle, place, audit, words_of, files_of, IsOfForm}
 use Rattle.circus_program.specs.Thin.{IsThinProgram}
 use Rattle.circus_ending.specs.Ending.{Ending}

@@ -1,6 +1,6 @@
 -- Words come to something.
 use Rattle.std.proofs.Common.{◌≡◌, ℕ, ◌⊎◌, inl, inr, Option, Some, None, List, [], ◌∷◌, refl, sym, subst}
-use Rattle.circus_world.specs.Course.{booted}
+use Rattle.circus_thin.specs.Course.{booted}
 use Rattle.circus_program.specs.Form.{Form, stubs, run, replay, node, sample, settle, place, audit, files_of, IsOfForm}
 use Rattle.circus_program.specs.Thin.{IsThinProgram}
 use Rattle.circus_program.specs.Replay.{replayed}

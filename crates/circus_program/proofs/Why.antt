@@ -1,9 +1,9 @@
 -- Which ends have a status, and why.
 use Rattle.std.proofs.Common.{◌≡◌, ◌↔◌, ℕ, ◌+◌, ◌⊎◌, inl, inr, true, false, Option, Some, List, [], ◌∷◌, refl, sym, ap, subst, ◌∙◌}
 use Rattle.std.specs.Prelude.{cond}
-use Rattle.circus_world.specs.declared.line.Line.{Line}
-use Rattle.circus_world.specs.WorldView.{WorldView}
-use Rattle.circus_world.specs.Course.{booted, stepped}
+use Rattle.circus_thin.specs.declared.line.Line.{Line}
+use Rattle.circus_thin.specs.WorldView.{WorldView}
+use Rattle.circus_thin.specs.Course.{booted, stepped}
 use Rattle.circus_ending.specs.declared.status.Status.{Status}
 use Rattle.circus_ending.specs.declared.status.Status.TheVariants.{Done, BadCommandLine, BadProgram, BadSchedule, NotBuilt, BadPlacing, NoPlacement}
 use Rattle.circus_program.specs.Form.{Form, stubs, run, replay, node, sample, settle, place, audit, files_of, IsOfForm, IsOfNoForm}

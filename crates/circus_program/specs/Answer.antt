@@ -1,14 +1,14 @@
 -- What the top call answers.
 use Rattle.std.specs.Prelude.{ℕ, ◌≡◌, ◌⊎◌, Option, Some, List, [], ◌∷◌, ◌++◌, codes, IfSome}
 use Rattle.circus_outside.specs.Told.{told_more}
-use Rattle.circus_world.specs.declared.line.Line.{Line}
-use Rattle.circus_world.specs.Course.{booted}
 use Rattle.circus_ending.specs.declared.status.Status.{Status}
 use Rattle.circus_ending.specs.declared.status.Status.TheVariants.{BadCommandLine, NotBuilt}
 use Rattle.circus_program.specs.Form.{Form, stubs, run, replay, node, sample, settle, place, audit, IsOfForm, IsOfNoForm, files_of}
-use Rattle.circus_program.specs.Thin.{IsThinProgram, IsThinSchedule}
 use Rattle.circus_ending.specs.Ending.{Ending}
-use Rattle.circus_program.specs.Replay.{replayed}
+use Rattle.circus_program.specs.Replay.{IsEndOfReplay}
+use Rattle.circus_config.specs.declared.plan.Plan.{Plan}
+use Rattle.circus_config.specs.Program.{IsProgramOf}
+use Rattle.circus_running.specs.Writing.{Writes, WritesPart}
 use Rattle.circus_ending.specs.declared.one_file.OneFile.{OneFile}
 use Rattle.circus_ending.specs.declared.one_file.OneFile.TheVariants.{Stubs, Run, Place}
 use Rattle.circus_ending.specs.Refusal.{IsGood, IsEndOfRefused}
@@ -28,32 +28,19 @@ bad_command_line = finish (record { status = BadCommandLine; text = line (codes 
 abbrev pub not_built : Due
 not_built = finish (record { status = NotBuilt; text = line (codes "not built") })
 
--- what is due once a replay's program is fetched, and is a program
-abbrev pub IsDueOfGood : List ℕ → List ℕ → Due → Type 0
-IsDueOfGood schedule program due =
-    ((number : ℕ) × IsThinProgram program number × (due ≡ fetch schedule))
-    ⊎ (((number : ℕ) → IsThinProgram program number → ⊥) × (due ≡ not_built))
-
 -- what is due of a file that is no program
 abbrev pub IsDueOfRefused : List ℕ → Due → Type 0
 IsDueOfRefused program due = (ending : Ending) × IsEndOfRefused program ending × (due ≡ finish ending)
 
--- what is due once a replay's first file is fetched
-abbrev pub IsDueOfProgram : List ℕ → List ℕ → Due → Type 0
-IsDueOfProgram schedule program due = (IsGood program × IsDueOfGood schedule program due) ⊎ IsDueOfRefused program due
-
--- what is due once its schedule is fetched too
-abbrev pub IsDueOfSchedule : ℕ → List ℕ → Due → Type 0
-IsDueOfSchedule number schedule due =
-    ((lines : List Line) × IsThinSchedule schedule lines × (due ≡ finish (replayed 1 (booted number) lines)))
-    ⊎ (((lines : List Line) → IsThinSchedule schedule lines → ⊥) × (due ≡ not_built))
+-- what is due once a replay's two files are fetched
+abbrev pub IsDueOfSchedule : Plan → List ℕ → Due → Type 0
+IsDueOfSchedule plan schedule due = (ending : Ending) × IsEndOfReplay plan schedule ending × (due ≡ finish ending)
 
 -- what is due of a replay, whose files so far are these
 abbrev pub IsDueOfReplay : List ℕ → List ℕ → List (List ℕ) → Due → Type 0
 IsDueOfReplay program schedule [] due = due ≡ fetch program
-IsDueOfReplay program schedule (bytes ∷ []) due = IsDueOfProgram schedule bytes due
-IsDueOfReplay program schedule (bytes ∷ more ∷ []) due =
-    IsGood bytes × (number : ℕ) × IsThinProgram bytes number × IsDueOfSchedule number more due
+IsDueOfReplay program schedule (bytes ∷ []) due = (IsGood bytes × (due ≡ fetch schedule)) ⊎ IsDueOfRefused bytes due
+IsDueOfReplay program schedule (bytes ∷ more ∷ []) due = (plan : Plan) × IsProgramOf bytes plan × IsDueOfSchedule plan more due
 IsDueOfReplay program schedule (_ ∷ _ ∷ _ ∷ _) due = ⊥
 
 -- what is due of a command of one file, whose bytes so far are these
@@ -122,17 +109,6 @@ abbrev pub IsText : Option (List ℕ → Option (List ℕ)) → List (List ℕ) 
 IsText shelf words fetched ShelfRose text =
     ((status : Status) × Finishes shelf words status text)
     ⊎ ((name : List ℕ) × Lacks shelf words name × WasLast fetched name × ShelfRose × (text ≡ shelf_fault name))
-
--- this was written at the end of what the sink has
-abbrev pub Writes : Option (List ℕ) → Option (List ℕ) → List ℕ → Type 0
-Writes old new text = new ≡ told_more old text
-
--- a part of the text from its beginning was written
-pub record WritesPart (old new : Option (List ℕ)) (text : List ℕ) : Type 0 where
-  pub part : List ℕ
-  pub rest : List ℕ
-  pub whole : text ≡ part ++ rest
-  pub written : Writes old new part
 
 -- a part of a text that is due was written, or nothing
 abbrev pub WritesPartOfText : Option (List ℕ → Option (List ℕ)) → List (List ℕ) → Option (List (List ℕ)) → Type 0 → Option (List ℕ) → Option (List ℕ) → Type 0

@@ -1,19 +1,25 @@
 -- What words come to over a shelf that tells its contents, and why.
-use Rattle.std.specs.Prelude.{ℕ, ◌≡◌, ◌⊎◌, true, false, Option, Some, None, List, [], ◌∷◌}
-use Rattle.circus_world.specs.declared.line.Line.{Line}
-use Rattle.circus_world.specs.WorldView.{WorldView}
-use Rattle.circus_world.specs.Course.{booted, stepped}
+use Rattle.std.specs.Prelude.{ℕ, ◌≡◌, ◌⊎◌, Option, Some, None, List, [], ◌∷◌, Ok, Err}
+use Rattle.circus_model.specs.Behaviour.{Behaviour}
+use Rattle.circus_schedule.specs.declared.line.Line.{Line}
+use Rattle.circus_schedule.specs.declared.schedule_fault.ScheduleFault.{ScheduleFault}
+use Rattle.circus_schedule.specs.Meaning.{numbers_of}
+use Rattle.circus_schedule.specs.Answer.{IsAnswer}
+use Rattle.circus_world.specs.declared.cause.Cause.{Cause}
+use Rattle.circus_world.specs.WorldState.{WorldState}
+use Rattle.circus_world.specs.Legal.{refusal}
+use Rattle.circus_world.specs.Course.{stepped}
 use Rattle.circus_ending.specs.declared.status.Status.{Status}
 use Rattle.circus_program.specs.Form.{Form, stubs, run, replay, node, sample, settle, place, audit, IsOfForm}
-use Rattle.circus_program.specs.Thin.{IsThinProgram, IsThinSchedule}
-use Rattle.circus_program.specs.Replay.{is_legal}
+use Rattle.circus_program.specs.Replay.{booted, IsEndOfReplay}
 use Rattle.circus_ending.specs.declared.one_file.OneFile.TheVariants.{Stubs, Run, Place}
 use Rattle.circus_ending.specs.Ending.{Ending}
-use Rattle.circus_ending.specs.Refusal.{IsGood, IsEndOfRefused}
+use Rattle.circus_ending.specs.Refusal.{IsEndOfRefused}
 use Rattle.circus_ending.specs.OneFile.{IsEndOf}
 use Rattle.circus_config.specs.declared.program_fault.ProgramCause.{ProgramCause}
 use Rattle.circus_config.specs.declared.program_fault.ProgramFault.TheVariants.{Refused}
-use Rattle.circus_config.specs.Program.{IsRefused}
+use Rattle.circus_config.specs.declared.plan.Plan.{Plan}
+use Rattle.circus_config.specs.Program.{IsProgramOf, IsRefused}
 use Rattle.circus_program.specs.Answer.{Due, fetch, finish, IsDue}
 
 -- nothing is due behind it: an end, or the fetch of a file that the shelf doesn't have
@@ -34,9 +40,19 @@ EndsWith status (finish ending) = ending.status ≡ status
 -- ---- why
 
 -- a line may not be stepped, once those before it were
-abbrev pub HasRefused : WorldView → List Line → Type 0
-HasRefused w [] = ⊥
-HasRefused w (line ∷ lines) = (is_legal w line ≡ false) ⊎ ((is_legal w line ≡ true) × HasRefused (stepped w line) lines)
+abbrev pub HasRefused : List Line → WorldState Behaviour → Type 0
+HasRefused [] w = ⊥
+HasRefused (line ∷ lines) w =
+    ((cause : Cause) × (refusal w line ≡ Some cause))
+    ⊎ ((refusal w line ≡ None) × (next : WorldState Behaviour) × (stepped (λ b. b.declared) (λ b. b.turn) line w ≡ Ok next) × HasRefused lines next)
+
+-- a node has no number left in the step of a line, once those before it were stepped
+abbrev pub HasSpent : List Line → WorldState Behaviour → Type 0
+HasSpent [] w = ⊥
+HasSpent (line ∷ lines) w =
+    (refusal w line ≡ None)
+    × (((nodes : ℕ × ℕ) × (stepped (λ b. b.declared) (λ b. b.turn) line w ≡ Err nodes))
+    ⊎ ((next : WorldState Behaviour) × (stepped (λ b. b.declared) (λ b. b.turn) line w ≡ Ok next) × HasSpent lines next))
 
 -- the first file of a form that is built
 abbrev pub file_read : Form → Option (List ℕ)
@@ -58,16 +74,23 @@ pub record IsToBeRead (contents : List ℕ → Option (List ℕ)) (words : List 
   pub bytes : List ℕ
   pub there : contents name ≡ Some bytes
 
--- reading these bytes answers: of a replay that they are a program or are refused, of a command of one file its end
-abbrev pub IsAnswered : Form → List ℕ → Type 0
-IsAnswered (replay _ _) bytes = IsGood bytes ⊎ ((ending : Ending) × IsEndOfRefused bytes ending)
-IsAnswered (stubs _) bytes = (ending : Ending) × IsEndOf Stubs bytes ending
-IsAnswered (run _) bytes = (ending : Ending) × IsEndOf Run bytes ending
-IsAnswered (place _) bytes = (ending : Ending) × IsEndOf Place bytes ending
-IsAnswered (node _ _ _) bytes = ⊥
-IsAnswered (sample _ _ _) bytes = ⊥
-IsAnswered (settle _ _) bytes = ⊥
-IsAnswered (audit _ _) bytes = ⊥
+-- reading the schedule answers, where it is there
+abbrev pub IsScheduleAnswered : Plan → Option (List ℕ) → Type 0
+IsScheduleAnswered plan None = Unit {0}
+IsScheduleAnswered plan (Some schedule) = (ending : Ending) × IsEndOfReplay plan schedule ending
+
+-- reading these bytes answers, and of a replay the schedule too: that they are a program or are refused, of a command of one
+-- file its end
+abbrev pub IsAnswered : (List ℕ → Option (List ℕ)) → Form → List ℕ → Type 0
+IsAnswered contents (replay _ schedule) bytes =
+    ((plan : Plan) × IsProgramOf bytes plan × IsScheduleAnswered plan (contents schedule)) ⊎ ((ending : Ending) × IsEndOfRefused bytes ending)
+IsAnswered contents (stubs _) bytes = (ending : Ending) × IsEndOf Stubs bytes ending
+IsAnswered contents (run _) bytes = (ending : Ending) × IsEndOf Run bytes ending
+IsAnswered contents (place _) bytes = (ending : Ending) × IsEndOf Place bytes ending
+IsAnswered contents (node _ _ _) bytes = ⊥
+IsAnswered contents (sample _ _ _) bytes = ⊥
+IsAnswered contents (settle _ _) bytes = ⊥
+IsAnswered contents (audit _ _) bytes = ⊥
 
 -- that file where it is a program
 abbrev pub program_read : Form → Option (List ℕ)
@@ -92,25 +115,32 @@ pub record IsRefusedProgram (contents : List ℕ → Option (List ℕ)) (words :
   pub cause : ProgramCause
   pub refused : IsRefused bytes (Refused number cause)
 
--- the words are a replay of the program that is built, with this number, and of the schedule that these lines are
-pub record IsReplayOf (contents : List ℕ → Option (List ℕ)) (words : List (List ℕ)) (number : ℕ) (schedule : List ℕ) : Type 0 where
+-- the words are a replay of a program that means this plan, and of this schedule
+pub record IsReplay (contents : List ℕ → Option (List ℕ)) (words : List (List ℕ)) (plan : Plan) (schedule : List ℕ) : Type 0 where
   pub program : List ℕ
   pub name : List ℕ
   pub of_form : IsOfForm words (replay program name)
   pub bytes : List ℕ
   pub program_is : contents program ≡ Some bytes
-  pub good : IsGood bytes
-  pub thin : IsThinProgram bytes number
+  pub good : IsProgramOf bytes plan
   pub schedule_is : contents name ≡ Some schedule
 
--- a replay of which a line is refused
+-- a replay of which a line is refused: it is read as none, or may not be stepped
 pub record IsRefusedReplay (contents : List ℕ → Option (List ℕ)) (words : List (List ℕ)) : Type 0 where
-  pub number : ℕ
+  pub plan : Plan
   pub schedule : List ℕ
-  pub replayed : IsReplayOf contents words number schedule
+  pub replayed : IsReplay contents words plan schedule
+  pub refused : ((fault : ScheduleFault) × IsAnswer (numbers_of plan.deployment.nodes) schedule (Err fault))
+    ⊎ ((lines : List Line) × (w : WorldState Behaviour) × IsAnswer (numbers_of plan.deployment.nodes) schedule (Ok lines) × (booted plan ≡ Ok w) × HasRefused lines w)
+
+-- a replay in which a node has no number left for another one, at boot or in the step of a line
+pub record IsSpentReplay (contents : List ℕ → Option (List ℕ)) (words : List (List ℕ)) : Type 0 where
+  pub plan : Plan
+  pub schedule : List ℕ
+  pub replayed : IsReplay contents words plan schedule
   pub lines : List Line
-  pub spelled : IsThinSchedule schedule lines
-  pub refused : HasRefused (booted number) lines
+  pub read : IsAnswer (numbers_of plan.deployment.nodes) schedule (Ok lines)
+  pub spent : ((nodes : ℕ × ℕ) × (booted plan ≡ Err nodes)) ⊎ ((w : WorldState Behaviour) × (booted plan ≡ Ok w) × HasSpent lines w)
 
 -- another form than those that are built
 abbrev pub IsUnbuilt : Form → Type 0
@@ -123,25 +153,6 @@ IsUnbuilt (sample _ _ _) = Unit {0}
 IsUnbuilt (settle _ _) = Unit {0}
 IsUnbuilt (audit _ _) = Unit {0}
 
--- a replay of another program
-pub record IsOtherProgram (contents : List ℕ → Option (List ℕ)) (words : List (List ℕ)) : Type 0 where
-  pub program : List ℕ
-  pub name : List ℕ
-  pub of_form : IsOfForm words (replay program name)
-  pub bytes : List ℕ
-  pub program_is : contents program ≡ Some bytes
-  pub good : IsGood bytes
-  pub other : (number : ℕ) → IsThinProgram bytes number → ⊥
-
--- a replay of another schedule
-pub record IsOtherSchedule (contents : List ℕ → Option (List ℕ)) (words : List (List ℕ)) : Type 0 where
-  pub number : ℕ
-  pub schedule : List ℕ
-  pub replayed : IsReplayOf contents words number schedule
-  pub other : (lines : List Line) → IsThinSchedule schedule lines → ⊥
-
--- another form, else another program, else another schedule
-abbrev pub IsNotBuilt : (List ℕ → Option (List ℕ)) → List (List ℕ) → Type 0
-IsNotBuilt contents words =
-    ((form : Form) × IsOfForm words form × IsUnbuilt form)
-    ⊎ (IsOtherProgram contents words ⊎ IsOtherSchedule contents words)
+-- the words are of a form that is not built
+abbrev pub IsNotBuilt : List (List ℕ) → Type 0
+IsNotBuilt words = (form : Form) × IsOfForm words form × IsUnbuilt form

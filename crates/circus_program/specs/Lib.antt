@@ -1,7 +1,4 @@
 pub mod Form
-pub mod Thin
-pub mod Names
-pub mod Report
 pub mod Replay
 pub mod Answer
 pub mod Last

@@ -1,62 +1,108 @@
--- What a replay writes: the report of the world that the lines leave, or the first line that is refused.
-use Rattle.std.specs.Prelude.{ℕ, ◌+◌, Bool, Option, Some, None, cond, nat_lt, List, [], ◌∷◌, ◌++◌, length, codes}
+-- What a replay comes to: the report of the world that the lines leave, or what was sent before a line that is refused, and why.
+use Rattle.std.specs.Prelude.{ℕ, ◌≡◌, ◌+◌, List, [], ◌∷◌, ◌++◌, length, map, codes, slice_get, Option, option_and_then, Result, Ok, Err}
+use Rattle.std.specs.Option.{option_map_or}
 use Rattle.std.specs.Fmt.{decimal}
-use Rattle.circus_world.specs.declared.line.Line.{Line}
-use Rattle.circus_world.specs.declared.line.Line.TheVariants.{Deliver}
-use Rattle.circus_world.specs.declared.line.Cause.{Cause}
-use Rattle.circus_world.specs.declared.line.Cause.TheVariants.{NoDatagram}
-use Rattle.circus_world.specs.Refusal.{cause_of}
-use Rattle.circus_world.specs.declared.record.MemberRecord.{MemberRecord}
-use Rattle.circus_world.specs.WorldView.{WorldView}
-use Rattle.circus_world.specs.Course.{stepped, kept_of}
-use Rattle.circus_ending.specs.declared.status.Status.TheVariants.{Done, BadSchedule}
-use Rattle.circus_ending.specs.Ending.{Ending}
-use Rattle.circus_program.specs.Names.{names}
+use Rattle.circus_value.specs.ValueTree.{ValueTree}
+use Rattle.circus_value.specs.declared.outcome.Outcome.{Outcome}
+use Rattle.circus_collate.specs.declared.deployment.Host.{Host}
+use Rattle.circus_model.specs.NextTurn.{NextTurn}
+use Rattle.circus_model.specs.Behaviour.{Behaviour}
+use Rattle.circus_model.specs.declared.signature.Signature.{Signature}
 use Rattle.circus_record.specs.Line.{line}
-use Rattle.circus_program.specs.Report.{Member, Viewed, first_line, sent_lines, report_text}
+use Rattle.circus_record.specs.Naming.{Names, names_of}
+use Rattle.circus_schedule.specs.declared.line.Line.{Line}
+use Rattle.circus_schedule.specs.declared.schedule_fault.ScheduleFault.{ScheduleFault}
+use Rattle.circus_schedule.specs.declared.schedule_fault.ScheduleFault.TheVariants as schedule_fault
+use Rattle.circus_schedule.specs.Meaning.{numbers_of}
+use Rattle.circus_schedule.specs.Answer.{IsAnswer}
+use Rattle.circus_check.specs.Seen.Meant.{module_as}
+use Rattle.circus_modules.specs.Behaviours.{program_of}
+use Rattle.circus_config.specs.declared.plan.Plan.{Plan}
+use Rattle.circus_config.specs.Limits.{limit_of}
+use Rattle.circus_world.specs.declared.cause.Cause.{Cause}
+use Rattle.circus_world.specs.declared.cause.Cause.TheVariants.{NoDatagram, NotLive, NotCrashed, NotSpare, AlreadyJoined}
+use Rattle.circus_world.specs.WorldState.{WorldState}
+use Rattle.circus_world.specs.Legal.{refusal}
+use Rattle.circus_world.specs.Course.{Stepped, stepped}
+use Rattle.circus_world.specs.Boot.{before_any, all_booted}
+use Rattle.circus_report.specs.Report.{rest_text}
+use Rattle.circus_running.specs.Run.{beginning, sent_from}
+use Rattle.circus_ending.specs.declared.status.Status.TheVariants.{Done, BadSchedule, Spent}
+use Rattle.circus_ending.specs.Ending.{Ending}
 
--- a troupe of one founder, as it was at boot
-abbrev pub founded : ℕ → ℕ → Viewed
-founded troupe node =
-    record { troupe = troupe; incarnation = 1; entries = record { node = node; since = Some 0 } ∷ [] }
+-- ---- why it ends before its last line
 
--- the member of a node, where the node has one
-abbrev pub member_of : ℕ → ℕ → Option MemberRecord → List Member
-member_of node troupe None = []
-member_of node troupe (Some kept) = record { node = node; troupe = troupe; crashed = None; kept = kept } ∷ []
+-- why a line may not be stepped
+abbrev pub cause_text : Names → Cause → List ℕ
+cause_text names (NoDatagram number sent) = codes "no datagram " ++ decimal number ++ codes ", " ++ decimal sent ++ codes " sent"
+cause_text names (NotLive node) = names.node node ++ codes " is not live"
+cause_text names (NotCrashed node) = names.node node ++ codes " has not crashed"
+cause_text names (NotSpare node) = names.node node ++ codes " is not a spare"
+cause_text names (AlreadyJoined node) = names.node node ++ codes " has joined"
 
--- the two troupes, as they were at boot
-abbrev pub founded_views : List Viewed
-founded_views = founded 0 1 ∷ founded 1 2 ∷ []
+-- the line of this number is refused
+abbrev pub refused : ℕ → List ℕ → Ending
+refused number cause = record { status = BadSchedule; text = line (codes "schedule line " ++ decimal number ++ codes ": " ++ cause) }
 
--- the members of the two nodes, by what they keep
-abbrev pub members_of : WorldView → List Member
-members_of w = member_of 1 0 (kept_of w 1) ++ member_of 2 1 (kept_of w 2)
+-- a node has no number left for another one
+abbrev pub spent : Names → ℕ × ℕ → Ending
+spent names nodes = record { status = Spent; text = line (codes "spent " ++ names.node nodes.0 ++ codes " " ++ names.node nodes.1) }
 
--- the report of the world, by what it sent and what its members keep
-abbrev pub report_of : WorldView → List ℕ
-report_of w = report_text names 0 None founded_views (members_of w) w.sent
+-- this is written in front
+abbrev pub behind : List ℕ → Ending → Ending
+behind text ending = record { status = ending.status; text = text ++ ending.text }
 
--- the line may be stepped
-abbrev pub is_legal : WorldView → Line → Bool
-is_legal w (Deliver number) = nat_lt number (length w.sent)
+-- ---- over lines
 
--- why a line is refused
-abbrev pub cause_text : Cause → List ℕ
-cause_text (NoDatagram number count) = codes "no datagram " ++ decimal number ++ codes ", " ++ decimal count ++ codes " sent"
+module _ {M : Type 0} where
+  -- what comes after a step, unless a node has no number left
+  abbrev pub after_step : Names → (WorldState M → Ending) → Stepped M → Ending
+  after_step names next (Ok w) = next w
+  after_step names next (Err nodes) = spent names nodes
 
--- the datagrams of the lines before, and why the line with this number is refused
-abbrev pub refusal_text : ℕ → WorldView → Cause → List ℕ
-refusal_text number w cause =
-    first_line ++ sent_lines names 0 w.sent ++ line (codes "schedule line " ++ decimal number ++ codes ": " ++ cause_text cause)
+module _ {M : Type 0} (declared : M → Signature) (turn : M → List ValueTree → ℕ → List ValueTree → List Outcome → NextTurn) where
+  -- the lines from this number on, over what was written of the world so far
+  abbrev pub replayed : Names → ℕ → List Line → WorldState M → Ending
+  replayed names number [] w = record { status = Done; text = rest_text names w }
+  replayed names number (next ∷ lines) w =
+      option_map_or (λ cause. refused number (cause_text names cause)) (refusal w next)
+      (after_step names (λ after. behind (sent_from (length w.sent) after) (replayed names (number + 1) lines after)) (stepped declared turn next w))
 
--- the end at a line that is refused
-abbrev pub refused : ℕ → WorldView → Line → Ending
-refused number w refused_line =
-    record { status = BadSchedule; text = refusal_text number w (cause_of w refused_line) }
+  -- all lines, from boot on
+  abbrev pub replayed_whole : Names → List Line → WorldState M → Ending
+  replayed_whole names lines w = behind (beginning w) (replayed names 1 lines w)
 
--- the end of a replay of lines, the first having this number
-abbrev pub replayed : ℕ → WorldView → List Line → Ending
-replayed number w [] = record { status = Done; text = report_of w }
-replayed number w (next ∷ lines) =
-    cond (is_legal w next) (replayed (number + 1) (stepped w next) lines) (refused number w next)
+-- ---- of a program
+
+-- what the modules of a plan do
+abbrev pub behaviours_in : Plan → List Behaviour
+behaviours_in plan = program_of (limit_of plan.deployment.format) plan.checked.interfaces (map module_as plan.checked.modules)
+
+-- the module that a node hosts
+abbrev pub hosted_by : {M : Type 0} → List M → Host → Option M
+hosted_by modules host = option_and_then (slice_get modules) host.module
+
+-- its world at boot
+abbrev pub booted : Plan → Stepped Behaviour
+booted plan =
+    all_booted (λ b. b.declared) (λ b. b.turn) (λ b. b.first) (map (hosted_by (behaviours_in plan)) plan.deployment.nodes)
+    (before_any plan.deployment (behaviours_in plan))
+
+-- a replay of these lines
+abbrev pub replay_of : Plan → List Line → Ending
+replay_of plan lines =
+    let names = names_of plan.deployment.nodes plan.names in
+    after_step names (replayed_whole (λ b. b.declared) (λ b. b.turn) names lines) (booted plan)
+
+-- what a schedule comes to that was read so
+abbrev pub IsReplayOf : Plan → Result (List Line) ScheduleFault → Ending → Type 0
+IsReplayOf plan (Ok lines) ending = ending ≡ replay_of plan lines
+IsReplayOf plan (Err (schedule_fault.BadLine number)) ending = ending ≡ refused number (codes "bad line")
+IsReplayOf plan (Err (schedule_fault.UnknownNode number name)) ending = ending ≡ refused number (codes "unknown node " ++ name)
+IsReplayOf plan (Err (schedule_fault.TooManyLines number)) ending = ending ≡ refused number (codes "too many lines")
+IsReplayOf plan (Err schedule_fault.NoMemory) ending = ⊥
+
+-- the end of a replay of a schedule
+abbrev pub IsEndOfReplay : Plan → List ℕ → Ending → Type 0
+IsEndOfReplay plan schedule ending =
+    (read : Result (List Line) ScheduleFault) × IsAnswer (numbers_of plan.deployment.nodes) schedule read × IsReplayOf plan read ending

@@ -3,3 +3,4 @@ pub mod Words
 pub mod Step
 pub mod Put
 pub mod Built
+pub mod Ready

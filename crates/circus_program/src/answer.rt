@@ -1,64 +1,59 @@
 // What the words ask for, and what comes of it.
-ghost use Rattle.std.specs.Prelude.{◌≡◌, ◌∷◌, [], map, string_bytes, IsTrue, IfOk, IfSome, IfNone};
+ghost use Rattle.std.specs.Prelude.{◌≡◌, ◌∷◌, [], map, string_bytes, All, IsAscii, IfOk, IfSome, IfNone};
 ghost use Rattle.circus_program.specs.Seen.Words.{form_of};
-ghost use Rattle.circus_program.specs.Answer.{IsDue, IsDueOfForm, IsDueOfSchedule, AsksOnly, AsksFirstOf, finish, not_built};
-ghost use Rattle.circus_ending.specs.Status.{is_end};
-ghost use Rattle.circus_ending.specs.Seen.Ending.{ending_of};
+ghost use Rattle.circus_program.specs.Answer.{IsDue, IsDueOfForm, AsksOnly, AsksFirstOf, not_built};
+ghost use Rattle.std.specs.List.{AllByRecursion};
+ghost use Rattle.circus_collate.specs.Deployment.{IsDeployment};
+ghost use Rattle.circus_idl.specs.Obeys.{Obeys};
+ghost use Rattle.circus_check.specs.Seen.Meant.{module_as};
+ghost use Rattle.circus_check.specs.WellFormed.{AreWellFormed};
+ghost use Rattle.circus_config.specs.Program.{HaveTheirRoots};
 
-use crate::replay::replay_lines;
-use crate::thin::{read_thin_program, read_thin_schedule};
+use crate::ready::{Ready, ready};
 use crate::words::{Form, read_words};
-use circus_ending::{Ending, OneFile, Status, end_of, refusal_of};
+use circus_config::Plan;
+use circus_ending::{Ending, OneFile, Status, end_of, plan_of};
 use circus_outside::{Shelf, ShelfFault};
 use circus_value::NoMemory;
 use std::alloc::{AllocError, Global};
 
-/// What a command comes to: its end, or a file that the shelf doesn't give.
+/// What a command comes to: its end, a file that the shelf doesn't give, or a replay that may begin.
 #[derive(Drop)]
 pub enum Step<'a> {
     Finish(Ending),
     Lack(&'a str),
+    Replay(Ready),
 }
 
-ghost use Rattle.circus_program.specs.Seen.Step.{due_of, HasEndStatus, IsLackNoted, IsStepBehind, IsStepOfProgram, IsStepOfReplay, IsStepOfFile};
+ghost use Rattle.circus_program.specs.Seen.Step.{due_of, Stands, IsLackNoted, IsStepBehind, IsStepOfProgram, IsStepOfReplay, IsStepOfFile};
 ghost use Rattle.circus_program.specs.Seen.Built.{built_form};
 
-/// What comes of a replay whose two files are fetched.
-fn replay_schedule(alloc: Global, number: u16, schedule: &[u8]) -> Result<Ending, NoMemory>
-    ensures due { IfOk result (λ ending. IsDueOfSchedule number schedule.now (finish (ending_of ending))) }
-    ensures status { IfOk result (λ ending. IsTrue (is_end ending.status)) }
-{
-    let Some(lines) = read_thin_schedule(alloc, schedule)? else {
-        let unbuilt = Ending::of_line(alloc, Status::NotBuilt, "not built\n")?;
-        return Ok(unbuilt);
-    };
-    let replayed = replay_lines(alloc, number, lines.as_slice())?;
-    Ok(replayed)
-}
-
-/// What comes of a replay whose first file is fetched, and is a program.
-fn replay_good<'a, S: Shelf>(
+/// What comes of a replay whose program is fetched and read.
+fn replay_plan<'a, S: Shelf>(
     alloc: Global,
-    program: &[u8],
+    plan: Plan,
     schedule: &'a str,
     shelf: &mut S,
 ) -> Result<Step<'a>, NoMemory>
-    ensures due { IfOk result (λ step. IsStepBehind (S.contents shelf.old) program.now schedule.now (due_of step)) }
-    ensures status { IfOk result HasEndStatus }
+    requires obey { AllByRecursion Obeys plan.checked.interfaces }
+    requires well_formed { AreWellFormed plan.checked.interfaces (map module_as plan.checked.modules) }
+    requires deployed { IsDeployment plan.deployment }
+    requires roots { HaveTheirRoots plan }
+    requires named { All IsAscii plan.names }
+    ensures due { IfOk result (λ step. IsStepBehind (S.contents shelf.old) plan schedule.now (due_of step)) }
+    ensures stands { IfOk result Stands }
     ensures lack { IfOk result (IsLackNoted (S.fetched shelf.new) (S.faults shelf.old) (S.faults shelf.new)) }
     ensures asked { AsksFirstOf (S.fetched shelf.old) (S.fetched shelf.new) (schedule.now ∷ []) }
 {
-    let Some(number) = read_thin_program(program) else {
-        let unbuilt = Ending::of_line(alloc, Status::NotBuilt, "not built\n")?;
-        return Ok(Step::Finish(unbuilt));
-    };
     let bytes = match shelf.fetch(schedule) {
         Ok(bytes) => bytes,
         Err(ShelfFault::NoMemory) => return Err(AllocError),
         Err(ShelfFault::Failed) => return Ok(Step::Lack(schedule)),
     };
-    let replayed = replay_schedule(alloc, number, bytes.as_slice())?;
-    Ok(Step::Finish(replayed))
+    match ready(alloc, plan, bytes.as_slice())? {
+        Ok(ready) => Ok(Step::Replay(ready)),
+        Err(ending) => Ok(Step::Finish(ending)),
+    }
 }
 
 /// What comes of a replay whose first file is fetched.
@@ -69,13 +64,13 @@ fn replay_program<'a, S: Shelf>(
     shelf: &mut S,
 ) -> Result<Step<'a>, NoMemory>
     ensures due { IfOk result (λ step. IsStepOfProgram (S.contents shelf.old) program.now schedule.now (due_of step)) }
-    ensures status { IfOk result HasEndStatus }
+    ensures stands { IfOk result Stands }
     ensures lack { IfOk result (IsLackNoted (S.fetched shelf.new) (S.faults shelf.old) (S.faults shelf.new)) }
     ensures asked { AsksFirstOf (S.fetched shelf.old) (S.fetched shelf.new) (schedule.now ∷ []) }
 {
-    match refusal_of(alloc, program)? {
-        Some(refused) => Ok(Step::Finish(refused)),
-        None => replay_good(alloc, program, schedule, shelf),
+    match plan_of(alloc, program)? {
+        Ok(plan) => replay_plan(alloc, plan, schedule, shelf),
+        Err(refused) => Ok(Step::Finish(refused)),
     }
 }
 
@@ -87,7 +82,7 @@ fn replay<'a, S: Shelf>(
     shelf: &mut S,
 ) -> Result<Step<'a>, NoMemory>
     ensures due { IfOk result (λ step. IsStepOfReplay (S.contents shelf.old) program.now schedule.now (due_of step)) }
-    ensures status { IfOk result HasEndStatus }
+    ensures stands { IfOk result Stands }
     ensures lack { IfOk result (IsLackNoted (S.fetched shelf.new) (S.faults shelf.old) (S.faults shelf.new)) }
     ensures asked { AsksFirstOf (S.fetched shelf.old) (S.fetched shelf.new) (program.now ∷ schedule.now ∷ []) }
 {
@@ -108,7 +103,7 @@ fn one_file<'a, S: Shelf>(
     shelf: &mut S,
 ) -> Result<Step<'a>, NoMemory>
     ensures due { IfOk result (λ step. IsStepOfFile (S.contents shelf.old) command name.now (due_of step)) }
-    ensures status { IfOk result HasEndStatus }
+    ensures stands { IfOk result Stands }
     ensures lack { IfOk result (IsLackNoted (S.fetched shelf.new) (S.faults shelf.old) (S.faults shelf.new)) }
     ensures asked { AsksFirstOf (S.fetched shelf.old) (S.fetched shelf.new) (name.now ∷ []) }
 {
@@ -150,7 +145,7 @@ pub fn follow<'a, S: Shelf>(
     shelf: &mut S,
 ) -> Result<Step<'a>, NoMemory>
     ensures due { IfOk result (λ step. IsDue (S.contents shelf.old) (map string_bytes words.now) (due_of step)) }
-    ensures status { IfOk result HasEndStatus }
+    ensures stands { IfOk result Stands }
     ensures lack { IfOk result (IsLackNoted (S.fetched shelf.new) (S.faults shelf.old) (S.faults shelf.new)) }
     ensures asked { AsksOnly (S.fetched shelf.old) (S.fetched shelf.new) (map string_bytes words.now) }
 {

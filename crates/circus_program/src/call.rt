@@ -3,30 +3,33 @@ ghost use Rattle.std.specs.Prelude.{◌≡◌, map, string_bytes, IfOk};
 ghost use Rattle.circus_outside.specs.Faults.{Rose};
 ghost use Rattle.circus_program.specs.Answer.{AsksOnly, WritesEnd, WritesLack, WritesPartOfText, shelf_fault as fault_line};
 ghost use Rattle.circus_ending.specs.declared.status.Status.{Status as Ended};
-ghost use Rattle.circus_ending.specs.declared.status.Status.TheVariants.{Done, BadCommandLine, BadProgram, BadSchedule, ShelfFault, SinkFault, NoMemory, NotBuilt, BadPlacing, NoPlacement};
+ghost use Rattle.circus_ending.specs.declared.status.Status.TheVariants.{Done, BadCommandLine, BadProgram, BadSchedule, ShelfFault, SinkFault, NoMemory, Spent, NotBuilt, BadPlacing, NoPlacement};
 ghost use Rattle.circus_ending.specs.Status.{code_of};
-ghost use Rattle.circus_program.specs.Seen.Put.{IsPut, IsAnswer};
+ghost use Rattle.circus_program.specs.Seen.Put.{IsAnswer};
 
 use crate::answer::{Step, follow};
-use crate::put::{PutFault, put_lines};
+use crate::put::put;
+use crate::replay::replay;
 use circus_ending::Status;
 use circus_outside::{Link, Shelf, Sink};
 use circus_value::NoMemory;
 use std::alloc::Global;
 
 /// Does what the words ask for: fetches files from the shelf, writes to the sink line by line, and answers
-/// the status (docs/GUIDE.md, "Statuses"). So far `stubs`, `run` and `place` are built, and `replay` for one program and
-/// schedules of deliveries; the link is not used.
+/// the status (docs/GUIDE.md, "Statuses"). So far `stubs`, `run`, `replay` and `place` are built; the link is not used. The
+/// report of a replay is written as its lines are stepped.
 ///
 /// - 0: the stubs or the history of a program, the report of a replay, or the best choice of a placing is written.
 /// - 1: exactly where the words are of no form.
 /// - 2: exactly where the file of `stubs`, `run` or `replay` is no program; its line and cause are written.
-/// - 3: exactly where a line of the schedule is refused, which the last line written names.
+/// - 3: exactly where a line of the schedule is refused, which the last line written names; behind the lines of what was
+///   sent before, where it may not be stepped.
 /// - 4: only where the shelf's count of faults rose; the name fetched last is written.
 /// - 5: only where the sink's count of faults rose; what was written is a part of the text.
 /// - 7: where there is no memory; what was written is a part of the text.
-/// - 9: exactly where the words are of another form than these, else the program of a replay is not the one that is built,
-///   else the schedule.
+/// - 8: exactly where a node of a replay has no number left for a call to another one; the two are written, behind the lines
+///   of what was sent before.
+/// - 9: exactly where the words are of another form than these.
 /// - 11: exactly where the text of a placing is refused, whose line and cause are written.
 /// - 12: exactly where no choice of machines satisfies a placing.
 pub fn circus<S: Shelf, K: Sink, L: Link>(
@@ -44,6 +47,7 @@ pub fn circus<S: Shelf, K: Sink, L: Link>(
     ensures bad_words { result ≡ code_of BadCommandLine → WritesEnd (S.contents shelf.old) (map string_bytes words.now) (K.written sink.old) (K.written sink.new) BadCommandLine }
     ensures bad_program { result ≡ code_of BadProgram → WritesEnd (S.contents shelf.old) (map string_bytes words.now) (K.written sink.old) (K.written sink.new) BadProgram }
     ensures bad_schedule { result ≡ code_of BadSchedule → WritesEnd (S.contents shelf.old) (map string_bytes words.now) (K.written sink.old) (K.written sink.new) BadSchedule }
+    ensures spent { result ≡ code_of Spent → WritesEnd (S.contents shelf.old) (map string_bytes words.now) (K.written sink.old) (K.written sink.new) Spent }
     ensures not_built { result ≡ code_of NotBuilt → WritesEnd (S.contents shelf.old) (map string_bytes words.now) (K.written sink.old) (K.written sink.new) NotBuilt }
     ensures bad_placing { result ≡ code_of BadPlacing → WritesEnd (S.contents shelf.old) (map string_bytes words.now) (K.written sink.old) (K.written sink.new) BadPlacing }
     ensures no_placement { result ≡ code_of NoPlacement → WritesEnd (S.contents shelf.old) (map string_bytes words.now) (K.written sink.old) (K.written sink.new) NoPlacement }
@@ -73,6 +77,7 @@ fn answer<S: Shelf, K: Sink>(alloc: Global, words: &[String], shelf: &mut S, sin
     };
     match step {
         Step::Finish(ending) => put(sink, ending.status, ending.text.as_slice()),
+        Step::Replay(ready) => replay(alloc, ready, sink),
         Step::Lack(name) => match shelf_fault(alloc, name) {
             Ok(text) => put(sink, Status::ShelfFault, text.as_bytes()),
             Err(_) => Status::NoMemory,
@@ -85,15 +90,4 @@ fn shelf_fault(alloc: Global, name: &str) -> Result<String, NoMemory>
     ensures { IfOk result (λ text. string_bytes text ≡ fault_line name.now) }
 {
     format!(in alloc; "shelf fault: {name}\n")
-}
-
-/// Puts a text, and answers this status where all of it was taken.
-fn put<K: Sink>(sink: &mut K, status: Status, text: &[u8]) -> Status
-    ensures { IsPut status text.now (K.written sink.old) (K.written sink.new) (Rose (K.faults sink.old) (K.faults sink.new)) result }
-{
-    match put_lines(sink, text) {
-        Ok(()) => status,
-        Err(PutFault::Sink) => Status::SinkFault,
-        Err(PutFault::Memory) => Status::NoMemory,
-    }
 }

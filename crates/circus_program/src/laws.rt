@@ -2,8 +2,8 @@
 ghost use Rattle.std.specs.Prelude.{◌≡◌, ◌⊎◌, ◌↔◌, ℕ, Option, List};
 ghost use Rattle.circus_program.specs.Form.{IsOfNoForm};
 ghost use Rattle.circus_program.specs.Answer.{Due};
-ghost use Rattle.circus_ending.specs.declared.status.Status.TheVariants.{BadCommandLine, BadProgram, BadSchedule, NotBuilt};
-ghost use Rattle.circus_program.specs.Last.{IsDueLast, EndsWith, IsToBeRead, IsAnswered, IsRefusedProgram, IsRefusedReplay, IsNotBuilt};
+ghost use Rattle.circus_ending.specs.declared.status.Status.TheVariants.{BadCommandLine, BadProgram, BadSchedule, Spent, NotBuilt};
+ghost use Rattle.circus_program.specs.Last.{IsDueLast, EndsWith, IsToBeRead, IsAnswered, IsRefusedProgram, IsRefusedReplay, IsSpentReplay, IsNotBuilt};
 
 /// Of words one thing is due at last, whatever the files contain: an end, with its status and its text, or the fetch of
 /// a file that is not there. Something is due, but where the first file of a form that is built is there: then something is
@@ -14,13 +14,12 @@ pub fn one_thing_is_due()
     ensures some { (contents : List ℕ → Option (List ℕ)) (words : List (List ℕ))
         → ((due : Due) × IsDueLast contents words due) ⊎ IsToBeRead contents words }
     ensures read { (contents : List ℕ → Option (List ℕ)) (words : List (List ℕ)) (file : IsToBeRead contents words)
-        → IsAnswered file.form file.bytes → (due : Due) × IsDueLast contents words due }
+        → IsAnswered contents file.form file.bytes → (due : Due) × IsDueLast contents words due }
 {}
 
 /// What is due at last is an end with status 1 exactly where the words are of no form, with status 2 exactly where the file
-/// of `stubs`, `run` or `replay` is no program, with status 3 exactly where a line of a schedule is refused, and with status 9
-/// exactly where a form is asked for that is not built, else another program than the one that a replay is built for, else
-/// another schedule.
+/// of `stubs`, `run` or `replay` is no program, with status 3 exactly where a line of a schedule is refused, with status 8
+/// exactly where a node has no number left in a replay, and with status 9 exactly where a form is asked for that is not built.
 pub fn ends_tell_why()
     ensures bad_words { (contents : List ℕ → Option (List ℕ)) (words : List (List ℕ)) (due : Due)
         → IsDueLast contents words due → (EndsWith BadCommandLine due ↔ IsOfNoForm words) }
@@ -28,6 +27,8 @@ pub fn ends_tell_why()
         → IsDueLast contents words due → (EndsWith BadProgram due ↔ IsRefusedProgram contents words) }
     ensures bad_schedule { (contents : List ℕ → Option (List ℕ)) (words : List (List ℕ)) (due : Due)
         → IsDueLast contents words due → (EndsWith BadSchedule due ↔ IsRefusedReplay contents words) }
+    ensures spent { (contents : List ℕ → Option (List ℕ)) (words : List (List ℕ)) (due : Due)
+        → IsDueLast contents words due → (EndsWith Spent due ↔ IsSpentReplay contents words) }
     ensures not_built { (contents : List ℕ → Option (List ℕ)) (words : List (List ℕ)) (due : Due)
-        → IsDueLast contents words due → (EndsWith NotBuilt due ↔ IsNotBuilt contents words) }
+        → IsDueLast contents words due → (EndsWith NotBuilt due ↔ IsNotBuilt words) }
 {}

@@ -1,61 +1,31 @@
-// What is written.
-ghost use Rattle.std.specs.Prelude.{◌≡◌, ◌<◌, ◌≤◌, length, OnOk, OnErr, IsErrOf};
+// What is written at the end.
+ghost use Rattle.std.specs.Prelude.{◌≡◌, Ok, Err};
 ghost use Rattle.circus_outside.specs.Faults.{Rose};
-ghost use Rattle.circus_program.specs.Answer.{Writes, WritesPart};
+ghost use Rattle.circus_ending.specs.Seen.Ending.{ending_of};
+ghost use Rattle.circus_program.specs.Seen.Put.{IsPut, IsPutIfEnd};
 
-use circus_outside::{Sink, SinkFault};
+use circus_ending::{Ending, Status};
+use circus_outside::Sink;
+use circus_running::{PutFault, put_lines};
+use circus_value::NoMemory;
 
-/// Why not all was written.
-#[derive(Clone, Copy, Debug)]
-pub enum PutFault {
-    Sink,
-    Memory,
-}
-
-/// Offers a line to the sink, and its rest again until all is taken.
-fn put_line<K: Sink>(sink: &mut K, line: &[u8]) -> Result<(), PutFault>
-    ensures written { OnOk result (Writes (K.written sink.old) (K.written sink.new) line.now) }
-    ensures part { OnErr result (WritesPart (K.written sink.old) (K.written sink.new) line.now) }
-    ensures rose { IsErrOf result PutFault.Sink → Rose (K.faults sink.old) (K.faults sink.new) }
-    ensures count { OnOk result (K.faults sink.new ≡ K.faults sink.old) }
+/// Puts a text, and answers this status where all of it was taken.
+pub fn put<K: Sink>(sink: &mut K, status: Status, text: &[u8]) -> Status
+    ensures { IsPut status text.now (K.written sink.old) (K.written sink.new) (Rose (K.faults sink.old) (K.faults sink.new)) result }
 {
-    let mut at = 0;
-    while at < line.len() {
-        match sink.put(&line[at..]) {
-            Ok(count) => at += count,
-            Err(SinkFault::NoMemory) => return Err(PutFault::Memory),
-            Err(SinkFault::Failed) => return Err(PutFault::Sink),
-        }
+    match put_lines(sink, text) {
+        Ok(()) => status,
+        Err(PutFault::Sink) => Status::SinkFault,
+        Err(PutFault::Memory) => Status::NoMemory,
     }
-    Ok(())
 }
 
-/// Writes a text line by line.
-pub fn put_lines<K: Sink>(sink: &mut K, text: &[u8]) -> Result<(), PutFault>
-    ensures written { OnOk result (Writes (K.written sink.old) (K.written sink.new) text.now) }
-    ensures part { OnErr result (WritesPart (K.written sink.old) (K.written sink.new) text.now) }
-    ensures rose { IsErrOf result PutFault.Sink → Rose (K.faults sink.old) (K.faults sink.new) }
-    ensures count { OnOk result (K.faults sink.new ≡ K.faults sink.old) }
+/// Puts the text of an end, if memory sufficed for it.
+pub fn put_end<K: Sink>(ending: Result<Ending, NoMemory>, sink: &mut K) -> Status
+    ensures { IsPutIfEnd ending (K.written sink.old) (K.written sink.new) (Rose (K.faults sink.old) (K.faults sink.new)) result }
 {
-    let mut at = 0;
-    while at < text.len() {
-        let end = line_end(text, at);
-        match put_line(sink, &text[at..end]) {
-            Ok(()) => at = end,
-            Err(stop) => return Err(stop),
-        }
-    }
-    Ok(())
-}
-
-/// Where the line that begins at a place ends, behind its newline.
-fn line_end(text: &[u8], at: usize) -> usize
-    requires { at < length text.now }
-    ensures further { at < result }
-    ensures within { result ≤ length text.now }
-{
-    match text[at..].iter().position(|byte| *byte == b'\n') {
-        Some(length) => at + length + 1,
-        None => text.len(),
+    match ending {
+        Ok(ending) => put(sink, ending.status, ending.text.as_slice()),
+        Err(_) => Status::NoMemory,
     }
 }

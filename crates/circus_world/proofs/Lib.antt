@@ -1,2 +1,5 @@
-pub mod Ended
-pub mod Handled
+pub mod BootLemmas
+pub mod LegalLemmas
+pub mod RingLemmas
+pub mod SlotLemmas
+pub mod WorldLemmas

@@ -1,69 +1,66 @@
--- How the world goes on from boot, line by line.
-use Rattle.std.specs.Prelude.{ℕ, ◌+◌, ◌<◌, ◌&&◌, Option, Some, None, is_none, cond, List, [], ◌∷◌, ◌++◌, length, slice_get, zero, suc}
+-- How a world goes on, line by line.
+use Rattle.std.specs.Prelude.{◌≡◌, ℕ, ◌+◌, ◌<◌, true, Bool, if◌then◌else◌, List, [], ◌∷◌, ◌++◌, length, map, slice_get, slice_set, Option, None, Some, Result, Ok, Err}
+use Rattle.std.specs.Option.{option_map_or}
+use Rattle.circus_value.specs.ValueTree.{ValueTree}
+use Rattle.circus_value.specs.declared.outcome.Outcome.{Outcome}
+use Rattle.circus_model.specs.NextTurn.{NextTurn}
+use Rattle.circus_model.specs.declared.signature.Signature.{Signature}
+use Rattle.circus_node.specs.declared.event.Event.{Event}
+use Rattle.circus_node.specs.declared.event.Event.TheVariants as comes
+use Rattle.circus_node.specs.declared.event.Give.{Give}
+use Rattle.circus_node.specs.Step as node_step
+use Rattle.circus_schedule.specs.declared.line.Line.{Line}
+use Rattle.circus_schedule.specs.declared.line.Line.TheVariants.{Deliver, Tick, Crash, Down, Join}
 use Rattle.circus_world.specs.declared.sent.Sent.{Sent}
-use Rattle.circus_world.specs.declared.line.Line.{Line}
-use Rattle.circus_world.specs.declared.line.Line.TheVariants.{Deliver}
-use Rattle.circus_world.specs.declared.record.MemberRecord.{MemberRecord}
-use Rattle.circus_world.specs.Datagram.{segment, ask_message, reply_message, is_piece}
-use Rattle.circus_world.specs.Record.{server_record, root_record}
-use Rattle.circus_world.specs.WorldView.{WorldView}
+use Rattle.circus_world.specs.WorldState.{WorldState, Standing, is_live}
 
--- a datagram from the server's node, 1, to the root's, 2, and back
-abbrev pub from_server : ℕ → List ℕ → Sent
-from_server step bytes = record { step = step; from = 1; to = 2; bytes = bytes }
+-- what a node gives in a step
+abbrev pub sent_by : ℕ → ℕ → Give → Sent
+sent_by step node give = record { step = step; from = node; to = give.to; bytes = give.bytes }
 
-abbrev pub from_root : ℕ → List ℕ → Sent
-from_root step bytes = record { step = step; from = 2; to = 1; bytes = bytes }
+-- the world after a step, or a node and the other one for which it has no number left
+abbrev pub Stepped : Type 0 → Type 0
+Stepped M = Result (WorldState M) (ℕ × ℕ)
 
--- at boot the root makes its call
-abbrev pub booted : ℕ → WorldView
-booted number =
-    record { number = number; steps = 0; sent = from_root 0 (segment 0 0 (ask_message number)) ∷ []; performed = None; answered = None }
+module _ {M : Type 0} where
+  -- a step in which no node does anything
+  abbrev pub passed : WorldState M → WorldState M
+  passed w = record w { steps = w.steps + 1 }
 
--- the world as this step's event begins
-abbrev pub next_step : WorldView → WorldView
-next_step w = record w { steps = w.steps + 1 }
+  -- something is noted of a node
+  abbrev pub noted : (Standing M → Standing M) → ℕ → WorldState M → WorldState M
+  noted note node w = record w { nodes = option_map_or (λ s. slice_set w.nodes node (note s)) (slice_get w.nodes node) w.nodes }
 
--- the server acknowledges the call, performs it and replies
-abbrev pub performed_now : WorldView → WorldView
-performed_now w =
-    record w {
-      performed = Some w.steps;
-      sent = w.sent ++ from_server w.steps (segment 0 1 []) ∷ from_server w.steps (segment 1 0 (reply_message w.number)) ∷ [];
-    }
+  abbrev pub crashed : ℕ → WorldState M → WorldState M
+  crashed node w = passed (noted (λ s. record s { crashed = Some (w.steps + 1) }) node w)
 
--- the root acknowledges the reply and ends
-abbrev pub answered_now : WorldView → WorldView
-answered_now w =
-    record w { answered = Some w.steps; sent = w.sent ++ from_root w.steps (segment 1 1 []) ∷ [] }
+  abbrev pub told_to_join : ℕ → WorldState M → WorldState M
+  told_to_join node w = noted (λ s. record s { joins = true }) node w
 
--- a datagram comes to its node: the call and the reply count the first time, and all else changes nothing
-abbrev pub handled : List ℕ → WorldView → WorldView
-handled bytes w =
-    cond (is_piece 0 bytes && is_none w.performed) (performed_now w)
-    (cond (is_piece 1 bytes && is_none w.answered) (answered_now w) w)
+  -- a node has made a step, which came to this
+  abbrev pub concluded : ℕ → Standing M → WorldState M → node_step.Ended M → Stepped M
+  concluded node s w (Ok ended) =
+      Ok (record w {
+        nodes = slice_set w.nodes node (record s { node = ended.0 });
+        sent = w.sent ++ map (sent_by (w.steps + 1) node) ended.1.gives;
+        steps = w.steps + 1;
+      })
+  concluded node s w (Err peer) = Err (node, peer)
 
--- the line may be stepped
-abbrev pub IsLegal : WorldView → Line → Type 0
-IsLegal w (Deliver number) = number < length w.sent
+module _ {M : Type 0} (declared : M → Signature) (turn : M → List ValueTree → ℕ → List ValueTree → List Outcome → NextTurn) where
+  -- something comes to a node
+  abbrev pub comes_to : ℕ → Event → WorldState M → Stepped M
+  comes_to node event w =
+      option_map_or (λ s. concluded node s w (node_step.stepped declared turn (w.steps + 1) event s.node)) (slice_get w.nodes node) (Ok w)
 
--- the world with this datagram handled, if there is one
-abbrev pub taken : WorldView → Option Sent → WorldView
-taken w None = w
-taken w (Some sent) = handled sent.bytes (next_step w)
+  -- a datagram is delivered; one for a crashed node is lost
+  abbrev pub delivered : Sent → WorldState M → Stepped M
+  delivered sent w = if is_live w sent.to then comes_to sent.to (comes.Datagram sent.from sent.bytes) w else Ok (passed w)
 
--- the world after a legal line
-abbrev pub stepped : WorldView → Line → WorldView
-stepped w (Deliver number) = taken w (slice_get w.sent number)
-
--- the world after legal lines
-abbrev pub after_lines : WorldView → List Line → WorldView
-after_lines w [] = w
-after_lines w (line ∷ lines) = after_lines (stepped w line) lines
-
--- what a node's member keeps
-abbrev pub kept_of : WorldView → ℕ → Option MemberRecord
-kept_of w zero = None
-kept_of w (suc zero) = Some (server_record w.number w.performed)
-kept_of w (suc (suc zero)) = Some (root_record w.number w.answered)
-kept_of w (suc (suc (suc _))) = None
+  -- a line that may be stepped
+  abbrev pub stepped : Line → WorldState M → Stepped M
+  stepped (Deliver number) w = option_map_or (λ sent. delivered sent w) (slice_get w.sent number) (Ok w)
+  stepped (Tick node) w = comes_to node comes.Tick w
+  stepped (Crash node) w = Ok (crashed node w)
+  stepped (Down node told) w = comes_to told (comes.Down node) w
+  stepped (Join node) w = comes_to node comes.Join (told_to_join node w)

@@ -11,6 +11,7 @@ pub struct Sent {
     pub bytes: Bytes,
 }
 
+/// Datagrams in the order of sending. The place of a datagram is its number.
 pub type SentList = ListOf<Sent>;
 
 /// The bytes are shared.

@@ -1,48 +1,68 @@
-// All nodes of the program, and what was sent.
-ghost use Rattle.std.specs.Prelude.{◌≡◌};
-ghost use Rattle.circus_world.specs.Course.{from_server, from_root};
+// A program on simulated machines.
+ghost use Rattle.std.specs.Prelude.{◌≡◌, ◌<◌, [], ◌∷◌, ◌++◌, length, map, vec_len, slice_get, option_copied, option_map, option_and_then, IfOk, OnOk};
+ghost use Rattle.circus_schedule.specs.Meaning.{NamesBelow};
+ghost use Rattle.circus_node.specs.NodeState.{member_record as record_of, ring_views as views_of};
+ghost use Rattle.circus_node.specs.Step.{CanCome};
+ghost use Rattle.circus_performing.specs.Record.{behaviour};
+ghost use Rattle.circus_world.specs.WorldState.{Standing};
+ghost use Rattle.circus_world.specs.Legal as legal;
+ghost use Rattle.circus_world.specs.Legal.{refusal};
+ghost use Rattle.circus_world.specs.Course as course;
+ghost use Rattle.circus_world.specs.Answers.{IsStepped, IsBooted};
+ghost use Rattle.circus_world.specs.Seen.Followed.{IsFollowed};
+ghost use Rattle.circus_world.specs.Seen.Made.{CanMake};
+ghost use Rattle.circus_world.specs.Seen.MadeAt.{IsMadeAt, IsBootedAt, AreBooted};
+ghost use Rattle.circus_world.specs.declared.slot.Slot.{Slot as SlotOf};
+ghost use Rattle.circus_node.specs.Booting as booting;
+ghost use Rattle.circus_world.specs.Boot as boot;
 
-use crate::datagram::{CALL, RETURN, acknowledgement, call, is_piece, reply};
-use crate::interface::one_number;
-use crate::line::{Cause, Line};
-use crate::record::MemberRecord;
-use crate::root::Root;
-use crate::sent::{Sent, SentList};
-use crate::server::Server;
-use bytes::Bytes;
-use circus_value::{Duplicate, NoMemory, Outcome};
-use std::alloc::Global;
+use crate::legal::is_spare;
+use crate::slot::Slot;
+use crate::{Cause, Line, Sent, SentList};
+use circus_collate::{Deployment, Views};
+use circus_model::Module;
+use circus_node::{Event, Gives, NodeCore, StepFault};
+use circus_record::MemberRecord;
+use circus_value::{Duplicate, ListOf, NoMemory};
+use std::alloc::{AllocError, Global};
 use std::marker::Model;
 use thiserror::Error;
 
-/// The program's nodes after boot and some lines: 0 is the Ringmaster's, 1 the server's and 2 the root's.
-#[derive(Debug, Drop)]
-pub struct World {
-    alloc: Global,
-    steps: u64,
+/// The nodes of a program after boot and some lines, and what they have sent (docs/PROTOCOL.md, "The world").
+#[derive(Drop)]
+pub struct World<M: Module> {
+    deployment: Deployment,
+    modules: Vec<M>,
+    slots: Vec<Slot<M>>,
     sent: SentList,
-    server: Server,
-    root: Root,
+    steps: u64,
 }
 
-impl Model for World {
-    ghost use Rattle.circus_world.specs.WorldView.{WorldView};
+impl<M: Module> Model for World<M> {
+    ghost use Rattle.circus_world.specs.WorldState.{WorldState};
+    ghost use Rattle.circus_world.specs.Seen.Slots.{world_of, AreFull};
+    ghost use Rattle.circus_world.specs.Seen.Sound.{IsSound};
+    ghost use Rattle.circus_world.specs.Seen.WorldCode.{world_code};
 
-    ghost Value = { WorldView };
+    ghost Value = { WorldState M };
 
-    ghost use Rattle.circus_world.specs.Parts.{view_of, IsInStep};
+    ghost coded = { world_code M.code };
 
-    ghost view = { view_of };
+    ghost view = { λ a. world_of a.deployment a.modules.items a.slots.items a.sent a.steps };
 
-    ghost invariant = { IsInStep };
+    ghost invariant = { λ a. AreFull a.slots.items × IsSound (world_of a.deployment a.modules.items a.slots.items a.sent a.steps) };
 }
 
 /// Why no world boots.
-#[derive(Debug, Drop, Error)]
+#[derive(Clone, Copy, Debug, PartialEq, Eq, Drop, Error)]
 pub enum BootFault {
-    /// There is no memory for the world.
+    /// Memory ran out.
     #[error("out of memory")]
     NoMemory,
+
+    /// The first node has no number left for a call to the second.
+    #[error("node {0} has no number left for node {1}")]
+    Spent(u16, u16),
 }
 
 impl From<NoMemory> for BootFault {
@@ -51,185 +71,430 @@ impl From<NoMemory> for BootFault {
 
     ghost from_gives = { λ _ fault. fault ≡ NoMemory };
 
-    fn from(_: NoMemory) -> Self {
+    fn from(_refused: NoMemory) -> Self {
         BootFault::NoMemory
     }
 }
 
-/// Why a line is not stepped.
-#[derive(Debug, Drop, Error)]
-pub enum WorldFault {
-    /// The line is not legal: the world, unchanged, and the cause.
-    #[error("the line is not legal")]
-    Illegal(World, Cause),
-    /// There is no memory for the step. The world is lost.
+/// Why a line was not stepped.
+#[derive(Drop, Error)]
+pub enum WorldFault<M: Module> {
+    /// The line may not be stepped: the world as it was, and why.
+    #[error("the line may not be stepped")]
+    Illegal(World<M>, Cause),
+
+    /// Memory ran out, and the world is gone.
     #[error("out of memory")]
     NoMemory,
+
+    /// The first node has no number left for a call to the second, and the world is gone.
+    #[error("node {0} has no number left for node {1}")]
+    Spent(u16, u16),
 }
 
-impl From<NoMemory> for WorldFault {
-    ghost use Rattle.std.specs.Prelude.{◌≡◌};
-    ghost use Rattle.circus_world.specs.declared.world.WorldFault.TheVariants.{NoMemory};
-
-    ghost from_gives = { λ _ fault. fault ≡ NoMemory };
-
-    fn from(_: NoMemory) -> Self {
-        WorldFault::NoMemory
-    }
-}
-
-impl World {
-    ghost use Rattle.std.specs.Prelude.{◌≡◌, ◌+◌, ◌<◌, Some, None, IfOk, IfErr, OnOk, option_copied};
-    ghost use Rattle.circus_world.specs.Course.{booted, performed_now, answered_now, next_step, handled, IsLegal, stepped, kept_of};
-    ghost use Rattle.circus_world.specs.Refusal.{IsRefusal};
-
-    /// Boots the program, whose root calls with this number. The root's call is sent in step 0
-    /// (docs/PROTOCOL.md, "Order within a step").
+impl<M: Module> World<M> {
+    /// The nodes of a program at boot, which is step 0, each with a copy of its troupe's module; what they send then is sent
+    /// in the order of the nodes. The conditions are in `CanBoot`.
     ///
-    /// # Errors
-    /// `NoMemory` where there is no memory for the world.
-    pub fn boot(alloc: Global, number: u16) -> Result<World, BootFault>
-        ensures { IfOk result (λ w. w ≡ booted number) }
+    /// `Spent` exactly where a node's boot is refused so; `NoMemory` where memory runs out.
+    #[tactic(none)]
+    pub fn boot(alloc: Global, deployment: Deployment, modules: Vec<M>) -> Result<Self, BootFault>
+        requires { boot.CanBoot M.declared M.turn M.first deployment modules.items }
+        ensures { IsBooted M.declared M.turn M.first deployment modules.items result }
     {
-        let server = Server::boot(alloc)?;
-        let (root, asked) = Root::boot(alloc, number)?;
-        let mut sent = SentList::new(alloc);
-        sent.push(from_root(0, call(alloc, asked)?))?;
+        let mut slots = Vec::new(alloc);
+        let mut sent = ListOf::new(alloc);
+        boot_all(alloc, &deployment, modules.as_slice(), &mut slots, &mut sent)?;
         Ok(World {
-            alloc,
-            steps: 0,
+            deployment,
+            modules,
+            slots,
             sent,
-            server,
-            root,
+            steps: 0,
         })
     }
 
-    /// Steps a line. Each line is one step, the first of them step 1 (docs/FORMATS.md, "Schedules").
+    /// Steps a line: each is one step, the first of them step 1 (docs/FORMATS.md, "Schedules"). The line names nodes of the
+    /// program.
     ///
-    /// # Errors
-    /// `Illegal` exactly where the line is not legal, with the unchanged world and the cause. `NoMemory` where
-    /// there is no memory for the step, and then the world is lost.
-    pub fn step(self, line: &Line) -> Result<World, WorldFault>
-        // Fewer lines were stepped.
-        requires { self.steps < 18446744073709551615 }
-        ensures legal { OnOk result (IsLegal self line.now) }
-        ensures stepped { IfOk result (λ w. w ≡ stepped self line.now) }
-        ensures counted { IfOk result (λ w. w.steps ≡ self.steps + 1) }
-        ensures illegal { IfErr result (IsRefusal self line.now) }
+    /// `Illegal` exactly where the line may not be stepped, with the world as it was and the first cause; `Spent` exactly
+    /// where the step of a node is refused so; `NoMemory` where memory runs out. After these two the world is gone.
+    #[tactic(none)]
+    pub fn step(self, line: &Line) -> Result<Self, WorldFault<M>>
+        requires named { NamesBelow (length self.nodes) line.now }
+        requires few { self.steps < 18446744073709551615 }
+        ensures { IsStepped M.declared M.turn line.now self result }
     {
-        let Line::Deliver(number) = line;
-        let Some(sent) = self.sent.get(*number as usize) else {
-            let cause = Cause::NoDatagram(*number, self.sent.len() as u64);
+        if let Some(cause) = self.refusal(line) {
             return Err(WorldFault::Illegal(self, cause));
-        };
-        let bytes = sent.bytes.copy()?;
-        Ok(self.handle(&bytes)?)
+        }
+        match self.follow(line) {
+            Ok(world) => Ok(world),
+            Err(Loss::NoMemory) => Err(WorldFault::NoMemory),
+            Err(Loss::Spent(node, peer)) => Err(WorldFault::Spent(node, peer)),
+        }
     }
 
-    /// All that was sent, in order. The place of a datagram is its number.
+    /// The program's troupes and nodes. It takes no memory.
+    pub fn deployment(&self) -> &Deployment
+        ensures { result.now ≡ self.now.deployment }
+    {
+        &self.deployment
+    }
+
+    /// All that was sent, in order: the place of a datagram is its number. It takes no memory.
     pub fn sent(&self) -> &SentList
         ensures { result.now ≡ self.now.sent }
     {
         &self.sent
     }
 
-    /// What the member at a node keeps, or `None` where the node has no member.
+    /// What the member at a node did, up to its crash where the node has crashed. `None` exactly where it hosts none. It
+    /// takes no memory.
+    #[tactic(none)]
     pub fn kept(&self, node: u16) -> Option<&MemberRecord>
-        ensures { option_copied result ≡ kept_of self.now node }
+        requires { node < length self.now.nodes }
+        ensures { option_copied result ≡ option_and_then (λ s. record_of s.node.acting) (slice_get self.now.nodes node) }
     {
-        match node {
-            1 => Some(&self.server.kept),
-            2 => Some(&self.root.kept),
-            _ => None,
+        self.core(node).member_record()
+    }
+
+    /// The step in which a node crashed. `None` exactly where it is live. It takes no memory.
+    #[tactic(none)]
+    pub fn crashed(&self, node: u16) -> Option<u64>
+        requires { node < length self.now.nodes }
+        ensures { result ≡ option_and_then (λ s. s.crashed) (slice_get self.now.nodes node) }
+    {
+        self.slots[usize::from(node)].crashed
+    }
+
+    /// The views that the Ringmaster keeps, one a troupe, up to its crash where its node has crashed. It takes no memory.
+    #[tactic(none)]
+    pub fn ring_views(&self) -> &Views
+        ensures { option_and_then (λ s. views_of s.node.acting) (slice_get self.now.nodes 0) ≡ Some result.now }
+    {
+        match self.core(0).ring_views() {
+            Some(views) => views,
+            None => unreachable!(),
         }
     }
 
-    // A datagram comes to its node in the next step.
-    fn handle(self, bytes: &Bytes) -> Result<World, NoMemory>
+    /// A node's own core, which is that of the crash where the node has crashed. It takes no memory.
+    #[tactic(none)]
+    pub fn core(&self, node: u16) -> &NodeCore<M>
+        requires { node < length self.now.nodes }
+        ensures { option_map (λ s. s.node) (slice_get self.now.nodes node) ≡ Some result.now }
+    {
+        match &self.slots[usize::from(node)].core {
+            Some(core) => core,
+            None => unreachable!(),
+        }
+    }
+
+    // Why a line may not be stepped.
+    fn refusal(&self, line: &Line) -> Option<Cause>
+        requires { NamesBelow (length self.now.nodes) line.now }
+        ensures { result ≡ refusal self.now line.now }
+    {
+        match *line {
+            Line::Deliver(number) => self.unless_sent(number),
+            Line::Tick(node) => self.unless_live(node),
+            Line::Crash(node) => self.unless_live(node),
+            Line::Down(node, told) => {
+                if self.crashed(node).is_none() {
+                    return Some(Cause::NotCrashed(node));
+                }
+                self.unless_live(told)
+            }
+            Line::Join(node) => self.unless_may_join(node),
+        }
+    }
+
+    fn unless_sent(&self, number: u64) -> Option<Cause>
+        ensures { result ≡ legal.unless_sent self.now number }
+    {
+        let sent = self.sent.len() as u64;
+        if number < sent {
+            None
+        } else {
+            Some(Cause::NoDatagram(number, sent))
+        }
+    }
+
+    #[tactic(auto, using(crate::proofs::LegalLemmas::live, crate::proofs::LegalLemmas::down))]
+    fn unless_live(&self, node: u16) -> Option<Cause>
+        requires { node < length self.now.nodes }
+        ensures { result ≡ legal.unless_live self.now node }
+    {
+        match self.crashed(node) {
+            None => None,
+            Some(_) => Some(Cause::NotLive(node)),
+        }
+    }
+
+    fn unless_may_join(&self, node: u16) -> Option<Cause>
+        requires { node < length self.now.nodes }
+        ensures { result ≡ refusal self.now (Line.Join node) }
+    {
+        if !is_spare(&self.deployment, node) {
+            return Some(Cause::NotSpare(node));
+        }
+        if let Some(cause) = self.unless_live(node) {
+            return Some(cause);
+        }
+        if self.slots[usize::from(node)].joins {
+            return Some(Cause::AlreadyJoined(node));
+        }
+        None
+    }
+
+    // A line that may be stepped.
+    #[tactic(none)]
+    fn follow(self, line: &Line) -> Result<Self, Loss>
+        requires named { NamesBelow (length self.nodes) line.now }
+        requires few { self.steps < 18446744073709551615 }
+        requires legal { refusal self line.now ≡ None }
+        ensures { IsFollowed result (course.stepped M.declared M.turn line.now self) }
+    {
+        match *line {
+            Line::Deliver(number) => self.deliver(number),
+            Line::Tick(node) => self.comes_to(node, Event::Tick),
+            Line::Crash(node) => Ok(self.crash(node)),
+            Line::Down(node, told) => self.comes_to(told, Event::Down(node)),
+            Line::Join(node) => self.tell_to_join(node).comes_to(node, Event::Join),
+        }
+    }
+
+    // A datagram is delivered; one for a crashed node is lost.
+    #[tactic(none)]
+    fn deliver(self, number: u64) -> Result<Self, Loss>
+        requires few { self.steps < 18446744073709551615 }
+        ensures { IsFollowed result (course.stepped M.declared M.turn (Line.Deliver number) self) }
+    {
+        let Some(sent) = self.sent.get(number as usize) else {
+            return Ok(self);
+        };
+        let (from, to) = (sent.from, sent.to);
+        if self.crashed(to).is_some() {
+            return Ok(self.pass());
+        }
+        let bytes = sent.bytes.copy()?;
+        self.comes_to(to, Event::Datagram(from, bytes))
+    }
+
+    // Something comes to a node, which makes a step.
+    #[tactic(none)]
+    fn comes_to(self, node: u16, event: Event) -> Result<Self, Loss>
+        requires node { node < length self.nodes }
+        requires few { self.steps < 18446744073709551615 }
+        requires event { (s : Standing M) → slice_get self.nodes node ≡ Some s → CanCome s.node event }
+        ensures { IsFollowed result (course.comes_to M.declared M.turn node event self) }
+    {
+        let World {
+            deployment,
+            modules,
+            mut slots,
+            mut sent,
+            steps,
+        } = self;
+        let at = steps + 1;
+        make_at(&mut slots, node, at, event, &mut sent)?;
+        Ok(World {
+            deployment,
+            modules,
+            slots,
+            sent,
+            steps: at,
+        })
+    }
+
+    // A step in which no node does anything.
+    #[tactic(none)]
+    fn pass(self) -> Self
         requires { self.steps < 18446744073709551615 }
-        ensures handled { IfOk result (λ w. w ≡ handled bytes.now (next_step self)) }
-        ensures counted { IfOk result (λ w. w.steps ≡ self.steps + 1) }
-    {
-        let mut world = self;
-        world.steps += 1;
-        if is_piece(CALL, bytes.as_slice()) && world.server.performed.is_none() {
-            return world.perform();
-        }
-        if is_piece(RETURN, bytes.as_slice()) && world.root.answered.is_none() {
-            return world.answer();
-        }
-        Ok(world)
-    }
-
-    // The server acknowledges the call, performs it and replies.
-    fn perform(self) -> Result<World, NoMemory>
-        requires { self.performed ≡ None }
-        ensures { IfOk result (λ w. w ≡ performed_now self) }
+        ensures { result ≡ course.passed self }
     {
         let World {
-            alloc,
-            steps,
-            mut sent,
-            server,
-            root,
-        } = self;
-        sent.push(from_server(steps, acknowledgement(alloc, CALL)?))?;
-        let (server, sum) = server.perform(alloc, root.module.number, steps)?;
-        sent.push(from_server(steps, reply(alloc, sum)?))?;
-        Ok(World {
-            alloc,
-            steps,
+            deployment,
+            modules,
+            slots,
             sent,
-            server,
-            root,
-        })
+            steps,
+        } = self;
+        World {
+            deployment,
+            modules,
+            slots,
+            sent,
+            steps: steps + 1,
+        }
     }
 
-    // The root acknowledges the reply and ends.
-    fn answer(self) -> Result<World, NoMemory>
-        requires { self.answered ≡ None }
-        ensures { IfOk result (λ w. w ≡ answered_now self) }
+    #[tactic(none)]
+    fn crash(self, node: u16) -> Self
+        requires node { node < length self.nodes }
+        requires few { self.steps < 18446744073709551615 }
+        ensures { result ≡ course.crashed node self }
     {
         let World {
-            alloc,
-            steps,
-            mut sent,
-            server,
-            root,
-        } = self;
-        sent.push(from_root(steps, acknowledgement(alloc, RETURN)?))?;
-        let reply = Outcome::Returned(one_number(alloc, root.module.number)?);
-        let root = root.answer(alloc, reply, steps)?;
-        Ok(World {
-            alloc,
-            steps,
+            deployment,
+            modules,
+            mut slots,
             sent,
-            server,
-            root,
-        })
+            steps,
+        } = self;
+        let steps = steps + 1;
+        slots[usize::from(node)].crashed = Some(steps);
+        World {
+            deployment,
+            modules,
+            slots,
+            sent,
+            steps,
+        }
+    }
+
+    #[tactic(none)]
+    fn tell_to_join(self, node: u16) -> Self
+        requires { node < length self.nodes }
+        ensures { result ≡ course.told_to_join node self }
+    {
+        let World {
+            deployment,
+            modules,
+            mut slots,
+            sent,
+            steps,
+        } = self;
+        slots[usize::from(node)].joins = true;
+        World {
+            deployment,
+            modules,
+            slots,
+            sent,
+            steps,
+        }
     }
 }
 
-// A datagram from the server's node to the root's.
-fn from_server(step: u64, bytes: Bytes) -> Sent
-    ensures { result ≡ from_server step bytes }
-{
-    Sent {
-        step,
-        from: 1,
-        to: 2,
-        bytes,
+// Why a world is gone.
+#[derive(Clone, Copy, Debug, Drop)]
+enum Loss {
+    NoMemory,
+    Spent(u16, u16),
+}
+
+impl From<NoMemory> for Loss {
+    ghost use Rattle.std.specs.Prelude.{◌≡◌};
+    ghost use Rattle.circus_world.specs.declared.world.Loss.TheVariants.{NoMemory};
+
+    ghost from_gives = { λ _ loss. loss ≡ NoMemory };
+
+    fn from(_refused: NoMemory) -> Self {
+        Loss::NoMemory
     }
 }
 
-// A datagram from the root's node to the server's.
-fn from_root(step: u64, bytes: Bytes) -> Sent
-    ensures { result ≡ from_root step bytes }
+// A copy of the module of a troupe.
+fn copy_of<M: Module>(modules: &[M], troupe: Option<u16>) -> Result<Option<M>, NoMemory>
+    ensures { IfOk result (λ copy. option_map (behaviour M.declared M.turn M.first) copy
+        ≡ option_map (behaviour M.declared M.turn M.first) (option_and_then (slice_get modules.now) troupe)) }
 {
-    Sent {
-        step,
-        from: 2,
-        to: 1,
-        bytes,
+    let Some(number) = troupe else {
+        return Ok(None);
+    };
+    match modules.get(usize::from(number)) {
+        Some(module) => Ok(Some(module.copy()?)),
+        None => Ok(None),
     }
+}
+
+fn add<M: Module>(slots: &mut Vec<Slot<M>>, slot: Slot<M>) -> Result<(), NoMemory>
+    ensures { OnOk result (slots.new.items ≡ slots.old.items ++ slot ∷ []) }
+{
+    match slots.push(slot) {
+        Ok(()) => Ok(()),
+        Err(refused) => Err(AllocError::from(refused)),
+    }
+}
+
+// All nodes boot.
+#[tactic(none)]
+fn boot_all<M: Module>(
+    alloc: Global,
+    deployment: &Deployment,
+    modules: &[M],
+    slots: &mut Vec<Slot<M>>,
+    sent: &mut SentList,
+) -> Result<(), BootFault>
+    requires can { boot.CanBoot M.declared M.turn M.first deployment.now modules.now }
+    requires slots { slots.old.items ≡ [] }
+    requires sent { sent.old ≡ [] }
+    ensures { AreBooted M.declared M.turn M.first deployment.now modules.now slots.new.items sent.new result }
+{
+    for (node, host) in deployment.nodes.as_slice().iter().enumerate() {
+        let hosted = copy_of(modules, host.module)?;
+        boot_at(alloc, deployment, hosted, node as u16, slots, sent)?;
+    }
+    Ok(())
+}
+
+// A node boots behind those before it.
+#[tactic(none)]
+fn boot_at<M: Module>(
+    alloc: Global,
+    deployment: &Deployment,
+    hosted: Option<M>,
+    node: u16,
+    slots: &mut Vec<Slot<M>>,
+    sent: &mut SentList,
+) -> Result<(), BootFault>
+    requires { booting.CanBoot deployment.now node (option_map M.declared hosted) }
+    ensures { IsBootedAt M.declared M.turn M.first deployment.now hosted node slots.old.items sent.old slots.new.items sent.new result }
+{
+    let (core, outputs) = match NodeCore::boot(alloc, deployment, hosted, node) {
+        Ok(booted) => booted,
+        Err(StepFault::NoMemory) => return Err(BootFault::NoMemory),
+        Err(StepFault::Spent(peer)) => return Err(BootFault::Spent(node, peer)),
+    };
+    add(slots, Slot::of(core))?;
+    send(0, node, outputs.gives, sent)?;
+    Ok(())
+}
+
+// A node makes a step, and what it gives is sent.
+#[tactic(none)]
+fn make_at<M: Module>(
+    slots: &mut Vec<Slot<M>>,
+    node: u16,
+    at: u64,
+    event: Event,
+    sent: &mut SentList,
+) -> Result<(), Loss>
+    requires node { node < vec_len slots.old }
+    requires can { (slot : SlotOf M M.Paused) → slice_get slots.old.items node ≡ Some slot → CanMake event slot }
+    ensures { IsMadeAt M.declared M.turn at node event slots.old.items sent.old slots.new.items sent.new result }
+{
+    let gives = match slots[usize::from(node)].make_step(at, event) {
+        Ok(gives) => gives,
+        Err(StepFault::NoMemory) => return Err(Loss::NoMemory),
+        Err(StepFault::Spent(peer)) => return Err(Loss::Spent(node, peer)),
+    };
+    send(at, node, gives, sent)?;
+    Ok(())
+}
+
+// What a node gives in a step is sent.
+fn send(step: u64, node: u16, gives: Gives, sent: &mut SentList) -> Result<(), NoMemory>
+    ensures { OnOk result (sent.new ≡ sent.old ++ map (course.sent_by step node) gives) }
+{
+    for give in gives.into_items() {
+        sent.push(Sent {
+            step,
+            from: node,
+            to: give.to,
+            bytes: give.bytes.shared()?,
+        })?;
+    }
+    Ok(())
 }

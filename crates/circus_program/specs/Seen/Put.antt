@@ -1,15 +1,28 @@
 -- What a call answers, as one fact.
-use Rattle.std.specs.Prelude.{◌≡◌, ◌⊎◌, ℕ, Option, List, IsTrue}
+use Rattle.std.specs.Prelude.{◌≡◌, ◌⊎◌, ℕ, Option, List, Result, Ok, Err, IsTrue}
 use Rattle.circus_ending.specs.declared.status.Status.{Status}
 use Rattle.circus_ending.specs.declared.status.Status.TheVariants.{ShelfFault, SinkFault, NoMemory}
 use Rattle.circus_ending.specs.Status.{is_end}
-use Rattle.circus_program.specs.Answer.{Writes, WritesPart, WritesPartOfText, WritesEnd, WritesLack}
+use Rattle.circus_ending.specs.Ending.{Ending}
+use Rattle.circus_ending.specs.declared.ending.Ending as coded
+use Rattle.circus_ending.specs.Seen.Ending.{ending_of}
+use Rattle.circus_running.specs.Writing.{Writes, WritesPart}
+use Rattle.circus_program.specs.Answer.{WritesPartOfText, WritesEnd, WritesLack}
 
 -- a text was put with this status, or a part of it, and the sink failed or there was no memory
 abbrev pub IsPut : Status → List ℕ → Option (List ℕ) → Option (List ℕ) → Type 0 → Status → Type 0
 IsPut status text old new SinkRose result =
     ((result ≡ status) × Writes old new text)
     ⊎ (((result ≡ SinkFault) × WritesPart old new text × SinkRose) ⊎ ((result ≡ NoMemory) × WritesPart old new text))
+
+-- an end was put
+abbrev pub IsPutEnd : Ending → Option (List ℕ) → Option (List ℕ) → Type 0 → Status → Type 0
+IsPutEnd ending old new SinkRose result = IsPut ending.status ending.text old new SinkRose result
+
+-- an end was put, if there was memory for it
+abbrev pub IsPutIfEnd : {E : Type 0} → Result coded.Ending E → Option (List ℕ) → Option (List ℕ) → Type 0 → Status → Type 0
+IsPutIfEnd (Ok ending) old new SinkRose result = IsPutEnd (ending_of ending) old new SinkRose result
+IsPutIfEnd (Err refused) old new SinkRose result = (result ≡ NoMemory) × (new ≡ old)
 
 -- each clause of the top call
 pub record IsAnswer (shelf : Option (List ℕ → Option (List ℕ))) (words : List (List ℕ)) (fetched : Option (List (List ℕ))) (ShelfRose : Type 0) (old new : Option (List ℕ)) (SinkRose : Type 0) (result : Status) : Type 0 where

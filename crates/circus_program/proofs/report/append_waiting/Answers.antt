@@ -1,5 +1,0 @@
-use Rattle.circus_ending.proofs.Appended.{appended_twice}
-use Rattle.circus_program.proofs.report.append_waiting.Goals as goal
-
-pub returns : goal.returns
-returns c = appended_twice _ _ _ _ _ c.in_ok-append_words.ensures c.in_ok-append_open.ensures

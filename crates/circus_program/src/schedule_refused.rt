@@ -1,0 +1,94 @@
+// Why a line of a schedule is refused, as it is written.
+ghost use Rattle.std.specs.Prelude.{◌≡◌, ◌++◌, Err, All, IsAscii, IfOk, Some, string_bytes, codes};
+ghost use Rattle.std.specs.Fmt.{decimal};
+ghost use Rattle.circus_record.specs.Naming.{host_name, names_of};
+ghost use Rattle.circus_ending.specs.Seen.Ending.{ending_of};
+ghost use Rattle.circus_program.specs.Replay.{cause_text, refused as refused_end, IsReplayOf};
+ghost use Rattle.circus_config.specs.declared.plan.Plan.{Plan};
+
+use circus_collate::Hosts;
+use circus_ending::{Ending, Status};
+use circus_record::{Naming, ProgramNames};
+use circus_schedule::ScheduleFault;
+use circus_value::{ListOf, NoMemory, Octets};
+use circus_world::Cause;
+use std::alloc::{AllocError, Global};
+use std::fmt;
+
+/// The end of a schedule that is read as none.
+pub fn refused(alloc: Global, fault: &ScheduleFault) -> Result<Ending, NoMemory>
+    ensures ending { (plan : Plan) → IfOk result (λ ending. IsReplayOf plan (Err fault.now) (ending_of ending)) }
+    ensures status { IfOk result (λ ending. ending.status ≡ Status.BadSchedule) }
+{
+    let text = match fault {
+        ScheduleFault::BadLine(number) => line_text(alloc, *number, "bad line\n")?,
+        ScheduleFault::UnknownNode(number, name) => {
+            let mut text = line_text(alloc, *number, "unknown node ")?;
+            text.append(name.as_slice())?;
+            text.append(b"\n")?;
+            text
+        }
+        ScheduleFault::TooManyLines(number) => line_text(alloc, *number, "too many lines\n")?,
+        ScheduleFault::NoMemory => return Err(AllocError),
+    };
+    Ok(Ending {
+        status: Status::BadSchedule,
+        text,
+    })
+}
+
+// The line of this number, with what is said of it.
+fn line_text(alloc: Global, number: u32, said: &str) -> Result<Octets, NoMemory>
+    ensures { IfOk result (λ text. text ≡ codes "schedule line " ++ decimal number ++ codes ": " ++ said.now) }
+{
+    let text = format!(in alloc; "schedule line {number}: {said}")?;
+    Ok(ListOf::of(text.into_bytes()))
+}
+
+// Why a line may not be stepped.
+#[derive(Drop)]
+struct CauseText<'a, N> {
+    names: &'a N,
+    cause: Cause,
+}
+
+impl<N: Naming> fmt::Display for CauseText<'_, N> {
+    ghost output = { λ t. Some (cause_text (N.names t.names.now) t.cause) };
+
+    fn fmt<W: fmt::Write>(&self, f: &mut fmt::Formatter<W>) -> fmt::Result {
+        match self.cause {
+            Cause::NoDatagram(number, sent) => write!(f, "no datagram {number}, {sent} sent"),
+            Cause::NotLive(node) => {
+                let node = self.names.node(usize::from(node));
+                write!(f, "{node} is not live")
+            }
+            Cause::NotCrashed(node) => {
+                let node = self.names.node(usize::from(node));
+                write!(f, "{node} has not crashed")
+            }
+            Cause::NotSpare(node) => {
+                let node = self.names.node(usize::from(node));
+                write!(f, "{node} is not a spare")
+            }
+            Cause::AlreadyJoined(node) => {
+                let node = self.names.node(usize::from(node));
+                write!(f, "{node} has joined")
+            }
+        }
+    }
+}
+
+/// The end at a line of this number that may not be stepped.
+pub fn illegal(alloc: Global, hosts: &Hosts, number: u64, cause: Cause) -> Result<Ending, NoMemory>
+    requires { All (λ h. IsAscii (host_name h)) hosts.now }
+    ensures ending { IfOk result (λ ending. ending_of ending ≡ refused_end number (cause_text (names_of hosts.now []) cause)) }
+    ensures status { IfOk result (λ ending. ending.status ≡ Status.BadSchedule) }
+{
+    let names = ProgramNames::new(hosts.as_slice(), &[]);
+    let cause = CauseText {
+        names: &names,
+        cause,
+    };
+    let text = format!(in alloc; "schedule line {number}: {cause}\n")?;
+    Ok(Ending::of(Status::BadSchedule, text))
+}

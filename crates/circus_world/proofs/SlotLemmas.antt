@@ -1,0 +1,150 @@
+-- The nodes of a world, where each slot has its node.
+use Rattle.std.proofs.Common.{◌≡◌, ◌≢◌, ℕ, zero, suc, ◌+◌, ◌<◌, ◌⊎◌, inl, inr, true, false, List, [], ◌∷◌, ◌++◌, length, set, get_or, All, Option, None, Some, refl, sym, ap, subst, ◌∙◌, arith}
+use Rattle.std.specs.Prelude.{IsSome, is_some, slice_get, option_map, option_and_then}
+use Rattle.std.specs.Option.{option_map_or}
+use Rattle.std.proofs.lemmas.Option.{slice_get_read, slice_get_within, slice_get_cases, slice_get-get_or, get_or_from_slice_get}
+use Rattle.std.proofs.lemmas.List.Elements.{All-nil, All-cons, All-head, All-tail, All-set, All-push}
+use Rattle.circus_node.specs.NodeState.{NodeState}
+use Rattle.circus_world.specs.declared.slot.Slot.{Slot}
+use Rattle.circus_world.specs.WorldState.{Standing}
+use Rattle.circus_world.specs.Seen.Slots.{standing, before, standings, AreFull}
+
+-- ---- lists
+
+-- what stands at a place of a list that was changed at one
+pub get_set : {X : Type 0} (xs : List X) (i j : ℕ) (v x : X) → slice_get (set xs i v) j ≡ Some x → ((j ≡ i) × (x ≡ v)) ⊎ (slice_get xs j ≡ Some x)
+get_set {X} [] i j v x at = absurd (let clash : ◌≡◌ {A = Option X} None (Some x) = at in cc)
+get_set (y ∷ ys) zero zero v x at = inl (refl, (let e : x ≡ v = cc in e))
+get_set (y ∷ ys) zero (suc j) v x at = inr at
+get_set (y ∷ ys) (suc i) zero v x at = inr at
+get_set (y ∷ ys) (suc i) (suc j) v x at =
+    elim (get_set ys i j v x at) [ inl h ↦ inl (ap suc h.0, h.1) | inr h ↦ inr h ]
+
+-- what stands at a place of a list that was added to
+pub get_push : {X : Type 0} (xs : List X) (j : ℕ) (v x : X) → slice_get (xs ++ v ∷ []) j ≡ Some x → ((j ≡ length xs) × (x ≡ v)) ⊎ (slice_get xs j ≡ Some x)
+get_push [] zero v x at = inl (refl, (let e : x ≡ v = cc in e))
+get_push {X} [] (suc j) v x at = absurd (let clash : ◌≡◌ {A = Option X} None (Some x) = at in cc)
+get_push (y ∷ ys) zero v x at = inr at
+get_push (y ∷ ys) (suc j) v x at =
+    elim (get_push ys j v x at) [ inl h ↦ inl (ap suc h.0, h.1) | inr h ↦ inr h ]
+
+pub get_there : {X : Type 0} (xs : List X) (i : ℕ) → i < length xs → (x : X) × (slice_get xs i ≡ Some x)
+get_there [] i less = absurd (omega (arith, less))
+get_there (x ∷ xs) zero less = (x, refl)
+get_there (x ∷ xs) (suc i) less = get_there xs i (omega (arith, less))
+
+module _ {M P : Type 0} where
+  -- ---- full slots
+
+  abbrev Full : Slot M P → Type 0
+  Full slot = IsSome slot.core
+
+  none_full : {X : Type 0} (slot : Slot M P) → slot.core ≡ None → Full slot → X
+  none_full slot is full =
+      let clash : false ≡ true = subst (λ (o : Option (NodeState M)). IsSome o) is full in cc
+
+  pub core_there : (slot : Slot M P) → Full slot → (n : NodeState M) × (slot.core ≡ Some n)
+  core_there slot full = by_core slot.core refl
+    where
+      by_core : (o : Option (NodeState M)) → slot.core ≡ o → (n : NodeState M) × (slot.core ≡ Some n)
+      by_core None is = none_full slot is full
+      by_core (Some n) is = (n, is)
+
+  pub full_at : (slots : List (Slot M P)) (i : ℕ) (slot : Slot M P) → AreFull slots → slice_get slots i ≡ Some slot → (n : NodeState M) × (slot.core ≡ Some n)
+  full_at slots i slot full at =
+      let within : i < length slots = slice_get_within slots i slot at in
+      core_there slot (subst (λ (x : Slot M P). Full x) (get_or_from_slice_get slots i slot slot at) (full i slot within))
+
+  pub length_full : (slots : List (Slot M P)) → AreFull slots → length (standings slots) ≡ length slots
+  length_full [] full = refl
+  length_full (slot ∷ slots) full = by_core slot.core refl (length_full slots (All-tail Full slot slots full))
+    where
+      by_core : (o : Option (NodeState M)) → slot.core ≡ o → length (standings slots) ≡ length slots → length (before slot o (standings slots)) ≡ suc (length slots)
+      by_core None is rest = none_full slot is (All-head Full slot slots full)
+      by_core (Some n) is rest = ap suc rest
+
+  pub get_full : (slots : List (Slot M P)) (i : ℕ) (slot : Slot M P) (n : NodeState M) → AreFull slots → slice_get slots i ≡ Some slot → slot.core ≡ Some n
+      → slice_get (standings slots) i ≡ Some (standing n slot)
+  get_full [] i slot n full at core = absurd (let clash : ◌≡◌ {A = Option (Slot M P)} None (Some slot) = at in cc)
+  get_full (x ∷ slots) zero slot n full at core =
+      let same : x ≡ slot = cc in
+      ap (λ (y : Slot M P). slice_get (before y y.core (standings slots)) 0) same ∙ ap (λ o. slice_get (before slot o (standings slots)) 0) core
+  get_full (x ∷ slots) (suc i) slot n full at core = by_core x.core refl (get_full slots i slot n (All-tail Full x slots full) at core)
+    where
+      by_core : (o : Option (NodeState M)) → x.core ≡ o → slice_get (standings slots) i ≡ Some (standing n slot) → slice_get (before x o (standings slots)) (suc i) ≡ Some (standing n slot)
+      by_core None is rest = none_full x is (All-head Full x slots full)
+      by_core (Some m) is rest = rest
+
+  -- a node of the world is in its slot
+  pub record InSlot (slots : List (Slot M P)) (i : ℕ) (s : Standing M) : Type 0 where
+    pub slot : Slot M P
+    pub there : slice_get slots i ≡ Some slot
+    pub core : slot.core ≡ Some s.node
+    pub is : s ≡ standing s.node slot
+
+  pub in_slot : (slots : List (Slot M P)) (i : ℕ) (s : Standing M) → AreFull slots → slice_get (standings slots) i ≡ Some s → InSlot slots i s
+  in_slot slots i s full at =
+      let within : i < length (standings slots) = slice_get_within (standings slots) i s at in
+      let found = get_there slots i (subst (λ n. i < n) (length_full slots full) within) in
+      let core = full_at slots i found.0 full found.1 in
+      let there = get_full slots i found.0 core.0 full found.1 core.1 in
+      let same : s ≡ standing core.0 found.0 = (let e : Some s ≡ Some (standing core.0 found.0) = sym at ∙ there in cc) in
+      let node : core.0 ≡ s.node = ap (λ (y : Standing M). y.node) (sym same) in
+      record { slot = found.0; there = found.1; core = core.1 ∙ ap Some node; is = same ∙ ap (λ m. standing m found.0) node }
+
+  pub set_full : (slots : List (Slot M P)) (i : ℕ) (slot : Slot M P) (n : NodeState M) → AreFull slots → slot.core ≡ Some n
+      → standings (set slots i slot) ≡ set (standings slots) i (standing n slot)
+  set_full [] i slot n full core = refl
+  set_full (x ∷ slots) zero slot n full core = by_core x.core refl
+    where
+      by_core : (o : Option (NodeState M)) → x.core ≡ o → standings (slot ∷ slots) ≡ set (before x o (standings slots)) 0 (standing n slot)
+      by_core None is = none_full x is (All-head Full x slots full)
+      by_core (Some m) is = ap (λ o. before slot o (standings slots)) core
+  set_full (x ∷ slots) (suc j) slot n full core = by_core x.core refl (set_full slots j slot n (All-tail Full x slots full) core)
+    where
+      by_core : (o : Option (NodeState M)) → x.core ≡ o → standings (set slots j slot) ≡ set (standings slots) j (standing n slot)
+          → before x x.core (standings (set slots j slot)) ≡ set (before x o (standings slots)) (suc j) (standing n slot)
+      by_core None is rest = none_full x is (All-head Full x slots full)
+      by_core (Some m) is rest =
+          ap (λ o. before x o (standings (set slots j slot))) is ∙ ap (λ l. standing m x ∷ l) rest
+
+  pub push_full : (slots : List (Slot M P)) (slot : Slot M P) (n : NodeState M) → AreFull slots → slot.core ≡ Some n
+      → standings (slots ++ slot ∷ []) ≡ standings slots ++ standing n slot ∷ []
+  push_full [] slot n full core = ap (λ o. before slot o []) core
+  push_full (x ∷ slots) slot n full core = by_core x.core refl (push_full slots slot n (All-tail Full x slots full) core)
+    where
+      by_core : (o : Option (NodeState M)) → x.core ≡ o → standings (slots ++ slot ∷ []) ≡ standings slots ++ standing n slot ∷ []
+          → before x x.core (standings (slots ++ slot ∷ [])) ≡ before x o (standings slots) ++ standing n slot ∷ []
+      by_core None is rest = none_full x is (All-head Full x slots full)
+      by_core (Some m) is rest =
+          ap (λ o. before x o (standings (slots ++ slot ∷ []))) is ∙ ap (λ l. standing m x ∷ l) rest
+
+  core_full : (slot : Slot M P) (n : NodeState M) → slot.core ≡ Some n → Full slot
+  core_full slot n core = ap (λ (o : Option (NodeState M)). is_some o) core
+
+  pub still_full : (slots : List (Slot M P)) (i : ℕ) (slot : Slot M P) (n : NodeState M) → AreFull slots → slot.core ≡ Some n → AreFull (set slots i slot)
+  still_full slots i slot n full core = All-set Full slots i slot (core_full slot n core) full
+
+  pub more_full : (slots : List (Slot M P)) (slot : Slot M P) (n : NodeState M) → AreFull slots → slot.core ≡ Some n → AreFull (slots ++ slot ∷ [])
+  more_full slots slot n full core = All-push Full slots slot full (core_full slot n core)
+
+  pub slot_at : (slots : List (Slot M P)) (i : ℕ) (slot : Slot M P) → i < length slots → slot ≡ get_or slots i slot → slice_get slots i ≡ Some slot
+  slot_at slots i slot below is = slice_get_read slots (length slots) i slot refl below is
+
+  -- ---- what a slot shows
+
+  pub core_of : (slots : List (Slot M P)) (i : ℕ) (slot : Slot M P) (n : NodeState M) → AreFull slots → slice_get slots i ≡ Some slot → slot.core ≡ Some n
+      → option_map (λ (s : Standing M). s.node) (slice_get (standings slots) i) ≡ Some n
+  core_of slots i slot n full at core = ap (λ (o : Option (Standing M)). option_map (λ (s : Standing M). s.node) o) (get_full slots i slot n full at core)
+
+  pub crashed_of : (slots : List (Slot M P)) (i : ℕ) (slot : Slot M P) → AreFull slots → slice_get slots i ≡ Some slot
+      → slot.crashed ≡ option_and_then (λ (s : Standing M). s.crashed) (slice_get (standings slots) i)
+  crashed_of slots i slot full at =
+      let core = full_at slots i slot full at in
+      sym (ap (λ (o : Option (Standing M)). option_and_then (λ (s : Standing M). s.crashed) o) (get_full slots i slot core.0 full at core.1))
+
+  pub joins_of : (slots : List (Slot M P)) (i : ℕ) (slot : Slot M P) → AreFull slots → slice_get slots i ≡ Some slot
+      → slot.joins ≡ option_map_or (λ (s : Standing M). s.joins) (slice_get (standings slots) i) false
+  joins_of slots i slot full at =
+      let core = full_at slots i slot full at in
+      sym (ap (λ (o : Option (Standing M)). option_map_or (λ (s : Standing M). s.joins) o false) (get_full slots i slot core.0 full at core.1))

@@ -1,0 +1,6 @@
+pub mod Followed
+pub mod Made
+pub mod MadeAt
+pub mod Slots
+pub mod Sound
+pub mod WorldCode

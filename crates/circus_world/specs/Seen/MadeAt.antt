@@ -1,0 +1,85 @@
+-- What the nodes of a world do in their slots, and what is sent by it.
+use Rattle.std.specs.Prelude.{◌≡◌, ℕ, false, List, [], ◌∷◌, ◌++◌, map, slice_get, slice_set, Option, None, Some, Result, Ok, Err}
+use Rattle.circus_value.specs.ValueTree.{ValueTree}
+use Rattle.circus_value.specs.declared.outcome.Outcome.{Outcome}
+use Rattle.circus_collate.specs.declared.deployment.Deployment.{Deployment}
+use Rattle.circus_model.specs.NextTurn.{NextTurn}
+use Rattle.circus_model.specs.declared.signature.Signature.{Signature}
+use Rattle.circus_node.specs.declared.event.Event.{Event}
+use Rattle.circus_node.specs.declared.event.Give.{Give}
+use Rattle.circus_node.specs.declared.event.Outputs.{Outputs}
+use Rattle.circus_node.specs.Node.{IsNodeOf, GoToOthers}
+use Rattle.circus_node.specs.NodeState.{NodeState}
+use Rattle.circus_node.specs.Step.{stepped}
+use Rattle.circus_node.specs.Booting.{booted}
+use Rattle.circus_world.specs.declared.sent.Sent.{Sent}
+use Rattle.circus_world.specs.declared.slot.Slot.{Slot}
+use Rattle.circus_world.specs.declared.world.BootFault.{BootFault}
+use Rattle.circus_world.specs.declared.world.BootFault.TheVariants as boot_fault
+use Rattle.circus_world.specs.declared.world.Loss.{Loss}
+use Rattle.circus_world.specs.declared.world.Loss.TheVariants as loss
+use Rattle.circus_world.specs.Course.{sent_by}
+use Rattle.circus_world.specs.Boot.{before_any, all_booted, AreHosted}
+use Rattle.circus_world.specs.Seen.Slots.{AreFull, world_of}
+use Rattle.circus_world.specs.Seen.Sound.{IsSound}
+use Rattle.circus_world.specs.Seen.Made.{HasMade}
+
+module _ {M P : Type 0} (declared : M → Signature) (turn : M → List ValueTree → ℕ → List ValueTree → List Outcome → NextTurn) where
+  -- the node at a place has made a step, and what it gave was sent
+  pub record HasMadeAt (at node : ℕ) (event : Event) (old : List (Slot M P)) (before : List Sent) (new : List (Slot M P)) (after : List Sent) : Type 0 where
+    pub slot : Slot M P
+    pub there : slice_get old node ≡ Some slot
+    pub next : Slot M P
+    pub gives : List Give
+    pub made : HasMade declared turn at event slot next gives
+    pub new_is : new ≡ slice_set old node next
+    pub after_is : after ≡ before ++ map (sent_by at node) gives
+
+  -- the node at a place has no number left for another one
+  pub record IsSpentAt (at node : ℕ) (event : Event) (old : List (Slot M P)) (peer : ℕ) : Type 0 where
+    pub slot : Slot M P
+    pub there : slice_get old node ≡ Some slot
+    pub before : NodeState M
+    pub core : slot.core ≡ Some before
+    pub stepped_is : stepped declared turn at event before ≡ Err peer
+
+  abbrev pub IsMadeAt : ℕ → ℕ → Event → List (Slot M P) → List Sent → List (Slot M P) → List Sent → Result (Unit {0}) Loss → Type 0
+  IsMadeAt at node event old before new after (Ok done) = HasMadeAt at node event old before new after
+  IsMadeAt at node event old before new after (Err (loss.Spent spent peer)) = (spent ≡ node) × IsSpentAt at node event old peer
+  IsMadeAt at node event old before new after (Err loss.NoMemory) = Unit {0}
+
+module _ {M : Type 0} (declared : M → Signature) (turn : M → List ValueTree → ℕ → List ValueTree → List Outcome → NextTurn) (first : M → List ValueTree) where
+  -- a node has no number left for another one
+  pub record IsSpent (d : Deployment) (modules : List M) (node peer : ℕ) : Type 0 where
+    pub hosted : List (Option M)
+    pub hosts : AreHosted declared turn first d modules hosted
+    pub booted_is : all_booted declared turn first hosted (before_any d modules) ≡ Err (node, peer)
+
+module _ {M P : Type 0} (declared : M → Signature) (turn : M → List ValueTree → ℕ → List ValueTree → List Outcome → NextTurn) (first : M → List ValueTree) where
+  -- a node has booted behind those before it
+  pub record HasBootedAt (d : Deployment) (hosted : Option M) (node : ℕ) (old : List (Slot M P)) (before : List Sent) (new : List (Slot M P)) (after : List Sent) : Type 0 where
+    pub core : NodeState M
+    pub outputs : Outputs
+    pub booted_is : booted declared turn first d hosted node ≡ Ok (core, outputs)
+    pub new_is : new ≡ old ++ record { core = Some core; crashed = None; joins = false } ∷ []
+    pub after_is : after ≡ before ++ map (sent_by 0 node) outputs.gives
+    pub is : IsNodeOf d node core
+    pub others : GoToOthers core outputs.gives
+
+  abbrev pub IsBootedAt : Deployment → Option M → ℕ → List (Slot M P) → List Sent → List (Slot M P) → List Sent → Result (Unit {0}) BootFault → Type 0
+  IsBootedAt d hosted node old before new after (Ok done) = HasBootedAt d hosted node old before new after
+  IsBootedAt d hosted node old before new after (Err (boot_fault.Spent spent peer)) = (spent ≡ node) × (booted declared turn first d hosted node ≡ Err peer)
+  IsBootedAt d hosted node old before new after (Err boot_fault.NoMemory) = Unit {0}
+
+  -- all nodes have booted
+  pub record HaveBooted (d : Deployment) (modules : List M) (slots : List (Slot M P)) (sent : List Sent) : Type 0 where
+    pub hosted : List (Option M)
+    pub hosts : AreHosted declared turn first d modules hosted
+    pub booted_is : all_booted declared turn first hosted (before_any d modules) ≡ Ok (world_of d modules slots sent 0)
+    pub full : AreFull slots
+    pub sound : IsSound (world_of d modules slots sent 0)
+
+  abbrev pub AreBooted : Deployment → List M → List (Slot M P) → List Sent → Result (Unit {0}) BootFault → Type 0
+  AreBooted d modules slots sent (Ok done) = HaveBooted d modules slots sent
+  AreBooted d modules slots sent (Err (boot_fault.Spent node peer)) = IsSpent declared turn first d modules node peer
+  AreBooted d modules slots sent (Err boot_fault.NoMemory) = Unit {0}
