@@ -31,7 +31,7 @@ fn words(rt: &HostRuntime, alloc: Global) -> Result<Vec<String>, NoMemory> {
 // Runs these words over the real shelf and sink.
 fn run(rt: &HostRuntime, alloc: Global, words: &[String]) -> u8 {
     let mut shelf = DirShelf::new(alloc, rt);
-    let mut sink = StdSink::new(rt);
+    let mut sink = StdSink::new(alloc, rt);
     let mut link = MemLink::new(alloc, Arrivals::new(alloc), Failing::new(alloc));
     circus(alloc, words, &mut shelf, &mut sink, &mut link)
 }

@@ -94,6 +94,17 @@ impl Sink for MemSink {
         Ok(bytes.len())
     }
 
+    /// It has nothing to give on, and never fails.
+    fn finish(&mut self) -> Result<(), SinkFault>
+        ensures written { Some self.new.written ≡ Some self.old.written }
+        ensures counts { SinkCounts result self.old.faults self.new.faults }
+        ensures never_falls { self.old.faults ≤ self.new.faults }
+        ensures sure { result ≡ Ok tt }
+        ensures unchanged { self.new ≡ self.old }
+    {
+        Ok(())
+    }
+
     fn faults(&self) -> u64 {
         self.calls.faults
     }

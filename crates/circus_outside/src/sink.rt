@@ -47,6 +47,12 @@ pub trait Sink {
         ensures counts { SinkCounts result (faults self.old) (faults self.new) }
         ensures never_falls { faults self.old ≤ faults self.new };
 
+    /// Gives on what it has gathered, behind the last piece. `Failed` only where the count of faults then rises, as in `put`.
+    fn finish(&mut self) -> Result<(), SinkFault>
+        ensures written { written self.new ≡ written self.old }
+        ensures counts { SinkCounts result (faults self.old) (faults self.new) }
+        ensures never_falls { faults self.old ≤ faults self.new };
+
     /// How many calls have failed. It stands still at 18,446,744,073,709,551,615. It takes no memory.
     fn faults(&self) -> u64
         ensures { result ≡ faults self.now };

@@ -1,15 +1,21 @@
 // A sink that writes to the standard output.
-ghost use Rattle.std.specs.Prelude.{◌≡◌, None};
+ghost use Rattle.std.specs.Prelude.{◌≡◌, ◌≤◌, None};
+ghost use Rattle.circus_outside.specs.Sink.{SinkCounts};
 
 use crate::{Sink, SinkFault, write_piece};
-use std::io;
+use std::alloc::Global;
+use std::io::{self, Write};
 use std::marker::Model;
 
-/// The standard output. What a put answered is written when it returns. It tells nothing of what was
-/// written. Clauses see it as its count of faults.
+// How many bytes are gathered before they are written.
+const MOST_GATHERED: usize = 65_536;
+
+/// The standard output. Pieces are gathered to 65,536 bytes, and what is gathered is written when there is no room for the
+/// next piece, and in `finish`. It tells nothing of what was written. Clauses see it as its count of faults.
 #[derive(Drop)]
 pub struct StdSink<R: Print> {
     output: R,
+    gathered: Vec<u8>,
     faults: u64,
 }
 
@@ -23,11 +29,46 @@ impl<R: Print> Model for StdSink<R> {
 
 impl<R: Print> StdSink<R> {
     /// A sink over the standard output of a runtime. It takes no memory.
-    pub fn new(output: R) -> Self
+    pub fn new(alloc: Global, output: R) -> Self
         ensures { result ≡ 0 }
     {
-        StdSink { output, faults: 0 }
+        StdSink {
+            output,
+            gathered: Vec::new(alloc),
+            faults: 0,
+        }
     }
+
+    // Writes what is gathered. Where that fails, it is gone.
+    fn give(&mut self) -> Result<(), SinkFault>
+        ensures counts { SinkCounts result self.old self.new }
+        ensures never_falls { self.old ≤ self.new }
+    {
+        let answer = write_whole(&mut io::writer(&self.output), self.gathered.as_slice());
+        self.gathered.clear();
+        self.counted(answer)
+    }
+
+    // What a write answered, which is counted where it failed.
+    fn counted<A: Drop>(&mut self, answer: Result<A, SinkFault>) -> Result<A, SinkFault>
+        ensures same { result ≡ answer }
+        ensures counts { SinkCounts result self.old self.new }
+        ensures never_falls { self.old ≤ self.new }
+    {
+        if let Err(SinkFault::Failed) = &answer {
+            self.faults = self.faults.saturating_add(1);
+        }
+        answer
+    }
+}
+
+// Writes pieces until the writer has taken all.
+fn write_whole<W: Write>(writer: &mut W, bytes: &[u8]) -> Result<(), SinkFault> {
+    let mut at = 0;
+    while at < bytes.len() {
+        at += write_piece(writer, &bytes[at..])?;
+    }
+    Ok(())
 }
 
 impl<R: Print> Sink for StdSink<R> {
@@ -36,13 +77,19 @@ impl<R: Print> Sink for StdSink<R> {
     ghost faults = { λ sink. sink };
 
     fn put(&mut self, bytes: &[u8]) -> Result<usize, SinkFault> {
-        match write_piece(&mut io::writer(&self.output), bytes) {
-            Err(SinkFault::Failed) => {
-                self.faults = self.faults.saturating_add(1);
-                Err(SinkFault::Failed)
-            }
-            answer => answer,
+        if bytes.len() > MOST_GATHERED.saturating_sub(self.gathered.len()) {
+            self.give()?;
         }
+        if bytes.len() > MOST_GATHERED {
+            let answer = write_piece(&mut io::writer(&self.output), bytes);
+            return self.counted(answer);
+        }
+        self.gathered.extend_from_slice(bytes)?;
+        Ok(bytes.len())
+    }
+
+    fn finish(&mut self) -> Result<(), SinkFault> {
+        self.give()
     }
 
     fn faults(&self) -> u64 {

@@ -1,17 +1,17 @@
 // The top call.
-ghost use Rattle.std.specs.Prelude.{◌≡◌, map, string_bytes, IfOk};
+ghost use Rattle.std.specs.Prelude.{◌≡◌, ◌≤◌, map, string_bytes, IfOk};
 ghost use Rattle.circus_outside.specs.Faults.{Rose};
 ghost use Rattle.circus_program.specs.Answer.{AsksOnly, WritesEnd, WritesLack, WritesPartOfText, shelf_fault as fault_line};
 ghost use Rattle.circus_ending.specs.declared.status.Status.{Status as Ended};
 ghost use Rattle.circus_ending.specs.declared.status.Status.TheVariants.{Done, BadCommandLine, BadProgram, BadSchedule, ShelfFault, SinkFault, NoMemory, Spent, NotBuilt, BadPlacing, NoPlacement};
 ghost use Rattle.circus_ending.specs.Status.{code_of};
-ghost use Rattle.circus_program.specs.Seen.Put.{IsAnswer};
+ghost use Rattle.circus_program.specs.Seen.Put.{IsAnswer, IsFinished};
 
 use crate::answer::{Step, follow};
 use crate::put::put;
 use crate::replay::replay;
 use circus_ending::Status;
-use circus_outside::{Link, Shelf, Sink};
+use circus_outside::{Link, Shelf, Sink, SinkFault};
 use circus_value::NoMemory;
 use std::alloc::Global;
 
@@ -75,13 +75,30 @@ fn answer<S: Shelf, K: Sink>(alloc: Global, words: &[String], shelf: &mut S, sin
         Ok(step) => step,
         Err(_) => return Status::NoMemory,
     };
-    match step {
+    let status = match step {
         Step::Finish(ending) => put(sink, ending.status, ending.text.as_slice()),
         Step::Replay(ready) => replay(alloc, ready, sink),
         Step::Lack(name) => match shelf_fault(alloc, name) {
             Ok(text) => put(sink, Status::ShelfFault, text.as_bytes()),
             Err(_) => Status::NoMemory,
         },
+    };
+    finish(sink, status)
+}
+
+/// The status of a call whose last line is put, once the sink has given on what it gathered.
+fn finish<K: Sink>(sink: &mut K, status: Status) -> Status
+    ensures written { K.written sink.new ≡ K.written sink.old }
+    ensures never_falls { K.faults sink.old ≤ K.faults sink.new }
+    ensures status { IsFinished status (Rose (K.faults sink.old) (K.faults sink.new)) result }
+{
+    if matches!(status, Status::SinkFault | Status::NoMemory) {
+        return status;
+    }
+    match sink.finish() {
+        Ok(()) => status,
+        Err(SinkFault::Failed) => Status::SinkFault,
+        Err(SinkFault::NoMemory) => Status::NoMemory,
     }
 }
 

@@ -101,6 +101,10 @@ impl Sink for Slow {
         Ok(bytes.len().min(1))
     }
 
+    fn finish(&mut self) -> Result<(), SinkFault> {
+        Ok(())
+    }
+
     fn faults(&self) -> u64 {
         0
     }
@@ -299,7 +303,7 @@ fn a_real_file_is_fetched(rt: HostRuntime) -> Result<(), Fail> {
 
 #[test]
 fn a_piece_is_written(rt: HostRuntime) -> Result<(), Fail> {
-    let mut sink = StdSink::new(&rt);
+    let mut sink = StdSink::new(rt.alloc(), &rt);
     assert!(rt; put(&mut sink, b"a piece\n")? > 0);
     assert_eq!(rt; put(&mut sink, b"")?, 0);
     assert_eq!(rt; sink.faults(), 0);

@@ -24,6 +24,10 @@ abbrev pub IsPutIfEnd : {E : Type 0} → Result coded.Ending E → Option (List 
 IsPutIfEnd (Ok ending) old new SinkRose result = IsPutEnd (ending_of ending) old new SinkRose result
 IsPutIfEnd (Err refused) old new SinkRose result = (result ≡ NoMemory) × (new ≡ old)
 
+-- the status stands, or the sink failed to give on what it gathered, or had no memory for it
+abbrev pub IsFinished : Status → Type 0 → Status → Type 0
+IsFinished status SinkRose result = (result ≡ status) ⊎ (((result ≡ SinkFault) × SinkRose) ⊎ (result ≡ NoMemory))
+
 -- each clause of the top call
 pub record IsAnswer (shelf : Option (List ℕ → Option (List ℕ))) (words : List (List ℕ)) (fetched : Option (List (List ℕ))) (ShelfRose : Type 0) (old new : Option (List ℕ)) (SinkRose : Type 0) (result : Status) : Type 0 where
   pub ended : IsTrue (is_end result) → WritesEnd shelf words old new result
