@@ -1,0 +1,49 @@
+use Rattle.std.proofs.Common.{◌≡◌, get_or, set, Err, refl, sym, ap, subst, ◌∙◌, arith}
+use Rattle.std.proofs.lemmas.Result.{err_from_is_err_and}
+use Rattle.circus_world.specs.declared.slot.Slot.{Slot}
+use Rattle.circus_world.specs.Seen.Made.{IsMade}
+use Rattle.circus_world.specs.Seen.MadeAt.{IsMadeAt}
+use Rattle.circus_world.proofs.SlotLemmas.{slot_at}
+use Rattle.circus_world.proofs.world.make_at.Goals as goal
+
+pub index_mut-requires : goal.index_mut-requires
+index_mut-requires g c = omega (arith, c.from.ensures, c.requires.node)
+
+pub make_step-requires : goal.make_step-requires
+make_step-requires g c =
+    let slots = c.args.slots.now in
+    let slot : Slot g.row.M.Denot g.row.M-Paused.Denot = c.index_mut.result.now in
+    let there = slot_at slots.items c.args.node slot (omega (arith, c.requires.node, slots.ok.0)) (c.index_mut.ensures.value ∙ ap (λ k. get_or slots.items k slot) c.from.ensures) in
+    c.requires.can slot there
+
+pub returns-in-Err-Spent : goal.returns-in-Err-Spent
+returns-in-Err-Spent g c =
+    let slots = c.args.slots.now in
+    let slot : Slot g.row.M.Denot g.row.M-Paused.Denot = c.index_mut.result.now in
+    let there = slot_at slots.items c.args.node slot (omega (arith, c.requires.node, slots.ok.0)) (c.index_mut.ensures.value ∙ ap (λ k. get_or slots.items k slot) c.from.ensures) in
+    let M = g.M.Module in
+    let made = subst (λ f. IsMade M.declared M.turn c.args.at c.args.event c.index_mut.result.now c.make_step.new.self (Err f)) c.in-Err-Spent.field-0-is c.in-Err-Spent.ensures in
+    (refl, record { slot = slot; there = there; before = made.0; core = made.1; stepped_is = made.2 })
+
+pub returns-in_err-send : goal.returns-in_err-send
+returns-in_err-send g c =
+    let M = g.M.Module in
+    let new = set c.args.slots.now.items c.from.result c.make_step.new.self in
+    let p = err_from_is_err_and c.from_residual.result c.from_residual.ensures.1 in
+    subst (λ r. IsMadeAt M.declared M.turn c.args.at c.args.node c.args.event c.args.slots.now.items c.args.sent.now new c.send.new.sent r) (sym p.1)
+    (subst (λ f. IsMadeAt M.declared M.turn c.args.at c.args.node c.args.event c.args.slots.now.items c.args.sent.now new c.send.new.sent (Err f)) (sym p.2) tt)
+
+pub returns : goal.returns
+returns g c =
+    let slots = c.args.slots.now in
+    let slot : Slot g.row.M.Denot g.row.M-Paused.Denot = c.index_mut.result.now in
+    let there = slot_at slots.items c.args.node slot (omega (arith, c.requires.node, slots.ok.0)) (c.index_mut.ensures.value ∙ ap (λ k. get_or slots.items k slot) c.from.ensures) in
+    record {
+      slot = slot;
+      there = there;
+      next = c.make_step.new.self;
+      gives = c.in-Ok.gives;
+      made = c.in-Ok.ensures;
+      new_is = ap (λ k. set c.args.slots.now.items k c.make_step.new.self) c.from.ensures;
+      after_is = c.in_ok-send.ensures;
+    }
