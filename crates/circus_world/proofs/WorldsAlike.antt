@@ -20,10 +20,9 @@ use Rattle.circus_schedule.specs.declared.line.Line.TheVariants.{Deliver, Tick, 
 use Rattle.circus_alike.specs.Alike.{declared_of, turn_of, first_of, ended_as}
 use Rattle.circus_alike.proofs.NodesAlike.{node_stepped_as, node_booted_as}
 use Rattle.circus_world.specs.declared.sent.Sent.{Sent}
-use Rattle.circus_world.specs.declared.cause.Cause.{Cause}
+use Rattle.circus_world.specs.declared.cause.Cause.TheVariants as cause
 use Rattle.circus_world.specs.WorldState.{WorldState, Standing, is_live, has_crashed, has_joined}
 use Rattle.circus_world.specs.Legal.{refusal, unless_live, unless_told, is_spare}
-use Rattle.circus_world.specs.Legal as legal
 use Rattle.circus_world.specs.Course as course
 use Rattle.circus_world.specs.Course.{Stepped}
 use Rattle.circus_world.specs.Boot.{before_any, joined_by, then_others, all_booted}
@@ -63,18 +62,18 @@ module _ {M : Type 0} (declared : M → Signature) (turn : M → List ValueTree 
   -- ---- which lines may be stepped
 
   unless_live_as : (w : WorldState M) (node : ℕ) → unless_live (seen w) node ≡ unless_live w node
-  unless_live_as w node = ap (λ b. if b then None else Some (legal.NotLive node)) (live_as w node)
+  unless_live_as w node = ap (λ b. if b then None else Some (cause.NotLive node)) (live_as w node)
 
   pub refusal_as : (line : Line) (w : WorldState M) → refusal (seen w) line ≡ refusal w line
   refusal_as (Deliver number) w = refl
   refusal_as (Tick node) w = unless_live_as w node
   refusal_as (Crash node) w = unless_live_as w node
   refusal_as (Down node told) w =
-      (λ i. if crashed_as w node i then unless_live_as w told i else Some (legal.NotCrashed node))
+      (λ i. if crashed_as w node i then unless_live_as w told i else Some (cause.NotCrashed node))
   refusal_as (Join node) w =
       (λ i. if is_spare w.deployment node
-        then (if live_as w node i then (if joined_as w node i then Some (legal.AlreadyJoined node) else None) else Some (legal.NotLive node))
-        else Some (legal.NotSpare node))
+        then (if live_as w node i then (if joined_as w node i then Some (cause.AlreadyJoined node) else None) else Some (cause.NotLive node))
+        else Some (cause.NotSpare node))
 
   -- ---- steps
 
@@ -151,6 +150,15 @@ module _ {M : Type 0} (declared : M → Signature) (turn : M → List ValueTree 
       ∙ ap (whole (map one w.nodes ++ one (record { node = booted.0; crashed = None; joins = false }) ∷ [])) (sym (length-map w.nodes one))
   joined_by_as w (Err peer) = ap (λ count. Err (count, peer)) (sym (length-map w.nodes one))
 
+  -- and then others
+  then_others_as : (others : List (Option M))
+      → ((w : WorldState M) → step_as declared turn first (all_booted declared turn first others w)
+        ≡ all_booted declared_of turn_of first_of (map (option_map (behaviour declared turn first)) others) (seen w))
+      → (s : Stepped M) → step_as declared turn first (then_others (all_booted declared turn first others) s)
+        ≡ then_others (all_booted declared_of turn_of first_of (map (option_map (behaviour declared turn first)) others)) (step_as declared turn first s)
+  then_others_as others same (Ok next) = same next
+  then_others_as others same (Err spent) = refl
+
   pub all_booted_as : (hosted : List (Option M)) (w : WorldState M)
       → step_as declared turn first (all_booted declared turn first hosted w)
       ≡ all_booted declared_of turn_of first_of (map (option_map (behaviour declared turn first)) hosted) (seen w)
@@ -158,14 +166,9 @@ module _ {M : Type 0} (declared : M → Signature) (turn : M → List ValueTree 
   all_booted_as (h ∷ others) w =
       let end = booting.booted declared turn first w.deployment h (length w.nodes) in
       let rest = map (option_map (behaviour declared turn first)) others in
-      by_step (joined_by w end)
+      then_others_as others (all_booted_as others) (joined_by w end)
       ∙ ap (then_others (all_booted declared_of turn_of first_of rest)) (
           joined_by_as w end
           ∙ ap (joined_by (seen w)) (
               node_booted_as declared turn first w.deployment h (length w.nodes)
               ∙ ap (booting.booted declared_of turn_of first_of w.deployment (option_map (behaviour declared turn first) h)) (sym (length-map w.nodes one))))
-    where
-      by_step : (s : Stepped M) → step_as declared turn first (then_others (all_booted declared turn first others) s)
-          ≡ then_others (all_booted declared_of turn_of first_of (map (option_map (behaviour declared turn first)) others)) (step_as declared turn first s)
-      by_step (Ok next) = all_booted_as others next
-      by_step (Err spent) = refl

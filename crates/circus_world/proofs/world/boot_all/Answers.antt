@@ -4,15 +4,9 @@ use Rattle.circus_world.specs.Seen.MadeAt.{AreBooted}
 use Rattle.circus_world.proofs.BootLemmas.{have_none, have_next, have_all, fault_booted}
 use Rattle.circus_world.proofs.world.boot_all.Goals as goal
 
-pub overflow_cast-node-end : goal.overflow_cast-node-end
-overflow_cast-node-end g c = omega (arith, c.len-node-end.ensures, c.requires.deployment.few_nodes)
-
 pub loop-node-init : goal.loop-node-init
 loop-node-init g c =
     have_none g.M.Module.declared g.M.Module.turn g.M.Module.first c.args.deployment.now c.args.modules.now c.args.slots.now.items c.args.sent.now c.requires.slots c.requires.sent
-
-pub boot_at-requires-clause-within : goal.boot_at-requires-clause-within
-boot_at-requires-clause-within g c = omega (arith, c.loop-node-test.true, c.len-node-end.ensures)
 
 pub returns-in_err-boot_at : goal.returns-in_err-boot_at
 returns-in_err-boot_at g c =

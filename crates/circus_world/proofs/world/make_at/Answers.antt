@@ -6,9 +6,6 @@ use Rattle.circus_world.specs.Seen.MadeAt.{IsMadeAt}
 use Rattle.circus_world.proofs.SlotLemmas.{slot_at}
 use Rattle.circus_world.proofs.world.make_at.Goals as goal
 
-pub index_mut-requires : goal.index_mut-requires
-index_mut-requires g c = omega (arith, c.from.ensures, c.requires.node)
-
 pub make_step-requires : goal.make_step-requires
 make_step-requires g c =
     let slots = c.args.slots.now in
@@ -24,14 +21,6 @@ returns-in-Err-Spent g c =
     let M = g.M.Module in
     let made = subst (λ f. IsMade M.declared M.turn c.args.at c.args.event c.index_mut.result.now c.make_step.new.self (Err f)) c.in-Err-Spent.field-0-is c.in-Err-Spent.ensures in
     (refl, record { slot = slot; there = there; before = made.0; core = made.1; stepped_is = made.2 })
-
-pub returns-in_err-send : goal.returns-in_err-send
-returns-in_err-send g c =
-    let M = g.M.Module in
-    let new = set c.args.slots.now.items c.from.result c.make_step.new.self in
-    let p = err_from_is_err_and c.from_residual.result c.from_residual.ensures.1 in
-    subst (λ r. IsMadeAt M.declared M.turn c.args.at c.args.node c.args.event c.args.slots.now.items c.args.sent.now new c.send.new.sent r) (sym p.1)
-    (subst (λ f. IsMadeAt M.declared M.turn c.args.at c.args.node c.args.event c.args.slots.now.items c.args.sent.now new c.send.new.sent (Err f)) (sym p.2) tt)
 
 pub returns : goal.returns
 returns g c =

@@ -7,10 +7,6 @@ use Rattle.circus_world.proofs.BootLemmas.{fault_of_world}
 use Rattle.circus_world.proofs.SoundLemmas.{booted_sound}
 use Rattle.circus_world.proofs.world.World.boot.Goals as goal
 
-pub boot_all-requires-clause-modules : goal.boot_all-requires-clause-modules
-boot_all-requires-clause-modules g c =
-    subst (λ (l : List g.row.M.Denot). AreOfTroupes c.args.deployment (map g.M.Module.declared l)) (sym c.as_slice.ensures.value) c.requires.modules
-
 pub returns-in_err-boot_all : goal.returns-in_err-boot_all
 returns-in_err-boot_all g c =
     let M = g.M.Module in
@@ -29,9 +25,3 @@ invariant_of-result g c =
       h.full,
       booted_sound M.declared M.turn M.first c.args.deployment c.args.modules.items h.hosted _ c.requires.deployment c.requires.modules h.hosts h.booted_is,
     )
-
-pub returns : goal.returns
-returns g c =
-    let M = g.M.Module in
-    let h = subst (λ (l : List g.row.M.Denot). HaveBooted M.declared M.turn M.first c.args.deployment l c.boot_all.new.slots.items c.boot_all.new.sent) c.as_slice.ensures.value c.in_ok-boot_all.ensures in
-    (h.hosted, h.hosts, h.booted_is)

@@ -9,10 +9,6 @@ use Rattle.circus_world.proofs.SoundLemmas.{comes_sound}
 use Rattle.circus_world.proofs.WorldLemmas.{slot_below, made_full, made_is, fault_followed, can_make}
 use Rattle.circus_world.proofs.world.World.comes_to.Goals as goal
 
-pub overflow_add-at : goal.overflow_add-at
-overflow_add-at g c =
-    omega (arith, ap (λ (w : WorldState g.row.M.Denot). w.steps) c.self.view_is, c.requires.few)
-
 pub make_at-requires-clause-node : goal.make_at-requires-clause-node
 make_at-requires-clause-node g c =
     let i = c.self.inside in

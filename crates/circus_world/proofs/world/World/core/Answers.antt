@@ -21,9 +21,6 @@ unreachable-requires g c =
     let clash : ◌≡◌ {A = Option (NodeState g.row.M.Denot)} None (Some core.0) = sym c.in-None.is ∙ core.1 in
     cc
 
-pub unreachable-unreachable : goal.unreachable-unreachable
-unreachable-unreachable g c = c.unreachable.type_inv
-
 pub returns : goal.returns
 returns g c =
     let i = c.self.inside in

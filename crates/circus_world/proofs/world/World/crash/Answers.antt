@@ -7,10 +7,6 @@ use Rattle.circus_world.proofs.SoundLemmas.{passed_sound, noted_sound}
 use Rattle.circus_world.proofs.WorldLemmas.{slot_below, slot_in, noted_full, noted_is}
 use Rattle.circus_world.proofs.world.World.crash.Goals as goal
 
-pub overflow_add-steps : goal.overflow_add-steps
-overflow_add-steps g c =
-    omega (arith, ap (λ (w : WorldState g.row.M.Denot). w.steps) c.self.view_is, c.requires.few)
-
 pub index_mut-requires : goal.index_mut-requires
 index_mut-requires g c =
     let i = c.self.inside in

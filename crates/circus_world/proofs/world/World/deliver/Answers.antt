@@ -13,14 +13,6 @@ use Rattle.circus_world.proofs.ComeLemmas.{goes_there, datagram_may_come}
 use Rattle.circus_world.proofs.LegalLemmas.{live_so, down_so}
 use Rattle.circus_world.proofs.world.World.deliver.Goals as goal
 
-pub returns-in_default : goal.returns-in_default
-returns-in_default g c =
-    let M = g.M.Module in
-    let w = c.args.self in
-    let none : slice_get w.sent c.args.number ≡ None =
-      sym (ap (λ (v : WorldState g.row.M.Denot). slice_get v.sent c.args.number) c.self.view_is) ∙ sym c.get.ensures ∙ ap (λ o. option_copied o) c.in_default.is in
-    ap (λ (o : Option Sent). option_map_or (λ sent. delivered M.declared M.turn sent w) o (Ok w)) none
-
 pub crashed-requires : goal.crashed-requires
 crashed-requires g c =
     let w = c.args.self in
@@ -38,13 +30,6 @@ returns-then-is_some g c =
     ap (λ (o : Option Sent). option_map_or (λ s. delivered M.declared M.turn s w) o (Ok w)) there
     ∙ ap (λ (live : Bool). if live then comes_to M.declared M.turn sent.to (comes.Datagram sent.from sent.bytes) w else Ok (passed w)) down
     ∙ ap Ok (sym c.pass.ensures)
-
-pub returns-in_err-bytes : goal.returns-in_err-bytes
-returns-in_err-bytes g c =
-    let M = g.M.Module in
-    let p = err_from_is_err_and c.from_residual.result c.from_residual.ensures.1 in
-    subst (λ r. IsFollowed r (stepped M.declared M.turn (Deliver c.args.number) c.args.self)) (sym p.1)
-    (subst (λ f. IsFollowed (Err f) (stepped M.declared M.turn (Deliver c.args.number) c.args.self)) (sym p.2) tt)
 
 pub comes_to-requires-clause-node : goal.comes_to-requires-clause-node
 comes_to-requires-clause-node g c =

@@ -27,6 +27,3 @@ comes_to-requires-in-Join-clause-node g c =
     let note : Standing g.row.M.Denot → Standing g.row.M.Denot = λ s. record s { joins = true } in
     let named : c.in-Join.node < length c.args.self.nodes = subst (NamesBelow (length c.args.self.nodes)) c.in-Join.is c.requires.named in
     omega (arith, ap (λ (w : WorldState g.row.M.Denot). length w.nodes) c.tell_to_join.ensures, noted_length note c.in-Join.node c.args.self, named)
-
-pub comes_to-requires-in-Join-clause-few : goal.comes_to-requires-in-Join-clause-few
-comes_to-requires-in-Join-clause-few g c = omega (arith, ap (λ (w : WorldState g.row.M.Denot). w.steps) c.tell_to_join.ensures, c.requires.few)

@@ -6,11 +6,6 @@ use Rattle.circus_world.proofs.RingLemmas.{seen, rings, some_node}
 use Rattle.circus_world.proofs.SlotLemmas.{slot_at, length_full, full_at, core_of}
 use Rattle.circus_world.proofs.world.World.ring_views.Goals as goal
 
-pub index-requires : goal.index-requires
-index-requires g c =
-    let i = c.self.inside in
-    omega (arith, some_node _ c.self.invariant.1, length_full i.slots.items c.self.invariant.0, i.slots.ok.0)
-
 pub unreachable-requires : goal.unreachable-requires
 unreachable-requires g c =
     let i = c.self.inside in
@@ -20,9 +15,6 @@ unreachable-requires g c =
     let clash : ◌≡◌ {A = Option (NodeState g.row.M.Denot)} None (Some core.0) = sym c.in_default.is ∙ core.1 in
     cc
 
-pub unreachable-unreachable : goal.unreachable-unreachable
-unreachable-unreachable g c = c.unreachable.type_inv
-
 pub unreachable-requires-in-None : goal.unreachable-requires-in-None
 unreachable-requires-in-None g c =
     let i = c.self.inside in
@@ -31,9 +23,6 @@ unreachable-requires-in-None g c =
     let views = rings _ c.in-Some.core c.self.invariant.1 (core_of i.slots.items 0 c.index.result.now c.in-Some.core c.self.invariant.0 there c.in-Some.is) in
     let clash : false ≡ true = ap (λ o. is_some o) c.in-None.ensures ∙ views in
     cc
-
-pub unreachable-unreachable-in-None : goal.unreachable-unreachable-in-None
-unreachable-unreachable-in-None g c = c.unreachable-in-None.type_inv
 
 pub returns : goal.returns
 returns g c =
