@@ -21,7 +21,7 @@ module _ (names : Names) (from : ℕ) (all : List Sent) where
       let within : number - from < length (drop from all) = omega (arith, since, below, length-drop from all) in
       let next : number + 1 - from ≡ (number - from) + 1 = omega (arith, since) in
       let at : sent ≡ get_or (drop from all) (number - from) sent =
-        is ∙ ap (λ k. get_or all k sent) (sym here) ∙ sym (get_or-drop from all (number - from) sent) in
+      is ∙ ap (λ k. get_or all k sent) (sym here) ∙ sym (get_or-drop from all (number - from) sent) in
       ap (λ k. sent_lines names from (take k (drop from all))) next
       ∙ item_more (sent_lines names) (sent_line names) (λ n. refl) (λ n x xs. refl) from (drop from all) (number - from) sent within at
       ∙ ap (λ k. lines_before number ++ sent_line names k sent) here
@@ -36,7 +36,7 @@ module _ (names : Names) (from : ℕ) (all : List Sent) where
       let front = take (number - from) (drop from all) in
       let others = drop (number - from) (drop from all) in
       let split : sent_lines names from (front ++ others) ≡ sent_lines names from front ++ sent_lines names (from + length front) others =
-        all_append (sent_lines names) (sent_line names) (λ n. refl) (λ n x xs. refl) from front others in
+      all_append (sent_lines names) (sent_line names) (λ n. refl) (λ n x xs. refl) from front others in
       let whole : sent_lines names from front ++ sent_lines names (from + length front) others ≡ sent_lines names from (drop from all) =
-        sym split ∙ ap (sent_lines names from) (take-append-drop (number - from) (drop from all)) in
+      sym split ∙ ap (sent_lines names from) (take-append-drop (number - from) (drop from all)) in
       subst (WritesPart old new) whole (WritesPart-longer old new (sent_lines names from front) (sent_lines names (from + length front) others) w)

@@ -64,8 +64,8 @@ WritesPart-take old new text at e =
 pub WritesPart-behind : (old middle new : Option (List ℕ)) (text : List ℕ) (at count : ℕ) → middle ≡ told_more old (take at text) → WritesPart middle new (take count (drop at text)) → WritesPart old new text
 WritesPart-behind old middle new text at count e w =
     let behind : WritesPart middle new (drop at text) =
-      subst (WritesPart middle new) (take-append-drop count (drop at text))
-      (WritesPart-longer middle new (take count (drop at text)) (drop count (drop at text)) w) in
+    subst (WritesPart middle new) (take-append-drop count (drop at text))
+    (WritesPart-longer middle new (take count (drop at text)) (drop count (drop at text)) w) in
     subst (WritesPart old new) (take-append-drop at text) (WritesPart-joined old middle new (take at text) (drop at text) e behind)
 
 -- all that stands behind a place

@@ -101,12 +101,7 @@ impl<M: Module> Running<M> {
     ///
     /// `Illegal` and `Spent` as `World::step` answers them, where nothing was put; `SinkFailed` only where the sink's count of
     /// faults rose, and `NoMemory`.
-    pub fn line<K: Sink>(
-        self,
-        alloc: Global,
-        line: &Line,
-        sink: &mut K,
-    ) -> Result<Self, RunFault>
+    pub fn line<K: Sink>(self, alloc: Global, line: &Line, sink: &mut K) -> Result<Self, RunFault>
         requires ascii { All (λ h. IsAscii (host_name h)) self.deployment.nodes }
         requires named { NamesBelow (length self.nodes) line.now }
         requires few { self.steps < 18446744073709551615 }

@@ -1,4 +1,4 @@
-use Rattle.std.proofs.Common.{◌≡◌, ℕ, ◌≤◌, ◌+◌, List, [], ◌++◌, length, drop, sym, ap, subst, ◌∙◌, arith}
+use Rattle.std.proofs.Common.{◌≡◌, ◌≤◌, ◌+◌, List, [], ◌++◌, length, drop, sym, ap, subst, ◌∙◌, arith}
 use Rattle.circus_record.specs.Naming.{names_of}
 use Rattle.circus_world.specs.declared.sent.Sent.{Sent}
 use Rattle.circus_report.specs.Report.{sent_line, sent_lines}
@@ -21,7 +21,7 @@ returns-in_err-line-clause-put g c =
     let number = c.loop-number.number in
     IsPut-no_memory c.from_residual.result (sent_from from w) old new c.from_residual.ensures.1
     (subst (λ (l : List Sent). WritesPart old new (sent_lines names from (drop from l))) all_is
-      (WritesPart-lines names from all old new number (WritesPart-all old new (lines_before names from all number) c.loop-number.invariant.written)))
+    (WritesPart-lines names from all old new number (WritesPart-all old new (lines_before names from all number) c.loop-number.invariant.written)))
 
 pub returns-in_err-put_line-clause-put : goal.returns-in_err-put_line-clause-put
 returns-in_err-put_line-clause-put g c =
@@ -37,15 +37,15 @@ returns-in_err-put_line-clause-put g c =
     let sent : Sent = c.index-sent-number.result in
     let line = c.as_slice.result.now in
     let line_is : line ≡ sent_line names number sent =
-      c.as_slice.ensures ∙ c.in_ok-line.ensures ∙ ap (λ d. sent_line (names_of d.nodes []) number sent) c.deployment.ensures.value in
+    c.as_slice.ensures ∙ c.in_ok-line.ensures ∙ ap (λ d. sent_line (names_of d.nodes []) number sent) c.deployment.ensures.value in
     let more = lines_before-more names from all number sent c.loop-number.auto.number c.loop-number-test.true c.index-sent-number.is in
     let part : WritesPart old new (lines_before names from all number ++ line) =
-      WritesPart-joined old middle new (lines_before names from all number) line c.loop-number.invariant.written c.in_err-put_line.ensures.part in
+    WritesPart-joined old middle new (lines_before names from all number) line c.loop-number.invariant.written c.in_err-put_line.ensures.part in
     let next : WritesPart old new (lines_before names from all (number + 1)) =
-      subst (WritesPart old new) (ap (λ l. lines_before names from all number ++ l) line_is ∙ sym more) part in
+    subst (WritesPart old new) (ap (λ l. lines_before names from all number ++ l) line_is ∙ sym more) part in
     IsPut-stopped c.from_residual-in_err-put_line.result (sent_from from w) old new c.in_err-put_line.field-0.0 c.from_residual-in_err-put_line.ensures.1
     (subst (λ (l : List Sent). WritesPart old new (sent_lines names from (drop from l))) all_is
-      (WritesPart-lines names from all old new (number + 1) next))
+    (WritesPart-lines names from all old new (number + 1) next))
 
 pub loop-number-preserved : goal.loop-number-preserved
 loop-number-preserved g c =
@@ -59,7 +59,7 @@ loop-number-preserved g c =
     let sent : Sent = c.index-sent-number.result in
     let line = c.as_slice.result.now in
     let line_is : line ≡ sent_line names number sent =
-      c.as_slice.ensures ∙ c.in_ok-line.ensures ∙ ap (λ d. sent_line (names_of d.nodes []) number sent) c.deployment.ensures.value in
+    c.as_slice.ensures ∙ c.in_ok-line.ensures ∙ ap (λ d. sent_line (names_of d.nodes []) number sent) c.deployment.ensures.value in
     let more = lines_before-more names from all number sent c.loop-number.auto.number c.loop-number-test.true c.index-sent-number.is in
     record {
       written =

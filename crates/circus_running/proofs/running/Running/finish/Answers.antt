@@ -26,7 +26,7 @@ returns-in_err-put_lines-clause-put g c =
     let old = g.K.Sink.written c.args.sink.now in
     let new = g.K.Sink.written c.put_lines.new.sink in
     let whole : c.as_slice.result.now ≡ text =
-      c.as_slice.ensures ∙ c.in_ok-rest.ensures ∙ ap (λ w. rest_text (names_of w.deployment.nodes names) w) c.self.view_is in
+    c.as_slice.ensures ∙ c.in_ok-rest.ensures ∙ ap (λ w. rest_text (names_of w.deployment.nodes names) w) c.self.view_is in
     IsPut-stopped c.from_residual-in_err-put_lines.result text old new c.in_err-put_lines.field-0.0 c.from_residual-in_err-put_lines.ensures.1
     (subst (WritesPart old new) whole c.in_err-put_lines.ensures.part)
 

@@ -35,5 +35,5 @@ returns-in_err-put_sent-clause-run g c =
     let before : c.len-before.result ≡ length w.sent = c.len-before.ensures ∙ ap length c.sent.ensures in
     subst (λ (v : WorldState g.row.M.Denot). IsRun declared turn line v old new c.from_residual.result) c.self.view_is
     (IsRun-cut declared turn line w c.in-Ok.world c.in-Ok.ensures.0 c.in-Ok.ensures.1 c.from_residual.result c.put_sent.result c.in_err-put_sent.field-0.0 old new
-      c.from_residual.ensures.1 c.in_err-put_sent.was
-      (subst (λ from. IsPut (sent_from from c.in-Ok.world) old new c.put_sent.result) before c.put_sent.ensures.put))
+    c.from_residual.ensures.1 c.in_err-put_sent.was
+    (subst (λ from. IsPut (sent_from from c.in-Ok.world) old new c.put_sent.result) before c.put_sent.ensures.put))
