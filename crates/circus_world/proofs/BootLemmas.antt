@@ -1,28 +1,23 @@
 -- The nodes of a world boot one by one.
-use Rattle.std.proofs.Common.{◌≡◌, ℕ, zero, suc, ◌+◌, ◌-◌, ◌<◌, ◌≤◌, ◌⊎◌, inl, inr, false, List, [], ◌∷◌, ◌++◌, length, map, All, Option, None, Some, Result, Ok, Err, refl, sym, ap, subst, ◌∙◌, arith, append_assoc, add-zero}
+use Rattle.std.proofs.Common.{◌≡◌, ℕ, zero, suc, ◌+◌, ◌-◌, ◌<◌, ◌⊎◌, inl, inr, false, List, [], ◌∷◌, ◌++◌, length, map, Option, None, Some, Ok, Err, refl, sym, ap, subst, ◌∙◌, arith, append_assoc, add-zero}
 use Rattle.std.specs.Prelude.{IsSome, slice_get, option_map, option_and_then}
 use Rattle.std.proofs.lemmas.List.{append-nil, length-append}
-use Rattle.std.proofs.lemmas.List.Elements.{All-nil, All-append}
+use Rattle.std.proofs.lemmas.List.Elements.{All-nil}
 use Rattle.circus_value.specs.ValueTree.{ValueTree}
 use Rattle.circus_value.specs.declared.outcome.Outcome.{Outcome}
-use Rattle.circus_collate.specs.Deployment.{IsDeployment}
 use Rattle.circus_collate.specs.declared.deployment.Deployment.{Deployment}
 use Rattle.circus_model.specs.NextTurn.{NextTurn}
 use Rattle.circus_model.specs.declared.signature.Signature.{Signature}
 use Rattle.circus_performing.specs.Record.{behaviour}
-use Rattle.circus_node.specs.declared.event.Outputs.{Outputs}
-use Rattle.circus_node.specs.NodeState.{NodeState}
-use Rattle.circus_node.specs.Node.{IsNodeOf}
 use Rattle.circus_node.specs.Accepting.{troupe_at}
 use Rattle.circus_node.specs.Booting.{booted, IsHosted}
-use Rattle.circus_node.specs.Step as node_step
 use Rattle.circus_world.specs.declared.sent.Sent.{Sent}
 use Rattle.circus_world.specs.declared.slot.Slot.{Slot}
 use Rattle.circus_world.specs.declared.world.BootFault.{BootFault}
 use Rattle.circus_world.specs.declared.world.BootFault.TheVariants as boot_fault
 use Rattle.circus_world.specs.WorldState.{WorldState, Standing}
 use Rattle.circus_world.specs.Course.{sent_by, Stepped}
-use Rattle.circus_world.specs.Boot.{before_any, joined_by, then_others, all_booted, AreHosted}
+use Rattle.circus_world.specs.Boot.{before_any, joined_by, then_others, all_booted}
 use Rattle.circus_world.specs.Answers.{IsBooted}
 use Rattle.circus_world.specs.Seen.Slots.{standing, standings, AreFull, world_of}
 use Rattle.circus_world.specs.Seen.MadeAt.{IsBootedAt, HasBootedAt, AreBooted, HaveBooted, IsSpentAtBoot, IsSpent}
@@ -60,7 +55,7 @@ module _ {M P : Type 0} (declared : M → Signature) (turn : M → List ValueTre
     pub hosted_count : length hosted ≡ count
     pub hosts : (node : ℕ) (own : Option M) → slice_get hosted node ≡ Some own → IsHosted declared turn first d modules node own
     pub on : (others : List (Option M)) → all_booted declared turn first (hosted ++ others) (before_any d modules)
-      ≡ all_booted declared turn first others (world_of d modules slots sent 0)
+        ≡ all_booted declared turn first others (world_of d modules slots sent 0)
     pub slots_count : length slots ≡ count
     pub full : AreFull slots
 
@@ -101,9 +96,9 @@ module _ {M P : Type 0} (declared : M → Signature) (turn : M → List ValueTre
         hosted_count = length-append some.hosted (h.own ∷ []) ∙ ap (λ k. k + 1) some.hosted_count;
         hosts = λ node own found. by_module node own (get_push some.hosted node h.own own found);
         on = λ others.
-          ap (λ l. all_booted declared turn first l (before_any d modules)) (append_assoc some.hosted (h.own ∷ []) others)
-          ∙ some.on (h.own ∷ others)
-          ∙ ap (λ s. then_others (all_booted declared turn first others) s) (next_world d modules count slots new sent after some h);
+            ap (λ l. all_booted declared turn first l (before_any d modules)) (append_assoc some.hosted (h.own ∷ []) others)
+            ∙ some.on (h.own ∷ others)
+            ∙ ap (λ s. then_others (all_booted declared turn first others) s) (next_world d modules count slots new sent after some h);
         slots_count = ap length h.new_is ∙ length-append slots (slot ∷ []) ∙ ap (λ k. k + 1) some.slots_count;
         full = subst (λ (l : List (Slot M P)). AreFull l) (sym h.new_is) (more_full slots slot h.core some.full refl);
       }
@@ -142,10 +137,10 @@ module _ {M P : Type 0} (declared : M → Signature) (turn : M → List ValueTre
           each = λ node own found. by_place node own (get_append some.hosted rest node own found);
         };
         booted_is =
-          some.on rest
-          ∙ ap (λ k. then_others (all_booted declared turn first (hosted_from declared turn first d modules (suc count) (length d.nodes - suc count))) (joined_by w (booted declared turn first d h.own k))) place
-          ∙ ap (λ e. then_others (all_booted declared turn first (hosted_from declared turn first d modules (suc count) (length d.nodes - suc count))) (joined_by w e)) h.booted_is
-          ∙ ap failure place;
+            some.on rest
+            ∙ ap (λ k. then_others (all_booted declared turn first (hosted_from declared turn first d modules (suc count) (length d.nodes - suc count))) (joined_by w (booted declared turn first d h.own k))) place
+            ∙ ap (λ e. then_others (all_booted declared turn first (hosted_from declared turn first d modules (suc count) (length d.nodes - suc count))) (joined_by w e)) h.booted_is
+            ∙ ap failure place;
       }
     where
       behind : (node place : ℕ) (own : Option M) → node ≡ count + place
@@ -156,6 +151,7 @@ module _ {M P : Type 0} (declared : M → Signature) (turn : M → List ValueTre
       behind node (suc place) own is at =
           let same : suc count + place ≡ node = omega (arith, is) in
           subst (λ k. IsHosted declared turn first d modules k own) same (hosts_from declared turn first d modules (suc count) (length d.nodes - suc count) place own at)
+
       by_place : (node : ℕ) (own : Option M)
           → (slice_get some.hosted node ≡ Some own) ⊎ ((place : ℕ) × (node ≡ length some.hosted + place) × (slice_get (h.own ∷ hosted_from declared turn first d modules (suc count) (length d.nodes - suc count)) place ≡ Some own))
           → IsHosted declared turn first d modules node own

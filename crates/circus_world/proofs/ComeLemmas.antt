@@ -1,17 +1,22 @@
 -- What a line brings to a node can come to it.
-use Rattle.std.proofs.Common.{◌≡◌, ◌≢◌, ℕ, ◌-◌, ◌<◌, ◌≤◌, Bool, true, false, length, Option, None, Some, refl, sym, ap, subst, ◌∙◌, arith}
+use Rattle.std.proofs.Common.{◌≡◌, ◌≢◌, ℕ, ◌<◌, Bool, true, false, List, length, Option, None, Some, Ok, refl, sym, ap, subst, ◌∙◌, arith}
 use Rattle.std.specs.Prelude.{slice_get, is_none, is_some, if◌then◌else◌}
 use Rattle.std.specs.Option.{option_map_or}
+use Rattle.circus_value.specs.ValueTree.{ValueTree}
+use Rattle.circus_value.specs.declared.outcome.Outcome.{Outcome}
+use Rattle.circus_model.specs.NextTurn.{NextTurn}
+use Rattle.circus_model.specs.declared.signature.Signature.{Signature}
 use Rattle.circus_wire.specs.Wire.{IsOther}
 use Rattle.circus_node.specs.declared.event.Event.{Event}
 use Rattle.circus_node.specs.declared.event.Event.TheVariants as comes
 use Rattle.circus_node.specs.Step.{CanCome}
-use Rattle.circus_schedule.specs.declared.line.Line.TheVariants.{Down}
+use Rattle.circus_schedule.specs.declared.line.Line.TheVariants.{Deliver, Down}
 use Rattle.circus_world.specs.declared.sent.Sent.{Sent}
 use Rattle.circus_world.specs.declared.cause.Cause.{Cause}
 use Rattle.circus_world.specs.declared.cause.Cause.TheVariants.{NotCrashed, NotLive}
 use Rattle.circus_world.specs.WorldState.{WorldState, Standing, is_live, has_crashed}
 use Rattle.circus_world.specs.Legal.{refusal, unless_live}
+use Rattle.circus_world.specs.Course.{passed, comes_to, delivered, stepped}
 use Rattle.circus_world.specs.Lines.{IsBetween}
 use Rattle.circus_world.specs.Seen.Coming.{MayCome}
 use Rattle.circus_world.specs.Seen.Sound.{IsSound}
@@ -66,3 +71,11 @@ module _ {M : Type 0} where
       by_node : (o : Option (Standing M)) → option_map_or (λ (s : Standing M). is_none s.crashed) o false ≡ true → option_map_or (λ (s : Standing M). is_some s.crashed) o false ≡ true → ⊥
       by_node None live crashed = let clash : false ≡ true = live in cc
       by_node (Some s) live crashed = not_both s.crashed live crashed
+
+module _ {M : Type 0} (declared : M → Signature) (turn : M → List ValueTree → ℕ → List ValueTree → List Outcome → NextTurn) where
+  -- a datagram is delivered, or lost
+  pub delivered_at : (w : WorldState M) (number : ℕ) (sent : Sent) (live : Bool) → slice_get w.sent number ≡ Some sent → is_live w sent.to ≡ live
+      → stepped declared turn (Deliver number) w ≡ (if live then comes_to declared turn sent.to (comes.Datagram sent.from sent.bytes) w else Ok (passed w))
+  delivered_at w number sent live there is =
+      ap (λ (o : Option Sent). option_map_or (λ s. delivered declared turn s w) o (Ok w)) there
+      ∙ ap (λ (b : Bool). if b then comes_to declared turn sent.to (comes.Datagram sent.from sent.bytes) w else Ok (passed w)) is

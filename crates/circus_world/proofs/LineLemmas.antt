@@ -1,5 +1,5 @@
 -- What holds of a world that lines led to.
-use Rattle.std.proofs.Common.{◌≡◌, ℕ, suc, ◌+◌, ◌<◌, ◌≤◌, Bool, true, false, List, [], ◌∷◌, ◌++◌, length, map, set, All, Option, None, Some, Result, Ok, Err, refl, sym, ap, subst, ◌∙◌, arith, append_assoc, add-zero, ltb-true}
+use Rattle.std.proofs.Common.{◌≡◌, ℕ, ◌+◌, ◌<◌, ◌≤◌, Bool, true, false, List, [], ◌∷◌, ◌++◌, length, map, All, Option, None, Some, Ok, Err, refl, sym, ap, subst, ◌∙◌, arith, append_assoc, add-zero, ltb-true}
 use Rattle.std.specs.Prelude.{AllPairs, slice_get, is_none, nat_lt, if◌then◌else◌}
 use Rattle.std.specs.Option.{option_map_or}
 use Rattle.std.proofs.lemmas.List.{append-nil}
@@ -13,7 +13,6 @@ use Rattle.circus_model.specs.NextTurn.{NextTurn}
 use Rattle.circus_model.specs.declared.signature.Signature.{Signature}
 use Rattle.circus_node.specs.declared.event.Event.{Event}
 use Rattle.circus_node.specs.declared.event.Event.TheVariants as comes
-use Rattle.circus_node.specs.declared.event.Give.{Give}
 use Rattle.circus_node.specs.Booting.{AreOfTroupes, booted}
 use Rattle.circus_node.specs.Step as node_step
 use Rattle.circus_schedule.specs.declared.line.Line.{Line}
@@ -22,8 +21,7 @@ use Rattle.circus_world.specs.declared.cause.Cause.{Cause}
 use Rattle.circus_world.specs.declared.cause.Cause.TheVariants.{NoDatagram}
 use Rattle.circus_world.specs.declared.sent.Sent.{Sent}
 use Rattle.circus_world.specs.WorldState.{WorldState, Standing, is_live}
-use Rattle.circus_world.specs.Legal.{refusal, unless_sent}
-use Rattle.circus_world.specs.Course.{sent_by, Stepped, noted, passed, crashed, told_to_join, concluded, comes_to, delivered, stepped}
+use Rattle.circus_world.specs.Course.{sent_by, Stepped, passed, crashed, told_to_join, concluded, comes_to, delivered}
 use Rattle.circus_world.specs.Boot.{before_any, joined_by, then_others, all_booted}
 use Rattle.circus_world.specs.Answers.{IsBooted}
 use Rattle.circus_world.specs.Lines.{IsBetween, Leads, Lead}
@@ -42,7 +40,7 @@ behind step sent [] past order now = (subst (All (λ (s : Sent). s.step ≤ step
 behind step sent (s ∷ more) past order now =
     let at : s.step ≡ step = All-head (λ (s : Sent). s.step ≡ step) s more now in
     let rest = behind step (sent ++ s ∷ []) more (All-push (λ (s : Sent). s.step ≤ step) sent s past (omega (arith, at)))
-      (all_pairs_push (λ (a b : Sent). a.step ≤ b.step) sent s order (λ k d below. omega (arith, at, past k d below))) (All-tail (λ (s : Sent). s.step ≡ step) s more now) in
+    (all_pairs_push (λ (a b : Sent). a.step ≤ b.step) sent s order (λ k d below. omega (arith, at, past k d below))) (All-tail (λ (s : Sent). s.step ≡ step) s more now) in
     let whole : (sent ++ s ∷ []) ++ more ≡ sent ++ s ∷ more = append_assoc sent (s ∷ []) more in
     (subst (All (λ (s : Sent). s.step ≤ step)) whole rest.0, subst (AllPairs (λ (a b : Sent). a.step ≤ b.step)) whole rest.1)
 
@@ -79,10 +77,10 @@ module _ {M : Type 0} where
   still_rises : (w next : WorldState M) → Rising w → Adds w next → Rising next
   still_rises w next rising adds =
       let whole = behind (w.steps + 1) w.sent adds.more
-        (All-weaker (λ (s : Sent). s.step ≤ w.steps) (λ (s : Sent). s.step ≤ w.steps + 1) (λ s most. omega (arith, most)) w.sent rising.past) rising.order adds.now in
+      (All-weaker (λ (s : Sent). s.step ≤ w.steps) (λ (s : Sent). s.step ≤ w.steps + 1) (λ s most. omega (arith, most)) w.sent rising.past) rising.order adds.now in
       record {
         past = subst (λ (k : ℕ). All (λ (s : Sent). s.step ≤ k) next.sent) (sym adds.steps_is)
-          (subst (All (λ (s : Sent). s.step ≤ w.steps + 1)) (sym adds.sent_is) whole.0);
+            (subst (All (λ (s : Sent). s.step ≤ w.steps + 1)) (sym adds.sent_is) whole.0);
         order = subst (AllPairs (λ (a b : Sent). a.step ≤ b.step)) (sym adds.sent_is) whole.1;
       }
 
@@ -186,7 +184,7 @@ module _ {M : Type 0} (declared : M → Signature) (turn : M → List ValueTree 
             deployment_is = at.deployment_is;
             steps_is = at.steps_is;
             first = All-append (λ (s : Sent). s.step ≡ 0) w.sent (map (sent_by 0 (length w.nodes)) ended.1.gives) at.first
-              (All-map (λ (s : Sent). s.step ≡ 0) (sent_by 0 (length w.nodes)) ended.1.gives (λ i d below. refl));
+                (All-map (λ (s : Sent). s.step ≡ 0) (sent_by 0 (length w.nodes)) ended.1.gives (λ i d below. refl));
           })
           is
 

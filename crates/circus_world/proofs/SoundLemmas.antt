@@ -1,5 +1,5 @@
 -- What stays true of a world as it boots and steps.
-use Rattle.std.proofs.Common.{◌≡◌, ℕ, suc, ◌+◌, ◌-◌, ◌<◌, ◌≤◌, ◌⊎◌, inl, inr, Bool, true, false, List, [], ◌∷◌, ◌++◌, length, map, set, All, Option, None, Some, Result, Ok, Err, refl, sym, ap, subst, ◌∙◌, arith, add-zero, zero-add}
+use Rattle.std.proofs.Common.{◌≡◌, ℕ, suc, ◌+◌, ◌-◌, ◌<◌, ◌≤◌, ◌⊎◌, inl, inr, Bool, true, false, List, [], ◌∷◌, ◌++◌, length, map, set, All, Option, None, Some, Ok, Err, refl, sym, subst, ◌∙◌, arith, add-zero, zero-add}
 use Rattle.std.specs.Prelude.{slice_get, if◌then◌else◌}
 use Rattle.std.specs.Option.{option_map_or}
 use Rattle.std.proofs.lemmas.List.{length-set, length-append}
@@ -112,6 +112,7 @@ module _ {M : Type 0} (declared : M → Signature) (turn : M → List ValueTree 
           sound_so _ next is
           (sent_sound (record w { nodes = set w.nodes node (record s { node = ended.0 }) }) (map (sent_by (w.steps + 1) node) ended.1.gives) (w.steps + 1)
           (node_sound w node (record s { node = ended.0 }) sound of) (between w.deployment (w.steps + 1) node ended.0 ended.1.gives of within stays.others))
+
       by_node : (o : Option (Standing M)) → slice_get w.nodes node ≡ o
           → option_map_or (λ (s : Standing M). concluded node s w (node_step.stepped declared turn (w.steps + 1) event s.node)) o (Ok w) ≡ Ok next → IsSound next
       by_node None at is = sound_so w next is sound
@@ -123,6 +124,7 @@ module _ {M : Type 0} (declared : M → Signature) (turn : M → List ValueTree 
       by_live : (sent : Sent) (live : Bool) → (if live then comes_to declared turn sent.to (comes.Datagram sent.from sent.bytes) w else Ok (passed w)) ≡ Ok next → IsSound next
       by_live sent true is = comes_sound sent.to (comes.Datagram sent.from sent.bytes) w next sound is
       by_live sent false is = sound_so (passed w) next is (passed_sound w sound)
+
       by_sent : (o : Option Sent) → option_map_or (λ sent. delivered declared turn sent w) o (Ok w) ≡ Ok next → IsSound next
       by_sent None is = sound_so w next is sound
       by_sent (Some sent) is = by_live sent (is_live w sent.to) is
@@ -152,11 +154,12 @@ module _ {M : Type 0} (declared : M → Signature) (turn : M → List ValueTree 
         record {
           nodes = λ node s found. by_place node s (get_push w.nodes node (record { node = ended.0; crashed = None; joins = false }) s found);
           sent = All-append (IsBetween (length w.deployment.nodes)) w.sent (map (sent_by 0 (length w.nodes)) ended.1.gives) so_far.sent
-            (between w.deployment 0 (length w.nodes) ended.0 ended.1.gives boots.node within boots.others);
+              (between w.deployment 0 (length w.nodes) ended.0 ended.1.gives boots.node within boots.others);
         }
       where
         boots : Boots declared turn first w.deployment (length w.nodes) ended
         boots = booted_boots declared turn first w.deployment own (length w.nodes) ended (hosted_can_boot declared turn first w.deployment w.modules (length w.nodes) own good are within hosts) ends
+
         by_place : (node : ℕ) (s : Standing M)
             → ((node ≡ length w.nodes) × (s ≡ record { node = ended.0; crashed = None; joins = false })) ⊎ (slice_get w.nodes node ≡ Some s)
             → IsNodeOf w.deployment node s.node
@@ -176,8 +179,10 @@ module _ {M : Type 0} (declared : M → Signature) (turn : M → List ValueTree 
       where
         within : length w.nodes < length w.deployment.nodes
         within = omega (arith, all)
+
         hosts_it : IsHosted declared turn first w.deployment w.modules (length w.nodes) own
         hosts_it = subst (λ k. IsHosted declared turn first w.deployment w.modules k own) (add-zero (length w.nodes)) (hosts 0 own refl)
+
         by_end : (e : node_step.Ended M) → booted declared turn first w.deployment own (length w.nodes) ≡ e
             → then_others (all_booted declared turn first others) (joined_by w e) ≡ Ok last → IsSound last
         by_end (Err peer) ends is = absurd (let clash : ◌≡◌ {A = Stepped M} (Err (length w.nodes, peer)) (Ok last) = is in cc)
@@ -186,8 +191,8 @@ module _ {M : Type 0} (declared : M → Signature) (turn : M → List ValueTree 
             let more : length (w.nodes ++ s ∷ []) ≡ length w.nodes + 1 = length-append w.nodes (s ∷ []) in
             leave _ last (one_more w own ended so_far good are within hosts_it ends) good are (omega (arith, more, all))
             (λ place other found.
-              let same : length w.nodes + suc place ≡ length (w.nodes ++ s ∷ []) + place = omega (arith, more) in
-              subst (λ k. IsHosted declared turn first w.deployment w.modules k other) same (hosts (suc place) other found))
+            let same : length w.nodes + suc place ≡ length (w.nodes ++ s ∷ []) + place = omega (arith, more) in
+            subst (λ k. IsHosted declared turn first w.deployment w.modules k other) same (hosts (suc place) other found))
             is
 
     all_sound : (hosted : List (Option M)) → LeaveSound hosted

@@ -1,23 +1,14 @@
 -- A world after a step of one of its nodes.
-use Rattle.std.proofs.Common.{◌≡◌, ◌≢◌, ℕ, zero, suc, ◌+◌, ◌-◌, ◌<◌, ◌≤◌, ◌⊎◌, inl, inr, true, false, List, [], ◌∷◌, ◌++◌, length, map, set, get_or, Option, None, Some, Result, Ok, Err, refl, sym, ap, subst, ◌∙◌, arith}
+use Rattle.std.proofs.Common.{◌≡◌, ℕ, ◌+◌, ◌<◌, List, ◌++◌, length, map, set, get_or, Option, Some, Ok, Err, sym, ap, subst, ◌∙◌, arith}
 use Rattle.std.specs.Prelude.{slice_get}
 use Rattle.std.specs.Option.{option_map_or}
-use Rattle.std.proofs.lemmas.List.{length-set}
-use Rattle.std.proofs.lemmas.List.Elements.{All-append, All-map, All-weaker}
-use Rattle.std.proofs.lemmas.Option.{slice_get_within}
 use Rattle.circus_value.specs.ValueTree.{ValueTree}
 use Rattle.circus_value.specs.declared.outcome.Outcome.{Outcome}
 use Rattle.circus_collate.specs.declared.deployment.Deployment.{Deployment}
 use Rattle.circus_model.specs.NextTurn.{NextTurn}
 use Rattle.circus_model.specs.declared.signature.Signature.{Signature}
-use Rattle.circus_wire.specs.Wire.{IsOther}
 use Rattle.circus_node.specs.declared.event.Event.{Event}
-use Rattle.circus_node.specs.declared.event.Give.{Give}
-use Rattle.circus_node.specs.declared.event.Outputs.{Outputs}
-use Rattle.circus_node.specs.declared.event.StepFault.{StepFault}
-use Rattle.circus_node.specs.declared.event.StepFault.TheVariants as step_fault
 use Rattle.circus_node.specs.NodeState.{NodeState}
-use Rattle.circus_node.specs.Node.{IsNodeOf, GoToOthers}
 use Rattle.circus_node.specs.Step as node_step
 use Rattle.circus_world.specs.declared.sent.Sent.{Sent}
 use Rattle.circus_world.specs.declared.slot.Slot.{Slot}
@@ -27,7 +18,7 @@ use Rattle.circus_world.specs.WorldState.{WorldState, Standing}
 use Rattle.circus_world.specs.Course.{sent_by, Stepped, noted, concluded, comes_to}
 use Rattle.circus_world.specs.Seen.Slots.{standing, standings, AreFull, world_of}
 use Rattle.circus_world.specs.Seen.Followed.{IsFollowed}
-use Rattle.circus_world.specs.Seen.Made.{IsMade, HasMade, CanMake}
+use Rattle.circus_world.specs.Seen.Made.{CanMake}
 use Rattle.circus_world.specs.Seen.MadeAt.{IsMadeAt, HasMadeAt, IsSpentAt}
 use Rattle.circus_world.proofs.SlotLemmas.{slot_at, length_full, get_full, set_full, still_full, full_at}
 
@@ -59,9 +50,9 @@ module _ {M P : Type 0} where
       let there = get_full slots node slot core.0 full at core.1 in
       ap (λ (l : List (Standing M)). record { deployment = d; modules = modules; nodes = l; sent = sent; steps = steps })
       (
-        set_full slots node next core.0 full (same ∙ core.1)
-        ∙ ap (λ s. set (standings slots) node s) (is core.0)
-        ∙ sym (ap (λ (o : Option (Standing M)). option_map_or (λ s. set (standings slots) node (note s)) o (standings slots)) there)
+      set_full slots node next core.0 full (same ∙ core.1)
+      ∙ ap (λ s. set (standings slots) node s) (is core.0)
+      ∙ sym (ap (λ (o : Option (Standing M)). option_map_or (λ s. set (standings slots) node (note s)) o (standings slots)) there)
       )
 
 module _ {M P : Type 0} (declared : M → Signature) (turn : M → List ValueTree → ℕ → List ValueTree → List Outcome → NextTurn) where
@@ -89,13 +80,13 @@ module _ {M P : Type 0} (declared : M → Signature) (turn : M → List ValueTre
       let s : Standing M = standing made.before h.slot in
       let w : WorldState M = world_of d modules old before steps in
       let slots : standings new ≡ set (standings old) node (record s { node = made.after }) =
-        ap standings h.new_is
-        ∙ set_full old node h.next made.after full (ap (λ (x : Slot M P). x.core) made.new_is)
-        ∙ ap (λ (x : Slot M P). set (standings old) node (standing made.after x)) made.new_is in
+      ap standings h.new_is
+      ∙ set_full old node h.next made.after full (ap (λ (x : Slot M P). x.core) made.new_is)
+      ∙ ap (λ (x : Slot M P). set (standings old) node (standing made.after x)) made.new_is in
       let given : after ≡ before ++ map (sent_by (steps + 1) node) made.outputs.gives =
-        h.after_is ∙ ap (λ g. before ++ map (sent_by (steps + 1) node) g) made.gives_are in
+      h.after_is ∙ ap (λ g. before ++ map (sent_by (steps + 1) node) g) made.gives_are in
       let whole : List (Standing M) → List Sent → Stepped M =
-        λ l m. Ok (record { deployment = d; modules = modules; nodes = l; sent = m; steps = steps + 1 }) in
+      λ l m. Ok (record { deployment = d; modules = modules; nodes = l; sent = m; steps = steps + 1 }) in
       comes_there d modules steps node event old before h.slot made.before full h.there made.core
       ∙ ap (λ e. concluded node s w e) made.stepped_is
       ∙ sym (ap (λ l. whole l after) slots ∙ ap (λ m. whole (set (standings old) node (record s { node = made.after })) m) given)
@@ -121,10 +112,3 @@ module _ {M P : Type 0} (declared : M → Signature) (turn : M → List ValueTre
   fault_followed d modules steps node event old new before after (loss.Spent spent peer) full is =
       spent_is d modules steps node event old before peer full is.1 ∙ ap (λ (k : ℕ). Err (k, peer)) (sym is.0)
   fault_followed d modules steps node event old new before after loss.NoMemory full is = tt
-
-  -- ---- in its slot
-
-  pub fault_made : (at : ℕ) (event : Event) (old new : Slot M P) (n : NodeState M) (fault : StepFault) → old.core ≡ Some n
-      → node_step.IsEnded (Err fault) (node_step.stepped declared turn at event n) → IsMade declared turn at event old new (Err fault)
-  fault_made at event old new n (step_fault.Spent peer) core is = (n, core, is)
-  fault_made at event old new n step_fault.NoMemory core is = tt

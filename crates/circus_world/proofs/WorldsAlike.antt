@@ -6,7 +6,6 @@ use Rattle.std.proofs.lemmas.List.{map-append, length-map}
 use Rattle.std.proofs.lemmas.Option.{slice_get-map}
 use Rattle.circus_value.specs.ValueTree.{ValueTree}
 use Rattle.circus_value.specs.declared.outcome.Outcome.{Outcome}
-use Rattle.circus_collate.specs.declared.deployment.Deployment.{Deployment}
 use Rattle.circus_model.specs.NextTurn.{NextTurn}
 use Rattle.circus_model.specs.Behaviour.{Behaviour}
 use Rattle.circus_model.specs.declared.signature.Signature.{Signature}
@@ -22,10 +21,10 @@ use Rattle.circus_alike.proofs.NodesAlike.{node_stepped_as, node_booted_as}
 use Rattle.circus_world.specs.declared.sent.Sent.{Sent}
 use Rattle.circus_world.specs.declared.cause.Cause.TheVariants as cause
 use Rattle.circus_world.specs.WorldState.{WorldState, Standing, is_live, has_crashed, has_joined}
-use Rattle.circus_world.specs.Legal.{refusal, unless_live, unless_told, is_spare}
+use Rattle.circus_world.specs.Legal.{refusal, unless_live, is_spare}
 use Rattle.circus_world.specs.Course as course
 use Rattle.circus_world.specs.Course.{Stepped}
-use Rattle.circus_world.specs.Boot.{before_any, joined_by, then_others, all_booted}
+use Rattle.circus_world.specs.Boot.{joined_by, then_others, all_booted}
 use Rattle.circus_world.specs.Alike.{standing_as, world_as, step_as}
 
 -- an item is changed, and then each is replaced
@@ -72,8 +71,8 @@ module _ {M : Type 0} (declared : M → Signature) (turn : M → List ValueTree 
       (λ i. if crashed_as w node i then unless_live_as w told i else Some (cause.NotCrashed node))
   refusal_as (Join node) w =
       (λ i. if is_spare w.deployment node
-        then (if live_as w node i then (if joined_as w node i then Some (cause.AlreadyJoined node) else None) else Some (cause.NotLive node))
-        else Some (cause.NotSpare node))
+      then (if live_as w node i then (if joined_as w node i then Some (cause.AlreadyJoined node) else None) else Some (cause.NotLive node))
+      else Some (cause.NotSpare node))
 
   -- ---- steps
 
@@ -81,7 +80,7 @@ module _ {M : Type 0} (declared : M → Signature) (turn : M → List ValueTree 
       → step_as declared turn first (course.concluded node s w end) ≡ course.concluded node (one s) (seen w) (ended_as declared turn first end)
   concluded_as node s w (Ok ended) =
       let whole : List (Standing Behaviour) → Stepped Behaviour = λ nodes.
-        Ok (record (seen w) { nodes = nodes; sent = w.sent ++ map (course.sent_by (w.steps + 1) node) ended.1.gives; steps = w.steps + 1 }) in
+      Ok (record (seen w) { nodes = nodes; sent = w.sent ++ map (course.sent_by (w.steps + 1) node) ended.1.gives; steps = w.steps + 1 }) in
       ap whole (set_map one w.nodes node (record s { node = ended.0 }))
   concluded_as node s w (Err peer) = refl
 
@@ -145,7 +144,7 @@ module _ {M : Type 0} (declared : M → Signature) (turn : M → List ValueTree 
       → step_as declared turn first (joined_by w end) ≡ joined_by (seen w) (ended_as declared turn first end)
   joined_by_as w (Ok booted) =
       let whole : List (Standing Behaviour) → ℕ → Stepped Behaviour = λ nodes count.
-        Ok (record (seen w) { nodes = nodes; sent = w.sent ++ map (course.sent_by 0 count) booted.1.gives }) in
+      Ok (record (seen w) { nodes = nodes; sent = w.sent ++ map (course.sent_by 0 count) booted.1.gives }) in
       ap (λ nodes. whole nodes (length w.nodes)) (map-append one w.nodes (record { node = booted.0; crashed = None; joins = false } ∷ []))
       ∙ ap (whole (map one w.nodes ++ one (record { node = booted.0; crashed = None; joins = false }) ∷ [])) (sym (length-map w.nodes one))
   joined_by_as w (Err peer) = ap (λ count. Err (count, peer)) (sym (length-map w.nodes one))
@@ -153,9 +152,9 @@ module _ {M : Type 0} (declared : M → Signature) (turn : M → List ValueTree 
   -- and then others
   then_others_as : (others : List (Option M))
       → ((w : WorldState M) → step_as declared turn first (all_booted declared turn first others w)
-        ≡ all_booted declared_of turn_of first_of (map (option_map (behaviour declared turn first)) others) (seen w))
+      ≡ all_booted declared_of turn_of first_of (map (option_map (behaviour declared turn first)) others) (seen w))
       → (s : Stepped M) → step_as declared turn first (then_others (all_booted declared turn first others) s)
-        ≡ then_others (all_booted declared_of turn_of first_of (map (option_map (behaviour declared turn first)) others)) (step_as declared turn first s)
+      ≡ then_others (all_booted declared_of turn_of first_of (map (option_map (behaviour declared turn first)) others)) (step_as declared turn first s)
   then_others_as others same (Ok next) = same next
   then_others_as others same (Err spent) = refl
 
@@ -168,7 +167,7 @@ module _ {M : Type 0} (declared : M → Signature) (turn : M → List ValueTree 
       let rest = map (option_map (behaviour declared turn first)) others in
       then_others_as others (all_booted_as others) (joined_by w end)
       ∙ ap (then_others (all_booted declared_of turn_of first_of rest)) (
-          joined_by_as w end
-          ∙ ap (joined_by (seen w)) (
-              node_booted_as declared turn first w.deployment h (length w.nodes)
-              ∙ ap (booting.booted declared_of turn_of first_of w.deployment (option_map (behaviour declared turn first) h)) (sym (length-map w.nodes one))))
+      joined_by_as w end
+      ∙ ap (joined_by (seen w)) (
+      node_booted_as declared turn first w.deployment h (length w.nodes)
+      ∙ ap (booting.booted declared_of turn_of first_of w.deployment (option_map (behaviour declared turn first) h)) (sym (length-map w.nodes one))))

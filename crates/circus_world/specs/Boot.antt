@@ -1,5 +1,5 @@
 -- A world at boot: the nodes boot in their order, all in step 0.
-use Rattle.std.specs.Prelude.{◌≡◌, ℕ, false, List, [], ◌∷◌, ◌++◌, length, map, slice_get, Option, None, Some, Result, Ok, Err}
+use Rattle.std.specs.Prelude.{◌≡◌, ℕ, false, List, [], ◌∷◌, ◌++◌, length, map, slice_get, Option, None, Some, Ok, Err}
 use Rattle.circus_value.specs.ValueTree.{ValueTree}
 use Rattle.circus_value.specs.declared.outcome.Outcome.{Outcome}
 use Rattle.circus_collate.specs.declared.deployment.Deployment.{Deployment}

@@ -102,7 +102,13 @@ impl<M: Module> World<M> {
     {
         let mut slots = Vec::new(alloc);
         let mut sent = ListOf::new(alloc);
-        boot_all(alloc, &deployment, modules.as_slice(), &mut slots, &mut sent)?;
+        boot_all(
+            alloc,
+            &deployment,
+            modules.as_slice(),
+            &mut slots,
+            &mut sent,
+        )?;
         Ok(World {
             deployment,
             modules,

@@ -1,4 +1,4 @@
-use Rattle.std.proofs.Common.{◌≡◌, length, Err, sym, subst, arith}
+use Rattle.std.proofs.Common.{Err, sym, subst, arith}
 use Rattle.std.proofs.lemmas.Result.{err_from_is_err_and}
 use Rattle.circus_world.specs.Seen.MadeAt.{AreBooted}
 use Rattle.circus_world.proofs.BootLemmas.{have_none, have_next, have_all, fault_booted}

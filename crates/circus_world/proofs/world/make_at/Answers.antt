@@ -1,8 +1,6 @@
-use Rattle.std.proofs.Common.{◌≡◌, get_or, set, Err, refl, sym, ap, subst, ◌∙◌, arith}
-use Rattle.std.proofs.lemmas.Result.{err_from_is_err_and}
+use Rattle.std.proofs.Common.{get_or, set, Err, refl, ap, subst, ◌∙◌, arith}
 use Rattle.circus_world.specs.declared.slot.Slot.{Slot}
 use Rattle.circus_world.specs.Seen.Made.{IsMade}
-use Rattle.circus_world.specs.Seen.MadeAt.{IsMadeAt}
 use Rattle.circus_world.proofs.SlotLemmas.{slot_at}
 use Rattle.circus_world.proofs.world.make_at.Goals as goal
 

@@ -1,6 +1,5 @@
-use Rattle.std.proofs.Common.{◌≡◌, List, map, Err, refl, sym, subst}
+use Rattle.std.proofs.Common.{List, Err, sym, subst}
 use Rattle.std.proofs.lemmas.Result.{err_from_is_err_and}
-use Rattle.circus_node.specs.Booting.{AreOfTroupes}
 use Rattle.circus_world.specs.Answers.{IsBooted}
 use Rattle.circus_world.specs.Seen.MadeAt.{HaveBooted, AreBooted}
 use Rattle.circus_world.proofs.BootLemmas.{fault_of_world}
@@ -20,8 +19,7 @@ returns-in_err-boot_all g c =
 pub invariant_of-result : goal.invariant_of-result
 invariant_of-result g c =
     let M = g.M.Module in
-    let h = subst (λ (l : List g.row.M.Denot). HaveBooted M.declared M.turn M.first c.args.deployment l c.boot_all.new.slots.items c.boot_all.new.sent) c.as_slice.ensures.value c.in_ok-boot_all.ensures in
-    (
+    let h = subst (λ (l : List g.row.M.Denot). HaveBooted M.declared M.turn M.first c.args.deployment l c.boot_all.new.slots.items c.boot_all.new.sent) c.as_slice.ensures.value c.in_ok-boot_all.ensures in (
       h.full,
       booted_sound M.declared M.turn M.first c.args.deployment c.args.modules.items h.hosted _ c.requires.deployment c.requires.modules h.hosts h.booted_is,
     )

@@ -1,7 +1,7 @@
-use Rattle.std.proofs.Common.{◌≡◌, ◌+◌, length, Ok, Err, refl, sym, ap, subst, ◌∙◌, arith}
+use Rattle.std.proofs.Common.{◌+◌, length, Err, sym, ap, subst, ◌∙◌, arith}
 use Rattle.std.proofs.lemmas.Result.{err_from_is_err_and}
-use Rattle.circus_world.specs.WorldState.{WorldState, Standing}
-use Rattle.circus_world.specs.Course.{Stepped, comes_to}
+use Rattle.circus_world.specs.WorldState.{WorldState}
+use Rattle.circus_world.specs.Course.{comes_to}
 use Rattle.circus_world.specs.Seen.Coming.{MayCome}
 use Rattle.circus_world.specs.Seen.Followed.{IsFollowed}
 use Rattle.circus_world.proofs.ComeLemmas.{can_come}
@@ -40,8 +40,8 @@ invariant_of-result g c =
     let i = c.self.inside in (
       made_full M.declared M.turn (i.steps + 1) c.args.node c.args.event i.slots.items c.make_at.new.slots.items i.sent c.make_at.new.sent c.self.invariant.0 c.in_ok-make_at.ensures,
       comes_sound M.declared M.turn c.args.node c.args.event _ _ c.self.invariant.1
-        (made_is M.declared M.turn i.deployment i.modules.items i.steps c.args.node c.args.event i.slots.items c.make_at.new.slots.items i.sent c.make_at.new.sent c.self.invariant.0
-        c.in_ok-make_at.ensures),
+          (made_is M.declared M.turn i.deployment i.modules.items i.steps c.args.node c.args.event i.slots.items c.make_at.new.slots.items i.sent c.make_at.new.sent c.self.invariant.0
+          c.in_ok-make_at.ensures),
     )
 
 pub returns : goal.returns

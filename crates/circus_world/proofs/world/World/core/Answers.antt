@@ -1,7 +1,7 @@
-use Rattle.std.proofs.Common.{◌≡◌, ℕ, ◌<◌, length, Option, None, Some, refl, sym, ap, ◌∙◌, arith}
+use Rattle.std.proofs.Common.{◌≡◌, ℕ, Option, None, Some, sym, ap, ◌∙◌, arith}
 use Rattle.std.specs.Prelude.{slice_get, option_map}
 use Rattle.circus_node.specs.NodeState.{NodeState}
-use Rattle.circus_world.specs.WorldState.{WorldState, Standing}
+use Rattle.circus_world.specs.WorldState.{WorldState}
 use Rattle.circus_world.specs.declared.slot.Slot.{Slot}
 use Rattle.circus_world.proofs.SlotLemmas.{core_of, full_at}
 use Rattle.circus_world.proofs.WorldLemmas.{slot_below, slot_in}

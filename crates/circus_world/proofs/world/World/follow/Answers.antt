@@ -1,11 +1,8 @@
-use Rattle.std.proofs.Common.{◌≡◌, ◌<◌, ℕ, length, true, None, Ok, refl, sym, ap, subst, ◌∙◌, arith}
-use Rattle.circus_node.specs.declared.event.Event.TheVariants as comes
+use Rattle.std.proofs.Common.{◌≡◌, ◌<◌, length, true, None, ap, subst, arith}
 use Rattle.circus_schedule.specs.Meaning.{NamesBelow}
 use Rattle.circus_schedule.specs.declared.line.Line.{Line}
 use Rattle.circus_world.specs.WorldState.{WorldState, Standing}
 use Rattle.circus_world.specs.Legal.{refusal}
-use Rattle.circus_world.specs.Course.{comes_to, stepped}
-use Rattle.circus_world.specs.Seen.Followed.{IsFollowed}
 use Rattle.circus_world.proofs.ComeLemmas.{down_differs}
 use Rattle.circus_world.proofs.SoundLemmas.{noted_length}
 use Rattle.circus_world.proofs.world.World.follow.Goals as goal

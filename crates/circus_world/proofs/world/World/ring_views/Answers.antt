@@ -30,5 +30,5 @@ returns g c =
     let some : 0 < length i.slots.items = omega (arith, some_node _ c.self.invariant.1, length_full i.slots.items c.self.invariant.0) in
     let there = slot_at i.slots.items 0 c.index.result.now some c.index.ensures in
     let core = subst (λ (w : WorldState g.row.M.Denot). option_map (λ s. s.node) (slice_get w.nodes 0) ≡ Some c.in-Some.core) c.self.view_is
-      (core_of i.slots.items 0 c.index.result.now c.in-Some.core c.self.invariant.0 there c.in-Some.is) in
+    (core_of i.slots.items 0 c.index.result.now c.in-Some.core c.self.invariant.0 there c.in-Some.is) in
     seen (λ (n : NodeState g.row.M.Denot). ring_views n.acting) (slice_get c.args.self.now.nodes 0) c.in-Some.core core ∙ sym c.in-Some-ring_views.ensures

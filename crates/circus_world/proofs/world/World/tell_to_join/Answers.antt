@@ -1,6 +1,6 @@
-use Rattle.std.proofs.Common.{◌≡◌, Some, refl, sym, ap, subst, ◌∙◌, arith, set, true}
+use Rattle.std.proofs.Common.{refl, sym, ap, subst, ◌∙◌, arith, true}
 use Rattle.circus_world.specs.WorldState.{WorldState, Standing}
-use Rattle.circus_world.specs.Course.{noted, told_to_join}
+use Rattle.circus_world.specs.Course.{told_to_join}
 use Rattle.circus_world.specs.declared.slot.Slot.{Slot}
 use Rattle.circus_world.specs.Seen.Sound.{IsSound}
 use Rattle.circus_world.proofs.SoundLemmas.{noted_sound}

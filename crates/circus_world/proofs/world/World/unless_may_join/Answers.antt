@@ -1,4 +1,4 @@
-use Rattle.std.proofs.Common.{◌≡◌, ◌<◌, Bool, true, false, length, None, refl, sym, ap, ◌∙◌, arith}
+use Rattle.std.proofs.Common.{◌≡◌, true, false, sym, ap, ◌∙◌, arith}
 use Rattle.circus_world.specs.WorldState.{WorldState, is_live, has_joined}
 use Rattle.circus_world.specs.Legal.{is_spare}
 use Rattle.circus_world.specs.declared.slot.Slot.{Slot}
@@ -22,10 +22,10 @@ returns-then-index g c =
     let spare : is_spare w.deployment c.args.node ≡ true = ap (λ (v : WorldState g.row.M.Denot). is_spare v.deployment c.args.node) (sym c.self.view_is) ∙ sym c.if-not-is_spare.ensures in
     let live : is_live w c.args.node ≡ true = live_then (is_live w c.args.node) c.args.node (sym c.unless_live.ensures ∙ c.in_default.is) in
     let joined : has_joined w c.args.node ≡ true =
-      ap (λ k. has_joined w k) (sym c.from.ensures)
-      ∙ ap (λ (v : WorldState g.row.M.Denot). has_joined v c.from.result) (sym c.self.view_is)
-      ∙ sym (joins_of i.slots.items c.from.result slot c.self.invariant.0 there)
-      ∙ c.if-index.true in
+    ap (λ k. has_joined w k) (sym c.from.ensures)
+    ∙ ap (λ (v : WorldState g.row.M.Denot). has_joined v c.from.result) (sym c.self.view_is)
+    ∙ sym (joins_of i.slots.items c.from.result slot c.self.invariant.0 there)
+    ∙ c.if-index.true in
     sym (may_join w c.args.node true spare live joined)
 
 pub returns : goal.returns
@@ -37,8 +37,8 @@ returns g c =
     let spare : is_spare w.deployment c.args.node ≡ true = ap (λ (v : WorldState g.row.M.Denot). is_spare v.deployment c.args.node) (sym c.self.view_is) ∙ sym c.if-not-is_spare.ensures in
     let live : is_live w c.args.node ≡ true = live_then (is_live w c.args.node) c.args.node (sym c.unless_live.ensures ∙ c.in_default.is) in
     let joined : has_joined w c.args.node ≡ false =
-      ap (λ k. has_joined w k) (sym c.from.ensures)
-      ∙ ap (λ (v : WorldState g.row.M.Denot). has_joined v c.from.result) (sym c.self.view_is)
-      ∙ sym (joins_of i.slots.items c.from.result slot c.self.invariant.0 there)
-      ∙ c.if-index.false in
+    ap (λ k. has_joined w k) (sym c.from.ensures)
+    ∙ ap (λ (v : WorldState g.row.M.Denot). has_joined v c.from.result) (sym c.self.view_is)
+    ∙ sym (joins_of i.slots.items c.from.result slot c.self.invariant.0 there)
+    ∙ c.if-index.false in
     sym (may_join w c.args.node false spare live joined)
