@@ -1,5 +1,5 @@
 -- A node takes the same steps with the behaviour of its module.
-use Rattle.std.proofs.Common.{◌≡◌, ℕ, List, [], Option, None, Some, Ok, Err, refl, sym, ◌∙◌, ap}
+use Rattle.std.proofs.Common.{◌≡◌, ℕ, List, [], Option, None, Some, refl, sym, ◌∙◌, ap}
 use Rattle.std.specs.Prelude.{option_map, option_and_then}
 use Rattle.std.specs.Option.{option_map_or, option_to_list}
 use Rattle.circus_value.specs.ValueTree.{ValueTree}
@@ -12,7 +12,7 @@ use Rattle.circus_model.specs.Behaviour.{Behaviour}
 use Rattle.circus_model.specs.declared.signature.Signature.{Signature}
 use Rattle.circus_performing.specs.Record.{behaviour}
 use Rattle.circus_ring.specs.RingTable.{boot_views}
-use Rattle.circus_segment.specs.Segment.{Piece, reading}
+use Rattle.circus_segment.specs.Segment.{reading}
 use Rattle.circus_wire.specs.Wire.{after_datagram, sent_by_datagram, heard_from, stopped_at}
 use Rattle.circus_wire.specs.declared.delivery.Heard.{Heard}
 use Rattle.circus_wire.specs.declared.delivery.Heard.TheVariants.{Dropped, Taken, Called, Returned}
@@ -26,8 +26,6 @@ use Rattle.circus_member.specs.Step as member_step
 use Rattle.circus_node.specs.declared.event.Event.{Event}
 use Rattle.circus_node.specs.declared.event.Event.TheVariants.{Datagram, Tick, Down, Join}
 use Rattle.circus_node.specs.declared.event.Give.{Give}
-use Rattle.circus_node.specs.declared.home.Home.{Home}
-use Rattle.circus_node.specs.declared.acting.Consequences.{Consequences}
 use Rattle.circus_node.specs.NodeState.{NodeState, Acting, member, ringmaster}
 use Rattle.circus_node.specs.Accepting as accepting
 use Rattle.circus_node.specs.Headers.{return_in}
@@ -37,16 +35,10 @@ use Rattle.circus_node.specs.Sending.{Sending, sent, spent, gives_of, all_handed
 use Rattle.circus_node.specs.Booting as booting
 use Rattle.circus_node.specs.Step as step
 use Rattle.circus_node.specs.Step.{Ended}
-use Rattle.circus_alike.specs.Alike.{member_as, doing_as, acting_as, made_as, node_as, ended_as}
+use Rattle.circus_alike.specs.Alike.{declared_of, turn_of, first_of, member_as, acting_as, made_as, node_as, ended_as}
 use Rattle.circus_alike.proofs.MembersAlike.{stepped_as, difference_as, booted_as}
 
 module _ {M : Type 0} (declared : M → Signature) (turn : M → List ValueTree → ℕ → List ValueTree → List Outcome → NextTurn) (first : M → List ValueTree) where
-  of_declared : Behaviour → Signature
-  of_declared b = b.declared
-
-  of_turn : Behaviour → List ValueTree → ℕ → List ValueTree → List Outcome → NextTurn
-  of_turn b = b.turn
-
   abbrev mem : MemberState M → MemberState Behaviour
   mem m = member_as declared turn first m
 
@@ -89,46 +81,46 @@ module _ {M : Type 0} (declared : M → Signature) (turn : M → List ValueTree 
   -- ---- what is made of it
 
   happens_as : (at : ℕ) (m : MemberState M) (o : Occurrence)
-      → made_as declared turn first (making.happens declared turn at m o) ≡ making.happens of_declared of_turn at (mem m) o
+      → made_as declared turn first (making.happens declared turn at m o) ≡ making.happens declared_of turn_of at (mem m) o
   happens_as at m o =
       let made : Doing Behaviour → Option _ → Made Behaviour = λ d differs. record { acting = member d.member; came = consequences d.effects (option_to_list differs) } in
       ap (λ d. made d (member_step.difference o m)) (stepped_as declared turn first at o m)
-      ∙ sym (ap (made (member_step.stepped of_declared of_turn at o (mem m))) (difference_as declared turn first o m))
+      ∙ sym (ap (made (member_step.stepped declared_of turn_of at o (mem m))) (difference_as declared turn first o m))
 
   arrives_at_member_as : (d : Deployment) (at from : ℕ) (heard : Heard Purpose) (m : MemberState M)
-      → made_as declared turn first (making.arrives_at_member declared turn d at from heard m) ≡ making.arrives_at_member of_declared of_turn d at from heard (mem m)
+      → made_as declared turn first (making.arrives_at_member declared turn d at from heard m) ≡ making.arrives_at_member declared_of turn_of d at from heard (mem m)
   arrives_at_member_as d at from heard m =
       by_option (accepting.accepted d (declared m.performing.hosted) m from heard)
-      ∙ sym (ap (λ o. option_map_or (making.happens of_declared of_turn at (mem m)) o (making.refused (member (mem m)))) (accepted_as d (declared m.performing.hosted) m from heard))
+      ∙ sym (ap (λ o. option_map_or (making.happens declared_of turn_of at (mem m)) o (making.refused (member (mem m)))) (accepted_as d (declared m.performing.hosted) m from heard))
     where
       by_option : (o : Option Occurrence) → made_as declared turn first (option_map_or (making.happens declared turn at m) o (making.refused (member m)))
-          ≡ option_map_or (making.happens of_declared of_turn at (mem m)) o (making.refused (member (mem m)))
+          ≡ option_map_or (making.happens declared_of turn_of at (mem m)) o (making.refused (member (mem m)))
       by_option None = refl
       by_option (Some o) = happens_as at m o
 
   arrives_as : (d : Deployment) (at from : ℕ) (heard : Heard Purpose) (a : Acting M)
-      → made_as declared turn first (making.arrives declared turn d at from heard a) ≡ making.arrives of_declared of_turn d at from heard (act a)
+      → made_as declared turn first (making.arrives declared turn d at from heard a) ≡ making.arrives declared_of turn_of d at from heard (act a)
   arrives_as d at from heard (member m) = arrives_at_member_as d at from heard m
   arrives_as d at from heard (ringmaster kept) = refl
 
   hears_as : (d : Deployment) (at from : ℕ) (heard : Heard Purpose) (a : Acting M)
-      → made_as declared turn first (making.hears declared turn d at from heard a) ≡ making.hears of_declared of_turn d at from heard (act a)
+      → made_as declared turn first (making.hears declared turn d at from heard a) ≡ making.hears declared_of turn_of d at from heard (act a)
   hears_as d at from Dropped a = refl
   hears_as d at from Taken a = refl
   hears_as d at from (Called sender message) a = arrives_as d at from (Called sender message) a
   hears_as d at from (Returned number purpose message) a = arrives_as d at from (Returned number purpose message) a
 
-  learns_down_as : (at node : ℕ) (a : Acting M) → made_as declared turn first (making.learns_down declared turn at node a) ≡ making.learns_down of_declared of_turn at node (act a)
+  learns_down_as : (at node : ℕ) (a : Acting M) → made_as declared turn first (making.learns_down declared turn at node a) ≡ making.learns_down declared_of turn_of at node (act a)
   learns_down_as at node (member m) = happens_as at m (comes.Declared node)
   learns_down_as at node (ringmaster kept) = refl
 
-  joins_as : (at : ℕ) (a : Acting M) → made_as declared turn first (making.is_told_to_join declared turn at a) ≡ making.is_told_to_join of_declared of_turn at (act a)
+  joins_as : (at : ℕ) (a : Acting M) → made_as declared turn first (making.is_told_to_join declared turn at a) ≡ making.is_told_to_join declared_of turn_of at (act a)
   joins_as at (member m) = happens_as at m comes.Joins
   joins_as at (ringmaster kept) = refl
 
   -- ---- a step
 
-  concluded_as : (n : NodeState M) (gives : List Give) (came : Consequences)
+  concluded_as : (n : NodeState M) (gives : List Give) (came : _)
       → ended_as declared turn first (step.concluded n gives came) ≡ step.concluded (node_as declared turn first n) gives came
   concluded_as n gives came = by_sending (all_handed (sent n.wire gives) came.effects)
     where
@@ -137,34 +129,34 @@ module _ {M : Type 0} (declared : M → Signature) (turn : M → List ValueTree 
       by_sending (spent node) = refl
 
   pub node_stepped_as : (at : ℕ) (event : Event) (n : NodeState M)
-      → ended_as declared turn first (step.stepped declared turn at event n) ≡ step.stepped of_declared of_turn at event (node_as declared turn first n)
+      → ended_as declared turn first (step.stepped declared turn at event n) ≡ step.stepped declared_of turn_of at event (node_as declared turn first n)
   node_stepped_as at (Datagram from bytes) n =
       let segment = reading bytes in
       let heard = heard_from n.wire from segment in
       let end : Made Behaviour → Ended Behaviour = λ made.
-        step.concluded (record { deployment = n.deployment; wire = after_datagram n.wire from segment; acting = made.acting; dropped = n.dropped }) (gives_of (sent_by_datagram n.wire from segment)) made.came in
+      step.concluded (record { deployment = n.deployment; wire = after_datagram n.wire from segment; acting = made.acting; dropped = n.dropped }) (gives_of (sent_by_datagram n.wire from segment)) made.came in
       let made = making.hears declared turn n.deployment at from heard n.acting in
       concluded_as (record n { wire = after_datagram n.wire from segment; acting = made.acting }) (gives_of (sent_by_datagram n.wire from segment)) made.came
       ∙ ap end (hears_as n.deployment at from heard n.acting)
   node_stepped_as at Tick n = refl
   node_stepped_as at (Down node) n =
       let end : Made Behaviour → Ended Behaviour = λ made.
-        step.concluded (record { deployment = n.deployment; wire = stopped_at n.wire node; acting = made.acting; dropped = n.dropped }) [] made.came in
+      step.concluded (record { deployment = n.deployment; wire = stopped_at n.wire node; acting = made.acting; dropped = n.dropped }) [] made.came in
       let made = making.learns_down declared turn at node n.acting in
       concluded_as (record n { wire = stopped_at n.wire node; acting = made.acting }) [] made.came
       ∙ ap end (learns_down_as at node n.acting)
   node_stepped_as at Join n =
       let end : Made Behaviour → Ended Behaviour = λ made.
-        step.concluded (record { deployment = n.deployment; wire = n.wire; acting = made.acting; dropped = n.dropped }) [] made.came in
+      step.concluded (record { deployment = n.deployment; wire = n.wire; acting = made.acting; dropped = n.dropped }) [] made.came in
       let made = making.is_told_to_join declared turn at n.acting in
       concluded_as (record n { acting = made.acting }) [] made.came
       ∙ ap end (joins_as at n.acting)
 
   -- ---- at boot
 
-  made_at_boot_as : (d : Deployment) (home : Option Home) (hosted : Option M)
+  made_at_boot_as : (d : Deployment) (home : Option _) (hosted : Option M)
       → made_as declared turn first (booting.made_at_boot declared turn first d home hosted)
-      ≡ booting.made_at_boot of_declared of_turn (λ (b : Behaviour). b.first) d home (option_map (behaviour declared turn first) hosted)
+      ≡ booting.made_at_boot declared_of turn_of first_of d home (option_map (behaviour declared turn first) hosted)
   made_at_boot_as d (Some home) (Some hosted) =
       ap (λ (made : Doing Behaviour). record { acting = member made.member; came = consequences made.effects [] })
       (booted_as declared turn first home.place (boot_views d.troupes) home.beginning hosted)
@@ -173,10 +165,10 @@ module _ {M : Type 0} (declared : M → Signature) (turn : M → List ValueTree 
 
   pub node_booted_as : (d : Deployment) (hosted : Option M) (node : ℕ)
       → ended_as declared turn first (booting.booted declared turn first d hosted node)
-      ≡ booting.booted of_declared of_turn (λ (b : Behaviour). b.first) d (option_map (behaviour declared turn first) hosted) node
+      ≡ booting.booted declared_of turn_of first_of d (option_map (behaviour declared turn first) hosted) node
   node_booted_as d hosted node =
       let made = booting.made_at_boot declared turn first d (booting.home_of d node) hosted in
       let end : Made Behaviour → Ended Behaviour = λ m.
-        step.concluded (record { deployment = d; wire = booting.fresh_wire d node; acting = m.acting; dropped = 0 }) [] m.came in
+      step.concluded (record { deployment = d; wire = booting.fresh_wire d node; acting = m.acting; dropped = 0 }) [] m.came in
       concluded_as (record { deployment = d; wire = booting.fresh_wire d node; acting = made.acting; dropped = 0 }) [] made.came
       ∙ ap end (made_at_boot_as d (booting.home_of d node) hosted)

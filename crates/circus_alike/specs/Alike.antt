@@ -12,6 +12,16 @@ use Rattle.circus_node.specs.NodeState.{NodeState, Acting, member, ringmaster}
 use Rattle.circus_node.specs.Making.{Made}
 use Rattle.circus_node.specs.Step.{Ended}
 
+-- what a behaviour declares and does, as a module's
+abbrev pub declared_of : Behaviour → Signature
+declared_of b = b.declared
+
+abbrev pub turn_of : Behaviour → List ValueTree → ℕ → List ValueTree → List Outcome → NextTurn
+turn_of b = b.turn
+
+abbrev pub first_of : Behaviour → List ValueTree
+first_of b = b.first
+
 module _ {M : Type 0} (declared : M → Signature) (turn : M → List ValueTree → ℕ → List ValueTree → List Outcome → NextTurn) (first : M → List ValueTree) where
   abbrev pub performing_as : Performing M → Performing Behaviour
   performing_as p = record { hosted = behaviour declared turn first p.hosted; began = p.began; kept = p.kept }

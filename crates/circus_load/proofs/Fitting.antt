@@ -29,17 +29,16 @@ image_at f (x ∷ xs) zero y is = (x, refl, same_Some (f x) y is)
 image_at f (x ∷ xs) (suc n) y is = image_at f xs n y is
 
 -- the import of a module is among the imports
+import_first : (b : Bool) (number : ℕ) (x : Import) (xs : List Import) (i : Import) → x.«module» == number ≡ b → (if b then Some x else find (λ (y : Import). y.«module» == number) xs) ≡ Some i
+    → (find (λ (y : Import). y.«module» == number) xs ≡ Some i → Contains xs i × (i.«module» ≡ number)) → Contains (x ∷ xs) i × (i.«module» ≡ number)
+import_first true number x xs i is found others =
+    let same : x ≡ i = same_Some x i found in
+    (subst (Contains (x ∷ xs)) same (contains_first x xs), ap (λ (y : Import). y.«module») (sym same) ∙ grind (arith, nat_tests))
+import_first false number x xs i is found others = let (among, numbered) = others found in (contains_later x xs i among, numbered)
+
 import_found : (number : ℕ) (is : List Import) (i : Import) → import_of number is ≡ Some i → Contains is i × (i.«module» ≡ number)
 import_found number [] i found = absurd (cc)
-import_found number (x ∷ xs) i found = by_test (x.«module» == number) refl
-  where
-    by_test : (b : Bool) → x.«module» == number ≡ b → Contains (x ∷ xs) i × (i.«module» ≡ number)
-    by_test true is =
-        let same : x ≡ i = same_Some x i (sym (ap (λ b. if b then Some x else find (λ (y : Import). y.«module» == number) xs) is) ∙ found) in
-        (subst (Contains (x ∷ xs)) same (contains_first x xs), ap (λ (y : Import). y.«module») (sym same) ∙ grind (arith, nat_tests))
-    by_test false is =
-        let (among, numbered) = import_found number xs i (sym (ap (λ b. if b then Some x else find (λ (y : Import). y.«module» == number) xs) is) ∙ found) in
-        (contains_later x xs i among, numbered)
+import_found number (x ∷ xs) i found = import_first (x.«module» == number) number x xs i refl found (import_found number xs i)
 
 module _ (d : Deployment) (program : List Behaviour) where
   -- a troupe is a root exactly where its module is one

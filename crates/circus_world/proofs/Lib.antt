@@ -1,5 +1,9 @@
 pub mod BootLemmas
+pub mod ComeLemmas
 pub mod LegalLemmas
+pub mod LineLemmas
 pub mod RingLemmas
 pub mod SlotLemmas
+pub mod SoundLemmas
 pub mod WorldLemmas
+pub mod WorldsAlike

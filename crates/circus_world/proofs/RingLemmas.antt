@@ -1,10 +1,9 @@
 -- The first node of a world is the Ringmaster's.
-use Rattle.std.proofs.Common.{◌≡◌, ◌<◌, ℕ, true, false, length, Option, None, Some, refl, sym, ap, subst, ◌∙◌, arith}
-use Rattle.std.specs.Prelude.{IsSome, is_some, slice_get, option_map, option_and_then}
+use Rattle.std.proofs.Common.{◌≡◌, ◌<◌, length, Option, None, Some, refl, ap, subst, ◌∙◌, arith}
+use Rattle.std.specs.Prelude.{IsSome, slice_get, option_map, option_and_then}
 use Rattle.circus_collate.specs.Deployment.{IsDeployment}
 use Rattle.circus_collate.specs.declared.deployment.Deployment.{Deployment}
 use Rattle.circus_collate.specs.declared.deployment.Host.{Host}
-use Rattle.circus_collate.specs.declared.view.View.{View}
 use Rattle.circus_node.specs.Accepting.{troupe_at}
 use Rattle.circus_node.specs.NodeState.{NodeState, ring_views}
 use Rattle.circus_world.specs.WorldState.{WorldState, Standing}

@@ -1,9 +1,9 @@
 -- The nodes of a world, where each slot has its node.
-use Rattle.std.proofs.Common.{◌≡◌, ◌≢◌, ℕ, zero, suc, ◌+◌, ◌<◌, ◌⊎◌, inl, inr, true, false, List, [], ◌∷◌, ◌++◌, length, set, get_or, All, Option, None, Some, refl, sym, ap, subst, ◌∙◌, arith}
+use Rattle.std.proofs.Common.{◌≡◌, ℕ, zero, suc, ◌+◌, ◌<◌, ◌⊎◌, inl, inr, true, false, List, [], ◌∷◌, ◌++◌, length, set, get_or, All, Option, None, Some, refl, sym, ap, subst, ◌∙◌, arith, zero-add}
 use Rattle.std.specs.Prelude.{IsSome, is_some, slice_get, option_map, option_and_then}
 use Rattle.std.specs.Option.{option_map_or}
-use Rattle.std.proofs.lemmas.Option.{slice_get_read, slice_get_within, slice_get_cases, slice_get-get_or, get_or_from_slice_get}
-use Rattle.std.proofs.lemmas.List.Elements.{All-nil, All-cons, All-head, All-tail, All-set, All-push}
+use Rattle.std.proofs.lemmas.Option.{slice_get_read, slice_get_within, get_or_from_slice_get}
+use Rattle.std.proofs.lemmas.List.Elements.{All-head, All-tail, All-set, All-push}
 use Rattle.circus_node.specs.NodeState.{NodeState}
 use Rattle.circus_world.specs.declared.slot.Slot.{Slot}
 use Rattle.circus_world.specs.WorldState.{Standing}
@@ -20,18 +20,34 @@ get_set (y ∷ ys) (suc i) zero v x at = inr at
 get_set (y ∷ ys) (suc i) (suc j) v x at =
     elim (get_set ys i j v x at) [ inl h ↦ inl (ap suc h.0, h.1) | inr h ↦ inr h ]
 
+-- what stands at a place of two lists joined
+pub get_append : {X : Type 0} (xs ys : List X) (i : ℕ) (x : X) → slice_get (xs ++ ys) i ≡ Some x
+    → (slice_get xs i ≡ Some x) ⊎ ((j : ℕ) × (i ≡ length xs + j) × (slice_get ys j ≡ Some x))
+get_append [] ys i x at = inr (i, sym (zero-add i), at)
+get_append (y ∷ xs) ys zero x at = inl at
+get_append (y ∷ xs) ys (suc i) x at =
+    elim (get_append xs ys i x at) [ inl h ↦ inl h | inr h ↦ inr (h.0, omega (arith, h.1), h.2) ]
+
+alone : {X : Type 0} (i : ℕ) (v x : X) → slice_get (v ∷ []) i ≡ Some x → (i ≡ 0) × (x ≡ v)
+alone zero v x at = (refl, (let e : x ≡ v = cc in e))
+alone {X} (suc i) v x at = absurd (let clash : ◌≡◌ {A = Option X} None (Some x) = at in cc)
+
 -- what stands at a place of a list that was added to
-pub get_push : {X : Type 0} (xs : List X) (j : ℕ) (v x : X) → slice_get (xs ++ v ∷ []) j ≡ Some x → ((j ≡ length xs) × (x ≡ v)) ⊎ (slice_get xs j ≡ Some x)
-get_push [] zero v x at = inl (refl, (let e : x ≡ v = cc in e))
-get_push {X} [] (suc j) v x at = absurd (let clash : ◌≡◌ {A = Option X} None (Some x) = at in cc)
-get_push (y ∷ ys) zero v x at = inr at
-get_push (y ∷ ys) (suc j) v x at =
-    elim (get_push ys j v x at) [ inl h ↦ inl (ap suc h.0, h.1) | inr h ↦ inr h ]
+pub get_push : {X : Type 0} (xs : List X) (i : ℕ) (v x : X) → slice_get (xs ++ v ∷ []) i ≡ Some x → ((i ≡ length xs) × (x ≡ v)) ⊎ (slice_get xs i ≡ Some x)
+get_push xs i v x at =
+    elim (get_append xs (v ∷ []) i x at) [
+      | inl h ↦ inr h
+      | inr h ↦ let last = alone h.0 v x h.2 in inl (omega (arith, h.1, last.0), last.1)
+    ]
 
 pub get_there : {X : Type 0} (xs : List X) (i : ℕ) → i < length xs → (x : X) × (slice_get xs i ≡ Some x)
 get_there [] i less = absurd (omega (arith, less))
 get_there (x ∷ xs) zero less = (x, refl)
 get_there (x ∷ xs) (suc i) less = get_there xs i (omega (arith, less))
+
+-- what holds of all holds of what stands at a place
+pub all_at : {X : Type 0} (Holds : X → Type 0) (xs : List X) (i : ℕ) (x : X) → All Holds xs → slice_get xs i ≡ Some x → Holds x
+all_at Holds xs i x all at = subst Holds (get_or_from_slice_get xs i x x at) (all i x (slice_get_within xs i x at))
 
 module _ {M P : Type 0} where
   -- ---- full slots
@@ -51,9 +67,7 @@ module _ {M P : Type 0} where
       by_core (Some n) is = (n, is)
 
   pub full_at : (slots : List (Slot M P)) (i : ℕ) (slot : Slot M P) → AreFull slots → slice_get slots i ≡ Some slot → (n : NodeState M) × (slot.core ≡ Some n)
-  full_at slots i slot full at =
-      let within : i < length slots = slice_get_within slots i slot at in
-      core_there slot (subst (λ (x : Slot M P). Full x) (get_or_from_slice_get slots i slot slot at) (full i slot within))
+  full_at slots i slot full at = core_there slot (all_at Full slots i slot full at)
 
   pub length_full : (slots : List (Slot M P)) → AreFull slots → length (standings slots) ≡ length slots
   length_full [] full = refl
@@ -74,23 +88,6 @@ module _ {M P : Type 0} where
       by_core : (o : Option (NodeState M)) → x.core ≡ o → slice_get (standings slots) i ≡ Some (standing n slot) → slice_get (before x o (standings slots)) (suc i) ≡ Some (standing n slot)
       by_core None is rest = none_full x is (All-head Full x slots full)
       by_core (Some m) is rest = rest
-
-  -- a node of the world is in its slot
-  pub record InSlot (slots : List (Slot M P)) (i : ℕ) (s : Standing M) : Type 0 where
-    pub slot : Slot M P
-    pub there : slice_get slots i ≡ Some slot
-    pub core : slot.core ≡ Some s.node
-    pub is : s ≡ standing s.node slot
-
-  pub in_slot : (slots : List (Slot M P)) (i : ℕ) (s : Standing M) → AreFull slots → slice_get (standings slots) i ≡ Some s → InSlot slots i s
-  in_slot slots i s full at =
-      let within : i < length (standings slots) = slice_get_within (standings slots) i s at in
-      let found = get_there slots i (subst (λ n. i < n) (length_full slots full) within) in
-      let core = full_at slots i found.0 full found.1 in
-      let there = get_full slots i found.0 core.0 full found.1 core.1 in
-      let same : s ≡ standing core.0 found.0 = (let e : Some s ≡ Some (standing core.0 found.0) = sym at ∙ there in cc) in
-      let node : core.0 ≡ s.node = ap (λ (y : Standing M). y.node) (sym same) in
-      record { slot = found.0; there = found.1; core = core.1 ∙ ap Some node; is = same ∙ ap (λ m. standing m found.0) node }
 
   pub set_full : (slots : List (Slot M P)) (i : ℕ) (slot : Slot M P) (n : NodeState M) → AreFull slots → slot.core ≡ Some n
       → standings (set slots i slot) ≡ set (standings slots) i (standing n slot)

@@ -12,7 +12,7 @@ use Rattle.circus_world.specs.declared.world.WorldFault.{WorldFault}
 use Rattle.circus_world.specs.declared.world.WorldFault.TheVariants as fault
 use Rattle.circus_world.specs.WorldState.{WorldState}
 use Rattle.circus_world.specs.Legal.{refusal}
-use Rattle.circus_world.specs.Course.{Stepped, stepped}
+use Rattle.circus_world.specs.Course.{stepped}
 use Rattle.circus_world.specs.Boot.{before_any, all_booted, AreHosted}
 
 module _ {M : Type 0} (declared : M → Signature) (turn : M → List ValueTree → ℕ → List ValueTree → List Outcome → NextTurn) where

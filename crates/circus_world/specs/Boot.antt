@@ -1,14 +1,10 @@
 -- A world at boot: the nodes boot in their order, all in step 0.
-use Rattle.std.specs.Prelude.{◌≡◌, ℕ, suc, false, List, [], ◌∷◌, ◌++◌, length, map, slice_get, Option, None, Some, option_map, option_and_then, Result, Ok, Err}
+use Rattle.std.specs.Prelude.{◌≡◌, ℕ, false, List, [], ◌∷◌, ◌++◌, length, map, slice_get, Option, None, Some, Ok, Err}
 use Rattle.circus_value.specs.ValueTree.{ValueTree}
 use Rattle.circus_value.specs.declared.outcome.Outcome.{Outcome}
-use Rattle.circus_collate.specs.Deployment.{IsDeployment}
 use Rattle.circus_collate.specs.declared.deployment.Deployment.{Deployment}
-use Rattle.circus_collate.specs.declared.deployment.Host.{Host}
 use Rattle.circus_model.specs.NextTurn.{NextTurn}
-use Rattle.circus_model.specs.Behaviour.{Behaviour}
 use Rattle.circus_model.specs.declared.signature.Signature.{Signature}
-use Rattle.circus_performing.specs.Record.{behaviour}
 use Rattle.circus_node.specs.Booting as booting
 use Rattle.circus_node.specs.Step as node_step
 use Rattle.circus_world.specs.WorldState.{WorldState}
@@ -41,16 +37,7 @@ module _ {M : Type 0} (declared : M → Signature) (turn : M → List ValueTree 
       then_others (all_booted others)
       (joined_by w (booting.booted declared turn first w.deployment hosted (length w.nodes)))
 
-  -- what a node's module does
-  abbrev pub behaviour_at : List M → Host → Option Behaviour
-  behaviour_at modules host = option_map (behaviour declared turn first) (option_and_then (slice_get modules) host.module)
-
   -- each node hosts a module that does what its troupe's does
-  abbrev pub AreHosted : Deployment → List M → List (Option M) → Type 0
-  AreHosted d modules hosted = map (option_map (behaviour declared turn first)) hosted ≡ map (behaviour_at modules) d.nodes
-
-  -- there is one module a troupe, and it is one of its troupe
-  pub record CanBoot (d : Deployment) (modules : List M) : Type 0 where
-    pub deployment : IsDeployment d
-    pub one_each : length modules ≡ length d.troupes
-    pub fit : (number : ℕ) (m : M) → slice_get modules number ≡ Some m → booting.IsOfTroupe d number (declared m)
+  pub record AreHosted (d : Deployment) (modules : List M) (hosted : List (Option M)) : Type 0 where
+    pub one_each : length hosted ≡ length d.nodes
+    pub each : (node : ℕ) (own : Option M) → slice_get hosted node ≡ Some own → booting.IsHosted declared turn first d modules node own

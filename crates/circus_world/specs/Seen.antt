@@ -1,3 +1,4 @@
+pub mod Coming
 pub mod Followed
 pub mod Made
 pub mod MadeAt

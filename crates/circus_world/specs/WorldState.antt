@@ -1,5 +1,5 @@
 -- A simulated program, as a state.
-use Rattle.std.specs.Prelude.{ℕ, Bool, false, List, length, slice_get, Option, is_none, is_some}
+use Rattle.std.specs.Prelude.{ℕ, Bool, false, List, slice_get, Option, is_none, is_some}
 use Rattle.std.specs.Option.{option_map_or}
 use Rattle.circus_collate.specs.declared.deployment.Deployment.{Deployment}
 use Rattle.circus_node.specs.NodeState.{NodeState}

@@ -29,7 +29,6 @@ impl<M: Module> Slot<M> {
     }
 
     /// The node makes a step, and what it gives. After a fault there is no node.
-    #[tactic(none)]
     pub fn make_step(&mut self, at: u64, event: Event) -> Result<Gives, StepFault>
         requires { CanMake event self.old }
         ensures { IsMade M.declared M.turn at event self.old self.new result }

@@ -1,20 +1,18 @@
 // A program on simulated machines.
-ghost use Rattle.std.specs.Prelude.{◌≡◌, ◌<◌, [], ◌∷◌, ◌++◌, length, map, vec_len, slice_get, option_copied, option_map, option_and_then, IfOk, OnOk};
+ghost use Rattle.std.specs.Prelude.{◌≡◌, ◌<◌, [], ◌∷◌, ◌++◌, length, map, vec_len, slice_get, option_copied, option_map, option_and_then, OnOk};
+ghost use Rattle.circus_collate.specs.Deployment.{IsDeployment};
 ghost use Rattle.circus_schedule.specs.Meaning.{NamesBelow};
 ghost use Rattle.circus_node.specs.NodeState.{member_record as record_of, ring_views as views_of};
-ghost use Rattle.circus_node.specs.Step.{CanCome};
-ghost use Rattle.circus_performing.specs.Record.{behaviour};
-ghost use Rattle.circus_world.specs.WorldState.{Standing};
+ghost use Rattle.circus_node.specs.Booting.{AreOfTroupes};
 ghost use Rattle.circus_world.specs.Legal as legal;
 ghost use Rattle.circus_world.specs.Legal.{refusal};
 ghost use Rattle.circus_world.specs.Course as course;
 ghost use Rattle.circus_world.specs.Answers.{IsStepped, IsBooted};
+ghost use Rattle.circus_world.specs.Seen.Coming.{MayCome};
 ghost use Rattle.circus_world.specs.Seen.Followed.{IsFollowed};
 ghost use Rattle.circus_world.specs.Seen.Made.{CanMake};
 ghost use Rattle.circus_world.specs.Seen.MadeAt.{IsMadeAt, IsBootedAt, AreBooted};
 ghost use Rattle.circus_world.specs.declared.slot.Slot.{Slot as SlotOf};
-ghost use Rattle.circus_node.specs.Booting as booting;
-ghost use Rattle.circus_world.specs.Boot as boot;
 
 use crate::legal::is_spare;
 use crate::slot::Slot;
@@ -94,17 +92,23 @@ pub enum WorldFault<M: Module> {
 
 impl<M: Module> World<M> {
     /// The nodes of a program at boot, which is step 0, each with a copy of its troupe's module; what they send then is sent
-    /// in the order of the nodes. The conditions are in `CanBoot`.
+    /// in the order of the nodes. There is one module for each troupe; its conditions are in `IsOfTroupe`.
     ///
     /// `Spent` exactly where a node's boot is refused so; `NoMemory` where memory runs out.
-    #[tactic(none)]
     pub fn boot(alloc: Global, deployment: Deployment, modules: Vec<M>) -> Result<Self, BootFault>
-        requires { boot.CanBoot M.declared M.turn M.first deployment modules.items }
+        requires deployment { IsDeployment deployment }
+        requires modules { AreOfTroupes deployment (map M.declared modules.items) }
         ensures { IsBooted M.declared M.turn M.first deployment modules.items result }
     {
         let mut slots = Vec::new(alloc);
         let mut sent = ListOf::new(alloc);
-        boot_all(alloc, &deployment, modules.as_slice(), &mut slots, &mut sent)?;
+        boot_all(
+            alloc,
+            &deployment,
+            modules.as_slice(),
+            &mut slots,
+            &mut sent,
+        )?;
         Ok(World {
             deployment,
             modules,
@@ -119,7 +123,6 @@ impl<M: Module> World<M> {
     ///
     /// `Illegal` exactly where the line may not be stepped, with the world as it was and the first cause; `Spent` exactly
     /// where the step of a node is refused so; `NoMemory` where memory runs out. After these two the world is gone.
-    #[tactic(none)]
     pub fn step(self, line: &Line) -> Result<Self, WorldFault<M>>
         requires named { NamesBelow (length self.nodes) line.now }
         requires few { self.steps < 18446744073709551615 }
@@ -151,7 +154,6 @@ impl<M: Module> World<M> {
 
     /// What the member at a node did, up to its crash where the node has crashed. `None` exactly where it hosts none. It
     /// takes no memory.
-    #[tactic(none)]
     pub fn kept(&self, node: u16) -> Option<&MemberRecord>
         requires { node < length self.now.nodes }
         ensures { option_copied result ≡ option_and_then (λ s. record_of s.node.acting) (slice_get self.now.nodes node) }
@@ -160,7 +162,6 @@ impl<M: Module> World<M> {
     }
 
     /// The step in which a node crashed. `None` exactly where it is live. It takes no memory.
-    #[tactic(none)]
     pub fn crashed(&self, node: u16) -> Option<u64>
         requires { node < length self.now.nodes }
         ensures { result ≡ option_and_then (λ s. s.crashed) (slice_get self.now.nodes node) }
@@ -169,18 +170,19 @@ impl<M: Module> World<M> {
     }
 
     /// The views that the Ringmaster keeps, one a troupe, up to its crash where its node has crashed. It takes no memory.
-    #[tactic(none)]
     pub fn ring_views(&self) -> &Views
         ensures { option_and_then (λ s. views_of s.node.acting) (slice_get self.now.nodes 0) ≡ Some result.now }
     {
-        match self.core(0).ring_views() {
+        let Some(core) = &self.slots[0].core else {
+            unreachable!();
+        };
+        match core.ring_views() {
             Some(views) => views,
             None => unreachable!(),
         }
     }
 
     /// A node's own core, which is that of the crash where the node has crashed. It takes no memory.
-    #[tactic(none)]
     pub fn core(&self, node: u16) -> &NodeCore<M>
         requires { node < length self.now.nodes }
         ensures { option_map (λ s. s.node) (slice_get self.now.nodes node) ≡ Some result.now }
@@ -249,7 +251,6 @@ impl<M: Module> World<M> {
     }
 
     // A line that may be stepped.
-    #[tactic(none)]
     fn follow(self, line: &Line) -> Result<Self, Loss>
         requires named { NamesBelow (length self.nodes) line.now }
         requires few { self.steps < 18446744073709551615 }
@@ -266,7 +267,6 @@ impl<M: Module> World<M> {
     }
 
     // A datagram is delivered; one for a crashed node is lost.
-    #[tactic(none)]
     fn deliver(self, number: u64) -> Result<Self, Loss>
         requires few { self.steps < 18446744073709551615 }
         ensures { IsFollowed result (course.stepped M.declared M.turn (Line.Deliver number) self) }
@@ -283,11 +283,10 @@ impl<M: Module> World<M> {
     }
 
     // Something comes to a node, which makes a step.
-    #[tactic(none)]
     fn comes_to(self, node: u16, event: Event) -> Result<Self, Loss>
         requires node { node < length self.nodes }
         requires few { self.steps < 18446744073709551615 }
-        requires event { (s : Standing M) → slice_get self.nodes node ≡ Some s → CanCome s.node event }
+        requires event { MayCome (length self.nodes) node event }
         ensures { IsFollowed result (course.comes_to M.declared M.turn node event self) }
     {
         let World {
@@ -309,7 +308,6 @@ impl<M: Module> World<M> {
     }
 
     // A step in which no node does anything.
-    #[tactic(none)]
     fn pass(self) -> Self
         requires { self.steps < 18446744073709551615 }
         ensures { result ≡ course.passed self }
@@ -330,7 +328,6 @@ impl<M: Module> World<M> {
         }
     }
 
-    #[tactic(none)]
     fn crash(self, node: u16) -> Self
         requires node { node < length self.nodes }
         requires few { self.steps < 18446744073709551615 }
@@ -354,7 +351,6 @@ impl<M: Module> World<M> {
         }
     }
 
-    #[tactic(none)]
     fn tell_to_join(self, node: u16) -> Self
         requires { node < length self.nodes }
         ensures { result ≡ course.told_to_join node self }
@@ -395,20 +391,6 @@ impl From<NoMemory> for Loss {
     }
 }
 
-// A copy of the module of a troupe.
-fn copy_of<M: Module>(modules: &[M], troupe: Option<u16>) -> Result<Option<M>, NoMemory>
-    ensures { IfOk result (λ copy. option_map (behaviour M.declared M.turn M.first) copy
-        ≡ option_map (behaviour M.declared M.turn M.first) (option_and_then (slice_get modules.now) troupe)) }
-{
-    let Some(number) = troupe else {
-        return Ok(None);
-    };
-    match modules.get(usize::from(number)) {
-        Some(module) => Ok(Some(module.copy()?)),
-        None => Ok(None),
-    }
-}
-
 fn add<M: Module>(slots: &mut Vec<Slot<M>>, slot: Slot<M>) -> Result<(), NoMemory>
     ensures { OnOk result (slots.new.items ≡ slots.old.items ++ slot ∷ []) }
 {
@@ -419,7 +401,6 @@ fn add<M: Module>(slots: &mut Vec<Slot<M>>, slot: Slot<M>) -> Result<(), NoMemor
 }
 
 // All nodes boot.
-#[tactic(none)]
 fn boot_all<M: Module>(
     alloc: Global,
     deployment: &Deployment,
@@ -427,32 +408,33 @@ fn boot_all<M: Module>(
     slots: &mut Vec<Slot<M>>,
     sent: &mut SentList,
 ) -> Result<(), BootFault>
-    requires can { boot.CanBoot M.declared M.turn M.first deployment.now modules.now }
+    requires deployment { IsDeployment deployment.now }
+    requires modules { AreOfTroupes deployment.now (map M.declared modules.now) }
     requires slots { slots.old.items ≡ [] }
     requires sent { sent.old ≡ [] }
     ensures { AreBooted M.declared M.turn M.first deployment.now modules.now slots.new.items sent.new result }
 {
-    for (node, host) in deployment.nodes.as_slice().iter().enumerate() {
-        let hosted = copy_of(modules, host.module)?;
-        boot_at(alloc, deployment, hosted, node as u16, slots, sent)?;
+    for node in 0..deployment.nodes.len() as u16 {
+        boot_at(alloc, deployment, modules, node, slots, sent)?;
     }
     Ok(())
 }
 
 // A node boots behind those before it.
-#[tactic(none)]
 fn boot_at<M: Module>(
     alloc: Global,
     deployment: &Deployment,
-    hosted: Option<M>,
+    modules: &[M],
     node: u16,
     slots: &mut Vec<Slot<M>>,
     sent: &mut SentList,
 ) -> Result<(), BootFault>
-    requires { booting.CanBoot deployment.now node (option_map M.declared hosted) }
-    ensures { IsBootedAt M.declared M.turn M.first deployment.now hosted node slots.old.items sent.old slots.new.items sent.new result }
+    requires deployment { IsDeployment deployment.now }
+    requires modules { AreOfTroupes deployment.now (map M.declared modules.now) }
+    requires within { node < length deployment.now.nodes }
+    ensures { IsBootedAt M.declared M.turn M.first deployment.now modules.now node slots.old.items sent.old slots.new.items sent.new result }
 {
-    let (core, outputs) = match NodeCore::boot(alloc, deployment, hosted, node) {
+    let (core, outputs) = match NodeCore::boot_of(alloc, deployment, modules, node) {
         Ok(booted) => booted,
         Err(StepFault::NoMemory) => return Err(BootFault::NoMemory),
         Err(StepFault::Spent(peer)) => return Err(BootFault::Spent(node, peer)),
@@ -463,7 +445,6 @@ fn boot_at<M: Module>(
 }
 
 // A node makes a step, and what it gives is sent.
-#[tactic(none)]
 fn make_at<M: Module>(
     slots: &mut Vec<Slot<M>>,
     node: u16,

@@ -1,8 +1,7 @@
 -- A step of a node in its slot.
-use Rattle.std.specs.Prelude.{◌≡◌, ℕ, List, Option, None, Some, Result, Ok, Err}
+use Rattle.std.specs.Prelude.{◌≡◌, ℕ, List, Some, Result, Ok, Err}
 use Rattle.circus_value.specs.ValueTree.{ValueTree}
 use Rattle.circus_value.specs.declared.outcome.Outcome.{Outcome}
-use Rattle.circus_collate.specs.declared.deployment.Deployment.{Deployment}
 use Rattle.circus_model.specs.NextTurn.{NextTurn}
 use Rattle.circus_model.specs.declared.signature.Signature.{Signature}
 use Rattle.circus_node.specs.declared.event.Event.{Event}
@@ -10,7 +9,6 @@ use Rattle.circus_node.specs.declared.event.Give.{Give}
 use Rattle.circus_node.specs.declared.event.Outputs.{Outputs}
 use Rattle.circus_node.specs.declared.event.StepFault.{StepFault}
 use Rattle.circus_node.specs.declared.event.StepFault.TheVariants as fault
-use Rattle.circus_node.specs.Node.{IsNodeOf, GoToOthers}
 use Rattle.circus_node.specs.NodeState.{NodeState}
 use Rattle.circus_node.specs.Step.{CanCome, stepped}
 use Rattle.circus_world.specs.declared.slot.Slot.{Slot}
@@ -31,8 +29,6 @@ module _ {M P : Type 0} (declared : M → Signature) (turn : M → List ValueTre
     pub stepped_is : stepped declared turn at event before ≡ Ok (after, outputs)
     pub new_is : new ≡ record old { core = Some after }
     pub gives_are : gives ≡ outputs.gives
-    pub still : (d : Deployment) (number : ℕ) → IsNodeOf d number before → IsNodeOf d number after
-    pub others : GoToOthers after gives
 
   abbrev pub IsMade : ℕ → Event → Slot M P → Slot M P → Result (List Give) StepFault → Type 0
   IsMade at event old new (Ok gives) = HasMade at event old new gives

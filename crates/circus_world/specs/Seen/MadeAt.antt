@@ -8,10 +8,9 @@ use Rattle.circus_model.specs.declared.signature.Signature.{Signature}
 use Rattle.circus_node.specs.declared.event.Event.{Event}
 use Rattle.circus_node.specs.declared.event.Give.{Give}
 use Rattle.circus_node.specs.declared.event.Outputs.{Outputs}
-use Rattle.circus_node.specs.Node.{IsNodeOf, GoToOthers}
 use Rattle.circus_node.specs.NodeState.{NodeState}
 use Rattle.circus_node.specs.Step.{stepped}
-use Rattle.circus_node.specs.Booting.{booted}
+use Rattle.circus_node.specs.Booting.{booted, IsHosted}
 use Rattle.circus_world.specs.declared.sent.Sent.{Sent}
 use Rattle.circus_world.specs.declared.slot.Slot.{Slot}
 use Rattle.circus_world.specs.declared.world.BootFault.{BootFault}
@@ -21,7 +20,6 @@ use Rattle.circus_world.specs.declared.world.Loss.TheVariants as loss
 use Rattle.circus_world.specs.Course.{sent_by}
 use Rattle.circus_world.specs.Boot.{before_any, all_booted, AreHosted}
 use Rattle.circus_world.specs.Seen.Slots.{AreFull, world_of}
-use Rattle.circus_world.specs.Seen.Sound.{IsSound}
 use Rattle.circus_world.specs.Seen.Made.{HasMade}
 
 module _ {M P : Type 0} (declared : M → Signature) (turn : M → List ValueTree → ℕ → List ValueTree → List Outcome → NextTurn) where
@@ -49,7 +47,13 @@ module _ {M P : Type 0} (declared : M → Signature) (turn : M → List ValueTre
   IsMadeAt at node event old before new after (Err loss.NoMemory) = Unit {0}
 
 module _ {M : Type 0} (declared : M → Signature) (turn : M → List ValueTree → ℕ → List ValueTree → List Outcome → NextTurn) (first : M → List ValueTree) where
-  -- a node has no number left for another one
+  -- a node that boots has no number left for another one
+  pub record IsSpentAtBoot (d : Deployment) (modules : List M) (node peer : ℕ) : Type 0 where
+    pub own : Option M
+    pub hosts : IsHosted declared turn first d modules node own
+    pub booted_is : booted declared turn first d own node ≡ Err peer
+
+  -- when all nodes boot, one has no number left for another one
   pub record IsSpent (d : Deployment) (modules : List M) (node peer : ℕ) : Type 0 where
     pub hosted : List (Option M)
     pub hosts : AreHosted declared turn first d modules hosted
@@ -57,19 +61,19 @@ module _ {M : Type 0} (declared : M → Signature) (turn : M → List ValueTree 
 
 module _ {M P : Type 0} (declared : M → Signature) (turn : M → List ValueTree → ℕ → List ValueTree → List Outcome → NextTurn) (first : M → List ValueTree) where
   -- a node has booted behind those before it
-  pub record HasBootedAt (d : Deployment) (hosted : Option M) (node : ℕ) (old : List (Slot M P)) (before : List Sent) (new : List (Slot M P)) (after : List Sent) : Type 0 where
+  pub record HasBootedAt (d : Deployment) (modules : List M) (node : ℕ) (old : List (Slot M P)) (before : List Sent) (new : List (Slot M P)) (after : List Sent) : Type 0 where
+    pub own : Option M
+    pub hosts : IsHosted declared turn first d modules node own
     pub core : NodeState M
     pub outputs : Outputs
-    pub booted_is : booted declared turn first d hosted node ≡ Ok (core, outputs)
+    pub booted_is : booted declared turn first d own node ≡ Ok (core, outputs)
     pub new_is : new ≡ old ++ record { core = Some core; crashed = None; joins = false } ∷ []
     pub after_is : after ≡ before ++ map (sent_by 0 node) outputs.gives
-    pub is : IsNodeOf d node core
-    pub others : GoToOthers core outputs.gives
 
-  abbrev pub IsBootedAt : Deployment → Option M → ℕ → List (Slot M P) → List Sent → List (Slot M P) → List Sent → Result (Unit {0}) BootFault → Type 0
-  IsBootedAt d hosted node old before new after (Ok done) = HasBootedAt d hosted node old before new after
-  IsBootedAt d hosted node old before new after (Err (boot_fault.Spent spent peer)) = (spent ≡ node) × (booted declared turn first d hosted node ≡ Err peer)
-  IsBootedAt d hosted node old before new after (Err boot_fault.NoMemory) = Unit {0}
+  abbrev pub IsBootedAt : Deployment → List M → ℕ → List (Slot M P) → List Sent → List (Slot M P) → List Sent → Result (Unit {0}) BootFault → Type 0
+  IsBootedAt d modules node old before new after (Ok done) = HasBootedAt d modules node old before new after
+  IsBootedAt d modules node old before new after (Err (boot_fault.Spent spent peer)) = (spent ≡ node) × IsSpentAtBoot declared turn first d modules node peer
+  IsBootedAt d modules node old before new after (Err boot_fault.NoMemory) = Unit {0}
 
   -- all nodes have booted
   pub record HaveBooted (d : Deployment) (modules : List M) (slots : List (Slot M P)) (sent : List Sent) : Type 0 where
@@ -77,7 +81,6 @@ module _ {M P : Type 0} (declared : M → Signature) (turn : M → List ValueTre
     pub hosts : AreHosted declared turn first d modules hosted
     pub booted_is : all_booted declared turn first hosted (before_any d modules) ≡ Ok (world_of d modules slots sent 0)
     pub full : AreFull slots
-    pub sound : IsSound (world_of d modules slots sent 0)
 
   abbrev pub AreBooted : Deployment → List M → List (Slot M P) → List Sent → Result (Unit {0}) BootFault → Type 0
   AreBooted d modules slots sent (Ok done) = HaveBooted d modules slots sent

@@ -1,5 +1,5 @@
 -- The nodes of a world by the slots that keep them.
-use Rattle.std.specs.Prelude.{◌≡◌, ℕ, List, [], ◌∷◌, Option, None, Some, IsSome, All}
+use Rattle.std.specs.Prelude.{ℕ, List, [], ◌∷◌, Option, None, Some, IsSome, All}
 use Rattle.circus_collate.specs.declared.deployment.Deployment.{Deployment}
 use Rattle.circus_node.specs.NodeState.{NodeState}
 use Rattle.circus_world.specs.declared.sent.Sent.{Sent}

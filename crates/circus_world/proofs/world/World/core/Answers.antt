@@ -1,10 +1,10 @@
-use Rattle.std.proofs.Common.{◌≡◌, ℕ, ◌<◌, length, Option, None, Some, refl, sym, ap, ◌∙◌, arith}
+use Rattle.std.proofs.Common.{◌≡◌, ℕ, Option, None, Some, sym, ap, ◌∙◌, arith}
 use Rattle.std.specs.Prelude.{slice_get, option_map}
 use Rattle.circus_node.specs.NodeState.{NodeState}
-use Rattle.circus_world.specs.WorldState.{WorldState, Standing}
+use Rattle.circus_world.specs.WorldState.{WorldState}
 use Rattle.circus_world.specs.declared.slot.Slot.{Slot}
-use Rattle.circus_world.proofs.SlotLemmas.{slot_at, core_of, full_at}
-use Rattle.circus_world.proofs.WorldLemmas.{slot_below}
+use Rattle.circus_world.proofs.SlotLemmas.{core_of, full_at}
+use Rattle.circus_world.proofs.WorldLemmas.{slot_below, slot_in}
 use Rattle.circus_world.proofs.world.World.core.Goals as goal
 
 pub index-requires : goal.index-requires
@@ -16,19 +16,16 @@ pub unreachable-requires : goal.unreachable-requires
 unreachable-requires g c =
     let i = c.self.inside in
     let slot : Slot g.row.M.Denot g.row.M-Paused.Denot = c.index.result.now in
-    let there = slot_at i.slots.items c.from.result slot (omega (arith, slot_below i.deployment i.modules.items i.slots.items i.sent i.steps c.args.self.now c.args.node c.self.view_is c.self.invariant.0 c.requires, c.from.ensures)) c.index.ensures in
+    let there = slot_in i.deployment i.modules.items i.slots.items i.sent i.steps c.args.self.now c.args.node c.from.result slot c.self.view_is c.self.invariant.0 c.requires c.from.ensures c.index.ensures in
     let core = full_at i.slots.items c.from.result slot c.self.invariant.0 there in
     let clash : ◌≡◌ {A = Option (NodeState g.row.M.Denot)} None (Some core.0) = sym c.in-None.is ∙ core.1 in
     cc
-
-pub unreachable-unreachable : goal.unreachable-unreachable
-unreachable-unreachable g c = c.unreachable.type_inv
 
 pub returns : goal.returns
 returns g c =
     let i = c.self.inside in
     let slot : Slot g.row.M.Denot g.row.M-Paused.Denot = c.index.result.now in
-    let there = slot_at i.slots.items c.from.result slot (omega (arith, slot_below i.deployment i.modules.items i.slots.items i.sent i.steps c.args.self.now c.args.node c.self.view_is c.self.invariant.0 c.requires, c.from.ensures)) c.index.ensures in
+    let there = slot_in i.deployment i.modules.items i.slots.items i.sent i.steps c.args.self.now c.args.node c.from.result slot c.self.view_is c.self.invariant.0 c.requires c.from.ensures c.index.ensures in
     let seen : ℕ → WorldState g.row.M.Denot → Option (NodeState g.row.M.Denot) = λ k w. option_map (λ s. s.node) (slice_get w.nodes k) in
     sym (ap (λ k. seen k c.args.self.now) c.from.ensures)
     ∙ sym (ap (λ w. seen c.from.result w) c.self.view_is)

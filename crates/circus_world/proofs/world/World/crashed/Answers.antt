@@ -1,9 +1,9 @@
-use Rattle.std.proofs.Common.{◌≡◌, ℕ, ◌<◌, length, Option, refl, ap, ◌∙◌, arith}
+use Rattle.std.proofs.Common.{ℕ, Option, ap, ◌∙◌, arith}
 use Rattle.std.specs.Prelude.{slice_get, option_and_then}
 use Rattle.circus_world.specs.WorldState.{WorldState, Standing}
 use Rattle.circus_world.specs.declared.slot.Slot.{Slot}
-use Rattle.circus_world.proofs.SlotLemmas.{slot_at, crashed_of}
-use Rattle.circus_world.proofs.WorldLemmas.{slot_below}
+use Rattle.circus_world.proofs.SlotLemmas.{crashed_of}
+use Rattle.circus_world.proofs.WorldLemmas.{slot_below, slot_in}
 use Rattle.circus_world.proofs.world.World.crashed.Goals as goal
 
 pub index-requires : goal.index-requires
@@ -15,7 +15,7 @@ pub returns : goal.returns
 returns g c =
     let i = c.self.inside in
     let slot : Slot g.row.M.Denot g.row.M-Paused.Denot = c.index.result.now in
-    let there = slot_at i.slots.items c.from.result slot (omega (arith, slot_below i.deployment i.modules.items i.slots.items i.sent i.steps c.args.self.now c.args.node c.self.view_is c.self.invariant.0 c.requires, c.from.ensures)) c.index.ensures in
+    let there = slot_in i.deployment i.modules.items i.slots.items i.sent i.steps c.args.self.now c.args.node c.from.result slot c.self.view_is c.self.invariant.0 c.requires c.from.ensures c.index.ensures in
     let seen : ℕ → WorldState g.row.M.Denot → Option ℕ = λ k w. option_and_then (λ (s : Standing g.row.M.Denot). s.crashed) (slice_get w.nodes k) in
     crashed_of i.slots.items c.from.result slot c.self.invariant.0 there
     ∙ ap (λ w. seen c.from.result w) c.self.view_is

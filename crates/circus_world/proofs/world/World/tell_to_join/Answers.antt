@@ -1,9 +1,10 @@
-use Rattle.std.proofs.Common.{◌≡◌, refl, ap, ◌∙◌, arith, true}
-use Rattle.circus_world.specs.WorldState.{Standing}
-use Rattle.circus_world.specs.Course.{noted}
+use Rattle.std.proofs.Common.{refl, sym, ap, subst, ◌∙◌, arith, true}
+use Rattle.circus_world.specs.WorldState.{WorldState, Standing}
+use Rattle.circus_world.specs.Course.{told_to_join}
 use Rattle.circus_world.specs.declared.slot.Slot.{Slot}
-use Rattle.circus_world.proofs.SlotLemmas.{slot_at}
-use Rattle.circus_world.proofs.WorldLemmas.{slot_below, noted_sound, noted_is}
+use Rattle.circus_world.specs.Seen.Sound.{IsSound}
+use Rattle.circus_world.proofs.SoundLemmas.{noted_sound}
+use Rattle.circus_world.proofs.WorldLemmas.{slot_below, slot_in, noted_full, noted_is}
 use Rattle.circus_world.proofs.world.World.tell_to_join.Goals as goal
 
 pub index_mut-requires : goal.index_mut-requires
@@ -15,16 +16,20 @@ pub invariant_of-result : goal.invariant_of-result
 invariant_of-result g c =
     let i = c.self.inside in
     let slot : Slot g.row.M.Denot g.row.M-Paused.Denot = c.index_mut.result.now in
-    noted_sound i.deployment i.modules.items i.slots.items i.sent i.steps i.steps c.from.result slot (record slot { joins = true })
-    c.self.invariant.0 c.self.invariant.1
-    (slot_at i.slots.items c.from.result slot (omega (arith, slot_below i.deployment i.modules.items i.slots.items i.sent i.steps c.args.self c.args.node c.self.view_is c.self.invariant.0 c.requires, c.from.ensures)) c.index_mut.ensures.value) refl
+    let note : Standing g.row.M.Denot → Standing g.row.M.Denot = λ s. record s { joins = true } in
+    let next : Slot g.row.M.Denot g.row.M-Paused.Denot = record slot { joins = true } in
+    let there = slot_in i.deployment i.modules.items i.slots.items i.sent i.steps c.args.self c.args.node c.from.result slot c.self.view_is c.self.invariant.0 c.requires c.from.ensures c.index_mut.ensures.value in
+    let is = noted_is i.deployment i.modules.items i.slots.items i.sent i.steps c.from.result slot next note c.self.invariant.0 there refl (λ n. refl) in
+    (noted_full i.slots.items c.from.result slot next c.self.invariant.0 there refl, subst (λ (w : WorldState g.row.M.Denot). IsSound w) (sym is) (noted_sound note c.from.result _ (λ s. refl) c.self.invariant.1))
 
 pub returns : goal.returns
 returns g c =
     let i = c.self.inside in
     let slot : Slot g.row.M.Denot g.row.M-Paused.Denot = c.index_mut.result.now in
     let note : Standing g.row.M.Denot → Standing g.row.M.Denot = λ s. record s { joins = true } in
-    noted_is i.deployment i.modules.items i.slots.items i.sent i.steps c.from.result slot (record slot { joins = true }) note c.self.invariant.0
-    (slot_at i.slots.items c.from.result slot (omega (arith, slot_below i.deployment i.modules.items i.slots.items i.sent i.steps c.args.self c.args.node c.self.view_is c.self.invariant.0 c.requires, c.from.ensures)) c.index_mut.ensures.value) refl (λ n. refl)
-    ∙ ap (λ w. noted note c.from.result w) c.self.view_is
-    ∙ ap (λ k. noted note k c.args.self) c.from.ensures
+    let next : Slot g.row.M.Denot g.row.M-Paused.Denot = record slot { joins = true } in
+    let there = slot_in i.deployment i.modules.items i.slots.items i.sent i.steps c.args.self c.args.node c.from.result slot c.self.view_is c.self.invariant.0 c.requires c.from.ensures c.index_mut.ensures.value in
+    let is = noted_is i.deployment i.modules.items i.slots.items i.sent i.steps c.from.result slot next note c.self.invariant.0 there refl (λ n. refl) in
+    is
+    ∙ ap (λ w. told_to_join c.from.result w) c.self.view_is
+    ∙ ap (λ k. told_to_join k c.args.self) c.from.ensures
