@@ -44,7 +44,10 @@ impl<R: Print> StdSink<R> {
         ensures counts { SinkCounts result self.old self.new }
         ensures never_falls { self.old ≤ self.new }
     {
-        let answer = write_whole(&mut io::writer(&self.output), self.gathered.as_slice());
+        let mut writer = io::writer(&self.output);
+        let answer = writer
+            .write_all(self.gathered.as_slice())
+            .map_err(|_| SinkFault::Failed);
         self.gathered.clear();
         self.counted(answer)
     }
@@ -60,15 +63,6 @@ impl<R: Print> StdSink<R> {
         }
         answer
     }
-}
-
-// Writes pieces until the writer has taken all.
-fn write_whole<W: Write>(writer: &mut W, bytes: &[u8]) -> Result<(), SinkFault> {
-    let mut at = 0;
-    while at < bytes.len() {
-        at += write_piece(writer, &bytes[at..])?;
-    }
-    Ok(())
 }
 
 impl<R: Print> Sink for StdSink<R> {

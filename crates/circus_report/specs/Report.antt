@@ -1,11 +1,11 @@
 -- The text of a world: what was sent, the Ringmaster's views, and the members.
-use Rattle.std.specs.Prelude.{ℕ, suc, ◌+◌, List, [], ◌∷◌, ◌++◌, codes, slice_get, Option, None, option_and_then, unwrap_or}
+use Rattle.std.specs.Prelude.{ℕ, ◌+◌, List, [], ◌∷◌, ◌++◌, codes, slice_get}
 use Rattle.std.specs.Option.{option_map_or}
 use Rattle.std.specs.Fmt.{decimal}
 use Rattle.hex.specs.Hex.{encode_lower}
 use Rattle.circus_collate.specs.declared.deployment.Host.{Host}
 use Rattle.circus_record.specs.Line.{line}
-use Rattle.circus_record.specs.Naming.{Names, names_of}
+use Rattle.circus_record.specs.Naming.{Names}
 use Rattle.circus_record.specs.MemberText.{member_lines}
 use Rattle.circus_node.specs.NodeState.{member_record, ring_views}
 use Rattle.circus_world.specs.declared.sent.Sent.{Sent}

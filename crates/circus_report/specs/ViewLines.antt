@@ -1,6 +1,5 @@
 -- The lines of the Ringmaster and of the views that it keeps.
 use Rattle.std.specs.Prelude.{ℕ, List, [], ◌∷◌, ◌++◌, Option, codes}
-use Rattle.std.specs.List.{flat_map}
 use Rattle.std.specs.Fmt.{decimal}
 use Rattle.circus_collate.specs.declared.view.Since.{Since}
 use Rattle.circus_collate.specs.declared.view.Since.TheVariants.{Joining, From}

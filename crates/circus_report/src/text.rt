@@ -108,13 +108,13 @@ fn append_rest<M: Module, N: Naming>(
 ) -> Result<(), NoMemory>
     ensures { OnOk result (string_bytes text.new ≡ string_bytes text.old ++ report.rest_text (N.names names.now) world.now) }
 {
-    let ringmaster = RingmasterLine {
-        names,
-        crashed: world.crashed(0),
-    };
     let views = ViewsText {
         names,
         views: world.ring_views().as_slice(),
+    };
+    let ringmaster = RingmasterLine {
+        names,
+        crashed: world.crashed(0),
     };
     write!(text, "{ringmaster}{views}")?;
     append_members(text, names, world)

@@ -1,1 +1,4 @@
+pub mod PutLemmas
+pub mod SentLines
+pub mod StepLemmas
 pub mod ToldLemmas

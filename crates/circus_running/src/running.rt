@@ -84,7 +84,6 @@ impl<M: Module> Running<M> {
     ///
     /// `SinkFailed` only where the sink's count of faults rose, and `NoMemory`; after both, what was put is a beginning of
     /// these lines.
-    #[tactic(none)]
     pub fn begin<K: Sink>(alloc: Global, world: World<M>, sink: &mut K) -> Result<Self, RunFault>
         requires { All (λ h. IsAscii (host_name h)) world.deployment.nodes }
         ensures put { run.IsPut (run.beginning world) (K.written sink.old) (K.written sink.new) result }
@@ -102,13 +101,7 @@ impl<M: Module> Running<M> {
     ///
     /// `Illegal` and `Spent` as `World::step` answers them, where nothing was put; `SinkFailed` only where the sink's count of
     /// faults rose, and `NoMemory`.
-    #[tactic(none)]
-    pub fn line<K: Sink>(
-        self,
-        alloc: Global,
-        line: &Line,
-        sink: &mut K,
-    ) -> Result<Self, RunFault>
+    pub fn line<K: Sink>(self, alloc: Global, line: &Line, sink: &mut K) -> Result<Self, RunFault>
         requires ascii { All (λ h. IsAscii (host_name h)) self.deployment.nodes }
         requires named { NamesBelow (length self.nodes) line.now }
         requires few { self.steps < 18446744073709551615 }
@@ -131,7 +124,6 @@ impl<M: Module> Running<M> {
     ///
     /// `SinkFailed` only where the sink's count of faults rose, and `NoMemory`; after both, what was put is a beginning of
     /// these lines.
-    #[tactic(none)]
     pub fn finish<K: Sink>(
         self,
         alloc: Global,
@@ -158,7 +150,6 @@ impl<M: Module> Running<M> {
 }
 
 // Puts the lines of what was sent, from this number on.
-#[tactic(none)]
 fn put_sent<M: Module, K: Sink>(
     alloc: Global,
     world: &World<M>,

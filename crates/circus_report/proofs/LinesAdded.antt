@@ -1,0 +1,46 @@
+-- Lines that are added, one by one.
+use Rattle.std.proofs.Common.{◌≡◌, ℕ, ◌+◌, ◌<◌, List, ◌∷◌, ◌++◌, length, take, drop, get_or, Some, inl, inr, refl, sym, ap, ◌∙◌, append_assoc, add-one, drop-cons, arith}
+use Rattle.std.specs.Prelude.{slice_get}
+use Rattle.std.proofs.lemmas.Option.{slice_get_cases, slice_get_read, slice_get_within, get_or_from_slice_get}
+use Rattle.circus_collate.specs.declared.deployment.Host.{Host}
+use Rattle.circus_record.specs.Naming.{Names}
+use Rattle.circus_record.proofs.LinesMore.{more_from_none}
+use Rattle.circus_world.specs.declared.sent.Sent.{Sent}
+use Rattle.circus_world.specs.WorldState.{Standing}
+use Rattle.circus_report.specs.Report.{sent_line, sent_lines, member_at, members_lines}
+
+-- where the line of a datagram is added, those of the front with it are
+pub sent_added : (names : Names) (old text next : List ℕ) (all : List Sent) (i : ℕ) (sent : Sent) → i < length all → sent ≡ get_or all i sent
+    → text ≡ old ++ sent_lines names 0 (take i all) → next ≡ text ++ sent_line names i sent → next ≡ old ++ sent_lines names 0 (take (i + 1) all)
+sent_added names old text next all i sent below is so_far added =
+    added ∙ ap (λ l. l ++ sent_line names i sent) so_far
+    ∙ append_assoc old (sent_lines names 0 (take i all)) (sent_line names i sent)
+    ∙ ap (λ l. old ++ l) (sym (more_from_none (sent_lines names) (sent_line names) (λ n. refl) (λ n x xs. refl) all i sent below is))
+
+-- what stands at a place, and then the others
+from_here : {A : Type 0} (xs : List A) (i : ℕ) (x : A) → slice_get xs i ≡ Some x → drop i xs ≡ x ∷ drop (i + 1) xs
+from_here xs i x at =
+    let below : i < length xs = slice_get_within xs i x at in
+    let split : drop i xs ≡ get_or xs i x ∷ drop (i + 1) xs = rw add-one (drop-cons xs i x below) in
+    split ∙ ap (λ y. y ∷ drop (i + 1) xs) (get_or_from_slice_get xs i x x at)
+
+module _ {M : Type 0} where
+  -- where a member's lines are added, those that are left go on from the next node
+  pub member_added : (names : Names) (text next whole : List ℕ) (n : ℕ) (hosts : List Host) (nodes : List (Standing M)) (host : Host)
+      → n < length hosts → host ≡ get_or hosts n host → n < length nodes
+      → text ++ members_lines names n (drop n hosts) (drop n nodes) ≡ whole
+      → ((s : Standing M) → slice_get nodes n ≡ Some s → next ≡ text ++ member_at names n host s)
+      → next ++ members_lines names (n + 1) (drop (n + 1) hosts) (drop (n + 1) nodes) ≡ whole
+  member_added names text next whole n hosts nodes host below is within so_far added =
+      elim (slice_get_cases nodes n).1 [
+        | inl there ↦
+            let s = there.0 in
+            let rest = members_lines names (n + 1) (drop (n + 1) hosts) (drop (n + 1) nodes) in
+            ap (λ l. l ++ rest) (added s there.2)
+            ∙ append_assoc text (member_at names n host s) rest
+            ∙ ap (λ xs. text ++ members_lines names n (host ∷ drop (n + 1) hosts) xs) (sym (from_here nodes n s there.2))
+            ∙ ap (λ hs. text ++ members_lines names n hs (drop n nodes))
+            (sym (from_here hosts n host (slice_get_read hosts (length hosts) n host refl below is)))
+            ∙ so_far
+        | inr past ↦ absurd (omega (arith, past.0, within))
+      ]
