@@ -155,7 +155,7 @@ module _ {M : Type 0} (declared : M → Signature) (turn : M → List ValueTree 
   steps_count (line ∷ lines) w last lead =
       omega (arith, (line_adds line w lead.0 lead.1).steps_is, steps_count lines lead.0 last lead.2)
 
-  deployment_stays : (lines : List Line) (w last : WorldState M) → Lead declared turn lines w last → last.deployment ≡ w.deployment
+  pub deployment_stays : (lines : List Line) (w last : WorldState M) → Lead declared turn lines w last → last.deployment ≡ w.deployment
   deployment_stays [] w last lead = ap (λ (v : WorldState M). v.deployment) lead
   deployment_stays (line ∷ lines) w last lead = deployment_stays lines lead.0 last lead.2 ∙ (line_adds line w lead.0 lead.1).deployment_is
 

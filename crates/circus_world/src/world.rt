@@ -138,9 +138,11 @@ impl<M: Module> World<M> {
         }
     }
 
-    /// The program's troupes and nodes. It takes no memory.
+    /// The program's troupes and nodes, each of which stands in the world. It takes no memory.
     pub fn deployment(&self) -> &Deployment
-        ensures { result.now ≡ self.now.deployment }
+        ensures value { result.now ≡ self.now.deployment }
+        ensures is { IsDeployment self.now.deployment }
+        ensures all { length self.now.nodes ≡ length self.now.deployment.nodes }
     {
         &self.deployment
     }
