@@ -56,21 +56,8 @@ end 0 step 7 clock 2,0 returned [] state []
 now idle state []
 ";
 
-// An argument that is above the limit.
+// What an argument above the limit leaves.
 const TOO_LONG: &str = "\
-circus report 1
-ringmaster ring live
-view Store 1 s1=0
-view Main 1 m1=0
-member s1 Store live from 0 at 0 count 0
-now idle state []
-member m1 Main live from 0 at 0 count 1
-run 0 step 0 path Main procedure 0 clock 0,0 arguments []
-end 0 step 0 clock 0,0 raised 60004 [] state []
-now idle state []
-";
-
-const TOO_LONG_A_BLOCK: &str = "\
 circus report 1
 ringmaster ring live
 view Store 1 s1=0
@@ -105,7 +92,7 @@ const WHOLE: [Row; 4] = [
     Row {
         program: &[FORMAT_2, BLOCK, "9", BLOCK_FILLED, ", q", BLOCK_CALLED],
         schedule: "",
-        written: &[TOO_LONG_A_BLOCK],
+        written: &[TOO_LONG],
         status: 0,
     },
 ];

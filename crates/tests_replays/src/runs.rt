@@ -19,9 +19,9 @@ pub struct Row {
 /// Lines of a schedule.
 pub enum Steps {
     Lines(&'static str),
-    /// Deliveries of the datagrams of these numbers, the first of which is the lesser one, and the last too.
+    /// Deliveries of the datagrams from the first number to the second, upwards.
     Up(u32, u32),
-    /// The same in the other order.
+    /// And from the second number to the first, downwards.
     Down(u32, u32),
 }
 
@@ -33,6 +33,7 @@ pub struct Long {
     pub datagrams: usize,
     /// Beginnings of lines, in their order; a line is whole with its newline.
     pub lines: &'static [&'static str],
+    /// What the report ends with.
     pub end: &'static str,
 }
 
