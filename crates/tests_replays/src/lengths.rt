@@ -70,17 +70,11 @@ end 0 step 0 clock 0,0 raised 60004 [] state []
 now idle state []
 ";
 
-const WHOLE: [Row; 4] = [
+const WHOLE: [Row; 3] = [
     Row {
         program: ONE_CALL_IN_FORMAT_2,
         schedule: "deliver 0\ndeliver 1\ndeliver 2\ndeliver 3\n",
         written: &[IN_FORMAT_2],
-        status: 0,
-    },
-    Row {
-        program: &[WHEEL],
-        schedule: "deliver 0\ndeliver 1\ndeliver 2\ndeliver 3\ndeliver 4\ndeliver 5\ndeliver 6\ndeliver 7\n",
-        written: &[MOST_STEPS],
         status: 0,
     },
     Row {
@@ -96,6 +90,14 @@ const WHOLE: [Row; 4] = [
         status: 0,
     },
 ];
+
+// The first call takes as many steps as there may be, the second one would take one more.
+const STEPS: [Row; 1] = [Row {
+    program: &[WHEEL],
+    schedule: "deliver 0\ndeliver 1\ndeliver 2\ndeliver 3\ndeliver 4\ndeliver 5\ndeliver 6\ndeliver 7\n",
+    written: &[MOST_STEPS],
+    status: 0,
+}];
 
 const LONG: [Long; 3] = [
     // 65 segments, in the opposite order. One is lost, and sent again at a tick.
@@ -187,6 +189,12 @@ const LONG: [Long; 3] = [
 #[test]
 fn limits_are_kept(rt: HostRuntime) -> Result<(), Fail> {
     all_leave(&rt, rt.alloc(), &WHOLE)?;
+    Ok(())
+}
+
+#[test]
+fn a_run_has_a_million_steps(rt: HostRuntime) -> Result<(), Fail> {
+    all_leave(&rt, rt.alloc(), &STEPS)?;
     Ok(())
 }
 
