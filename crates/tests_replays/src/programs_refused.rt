@@ -52,7 +52,7 @@ fn programs_are_refused(rt: HostRuntime) -> Result<(), Fail> {
     Ok(())
 }
 
-// Up to the last sign, that is.
+// Whatever the program lacks at its end, be it the last sign alone.
 #[test]
 fn a_program_that_is_cut_is_refused(rt: HostRuntime) -> Result<(), Fail> {
     let alloc = rt.alloc();

@@ -1,5 +1,5 @@
 // Sinks and shelves that fail, a sink that takes one byte of each piece, and one that fails at the end.
-ghost use Rattle.std.specs.Prelude.{◌≡◌};
+ghost use Rattle.std.specs.Prelude.{None};
 
 use crate::programs::ONE_CALL;
 use crate::reports::{CALL, DELIVER_ALL, REPORT, TITLE};
@@ -21,31 +21,33 @@ struct Slow {
 }
 
 impl Slow {
-    fn new(alloc: Global, fails: bool) -> Self {
+    fn new(alloc: Global) -> Self {
         Slow {
             taken: Octets::new(alloc),
-            fails,
+            fails: false,
             finished: 0,
             faults: 0,
         }
     }
+
+    fn failing(alloc: Global) -> Self {
+        let mut slow = Slow::new(alloc);
+        slow.fails = true;
+        slow
+    }
 }
 
 impl Sink for Slow {
-    ghost use Rattle.std.specs.Prelude.{None};
-
     ghost written = { λ _. None };
 
     ghost faults = { λ sink. sink.faults };
 
     fn put(&mut self, bytes: &[u8]) -> Result<usize, SinkFault> {
-        match bytes.first() {
-            Some(byte) => {
-                self.taken.push(*byte)?;
-                Ok(1)
-            }
-            None => Ok(0),
+        if bytes.is_empty() {
+            return Ok(0);
         }
+        self.taken.append(&bytes[..1])?;
+        Ok(1)
     }
 
     fn finish(&mut self) -> Result<(), SinkFault> {
@@ -80,15 +82,15 @@ fn is_taken(
     rt: &impl Abort,
     alloc: Global,
     row: &Row,
-    fails: bool,
+    sink: Slow,
     expected: u8,
 ) -> Result<(), NoMemory> {
+    let mut sink = sink;
     let (schedule, written, _) = row;
     let program = joined(alloc, ONE_CALL)?;
     let written = joined(alloc, written)?;
     let files = files(alloc, program.as_str(), schedule)?;
     let mut shelf = MemShelf::new(alloc, files, Failing::new(alloc));
-    let mut sink = Slow::new(alloc, fails);
     let status = perform_over(alloc, REPLAY, &mut shelf, &mut sink)?;
     assert_eq!(rt; sink.taken.as_slice(), written.as_str().as_bytes());
     assert_eq!(rt; (status, sink.finished), (expected, 1));
@@ -98,7 +100,7 @@ fn is_taken(
 #[test]
 fn a_sink_takes_one_byte_at_a_time(rt: HostRuntime) -> Result<(), Fail> {
     for row in &ROWS {
-        is_taken(&rt, rt.alloc(), row, false, row.2)?;
+        is_taken(&rt, rt.alloc(), row, Slow::new(rt.alloc()), row.2)?;
     }
     Ok(())
 }
@@ -106,7 +108,7 @@ fn a_sink_takes_one_byte_at_a_time(rt: HostRuntime) -> Result<(), Fail> {
 #[test]
 fn a_sink_fails_at_the_end(rt: HostRuntime) -> Result<(), Fail> {
     for row in &ROWS {
-        is_taken(&rt, rt.alloc(), row, true, 5)?;
+        is_taken(&rt, rt.alloc(), row, Slow::failing(rt.alloc()), 5)?;
     }
     Ok(())
 }
