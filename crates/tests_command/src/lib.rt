@@ -1,7 +1,7 @@
 //! A run of the command over a shelf, a sink and a link in memory, for tests.
 #![tactic(auto)]
 
-use circus_outside::{Arrivals, Failing, File, Files, MemLink, MemShelf, MemSink};
+use circus_outside::{Arrivals, Failing, File, Files, MemLink, MemShelf, MemSink, Shelf, Sink};
 use circus_program::circus;
 use circus_value::{Duplicate, NoMemory, Octets};
 use std::alloc::Global;
@@ -40,11 +40,32 @@ fn strings(alloc: Global, texts: &[&str]) -> Result<Vec<String>, NoMemory> {
     Ok(all)
 }
 
+/// The texts, one behind another.
+pub fn joined(alloc: Global, texts: &[&str]) -> Result<String, NoMemory> {
+    let mut all = String::new(alloc);
+    for text in texts {
+        all.push_str(text)?;
+    }
+    Ok(all)
+}
+
 /// A file of this name.
 pub fn file(alloc: Global, name: &str, contents: &[u8]) -> Result<File, NoMemory> {
     let name = octets(alloc, name.as_bytes())?;
     let contents = octets(alloc, contents)?;
     Ok(File { name, contents })
+}
+
+/// Performs the words over a shelf and a sink, and answers the status.
+pub fn perform_over<S: Shelf, K: Sink>(
+    alloc: Global,
+    words: &[&str],
+    shelf: &mut S,
+    sink: &mut K,
+) -> Result<u8, NoMemory> {
+    let words = strings(alloc, words)?;
+    let mut link = MemLink::new(alloc, Arrivals::new(alloc), Failing::new(alloc));
+    Ok(circus(alloc, words.as_slice(), shelf, sink, &mut link))
 }
 
 /// Performs the words over these files and a sink of whose puts the listed ones fail.
@@ -54,11 +75,9 @@ pub fn perform(
     files: Files,
     failing: Failing,
 ) -> Result<Ended, NoMemory> {
-    let words = strings(alloc, words)?;
     let mut shelf = MemShelf::new(alloc, files, Failing::new(alloc));
     let mut sink = MemSink::new(alloc, failing);
-    let mut link = MemLink::new(alloc, Arrivals::new(alloc), Failing::new(alloc));
-    let status = circus(alloc, words.as_slice(), &mut shelf, &mut sink, &mut link);
+    let status = perform_over(alloc, words, &mut shelf, &mut sink)?;
     Ok(Ended {
         status,
         written: sink.written().copy()?,

@@ -5,7 +5,7 @@ use circus_value::NoMemory;
 use std::alloc::Global;
 use std::process::Abort;
 use std::test::Fail;
-use tests_command::{file, perform};
+use tests_command::{file, joined, perform};
 
 const BEFORE_NUMBER: &str = "\
 CIRCUS 1;
@@ -43,6 +43,9 @@ const TITLE: &str = "circus report 1\n";
 
 const CALL: &str =
     "datagram 0 step 0 from m1 to s1 00000101000000000000000100010000000100000001000000000000000000010001000200000000000000000005\n";
+
+const CALL_AT_A_TICK: &str =
+    "datagram 1 step 1 from m1 to s1 00020101000000000000000100010000000100000001000000000000000000010001000200000000000000000005\n";
 
 const CALL_ACKNOWLEDGED: &str = "datagram 1 step 1 from s1 to m1 0001010100000000\n";
 
@@ -128,15 +131,6 @@ return cardinal
 
 const NOT_BUILT: &str = "not built\n";
 
-// The texts, one behind another.
-fn joined(alloc: Global, texts: &[&str]) -> Result<String, NoMemory> {
-    let mut all = String::new(alloc);
-    for text in texts {
-        all.push_str(text)?;
-    }
-    Ok(all)
-}
-
 fn files(alloc: Global, program: &str, schedule: &str) -> Result<Files, NoMemory> {
     let mut files = Files::new(alloc);
     files.push(file(alloc, "p", program.as_bytes())?)?;
@@ -157,9 +151,11 @@ struct Row {
 
 const REPLAY: &[&str] = &["replay", "p", "s"];
 
+const NO_TROUPES: &[&str] = &["CIRCUS 1;\nRINGMASTER ring PORT 9000;\n"];
+
 const CALLS_WITH_5: &[&str] = &[BEFORE_NUMBER, "5", AFTER_NUMBER];
 
-const REPLAYED: [Row; 5] = [
+const REPLAYED: [Row; 8] = [
     Row {
         words: REPLAY,
         program: CALLS_WITH_5,
@@ -220,6 +216,39 @@ const REPLAYED: [Row; 5] = [
         status: 3,
         fetched: 2,
     },
+    // A call that isn't acknowledged goes again at a tick.
+    Row {
+        words: REPLAY,
+        program: CALLS_WITH_5,
+        schedule: "tick m1\n",
+        written: &[
+            TITLE,
+            CALL,
+            CALL_AT_A_TICK,
+            VIEWS,
+            SERVER_UNCALLED,
+            ROOT_WAITING,
+        ],
+        status: 0,
+        fetched: 2,
+    },
+    // The Ringmaster alone.
+    Row {
+        words: REPLAY,
+        program: NO_TROUPES,
+        schedule: "tick ring\n",
+        written: &[TITLE, "ringmaster ring live\n"],
+        status: 0,
+        fetched: 2,
+    },
+    Row {
+        words: REPLAY,
+        program: NO_TROUPES,
+        schedule: DELIVER_ALL,
+        written: &[TITLE, "schedule line 1: no datagram 0, 0 sent\n"],
+        status: 3,
+        fetched: 2,
+    },
 ];
 
 // Of the program alone.
@@ -258,7 +287,7 @@ const SHOWN: [Row; 4] = [
     },
 ];
 
-const REFUSED: [Row; 6] = [
+const REFUSED: [Row; 4] = [
     Row {
         words: &[],
         program: CALLS_WITH_5,
@@ -285,27 +314,11 @@ const REFUSED: [Row; 6] = [
     },
     Row {
         words: REPLAY,
-        program: &["CIRCUS 1;\nRINGMASTER ring PORT 9000;\n"],
-        schedule: DELIVER_ALL,
-        written: &[NOT_BUILT],
-        status: 9,
-        fetched: 1,
-    },
-    Row {
-        words: REPLAY,
         program: &["CIRCUS 1;\n"],
         schedule: DELIVER_ALL,
         written: &["program line 2: syntax\n"],
         status: 2,
         fetched: 1,
-    },
-    Row {
-        words: REPLAY,
-        program: CALLS_WITH_5,
-        schedule: "tick m1\n",
-        written: &[NOT_BUILT],
-        status: 9,
-        fetched: 2,
     },
 ];
 
