@@ -21,6 +21,10 @@ module _ (interfaces : List Interface) (modules : List ModuleTree) where
   as_many i [] = refl
   as_many i (m ∷ ms) = ap suc (as_many (suc i) ms)
 
+  pub roots_meant : (i : ℕ) (ms : List ModuleTree) → map (λ (m : ModuleMeant). m.root) (modules_meant interfaces modules i ms) ≡ map (λ (m : ModuleTree). m.root) ms
+  roots_meant i [] = refl
+  roots_meant i (m ∷ ms) = ap (λ l. m.root ∷ l) (roots_meant (suc i) ms)
+
   pub distinct_names : AreWellFormed interfaces (modules_meant interfaces modules 0 modules) → AreDistinct (module_names modules)
   distinct_names W = subst AreDistinct (meant_names 0 modules) W.names
 

@@ -25,8 +25,9 @@ use Rattle.circus_file.specs.declared.program_text.Format.TheVariants.{One, Two}
 use Rattle.circus_file.specs.WrittenProgram.{WrittenProgram, spelling_program, IsProgram}
 use Rattle.circus_file.specs.ProgramTree.{ProgramTree, program_stands_for}
 use Rattle.circus_file.specs.ProgramReading.{program}
-use Rattle.circus_check.specs.Meaning.{modules_meant}
+use Rattle.circus_check.specs.Meaning.{ModuleMeant, modules_meant}
 use Rattle.circus_check.specs.Seen.Meant.{module_as}
+use Rattle.circus_collate.specs.declared.deployment.Troupe.{Troupe}
 use Rattle.circus_deployment.specs.Meaning.{deployment_meant}
 use Rattle.circus_config.specs.declared.plan.Plan.{Plan}
 use Rattle.circus_config.specs.declared.program_fault.ProgramCause.{ProgramCause}
@@ -77,6 +78,10 @@ pub record IsProgramOf (text : List ℕ) (plan : Plan) : Type 0 where
   pub modules : map module_as plan.checked.modules ≡ modules_meant plan.checked.interfaces tree.modules 0 tree.modules
   pub names : plan.names ≡ module_names tree.modules
   pub deployment : plan.deployment ≡ deployment_meant tree.modules (format_number tree.format) tree.deployment
+
+-- there is a troupe for each module, a root exactly where the module is one
+abbrev pub HaveTheirRoots : Plan → Type 0
+HaveTheirRoots plan = map (λ (t : Troupe). t.root) plan.deployment.troupes ≡ map (λ (m : ModuleMeant). m.root) (map module_as plan.checked.modules)
 
 -- two plans say the same: deployments, names, interfaces and modules are equal
 pub record SaysSame (plan other : Plan) : Type 0 where

@@ -15,7 +15,7 @@ ghost use Rattle.circus_deployment.specs.Meaning.{deployment_meant};
 ghost use Rattle.circus_config.specs.declared.program_fault.ProgramFault.{ProgramFault};
 ghost use Rattle.circus_config.specs.Told.{module_names};
 ghost use Rattle.circus_config.specs.Seen.{looked_faults};
-ghost use Rattle.circus_config.specs.Program.{format_number, IsAnswerTo};
+ghost use Rattle.circus_config.specs.Program.{format_number, IsAnswerTo, HaveTheirRoots};
 
 use crate::least::refused;
 use crate::told::{of_deployment, of_modules};
@@ -64,6 +64,7 @@ pub fn plan(
     ensures names { IfOk result (λ plan. plan.names ≡ module_names (program_of text).modules) }
     ensures deployment { IfOk result (λ plan. plan.deployment ≡ deployment_meant (program_of text).modules (format_number text.format) text.deployment) }
     ensures obeys { IfOk result (λ plan. IsDeployment plan.deployment) }
+    ensures roots { IfOk result HaveTheirRoots }
     ensures err { IfErr result (λ e. (e ≡ ProgramFault.NoMemory) ⊎ IsAnswerTo bytes.now (looked_faults interfaces (program_of text).modules (length bytes.now) text.deployment) e) }
 {
     let ProgramText {

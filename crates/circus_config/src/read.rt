@@ -10,7 +10,7 @@ ghost use Rattle.circus_check.specs.WellFormed.{AreWellFormed};
 ghost use Rattle.circus_collate.specs.Deployment.{IsDeployment};
 ghost use Rattle.circus_config.specs.declared.program_fault.ProgramFault.{ProgramFault};
 ghost use Rattle.circus_config.specs.Told.{names_told};
-ghost use Rattle.circus_config.specs.Program.{lexical_answer, IsProgramOf, IsRefused};
+ghost use Rattle.circus_config.specs.Program.{lexical_answer, IsProgramOf, IsRefused, HaveTheirRoots};
 
 use crate::checking::plan;
 use crate::interfaces::interfaces;
@@ -59,6 +59,7 @@ fn read_tokens(alloc: Global, bytes: &[u8], found: &[Token]) -> Result<Plan, Pro
     ensures ok { IfOk result (IsProgramOf bytes.now) }
     ensures well_formed { IfOk result (λ plan. AreWellFormed plan.checked.interfaces (map module_as plan.checked.modules)) }
     ensures deployed { IfOk result (λ plan. IsDeployment plan.deployment) }
+    ensures roots { IfOk result HaveTheirRoots }
     ensures err { IfErr result (λ e. (e ≡ ProgramFault.NoMemory) ⊎ IsRefused bytes.now e) }
 {
     let mut reader = Reader::new(alloc, bytes, found);
@@ -83,6 +84,7 @@ pub fn read_program(alloc: Global, bytes: &[u8]) -> Result<Plan, ProgramFault>
     ensures obey { IfOk result (λ plan. AllByRecursion Obeys plan.checked.interfaces) }
     ensures well_formed { IfOk result (λ plan. AreWellFormed plan.checked.interfaces (map module_as plan.checked.modules)) }
     ensures deployed { IfOk result (λ plan. IsDeployment plan.deployment) }
+    ensures roots { IfOk result HaveTheirRoots }
     ensures err { IfErr result (λ e. (e ≡ ProgramFault.NoMemory) ⊎ IsRefused bytes.now e) }
 
     // What is named is ASCII.
@@ -97,6 +99,7 @@ fn read_lexed(alloc: Global, bytes: &[u8]) -> Result<Plan, ProgramFault>
     ensures ok { IfOk result (IsProgramOf bytes.now) }
     ensures well_formed { IfOk result (λ plan. AreWellFormed plan.checked.interfaces (map module_as plan.checked.modules)) }
     ensures deployed { IfOk result (λ plan. IsDeployment plan.deployment) }
+    ensures roots { IfOk result HaveTheirRoots }
     ensures err { IfErr result (λ e. (e ≡ ProgramFault.NoMemory) ⊎ IsRefused bytes.now e) }
 {
     match lexed(alloc, bytes) {

@@ -437,3 +437,21 @@ obeys modules end format d in_format few distinct good none =
 -- a deployment without a fault has few nodes
 pub few_nodes : (modules : List ModuleTree) (end : ℕ) (d : DeploymentText) → deployment_faults modules end d ≡ [] → length (nodes_of d) ≤ most_nodes
 few_nodes modules end d none = omega (arith, (nodes_clean no_nodes (nodes_of d) (none_in_each modules end d none).0).few (omega arith))
+
+-- ---- roots
+
+roots_of : (ts : List TroupeText) (ms : List ModuleTree) → AllByRecursion (λ (m : ModuleTree). is_none (troupe_numbers ts m.name.name) ≡ false) ms
+    → map (λ (t : Troupe). t.root) (troupes_meant (numbered ts) (troupe_numbers ts) ms) ≡ map (λ (m : ModuleTree). m.root) ms
+roots_of ts [] all = refl
+roots_of ts (m ∷ ms) all =
+    let (x, found) = troupe_of ts m all.0 in
+    let rest = troupes_meant (numbered ts) (troupe_numbers ts) ms in
+    ap (λ o. map (λ (t : Troupe). t.root) (option_to_list (option_map (troupe_meant m) o) ++ rest)) found.found_at
+    ∙ ap (λ roots. m.root ∷ roots) (roots_of ts ms all.1)
+
+-- in a deployment without a fault a troupe is a root where its module is one
+pub roots_kept : (modules : List ModuleTree) (end format : ℕ) (d : DeploymentText) → deployment_faults modules end d ≡ []
+    → map (λ (t : Troupe). t.root) (deployment_meant modules format d).troupes ≡ map (λ (m : ModuleTree). m.root) modules
+roots_kept modules end format d none =
+    let (nodes_none, troupes_none, lacks_none) = none_in_each modules end d none in
+    roots_of d.troupes modules (none_lacks (troupe_numbers d.troupes) modules lacks_none)

@@ -8,6 +8,7 @@ ghost use Rattle.circus_syntax.specs.declared.named.Named.{Named};
 ghost use Rattle.circus_lang.specs.ModuleTree.{ModuleTree, module_of};
 ghost use Rattle.circus_troupe.specs.DeploymentSpelling.{IsDeploymentText};
 ghost use Rattle.circus_collate.specs.Deployment.{IsDeployment};
+ghost use Rattle.circus_collate.specs.declared.deployment.Troupe.{Troupe};
 ghost use Rattle.circus_deployment.specs.declared.cause.Cause.{Cause};
 ghost use Rattle.circus_deployment.specs.declared.deployment_fault.DeploymentFault.{DeploymentFault};
 ghost use Rattle.circus_deployment.specs.Rank.{rank_of};
@@ -97,6 +98,9 @@ pub fn check(
     // Over at most 32 modules of different names, a deployment as it is written obeys the rules of deployments.
     ensures deployment { (format ≡ 1) ⊎ (format ≡ 2) → length modules.now ≤ 32 → AreDistinct (map (λ (m : ModuleTree). m.name.name) (map module_of modules.now))
         → IsDeploymentText text.now → IfOk result IsDeployment }
+
+    // A troupe is a root exactly where its module is one.
+    ensures roots { IfOk result (λ d. map (λ (t : Troupe). t.root) d.troupes ≡ map (λ (m : ModuleTree). m.root) (map module_of modules.now)) }
     ensures err { IfErr result (λ e. (e ≡ DeploymentFault.NoMemory) ⊎ ((f : Fault Cause) × (least_from rank_of None (deployment_faults (map module_of modules.now) end text.now) ≡ Some f)
         × (e ≡ answer_of (lacking (troupe_numbers text.now.troupes) (map module_of modules.now)) f))) }
 {

@@ -8,3 +8,4 @@ pub mod OtherLemmas
 pub mod GoLemmas
 pub mod NodeLemmas
 pub mod NoticeLemmas
+pub mod TroupeLemmas

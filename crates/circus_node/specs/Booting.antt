@@ -1,5 +1,5 @@
 -- A node at boot.
-use Rattle.std.specs.Prelude.{◌≡◌, ℕ, ◌<◌, ◌≤◌, true, false, ◌↔◌, if◌then◌else◌, List, [], length, map, Option, None, Some, IsSome, slice_get, option_map, option_and_then}
+use Rattle.std.specs.Prelude.{◌≡◌, ℕ, ◌<◌, ◌≤◌, true, false, ◌↔◌, if◌then◌else◌, List, [], length, map, Option, None, Some, IsSome, Result, slice_get, option_map, option_and_then}
 use Rattle.circus_value.specs.Among.{is_among}
 use Rattle.circus_value.specs.ValueTree.{ValueTree}
 use Rattle.circus_value.specs.declared.outcome.Outcome.{Outcome}
@@ -13,16 +13,19 @@ use Rattle.circus_model.specs.Lawful.{import_of}
 use Rattle.circus_model.specs.Agree.{main_alone}
 use Rattle.circus_model.specs.declared.signature.Signature.{Signature}
 use Rattle.circus_model.specs.declared.signature.Import.{Import}
+use Rattle.circus_performing.specs.Record.{behaviour}
 use Rattle.circus_wire.specs.Wire as wire
 use Rattle.circus_member.specs.declared.place.Beginning.{Beginning}
 use Rattle.circus_member.specs.declared.place.Beginning.TheVariants.{Founder, Spare}
 use Rattle.circus_member.specs.Step as member_step
 use Rattle.circus_node.specs.declared.home.Home.{Home}
-use Rattle.circus_node.specs.NodeState.{member, ringmaster}
+use Rattle.circus_node.specs.declared.event.Outputs.{Outputs}
+use Rattle.circus_node.specs.declared.event.StepFault.{StepFault}
+use Rattle.circus_node.specs.NodeState.{NodeState, member, ringmaster}
 use Rattle.circus_node.specs.Accepting.{troupe_at, is_root}
 use Rattle.circus_node.specs.Bodies.{most_bytes}
 use Rattle.circus_node.specs.Making.{Made, consequences, nothing}
-use Rattle.circus_node.specs.Step.{Ended, concluded}
+use Rattle.circus_node.specs.Step.{Ended, IsEnded, concluded}
 
 -- a founder, or a spare
 abbrev pub beginning_in : Troupe → ℕ → Beginning
@@ -62,6 +65,15 @@ pub record CanBoot (d : Deployment) (node : ℕ) (declared : Option Signature) :
   pub hosted : IsSome declared ↔ IsSome (troupe_at d node)
   pub fits : (number : ℕ) (signature : Signature) → troupe_at d node ≡ Some number → declared ≡ Some signature → IsOfTroupe d number signature
 
+-- there is a module for each troupe, which declares this and is one of its troupe
+pub record AreOfTroupes (d : Deployment) (declared : List Signature) : Type 0 where
+  pub one_each : length declared ≡ length d.troupes
+  pub each : (number : ℕ) (signature : Signature) → slice_get declared number ≡ Some signature → IsOfTroupe d number signature
+
+-- what the module of a node's troupe declares; none at the Ringmaster's node
+abbrev pub declared_at : Deployment → List Signature → ℕ → Option Signature
+declared_at d declared node = option_and_then (slice_get declared) (troupe_at d node)
+
 -- before any act of a node
 abbrev pub fresh_wire : {P : Type 0} → Deployment → ℕ → wire.WireState P
 fresh_wire d node = wire.before_any (record { own = node; nodes = length d.nodes; first = 0; format = d.format })
@@ -86,3 +98,13 @@ module _ {M : Type 0} (declared : M → Signature) (turn : M → List ValueTree 
   booted d hosted node =
       let made = made_at_boot d (home_of d node) hosted in
       concluded (record { deployment = d; wire = fresh_wire d node; acting = made.acting; dropped = 0 }) [] made.came
+
+  -- a module that does what the one of the node's troupe does; none at the Ringmaster's node
+  abbrev pub IsHosted : Deployment → List M → ℕ → Option M → Type 0
+  IsHosted d modules node hosted =
+      option_map (behaviour declared turn first) hosted
+      ≡ option_map (behaviour declared turn first) (option_and_then (slice_get modules) (troupe_at d node))
+
+  -- the node boots with such a module
+  abbrev pub IsBooted : Deployment → List M → ℕ → Result (NodeState M × Outputs) StepFault → Type 0
+  IsBooted d modules node result = (hosted : Option M) × IsHosted d modules node hosted × IsEnded result (booted d hosted node)

@@ -1,5 +1,7 @@
 // A node.
-ghost use Rattle.std.specs.Prelude.{◌≡◌, ℕ, option_copied, option_map, IfOk};
+ghost use Rattle.std.specs.Prelude.{◌≡◌, ℕ, ◌<◌, length, map, slice_get, option_copied, option_map, option_and_then, IfOk};
+ghost use Rattle.circus_collate.specs.Deployment.{IsDeployment};
+ghost use Rattle.circus_performing.specs.Record.{behaviour};
 ghost use Rattle.circus_collate.specs.declared.deployment.Deployment.{Deployment as Deployed};
 ghost use Rattle.circus_segment.specs.Segment.{reading};
 ghost use Rattle.circus_wire.specs.Wire.{IsOther};
@@ -12,12 +14,14 @@ ghost use Rattle.circus_node.specs.NodeState.{member_record as record_of, ring_v
 
 use crate::acting::{Acting, Consequences};
 use crate::home::home_of;
+use crate::program::troupe_at;
 use crate::station::Station;
 use crate::{Event, Gives, Outputs, StepFault};
 use bytes::Bytes;
 use circus_collate::{Deployment, Views};
 use circus_model::Module;
 use circus_record::MemberRecord;
+use circus_value::NoMemory;
 use std::alloc::Global;
 use std::marker::Model;
 
@@ -65,6 +69,24 @@ impl<M: Module> NodeCore<M> {
         ensures others { IfOk result (λ booted. GoToOthers booted.0 booted.1.gives) }
     {
         NodeCore::begin(alloc, deployment, module, node)
+    }
+
+    /// As `boot`, with a copy of the module of the node's troupe, of modules that are one for each troupe.
+    pub fn boot_of(
+        alloc: Global,
+        deployment: &Deployment,
+        modules: &[M],
+        node: u16,
+    ) -> Result<(Self, Outputs), StepFault>
+        requires deployment { IsDeployment deployment.now }
+        requires modules { booting.AreOfTroupes deployment.now (map M.declared modules.now) }
+        requires within { node < length deployment.now.nodes }
+        ensures booted { booting.IsBooted M.declared M.turn M.first deployment.now modules.now node result }
+        ensures node { IfOk result (λ booted. IsNodeOf deployment.now node booted.0) }
+        ensures others { IfOk result (λ booted. GoToOthers booted.0 booted.1.gives) }
+    {
+        let hosted = copy_of(modules, troupe_at(deployment, node))?;
+        NodeCore::boot(alloc, deployment, hosted, node)
     }
 
     /// A step, which has this number, and what the node gives in it (docs/PROTOCOL.md, "Order within a step"). What comes
@@ -194,5 +216,19 @@ impl<M: Module> NodeCore<M> {
     {
         let (station, outputs) = station.conclude(gives, came)?;
         Ok((NodeCore { station, acting }, outputs))
+    }
+}
+
+// A copy of the module of a troupe.
+fn copy_of<M: Module>(modules: &[M], troupe: Option<u16>) -> Result<Option<M>, NoMemory>
+    ensures { IfOk result (λ copy. option_map (behaviour M.declared M.turn M.first) copy
+        ≡ option_map (behaviour M.declared M.turn M.first) (option_and_then (slice_get modules.now) troupe)) }
+{
+    let Some(number) = troupe else {
+        return Ok(None);
+    };
+    match modules.get(usize::from(number)) {
+        Some(module) => Ok(Some(module.copy()?)),
+        None => Ok(None),
     }
 }

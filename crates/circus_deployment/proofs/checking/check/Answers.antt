@@ -6,11 +6,13 @@ use Rattle.circus_fault.specs.Seen.Tables.{known_of}
 use Rattle.circus_fault.proofs.LeastIs.{no_least}
 use Rattle.circus_lang.specs.ModuleTree.{module_of}
 use Rattle.circus_collate.specs.Deployment.{IsDeployment}
+use Rattle.circus_collate.specs.declared.deployment.Troupe.{Troupe}
+use Rattle.circus_collate.specs.declared.deployment.Deployment.{Deployment}
 use Rattle.circus_deployment.specs.Rank.{rank_of}
 use Rattle.circus_deployment.specs.Faults.{deployment_faults}
 use Rattle.circus_deployment.specs.Answer.{answer_of}
 use Rattle.circus_deployment.proofs.Checked.{some_told, lacks_is, all_found}
-use Rattle.circus_deployment.proofs.Obeying.{obeys, few_nodes}
+use Rattle.circus_deployment.proofs.Obeying.{obeys, few_nodes, roots_kept}
 use Rattle.circus_deployment.proofs.checking.check.Goals as goal
 
 pub returns-in-Some-clause-err : goal.returns-in-Some-clause-err
@@ -49,3 +51,13 @@ returns-clause-deployment c = λ in_format few distinct good.
     c.in_ok-check_nodes.ensures c.in_ok-troupes.ensures.found c.note.ensures in
     subst IsDeployment (sym c.in_ok-meant-in-None.ensures)
     (obeys (map module_of c.args.modules.now) c.args.end c.args.format c.args.text.now in_format (omega (arith, few, length-map c.args.modules.now module_of)) distinct good (no_least rank_of (deployment_faults (map module_of c.args.modules.now) c.args.end c.args.text.now) (sym found ∙ c.in-None.is)))
+
+pub returns-clause-roots : goal.returns-clause-roots
+returns-clause-roots c =
+    let lacks = lacks_is (map module_of c.args.modules.now) c.args.text.now (known_of c.in_ok-troupes.troupes) c.as_slice.result.now (option_map (λ (n : Named). n.name) (option_copied c.lacking-lacks.result)) c.as_slice.ensures
+    c.in_ok-troupes.ensures.numbered c.lacking-lacks.ensures in
+    let found = all_found (map module_of c.args.modules.now) c.args.end c.args.text.now (known_of c.in_ok-numbers.numbers) c.as_slice.result.now c.check_nodes.new.best.fault c.check_troupes.new.best.fault c.note.new.self.fault
+    (option_map (λ (n : Named). n.name) (option_copied c.lacking-lacks.result)) c.is_some.result c.in_ok-numbers.ensures c.as_slice.ensures lacks (c.is_some.ensures ∙ some_told c.lacking-lacks.result)
+    c.in_ok-check_nodes.ensures c.in_ok-troupes.ensures.found c.note.ensures in
+    ap (λ (d : Deployment). map (λ (t : Troupe). t.root) d.troupes) c.in_ok-meant-in-None.ensures
+    ∙ roots_kept (map module_of c.args.modules.now) c.args.end c.args.format c.args.text.now (no_least rank_of (deployment_faults (map module_of c.args.modules.now) c.args.end c.args.text.now) (sym found ∙ c.in-None.is))

@@ -1,0 +1,2 @@
+pub mod MembersAlike
+pub mod NodesAlike
