@@ -17,5 +17,5 @@ mod unreplicated;
 pub use ending::Ending;
 pub use laws::one_end;
 pub use one_file::{OneFile, end_of};
-pub use refused::refusal_of;
+pub use refused::{plan_of, refusal_of};
 pub use status::Status;
