@@ -1,0 +1,21 @@
+//! Tests of members: what they perform, and what they make of what happens to them.
+#![tactic(auto)]
+
+#[cfg(test)]
+mod asking;
+#[cfg(test)]
+mod given;
+#[cfg(test)]
+mod performing;
+#[cfg(test)]
+mod roots;
+#[cfg(test)]
+mod serving;
+#[cfg(test)]
+mod shown;
+#[cfg(test)]
+mod stepping;
+#[cfg(test)]
+mod taker;
+#[cfg(test)]
+mod tallies;
