@@ -1,0 +1,411 @@
+// Programs.
+
+/// One call of one server.
+pub const COUNTER: &[u8] = b"\
+CIRCUS 1;
+Count: PROGRAM 1 VERSION 1 =
+BEGIN
+  Add: PROCEDURE [n: CARDINAL] RETURNS [sum: CARDINAL] = 1;
+END.
+MODULE Counter IMPLEMENTS Count;
+BEGIN
+  VAR total: CARDINAL;
+  PROCEDURE Add BEGIN
+    total := total + n;
+    RETURN [total];
+  END;
+END.
+ROOT Main IMPORTS Counter;
+BEGIN
+  VAR got: CARDINAL;
+  MAIN BEGIN
+    CALL Counter.Add [5] INTO [got];
+    RETURN [];
+  END;
+END.
+RINGMASTER ring PORT 9000;
+TROUPE Counter CALLS FIRST REPLIES FIRST MEMBERS s1 PORT 9001;
+TROUPE Main CALLS FIRST REPLIES FIRST MEMBERS m1 PORT 9002;
+";
+
+/// Two calls, and a spare.
+pub const TWICE: &[u8] = b"\
+CIRCUS 1;
+Count: PROGRAM 1 VERSION 1 =
+BEGIN
+  Add: PROCEDURE [n: CARDINAL] RETURNS [sum: CARDINAL] = 1;
+END.
+MODULE Counter IMPLEMENTS Count;
+BEGIN
+  VAR total: CARDINAL;
+  PROCEDURE Add BEGIN
+    total := total + n;
+    RETURN [total];
+  END;
+END.
+ROOT Main IMPORTS Counter;
+BEGIN
+  VAR got: CARDINAL;
+  MAIN BEGIN
+    CALL Counter.Add [5] INTO [got];
+    CALL Counter.Add [7] INTO [got];
+    RETURN [];
+  END;
+END.
+RINGMASTER ring PORT 9000;
+TROUPE Counter CALLS FIRST REPLIES FIRST MEMBERS s1 PORT 9001 SPARES s2 PORT 9003;
+TROUPE Main CALLS FIRST REPLIES FIRST MEMBERS m1 PORT 9002;
+";
+
+/// Two servers and two roots.
+pub const UNANIMOUS: &[u8] = b"\
+CIRCUS 1;
+Count: PROGRAM 1 VERSION 1 =
+BEGIN
+  Add: PROCEDURE [n: CARDINAL] RETURNS [sum: CARDINAL] = 1;
+END.
+MODULE Counter IMPLEMENTS Count;
+BEGIN
+  VAR total: CARDINAL;
+  PROCEDURE Add BEGIN
+    total := total + n;
+    RETURN [total];
+  END;
+END.
+ROOT Main IMPORTS Counter;
+BEGIN
+  VAR got: CARDINAL;
+  MAIN BEGIN
+    CALL Counter.Add [5] INTO [got];
+    RETURN [];
+  END;
+END.
+RINGMASTER ring PORT 9000;
+TROUPE Counter CALLS UNANIMOUS REPLIES FIRST MEMBERS s1 PORT 9001, s2 PORT 9003;
+TROUPE Main CALLS FIRST REPLIES FIRST MEMBERS r1 PORT 9002, r2 PORT 9004;
+";
+
+/// A root that calls two modules, which both call the counter.
+pub const TWO_CALLERS: &[u8] = b"\
+CIRCUS 1;
+Count: PROGRAM 1 VERSION 1 =
+BEGIN
+  Add: PROCEDURE [n: CARDINAL] RETURNS [sum: CARDINAL] = 1;
+END.
+Step: PROGRAM 2 VERSION 1 =
+BEGIN
+  Go: PROCEDURE = 1;
+END.
+MODULE Counter IMPLEMENTS Count;
+BEGIN
+  VAR total: CARDINAL;
+  PROCEDURE Add BEGIN
+    total := total + n;
+    RETURN [total];
+  END;
+END.
+MODULE A IMPLEMENTS Step IMPORTS Counter;
+BEGIN
+  PROCEDURE Go BEGIN
+    CALL Counter.Add [1];
+    RETURN [];
+  END;
+END.
+MODULE B IMPLEMENTS Step IMPORTS Counter;
+BEGIN
+  PROCEDURE Go BEGIN
+    CALL Counter.Add [2];
+    RETURN [];
+  END;
+END.
+ROOT Main IMPORTS A, B;
+BEGIN
+  MAIN BEGIN
+    CALL A.Go [];
+    CALL B.Go [];
+    RETURN [];
+  END;
+END.
+RINGMASTER ring PORT 9000;
+TROUPE Counter CALLS FIRST REPLIES FIRST MEMBERS m1 PORT 9001, m2 PORT 9002;
+TROUPE A CALLS FIRST REPLIES FIRST MEMBERS a1 PORT 9003;
+TROUPE B CALLS FIRST REPLIES FIRST MEMBERS b1 PORT 9004;
+TROUPE Main CALLS FIRST REPLIES FIRST MEMBERS r1 PORT 9005;
+";
+
+/// A root that calls a module, which calls the counter.
+pub const ONE_CALLER: &[u8] = b"\
+CIRCUS 1;
+Count: PROGRAM 1 VERSION 1 =
+BEGIN
+  Add: PROCEDURE [n: CARDINAL] RETURNS [sum: CARDINAL] = 1;
+END.
+Step: PROGRAM 2 VERSION 1 =
+BEGIN
+  Go: PROCEDURE = 1;
+END.
+MODULE Counter IMPLEMENTS Count;
+BEGIN
+  VAR total: CARDINAL;
+  PROCEDURE Add BEGIN
+    total := total + n;
+    RETURN [total];
+  END;
+END.
+MODULE A IMPLEMENTS Step IMPORTS Counter;
+BEGIN
+  PROCEDURE Go BEGIN
+    CALL Counter.Add [1];
+    RETURN [];
+  END;
+END.
+ROOT Main IMPORTS A;
+BEGIN
+  MAIN BEGIN
+    CALL A.Go [];
+    RETURN [];
+  END;
+END.
+RINGMASTER ring PORT 9000;
+TROUPE Counter CALLS FIRST REPLIES FIRST MEMBERS m1 PORT 9001;
+TROUPE A CALLS FIRST REPLIES FIRST MEMBERS a1 PORT 9003 SPARES a2 PORT 9004;
+TROUPE Main CALLS FIRST REPLIES FIRST MEMBERS r1 PORT 9005;
+";
+
+/// A call of 65,536 bytes.
+pub const ROOM: &[u8] = b"\
+CIRCUS 1;
+Room: PROGRAM 3 VERSION 1 =
+BEGIN
+  Put: PROCEDURE [q: SEQUENCE 40000 OF CARDINAL] RETURNS [n: CARDINAL] = 1;
+END.
+MODULE Store IMPLEMENTS Room;
+BEGIN
+  PROCEDURE Put BEGIN
+    RETURN [LENGTH(q)];
+  END;
+END.
+ROOT Main IMPORTS Store;
+BEGIN
+  MAIN VAR q: SEQUENCE 40000 OF CARDINAL; BEGIN
+    WHILE LENGTH(q) < 32767 DO APPEND 7 TO q; END;
+    CALL Store.Put [q];
+    RETURN [];
+  END;
+END.
+RINGMASTER ring PORT 9000;
+TROUPE Store CALLS FIRST REPLIES FIRST MEMBERS s1 PORT 9001;
+TROUPE Main CALLS FIRST REPLIES FIRST MEMBERS m1 PORT 9002;
+";
+
+/// A sequence that grows too long for a value.
+pub const NO_ROOM: &[u8] = b"\
+CIRCUS 1;
+Room: PROGRAM 3 VERSION 1 =
+BEGIN
+  Put: PROCEDURE [q: SEQUENCE 40000 OF CARDINAL] RETURNS [n: CARDINAL] = 1;
+END.
+MODULE Store IMPLEMENTS Room;
+BEGIN
+  PROCEDURE Put BEGIN
+    RETURN [LENGTH(q)];
+  END;
+END.
+ROOT Main IMPORTS Store;
+BEGIN
+  MAIN VAR q: SEQUENCE 40000 OF CARDINAL; BEGIN
+    WHILE LENGTH(q) < 32768 DO APPEND 7 TO q; END;
+    CALL Store.Put [q];
+    RETURN [];
+  END;
+END.
+RINGMASTER ring PORT 9000;
+TROUPE Store CALLS FIRST REPLIES FIRST MEMBERS s1 PORT 9001;
+TROUPE Main CALLS FIRST REPLIES FIRST MEMBERS m1 PORT 9002;
+";
+
+/// The bank: examples/bank.circus.
+pub const BANK: &[u8] = b"\
+CIRCUS 1;
+Books: PROGRAM 10 VERSION 1 =
+BEGIN
+  Short: ERROR [gap: LONG CARDINAL] = 1;
+  Move: PROCEDURE [from, to: CARDINAL, amount: LONG CARDINAL]
+    RETURNS [left: LONG CARDINAL] REPORTS [Short] = 1;
+END.
+Desk: PROGRAM 11 VERSION 1 =
+BEGIN
+  Pay: PROCEDURE [from, to: CARDINAL, amount: LONG CARDINAL] RETURNS [ok: BOOLEAN] = 1;
+END.
+MODULE Ledger IMPLEMENTS Books;
+BEGIN
+  VAR balance: ARRAY 4 OF LONG CARDINAL;
+  VAR opened: BOOLEAN;
+  PROCEDURE Move BEGIN
+    IF NOT opened THEN balance[0] := 100; opened := TRUE; END;
+    IF amount > balance[from] THEN RAISE Short [amount - balance[from]]; END;
+    balance[from] := balance[from] - amount;
+    balance[to] := balance[to] + amount;
+    RETURN [balance[from]];
+  END;
+END.
+MODULE Teller IMPLEMENTS Desk IMPORTS Ledger;
+BEGIN
+  VAR refused: CARDINAL;
+  PROCEDURE Pay VAR left: LONG CARDINAL; VAR gap: LONG CARDINAL; BEGIN
+    CALL Ledger.Move [from, to, amount] INTO [left]
+      ON Short [gap] BEGIN refused := refused + 1; RETURN [FALSE]; END;
+    RETURN [TRUE];
+  END;
+END.
+ROOT Day IMPORTS Teller;
+BEGIN
+  VAR paid: CARDINAL;
+  MAIN VAR i: CARDINAL; VAR ok: BOOLEAN; BEGIN
+    WHILE i < 20 DO
+      CALL Teller.Pay [0, 1, 6] INTO [ok];
+      IF ok THEN paid := paid + 1; END;
+      i := i + 1;
+    END;
+    RETURN [];
+  END;
+END.
+RINGMASTER ring PORT 9100;
+TROUPE Ledger CALLS UNANIMOUS REPLIES FIRST
+  MEMBERS l1 PORT 9101, l2 PORT 9102, l3 PORT 9103 SPARES l4 PORT 9104;
+TROUPE Teller CALLS MAJORITY REPLIES UNANIMOUS
+  MEMBERS t1 PORT 9105, t2 PORT 9106, t3 PORT 9107;
+TROUPE Day CALLS FIRST REPLIES MAJORITY
+  MEMBERS d1 PORT 9108, d2 PORT 9109, d3 PORT 9110;
+";
+
+/// A module that raises errors.
+pub const VAULT: &[u8] = b"\
+CIRCUS 1;
+Keep: PROGRAM 4 VERSION 1 =
+BEGIN
+  Empty: ERROR [short: CARDINAL] = 1;
+  Take: PROCEDURE [n: CARDINAL] RETURNS [left: CARDINAL] REPORTS [Empty] = 1;
+END.
+MODULE Vault IMPLEMENTS Keep;
+BEGIN
+  VAR tries: CARDINAL;
+  VAR gold: CARDINAL;
+  PROCEDURE Take BEGIN
+    tries := tries + 1;
+    IF n > gold THEN RAISE Empty [n - gold]; END;
+    gold := gold - n;
+    RETURN [gold];
+  END;
+END.
+ROOT Main IMPORTS Vault;
+BEGIN
+  VAR b: CARDINAL;
+  MAIN BEGIN
+    CALL Vault.Take [3] ON Empty [b] BEGIN b := b + 1; END;
+    CALL Vault.Take [4];
+    RETURN [];
+  END;
+END.
+RINGMASTER ring PORT 9000;
+TROUPE Vault CALLS FIRST REPLIES FIRST MEMBERS v1 PORT 9001;
+TROUPE Main CALLS FIRST REPLIES FIRST MEMBERS m1 PORT 9002;
+";
+
+/// Executions of a million steps, and of one more.
+pub const WHEEL: &[u8] = b"\
+CIRCUS 1;
+Turning: PROGRAM 5 VERSION 1 =
+BEGIN
+  Spin: PROCEDURE [n: LONG CARDINAL] RETURNS [r: LONG CARDINAL] = 1;
+  Late: PROCEDURE [n: LONG CARDINAL] RETURNS [r: LONG CARDINAL] = 2;
+END.
+MODULE Wheel IMPLEMENTS Turning;
+BEGIN
+  PROCEDURE Spin VAR i: LONG CARDINAL; BEGIN
+    WHILE i < n DO i := i + 1; END;
+    RETURN [i];
+  END;
+  PROCEDURE Late VAR i: LONG CARDINAL; BEGIN
+    i := 0;
+    WHILE i < n DO i := i + 1; END;
+    RETURN [i];
+  END;
+END.
+ROOT Main IMPORTS Wheel;
+BEGIN
+  MAIN BEGIN
+    CALL Wheel.Spin [499999];
+    CALL Wheel.Late [499999] ON OTHER BEGIN END;
+    RETURN [];
+  END;
+END.
+RINGMASTER ring PORT 9000;
+TROUPE Wheel CALLS FIRST REPLIES FIRST MEMBERS w1 PORT 9001;
+TROUPE Main CALLS FIRST REPLIES FIRST MEMBERS m1 PORT 9002;
+";
+
+/// Shapes of all kinds, in the second format, and a module that no root reaches.
+pub const SHAPES: &[u8] = b"\
+CIRCUS 2;
+Spare: PROGRAM 6 VERSION 3 =
+BEGIN
+  Kind: TYPE = {small(0), large(5)};
+  Item: TYPE = RECORD [kind: Kind, sizes: ARRAY 2 OF INTEGER, note: STRING];
+  Found: TYPE = CHOICE OF {none(0) => RECORD [], some(4) => SEQUENCE 3 OF Item};
+  Full: ERROR = 1;
+  Wrong: ERROR [at: LONG INTEGER, why: STRING] = 2;
+  Put: PROCEDURE [item: Item] RETURNS [kept: BOOLEAN] REPORTS [Full, Wrong] = 1;
+  Find: PROCEDURE [kind: Kind] RETURNS [found: Found, count: LONG CARDINAL] = 2;
+  Clear: PROCEDURE = 7;
+END.
+Rest: PROGRAM 7 VERSION 1 = BEGIN Sleep: PROCEDURE = 1; END.
+ROOT Idle;
+BEGIN
+  MAIN BEGIN RETURN []; END;
+END.
+MODULE Unused IMPLEMENTS Rest;
+BEGIN
+  PROCEDURE Sleep BEGIN RETURN []; END;
+END.
+RINGMASTER ring PORT 9000;
+TROUPE Unused CALLS FIRST REPLIES FIRST MEMBERS u1 PORT 9001;
+TROUPE Idle CALLS FIRST REPLIES FIRST MEMBERS i1 PORT 9002;
+";
+
+/// The shop of docs/GUIDE.md: examples/shop.circus.
+pub const SHOP: &[u8] = b"\
+CIRCUS 1;
+Stock: PROGRAM 1 VERSION 1 =
+BEGIN
+  Empty: ERROR [lacking: CARDINAL] = 1;
+  Add: PROCEDURE [count: CARDINAL] RETURNS [left: CARDINAL] = 1;
+  Take: PROCEDURE [count: CARDINAL] RETURNS [left: CARDINAL] REPORTS [Empty] = 2;
+END.
+MODULE Store IMPLEMENTS Stock;
+BEGIN
+  VAR kept: CARDINAL;
+  PROCEDURE Add BEGIN
+    kept := kept + count;
+    RETURN [kept];
+  END;
+  PROCEDURE Take BEGIN
+    IF count > kept THEN RAISE Empty [count - kept]; END;
+    kept := kept - count;
+    RETURN [kept];
+  END;
+END.
+ROOT Shop IMPORTS Store;
+BEGIN
+  VAR short: CARDINAL;
+  MAIN BEGIN
+    CALL Store.Add [10];
+    CALL Store.Take [4];
+    CALL Store.Take [8] ON Empty [short] BEGIN END;
+    RETURN [];
+  END;
+END.
+RINGMASTER ring PORT 9000;
+TROUPE Store CALLS FIRST REPLIES FIRST MEMBERS s1 PORT 9001;
+TROUPE Shop CALLS FIRST REPLIES FIRST MEMBERS c1 PORT 9002;
+";
