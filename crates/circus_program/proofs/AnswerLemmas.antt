@@ -3,10 +3,11 @@ use Rattle.std.proofs.Common.{◌≡◌, ℕ, inl, inr, Option, Some, None, List
 use Rattle.std.specs.Prelude.{IfSome}
 use Rattle.circus_outside.specs.Told.{told_more}
 use Rattle.circus_program.specs.declared.answer.Step.{Step}
-use Rattle.circus_ending.specs.Refusal.{IsGood}
+use Rattle.circus_config.specs.declared.plan.Plan.{Plan}
+use Rattle.circus_config.specs.Program.{IsProgramOf}
 use Rattle.circus_program.specs.Answer.{Due, IsDueOfReplay, AreFetchedOf, AsksFirstOf}
 use Rattle.circus_program.specs.Seen.Step.{due_of, IsDueBehind, IsStepBehind, IsStepOfProgram, IsStepOfReplay}
-use Rattle.circus_program.proofs.ToldLemmas.{told_more-twice}
+use Rattle.circus_running.proofs.ToldLemmas.{told_more-twice}
 
 -- nothing was fetched
 pub fetched-none : (shelf : Option (List ℕ → Option (List ℕ))) (names : List (List ℕ)) → AreFetchedOf shelf names []
@@ -18,19 +19,19 @@ pub fetched-more : (shelf : Option (List ℕ → Option (List ℕ))) (name bytes
 fetched-more None name bytes names files e h = tt
 fetched-more (Some contents) name bytes names files e h = (e, h)
 
--- what is due behind the program, which is one, is due of the replay
-behind-replay : (program bytes schedule : List ℕ) (due : Due) (files : List (List ℕ)) → IsGood bytes → IsDueBehind bytes schedule files due → IsDueOfReplay program schedule (bytes ∷ files) due
-behind-replay program bytes schedule due [] good h = inl (good, h)
-behind-replay program bytes schedule due (more ∷ []) good (number, thin, h) = (good, number, thin, h)
-behind-replay program bytes schedule due (_ ∷ _ ∷ _) good h = absurd h
+-- what is due behind the program is due of the replay
+behind-replay : (program bytes schedule : List ℕ) (plan : Plan) (due : Due) (files : List (List ℕ)) → IsProgramOf bytes plan → IsDueBehind plan schedule files due → IsDueOfReplay program schedule (bytes ∷ files) due
+behind-replay program bytes schedule plan due [] means h = inl ((plan, means), h)
+behind-replay program bytes schedule plan due (more ∷ []) means h = (plan, means, h)
+behind-replay program bytes schedule plan due (_ ∷ _ ∷ _) means h = absurd h
 
 -- a step behind the first file is one of the replay
 pub step-of_replay : (shelf : Option (List ℕ → Option (List ℕ))) (program bytes schedule : List ℕ) (due : Due) → IfSome shelf (λ told. told program ≡ Some bytes) → IsStepOfProgram shelf bytes schedule due → IsStepOfReplay shelf program schedule due
-step-of_replay shelf program bytes schedule due told (inl (good, h)) =
+step-of_replay shelf program bytes schedule due told (inl (plan, means, h)) =
     record {
       files = bytes ∷ h.files;
       fetched = fetched-more shelf program bytes (schedule ∷ []) h.files told h.fetched;
-      is_due = behind-replay program bytes schedule due h.files good h.is_due;
+      is_due = behind-replay program bytes schedule plan due h.files means h.is_due;
     }
 step-of_replay shelf program bytes schedule due told (inr refused) =
     record {
@@ -40,10 +41,10 @@ step-of_replay shelf program bytes schedule due told (inr refused) =
     }
 
 -- a step behind a program
-pub behind-good : {E : Type 0} (shelf : Option (List ℕ → Option (List ℕ))) (program schedule : List ℕ) (r : Result Step E) → IsGood program
-    → IfOk r (λ step. IsStepBehind shelf program schedule (due_of step)) → IfOk r (λ step. IsStepOfProgram shelf program schedule (due_of step))
-behind-good shelf program schedule (Ok step) good behind = inl (good, behind)
-behind-good shelf program schedule (Err e) good behind = tt
+pub behind-good : {E : Type 0} (shelf : Option (List ℕ → Option (List ℕ))) (program schedule : List ℕ) (plan : Plan) (r : Result Step E) → IsProgramOf program plan
+    → IfOk r (λ step. IsStepBehind shelf plan schedule (due_of step)) → IfOk r (λ step. IsStepOfProgram shelf program schedule (due_of step))
+behind-good shelf program schedule plan (Ok step) means behind = inl (plan, means, behind)
+behind-good shelf program schedule plan (Err e) means behind = tt
 
 -- the name that was asked for first, and then others
 pub asks-more : (old middle new : Option (List (List ℕ))) (name : List ℕ) (names : List (List ℕ)) → middle ≡ told_more old (name ∷ []) → AsksFirstOf middle new names → AsksFirstOf old new (name ∷ names)

@@ -1,22 +1,57 @@
 -- Words come to one thing.
-use Rattle.std.proofs.Common.{◌≡◌, ℕ, ◌⊎◌, inl, inr, Option, Some, None, List, [], ◌∷◌, refl, sym, ap, subst, ◌∙◌, codes}
+use Rattle.std.proofs.Common.{◌≡◌, ℕ, ◌⊎◌, inl, inr, Option, Some, None, List, [], ◌∷◌, map, Result, Ok, Err, refl, sym, ap, subst, ◌∙◌, codes}
 use Rattle.std.specs.Prelude.{cond, bytes_eq}
-use Rattle.circus_thin.specs.declared.line.Line.{Line}
-use Rattle.circus_thin.specs.Course.{booted}
+use Rattle.circus_model.specs.Behaviour.{Behaviour}
+use Rattle.circus_collate.specs.declared.deployment.Deployment.{Deployment}
+use Rattle.circus_record.specs.Naming.{names_of}
+use Rattle.circus_schedule.specs.declared.line.Line.{Line}
+use Rattle.circus_schedule.specs.declared.schedule_fault.ScheduleFault.{ScheduleFault}
+use Rattle.circus_schedule.specs.declared.schedule_fault.ScheduleFault.TheVariants as schedule_fault
+use Rattle.circus_schedule.specs.Meaning.{numbers_of}
+use Rattle.circus_schedule.specs.Answer.{IsAnswer}
+use Rattle.circus_schedule.proofs.OneAnswer.{IsAnswer-one}
+use Rattle.circus_modules.specs.Behaviours.{program_of}
+use Rattle.circus_config.specs.declared.plan.Plan.{Plan}
+use Rattle.circus_config.specs.Limits.{limit_of}
+use Rattle.circus_config.specs.Program.{IsProgramOf, SaysSame}
+use Rattle.circus_config.proofs.OneAnswer.{plan_one}
+use Rattle.circus_world.specs.Boot.{before_any, all_booted}
 use Rattle.circus_program.specs.Form.{Form, stubs, run, replay, node, sample, settle, place, audit, words_of, files_of, IsOfForm}
-use Rattle.circus_program.specs.Thin.{IsThinProgram}
 use Rattle.circus_ending.specs.Ending.{Ending}
-use Rattle.circus_program.specs.Replay.{replayed}
+use Rattle.circus_program.specs.Replay.{after_step, replayed_whole, hosted_by, replay_of, IsReplayOf, IsEndOfReplay}
 use Rattle.circus_ending.specs.declared.one_file.OneFile.{OneFile}
 use Rattle.circus_ending.specs.declared.one_file.OneFile.TheVariants.{Stubs, Run, Place}
 use Rattle.circus_ending.specs.OneFile.{IsEndOf}
-use Rattle.circus_ending.specs.Refusal.{IsGood}
 use Rattle.circus_program.specs.Answer.{Due, fetch, finish, not_built, IsDueOfRefused, IsDueOfSchedule, IsDueOfReplay, IsDueOfFile, IsDueUnbuilt, IsDueOfForm, AreContents, IsDue}
 use Rattle.circus_program.specs.Last.{IsLast, IsDueLast}
 use Rattle.circus_ending.proofs.OneProgram.{refused_one, good_or_refused}
 use Rattle.circus_ending.proofs.OneEnding.{end_one}
-use Rattle.circus_program.proofs.OneProgram.{program_one}
-use Rattle.circus_program.proofs.Schedules.{schedule_one}
+
+-- Plans of one file have one replay of a schedule.
+
+-- a replay over a deployment, by the names of its modules and what they do
+abbrev replay_over : Deployment → List (List ℕ) → List Behaviour → List Line → Ending
+replay_over d names modules lines =
+    after_step (names_of d.nodes names)
+    (replayed_whole (λ (b : Behaviour). b.declared) (λ (b : Behaviour). b.turn) (names_of d.nodes names) lines)
+    (all_booted (λ (b : Behaviour). b.declared) (λ (b : Behaviour). b.turn) (λ (b : Behaviour). b.first) (map (hosted_by modules) d.nodes) (before_any d modules))
+
+replay_same : (plan other : Plan) → SaysSame plan other → (lines : List Line) → replay_of plan lines ≡ replay_of other lines
+replay_same plan other same lines =
+    λ i. replay_over (same.deployment i) (same.names i) (program_of (limit_of (same.deployment i).format) (same.interfaces i) (same.modules i)) lines
+
+read_one : (plan other : Plan) → SaysSame plan other → (read : Result (List Line) ScheduleFault) (one another : Ending) → IsReplayOf plan read one → IsReplayOf other read another → one ≡ another
+read_one plan other same (Ok lines) one another is also = is ∙ replay_same plan other same lines ∙ sym also
+read_one plan other same (Err (schedule_fault.BadLine number)) one another is also = is ∙ sym also
+read_one plan other same (Err (schedule_fault.UnknownNode number name)) one another is also = is ∙ sym also
+read_one plan other same (Err (schedule_fault.TooManyLines number)) one another is also = is ∙ sym also
+read_one plan other same (Err schedule_fault.NoMemory) one another is also = absurd is
+
+replay_one : (plan other : Plan) → SaysSame plan other → (schedule : List ℕ) (one another : Ending) → IsEndOfReplay plan schedule one → IsEndOfReplay other schedule another → one ≡ another
+replay_one plan other same schedule one another (read, answer, is) (again, answers, also) =
+    let here : IsAnswer (numbers_of other.deployment.nodes) schedule read = subst (λ (d : Deployment). IsAnswer (numbers_of d.nodes) schedule read) same.deployment answer in
+    let reads : read ≡ again = IsAnswer-one (numbers_of other.deployment.nodes) schedule read again here answers in
+    read_one plan other same again one another (subst (λ (r : Result (List Line) ScheduleFault). IsReplayOf plan r one) reads is) also
 
 -- What is asked for, by what comes of it.
 
@@ -60,18 +95,13 @@ asked_one words one other first second =
 -- What comes of it at last.
 
 module _ (contents : List ℕ → Option (List ℕ)) where
-  abbrev pub OfSchedule : List ℕ → ℕ → Due → Type 0
-  OfSchedule schedule number due =
+  abbrev pub OfSchedule : List ℕ → Plan → Due → Type 0
+  OfSchedule schedule plan due =
       ((contents schedule ≡ None) × (due ≡ fetch schedule))
-      ⊎ ((bytes : List ℕ) × (contents schedule ≡ Some bytes) × IsDueOfSchedule number bytes due)
-
-  abbrev pub OfGood : List ℕ → List ℕ → Due → Type 0
-  OfGood schedule program due =
-      ((number : ℕ) × IsThinProgram program number × OfSchedule schedule number due)
-      ⊎ (((number : ℕ) → IsThinProgram program number → ⊥) × (due ≡ not_built))
+      ⊎ ((bytes : List ℕ) × (contents schedule ≡ Some bytes) × IsDueOfSchedule plan bytes due)
 
   abbrev pub OfProgram : List ℕ → List ℕ → Due → Type 0
-  OfProgram schedule program due = (IsGood program × OfGood schedule program due) ⊎ IsDueOfRefused program due
+  OfProgram schedule program due = ((plan : Plan) × IsProgramOf program plan × OfSchedule schedule plan due) ⊎ IsDueOfRefused program due
 
   abbrev pub OfReplay : List ℕ → List ℕ → Due → Type 0
   OfReplay program schedule due =
@@ -94,12 +124,11 @@ module _ (contents : List ℕ → Option (List ℕ)) where
 
   of_replay : (program schedule : List ℕ) (files : List (List ℕ)) (due : Due) → AreContents contents (program ∷ schedule ∷ []) files → IsDueOfReplay program schedule files due → IsLast contents due → OfReplay program schedule due
   of_replay program schedule [] due fetched is last = inl (lacking program due is last, is)
-  of_replay program schedule (bytes ∷ []) due fetched (inl (good, (inl (number, thin, is)))) last =
-      inr (bytes, fetched.0, inl (good, inl (number, thin, inl (lacking schedule due is last, is))))
-  of_replay program schedule (bytes ∷ []) due fetched (inl (good, (inr other))) last = inr (bytes, fetched.0, inl (good, inr other))
+  of_replay program schedule (bytes ∷ []) due fetched (inl ((plan, means), is)) last =
+      inr (bytes, fetched.0, inl (plan, means, inl (lacking schedule due is last, is)))
   of_replay program schedule (bytes ∷ []) due fetched (inr refused) last = inr (bytes, fetched.0, inr refused)
-  of_replay program schedule (bytes ∷ more ∷ []) due fetched (good, number, thin, is) last =
-      inr (bytes, fetched.0, inl (good, inl (number, thin, inr (more, fetched.1.0, is))))
+  of_replay program schedule (bytes ∷ more ∷ []) due fetched (plan, means, is) last =
+      inr (bytes, fetched.0, inl (plan, means, inr (more, fetched.1.0, is)))
   of_replay program schedule (_ ∷ _ ∷ _ ∷ _) due fetched is last = absurd is
 
   of_file : (command : OneFile) (file : List ℕ) (files : List (List ℕ)) (due : Due) → AreContents contents (file ∷ []) files → IsDueOfFile command file files due → IsLast contents due → OfFile command file due
@@ -126,31 +155,20 @@ module _ (contents : List ℕ → Option (List ℕ)) where
   there_once : (name one other : List ℕ) → contents name ≡ Some one → contents name ≡ Some other → one ≡ other
   there_once name one other first second = let same : ◌≡◌ {A = Option (List ℕ)} (Some one) (Some other) = sym first ∙ second in cc
 
-  one_of_lines : (number : ℕ) (bytes : List ℕ) (one other : Due) → IsDueOfSchedule number bytes one → IsDueOfSchedule number bytes other → one ≡ other
-  one_of_lines number bytes one other (inl (lines, first, is)) (inl (others, second, also)) =
-      is ∙ ap (λ (l : List Line). finish (replayed 1 (booted number) l)) (schedule_one bytes lines others first second) ∙ sym also
-  one_of_lines number bytes one other (inl (lines, first, is)) (inr (none, also)) = absurd (none lines first)
-  one_of_lines number bytes one other (inr (none, is)) (inl (lines, second, also)) = absurd (none lines second)
-  one_of_lines number bytes one other (inr (none, is)) (inr (neither, also)) = is ∙ sym also
-
-  one_of_schedule : (schedule : List ℕ) (number : ℕ) (one other : Due) → OfSchedule schedule number one → OfSchedule schedule number other → one ≡ other
-  one_of_schedule schedule number one other (inl (none, is)) (inl (neither, also)) = is ∙ sym also
-  one_of_schedule schedule number one other (inl (none, is)) (inr (bytes, there, also)) = absurd cc
-  one_of_schedule schedule number one other (inr (bytes, there, is)) (inl (none, also)) = absurd cc
-  one_of_schedule schedule number one other (inr (bytes, there, is)) (inr (others, here, also)) =
-      one_of_lines number others one other (subst (λ b. IsDueOfSchedule number b one) (there_once schedule bytes others there here) is) also
-
-  one_of_good : (schedule program : List ℕ) (one other : Due) → OfGood schedule program one → OfGood schedule program other → one ≡ other
-  one_of_good schedule program one other (inl (number, thin, is)) (inl (also_number, also_thin, also)) =
-      one_of_schedule schedule also_number one other (subst (λ n. OfSchedule schedule n one) (program_one program number also_number thin also_thin) is) also
-  one_of_good schedule program one other (inl (number, thin, is)) (inr (none, also)) = absurd (none number thin)
-  one_of_good schedule program one other (inr (none, is)) (inl (number, thin, also)) = absurd (none number thin)
-  one_of_good schedule program one other (inr (none, is)) (inr (neither, also)) = is ∙ sym also
+  one_of_schedule : (schedule : List ℕ) (plan again : Plan) → SaysSame plan again → (one other : Due) → OfSchedule schedule plan one → OfSchedule schedule again other → one ≡ other
+  one_of_schedule schedule plan again same one other (inl (none, is)) (inl (neither, also)) = is ∙ sym also
+  one_of_schedule schedule plan again same one other (inl (none, is)) (inr (bytes, there, also)) = absurd cc
+  one_of_schedule schedule plan again same one other (inr (bytes, there, is)) (inl (none, also)) = absurd cc
+  one_of_schedule schedule plan again same one other (inr (bytes, there, (ending, end, is))) (inr (others, here, (another, ends, also))) =
+      is
+      ∙ ap finish (replay_one plan again same others ending another (subst (λ b. IsEndOfReplay plan b ending) (there_once schedule bytes others there here) end) ends)
+      ∙ sym also
 
   one_of_program : (schedule program : List ℕ) (one other : Due) → OfProgram schedule program one → OfProgram schedule program other → one ≡ other
-  one_of_program schedule program one other (inl (good, is)) (inl (also_good, also)) = one_of_good schedule program one other is also
-  one_of_program schedule program one other (inl ((plan, means), is)) (inr (ending, refused, so)) = absurd (good_or_refused program plan ending means refused)
-  one_of_program schedule program one other (inr (ending, refused, is)) (inl ((plan, means), also)) = absurd (good_or_refused program plan ending means refused)
+  one_of_program schedule program one other (inl (plan, means, is)) (inl (again, also_means, also)) =
+      one_of_schedule schedule plan again (plan_one program plan again means also_means) one other is also
+  one_of_program schedule program one other (inl (plan, means, is)) (inr (ending, refused, so)) = absurd (good_or_refused program plan ending means refused)
+  one_of_program schedule program one other (inr (ending, refused, is)) (inl (plan, means, also)) = absurd (good_or_refused program plan ending means refused)
   one_of_program schedule program one other (inr (ending, refused, is)) (inr (another, again, so)) = is ∙ ap finish (refused_one program ending another refused again) ∙ sym so
 
   one_of_replay : (program schedule : List ℕ) (one other : Due) → OfReplay program schedule one → OfReplay program schedule other → one ≡ other

@@ -1,13 +1,10 @@
 -- Words come to something.
 use Rattle.std.proofs.Common.{◌≡◌, ℕ, ◌⊎◌, inl, inr, Option, Some, None, List, [], ◌∷◌, refl, sym, subst}
-use Rattle.circus_thin.specs.Course.{booted}
+use Rattle.circus_config.specs.declared.plan.Plan.{Plan}
+use Rattle.circus_config.specs.Program.{IsProgramOf}
 use Rattle.circus_program.specs.Form.{Form, stubs, run, replay, node, sample, settle, place, audit, files_of, IsOfForm}
-use Rattle.circus_program.specs.Thin.{IsThinProgram}
-use Rattle.circus_program.specs.Replay.{replayed}
-use Rattle.circus_ending.specs.Refusal.{IsGood}
 use Rattle.circus_program.specs.Answer.{Due, fetch, finish, not_built, bad_command_line, IsDueOfForm, AreContents}
-use Rattle.circus_program.specs.Last.{IsLast, IsDueLast, file_read, IsToBeRead, IsAnswered}
-use Rattle.circus_program.proofs.Decided.{decided_program, decided_schedule}
+use Rattle.circus_program.specs.Last.{IsLast, IsDueLast, file_read, IsToBeRead, IsScheduleAnswered, IsAnswered}
 use Rattle.circus_program.proofs.DecidedWords.{decided_form}
 
 module _ (contents : List ℕ → Option (List ℕ)) where
@@ -55,39 +52,25 @@ module _ (contents : List ℕ → Option (List ℕ)) where
 
   -- ---- it is read
 
-  read_schedule : (program schedule bytes : List ℕ) (number : ℕ) → contents program ≡ Some bytes → IsGood bytes → IsThinProgram bytes number → Comes (replay program schedule)
-  read_schedule program schedule bytes number there good thin =
-      elim (contents schedule) as (λ o. contents schedule ≡ o → Comes (replay program schedule)) [
-        | None ↦ λ none. record { due = fetch schedule; files = bytes ∷ []; fetched = (there, tt); is_due = inl (good, inl (number, thin, refl)); last = none }
-        | Some more ↦ λ here. elim (decided_schedule more) [
-          | inl (lines, spelled) ↦ record {
-            due = finish (replayed 1 (booted number) lines);
-            files = bytes ∷ more ∷ [];
-            fetched = (there, (here, tt));
-            is_due = (good, number, thin, inl (lines, spelled, refl));
-            last = tt;
-          }
-          | inr none ↦ record {
-            due = not_built;
-            files = bytes ∷ more ∷ [];
-            fetched = (there, (here, tt));
-            is_due = (good, number, thin, inr ((λ lines spelled. none (lines, spelled)), refl));
-            last = tt;
-          }
-        ]
+  read_schedule : (program schedule bytes : List ℕ) (plan : Plan) → contents program ≡ Some bytes → IsProgramOf bytes plan → IsScheduleAnswered plan (contents schedule) → Comes (replay program schedule)
+  read_schedule program schedule bytes plan there means =
+      elim (contents schedule) as (λ o. contents schedule ≡ o → IsScheduleAnswered plan o → Comes (replay program schedule)) [
+        | None ↦ λ none answered. record { due = fetch schedule; files = bytes ∷ []; fetched = (there, tt); is_due = inl ((plan, means), refl); last = none }
+        | Some more ↦ λ here answered. record {
+          due = finish answered.0;
+          files = bytes ∷ more ∷ [];
+          fetched = (there, (here, tt));
+          is_due = (plan, means, (answered.0, answered.1, refl));
+          last = tt;
+        }
       ] refl
-
-  read_good : (program schedule bytes : List ℕ) → contents program ≡ Some bytes → IsGood bytes → Comes (replay program schedule)
-  read_good program schedule bytes there good = elim (decided_program bytes) [
-    | inl (number, thin) ↦ read_schedule program schedule bytes number there good thin
-    | inr none ↦ record { due = not_built; files = bytes ∷ []; fetched = (there, tt); is_due = inl (good, inr ((λ number thin. none (number, thin)), refl)); last = tt }
-  ]
 
   same_name : (name other bytes : List ℕ) → Some other ≡ Some name → contents name ≡ Some bytes → contents other ≡ Some bytes
   same_name name other bytes first there = let same : other ≡ name = cc in subst (λ n. contents n ≡ Some bytes) (sym same) there
 
-  comes_read : (form : Form) (name bytes : List ℕ) → file_read form ≡ Some name → contents name ≡ Some bytes → IsAnswered form bytes → Comes form
-  comes_read (replay program schedule) name bytes first there (inl good) = read_good program schedule bytes (same_name name program bytes first there) good
+  comes_read : (form : Form) (name bytes : List ℕ) → file_read form ≡ Some name → contents name ≡ Some bytes → IsAnswered contents form bytes → Comes form
+  comes_read (replay program schedule) name bytes first there (inl (plan, means, answered)) =
+      read_schedule program schedule bytes plan (same_name name program bytes first there) means answered
   comes_read (replay program schedule) name bytes first there (inr (ending, refused)) =
       record { due = finish ending; files = bytes ∷ []; fetched = (same_name name program bytes first there, tt); is_due = inr (ending, refused, refl); last = tt }
   comes_read (stubs program) name bytes first there (ending, end) =
@@ -101,5 +84,5 @@ module _ (contents : List ℕ → Option (List ℕ)) where
   comes_read (settle _ _) name bytes first there answered = absurd answered
   comes_read (audit _ _) name bytes first there answered = absurd answered
 
-  pub read_due : (words : List (List ℕ)) (file : IsToBeRead contents words) → IsAnswered file.form file.bytes → (due : Due) × IsDueLast contents words due
+  pub read_due : (words : List (List ℕ)) (file : IsToBeRead contents words) → IsAnswered contents file.form file.bytes → (due : Due) × IsDueLast contents words due
   read_due words file answered = due_of words file.form file.of_form (comes_read file.form file.name file.bytes file.first file.there answered)

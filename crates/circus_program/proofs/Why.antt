@@ -1,51 +1,28 @@
 -- Which ends have a status, and why.
-use Rattle.std.proofs.Common.{◌≡◌, ◌↔◌, ℕ, ◌+◌, ◌⊎◌, inl, inr, true, false, Option, Some, List, [], ◌∷◌, refl, sym, ap, subst, ◌∙◌}
-use Rattle.std.specs.Prelude.{cond}
-use Rattle.circus_thin.specs.declared.line.Line.{Line}
-use Rattle.circus_thin.specs.WorldView.{WorldView}
-use Rattle.circus_thin.specs.Course.{booted, stepped}
+use Rattle.std.proofs.Common.{◌≡◌, ◌↔◌, ℕ, ◌⊎◌, inl, inr, Option, Some, List, [], ◌∷◌, Ok, refl, sym, ap, subst, ◌∙◌}
+use Rattle.circus_schedule.specs.declared.line.Line.{Line}
+use Rattle.circus_schedule.specs.Meaning.{numbers_of}
+use Rattle.circus_schedule.specs.Answer.{IsAnswer}
 use Rattle.circus_ending.specs.declared.status.Status.{Status}
-use Rattle.circus_ending.specs.declared.status.Status.TheVariants.{Done, BadCommandLine, BadProgram, BadSchedule, NotBuilt, BadPlacing, NoPlacement}
+use Rattle.circus_ending.specs.declared.status.Status.TheVariants.{Done, BadCommandLine, BadProgram, BadSchedule, Spent, NotBuilt, BadPlacing, NoPlacement}
 use Rattle.circus_program.specs.Form.{Form, stubs, run, replay, node, sample, settle, place, audit, files_of, IsOfForm, IsOfNoForm}
-use Rattle.circus_program.specs.Thin.{IsThinProgram, IsThinSchedule}
 use Rattle.circus_ending.specs.Ending.{Ending}
-use Rattle.circus_program.specs.Replay.{is_legal, replayed, refused}
 use Rattle.circus_config.specs.declared.plan.Plan.{Plan}
 use Rattle.circus_config.specs.declared.program_fault.ProgramCause.{ProgramCause}
+use Rattle.circus_config.specs.Program.{IsProgramOf}
 use Rattle.circus_ending.specs.declared.one_file.OneFile.{OneFile}
 use Rattle.circus_ending.specs.declared.one_file.OneFile.TheVariants.{Stubs, Run, Place}
-use Rattle.circus_ending.specs.Refusal.{IsGood, refused_text, IsEndOfRefused}
+use Rattle.circus_ending.specs.Refusal.{refused_text, IsEndOfRefused}
 use Rattle.circus_ending.specs.Program.{history_lines, stubs_lines, IsEndOfProgram}
 use Rattle.circus_ending.specs.Placed.{IsEndOfPlacing}
 use Rattle.circus_ending.specs.OneFile.{IsEndOf}
+use Rattle.circus_program.specs.Replay.{IsEndOfReplay}
 use Rattle.circus_program.specs.Answer.{Due, fetch, finish, not_built, bad_command_line, IsDueOfForm, AreContents, IsDue}
-use Rattle.circus_program.specs.Last.{IsLast, IsDueLast, EndsWith, program_read, IsRefusedProgram, HasRefused, IsReplayOf, IsRefusedReplay, IsUnbuilt, IsNotBuilt}
+use Rattle.circus_program.specs.Last.{IsLast, IsDueLast, EndsWith, program_read, IsRefusedProgram, IsReplay, IsRefusedReplay, IsSpentReplay, IsUnbuilt, IsNotBuilt}
+use Rattle.circus_program.proofs.ReplayEnds.{Refuses, Spends, IsStatusOfReplay, replay_status, Ends, ends_refused, ends_spent}
 use Rattle.circus_program.proofs.OneDue.{asked_by, of_form, OfAsked, OfReplay, OfFile, OfSchedule, one_due}
 
 -- ---- the ends that there are
-
--- the replay of lines is done, or a line is refused
-abbrev IsReplayStatus : WorldView → List Line → Status → Type 0
-IsReplayStatus w lines status = (status ≡ Done) ⊎ ((status ≡ BadSchedule) × HasRefused w lines)
-
-replay_status : (number : ℕ) (w : WorldView) (lines : List Line) → IsReplayStatus w lines (replayed number w lines).status
-replay_status number w [] = inl refl
-replay_status number w (line ∷ lines) =
-    elim (is_legal w line) as (λ b. is_legal w line ≡ b → IsReplayStatus w (line ∷ lines) (cond b (replayed (number + 1) (stepped w line) lines) (refused number w line)).status) [
-      | true ↦ λ legal. elim (replay_status (number + 1) (stepped w line) lines) [
-        | inl done ↦ inl done
-        | inr (bad, later) ↦ inr (bad, inr (legal, later))
-      ]
-      | false ↦ λ illegal. inr (refl, inl illegal)
-    ] refl
-
-refused_status : (number : ℕ) (w : WorldView) (lines : List Line) → HasRefused w lines → (replayed number w lines).status ≡ BadSchedule
-refused_status number w [] has = absurd has
-refused_status number w (line ∷ lines) (inl illegal) =
-    ap (λ b. (cond b (replayed (number + 1) (stepped w line) lines) (refused number w line)).status) illegal
-refused_status number w (line ∷ lines) (inr (legal, later)) =
-    ap (λ b. (cond b (replayed (number + 1) (stepped w line) lines) (refused number w line)).status) legal
-    ∙ refused_status (number + 1) (stepped w line) lines later
 
 -- a program is told of, or is refused; a placing ends with a choice, without one, or is refused
 abbrev IsEndStatus : OneFile → Status → Type 0
@@ -86,6 +63,15 @@ never_ends status command bytes ending end no_done no_program no_none no_bad sam
     by_command Run (inl done) = no_done (sym done ∙ same)
     by_command Run (inr bad) = no_program (sym bad ∙ same)
 
+-- a status that no replay ends with
+never_replays : (status : Status) (plan : Plan) (schedule : List ℕ) (ending : Ending) → IsEndOfReplay plan schedule ending → (Done ≡ status → ⊥) → (BadSchedule ≡ status → ⊥) → (Spent ≡ status → ⊥) → ending.status ≡ status → ⊥
+never_replays status plan schedule ending end no_done no_bad no_spent same = by_status (replay_status plan schedule ending end)
+  where
+    by_status : IsStatusOfReplay plan schedule ending.status → ⊥
+    by_status (inl done) = no_done (sym done ∙ same)
+    by_status (inr (inl (bad, why))) = no_bad (sym bad ∙ same)
+    by_status (inr (inr (spent, why))) = no_spent (sym spent ∙ same)
+
 -- a program is refused where the end says so
 refused_end : (command : OneFile) (bytes : List ℕ) (ending : Ending) → IsEndOf command bytes ending → ending.status ≡ BadProgram → IsEndOfRefused bytes ending
 refused_end Place bytes ending end same = elim (placing_status bytes ending end) [
@@ -100,6 +86,22 @@ refused_end Stubs bytes ending end same = elim (program_status stubs_lines bytes
 refused_end Run bytes ending end same = elim (program_status history_lines bytes ending end) [
   | inl done ↦ absurd (let clash : Done ≡ BadProgram = sym done ∙ same in cc)
   | inr (bad, why) ↦ why
+]
+
+-- a line is refused, and a node has no number left, where the end says so
+replay_refused : (plan : Plan) (schedule : List ℕ) (ending : Ending) → IsEndOfReplay plan schedule ending → ending.status ≡ BadSchedule → Refuses plan schedule
+replay_refused plan schedule ending end same = elim (replay_status plan schedule ending end) [
+  | inl done ↦ absurd (let clash : Done ≡ BadSchedule = sym done ∙ same in cc)
+  | inr (inl (bad, why)) ↦ why
+  | inr (inr (spent, why)) ↦ absurd (let clash : Spent ≡ BadSchedule = sym spent ∙ same in cc)
+]
+
+replay_spent : (plan : Plan) (schedule : List ℕ) (ending : Ending) → IsEndOfReplay plan schedule ending → ending.status ≡ Spent
+    → (lines : List Line) × IsAnswer (numbers_of plan.deployment.nodes) schedule (Ok lines) × Spends plan lines
+replay_spent plan schedule ending end same = elim (replay_status plan schedule ending end) [
+  | inl done ↦ absurd (let clash : Done ≡ Spent = sym done ∙ same in cc)
+  | inr (inl (bad, why)) ↦ absurd (let clash : BadSchedule ≡ Spent = sym bad ∙ same in cc)
+  | inr (inr (spent, why)) ↦ why
 ]
 
 ends_as : (status : Status) (due : Due) (ending : Ending) → due ≡ finish ending → EndsWith status due → ending.status ≡ status
@@ -124,24 +126,20 @@ form_by Place file = place file
 data Comes (contents : List ℕ → Option (List ℕ)) (words : List (List ℕ)) (due : Due) : Type 0 where
   nothing : IsOfNoForm words → due ≡ bad_command_line → Comes contents words due
   lacking : (name : List ℕ) → due ≡ fetch name → Comes contents words due
-  unbuilt : IsNotBuilt contents words → due ≡ not_built → Comes contents words due
-  replay_of : (number : ℕ) (schedule : List ℕ) (lines : List Line) → IsReplayOf contents words number schedule → IsThinSchedule schedule lines → due ≡ finish (replayed 1 (booted number) lines) → Comes contents words due
+  unbuilt : IsNotBuilt words → due ≡ not_built → Comes contents words due
+  replayed : (plan : Plan) (schedule : List ℕ) (ending : Ending) → IsReplay contents words plan schedule → IsEndOfReplay plan schedule ending → due ≡ finish ending → Comes contents words due
   refused_replay : (program name bytes : List ℕ) (ending : Ending) → IsOfForm words (replay program name) → contents program ≡ Some bytes → IsEndOfRefused bytes ending → due ≡ finish ending → Comes contents words due
   ended : (command : OneFile) (file bytes : List ℕ) (ending : Ending) → IsOfForm words (form_by command file) → contents file ≡ Some bytes → IsEndOf command bytes ending → due ≡ finish ending → Comes contents words due
 
 module _ (contents : List ℕ → Option (List ℕ)) (words : List (List ℕ)) where
-  comes_schedule : (program name bytes : List ℕ) (number : ℕ) (due : Due) → IsOfForm words (replay program name) → contents program ≡ Some bytes → IsGood bytes → IsThinProgram bytes number → OfSchedule contents name number due → Comes contents words due
-  comes_schedule program name bytes number due form there good thin (inl (none, is)) = lacking name is
-  comes_schedule program name bytes number due form there good thin (inr (schedule, here, inl (lines, spelled, is))) =
-      replay_of number schedule lines (record { program = program; name = name; of_form = form; bytes = bytes; program_is = there; good = good; thin = thin; schedule_is = here }) spelled is
-  comes_schedule program name bytes number due form there good thin (inr (schedule, here, inr (other, is))) =
-      unbuilt (inr (inr (record { number = number; schedule = schedule; replayed = record { program = program; name = name; of_form = form; bytes = bytes; program_is = there; good = good; thin = thin; schedule_is = here }; other = other }))) is
+  comes_schedule : (program name bytes : List ℕ) (plan : Plan) (due : Due) → IsOfForm words (replay program name) → contents program ≡ Some bytes → IsProgramOf bytes plan → OfSchedule contents name plan due → Comes contents words due
+  comes_schedule program name bytes plan due form there good (inl (none, is)) = lacking name is
+  comes_schedule program name bytes plan due form there good (inr (schedule, here, (ending, end, is))) =
+      replayed plan schedule ending (record { program = program; name = name; of_form = form; bytes = bytes; program_is = there; good = good; schedule_is = here }) end is
 
   comes_replay : (program name : List ℕ) (due : Due) → IsOfForm words (replay program name) → OfReplay contents program name due → Comes contents words due
   comes_replay program name due form (inl (none, is)) = lacking program is
-  comes_replay program name due form (inr (bytes, there, inl (good, inl (number, thin, behind)))) = comes_schedule program name bytes number due form there good thin behind
-  comes_replay program name due form (inr (bytes, there, inl (good, inr (other, is)))) =
-      unbuilt (inr (inl (record { program = program; name = name; of_form = form; bytes = bytes; program_is = there; good = good; other = other }))) is
+  comes_replay program name due form (inr (bytes, there, inl (plan, good, behind))) = comes_schedule program name bytes plan due form there good behind
   comes_replay program name due form (inr (bytes, there, inr (ending, refusal, is))) = refused_replay program name bytes ending form there refusal is
 
   comes_file : (command : OneFile) (file : List ℕ) (due : Due) → IsOfForm words (form_by command file) → OfFile contents command file due → Comes contents words due
@@ -153,10 +151,10 @@ module _ (contents : List ℕ → Option (List ℕ)) (words : List (List ℕ)) w
   comes_form (place file) due form of = comes_file Place file due form of
   comes_form (stubs program) due form of = comes_file Stubs program due form of
   comes_form (run program) due form of = comes_file Run program due form of
-  comes_form (node program name turns) due form of = unbuilt (inl (node program name turns, form, tt)) of
-  comes_form (sample program seed steps) due form of = unbuilt (inl (sample program seed steps, form, tt)) of
-  comes_form (settle program deliveries) due form of = unbuilt (inl (settle program deliveries, form, tt)) of
-  comes_form (audit program «record») due form of = unbuilt (inl (audit program «record», form, tt)) of
+  comes_form (node program name turns) due form of = unbuilt (node program name turns, form, tt) of
+  comes_form (sample program seed steps) due form of = unbuilt (sample program seed steps, form, tt) of
+  comes_form (settle program deliveries) due form of = unbuilt (settle program deliveries, form, tt) of
+  comes_form (audit program «record») due form of = unbuilt (audit program «record», form, tt) of
 
   comes_to : (due : Due) → IsDueLast contents words due → Comes contents words due
   comes_to due is = go is.is_due
@@ -171,10 +169,8 @@ module _ (contents : List ℕ → Option (List ℕ)) (words : List (List ℕ)) w
   why_words due (nothing none is) ends = none
   why_words due (lacking name is) ends = never_fetch BadCommandLine due name is ends
   why_words due (unbuilt why is) ends = absurd (let clash : NotBuilt ≡ BadCommandLine = ends_as BadCommandLine due _ is ends in cc)
-  why_words due (replay_of number schedule lines of spelled is) ends = elim (replay_status 1 (booted number) lines) [
-    | inl done ↦ absurd (let clash : Done ≡ BadCommandLine = sym done ∙ ends_as BadCommandLine due _ is ends in cc)
-    | inr (bad, later) ↦ absurd (let clash : BadSchedule ≡ BadCommandLine = sym bad ∙ ends_as BadCommandLine due _ is ends in cc)
-  ]
+  why_words due (replayed plan schedule ending of end is) ends =
+      absurd (never_replays BadCommandLine plan schedule ending end (λ same. cc) (λ same. cc) (λ same. cc) (ends_as BadCommandLine due ending is ends))
   why_words due (refused_replay program name bytes ending form there (number, cause, refusal, means) is) ends =
       absurd (let clash : BadProgram ≡ BadCommandLine = sym (ap (λ (e : Ending). e.status) means) ∙ ends_as BadCommandLine due ending is ends in cc)
   why_words due (ended command file bytes ending form there end is) ends =
@@ -197,10 +193,8 @@ module _ (contents : List ℕ → Option (List ℕ)) (words : List (List ℕ)) w
   why_program due (nothing none is) ends = absurd (let clash : BadCommandLine ≡ BadProgram = ends_as BadProgram due _ is ends in cc)
   why_program due (lacking name is) ends = never_fetch BadProgram due name is ends
   why_program due (unbuilt why is) ends = absurd (let clash : NotBuilt ≡ BadProgram = ends_as BadProgram due _ is ends in cc)
-  why_program due (replay_of number schedule lines of spelled is) ends = elim (replay_status 1 (booted number) lines) [
-    | inl done ↦ absurd (let clash : Done ≡ BadProgram = sym done ∙ ends_as BadProgram due _ is ends in cc)
-    | inr (bad, later) ↦ absurd (let clash : BadSchedule ≡ BadProgram = sym bad ∙ ends_as BadProgram due _ is ends in cc)
-  ]
+  why_program due (replayed plan schedule ending of end is) ends =
+      absurd (never_replays BadProgram plan schedule ending end (λ same. cc) (λ same. cc) (λ same. cc) (ends_as BadProgram due ending is ends))
   why_program due (refused_replay program name bytes ending form there refusal is) ends = refused_program (replay program name) program bytes ending form refl there refusal
   why_program due (ended command file bytes ending form there end is) ends = refused_file command file bytes ending form there end (ends_as BadProgram due ending is ends)
 
@@ -208,23 +202,31 @@ module _ (contents : List ℕ → Option (List ℕ)) (words : List (List ℕ)) w
   why_schedule due (nothing none is) ends = absurd (let clash : BadCommandLine ≡ BadSchedule = ends_as BadSchedule due _ is ends in cc)
   why_schedule due (lacking name is) ends = never_fetch BadSchedule due name is ends
   why_schedule due (unbuilt why is) ends = absurd (let clash : NotBuilt ≡ BadSchedule = ends_as BadSchedule due _ is ends in cc)
-  why_schedule due (replay_of number schedule lines of spelled is) ends = elim (replay_status 1 (booted number) lines) [
-    | inl done ↦ absurd (let clash : Done ≡ BadSchedule = sym done ∙ ends_as BadSchedule due _ is ends in cc)
-    | inr (bad, later) ↦ record { number = number; schedule = schedule; replayed = of; lines = lines; spelled = spelled; refused = later }
-  ]
+  why_schedule due (replayed plan schedule ending of end is) ends =
+      record { plan = plan; schedule = schedule; replayed = of; refused = replay_refused plan schedule ending end (ends_as BadSchedule due ending is ends) }
   why_schedule due (refused_replay program name bytes ending form there (number, cause, refusal, means) is) ends =
       absurd (let clash : BadProgram ≡ BadSchedule = sym (ap (λ (e : Ending). e.status) means) ∙ ends_as BadSchedule due ending is ends in cc)
   why_schedule due (ended command file bytes ending form there end is) ends =
       absurd (never_ends BadSchedule command bytes ending end (λ same. cc) (λ same. cc) (λ same. cc) (λ same. cc) (ends_as BadSchedule due ending is ends))
 
-  why_unbuilt : (due : Due) → Comes contents words due → EndsWith NotBuilt due → IsNotBuilt contents words
+  why_spent : (due : Due) → Comes contents words due → EndsWith Spent due → IsSpentReplay contents words
+  why_spent due (nothing none is) ends = absurd (let clash : BadCommandLine ≡ Spent = ends_as Spent due _ is ends in cc)
+  why_spent due (lacking name is) ends = never_fetch Spent due name is ends
+  why_spent due (unbuilt why is) ends = absurd (let clash : NotBuilt ≡ Spent = ends_as Spent due _ is ends in cc)
+  why_spent due (replayed plan schedule ending of end is) ends =
+      let spent = replay_spent plan schedule ending end (ends_as Spent due ending is ends) in
+      record { plan = plan; schedule = schedule; replayed = of; lines = spent.0; read = spent.1; spent = spent.2 }
+  why_spent due (refused_replay program name bytes ending form there (number, cause, refusal, means) is) ends =
+      absurd (let clash : BadProgram ≡ Spent = sym (ap (λ (e : Ending). e.status) means) ∙ ends_as Spent due ending is ends in cc)
+  why_spent due (ended command file bytes ending form there end is) ends =
+      absurd (never_ends Spent command bytes ending end (λ same. cc) (λ same. cc) (λ same. cc) (λ same. cc) (ends_as Spent due ending is ends))
+
+  why_unbuilt : (due : Due) → Comes contents words due → EndsWith NotBuilt due → IsNotBuilt words
   why_unbuilt due (nothing none is) ends = absurd (let clash : BadCommandLine ≡ NotBuilt = ends_as NotBuilt due _ is ends in cc)
   why_unbuilt due (lacking name is) ends = never_fetch NotBuilt due name is ends
   why_unbuilt due (unbuilt why is) ends = why
-  why_unbuilt due (replay_of number schedule lines of spelled is) ends = elim (replay_status 1 (booted number) lines) [
-    | inl done ↦ absurd (let clash : Done ≡ NotBuilt = sym done ∙ ends_as NotBuilt due _ is ends in cc)
-    | inr (bad, later) ↦ absurd (let clash : BadSchedule ≡ NotBuilt = sym bad ∙ ends_as NotBuilt due _ is ends in cc)
-  ]
+  why_unbuilt due (replayed plan schedule ending of end is) ends =
+      absurd (never_replays NotBuilt plan schedule ending end (λ same. cc) (λ same. cc) (λ same. cc) (ends_as NotBuilt due ending is ends))
   why_unbuilt due (refused_replay program name bytes ending form there (number, cause, refusal, means) is) ends =
       absurd (let clash : BadProgram ≡ NotBuilt = sym (ap (λ (e : Ending). e.status) means) ∙ ends_as NotBuilt due ending is ends in cc)
   why_unbuilt due (ended command file bytes ending form there end is) ends =
@@ -266,13 +268,17 @@ module _ (contents : List ℕ → Option (List ℕ)) (words : List (List ℕ)) w
   bad_program : (due : Due) → IsDueLast contents words due → IsRefusedProgram contents words → EndsWith BadProgram due
   bad_program due is has = same_status BadProgram due _ is (refused_due has has.form has.of_form has.program_is) refl
 
+  -- a replay that ends so
+  replay_due : (status : Status) (plan : Plan) (schedule : List ℕ) (due : Due) → IsDueLast contents words due → IsReplay contents words plan schedule → Ends plan schedule status → EndsWith status due
+  replay_due status plan schedule due is r e =
+      let other = due_of_form (replay r.program r.name) (r.bytes ∷ schedule ∷ []) (finish e.ending) r.of_form (r.program_is, (r.schedule_is, tt)) (plan, r.good, (e.ending, e.end, refl)) tt in
+      same_status status due (finish e.ending) is other e.status_is
+
   bad_schedule : (due : Due) → IsDueLast contents words due → IsRefusedReplay contents words → EndsWith BadSchedule due
-  bad_schedule due is has =
-      let r = has.replayed in
-      let ending = replayed 1 (booted has.number) has.lines in
-      let status = refused_status 1 (booted has.number) has.lines has.refused in
-      let other = due_of_form (replay r.program r.name) (r.bytes ∷ has.schedule ∷ []) (finish ending) r.of_form (r.program_is, (r.schedule_is, tt)) (r.good, has.number, r.thin, inl (has.lines, has.spelled, refl)) tt in
-      same_status BadSchedule due (finish ending) is other status
+  bad_schedule due is has = replay_due BadSchedule has.plan has.schedule due is has.replayed (ends_refused has.plan has.schedule has.refused)
+
+  spent : (due : Due) → IsDueLast contents words due → IsSpentReplay contents words → EndsWith Spent due
+  spent due is has = replay_due Spent has.plan has.schedule due is has.replayed (ends_spent has.plan has.schedule has.lines has.read has.spent)
 
   unbuilt_form : (form : Form) → IsUnbuilt form → IsDueOfForm form [] not_built
   unbuilt_form (replay _ _) un = absurd un
@@ -284,14 +290,10 @@ module _ (contents : List ℕ → Option (List ℕ)) (words : List (List ℕ)) w
   unbuilt_form (settle _ _) un = refl
   unbuilt_form (audit _ _) un = refl
 
-  unbuilt_due : IsNotBuilt contents words → IsDueLast contents words not_built
-  unbuilt_due (inl (form, of, un)) = due_of_form form [] not_built of tt (unbuilt_form form un) tt
-  unbuilt_due (inr (inl o)) = due_of_form (replay o.program o.name) (o.bytes ∷ []) not_built o.of_form (o.program_is, tt) (inl (o.good, inr (o.other, refl))) tt
-  unbuilt_due (inr (inr o)) =
-      let r = o.replayed in
-      due_of_form (replay r.program r.name) (r.bytes ∷ o.schedule ∷ []) not_built r.of_form (r.program_is, (r.schedule_is, tt)) (r.good, o.number, r.thin, inr (o.other, refl)) tt
+  unbuilt_due : IsNotBuilt words → IsDueLast contents words not_built
+  unbuilt_due (form, of, un) = due_of_form form [] not_built of tt (unbuilt_form form un) tt
 
-  not_built_why : (due : Due) → IsDueLast contents words due → IsNotBuilt contents words → EndsWith NotBuilt due
+  not_built_why : (due : Due) → IsDueLast contents words due → IsNotBuilt words → EndsWith NotBuilt due
   not_built_why due is why = same_status NotBuilt due not_built is (unbuilt_due why) refl
 
   pub words_why : (due : Due) → IsDueLast contents words due → (EndsWith BadCommandLine due ↔ IsOfNoForm words)
@@ -303,5 +305,8 @@ module _ (contents : List ℕ → Option (List ℕ)) (words : List (List ℕ)) w
   pub schedule_why : (due : Due) → IsDueLast contents words due → (EndsWith BadSchedule due ↔ IsRefusedReplay contents words)
   schedule_why due is = (why_schedule due (comes_to due is), bad_schedule due is)
 
-  pub unbuilt_why : (due : Due) → IsDueLast contents words due → (EndsWith NotBuilt due ↔ IsNotBuilt contents words)
+  pub spent_why : (due : Due) → IsDueLast contents words due → (EndsWith Spent due ↔ IsSpentReplay contents words)
+  spent_why due is = (why_spent due (comes_to due is), spent due is)
+
+  pub unbuilt_why : (due : Due) → IsDueLast contents words due → (EndsWith NotBuilt due ↔ IsNotBuilt words)
   unbuilt_why due is = (why_unbuilt due (comes_to due is), not_built_why due is)

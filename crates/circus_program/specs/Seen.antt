@@ -4,3 +4,4 @@ pub mod Step
 pub mod Put
 pub mod Built
 pub mod Ready
+pub mod Ended

@@ -9,7 +9,7 @@ ghost use Rattle.circus_check.specs.Seen.Meant.{module_as};
 ghost use Rattle.circus_check.specs.WellFormed.{AreWellFormed};
 ghost use Rattle.circus_config.specs.Program.{HaveTheirRoots};
 
-use crate::ready::{Ready, ready};
+use crate::ready::{Ready, prepare};
 use crate::words::{Form, read_words};
 use circus_config::Plan;
 use circus_ending::{Ending, OneFile, Status, end_of, plan_of};
@@ -50,7 +50,7 @@ fn replay_plan<'a, S: Shelf>(
         Err(ShelfFault::NoMemory) => return Err(AllocError),
         Err(ShelfFault::Failed) => return Ok(Step::Lack(schedule)),
     };
-    match ready(alloc, plan, bytes.as_slice())? {
+    match prepare(alloc, plan, bytes.as_slice())? {
         Ok(ready) => Ok(Step::Replay(ready)),
         Err(ending) => Ok(Step::Finish(ending)),
     }

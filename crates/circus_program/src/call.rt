@@ -1,16 +1,18 @@
 // The top call.
-ghost use Rattle.std.specs.Prelude.{◌≡◌, ◌≤◌, map, string_bytes, IfOk};
+ghost use Rattle.std.specs.Prelude.{◌≡◌, ◌⊎◌, map, string_bytes, IfOk};
 ghost use Rattle.circus_outside.specs.Faults.{Rose};
-ghost use Rattle.circus_program.specs.Answer.{AsksOnly, WritesEnd, WritesLack, WritesPartOfText, shelf_fault as fault_line};
+ghost use Rattle.circus_program.specs.Answer.{AsksOnly, WritesEnd, WritesLack, WritesPartOfText, shelf_fault};
 ghost use Rattle.circus_ending.specs.declared.status.Status.{Status as Ended};
-ghost use Rattle.circus_ending.specs.declared.status.Status.TheVariants.{Done, BadCommandLine, BadProgram, BadSchedule, ShelfFault, SinkFault, NoMemory, Spent, NotBuilt, BadPlacing, NoPlacement};
+ghost use Rattle.circus_ending.specs.declared.status.Status.TheVariants.{Done, BadCommandLine, BadProgram, BadSchedule, ShelfFault, NoMemory, Spent, NotBuilt, BadPlacing, NoPlacement};
 ghost use Rattle.circus_ending.specs.Status.{code_of};
-ghost use Rattle.circus_program.specs.Seen.Put.{IsAnswer, IsFinished};
+ghost use Rattle.circus_ending.specs.Seen.Ending.{ending_of};
+ghost use Rattle.circus_program.specs.Seen.Put.{IsAnswer, IsFinished, IsPutEnd};
+ghost use Rattle.circus_program.specs.Seen.Step.{written_of, Stands};
 
 use crate::answer::{Step, follow};
-use crate::put::put;
+use crate::put::put_end;
 use crate::replay::replay;
-use circus_ending::Status;
+use circus_ending::{Ending, Status};
 use circus_outside::{Link, Shelf, Sink, SinkFault};
 use circus_value::NoMemory;
 use std::alloc::Global;
@@ -55,8 +57,8 @@ pub fn circus<S: Shelf, K: Sink, L: Link>(
     ensures shelf_fault { result ≡ code_of ShelfFault → WritesLack (S.contents shelf.old) (map string_bytes words.now) (S.fetched shelf.new) (K.written sink.old) (K.written sink.new) }
     ensures shelf_rose { result ≡ code_of ShelfFault → Rose (S.faults shelf.old) (S.faults shelf.new) }
 
-    ensures sink_fault { result ≡ code_of SinkFault → WritesPartOfText (S.contents shelf.old) (map string_bytes words.now) (S.fetched shelf.new) (Rose (S.faults shelf.old) (S.faults shelf.new)) (K.written sink.old) (K.written sink.new) }
-    ensures sink_rose { result ≡ code_of SinkFault → Rose (K.faults sink.old) (K.faults sink.new) }
+    ensures sink_fault { result ≡ code_of Status.SinkFault → WritesPartOfText (S.contents shelf.old) (map string_bytes words.now) (S.fetched shelf.new) (Rose (S.faults shelf.old) (S.faults shelf.new)) (K.written sink.old) (K.written sink.new) }
+    ensures sink_rose { result ≡ code_of Status.SinkFault → Rose (K.faults sink.old) (K.faults sink.new) }
 
     ensures no_memory { result ≡ code_of NoMemory → WritesPartOfText (S.contents shelf.old) (map string_bytes words.now) (S.fetched shelf.new) (Rose (S.faults shelf.old) (S.faults shelf.new)) (K.written sink.old) (K.written sink.new) }
 {
@@ -75,21 +77,27 @@ fn answer<S: Shelf, K: Sink>(alloc: Global, words: &[String], shelf: &mut S, sin
         Ok(step) => step,
         Err(_) => return Status::NoMemory,
     };
-    let status = match step {
-        Step::Finish(ending) => put(sink, ending.status, ending.text.as_slice()),
-        Step::Replay(ready) => replay(alloc, ready, sink),
-        Step::Lack(name) => match shelf_fault(alloc, name) {
-            Ok(text) => put(sink, Status::ShelfFault, text.as_bytes()),
-            Err(_) => Status::NoMemory,
-        },
-    };
+    let status = write(alloc, step, sink);
     finish(sink, status)
+}
+
+/// Writes what a step comes to, and answers its status where all of it was taken.
+fn write<K: Sink>(alloc: Global, step: Step<'_>, sink: &mut K) -> Status
+    requires { Stands step }
+    ensures { IsPutEnd (written_of step.entry) (K.written sink.old) (K.written sink.new) (K.faults sink.old) (K.faults sink.new) result }
+{
+    match step {
+        Step::Finish(ending) => put_end(Ok(ending), sink),
+        Step::Replay(ready) => replay(alloc, ready, sink),
+        Step::Lack(name) => put_end(lack(alloc, name), sink),
+    }
 }
 
 /// The status of a call whose last line is put, once the sink has given on what it gathered.
 fn finish<K: Sink>(sink: &mut K, status: Status) -> Status
     ensures written { K.written sink.new ≡ K.written sink.old }
-    ensures never_falls { K.faults sink.old ≤ K.faults sink.new }
+    ensures stopped { (status ≡ Status.SinkFault) ⊎ (status ≡ Status.NoMemory)
+        → (result ≡ status) × (K.faults sink.new ≡ K.faults sink.old) }
     ensures status { IsFinished status (Rose (K.faults sink.old) (K.faults sink.new)) result }
 {
     if matches!(status, Status::SinkFault | Status::NoMemory) {
@@ -103,8 +111,9 @@ fn finish<K: Sink>(sink: &mut K, status: Status) -> Status
 }
 
 /// The line of a file that the shelf doesn't give.
-fn shelf_fault(alloc: Global, name: &str) -> Result<String, NoMemory>
-    ensures { IfOk result (λ text. string_bytes text ≡ fault_line name.now) }
+fn lack(alloc: Global, name: &str) -> Result<Ending, NoMemory>
+    ensures { IfOk result (λ ending. ending_of ending ≡ record { status = Status.ShelfFault; text = shelf_fault name.now }) }
 {
-    format!(in alloc; "shelf fault: {name}\n")
+    let text = format!(in alloc; "shelf fault: {name}\n")?;
+    Ok(Ending::of(Status::ShelfFault, text))
 }

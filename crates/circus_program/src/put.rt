@@ -1,7 +1,5 @@
 // What is written at the end.
-ghost use Rattle.std.specs.Prelude.{◌≡◌, Ok, Err};
-ghost use Rattle.circus_outside.specs.Faults.{Rose};
-ghost use Rattle.circus_ending.specs.Seen.Ending.{ending_of};
+ghost use Rattle.std.specs.Prelude.{◌≡◌};
 ghost use Rattle.circus_program.specs.Seen.Put.{IsPut, IsPutIfEnd};
 
 use circus_ending::{Ending, Status};
@@ -9,23 +7,23 @@ use circus_outside::Sink;
 use circus_running::{PutFault, put_lines};
 use circus_value::NoMemory;
 
-/// Puts a text, and answers this status where all of it was taken.
-pub fn put<K: Sink>(sink: &mut K, status: Status, text: &[u8]) -> Status
-    ensures { IsPut status text.now (K.written sink.old) (K.written sink.new) (Rose (K.faults sink.old) (K.faults sink.new)) result }
+/// Puts the text of an end, if memory sufficed for it, and answers its status where all of it was taken.
+pub fn put_end<K: Sink>(ending: Result<Ending, NoMemory>, sink: &mut K) -> Status
+    ensures { IsPutIfEnd ending (K.written sink.old) (K.written sink.new) (K.faults sink.old) (K.faults sink.new) result }
+{
+    match ending {
+        Ok(ending) => put(sink, ending.status, ending.text.as_slice()),
+        Err(_) => Status::NoMemory,
+    }
+}
+
+// Puts a text, and answers this status where all of it was taken.
+fn put<K: Sink>(sink: &mut K, status: Status, text: &[u8]) -> Status
+    ensures { IsPut status text.now (K.written sink.old) (K.written sink.new) (K.faults sink.old) (K.faults sink.new) result }
 {
     match put_lines(sink, text) {
         Ok(()) => status,
         Err(PutFault::Sink) => Status::SinkFault,
         Err(PutFault::Memory) => Status::NoMemory,
-    }
-}
-
-/// Puts the text of an end, if memory sufficed for it.
-pub fn put_end<K: Sink>(ending: Result<Ending, NoMemory>, sink: &mut K) -> Status
-    ensures { IsPutIfEnd ending (K.written sink.old) (K.written sink.new) (Rose (K.faults sink.old) (K.faults sink.new)) result }
-{
-    match ending {
-        Ok(ending) => put(sink, ending.status, ending.text.as_slice()),
-        Err(_) => Status::NoMemory,
     }
 }

@@ -1,12 +1,12 @@
 // A replay that may begin.
-ghost use Rattle.std.specs.Prelude.{◌≡◌, ◌≤◌, All, IsAscii, IsTrue, length, map, IfOk, IfErr, string_bytes};
+ghost use Rattle.std.specs.Prelude.{◌≡◌, ◌≤◌, [], All, IsAscii, IsTrue, length, map, IfOk, IfErr, string_bytes};
 ghost use Rattle.std.specs.List.{AllByRecursion};
 ghost use Rattle.circus_collate.specs.Deployment.{IsDeployment};
 ghost use Rattle.circus_idl.specs.Obeys.{Obeys};
 ghost use Rattle.circus_check.specs.Seen.Meant.{module_as};
 ghost use Rattle.circus_check.specs.WellFormed.{AreWellFormed};
 ghost use Rattle.circus_config.specs.Program.{HaveTheirRoots};
-ghost use Rattle.circus_record.specs.Naming.{names_of};
+ghost use Rattle.circus_record.specs.Naming.{host_name, names_of};
 ghost use Rattle.circus_schedule.specs.Meaning.{NamesBelow};
 ghost use Rattle.circus_ending.specs.Status.{is_end};
 ghost use Rattle.circus_ending.specs.Seen.Ending.{ending_of};
@@ -35,7 +35,7 @@ pub struct Ready {
 }
 
 /// What comes first of a replay of a plan and a schedule: it may begin, or has ended.
-pub fn ready(
+pub fn prepare(
     alloc: Global,
     plan: Plan,
     schedule: &[u8],

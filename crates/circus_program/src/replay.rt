@@ -1,11 +1,11 @@
 // A replay, which writes its report as it goes.
-ghost use Rattle.std.specs.Prelude.{◌≡◌, ◌≤◌, ◌<◌, ◌+◌, All, IsAscii, length};
-ghost use Rattle.circus_outside.specs.Faults.{Rose};
+ghost use Rattle.std.specs.Prelude.{◌≡◌, ◌<◌, ◌+◌, [], All, IsAscii, length};
 ghost use Rattle.circus_record.specs.Naming.{host_name, names_of};
 ghost use Rattle.circus_schedule.specs.Meaning.{NamesBelow};
 ghost use Rattle.circus_program.specs.Replay.{replayed};
-ghost use Rattle.circus_program.specs.Seen.Put.{IsPut, IsPutEnd};
+ghost use Rattle.circus_program.specs.Seen.Put.{IsPutEnd};
 ghost use Rattle.circus_program.specs.Seen.Ready.{end_of_ready, IsReady};
+ghost use Rattle.circus_program.specs.Seen.Ended.{IsEndedBy};
 
 use crate::put::put_end;
 use crate::ready::{Ready, spent};
@@ -22,7 +22,7 @@ use std::alloc::Global;
 /// Runs a replay to its end, and answers the status of that where all was written.
 pub fn replay<K: Sink>(alloc: Global, ready: Ready, sink: &mut K) -> Status
     requires { IsReady ready }
-    ensures { IsPutEnd (end_of_ready ready) (K.written sink.old) (K.written sink.new) (Rose (K.faults sink.old) (K.faults sink.new)) result }
+    ensures { IsPutEnd (end_of_ready ready) (K.written sink.old) (K.written sink.new) (K.faults sink.old) (K.faults sink.new) result }
 {
     let Ready {
         world,
@@ -36,18 +36,10 @@ pub fn replay<K: Sink>(alloc: Global, ready: Ready, sink: &mut K) -> Status
     }
 }
 
-// What a fault that is no end of a replay comes to.
-fn stopped(fault: RunFault) -> Status {
-    match fault {
-        RunFault::SinkFailed => Status::SinkFault,
-        _ => Status::NoMemory,
-    }
-}
-
 // The lines of a replay, one by one, and what stands behind them.
 fn follow<M: Module, K: Sink>(
     alloc: Global,
-    running: Running<M>,
+    mut running: Running<M>,
     hosts: &Hosts,
     names: &Names,
     lines: &[Line],
@@ -60,9 +52,8 @@ fn follow<M: Module, K: Sink>(
     requires below { All (NamesBelow (length hosts.now)) lines.now }
     requires few { running.steps + length lines.now < 18446744073709551615 }
     ensures { IsPutEnd (replayed M.declared M.turn (names_of hosts.now names.now) 1 lines.now running)
-        (K.written sink.old) (K.written sink.new) (Rose (K.faults sink.old) (K.faults sink.new)) result }
+        (K.written sink.old) (K.written sink.new) (K.faults sink.old) (K.faults sink.new) result }
 {
-    let mut running = running;
     for (place, line) in lines.iter().enumerate() {
         running = match running.line(alloc, line, sink) {
             Ok(running) => running,
@@ -75,7 +66,7 @@ fn follow<M: Module, K: Sink>(
     }
 }
 
-// A replay that ends at the line of this number.
+// What a replay comes to that ends at the line of this number.
 fn ended<K: Sink>(
     alloc: Global,
     hosts: &Hosts,
@@ -83,11 +74,25 @@ fn ended<K: Sink>(
     fault: RunFault,
     sink: &mut K,
 ) -> Status
+    requires { All (λ h. IsAscii (host_name h)) hosts.now }
+    ensures { IsEndedBy (names_of hosts.now []) number fault
+        (K.written sink.old) (K.written sink.new) (K.faults sink.old) (K.faults sink.new) result }
 {
     match fault {
         RunFault::Illegal(cause) => put_end(illegal(alloc, hosts, number, cause), sink),
         RunFault::Spent(node, peer) => put_end(spent(alloc, hosts, node, peer), sink),
         RunFault::SinkFailed => Status::SinkFault,
         RunFault::NoMemory => Status::NoMemory,
+    }
+}
+
+// What a fault comes to where no line was stepped.
+fn stopped(fault: RunFault) -> Status
+    ensures sink { fault ≡ RunFault.SinkFailed → result ≡ Status.SinkFault }
+    ensures memory { fault ≡ RunFault.NoMemory → result ≡ Status.NoMemory }
+{
+    match fault {
+        RunFault::SinkFailed => Status::SinkFault,
+        _ => Status::NoMemory,
     }
 }

@@ -1,6 +1,7 @@
 // Why a line of a schedule is refused, as it is written.
-ghost use Rattle.std.specs.Prelude.{◌≡◌, ◌++◌, Err, All, IsAscii, IfOk, Some, string_bytes, codes};
+ghost use Rattle.std.specs.Prelude.{◌≡◌, ◌++◌, [], Err, All, IsAscii, IfOk, Some, string_bytes, codes};
 ghost use Rattle.std.specs.Fmt.{decimal};
+ghost use Rattle.circus_record.specs.Line.{line};
 ghost use Rattle.circus_record.specs.Naming.{host_name, names_of};
 ghost use Rattle.circus_ending.specs.Seen.Ending.{ending_of};
 ghost use Rattle.circus_program.specs.Replay.{cause_text, refused as refused_end, IsReplayOf};
@@ -10,7 +11,7 @@ use circus_collate::Hosts;
 use circus_ending::{Ending, Status};
 use circus_record::{Naming, ProgramNames};
 use circus_schedule::ScheduleFault;
-use circus_value::{ListOf, NoMemory, Octets};
+use circus_value::{ListOf, Name, NoMemory, Octets};
 use circus_world::Cause;
 use std::alloc::{AllocError, Global};
 use std::fmt;
@@ -20,29 +21,41 @@ pub fn refused(alloc: Global, fault: &ScheduleFault) -> Result<Ending, NoMemory>
     ensures ending { (plan : Plan) → IfOk result (λ ending. IsReplayOf plan (Err fault.now) (ending_of ending)) }
     ensures status { IfOk result (λ ending. ending.status ≡ Status.BadSchedule) }
 {
-    let text = match fault {
-        ScheduleFault::BadLine(number) => line_text(alloc, *number, "bad line\n")?,
-        ScheduleFault::UnknownNode(number, name) => {
-            let mut text = line_text(alloc, *number, "unknown node ")?;
-            text.append(name.as_slice())?;
-            text.append(b"\n")?;
-            text
-        }
-        ScheduleFault::TooManyLines(number) => line_text(alloc, *number, "too many lines\n")?,
-        ScheduleFault::NoMemory => return Err(AllocError),
-    };
     Ok(Ending {
         status: Status::BadSchedule,
-        text,
+        text: fault_text(alloc, fault)?,
     })
+}
+
+// What is written of a schedule that is read as none.
+fn fault_text(alloc: Global, fault: &ScheduleFault) -> Result<Octets, NoMemory>
+    ensures { (plan : Plan) → IfOk result (λ text. IsReplayOf plan (Err fault.now) (record { status = Status.BadSchedule; text = text })) }
+{
+    match fault {
+        ScheduleFault::BadLine(number) => line_text(alloc, *number, "bad line"),
+        ScheduleFault::UnknownNode(number, name) => unknown_text(alloc, *number, name),
+        ScheduleFault::TooManyLines(number) => line_text(alloc, *number, "too many lines"),
+        ScheduleFault::NoMemory => Err(AllocError),
+    }
 }
 
 // The line of this number, with what is said of it.
 fn line_text(alloc: Global, number: u32, said: &str) -> Result<Octets, NoMemory>
-    ensures { IfOk result (λ text. text ≡ codes "schedule line " ++ decimal number ++ codes ": " ++ said.now) }
+    ensures { IfOk result (λ text. text ≡ line (codes "schedule line " ++ decimal number ++ codes ": " ++ said.now)) }
 {
-    let text = format!(in alloc; "schedule line {number}: {said}")?;
+    let text = format!(in alloc; "schedule line {number}: {said}\n")?;
     Ok(ListOf::of(text.into_bytes()))
+}
+
+// The line of this number, which names a node that there is none of.
+fn unknown_text(alloc: Global, number: u32, name: &Name) -> Result<Octets, NoMemory>
+    ensures { IfOk result (λ text. text ≡ line (codes "schedule line " ++ decimal number ++ codes ": " ++ (codes "unknown node " ++ name.now))) }
+{
+    let text = format!(in alloc; "schedule line {number}: unknown node ")?;
+    let mut text = ListOf::of(text.into_bytes());
+    text.append(name.as_slice())?;
+    text.append(b"\n")?;
+    Ok(text)
 }
 
 // Why a line may not be stepped.

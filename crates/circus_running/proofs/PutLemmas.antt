@@ -7,7 +7,7 @@ use Rattle.circus_running.specs.declared.running.RunFault.TheVariants as fault
 use Rattle.circus_running.specs.declared.put.PutFault.{PutFault}
 use Rattle.circus_running.specs.declared.put.PutFault.TheVariants as put
 use Rattle.circus_running.specs.Writing.{Writes, WritesPart}
-use Rattle.circus_running.specs.Run.{fault_of, IsPut}
+use Rattle.circus_running.specs.Run.{fault_of, IsPut, IsCounted}
 use Rattle.circus_running.proofs.ToldLemmas.{WritesPart-joined}
 
 -- what holds of a fault holds of a call that answers it
@@ -45,5 +45,17 @@ IsPut-behind {A} {B} r s f front text old middle new is at written part =
     by_fault : (y : RunFault) → IsPut {A = A} text middle new (Err y) → IsPut {A = B} (front ++ text) old new (Err y)
     by_fault fault.SinkFailed cut = WritesPart-joined old middle new front text written cut
     by_fault fault.NoMemory cut = WritesPart-joined old middle new front text written cut
+    by_fault (fault.Illegal cause) cut = absurd cut
+    by_fault (fault.Spent node peer) cut = absurd cut
+
+-- the count is told of no call that a piece stopped
+pub IsCounted-stopped : {A B : Type 0} (r : Result B RunFault) (s : Result A RunFault) (f : RunFault) (text : List ℕ) (old new : Option (List ℕ)) (before after : ℕ)
+    → IsErrAnd r (λ y. y ≡ f) → s ≡ Err f → IsPut text old new s → IsCounted r before after
+IsCounted-stopped {A} {B} r s f text old new before after is at part =
+    at_fault (λ (r : Result B RunFault). IsCounted r before after) r f is (by_fault f (subst (IsPut text old new) at part))
+  where
+    by_fault : (y : RunFault) → IsPut {A = A} text old new (Err y) → IsCounted {A = B} (Err y) before after
+    by_fault fault.SinkFailed cut = tt
+    by_fault fault.NoMemory cut = tt
     by_fault (fault.Illegal cause) cut = absurd cut
     by_fault (fault.Spent node peer) cut = absurd cut

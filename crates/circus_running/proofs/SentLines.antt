@@ -5,8 +5,8 @@ use Rattle.circus_record.specs.Naming.{Names}
 use Rattle.circus_record.proofs.LinesMore.{all_append, item_more}
 use Rattle.circus_world.specs.declared.sent.Sent.{Sent}
 use Rattle.circus_report.specs.Report.{sent_line, sent_lines}
-use Rattle.circus_running.specs.Writing.{Writes, WritesPart}
-use Rattle.circus_running.proofs.ToldLemmas.{take-behind, Writes-joined, WritesPart-longer, WritesPart-joined}
+use Rattle.circus_running.specs.Writing.{WritesPart}
+use Rattle.circus_running.proofs.ToldLemmas.{take-behind, WritesPart-longer}
 
 module _ (names : Names) (from : ℕ) (all : List Sent) where
   -- the lines before a number
@@ -14,7 +14,7 @@ module _ (names : Names) (from : ℕ) (all : List Sent) where
   lines_before number = sent_lines names from (take (number - from) (drop from all))
 
   -- the next one
-  lines_before-more : (number : ℕ) (sent : Sent) → from ≤ number → number < length all → sent ≡ get_or all number sent
+  pub lines_before-more : (number : ℕ) (sent : Sent) → from ≤ number → number < length all → sent ≡ get_or all number sent
       → lines_before (number + 1) ≡ lines_before number ++ sent_line names number sent
   lines_before-more number sent since below is =
       let here : from + (number - from) ≡ number = omega (arith, since) in
@@ -40,18 +40,3 @@ module _ (names : Names) (from : ℕ) (all : List Sent) where
       let whole : sent_lines names from front ++ sent_lines names (from + length front) others ≡ sent_lines names from (drop from all) =
       sym split ∙ ap (sent_lines names from) (take-append-drop (number - from) (drop from all)) in
       subst (WritesPart old new) whole (WritesPart-longer old new (sent_lines names from front) (sent_lines names (from + length front) others) w)
-
-  -- behind the lines before a number its own is written
-  module _ (number : ℕ) (sent : Sent) (text : List ℕ) (since : from ≤ number) (below : number < length all) (is : sent ≡ get_or all number sent)
-      (text_is : text ≡ sent_line names number sent) (old middle new : Option (List ℕ)) (before : Writes old middle (lines_before number)) where
-    joined : lines_before number ++ text ≡ lines_before (number + 1)
-    joined = ap (λ l. lines_before number ++ l) text_is ∙ sym (lines_before-more number sent since below is)
-
-    pub Writes-next : Writes middle new text → Writes old new (lines_before (number + 1))
-    Writes-next written = subst (Writes old new) joined (Writes-joined old middle new (lines_before number) text before written)
-
-    -- or a part of it
-    pub WritesPart-next : WritesPart middle new text → WritesPart old new (sent_lines names from (drop from all))
-    WritesPart-next part =
-        WritesPart-lines old new (number + 1)
-        (subst (WritesPart old new) joined (WritesPart-joined old middle new (lines_before number) text before part))

@@ -12,7 +12,7 @@ told_more-twice None first second = refl
 told_more-twice (Some items) first second = ap Some (append_assoc items first second)
 
 -- nothing more is told by no items
-told_more-nil : {A : Type 0} (told : Option (List A)) → told ≡ told_more told []
+pub told_more-nil : {A : Type 0} (told : Option (List A)) → told ≡ told_more told []
 told_more-nil None = refl
 told_more-nil (Some items) = ap Some (sym (append-nil items))
 

@@ -29,6 +29,14 @@ IsPut text old new (Err fault.NoMemory) = WritesPart old new text
 IsPut text old new (Err (fault.Illegal cause)) = ⊥
 IsPut text old new (Err (fault.Spent node peer)) = ⊥
 
+-- the sink's count of faults is as it was, unless the sink failed or memory ran out
+abbrev pub IsCounted : {A : Type 0} → Result A RunFault → ℕ → ℕ → Type 0
+IsCounted (Ok done) old new = new ≡ old
+IsCounted (Err (fault.Illegal cause)) old new = new ≡ old
+IsCounted (Err (fault.Spent node peer)) old new = new ≡ old
+IsCounted (Err fault.SinkFailed) old new = Unit {0}
+IsCounted (Err fault.NoMemory) old new = Unit {0}
+
 module _ {M : Type 0} where
   -- the lines of what was sent from this number on
   abbrev pub sent_from : ℕ → WorldState M → List ℕ

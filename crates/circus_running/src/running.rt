@@ -107,7 +107,7 @@ impl<M: Module> Running<M> {
         requires few { self.steps < 18446744073709551615 }
         ensures run { run.IsRun M.declared M.turn line.now self (K.written sink.old) (K.written sink.new) result }
         ensures rose { IsErrOf result RunFault.SinkFailed → Rose (K.faults sink.old) (K.faults sink.new) }
-        ensures count { OnOk result (K.faults sink.new ≡ K.faults sink.old) }
+        ensures count { run.IsCounted result (K.faults sink.old) (K.faults sink.new) }
     {
         let before = self.world.sent().len();
         let world = match self.world.step(line) {

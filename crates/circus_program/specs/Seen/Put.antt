@@ -1,5 +1,6 @@
 -- What a call answers, as one fact.
 use Rattle.std.specs.Prelude.{◌≡◌, ◌⊎◌, ℕ, Option, List, Result, Ok, Err, IsTrue}
+use Rattle.circus_outside.specs.Faults.{Rose}
 use Rattle.circus_ending.specs.declared.status.Status.{Status}
 use Rattle.circus_ending.specs.declared.status.Status.TheVariants.{ShelfFault, SinkFault, NoMemory}
 use Rattle.circus_ending.specs.Status.{is_end}
@@ -9,20 +10,21 @@ use Rattle.circus_ending.specs.Seen.Ending.{ending_of}
 use Rattle.circus_running.specs.Writing.{Writes, WritesPart}
 use Rattle.circus_program.specs.Answer.{WritesPartOfText, WritesEnd, WritesLack}
 
--- a text was put with this status, or a part of it, and the sink failed or there was no memory
-abbrev pub IsPut : Status → List ℕ → Option (List ℕ) → Option (List ℕ) → Type 0 → Status → Type 0
-IsPut status text old new SinkRose result =
-    ((result ≡ status) × Writes old new text)
-    ⊎ (((result ≡ SinkFault) × WritesPart old new text × SinkRose) ⊎ ((result ≡ NoMemory) × WritesPart old new text))
+-- a text was put with this status, or a part of it, and the sink failed or there was no memory; the sink has counted so many
+-- faults before and behind it
+abbrev pub IsPut : Status → List ℕ → Option (List ℕ) → Option (List ℕ) → ℕ → ℕ → Status → Type 0
+IsPut status text old new before after result =
+    ((result ≡ status) × Writes old new text × (after ≡ before))
+    ⊎ (((result ≡ SinkFault) × WritesPart old new text × Rose before after) ⊎ ((result ≡ NoMemory) × WritesPart old new text))
 
 -- an end was put
-abbrev pub IsPutEnd : Ending → Option (List ℕ) → Option (List ℕ) → Type 0 → Status → Type 0
-IsPutEnd ending old new SinkRose result = IsPut ending.status ending.text old new SinkRose result
+abbrev pub IsPutEnd : Ending → Option (List ℕ) → Option (List ℕ) → ℕ → ℕ → Status → Type 0
+IsPutEnd ending old new before after result = IsPut ending.status ending.text old new before after result
 
 -- an end was put, if there was memory for it
-abbrev pub IsPutIfEnd : {E : Type 0} → Result coded.Ending E → Option (List ℕ) → Option (List ℕ) → Type 0 → Status → Type 0
-IsPutIfEnd (Ok ending) old new SinkRose result = IsPutEnd (ending_of ending) old new SinkRose result
-IsPutIfEnd (Err refused) old new SinkRose result = (result ≡ NoMemory) × (new ≡ old)
+abbrev pub IsPutIfEnd : {E : Type 0} → Result coded.Ending E → Option (List ℕ) → Option (List ℕ) → ℕ → ℕ → Status → Type 0
+IsPutIfEnd (Ok ending) old new before after result = IsPutEnd (ending_of ending) old new before after result
+IsPutIfEnd (Err refused) old new before after result = (result ≡ NoMemory) × (new ≡ old)
 
 -- the status stands, or the sink failed to give on what it gathered, or had no memory for it
 abbrev pub IsFinished : Status → Type 0 → Status → Type 0

@@ -3,12 +3,14 @@ use Rattle.std.specs.Prelude.{ℕ, ◌≡◌, ◌⊎◌, Option, List, [], ◌�
 use Rattle.circus_outside.specs.Faults.{Rose}
 use Rattle.circus_program.specs.declared.answer.Step.{Step}
 use Rattle.circus_program.specs.declared.answer.Step.TheVariants.{Finish, Lack, Replay}
+use Rattle.circus_ending.specs.declared.status.Status.TheVariants.{ShelfFault}
 use Rattle.circus_ending.specs.Status.{is_end}
+use Rattle.circus_ending.specs.Ending.{Ending}
 use Rattle.circus_ending.specs.Seen.Ending.{ending_of}
 use Rattle.circus_ending.specs.declared.one_file.OneFile.{OneFile}
 use Rattle.circus_config.specs.declared.plan.Plan.{Plan}
 use Rattle.circus_config.specs.Program.{IsProgramOf}
-use Rattle.circus_program.specs.Answer.{Due, fetch, finish, IsDueOfRefused, IsDueOfSchedule, IsDueOfReplay, IsDueOfFile, AreFetchedOf, WasLast}
+use Rattle.circus_program.specs.Answer.{Due, fetch, finish, IsDueOfRefused, IsDueOfSchedule, IsDueOfReplay, IsDueOfFile, AreFetchedOf, WasLast, shelf_fault}
 use Rattle.circus_program.specs.Seen.Ready.{end_of_ready, IsReady}
 
 -- the end, or the file that was due
@@ -16,6 +18,12 @@ abbrev pub due_of : Step → Due
 due_of (Finish ending) = finish (ending_of ending)
 due_of (Lack name) = fetch name.now
 due_of (Replay ready) = finish (end_of_ready ready)
+
+-- what it writes, and the status where all of it is taken
+abbrev pub written_of : Step → Ending
+written_of (Finish ending) = ending_of ending
+written_of (Lack name) = record { status = ShelfFault; text = shelf_fault name.now }
+written_of (Replay ready) = end_of_ready ready
 
 -- an end has the status of one, and a replay may begin
 abbrev pub Stands : Step → Type 0

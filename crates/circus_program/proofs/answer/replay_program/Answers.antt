@@ -1,16 +1,16 @@
-use Rattle.std.proofs.Common.{inr, refl, subst}
-use Rattle.std.specs.Prelude.{IfSome, IfNone}
-use Rattle.circus_ending.specs.Refusal.{IsGood, IsEndOfRefused}
+use Rattle.std.proofs.Common.{inr, refl, subst, IfOk, IfErr}
+use Rattle.circus_config.specs.Program.{IsProgramOf}
+use Rattle.circus_ending.specs.Refusal.{IsEndOfRefused}
 use Rattle.circus_ending.specs.Seen.Ending.{ending_of}
 use Rattle.circus_program.proofs.AnswerLemmas.{behind-good}
 use Rattle.circus_program.proofs.answer.replay_program.Goals as goal
 
-pub returns-in-Some-clause-due : goal.returns-in-Some-clause-due
-returns-in-Some-clause-due g c =
-    let refused = subst (λ o. IfSome o (λ e. IsEndOfRefused c.args.program.now (ending_of e))) c.in-Some.is c.in_ok-refused.ensures.refused in
-    inr (ending_of c.in-Some.refused, refused, refl)
+pub returns-in-Ok-clause-due : goal.returns-in-Ok-clause-due
+returns-in-Ok-clause-due g c =
+    let means = subst (λ r. IfOk r (IsProgramOf c.args.program.now)) c.in-Ok.is c.in_ok-plan.ensures.program in
+    behind-good (g.S.Shelf.contents c.args.shelf.now) c.args.program.now c.args.schedule.now c.in-Ok.plan c.replay_plan.result means c.replay_plan.ensures.due
 
-pub returns-in-None-clause-due : goal.returns-in-None-clause-due
-returns-in-None-clause-due g c =
-    let good = subst (λ o. IfNone o (IsGood c.args.program.now)) c.in-None.is c.in_ok-refused.ensures.good in
-    behind-good (g.S.Shelf.contents c.args.shelf.now) c.args.program.now c.args.schedule.now c.replay_good.result good c.replay_good.ensures.due
+pub returns-in-Err-clause-due : goal.returns-in-Err-clause-due
+returns-in-Err-clause-due g c =
+    let refused = subst (λ r. IfErr r (λ ending. IsEndOfRefused c.args.program.now (ending_of ending))) c.in-Err.is c.in_ok-plan.ensures.refused in
+    inr (ending_of c.in-Err.refused, refused, refl)

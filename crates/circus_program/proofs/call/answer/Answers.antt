@@ -1,16 +1,10 @@
-use Rattle.circus_program.proofs.PutLemmas.{answer-finish, answer-lack}
+use Rattle.circus_program.proofs.PutLemmas.{answered}
 use Rattle.circus_program.proofs.call.answer.Goals as goal
 
-pub returns-in-Finish-clause-answer : goal.returns-in-Finish-clause-answer
-returns-in-Finish-clause-answer g c =
-    let due = rw c.in-Finish.is at c.in-Ok.ensures.due in
-    let status = rw c.in-Finish.is at c.in-Ok.ensures.status in
-    let put = rw c.as_slice.ensures at c.put.ensures in
-    answer-finish _ _ _ _ _ _ _ c.in-Finish.ending.status c.put.result _ status due put
-
-pub returns-in-Ok-shelf_fault-clause-answer : goal.returns-in-Ok-shelf_fault-clause-answer
-returns-in-Ok-shelf_fault-clause-answer g c =
-    let due = rw c.in-Lack.is at c.in-Ok.ensures.due in
-    let lack = rw c.in-Lack.is at c.in-Ok.ensures.lack in
-    let put = rw (c.as_bytes.ensures.value, c.in-Ok-shelf_fault.ensures) at c.put-in-Ok-shelf_fault.ensures in
-    answer-lack _ _ _ _ _ _ _ c.put-in-Ok-shelf_fault.result c.in-Lack.name.now due lack.1 lack.0 put
+pub returns-clause-answer : goal.returns-clause-answer
+returns-clause-answer g c =
+    let written = g.K.Sink.written in
+    let faults = g.K.Sink.faults in
+    answered _ _ (g.S.Shelf.fetched c.follow.new.shelf) c.in-Ok.step (g.S.Shelf.faults c.args.shelf.now) (g.S.Shelf.faults c.follow.new.shelf)
+    (written c.args.sink.now) (written c.write-status.new.sink) (written c.finish.new.sink) (faults c.args.sink.now) (faults c.write-status.new.sink) (faults c.finish.new.sink)
+    c.write-status.result c.finish.result c.in-Ok.ensures.due c.in-Ok.ensures.stands c.in-Ok.ensures.lack c.write-status.ensures c.finish.ensures.written c.finish.ensures.stopped c.finish.ensures.status

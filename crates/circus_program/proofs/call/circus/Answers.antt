@@ -1,5 +1,5 @@
 use Rattle.std.proofs.Common.{refl}
-use Rattle.circus_ending.specs.declared.status.Status.TheVariants.{Done, BadCommandLine, BadProgram, BadSchedule, ShelfFault, SinkFault, NoMemory, NotBuilt, BadPlacing, NoPlacement}
+use Rattle.circus_ending.specs.declared.status.Status.TheVariants.{Done, BadCommandLine, BadProgram, BadSchedule, ShelfFault, SinkFault, NoMemory, Spent, NotBuilt, BadPlacing, NoPlacement}
 use Rattle.circus_program.proofs.PutLemmas.{ended_as, one_status}
 use Rattle.circus_program.proofs.call.circus.Goals as goal
 
@@ -17,6 +17,9 @@ returns-clause-bad_program g c = λ is. ended_as _ _ _ _ _ _ _ c.answer-status.r
 
 pub returns-clause-bad_schedule : goal.returns-clause-bad_schedule
 returns-clause-bad_schedule g c = λ is. ended_as _ _ _ _ _ _ _ c.answer-status.result BadSchedule c.code.result c.answer-status.ensures.answer c.code.ensures refl is
+
+pub returns-clause-spent : goal.returns-clause-spent
+returns-clause-spent g c = λ is. ended_as _ _ _ _ _ _ _ c.answer-status.result Spent c.code.result c.answer-status.ensures.answer c.code.ensures refl is
 
 pub returns-clause-not_built : goal.returns-clause-not_built
 returns-clause-not_built g c = λ is. ended_as _ _ _ _ _ _ _ c.answer-status.result NotBuilt c.code.result c.answer-status.ensures.answer c.code.ensures refl is

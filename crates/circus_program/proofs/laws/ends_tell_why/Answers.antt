@@ -1,4 +1,4 @@
-use Rattle.circus_program.proofs.Why.{words_why, program_why, schedule_why, unbuilt_why}
+use Rattle.circus_program.proofs.Why.{words_why, program_why, schedule_why, spent_why, unbuilt_why}
 use Rattle.circus_program.proofs.laws.ends_tell_why.Goals as goal
 
 pub returns-clause-bad_words : goal.returns-clause-bad_words
@@ -9,6 +9,9 @@ returns-clause-bad_program c = program_why
 
 pub returns-clause-bad_schedule : goal.returns-clause-bad_schedule
 returns-clause-bad_schedule c = schedule_why
+
+pub returns-clause-spent : goal.returns-clause-spent
+returns-clause-spent c = spent_why
 
 pub returns-clause-not_built : goal.returns-clause-not_built
 returns-clause-not_built c = unbuilt_why

@@ -5,6 +5,7 @@ use Rattle.circus_record.specs.Naming.{host_name}
 use Rattle.circus_schedule.specs.Meaning.{NamesBelow}
 use Rattle.circus_world.specs.WorldState.{WorldState}
 use Rattle.circus_running.specs.Run.{IsPut, IsRun, sent_from}
+use Rattle.circus_running.proofs.PutLemmas.{IsCounted-stopped}
 use Rattle.circus_running.proofs.StepLemmas.{same_deployment, sent_before, IsRun-cut}
 use Rattle.circus_running.proofs.running.Running.line.Goals as goal
 
@@ -37,3 +38,7 @@ returns-in_err-put_sent-clause-run g c =
     (IsRun-cut declared turn line w c.in-Ok.world c.in-Ok.ensures.0 c.in-Ok.ensures.1 c.from_residual.result c.put_sent.result c.in_err-put_sent.field-0.0 old new
     c.from_residual.ensures.1 c.in_err-put_sent.was
     (subst (λ from. IsPut (sent_from from c.in-Ok.world) old new c.put_sent.result) before c.put_sent.ensures.put))
+
+pub returns-in_err-put_sent-clause-count : goal.returns-in_err-put_sent-clause-count
+returns-in_err-put_sent-clause-count g c =
+    IsCounted-stopped c.from_residual.result c.put_sent.result c.in_err-put_sent.field-0.0 _ _ _ _ _ c.from_residual.ensures.1 c.in_err-put_sent.was c.put_sent.ensures.put

@@ -1,0 +1,84 @@
+-- The world of a plan at boot, by what its modules do.
+use Rattle.std.proofs.Common.{◌≡◌, ℕ, zero, suc, List, [], ◌∷◌, length, map, Option, None, Some, Ok, Err, refl, sym, ap, subst, ◌∙◌, arith}
+use Rattle.std.specs.Prelude.{slice_get, option_map, option_and_then}
+use Rattle.std.proofs.lemmas.List.{length-map}
+use Rattle.std.proofs.lemmas.Option.{slice_get-map}
+use Rattle.circus_value.specs.ValueTree.{ValueTree}
+use Rattle.circus_value.specs.declared.outcome.Outcome.{Outcome}
+use Rattle.circus_collate.specs.declared.deployment.Host.{Host}
+use Rattle.circus_collate.specs.declared.deployment.Deployment.{Deployment}
+use Rattle.circus_model.specs.NextTurn.{NextTurn}
+use Rattle.circus_model.specs.Behaviour.{Behaviour, behaviours}
+use Rattle.circus_model.specs.declared.signature.Signature.{Signature}
+use Rattle.circus_performing.specs.Record.{behaviour}
+use Rattle.circus_record.specs.Naming.{names_of}
+use Rattle.circus_schedule.specs.declared.line.Line.{Line}
+use Rattle.circus_alike.specs.Alike.{declared_of, turn_of, first_of}
+use Rattle.circus_world.specs.WorldState.{WorldState}
+use Rattle.circus_world.specs.Course.{Stepped}
+use Rattle.circus_world.specs.Boot.{before_any, all_booted, AreHosted}
+use Rattle.circus_world.specs.Answers.{IsBooted}
+use Rattle.circus_world.specs.declared.world.BootFault.{BootFault}
+use Rattle.circus_world.specs.declared.world.BootFault.TheVariants as boot_fault
+use Rattle.circus_world.specs.Alike.{world_as, step_as}
+use Rattle.circus_world.proofs.WorldsAlike.{all_booted_as}
+use Rattle.circus_config.specs.declared.plan.Plan.{Plan}
+use Rattle.circus_ending.specs.Ending.{Ending}
+use Rattle.circus_program.specs.Replay.{after_step, replayed_whole, spent, behaviours_in, hosted_by, booted, replay_of}
+
+module _ {M : Type 0} (declared : M → Signature) (turn : M → List ValueTree → ℕ → List ValueTree → List Outcome → NextTurn) (first : M → List ValueTree) where
+  abbrev does : M → Behaviour
+  does m = behaviour declared turn first m
+
+  -- what a troupe's module does
+  troupe_does : (modules : List M) (o : Option ℕ) → option_map does (option_and_then (slice_get modules) o) ≡ option_and_then (slice_get (map does modules)) o
+  troupe_does modules None = refl
+  troupe_does modules (Some number) = sym (slice_get-map does modules number)
+
+  -- what each node's module does, where it does what that of the node's troupe does
+  hosted_do : (modules : List M) (hosts : List Host) (hosted : List (Option M)) → length hosted ≡ length hosts
+      → ((node : ℕ) (own : Option M) → slice_get hosted node ≡ Some own → option_map does own ≡ option_map does (option_and_then (slice_get modules) (option_and_then (λ (h : Host). h.module) (slice_get hosts node))))
+      → map (option_map does) hosted ≡ map (hosted_by (map does modules)) hosts
+  hosted_do modules [] [] all each = refl
+  hosted_do modules [] (own ∷ hosted) all each = absurd (omega (arith, all))
+  hosted_do modules (host ∷ hosts) [] all each = absurd (omega (arith, all))
+  hosted_do modules (host ∷ hosts) (own ∷ hosted) all each =
+      let here : option_map does own ≡ hosted_by (map does modules) host = each 0 own refl ∙ troupe_does modules host.module in
+      let there = hosted_do modules hosts hosted (omega (arith, all)) (λ node own at. each (suc node) own at) in
+      λ i. here i ∷ there i
+
+  -- all nodes, as behaviours
+  all_as : (d : Deployment) (modules : List M) (hosted : List (Option M)) → AreHosted declared turn first d modules hosted
+      → step_as declared turn first (all_booted declared turn first hosted (before_any d modules))
+      ≡ all_booted declared_of turn_of first_of (map (hosted_by (map does modules)) d.nodes) (before_any d (map does modules))
+  all_as d modules hosted are =
+      all_booted_as declared turn first hosted (before_any d modules)
+      ∙ ap (λ l. all_booted declared_of turn_of first_of l (before_any d (map does modules))) (hosted_do modules d.nodes hosted are.one_each are.each)
+
+  -- the world of a plan whose modules these are
+  booted_as : (plan : Plan) (d : Deployment) (modules : List M) (hosted : List (Option M)) → d ≡ plan.deployment → behaviours declared turn first modules ≡ behaviours_in plan
+      → AreHosted declared turn first d modules hosted → step_as declared turn first (all_booted declared turn first hosted (before_any d modules)) ≡ booted plan
+  booted_as plan d modules hosted same behave are =
+      all_as d modules hosted are
+      ∙ (λ i. all_booted declared_of turn_of first_of (map (hosted_by (behave i)) (same i).nodes) (before_any (same i) (behave i)))
+
+  -- a replay of lines from there
+  abbrev from_boot : Plan → List Line → Stepped Behaviour → Ending
+  from_boot plan lines s = after_step (names_of plan.deployment.nodes plan.names) (replayed_whole declared_of turn_of (names_of plan.deployment.nodes plan.names) lines) s
+
+  pub ends_booted : (plan : Plan) (d : Deployment) (modules : List M) (hosts : List Host) (names : List (List ℕ)) (lines : List Line) (w : WorldState M)
+      → d ≡ plan.deployment → behaviours declared turn first modules ≡ behaviours_in plan → hosts ≡ d.nodes → names ≡ plan.names → IsBooted declared turn first d modules (Ok w)
+      → replayed_whole declared_of turn_of (names_of hosts names) lines (world_as declared turn first w) ≡ replay_of plan lines
+  ends_booted plan d modules hosts names lines w same behave nodes named (hosted, are, is) =
+      (λ i. replayed_whole declared_of turn_of (names_of ((nodes ∙ ap (λ (x : Deployment). x.nodes) same) i) (named i)) lines (world_as declared turn first w))
+      ∙ ap (from_boot plan lines) (sym (ap (step_as declared turn first) is) ∙ booted_as plan d modules hosted same behave are)
+
+  pub ends_spent : (plan : Plan) (d : Deployment) (modules : List M) (hosts : List Host) (lines : List Line) (fault : BootFault) (node peer : ℕ)
+      → d ≡ plan.deployment → behaviours declared turn first modules ≡ behaviours_in plan → hosts ≡ d.nodes → fault ≡ boot_fault.Spent node peer → IsBooted declared turn first d modules (Err fault)
+      → spent (names_of hosts []) (node, peer) ≡ replay_of plan lines
+  ends_spent plan d modules hosts lines fault node peer same behave nodes fault_is booted_is = by_boot (subst (λ (f : BootFault). IsBooted declared turn first d modules (Err f)) fault_is booted_is)
+    where
+      by_boot : IsBooted declared turn first d modules (Err (boot_fault.Spent node peer)) → spent (names_of hosts []) (node, peer) ≡ replay_of plan lines
+      by_boot (hosted, are, is) =
+          (λ i. spent (names_of ((nodes ∙ ap (λ (x : Deployment). x.nodes) same) i) []) (node, peer))
+          ∙ ap (from_boot plan lines) (sym (ap (step_as declared turn first) is) ∙ booted_as plan d modules hosted same behave are)

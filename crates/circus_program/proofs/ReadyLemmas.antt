@@ -1,0 +1,40 @@
+-- What comes first of a replay.
+use Rattle.std.proofs.Common.{◌≡◌, ℕ, ◌≤◌, ◌⊎◌, inl, inr, List, length, Result, Ok, Err, IfOk, IfErr, sym, subst, ◌∙◌, arith}
+use Rattle.std.proofs.lemmas.Slice.Zip.{AllZip-long}
+use Rattle.circus_schedule.specs.declared.line.Line.{Line}
+use Rattle.circus_schedule.specs.declared.schedule_fault.ScheduleFault.{ScheduleFault}
+use Rattle.circus_schedule.specs.declared.schedule_fault.ScheduleFault.TheVariants.{NoMemory}
+use Rattle.circus_schedule.specs.TextLines.{lines_of}
+use Rattle.circus_schedule.specs.Meaning.{Numbers, numbers_of, IsReadAs}
+use Rattle.circus_schedule.specs.Answer.{IsAnswer}
+use Rattle.circus_config.specs.declared.plan.Plan.{Plan}
+use Rattle.circus_ending.specs.Ending.{Ending}
+use Rattle.circus_program.specs.Replay.{replay_of, IsReplayOf, IsEndOfReplay}
+
+-- what is read without a fault is an answer
+pub read-answers : (numbers : Numbers) (text : List ℕ) (read : Result (List Line) ScheduleFault) (lines : List Line) → read ≡ Ok lines → (read ≡ Err NoMemory) ⊎ IsAnswer numbers text read → IsAnswer numbers text (Ok lines)
+read-answers numbers text read lines is (inl none) = absurd (let clash : ◌≡◌ {A = Result (List Line) ScheduleFault} (Ok lines) (Err NoMemory) = sym is ∙ none in cc)
+read-answers numbers text read lines is (inr answer) = subst (λ (r : Result (List Line) ScheduleFault). IsAnswer numbers text r) is answer
+
+-- its lines are few
+pub read-few : (numbers : Numbers) (text : List ℕ) (lines : List Line) → IsAnswer numbers text (Ok lines) → length lines ≤ 200000
+read-few numbers text lines answer = omega (arith, answer.few, AllZip-long (IsReadAs numbers) (lines_of text) lines answer.each)
+
+-- what comes of a fault comes of the schedule
+pub end-of_fault : (plan : Plan) (schedule : List ℕ) (fault : ScheduleFault) (ending : Ending)
+    → (◌≡◌ {A = Result (List Line) ScheduleFault} (Err fault) (Err NoMemory)) ⊎ IsAnswer (numbers_of plan.deployment.nodes) schedule (Err fault) → IsReplayOf plan (Err fault) ending → IsEndOfReplay plan schedule ending
+end-of_fault plan schedule fault ending (inl none) is = let same : fault ≡ NoMemory = cc in absurd (subst (λ (f : ScheduleFault). IsReplayOf plan (Err f) ending) same is)
+end-of_fault plan schedule fault ending (inr answer) is = (Err fault, answer, is)
+
+-- what comes of these lines comes of the schedule
+pub end-of_lines : {A E F : Type 0} (plan : Plan) (schedule : List ℕ) (lines : List Line) (end : A → Ending) (r : Result (Result A E) F) → IsAnswer (numbers_of plan.deployment.nodes) schedule (Ok lines)
+    → IfOk r (λ first. IfOk first (λ a. end a ≡ replay_of plan lines)) → IfOk r (λ first. IfOk first (λ a. IsEndOfReplay plan schedule (end a)))
+end-of_lines plan schedule lines end (Ok (Ok a)) answer is = (Ok lines, answer, is)
+end-of_lines plan schedule lines end (Ok (Err e)) answer is = tt
+end-of_lines plan schedule lines end (Err f) answer is = tt
+
+pub ended-of_lines : {A E F : Type 0} (plan : Plan) (schedule : List ℕ) (lines : List Line) (end : E → Ending) (r : Result (Result A E) F) → IsAnswer (numbers_of plan.deployment.nodes) schedule (Ok lines)
+    → IfOk r (λ first. IfErr first (λ e. end e ≡ replay_of plan lines)) → IfOk r (λ first. IfErr first (λ e. IsEndOfReplay plan schedule (end e)))
+ended-of_lines plan schedule lines end (Ok (Ok a)) answer is = tt
+ended-of_lines plan schedule lines end (Ok (Err e)) answer is = (Ok lines, answer, is)
+ended-of_lines plan schedule lines end (Err f) answer is = tt

@@ -1,0 +1,156 @@
+-- How replays end.
+use Rattle.std.proofs.Common.{◌≡◌, ℕ, ◌+◌, ◌⊎◌, inl, inr, Option, Some, None, List, [], ◌∷◌, ◌++◌, length, codes, refl, sym, ap, subst, ◌∙◌, Ok, Err}
+use Rattle.std.specs.Prelude.{IsTrue}
+use Rattle.std.specs.Option.{option_map_or}
+use Rattle.circus_model.specs.Behaviour.{Behaviour}
+use Rattle.circus_record.specs.Naming.{Names, names_of}
+use Rattle.circus_schedule.specs.declared.line.Line.{Line}
+use Rattle.circus_schedule.specs.declared.schedule_fault.ScheduleFault.{ScheduleFault}
+use Rattle.circus_schedule.specs.declared.schedule_fault.ScheduleFault.TheVariants as schedule_fault
+use Rattle.circus_schedule.specs.Meaning.{numbers_of}
+use Rattle.circus_schedule.specs.Answer.{IsAnswer}
+use Rattle.circus_world.specs.declared.cause.Cause.{Cause}
+use Rattle.circus_world.specs.WorldState.{WorldState}
+use Rattle.circus_world.specs.Legal.{refusal}
+use Rattle.circus_world.specs.Course.{Stepped, stepped}
+use Rattle.circus_running.specs.Run.{sent_from}
+use Rattle.circus_ending.specs.declared.status.Status.{Status}
+use Rattle.circus_ending.specs.declared.status.Status.TheVariants.{Done, BadSchedule, Spent}
+use Rattle.circus_ending.specs.Status.{is_end}
+use Rattle.circus_ending.specs.Ending.{Ending}
+use Rattle.circus_config.specs.declared.plan.Plan.{Plan}
+use Rattle.circus_program.specs.Replay.{cause_text, refused, behind, after_step, replayed, replayed_whole, booted, replay_of, IsEndOfReplay}
+use Rattle.circus_program.specs.Last.{HasRefused, HasSpent}
+
+abbrev step : Line → WorldState Behaviour → Stepped Behaviour
+step line w = stepped (λ (b : Behaviour). b.declared) (λ (b : Behaviour). b.turn) line w
+
+abbrev lines_end : Names → ℕ → List Line → WorldState Behaviour → Ending
+lines_end names number lines w = replayed (λ (b : Behaviour). b.declared) (λ (b : Behaviour). b.turn) names number lines w
+
+-- what comes after a line
+abbrev after_line : Names → ℕ → List Line → WorldState Behaviour → Stepped Behaviour → Ending
+after_line names number lines w s = after_step names (λ after. behind (sent_from (length w.sent) after) (lines_end names (number + 1) lines after)) s
+
+abbrev unless : Names → ℕ → Option Cause → Ending → Ending
+unless names number o end = option_map_or (λ cause. refused number (cause_text names cause)) o end
+
+-- ---- lines
+
+-- it is done, a line is refused, or a node has no number left
+abbrev pub IsStatusOf : List Line → WorldState Behaviour → Status → Type 0
+IsStatusOf lines w status = (status ≡ Done) ⊎ (((status ≡ BadSchedule) × HasRefused lines w) ⊎ ((status ≡ Spent) × HasSpent lines w))
+
+later : (line : Line) (lines : List Line) (w next : WorldState Behaviour) (status : Status) → refusal w line ≡ None → step line w ≡ Ok next → IsStatusOf lines next status → IsStatusOf (line ∷ lines) w status
+later line lines w next status legal is (inl done) = inl done
+later line lines w next status legal is (inr (inl (bad, has))) = inr (inl (bad, inr (legal, next, is, has)))
+later line lines w next status legal is (inr (inr (spent, has))) = inr (inr (spent, (legal, inr (next, is, has))))
+
+lines_status : (names : Names) (number : ℕ) (lines : List Line) (w : WorldState Behaviour) → IsStatusOf lines w (lines_end names number lines w).status
+lines_status names number [] w = inl refl
+lines_status names number (line ∷ lines) w =
+    elim (refusal w line) as (λ o. refusal w line ≡ o → IsStatusOf (line ∷ lines) w (unless names number o (after_line names number lines w (step line w))).status) [
+      | Some cause ↦ λ is. inr (inl (refl, inl (cause, is)))
+      | None ↦ λ legal. elim (step line w) as (λ s. step line w ≡ s → IsStatusOf (line ∷ lines) w (after_line names number lines w s).status) [
+        | Ok next ↦ λ is. later line lines w next (lines_end names (number + 1) lines next).status legal is (lines_status names (number + 1) lines next)
+        | Err nodes ↦ λ is. inr (inr (refl, (legal, inl (nodes, is))))
+      ] refl
+    ] refl
+
+lines_refused : (names : Names) (number : ℕ) (lines : List Line) (w : WorldState Behaviour) → HasRefused lines w → (lines_end names number lines w).status ≡ BadSchedule
+lines_refused names number [] w has = absurd has
+lines_refused names number (line ∷ lines) w (inl (cause, is)) = ap (λ o. (unless names number o (after_line names number lines w (step line w))).status) is
+lines_refused names number (line ∷ lines) w (inr (legal, next, is, has)) =
+    ap (λ o. (unless names number o (after_line names number lines w (step line w))).status) legal
+    ∙ ap (λ s. (after_line names number lines w s).status) is
+    ∙ lines_refused names (number + 1) lines next has
+
+lines_spent : (names : Names) (number : ℕ) (lines : List Line) (w : WorldState Behaviour) → HasSpent lines w → (lines_end names number lines w).status ≡ Spent
+lines_spent names number [] w has = absurd has
+lines_spent names number (line ∷ lines) w (legal, inl (nodes, is)) =
+    ap (λ o. (unless names number o (after_line names number lines w (step line w))).status) legal
+    ∙ ap (λ s. (after_line names number lines w s).status) is
+lines_spent names number (line ∷ lines) w (legal, inr (next, is, has)) =
+    ap (λ o. (unless names number o (after_line names number lines w (step line w))).status) legal
+    ∙ ap (λ s. (after_line names number lines w s).status) is
+    ∙ lines_spent names (number + 1) lines next has
+
+-- a replay ends as one that is due may
+pub lines_are_end : (names : Names) (number : ℕ) (lines : List Line) (w : WorldState Behaviour) → IsTrue (is_end (lines_end names number lines w).status)
+lines_are_end names number lines w = by_status (lines_status names number lines w)
+  where
+    by_status : IsStatusOf lines w (lines_end names number lines w).status → IsTrue (is_end (lines_end names number lines w).status)
+    by_status (inl done) = ap is_end done
+    by_status (inr (inl (bad, has))) = ap is_end bad
+    by_status (inr (inr (spent, has))) = ap is_end spent
+
+-- ---- schedules
+
+-- a line of a schedule is refused
+abbrev pub Refuses : Plan → List ℕ → Type 0
+Refuses plan schedule =
+    ((fault : ScheduleFault) × IsAnswer (numbers_of plan.deployment.nodes) schedule (Err fault))
+    ⊎ ((lines : List Line) × (w : WorldState Behaviour) × IsAnswer (numbers_of plan.deployment.nodes) schedule (Ok lines) × (booted plan ≡ Ok w) × HasRefused lines w)
+
+-- a node has no number left for another one, at boot or in the step of a line
+abbrev pub Spends : Plan → List Line → Type 0
+Spends plan lines = ((nodes : ℕ × ℕ) × (booted plan ≡ Err nodes)) ⊎ ((w : WorldState Behaviour) × (booted plan ≡ Ok w) × HasSpent lines w)
+
+abbrev pub IsStatusOfReplay : Plan → List ℕ → Status → Type 0
+IsStatusOfReplay plan schedule status =
+    (status ≡ Done)
+    ⊎ (((status ≡ BadSchedule) × Refuses plan schedule)
+    ⊎ ((status ≡ Spent) × ((lines : List Line) × IsAnswer (numbers_of plan.deployment.nodes) schedule (Ok lines) × Spends plan lines)))
+
+abbrev from_boot : Plan → List Line → Stepped Behaviour → Ending
+from_boot plan lines s =
+    after_step (names_of plan.deployment.nodes plan.names) (replayed_whole (λ (b : Behaviour). b.declared) (λ (b : Behaviour). b.turn) (names_of plan.deployment.nodes plan.names) lines) s
+
+behind_boot : (plan : Plan) (schedule : List ℕ) (lines : List Line) (w : WorldState Behaviour) (status : Status) → IsAnswer (numbers_of plan.deployment.nodes) schedule (Ok lines)
+    → booted plan ≡ Ok w → IsStatusOf lines w status → IsStatusOfReplay plan schedule status
+behind_boot plan schedule lines w status read is (inl done) = inl done
+behind_boot plan schedule lines w status read is (inr (inl (bad, has))) = inr (inl (bad, inr (lines, w, read, is, has)))
+behind_boot plan schedule lines w status read is (inr (inr (spent, has))) = inr (inr (spent, (lines, read, inr (w, is, has))))
+
+booted_status : (plan : Plan) (schedule : List ℕ) (lines : List Line) → IsAnswer (numbers_of plan.deployment.nodes) schedule (Ok lines) → IsStatusOfReplay plan schedule (replay_of plan lines).status
+booted_status plan schedule lines read =
+    elim (booted plan) as (λ s. booted plan ≡ s → IsStatusOfReplay plan schedule (from_boot plan lines s).status) [
+      | Ok w ↦ λ is. behind_boot plan schedule lines w _ read is (lines_status (names_of plan.deployment.nodes plan.names) 1 lines w)
+      | Err nodes ↦ λ is. inr (inr (refl, (lines, read, inl (nodes, is))))
+    ] refl
+
+pub replay_status : (plan : Plan) (schedule : List ℕ) (ending : Ending) → IsEndOfReplay plan schedule ending → IsStatusOfReplay plan schedule ending.status
+replay_status plan schedule ending (Ok lines, read, is) =
+    subst (λ (e : Ending). IsStatusOfReplay plan schedule e.status) (sym is) (booted_status plan schedule lines read)
+replay_status plan schedule ending (Err (schedule_fault.BadLine number), read, is) = inr (inl (ap (λ (e : Ending). e.status) is, inl (schedule_fault.BadLine number, read)))
+replay_status plan schedule ending (Err (schedule_fault.UnknownNode number name), read, is) = inr (inl (ap (λ (e : Ending). e.status) is, inl (schedule_fault.UnknownNode number name, read)))
+replay_status plan schedule ending (Err (schedule_fault.TooManyLines number), read, is) = inr (inl (ap (λ (e : Ending). e.status) is, inl (schedule_fault.TooManyLines number, read)))
+replay_status plan schedule ending (Err schedule_fault.NoMemory, read, is) = absurd is
+
+-- an end of this status
+pub record Ends (plan : Plan) (schedule : List ℕ) (status : Status) : Type 0 where
+  pub ending : Ending
+  pub end : IsEndOfReplay plan schedule ending
+  pub status_is : ending.status ≡ status
+
+pub ends_refused : (plan : Plan) (schedule : List ℕ) → Refuses plan schedule → Ends plan schedule BadSchedule
+ends_refused plan schedule (inl (schedule_fault.BadLine number, read)) =
+    record { ending = refused number (codes "bad line"); end = (Err (schedule_fault.BadLine number), read, refl); status_is = refl }
+ends_refused plan schedule (inl (schedule_fault.UnknownNode number name, read)) =
+    record { ending = refused number (codes "unknown node " ++ name); end = (Err (schedule_fault.UnknownNode number name), read, refl); status_is = refl }
+ends_refused plan schedule (inl (schedule_fault.TooManyLines number, read)) =
+    record { ending = refused number (codes "too many lines"); end = (Err (schedule_fault.TooManyLines number), read, refl); status_is = refl }
+ends_refused plan schedule (inl (schedule_fault.NoMemory, read)) = absurd read.faulty
+ends_refused plan schedule (inr (lines, w, read, is, has)) =
+    record {
+      ending = replay_of plan lines;
+      end = (Ok lines, read, refl);
+      status_is = ap (λ s. (from_boot plan lines s).status) is ∙ lines_refused (names_of plan.deployment.nodes plan.names) 1 lines w has;
+    }
+
+pub ends_spent : (plan : Plan) (schedule : List ℕ) (lines : List Line) → IsAnswer (numbers_of plan.deployment.nodes) schedule (Ok lines) → Spends plan lines → Ends plan schedule Spent
+ends_spent plan schedule lines read spends = record { ending = replay_of plan lines; end = (Ok lines, read, refl); status_is = by_end spends }
+  where
+    by_end : Spends plan lines → (replay_of plan lines).status ≡ Spent
+    by_end (inl (nodes, is)) = ap (λ s. (from_boot plan lines s).status) is
+    by_end (inr (w, is, has)) = ap (λ s. (from_boot plan lines s).status) is ∙ lines_spent (names_of plan.deployment.nodes plan.names) 1 lines w has
