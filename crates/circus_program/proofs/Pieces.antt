@@ -1,8 +1,6 @@
 -- An end that is put piece by piece.
 use Rattle.std.proofs.Common.{◌≡◌, ℕ, inl, inr, Option, List, [], ◌++◌, refl, ap, subst, ◌∙◌, append_assoc, Result, Ok, Err, IfOk}
-use Rattle.circus_outside.specs.Faults.{Rose}
 use Rattle.circus_ending.specs.declared.status.Status.{Status}
-use Rattle.circus_ending.specs.declared.status.Status.TheVariants.{SinkFault, NoMemory}
 use Rattle.circus_ending.specs.Ending.{Ending}
 use Rattle.circus_ending.specs.declared.ending.Ending as coded
 use Rattle.circus_ending.specs.Seen.Ending.{ending_of}

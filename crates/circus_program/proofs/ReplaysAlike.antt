@@ -65,8 +65,8 @@ module _ {M : Type 0} (declared : M → Signature) (turn : M → List ValueTree 
   rest_as : (names : Names) (w : WorldState M) → rest_text names (seen w) ≡ rest_text names w
   rest_as names w =
       ap (λ l. l ++ members_lines names 0 w.deployment.nodes (map one w.nodes)) (
-        ap (λ (o : Option (Standing Behaviour)). option_map_or (ring_lines names) o []) (slice_get-map one w.nodes 0)
-        ∙ of_option (slice_get w.nodes 0))
+      ap (λ (o : Option (Standing Behaviour)). option_map_or (ring_lines names) o []) (slice_get-map one w.nodes 0)
+      ∙ of_option (slice_get w.nodes 0))
       ∙ ap (λ l. option_map_or (ring_lines names) (slice_get w.nodes 0) [] ++ l) (members_as names 0 w.deployment.nodes w.nodes)
     where
       of_option : (o : Option (Standing M)) → option_map_or (ring_lines names) (option_map one o) [] ≡ option_map_or (ring_lines names) o []
@@ -91,8 +91,8 @@ module _ {M : Type 0} (declared : M → Signature) (turn : M → List ValueTree 
       let also : WorldState Behaviour → Ending = λ after. behind (sent_from (length w.sent) after) (replayed declared_of turn_of names (number + 1) lines after) in
       let unless : Option Cause → Ending → Ending = λ o e. option_map_or (λ cause. refused number (cause_text names cause)) o e in
       ap (unless (refusal w line)) (
-        after_as names next also (λ after. ap (behind (sent_from (length w.sent) after)) (replayed_as names (number + 1) lines after)) (stepped declared turn line w)
-        ∙ ap (after_step names also) (world_stepped_as declared turn first line w))
+      after_as names next also (λ after. ap (behind (sent_from (length w.sent) after)) (replayed_as names (number + 1) lines after)) (stepped declared turn line w)
+      ∙ ap (after_step names also) (world_stepped_as declared turn first line w))
       ∙ ap (λ o. unless o (after_step names also (stepped declared_of turn_of line (seen w)))) (sym (refusal_as declared turn first line w))
 
   pub whole_as : (names : Names) (lines : List Line) (w : WorldState M)

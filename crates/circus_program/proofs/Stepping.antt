@@ -1,5 +1,5 @@
 -- What steps and boots of a world keep: its deployment, its nodes' number, and how many lines were stepped.
-use Rattle.std.proofs.Common.{◌≡◌, ℕ, ◌+◌, ◌≤◌, Bool, true, false, List, [], ◌∷◌, ◌++◌, length, set, Option, None, Some, Ok, Err, refl, sym, ap, subst, ◌∙◌, arith, length-append, length-set}
+use Rattle.std.proofs.Common.{◌≡◌, ℕ, ◌+◌, ◌≤◌, Bool, true, false, List, [], ◌∷◌, length, set, Option, None, Some, Ok, Err, refl, subst, ◌∙◌, arith, length-append, length-set}
 use Rattle.std.specs.Prelude.{slice_get, if◌then◌else◌}
 use Rattle.std.specs.Option.{option_map_or}
 use Rattle.circus_value.specs.ValueTree.{ValueTree}
@@ -15,7 +15,7 @@ use Rattle.circus_schedule.specs.declared.line.Line.{Line}
 use Rattle.circus_schedule.specs.declared.line.Line.TheVariants.{Deliver, Tick, Crash, Down, Join}
 use Rattle.circus_world.specs.declared.sent.Sent.{Sent}
 use Rattle.circus_world.specs.WorldState.{WorldState, Standing, is_live}
-use Rattle.circus_world.specs.Course.{Stepped, passed, noted, crashed, told_to_join, concluded, comes_to, delivered, stepped}
+use Rattle.circus_world.specs.Course.{Stepped, passed, noted, told_to_join, concluded, comes_to, delivered, stepped}
 use Rattle.circus_world.specs.Boot.{before_any, joined_by, then_others, all_booted}
 
 module _ {M : Type 0} where

@@ -131,7 +131,7 @@ pub record IsRefusedReplay (contents : List ℕ → Option (List ℕ)) (words : 
   pub schedule : List ℕ
   pub replayed : IsReplay contents words plan schedule
   pub refused : ((fault : ScheduleFault) × IsAnswer (numbers_of plan.deployment.nodes) schedule (Err fault))
-    ⊎ ((lines : List Line) × (w : WorldState Behaviour) × IsAnswer (numbers_of plan.deployment.nodes) schedule (Ok lines) × (booted plan ≡ Ok w) × HasRefused lines w)
+      ⊎ ((lines : List Line) × (w : WorldState Behaviour) × IsAnswer (numbers_of plan.deployment.nodes) schedule (Ok lines) × (booted plan ≡ Ok w) × HasRefused lines w)
 
 -- a replay in which a node has no number left for another one, at boot or in the step of a line
 pub record IsSpentReplay (contents : List ℕ → Option (List ℕ)) (words : List (List ℕ)) : Type 0 where

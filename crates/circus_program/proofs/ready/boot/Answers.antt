@@ -30,7 +30,7 @@ returns-in-Ok-clause-ready c =
     let booted = c.in-Ok.ensures in
     let joined = booted_joins declared turn first booted.0 d c.in_ok-deployment.field-0.modules.items c.in-Ok.world booted.2 in
     let many : length c.args.plan.deployment.nodes ≡ length hosts =
-      sym (ap length nodes ∙ ap (λ (x : Deployment). length x.nodes) c.in_ok-deployment.ensures.deployment) in
+    sym (ap length nodes ∙ ap (λ (x : Deployment). length x.nodes) c.in_ok-deployment.ensures.deployment) in
     record {
       hosts = nodes ∙ sym (ap (λ (x : Deployment). x.nodes) joined.deployment);
       nodes = omega (arith, joined.nodes, booted.1.one_each, ap length nodes);
@@ -55,4 +55,4 @@ returns-clause-ended c =
     let loaded = c.in_ok-deployment.ensures in
     (rw (c.in-Err-Spent.node-is, c.in-Err-Spent.peer-is) at c.in_ok-spent-in-Err-Spent.ensures.ending)
     ∙ ends_spent declared turn first c.args.plan c.in_ok-deployment.field-0.deployment c.in_ok-deployment.field-0.modules.items c.in_ok-hosts.hosts c.args.lines c.in-Err-Spent.field-0 c.in-Err-Spent.node c.in-Err-Spent.peer
-      loaded.deployment loaded.behave c.in_ok-hosts.ensures c.in-Err-Spent.field-0-is c.in-Err-Spent.ensures
+    loaded.deployment loaded.behave c.in_ok-hosts.ensures c.in-Err-Spent.field-0-is c.in-Err-Spent.ensures

@@ -1,8 +1,8 @@
-use Rattle.std.proofs.Common.{◌≡◌, ℕ, ◌+◌, ◌∙◌, List, [], ◌∷◌, All, length, get_or, drop, drop_of_length-le, refl, sym, ap, subst, arith, Err}
+use Rattle.std.proofs.Common.{ℕ, ◌+◌, ◌∙◌, List, [], ◌∷◌, All, get_or, drop, drop_of_length-le, refl, sym, ap, subst, arith, Err}
 use Rattle.std.specs.Prelude.{IsAscii}
 use Rattle.circus_collate.specs.declared.deployment.Deployment.{Deployment}
 use Rattle.circus_collate.specs.declared.deployment.Host.{Host}
-use Rattle.circus_record.specs.Naming.{Names, host_name, names_of}
+use Rattle.circus_record.specs.Naming.{host_name, names_of}
 use Rattle.circus_schedule.specs.declared.line.Line.{Line}
 use Rattle.circus_schedule.specs.declared.line.Line.TheVariants.{Deliver}
 use Rattle.circus_schedule.specs.Meaning.{NamesBelow}
@@ -13,7 +13,7 @@ use Rattle.circus_ending.specs.declared.status.Status.TheVariants.{Done}
 use Rattle.circus_program.specs.Replay.{replayed}
 use Rattle.circus_program.specs.Seen.Put.{IsPutEnd}
 use Rattle.circus_program.proofs.Stepping.{stepped_keeps}
-use Rattle.circus_program.proofs.Pieces.{IsBegun, begun-none, begun-as, part-left}
+use Rattle.circus_program.proofs.Pieces.{begun-none, begun-as, part-left}
 use Rattle.circus_program.proofs.Following.{lines_from, put-stopped, begun-next, put-ended, put-done}
 use Rattle.circus_program.proofs.replay.follow.Goals as goal
 
@@ -51,7 +51,7 @@ returns-in-Err g c =
     let new = g.K.Sink.written c.ended.new.sink in
     let after = g.K.Sink.faults c.ended.new.sink in
     let begun = begun-as whole old _ (replayed declared turn names (place + 1) (line ∷ drop (place + 1) lines) w) now
-      (ap (λ (l : List Line). replayed declared turn names (place + 1) l w) (lines_from lines place (Deliver 0) c.loop-place-test.true)) c.loop-place.invariant.begun in
+    (ap (λ (l : List Line). replayed declared turn names (place + 1) l w) (lines_from lines place (Deliver 0) c.loop-place-test.true)) c.loop-place.invariant.begun in
     subst (λ (before : ℕ). IsPutEnd whole old new before after c.ended.result) c.loop-place.invariant.count
     (put-ended declared turn whole old hosts c.args.names.now (place + 1) line (drop (place + 1) lines) w now (g.K.Sink.written c.line.new.sink) new
     (g.K.Sink.faults c.loop-place.sink) (g.K.Sink.faults c.line.new.sink) after c.in-Err.fault c.ended.result
@@ -71,7 +71,7 @@ loop-place-preserved g c =
     let old = g.K.Sink.written c.args.sink.now in
     let now = g.K.Sink.written c.loop-place.sink in
     let begun = begun-as whole old _ (replayed declared turn names (place + 1) (line ∷ drop (place + 1) lines) w) now
-      (ap (λ (l : List Line). replayed declared turn names (place + 1) l w) (lines_from lines place (Deliver 0) c.loop-place-test.true)) c.loop-place.invariant.begun in
+    (ap (λ (l : List Line). replayed declared turn names (place + 1) l w) (lines_from lines place (Deliver 0) c.loop-place-test.true)) c.loop-place.invariant.begun in
     let keeps = stepped_keeps declared turn line w next c.in-Ok.ensures.run.1 in
     record {
       hosts = c.loop-place.invariant.hosts ∙ sym (ap (λ (d : Deployment). d.nodes) keeps.deployment);
@@ -99,9 +99,9 @@ returns-in-Ok-finish g c =
     let new = g.K.Sink.written c.finish.new.sink in
     let after = g.K.Sink.faults c.finish.new.sink in
     let begun = begun-as whole old _ (replayed declared turn names (place + 1) [] w) now
-      (ap (λ (l : List Line). replayed declared turn names (place + 1) l w) (drop_of_length-le lines c.loop-place-test.false)) c.loop-place.invariant.begun in
+    (ap (λ (l : List Line). replayed declared turn names (place + 1) l w) (drop_of_length-le lines c.loop-place-test.false)) c.loop-place.invariant.begun in
     let written : Writes now new (rest_text names w) =
-      subst (λ (hosts : List Host). Writes now new (rest_text (names_of hosts modules) w)) (sym c.loop-place.invariant.hosts) c.in-Ok-finish.ensures.put in
+    subst (λ (hosts : List Host). Writes now new (rest_text (names_of hosts modules) w)) (sym c.loop-place.invariant.hosts) c.in-Ok-finish.ensures.put in
     subst (λ (before : ℕ). IsPutEnd whole old new before after Done) c.loop-place.invariant.count
     (put-done declared turn whole old names (place + 1) w now new (g.K.Sink.faults c.loop-place.sink) after begun written c.in-Ok-finish.ensures.count)
 
@@ -120,7 +120,7 @@ returns-in-Err-finish g c =
     let new = g.K.Sink.written c.finish.new.sink in
     let after = g.K.Sink.faults c.finish.new.sink in
     let begun = begun-as whole old _ (replayed declared turn names (place + 1) [] w) now
-      (ap (λ (l : List Line). replayed declared turn names (place + 1) l w) (drop_of_length-le lines c.loop-place-test.false)) c.loop-place.invariant.begun in
+    (ap (λ (l : List Line). replayed declared turn names (place + 1) l w) (drop_of_length-le lines c.loop-place-test.false)) c.loop-place.invariant.begun in
     let put = subst (λ (hosts : List Host). IsPut {A = Unit {0}} (rest_text (names_of hosts modules) w) now new (Err c.in-Err-finish.fault)) (sym c.loop-place.invariant.hosts) c.in-Err-finish.ensures.put in
     subst (λ (before : ℕ). IsPutEnd whole old new before after c.stopped.result) c.loop-place.invariant.count
     (put-stopped (rest_text names w) whole old now new (g.K.Sink.faults c.loop-place.sink) after c.in-Err-finish.fault c.stopped.result

@@ -1,4 +1,4 @@
-use Rattle.std.proofs.Common.{◌≡◌, ◌∙◌, ℕ, List, sym, ap, subst}
+use Rattle.std.proofs.Common.{◌≡◌, ◌∙◌, ℕ, List, ap, subst}
 use Rattle.circus_machine.specs.declared.text.TextModule.{TextModule}
 use Rattle.circus_record.specs.Naming.{names_of}
 use Rattle.circus_schedule.specs.declared.line.Line.{Line}
@@ -23,8 +23,8 @@ returns-in-Ok g c =
     let after = g.K.Sink.faults c.follow.new.sink in
     let left = replayed declared turn names 1 r.lines r.world in
     let here : replayed declared turn names 1 c.as_slice.result.now c.in-Ok.running ≡ left =
-      ap (λ (l : List Line). replayed declared turn names 1 l c.in-Ok.running) c.as_slice.ensures
-      ∙ ap (λ (w : WorldState TextModule). replayed declared turn names 1 r.lines w) c.in-Ok.ensures.same in
+    ap (λ (l : List Line). replayed declared turn names 1 l c.in-Ok.running) c.as_slice.ensures
+    ∙ ap (λ (w : WorldState TextModule). replayed declared turn names 1 r.lines w) c.in-Ok.ensures.same in
     subst (λ (before : ℕ). IsPutEnd whole old new before after c.follow.result) c.in-Ok.ensures.count
     (put-left whole old left now new begins after c.follow.result
     (begun-boot declared turn first names r.lines r.world old now c.in-Ok.ensures.put)

@@ -15,7 +15,7 @@ pieces number cause = simp append_assoc
 pub returns-clause-ending : goal.returns-clause-ending
 returns-clause-ending c =
     let told : List Host × List (List ℕ) → List ℕ = λ p.
-      codes "schedule line " ++ (decimal c.args.number ++ (codes ": " ++ (cause_text (names_of p.0 p.1) c.args.cause ++ 10 ∷ []))) in
+    codes "schedule line " ++ (decimal c.args.number ++ (codes ": " ++ (cause_text (names_of p.0 p.1) c.args.cause ++ 10 ∷ []))) in
     let end : List ℕ → Ending = λ text. record { status = BadSchedule; text = text } in
     let hosts : List Host → List Host × List (List ℕ) = λ hosts. (hosts, []) in
     c.of.ensures.text

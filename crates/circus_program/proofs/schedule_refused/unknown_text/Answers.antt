@@ -13,7 +13,7 @@ pieces number name = joined (codes "schedule line ") (decimal number) (codes ": 
 pub returns : goal.returns
 returns c =
     let begun : c.of-text.result ≡ codes "schedule line " ++ (decimal c.args.number ++ codes ": unknown node ") =
-      c.of-text.ensures ∙ ap (λ v. v.items) c.into_bytes.ensures.value ∙ c.in_ok-text.ensures.ok in
+    c.of-text.ensures ∙ ap (λ v. v.items) c.into_bytes.ensures.value ∙ c.in_ok-text.ensures.ok in
     c.in_ok-append-2.ensures.ok
     ∙ ap (λ l. l ++ 10 ∷ []) (c.in_ok-append.ensures.ok ∙ ap (λ l. c.of-text.result ++ l) c.as_slice.ensures ∙ ap (λ l. l ++ c.args.name.now) begun)
     ∙ pieces c.args.number c.args.name.now
