@@ -15,7 +15,6 @@ use Rattle.circus_model.specs.Agree.{Agree, IsAt}
 use Rattle.circus_model.specs.Behaviour.{Behaviour}
 use Rattle.circus_model.specs.Lawful.{import_of}
 use Rattle.circus_model.specs.declared.signature.Import.{Import}
-use Rattle.circus_model.specs.declared.signature.Signature.{Signature}
 use Rattle.circus_modules.specs.Signatures.{implemented}
 use Rattle.circus_modules.specs.Behaviours.{behaviour_of, program_of}
 use Rattle.circus_node.specs.Accepting.{is_root}
@@ -62,9 +61,9 @@ module _ (d : Deployment) (program : List Behaviour) where
       root = root_kept place b at;
       main = agree.mains place b at;
       imports = λ callee i found.
-        let (among, numbered) = import_found callee b.declared.imports i found in
-        let of = agree.imports place b i at among in
-        (subst (λ n. n < place) numbered of.earlier, subst (λ n. is_root d n ≡ false) numbered (sym (root_kept i.«module» of.imported of.there) ∙ of.no_root));
+          let (among, numbered) = import_found callee b.declared.imports i found in
+          let of = agree.imports place b i at among in
+          (subst (λ n. n < place) numbered of.earlier, subst (λ n. is_root d n ≡ false) numbered (sym (root_kept i.«module» of.imported of.there) ∙ of.no_root));
       limit = within place b at;
     }
 
@@ -76,8 +75,8 @@ module _ (d : Deployment) (program : List Behaviour) where
           ∙ sym (ap length roots)
           ∙ length-map d.troupes (λ (t : Troupe). t.root);
       each = λ number signature at.
-        let (b, there, is) = image_at (λ (b : Behaviour). b.declared) program number signature at in
-        subst (IsOfTroupe d number) is (one_of number b there);
+          let (b, there, is) = image_at (λ (b : Behaviour). b.declared) program number signature at in
+          subst (IsOfTroupe d number) is (one_of number b there);
     }
 
 -- ---- modules that are meant
@@ -108,7 +107,7 @@ pub meant_of_troupes : {M : Type 0} (behaviour : M → Behaviour) (made : List M
 meant_of_troupes behaviour made d interfaces modules format roots is agree =
     subst (AreOfTroupes d) (declared_by behaviour made)
     (of_troupes d (map behaviour made)
-      (roots ∙ sym (roots_meant (limit_of d.format) interfaces (implemented modules) modules) ∙ ap (map (λ (b : Behaviour). b.declared.root)) (sym is))
-      agree
-      (subst (λ p. (place : ℕ) (b : Behaviour) → IsAt p place b → b.declared.limit ≤ most_bytes d.format) (sym is)
-        (limits_meant (limit_of d.format) (most_bytes d.format) interfaces modules (limits_agree d.format format))))
+    (roots ∙ sym (roots_meant (limit_of d.format) interfaces (implemented modules) modules) ∙ ap (map (λ (b : Behaviour). b.declared.root)) (sym is))
+    agree
+    (subst (λ p. (place : ℕ) (b : Behaviour) → IsAt p place b → b.declared.limit ≤ most_bytes d.format) (sym is)
+    (limits_meant (limit_of d.format) (most_bytes d.format) interfaces modules (limits_agree d.format format))))

@@ -56,7 +56,7 @@ module _ {M : Type 0} (declared : M → Signature) (turn : M → List ValueTree 
       → IsHosted declared turn first d modules node hosted → CanBoot d node (option_map declared hosted)
   hosted_can_boot d modules node hosted good are within alike =
       subst (CanBoot d node) (
-          declared_there modules (troupe_at d node)
-          ∙ declared_as (option_and_then (slice_get modules) (troupe_at d node))
-          ∙ sym (declared_as hosted ∙ ap (option_map (λ (b : Behaviour). b.declared)) alike))
+      declared_there modules (troupe_at d node)
+      ∙ declared_as (option_and_then (slice_get modules) (troupe_at d node))
+      ∙ sym (declared_as hosted ∙ ap (option_map (λ (b : Behaviour). b.declared)) alike))
       (can_boot d (map declared modules) node good are within)

@@ -21,7 +21,8 @@ boot-requires g c =
     (c.in_ok-hosted.ensures ∙ ap (λ o. option_map (behaviour g.M.Module.declared g.M.Module.turn g.M.Module.first) (option_and_then (slice_get c.args.modules.now) o)) c.troupe_at.ensures)
 
 pub returns-clause-booted : goal.returns-clause-booted
-returns-clause-booted g c =
-    (c.in_ok-hosted.hosted,
-    c.in_ok-hosted.ensures ∙ ap (λ o. option_map (behaviour g.M.Module.declared g.M.Module.turn g.M.Module.first) (option_and_then (slice_get c.args.modules.now) o)) c.troupe_at.ensures,
-    c.boot.ensures.booted)
+returns-clause-booted g c = (
+  c.in_ok-hosted.hosted,
+  c.in_ok-hosted.ensures ∙ ap (λ o. option_map (behaviour g.M.Module.declared g.M.Module.turn g.M.Module.first) (option_and_then (slice_get c.args.modules.now) o)) c.troupe_at.ensures,
+  c.boot.ensures.booted,
+)
