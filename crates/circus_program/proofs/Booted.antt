@@ -25,6 +25,10 @@ use Rattle.circus_config.specs.declared.plan.Plan.{Plan}
 use Rattle.circus_ending.specs.Ending.{Ending}
 use Rattle.circus_program.specs.Replay.{after_step, replayed_whole, spent, behaviours_in, hosted_by, booted, replay_of}
 
+-- a replay of lines from what a plan came to at boot
+abbrev pub from_boot : Plan → List Line → Stepped Behaviour → Ending
+from_boot plan lines s = after_step (names_of plan.deployment.nodes plan.names) (replayed_whole declared_of turn_of (names_of plan.deployment.nodes plan.names) lines) s
+
 module _ {M : Type 0} (declared : M → Signature) (turn : M → List ValueTree → ℕ → List ValueTree → List Outcome → NextTurn) (first : M → List ValueTree) where
   abbrev does : M → Behaviour
   does m = behaviour declared turn first m
@@ -60,10 +64,6 @@ module _ {M : Type 0} (declared : M → Signature) (turn : M → List ValueTree 
   booted_as plan d modules hosted same behave are =
       all_as d modules hosted are
       ∙ (λ i. all_booted declared_of turn_of first_of (map (hosted_by (behave i)) (same i).nodes) (before_any (same i) (behave i)))
-
-  -- a replay of lines from there
-  abbrev from_boot : Plan → List Line → Stepped Behaviour → Ending
-  from_boot plan lines s = after_step (names_of plan.deployment.nodes plan.names) (replayed_whole declared_of turn_of (names_of plan.deployment.nodes plan.names) lines) s
 
   pub ends_booted : (plan : Plan) (d : Deployment) (modules : List M) (hosts : List Host) (names : List (List ℕ)) (lines : List Line) (w : WorldState M)
       → d ≡ plan.deployment → behaviours declared turn first modules ≡ behaviours_in plan → hosts ≡ d.nodes → names ≡ plan.names → IsBooted declared turn first d modules (Ok w)

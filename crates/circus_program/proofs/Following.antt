@@ -1,7 +1,6 @@
 -- A replay is put line by line.
-use Rattle.std.proofs.Common.{◌≡◌, ℕ, ◌+◌, ◌<◌, inl, inr, Option, Some, None, List, [], ◌∷◌, length, get_or, drop, refl, sym, ap, subst, ◌∙◌, add-one, drop-cons, Ok, Err}
+use Rattle.std.proofs.Common.{◌≡◌, ℕ, ◌+◌, ◌<◌, inl, inr, Option, None, List, [], ◌∷◌, length, get_or, drop, refl, sym, subst, add-one, drop-cons, Ok, Err}
 use Rattle.std.specs.Prelude.{IsErrOf}
-use Rattle.std.specs.Option.{option_map_or}
 use Rattle.circus_outside.specs.Faults.{Rose}
 use Rattle.circus_value.specs.ValueTree.{ValueTree}
 use Rattle.circus_value.specs.declared.outcome.Outcome.{Outcome}
@@ -16,7 +15,7 @@ use Rattle.circus_world.specs.declared.cause.Cause.{Cause}
 use Rattle.circus_world.specs.declared.cause.Cause.TheVariants.{NoDatagram, NotLive, NotCrashed, NotSpare, AlreadyJoined}
 use Rattle.circus_world.specs.WorldState.{WorldState}
 use Rattle.circus_world.specs.Legal.{refusal}
-use Rattle.circus_world.specs.Course.{Stepped, stepped}
+use Rattle.circus_world.specs.Course.{stepped}
 use Rattle.circus_report.specs.Report.{rest_text}
 use Rattle.circus_running.specs.declared.running.RunFault.{RunFault}
 use Rattle.circus_running.specs.declared.running.RunFault.TheVariants as fault
@@ -26,11 +25,12 @@ use Rattle.circus_running.specs.Writing.{Writes, WritesPart}
 use Rattle.circus_ending.specs.declared.status.Status.{Status}
 use Rattle.circus_ending.specs.declared.status.Status.TheVariants.{Done, SinkFault, NoMemory}
 use Rattle.circus_ending.specs.Ending.{Ending}
-use Rattle.circus_program.specs.Replay.{cause_text, refused, spent, behind, after_step, replayed, replayed_whole}
+use Rattle.circus_program.specs.Replay.{cause_text, refused, spent, behind, replayed, replayed_whole}
 use Rattle.circus_program.specs.Seen.Put.{IsPutEnd}
 use Rattle.circus_program.specs.Seen.Ended.{IsEndedBy}
 use Rattle.circus_running.proofs.ToldLemmas.{WritesPart-none}
 use Rattle.circus_program.proofs.ReplaysAlike.{whole_as}
+use Rattle.circus_program.proofs.OneLine.{replayed_stepped, replayed_spent, replayed_refused}
 use Rattle.circus_program.proofs.Pieces.{IsBegun, begun-none, begun-as, begun-more, part-left, part-next, put-left}
 
 -- a cause names nodes alone
@@ -54,30 +54,6 @@ put-stopped text whole old now new before after fault.SinkFailed status sink mem
 put-stopped text whole old now new before after fault.NoMemory status sink memory part rose inside = inr (inr (memory refl, inside part))
 put-stopped text whole old now new before after (fault.Illegal cause) status sink memory part rose inside = absurd part
 put-stopped text whole old now new before after (fault.Spent node peer) status sink memory part rose inside = absurd part
-
-module _ {M : Type 0} (declared : M → Signature) (turn : M → List ValueTree → ℕ → List ValueTree → List Outcome → NextTurn) where
-  -- ---- one line of a replay
-
-  abbrev after_line : Names → ℕ → List Line → WorldState M → Stepped M → Ending
-  after_line names number lines w s = after_step names (λ after. behind (sent_from (length w.sent) after) (replayed declared turn names (number + 1) lines after)) s
-
-  replayed_legal : (names : Names) (number : ℕ) (line : Line) (lines : List Line) (w : WorldState M) → refusal w line ≡ None
-      → replayed declared turn names number (line ∷ lines) w ≡ after_line names number lines w (stepped declared turn line w)
-  replayed_legal names number line lines w legal =
-      ap (λ (o : Option Cause). option_map_or (λ cause. refused number (cause_text names cause)) o (after_line names number lines w (stepped declared turn line w))) legal
-
-  replayed_stepped : (names : Names) (number : ℕ) (line : Line) (lines : List Line) (w next : WorldState M) → refusal w line ≡ None → stepped declared turn line w ≡ Ok next
-      → replayed declared turn names number (line ∷ lines) w ≡ behind (sent_from (length w.sent) next) (replayed declared turn names (number + 1) lines next)
-  replayed_stepped names number line lines w next legal is = replayed_legal names number line lines w legal ∙ ap (after_line names number lines w) is
-
-  replayed_spent : (names : Names) (number : ℕ) (line : Line) (lines : List Line) (w : WorldState M) (nodes : ℕ × ℕ) → refusal w line ≡ None → stepped declared turn line w ≡ Err nodes
-      → replayed declared turn names number (line ∷ lines) w ≡ spent names nodes
-  replayed_spent names number line lines w nodes legal is = replayed_legal names number line lines w legal ∙ ap (after_line names number lines w) is
-
-  replayed_refused : (names : Names) (number : ℕ) (line : Line) (lines : List Line) (w : WorldState M) (cause : Cause) → refusal w line ≡ Some cause
-      → replayed declared turn names number (line ∷ lines) w ≡ refused number (cause_text names cause)
-  replayed_refused names number line lines w cause is =
-      ap (λ (o : Option Cause). option_map_or (λ cause. refused number (cause_text names cause)) o (after_line names number lines w (stepped declared turn line w))) is
 
 -- ---- what is written of it
 

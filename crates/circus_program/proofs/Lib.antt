@@ -1,6 +1,7 @@
 pub mod ReplaysAlike
 pub mod Stepping
 pub mod Pieces
+pub mod OneLine
 pub mod Following
 pub mod Booted
 pub mod ReadyLemmas

@@ -1,39 +1,32 @@
 -- How replays end.
-use Rattle.std.proofs.Common.{◌≡◌, ℕ, ◌+◌, ◌⊎◌, inl, inr, Option, Some, None, List, [], ◌∷◌, ◌++◌, length, codes, refl, sym, ap, subst, ◌∙◌, Ok, Err}
+use Rattle.std.proofs.Common.{◌≡◌, ℕ, ◌+◌, ◌⊎◌, inl, inr, Some, None, List, [], ◌∷◌, ◌++◌, codes, refl, sym, ap, subst, ◌∙◌, Ok, Err}
 use Rattle.std.specs.Prelude.{IsTrue}
-use Rattle.std.specs.Option.{option_map_or}
 use Rattle.circus_model.specs.Behaviour.{Behaviour}
 use Rattle.circus_record.specs.Naming.{Names, names_of}
+use Rattle.circus_alike.specs.Alike.{declared_of, turn_of}
 use Rattle.circus_schedule.specs.declared.line.Line.{Line}
 use Rattle.circus_schedule.specs.declared.schedule_fault.ScheduleFault.{ScheduleFault}
 use Rattle.circus_schedule.specs.declared.schedule_fault.ScheduleFault.TheVariants as schedule_fault
 use Rattle.circus_schedule.specs.Meaning.{numbers_of}
 use Rattle.circus_schedule.specs.Answer.{IsAnswer}
-use Rattle.circus_world.specs.declared.cause.Cause.{Cause}
 use Rattle.circus_world.specs.WorldState.{WorldState}
 use Rattle.circus_world.specs.Legal.{refusal}
 use Rattle.circus_world.specs.Course.{Stepped, stepped}
-use Rattle.circus_running.specs.Run.{sent_from}
 use Rattle.circus_ending.specs.declared.status.Status.{Status}
 use Rattle.circus_ending.specs.declared.status.Status.TheVariants.{Done, BadSchedule, Spent}
 use Rattle.circus_ending.specs.Status.{is_end}
 use Rattle.circus_ending.specs.Ending.{Ending}
 use Rattle.circus_config.specs.declared.plan.Plan.{Plan}
-use Rattle.circus_program.specs.Replay.{cause_text, refused, behind, after_step, replayed, replayed_whole, booted, replay_of, IsEndOfReplay}
+use Rattle.circus_program.specs.Replay.{refused, replayed, booted, replay_of, IsEndOfReplay}
 use Rattle.circus_program.specs.Last.{HasRefused, HasSpent}
+use Rattle.circus_program.proofs.OneLine.{replayed_stepped, replayed_spent, replayed_refused}
+use Rattle.circus_program.proofs.Booted.{from_boot}
 
 abbrev step : Line → WorldState Behaviour → Stepped Behaviour
-step line w = stepped (λ (b : Behaviour). b.declared) (λ (b : Behaviour). b.turn) line w
+step line w = stepped declared_of turn_of line w
 
 abbrev lines_end : Names → ℕ → List Line → WorldState Behaviour → Ending
-lines_end names number lines w = replayed (λ (b : Behaviour). b.declared) (λ (b : Behaviour). b.turn) names number lines w
-
--- what comes after a line
-abbrev after_line : Names → ℕ → List Line → WorldState Behaviour → Stepped Behaviour → Ending
-after_line names number lines w s = after_step names (λ after. behind (sent_from (length w.sent) after) (lines_end names (number + 1) lines after)) s
-
-abbrev unless : Names → ℕ → Option Cause → Ending → Ending
-unless names number o end = option_map_or (λ cause. refused number (cause_text names cause)) o end
+lines_end names number lines w = replayed declared_of turn_of names number lines w
 
 -- ---- lines
 
@@ -41,39 +34,41 @@ unless names number o end = option_map_or (λ cause. refused number (cause_text 
 abbrev pub IsStatusOf : List Line → WorldState Behaviour → Status → Type 0
 IsStatusOf lines w status = (status ≡ Done) ⊎ (((status ≡ BadSchedule) × HasRefused lines w) ⊎ ((status ≡ Spent) × HasSpent lines w))
 
-later : (line : Line) (lines : List Line) (w next : WorldState Behaviour) (status : Status) → refusal w line ≡ None → step line w ≡ Ok next → IsStatusOf lines next status → IsStatusOf (line ∷ lines) w status
-later line lines w next status legal is (inl done) = inl done
-later line lines w next status legal is (inr (inl (bad, has))) = inr (inl (bad, inr (legal, next, is, has)))
-later line lines w next status legal is (inr (inr (spent, has))) = inr (inr (spent, (legal, inr (next, is, has))))
+-- a line was stepped before
+later : (names : Names) (number : ℕ) (line : Line) (lines : List Line) (w next : WorldState Behaviour) → refusal w line ≡ None → step line w ≡ Ok next
+    → IsStatusOf lines next (lines_end names (number + 1) lines next).status → IsStatusOf (line ∷ lines) w (lines_end names number (line ∷ lines) w).status
+later names number line lines w next legal is behind = by_end behind
+  where
+    stepped_status : (lines_end names number (line ∷ lines) w).status ≡ (lines_end names (number + 1) lines next).status
+    stepped_status = ap (λ (e : Ending). e.status) (replayed_stepped declared_of turn_of names number line lines w next legal is)
+
+    by_end : IsStatusOf lines next (lines_end names (number + 1) lines next).status → IsStatusOf (line ∷ lines) w (lines_end names number (line ∷ lines) w).status
+    by_end (inl done) = inl (stepped_status ∙ done)
+    by_end (inr (inl (bad, has))) = inr (inl (stepped_status ∙ bad, inr (legal, next, is, has)))
+    by_end (inr (inr (spent, has))) = inr (inr (stepped_status ∙ spent, (legal, inr (next, is, has))))
 
 lines_status : (names : Names) (number : ℕ) (lines : List Line) (w : WorldState Behaviour) → IsStatusOf lines w (lines_end names number lines w).status
 lines_status names number [] w = inl refl
 lines_status names number (line ∷ lines) w =
-    elim (refusal w line) as (λ o. refusal w line ≡ o → IsStatusOf (line ∷ lines) w (unless names number o (after_line names number lines w (step line w))).status) [
-      | Some cause ↦ λ is. inr (inl (refl, inl (cause, is)))
-      | None ↦ λ legal. elim (step line w) as (λ s. step line w ≡ s → IsStatusOf (line ∷ lines) w (after_line names number lines w s).status) [
-        | Ok next ↦ λ is. later line lines w next (lines_end names (number + 1) lines next).status legal is (lines_status names (number + 1) lines next)
-        | Err nodes ↦ λ is. inr (inr (refl, (legal, inl (nodes, is))))
+    elim (refusal w line) as (λ o. refusal w line ≡ o → IsStatusOf (line ∷ lines) w (lines_end names number (line ∷ lines) w).status) [
+      | Some cause ↦ λ is. inr (inl (ap (λ (e : Ending). e.status) (replayed_refused declared_of turn_of names number line lines w cause is), inl (cause, is)))
+      | None ↦ λ legal. elim (step line w) as (λ s. step line w ≡ s → IsStatusOf (line ∷ lines) w (lines_end names number (line ∷ lines) w).status) [
+        | Ok next ↦ λ is. later names number line lines w next legal is (lines_status names (number + 1) lines next)
+        | Err nodes ↦ λ is. inr (inr (ap (λ (e : Ending). e.status) (replayed_spent declared_of turn_of names number line lines w nodes legal is), (legal, inl (nodes, is))))
       ] refl
     ] refl
 
 lines_refused : (names : Names) (number : ℕ) (lines : List Line) (w : WorldState Behaviour) → HasRefused lines w → (lines_end names number lines w).status ≡ BadSchedule
 lines_refused names number [] w has = absurd has
-lines_refused names number (line ∷ lines) w (inl (cause, is)) = ap (λ o. (unless names number o (after_line names number lines w (step line w))).status) is
+lines_refused names number (line ∷ lines) w (inl (cause, is)) = ap (λ (e : Ending). e.status) (replayed_refused declared_of turn_of names number line lines w cause is)
 lines_refused names number (line ∷ lines) w (inr (legal, next, is, has)) =
-    ap (λ o. (unless names number o (after_line names number lines w (step line w))).status) legal
-    ∙ ap (λ s. (after_line names number lines w s).status) is
-    ∙ lines_refused names (number + 1) lines next has
+    ap (λ (e : Ending). e.status) (replayed_stepped declared_of turn_of names number line lines w next legal is) ∙ lines_refused names (number + 1) lines next has
 
 lines_spent : (names : Names) (number : ℕ) (lines : List Line) (w : WorldState Behaviour) → HasSpent lines w → (lines_end names number lines w).status ≡ Spent
 lines_spent names number [] w has = absurd has
-lines_spent names number (line ∷ lines) w (legal, inl (nodes, is)) =
-    ap (λ o. (unless names number o (after_line names number lines w (step line w))).status) legal
-    ∙ ap (λ s. (after_line names number lines w s).status) is
+lines_spent names number (line ∷ lines) w (legal, inl (nodes, is)) = ap (λ (e : Ending). e.status) (replayed_spent declared_of turn_of names number line lines w nodes legal is)
 lines_spent names number (line ∷ lines) w (legal, inr (next, is, has)) =
-    ap (λ o. (unless names number o (after_line names number lines w (step line w))).status) legal
-    ∙ ap (λ s. (after_line names number lines w s).status) is
-    ∙ lines_spent names (number + 1) lines next has
+    ap (λ (e : Ending). e.status) (replayed_stepped declared_of turn_of names number line lines w next legal is) ∙ lines_spent names (number + 1) lines next has
 
 -- a replay ends as one that is due may
 pub lines_are_end : (names : Names) (number : ℕ) (lines : List Line) (w : WorldState Behaviour) → IsTrue (is_end (lines_end names number lines w).status)
@@ -101,10 +96,6 @@ IsStatusOfReplay plan schedule status =
     (status ≡ Done)
     ⊎ (((status ≡ BadSchedule) × Refuses plan schedule)
     ⊎ ((status ≡ Spent) × ((lines : List Line) × IsAnswer (numbers_of plan.deployment.nodes) schedule (Ok lines) × Spends plan lines)))
-
-abbrev from_boot : Plan → List Line → Stepped Behaviour → Ending
-from_boot plan lines s =
-    after_step (names_of plan.deployment.nodes plan.names) (replayed_whole (λ (b : Behaviour). b.declared) (λ (b : Behaviour). b.turn) (names_of plan.deployment.nodes plan.names) lines) s
 
 behind_boot : (plan : Plan) (schedule : List ℕ) (lines : List Line) (w : WorldState Behaviour) (status : Status) → IsAnswer (numbers_of plan.deployment.nodes) schedule (Ok lines)
     → booted plan ≡ Ok w → IsStatusOf lines w status → IsStatusOfReplay plan schedule status

@@ -1,5 +1,5 @@
 -- What steps and boots of a world keep: its deployment, its nodes' number, and how many lines were stepped.
-use Rattle.std.proofs.Common.{◌≡◌, ℕ, ◌+◌, ◌≤◌, Bool, true, false, List, [], ◌∷◌, length, set, Option, None, Some, Ok, Err, refl, subst, ◌∙◌, arith, length-append, length-set}
+use Rattle.std.proofs.Common.{◌≡◌, ℕ, ◌+◌, ◌≤◌, Bool, true, false, List, [], ◌∷◌, length, Option, None, Some, Ok, Err, refl, subst, ◌∙◌, arith, length-append, length-set}
 use Rattle.std.specs.Prelude.{slice_get, if◌then◌else◌}
 use Rattle.std.specs.Option.{option_map_or}
 use Rattle.circus_value.specs.ValueTree.{ValueTree}
@@ -17,6 +17,7 @@ use Rattle.circus_world.specs.declared.sent.Sent.{Sent}
 use Rattle.circus_world.specs.WorldState.{WorldState, Standing, is_live}
 use Rattle.circus_world.specs.Course.{Stepped, passed, noted, told_to_join, concluded, comes_to, delivered, stepped}
 use Rattle.circus_world.specs.Boot.{before_any, joined_by, then_others, all_booted}
+use Rattle.circus_world.proofs.SoundLemmas.{noted_length}
 
 module _ {M : Type 0} where
   -- a step keeps these, and is at most one more
@@ -36,20 +37,13 @@ module _ {M : Type 0} where
   still : (w : WorldState M) → Keeps w w
   still w = record { deployment = refl; nodes = refl; steps = omega arith }
 
-  noted_nodes : (note : Standing M → Standing M) (node : ℕ) (w : WorldState M) → length (noted note node w).nodes ≡ length w.nodes
-  noted_nodes note node w = by_option (slice_get w.nodes node)
-    where
-      by_option : (o : Option (Standing M)) → length (option_map_or (λ s. set w.nodes node (note s)) o w.nodes) ≡ length w.nodes
-      by_option None = refl
-      by_option (Some s) = length-set w.nodes node (note s)
-
   concluded_keeps : (node : ℕ) (s : Standing M) (w : WorldState M) (end : node_step.Ended M) → KeepsIfOk w (concluded node s w end)
   concluded_keeps node s w (Ok ended) = record { deployment = refl; nodes = length-set w.nodes node (record s { node = ended.0 }); steps = omega arith }
   concluded_keeps node s w (Err peer) = tt
 
   -- a step behind a note
   noted_before : (note : Standing M → Standing M) (node : ℕ) (w : WorldState M) (s : Stepped M) → KeepsIfOk (noted note node w) s → KeepsIfOk w s
-  noted_before note node w (Ok next) keeps = record { deployment = keeps.deployment; nodes = keeps.nodes ∙ noted_nodes note node w; steps = keeps.steps }
+  noted_before note node w (Ok next) keeps = record { deployment = keeps.deployment; nodes = keeps.nodes ∙ noted_length note node w; steps = keeps.steps }
   noted_before note node w (Err nodes) keeps = tt
 
   -- ---- at boot
@@ -97,7 +91,7 @@ module _ {M : Type 0} (declared : M → Signature) (turn : M → List ValueTree 
       by_option None = still w
       by_option (Some sent) = delivered_keeps sent w
   line_keeps (Tick node) w = comes_keeps node comes.Tick w
-  line_keeps (Crash node) w = record { deployment = refl; nodes = noted_nodes (λ s. record s { crashed = Some (w.steps + 1) }) node w; steps = omega arith }
+  line_keeps (Crash node) w = record { deployment = refl; nodes = noted_length (λ s. record s { crashed = Some (w.steps + 1) }) node w; steps = omega arith }
   line_keeps (Down node told) w = comes_keeps told (comes.Down node) w
   line_keeps (Join node) w =
       noted_before (λ s. record s { joins = true }) node w (comes_to declared turn node comes.Join (told_to_join node w)) (comes_keeps node comes.Join (told_to_join node w))

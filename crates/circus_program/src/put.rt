@@ -1,5 +1,4 @@
 // What is written at the end.
-ghost use Rattle.std.specs.Prelude.{◌≡◌};
 ghost use Rattle.circus_program.specs.Seen.Put.{IsPut, IsPutIfEnd};
 
 use circus_ending::{Ending, Status};

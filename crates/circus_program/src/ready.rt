@@ -1,5 +1,5 @@
 // A replay that may begin.
-ghost use Rattle.std.specs.Prelude.{◌≡◌, ◌≤◌, [], All, IsAscii, IsTrue, length, map, IfOk, IfErr, string_bytes};
+ghost use Rattle.std.specs.Prelude.{◌≡◌, ◌≤◌, [], All, IsAscii, IsTrue, length, map, IfOk, IfErr};
 ghost use Rattle.std.specs.List.{AllByRecursion};
 ghost use Rattle.circus_collate.specs.Deployment.{IsDeployment};
 ghost use Rattle.circus_idl.specs.Obeys.{Obeys};

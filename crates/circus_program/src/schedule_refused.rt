@@ -1,5 +1,5 @@
 // Why a line of a schedule is refused, as it is written.
-ghost use Rattle.std.specs.Prelude.{◌≡◌, ◌++◌, [], Err, All, IsAscii, IfOk, Some, string_bytes, codes};
+ghost use Rattle.std.specs.Prelude.{◌≡◌, ◌++◌, [], Err, All, IsAscii, IfOk, Some, codes};
 ghost use Rattle.std.specs.Fmt.{decimal};
 ghost use Rattle.circus_record.specs.Line.{line};
 ghost use Rattle.circus_record.specs.Naming.{host_name, names_of};
