@@ -1,0 +1,259 @@
+//! Programs in parts: the first line, interfaces, modules, a root, and where they run.
+
+pub const FORMAT_1: &str = "CIRCUS 1;\n";
+
+pub const FORMAT_2: &str = "CIRCUS 2;\n";
+
+pub const COUNT: &str = "\
+Count: PROGRAM 1 VERSION 1 =
+BEGIN
+  Add: PROCEDURE [n: CARDINAL] RETURNS [sum: CARDINAL] = 1;
+END.
+";
+
+pub const COUNTER: &str = "\
+MODULE Counter IMPLEMENTS Count;
+BEGIN
+  VAR total: CARDINAL;
+  PROCEDURE Add BEGIN
+    total := total + n;
+    RETURN [total];
+  END;
+END.
+";
+
+// A root that adds once, and one that adds twice.
+pub const ADDS_ONCE: &str = "\
+ROOT Main IMPORTS Counter;
+BEGIN
+  VAR got: CARDINAL;
+  MAIN BEGIN
+    CALL Counter.Add [5] INTO [got];
+    RETURN [];
+  END;
+END.
+";
+
+pub const ADDS_TWICE: &str = "\
+ROOT Main IMPORTS Counter;
+BEGIN
+  VAR got: CARDINAL;
+  MAIN BEGIN
+    CALL Counter.Add [5] INTO [got];
+    CALL Counter.Add [7] INTO [got];
+    RETURN [];
+  END;
+END.
+";
+
+pub const RING: &str = "RINGMASTER ring PORT 9000;\n";
+
+pub const MAIN_AT_M1: &str = "TROUPE Main CALLS FIRST REPLIES FIRST MEMBERS m1 PORT 9002;\n";
+
+// One member of each.
+pub const ONE_OF_EACH: &str = "\
+RINGMASTER ring PORT 9000;
+TROUPE Counter CALLS FIRST REPLIES FIRST MEMBERS s1 PORT 9001;
+TROUPE Main CALLS FIRST REPLIES FIRST MEMBERS m1 PORT 9002;
+";
+
+pub const ONE_CALL: &[&str] = &[FORMAT_1, COUNT, COUNTER, ADDS_ONCE, ONE_OF_EACH];
+
+pub const ONE_CALL_IN_FORMAT_2: &[&str] = &[FORMAT_2, COUNT, COUNTER, ADDS_ONCE, ONE_OF_EACH];
+
+// Modules between the counter and the root, each of which adds.
+pub const STEP: &str = "\
+Step: PROGRAM 2 VERSION 1 =
+BEGIN
+  Go: PROCEDURE = 1;
+END.
+";
+
+pub const STEP_A: &str = "\
+MODULE A IMPLEMENTS Step IMPORTS Counter;
+BEGIN
+  PROCEDURE Go BEGIN
+    CALL Counter.Add [1];
+    RETURN [];
+  END;
+END.
+";
+
+pub const STEP_B: &str = "\
+MODULE B IMPLEMENTS Step IMPORTS Counter;
+BEGIN
+  PROCEDURE Go BEGIN
+    CALL Counter.Add [2];
+    RETURN [];
+  END;
+END.
+";
+
+pub const STEPS_BOTH: &str = "\
+ROOT Main IMPORTS A, B;
+BEGIN
+  MAIN BEGIN
+    CALL A.Go [];
+    CALL B.Go [];
+    RETURN [];
+  END;
+END.
+";
+
+pub const STEPS_ONCE: &str = "\
+ROOT Main IMPORTS A;
+BEGIN
+  MAIN BEGIN
+    CALL A.Go [];
+    RETURN [];
+  END;
+END.
+";
+
+// A long argument.
+pub const ROOM: &str = "\
+Room: PROGRAM 1 VERSION 1 =
+BEGIN
+  Put: PROCEDURE [q: SEQUENCE 40000 OF CARDINAL] RETURNS [n: CARDINAL] = 1;
+END.
+MODULE Store IMPLEMENTS Room;
+BEGIN
+  PROCEDURE Put BEGIN
+    RETURN [LENGTH(q)];
+  END;
+END.
+ROOT Main IMPORTS Store;
+BEGIN
+  MAIN VAR q: SEQUENCE 40000 OF CARDINAL; BEGIN
+    WHILE LENGTH(q) < ";
+
+// Behind the number of its items.
+pub const ROOM_FILLED: &str = " DO APPEND 7 TO q; END;
+    CALL Store.Put [q];
+    RETURN [];
+  END;
+END.
+RINGMASTER ring PORT 9000;
+TROUPE Store CALLS FIRST REPLIES FIRST MEMBERS s1 PORT 9001;
+TROUPE Main CALLS FIRST REPLIES FIRST MEMBERS m1 PORT 9002;
+";
+
+// The longest argument.
+pub const BLOCK: &str = "\
+Room: PROGRAM 1 VERSION 1 =
+BEGIN
+  Block: TYPE = ARRAY ";
+
+// Behind the number of its sequences.
+pub const BLOCK_FILLED: &str = " OF SEQUENCE 65535 OF CARDINAL;
+  Put: PROCEDURE [b: Block] = 1;
+END.
+MODULE Store IMPLEMENTS Room;
+BEGIN
+  PROCEDURE Put BEGIN
+    RETURN [];
+  END;
+END.
+ROOT Main IMPORTS Store;
+BEGIN
+  MAIN VAR q: SEQUENCE 65535 OF CARDINAL; BEGIN
+    WHILE LENGTH(q) < 65535 DO APPEND 7 TO q; END;
+    CALL Store.Put [Store.Block#[q, q, q, q, q, q, q, q";
+
+// Behind the items.
+pub const BLOCK_CALLED: &str = "]];
+    RETURN [];
+  END;
+END.
+RINGMASTER ring PORT 9000;
+TROUPE Store CALLS FIRST REPLIES FIRST MEMBERS s1 PORT 9001;
+TROUPE Main CALLS FIRST REPLIES FIRST MEMBERS m1 PORT 9002;
+";
+
+// As many steps as an execution may have, and one more.
+pub const WHEEL: &str = "\
+CIRCUS 1;
+Turns: PROGRAM 1 VERSION 1 =
+BEGIN
+  Spin: PROCEDURE [n: LONG CARDINAL] RETURNS [r: LONG CARDINAL] = 1;
+  Late: PROCEDURE [n: LONG CARDINAL] RETURNS [r: LONG CARDINAL] = 2;
+END.
+MODULE Wheel IMPLEMENTS Turns;
+BEGIN
+  PROCEDURE Spin VAR i: LONG CARDINAL; BEGIN
+    WHILE i < n DO i := i + 1; END;
+    RETURN [i];
+  END;
+  PROCEDURE Late VAR i: LONG CARDINAL; BEGIN
+    i := 0;
+    WHILE i < n DO i := i + 1; END;
+    RETURN [i];
+  END;
+END.
+ROOT Main IMPORTS Wheel;
+BEGIN
+  MAIN BEGIN
+    CALL Wheel.Spin [499999];
+    CALL Wheel.Late [499999] ON OTHER BEGIN END;
+    RETURN [];
+  END;
+END.
+RINGMASTER ring PORT 9000;
+TROUPE Wheel CALLS FIRST REPLIES FIRST MEMBERS s1 PORT 9001;
+TROUPE Main CALLS FIRST REPLIES FIRST MEMBERS m1 PORT 9002;
+";
+
+// examples/bank.circus.
+pub const BANK: &str = "\
+CIRCUS 1;
+Books: PROGRAM 10 VERSION 1 =
+BEGIN
+  Short: ERROR [gap: LONG CARDINAL] = 1;
+  Move: PROCEDURE [from, to: CARDINAL, amount: LONG CARDINAL]
+    RETURNS [left: LONG CARDINAL] REPORTS [Short] = 1;
+END.
+Desk: PROGRAM 11 VERSION 1 =
+BEGIN
+  Pay: PROCEDURE [from, to: CARDINAL, amount: LONG CARDINAL] RETURNS [ok: BOOLEAN] = 1;
+END.
+MODULE Ledger IMPLEMENTS Books;
+BEGIN
+  VAR balance: ARRAY 4 OF LONG CARDINAL;
+  VAR opened: BOOLEAN;
+  PROCEDURE Move BEGIN
+    IF NOT opened THEN balance[0] := 100; opened := TRUE; END;
+    IF amount > balance[from] THEN RAISE Short [amount - balance[from]]; END;
+    balance[from] := balance[from] - amount;
+    balance[to] := balance[to] + amount;
+    RETURN [balance[from]];
+  END;
+END.
+MODULE Teller IMPLEMENTS Desk IMPORTS Ledger;
+BEGIN
+  VAR refused: CARDINAL;
+  PROCEDURE Pay VAR left: LONG CARDINAL; VAR gap: LONG CARDINAL; BEGIN
+    CALL Ledger.Move [from, to, amount] INTO [left]
+      ON Short [gap] BEGIN refused := refused + 1; RETURN [FALSE]; END;
+    RETURN [TRUE];
+  END;
+END.
+ROOT Day IMPORTS Teller;
+BEGIN
+  VAR paid: CARDINAL;
+  MAIN VAR i: CARDINAL; VAR ok: BOOLEAN; BEGIN
+    WHILE i < 20 DO
+      CALL Teller.Pay [0, 1, 6] INTO [ok];
+      IF ok THEN paid := paid + 1; END;
+      i := i + 1;
+    END;
+    RETURN [];
+  END;
+END.
+RINGMASTER ring PORT 9100;
+TROUPE Ledger CALLS UNANIMOUS REPLIES FIRST
+  MEMBERS l1 PORT 9101, l2 PORT 9102, l3 PORT 9103 SPARES l4 PORT 9104;
+TROUPE Teller CALLS MAJORITY REPLIES UNANIMOUS
+  MEMBERS t1 PORT 9105, t2 PORT 9106, t3 PORT 9107;
+TROUPE Day CALLS FIRST REPLIES MAJORITY
+  MEMBERS d1 PORT 9108, d2 PORT 9109, d3 PORT 9110;
+";
