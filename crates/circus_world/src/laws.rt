@@ -1,11 +1,17 @@
 //! What holds of every world that lines lead to.
-ghost use Rattle.std.specs.Prelude.{◌≡◌, ◌≤◌, ◌++◌, Ok, List, All, AllPairs, length, map};
+ghost use Rattle.std.specs.Prelude.{◌≡◌, ◌≤◌, ◌++◌, Ok, List, Option, All, AllPairs, length, map, option_map};
 ghost use Rattle.circus_collate.specs.Deployment.{IsDeployment};
 ghost use Rattle.circus_collate.specs.declared.deployment.Deployment.{Deployment};
 ghost use Rattle.circus_node.specs.Booting.{AreOfTroupes};
+ghost use Rattle.circus_performing.specs.Record.{behaviour};
+ghost use Rattle.circus_alike.specs.Alike.{declared_of, turn_of, first_of};
 ghost use Rattle.circus_schedule.specs.declared.line.Line.{Line};
 ghost use Rattle.circus_world.specs.declared.sent.Sent.{Sent};
 ghost use Rattle.circus_world.specs.WorldState.{WorldState};
+ghost use Rattle.circus_world.specs.Legal.{refusal};
+ghost use Rattle.circus_world.specs.Course.{stepped};
+ghost use Rattle.circus_world.specs.Boot.{all_booted};
+ghost use Rattle.circus_world.specs.Alike.{world_as, step_as};
 ghost use Rattle.circus_world.specs.Answers.{IsBooted};
 ghost use Rattle.circus_world.specs.Lines.{IsBetween, Lead};
 
@@ -38,4 +44,18 @@ pub fn datagrams_go_between_nodes<M: Module>()
         → IsDeployment deployment → AreOfTroupes deployment (map M.declared modules)
         → IsBooted M.declared M.turn M.first deployment modules (Ok world) → Lead M.declared M.turn lines world last
         → All (IsBetween (length deployment.nodes)) last.sent }
+{}
+
+/// Worlds whose modules do the same can't be told apart: where behaviours stand for the modules, lines are refused for the
+/// same causes, and boot and each line come to the same.
+pub fn worlds_depend_on_behaviours<M: Module>()
+    ensures refusals { (line : Line) (world : WorldState M)
+        → refusal (world_as M.declared M.turn M.first world) line ≡ refusal world line }
+    ensures steps { (line : Line) (world : WorldState M)
+        → step_as M.declared M.turn M.first (stepped M.declared M.turn line world)
+        ≡ stepped declared_of turn_of line (world_as M.declared M.turn M.first world) }
+    ensures boots { (hosted : List (Option M)) (world : WorldState M)
+        → step_as M.declared M.turn M.first (all_booted M.declared M.turn M.first hosted world)
+        ≡ all_booted declared_of turn_of first_of (map (option_map (behaviour M.declared M.turn M.first)) hosted)
+        (world_as M.declared M.turn M.first world) }
 {}

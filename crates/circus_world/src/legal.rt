@@ -6,7 +6,7 @@ use circus_collate::Deployment;
 use circus_value::is_among;
 
 /// Whether a node is a spare of its troupe. It takes no memory.
-pub(crate) fn is_spare(deployment: &Deployment, node: u16) -> bool
+pub fn is_spare(deployment: &Deployment, node: u16) -> bool
     ensures { result ≡ legal.is_spare deployment.now node }
 {
     let Some(host) = deployment.nodes.get(usize::from(node)) else {

@@ -13,6 +13,9 @@ mod world;
 
 pub use cause::Cause;
 pub use circus_schedule::{Line, Lines};
-pub use laws::{datagrams_go_between_nodes, steps_never_fall, what_was_sent_stays};
+pub use laws::{
+    datagrams_go_between_nodes, steps_never_fall, what_was_sent_stays, worlds_depend_on_behaviours,
+};
+pub use legal::is_spare;
 pub use sent::{Sent, SentList};
 pub use world::{BootFault, World, WorldFault};
