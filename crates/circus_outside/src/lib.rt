@@ -8,6 +8,7 @@
 //! - `sure_shelf` and `sure_sink` have forms in memory that never fail.
 //! - `streams` reads contents from any reader and gives pieces to any writer; `dir_shelf` and `std_sink` do so
 //!   with the real files and the standard output.
+//! - `udp_link` carries real datagrams.
 #![tactic(auto)]
 
 mod arrival;
@@ -24,6 +25,7 @@ mod std_sink;
 mod streams;
 mod sure_shelf;
 mod sure_sink;
+mod udp_link;
 
 pub use arrival::{Arrival, Arrivals};
 pub use calls::Failing;
@@ -39,3 +41,4 @@ pub use std_sink::StdSink;
 pub use streams::{LONGEST_CONTENTS, read_contents, write_piece};
 pub use sure_shelf::SureShelf;
 pub use sure_sink::SureSink;
+pub use udp_link::UdpLink;
