@@ -5,12 +5,11 @@ ghost use Rattle.circus_collate.specs.Deployment.{IsDeployment};
 ghost use Rattle.circus_idl.specs.Obeys.{Obeys};
 ghost use Rattle.circus_check.specs.Seen.Meant.{module_as};
 ghost use Rattle.circus_check.specs.WellFormed.{AreWellFormed};
-ghost use Rattle.circus_config.specs.Limits.{limit_of};
 ghost use Rattle.circus_config.specs.Program.{HaveTheirRoots};
 ghost use Rattle.circus_model.specs.Agree.{Agree};
 ghost use Rattle.circus_model.specs.Behaviour.{behaviours};
-ghost use Rattle.circus_modules.specs.Behaviours.{program_of};
 ghost use Rattle.circus_node.specs.Booting.{AreOfTroupes};
+ghost use Rattle.circus_load.specs.Loaded.{behaviours_in};
 
 use circus_check::Interfaces;
 use circus_collate::Deployment;
@@ -43,7 +42,7 @@ pub fn load(alloc: Global, plan: Plan) -> Result<Loaded, NoMemory>
 
     // The modules do what those of the file mean, agree, and are those of the troupes.
     ensures behave { IfOk result (λ loaded. behaviours ⟦<TextModule as circus_model::Module>⟧.declared ⟦<TextModule as circus_model::Module>⟧.turn ⟦<TextModule as circus_model::Module>⟧.first loaded.modules.items
-        ≡ program_of (limit_of plan.deployment.format) plan.checked.interfaces (map module_as plan.checked.modules)) }
+        ≡ behaviours_in plan) }
     ensures agree { IfOk result (λ loaded. Agree (behaviours ⟦<TextModule as circus_model::Module>⟧.declared ⟦<TextModule as circus_model::Module>⟧.turn ⟦<TextModule as circus_model::Module>⟧.first loaded.modules.items)) }
     ensures fit { IfOk result (λ loaded. AreOfTroupes loaded.deployment (map ⟦<TextModule as circus_model::Module>⟧.declared loaded.modules.items)) }
 {

@@ -1,4 +1,4 @@
-use Rattle.tests_nodes.proofs.Named.{nodes_ascii}
+use Rattle.circus_load.proofs.Named.{nodes_ascii}
 use Rattle.tests_nodes.proofs.program.Program.shown.Goals as goal
 
 pub show_member-requires-clause-nodes : goal.show_member-requires-clause-nodes

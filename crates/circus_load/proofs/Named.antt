@@ -9,8 +9,8 @@ use Rattle.std.proofs.lemmas.List.Elements.{All-from_recursion}
 use Rattle.std.proofs.lemmas.Option.{slice_get-get_or}
 use Rattle.std.proofs.lemmas.Str.Ascii.{IsAscii-from_all}
 use Rattle.circus_collate.specs.Deployment.{IsDeployment, is_word}
+use Rattle.circus_collate.specs.declared.deployment.Host.{Host}
 use Rattle.circus_collate.specs.declared.deployment.Deployment.{Deployment}
-use Rattle.circus_record.specs.Naming.{host_name}
 
 first_small : (b : ℕ) → is_ascii_alphabetic b ≡ true → b < 128
 first_small b is = grind (arith, nat_tests)
@@ -30,7 +30,7 @@ word_ascii (b ∷ bs) is =
     let (first, others) = and_parts (is_ascii_alphabetic b) (list_all is_ascii_alphanumeric bs) is in
     IsAscii-from_all (b ∷ bs) (All-from_recursion (λ c. c < 128) (b ∷ bs) (first_small b first, others_small bs others))
 
-pub nodes_ascii : (d : Deployment) → IsDeployment d → All (λ h. IsAscii (host_name h)) d.nodes
+pub nodes_ascii : (d : Deployment) → IsDeployment d → All (λ (h : Host). IsAscii h.name) d.nodes
 nodes_ascii d is = λ k other within.
     let host = get_or d.nodes k other in
     word_ascii host.name (is.nodes k host (slice_get-get_or d.nodes k other within)).name
