@@ -1,7 +1,7 @@
 -- How a call of the command ends.
 use Rattle.std.specs.Prelude.{ℕ, Bool, true, false}
 use Rattle.circus_ending.specs.declared.status.Status.{Status}
-use Rattle.circus_ending.specs.declared.status.Status.TheVariants.{Done, BadCommandLine, BadProgram, BadSchedule, ShelfFault, SinkFault, NoMemory, Spent, NotBuilt, BadPlacing, NoPlacement}
+use Rattle.circus_ending.specs.declared.status.Status.TheVariants.{Done, BadCommandLine, BadProgram, BadSchedule, ShelfFault, SinkFault, LinkFault, NoMemory, Spent, NotBuilt, BadPlacing, NoPlacement}
 
 -- the number that the program ends with
 abbrev pub code_of : Status → ℕ
@@ -11,6 +11,7 @@ code_of BadProgram = 2
 code_of BadSchedule = 3
 code_of ShelfFault = 4
 code_of SinkFault = 5
+code_of LinkFault = 6
 code_of NoMemory = 7
 code_of Spent = 8
 code_of NotBuilt = 9
@@ -25,6 +26,7 @@ is_end BadProgram = true
 is_end BadSchedule = true
 is_end ShelfFault = false
 is_end SinkFault = false
+is_end LinkFault = true
 is_end NoMemory = false
 is_end Spent = true
 is_end NotBuilt = true

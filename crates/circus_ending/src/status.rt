@@ -16,6 +16,8 @@ pub enum Status {
     ShelfFault = 4,
     /// The sink failed.
     SinkFault = 5,
+    /// The link failed.
+    LinkFault = 6,
     /// There is no memory.
     NoMemory = 7,
     /// A node has no number left for a call to another one.

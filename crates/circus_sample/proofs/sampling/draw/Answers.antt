@@ -1,0 +1,63 @@
+use Rattle.std.proofs.Common.{◌+◌, ◌-◌, suc, Err, sym, ap, subst, ◌∙◌, arith, zero-add}
+use Rattle.std.proofs.lemmas.Result.{err_from_is_err_and}
+use Rattle.circus_sample.specs.Sampled.{sampled}
+use Rattle.circus_sample.specs.Answers.{IsSampled}
+use Rattle.circus_sample.proofs.Possible.{named, legal}
+use Rattle.circus_sample.proofs.Drawing.{next_is, kept, left_behind, goes_on, ends}
+use Rattle.circus_sample.proofs.sampling.draw.Goals as goal
+
+pub loop-init : goal.loop-init
+loop-init g c =
+    record {
+      live = c.requires.live;
+      spares = c.requires.spares;
+      few = c.requires.few;
+      same = λ left all. ap (λ k. sampled g.M.Module.declared g.M.Module.turn k c.args.seed c.args.world) (sym (zero-add left) ∙ all);
+    }
+
+pub step-requires-clause-named : goal.step-requires-clause-named
+step-requires-clause-named g c =
+    let is = next_is c.loop.word c.next_word-word.result c.facts_of.result c.loop.world c.sample_line-line.result
+    c.next_word-word.ensures c.facts_of.ensures.facts c.sample_line-line.ensures.drawn c.sample_line-line.ensures.possible in
+    named c.loop.world c.sample_line-line.result is.possible
+
+pub step-requires-clause-legal : goal.step-requires-clause-legal
+step-requires-clause-legal g c =
+    let is = next_is c.loop.word c.next_word-word.result c.facts_of.result c.loop.world c.sample_line-line.result
+    c.next_word-word.ensures c.facts_of.ensures.facts c.sample_line-line.ensures.drawn c.sample_line-line.ensures.possible in
+    legal c.loop.world c.sample_line-line.result c.loop.invariant.live is.possible
+
+pub returns-in_err-world : goal.returns-in_err-world
+returns-in_err-world g c =
+    let declared = g.M.Module.declared in
+    let turn = g.M.Module.turn in
+    let line = c.sample_line-line.result in
+    let is = next_is c.loop.word c.next_word-word.result c.facts_of.result c.loop.world line
+    c.next_word-word.ensures c.facts_of.ensures.facts c.sample_line-line.ensures.drawn c.sample_line-line.ensures.possible in
+    let left = c.args.steps - (c.loop.counter + 1) in
+    let same = c.loop.invariant.same (suc left) (omega (arith, c.loop-test.true)) in
+    let end = err_from_is_err_and c.from_residual.result c.from_residual.ensures.1 in
+    subst (λ r. IsSampled declared turn c.args.steps c.args.seed c.args.world r) (sym end.1)
+    (subst (λ f. IsSampled declared turn c.args.steps c.args.seed c.args.world (Err f)) (sym end.2)
+    (ends declared turn left c.loop.word c.loop.world line c.args.steps c.args.seed c.args.world c.in_err-world.field-0.0 is c.in_err-world.ensures same))
+
+pub loop-preserved : goal.loop-preserved
+loop-preserved g c =
+    let declared = g.M.Module.declared in
+    let turn = g.M.Module.turn in
+    let line = c.sample_line-line.result in
+    let next = c.in_ok-world.world in
+    let is = next_is c.loop.word c.next_word-word.result c.facts_of.result c.loop.world line
+    c.next_word-word.ensures c.facts_of.ensures.facts c.sample_line-line.ensures.drawn c.sample_line-line.ensures.possible in
+    let keeps = kept declared turn c.loop.word c.loop.world next line is c.loop.invariant.live c.in_ok-world.ensures in
+    record {
+      live = keeps.none;
+      spares = left_behind line c.loop.spares.now c.left_by-spares.result.now c.loop.world next c.loop.invariant.spares c.left_by-spares.ensures keeps;
+      few = omega (arith, keeps.steps, c.loop.invariant.few);
+      same = λ left all.
+          goes_on declared turn left c.loop.word c.next_word-word.result c.loop.world next line (sampled declared turn c.args.steps c.args.seed c.args.world)
+          is c.next_word-word.ensures c.in_ok-world.ensures (c.loop.invariant.same (suc left) (omega (arith, all)));
+    }
+
+pub returns : goal.returns
+returns g c = sym (c.loop.invariant.same 0 (omega (arith, c.loop-test.false, c.loop.auto.counter-end)))

@@ -1,0 +1,4 @@
+pub mod Sampled
+pub mod Summary
+pub mod Answers
+pub mod Seen

@@ -1,0 +1,35 @@
+-- A sample: lines that a word draws, each by what the world is then.
+use Rattle.std.specs.Prelude.{ℕ, zero, suc, ◌+◌, ◌≡◌, false, not, ◌&&◌, if◌then◌else◌, List, [], ◌∷◌, length, slice_get, All, None, Ok}
+use Rattle.circus_value.specs.ValueTree.{ValueTree}
+use Rattle.circus_value.specs.declared.outcome.Outcome.{Outcome}
+use Rattle.circus_collate.specs.declared.deployment.Deployment.{Deployment}
+use Rattle.circus_model.specs.NextTurn.{NextTurn}
+use Rattle.circus_model.specs.declared.signature.Signature.{Signature}
+use Rattle.circus_schedule.specs.declared.sample.Facts.{Facts}
+use Rattle.circus_schedule.specs.Sampling.{word_behind, line_drawn}
+use Rattle.circus_world.specs.WorldState.{WorldState, Standing}
+use Rattle.circus_world.specs.Legal.{is_spare}
+use Rattle.circus_world.specs.Course.{Stepped, stepped}
+use Rattle.circus_world.specs.Boot.{then_others}
+
+module _ {M : Type 0} where
+  -- the spares that weren't told to join, of nodes from this number on
+  abbrev pub spares_from : Deployment → ℕ → List (Standing M) → List ℕ
+  spares_from d number [] = []
+  spares_from d number (s ∷ nodes) =
+      if is_spare d number && not s.joins then number ∷ spares_from d (number + 1) nodes else spares_from d (number + 1) nodes
+
+  -- what a line is drawn by
+  abbrev pub facts_of : WorldState M → Facts
+  facts_of w = record { sent = length w.sent; nodes = length w.nodes; spare = slice_get (spares_from w.deployment 0 w.nodes) 0 }
+
+  -- no node has crashed or was told to join, as at boot
+  abbrev pub IsUntouched : WorldState M → Type 0
+  IsUntouched w = All (λ s. (s.crashed ≡ None) × (s.joins ≡ false)) w.nodes
+
+module _ {M : Type 0} (declared : M → Signature) (turn : M → List ValueTree → ℕ → List ValueTree → List Outcome → NextTurn) where
+  -- so many lines behind a word
+  abbrev pub sampled : ℕ → ℕ → WorldState M → Stepped M
+  sampled zero word w = Ok w
+  sampled (suc left) word w =
+      then_others (sampled left (word_behind word)) (stepped declared turn (line_drawn (word_behind word) (facts_of w)) w)

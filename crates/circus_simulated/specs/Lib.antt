@@ -1,0 +1,3 @@
+pub mod Booted
+pub mod Sample
+pub mod Seen

@@ -1,0 +1,63 @@
+// A sample of a program.
+ghost use Rattle.std.specs.Prelude.{◌≡◌, All, IsAscii, IsTrue, map, IfOk};
+ghost use Rattle.std.specs.List.{AllByRecursion};
+ghost use Rattle.circus_collate.specs.Deployment.{IsDeployment};
+ghost use Rattle.circus_idl.specs.Obeys.{Obeys};
+ghost use Rattle.circus_check.specs.Seen.Meant.{module_as};
+ghost use Rattle.circus_check.specs.WellFormed.{AreWellFormed};
+ghost use Rattle.circus_config.specs.Program.{HaveTheirRoots};
+ghost use Rattle.circus_ending.specs.Status.{is_end};
+ghost use Rattle.circus_ending.specs.Seen.Ending.{ending_of};
+ghost use Rattle.circus_record.specs.Naming.{names_of};
+ghost use Rattle.circus_simulated.specs.Sample.{sample_in, sample_of};
+ghost use Rattle.circus_simulated.specs.Seen.Simulated.{world_of, IsFresh};
+
+use crate::{Simulated, boot_plan};
+use circus_config::Plan;
+use circus_ending::{Ending, Status, spent};
+use circus_sample::{SampleFault, sample, show_sample};
+use circus_value::NoMemory;
+use std::alloc::{AllocError, Global};
+
+/// What comes of so many steps that a seed draws (docs/FORMATS.md, "Samples"): the summary, or that a node has no number
+/// left for another one. `NoMemory` is the one fault.
+pub fn sample_plan(alloc: Global, plan: Plan, seed: u64, steps: u32) -> Result<Ending, NoMemory>
+    requires obey { AllByRecursion Obeys plan.checked.interfaces }
+    requires well_formed { AreWellFormed plan.checked.interfaces (map module_as plan.checked.modules) }
+    requires deployed { IsDeployment plan.deployment }
+    requires roots { HaveTheirRoots plan }
+    requires named { All IsAscii plan.names }
+    ensures ending { IfOk result (λ ending. ending_of ending ≡ sample_of plan seed steps) }
+    ensures status { IfOk result (λ ending. IsTrue (is_end ending.status)) }
+{
+    match boot_plan(alloc, plan)? {
+        Ok(simulated) => sample_world(alloc, simulated, seed, steps),
+        Err(ending) => Ok(ending),
+    }
+}
+
+// What comes of a sample of a world that has just booted.
+fn sample_world(
+    alloc: Global,
+    simulated: Simulated,
+    seed: u64,
+    steps: u32,
+) -> Result<Ending, NoMemory>
+    requires { IsFresh simulated }
+    ensures ending { IfOk result (λ ending. ending_of ending ≡ sample_in (names_of simulated.hosts simulated.names) seed steps (world_of simulated.world)) }
+    ensures status { IfOk result (λ ending. IsTrue (is_end ending.status)) }
+{
+    let Simulated {
+        world,
+        hosts,
+        names: _,
+    } = simulated;
+    match sample(alloc, world, seed, steps) {
+        Ok(world) => Ok(Ending {
+            status: Status::Done,
+            text: show_sample(alloc, &world, steps)?,
+        }),
+        Err(SampleFault::NoMemory) => Err(AllocError),
+        Err(SampleFault::Spent(node, peer)) => spent(alloc, &hosts, node, peer),
+    }
+}

@@ -1,0 +1,61 @@
+// The world of a plan at boot.
+ghost use Rattle.std.specs.Prelude.{◌≡◌, ℕ, All, IsAscii, Ok, Err, map, IfOk, IfErr};
+ghost use Rattle.std.specs.List.{AllByRecursion};
+ghost use Rattle.circus_collate.specs.Deployment.{IsDeployment};
+ghost use Rattle.circus_idl.specs.Obeys.{Obeys};
+ghost use Rattle.circus_check.specs.Seen.Meant.{module_as};
+ghost use Rattle.circus_check.specs.WellFormed.{AreWellFormed};
+ghost use Rattle.circus_config.specs.Program.{HaveTheirRoots};
+ghost use Rattle.circus_ending.specs.Spent.{spent as spent_end};
+ghost use Rattle.circus_ending.specs.Seen.Ending.{ending_of};
+ghost use Rattle.circus_simulated.specs.Booted.{booted, names_in};
+ghost use Rattle.circus_simulated.specs.Seen.Simulated.{world_of, IsOfPlan};
+
+use circus_collate::Hosts;
+use circus_config::{Names, Plan};
+use circus_ending::{Ending, Status, spent};
+use circus_load::{Loaded, load};
+use circus_machine::TextModule;
+use circus_value::{Duplicate, NoMemory};
+use circus_world::{BootFault, World};
+use std::alloc::{AllocError, Global};
+
+/// A world at boot, and the names of its nodes by their hosts and of its modules.
+#[derive(Drop)]
+pub struct Simulated {
+    pub world: World<TextModule>,
+    pub hosts: Hosts,
+    pub names: Names,
+}
+
+/// The world of a plan that was read of a file, at boot, or the end where a node has no number left then. `NoMemory` is the
+/// one fault.
+pub fn boot_plan(alloc: Global, plan: Plan) -> Result<Result<Simulated, Ending>, NoMemory>
+    requires obey { AllByRecursion Obeys plan.checked.interfaces }
+    requires well_formed { AreWellFormed plan.checked.interfaces (map module_as plan.checked.modules) }
+    requires deployed { IsDeployment plan.deployment }
+    requires roots { HaveTheirRoots plan }
+    requires named { All IsAscii plan.names }
+    ensures world { IfOk result (λ boot. IfOk boot (λ simulated. booted plan ≡ Ok (world_of simulated.world))) }
+    ensures plan { IfOk result (λ boot. IfOk boot (IsOfPlan plan)) }
+    ensures ended { IfOk result (λ boot. IfErr boot (λ ending.
+        (nodes : ℕ × ℕ) × (booted plan ≡ Err nodes) × (ending_of ending ≡ spent_end (names_in plan) nodes))) }
+    ensures status { IfOk result (λ boot. IfErr boot (λ ending. ending.status ≡ Status.Spent)) }
+{
+    let Loaded {
+        deployment,
+        names,
+        interfaces: _,
+        modules,
+    } = load(alloc, plan)?;
+    let hosts = deployment.nodes.copy()?;
+    match World::boot(alloc, deployment, modules) {
+        Ok(world) => Ok(Ok(Simulated {
+            world,
+            hosts,
+            names,
+        })),
+        Err(BootFault::NoMemory) => Err(AllocError),
+        Err(BootFault::Spent(node, peer)) => Ok(Err(spent(alloc, &hosts, node, peer)?)),
+    }
+}
