@@ -1,0 +1,9 @@
+pub mod AskedLemmas
+pub mod EventLemmas
+pub mod GoneLemmas
+pub mod HappenedLemmas
+pub mod RunLemmas
+pub mod ServedLemmas
+pub mod SpareLemmas
+pub mod SuspectLemmas
+pub mod TakesLemmas

@@ -1,0 +1,77 @@
+// What happened to a node that is served.
+ghost use Rattle.std.specs.Prelude.{◌≡◌, ◌+◌, ◌≤◌, [], ◌∷◌, ◌++◌, length, IfOk, OnOk};
+ghost use Rattle.circus_outside.specs.Link.{LinkCounts};
+ghost use Rattle.circus_serve.specs.Happened.{all_given};
+ghost use Rattle.circus_serve.specs.Seen.Asking.{AreGiven};
+
+use crate::giving::give_all;
+use crate::{Happening, Happenings};
+use circus_collate::Deployment;
+use circus_node::{Differences, Event, Gives};
+use circus_outside::{Link, LinkFault};
+use circus_value::{Message, NoMemory};
+use std::alloc::Global;
+
+/// What happened so far, each thing once all that it gives was given, and the number of the next event.
+#[derive(Drop)]
+pub(crate) struct Log {
+    pub next: u64,
+    pub happened: Happenings,
+    ghost numbered: { next ≤ length happened },
+}
+
+impl Log {
+    /// The node has booted, and gives this.
+    pub fn begin<L: Link>(
+        alloc: Global,
+        gives: Gives,
+        deployment: &Deployment,
+        link: &mut L,
+    ) -> Result<Self, LinkFault>
+        ensures given { AreGiven
+            (record { bound = L.bound link.old; taken = L.taken link.old; given = L.given link.old })
+            (record { bound = L.bound link.new; taken = L.taken link.new; given = L.given link.new })
+            (all_given deployment.now gives) result }
+        ensures next { IfOk result (λ log. log.next ≡ 1) }
+        ensures happened { IfOk result (λ log. log.happened ≡ Happening.Booted gives ∷ []) }
+        ensures counts { LinkCounts result (L.faults link.old) (L.faults link.new) }
+    {
+        give_all(&gives, deployment, link)?;
+        let mut happened = Happenings::new(alloc);
+        happened.push(Happening::Booted(gives))?;
+        Ok(Log { next: 1, happened })
+    }
+
+    /// An event came, in which the node gives this, and replies differ so.
+    pub fn add_event<L: Link>(
+        &mut self,
+        event: Event,
+        gives: Gives,
+        differences: Differences,
+        deployment: &Deployment,
+        link: &mut L,
+    ) -> Result<(), LinkFault>
+        ensures given { AreGiven
+            (record { bound = L.bound link.old; taken = L.taken link.old; given = L.given link.old })
+            (record { bound = L.bound link.new; taken = L.taken link.new; given = L.given link.new })
+            (all_given deployment.now gives) result }
+        ensures next { OnOk result (self.new.next ≡ self.old.next + 1) }
+        ensures happened { OnOk result (self.new.happened ≡ self.old.happened ++ Happening.Stepped event gives differences ∷ []) }
+        ensures counts { LinkCounts result (L.faults link.old) (L.faults link.new) }
+    {
+        give_all(&gives, deployment, link)?;
+        let happening = Happening::Stepped(event, gives, differences);
+        self.happened.push(happening)?;
+        prove!(self.next < self.happened.len() as u64);
+        self.next += 1;
+        Ok(())
+    }
+
+    /// A datagram came from a port that is no other node's.
+    pub fn add_foreign(&mut self, port: u16, bytes: Message) -> Result<(), NoMemory>
+        ensures next { self.new.next ≡ self.old.next }
+        ensures happened { OnOk result (self.new.happened ≡ self.old.happened ++ Happening.Foreign port bytes ∷ []) }
+    {
+        self.happened.push(Happening::Foreign(port, bytes))
+    }
+}

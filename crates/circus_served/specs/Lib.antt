@@ -1,0 +1,4 @@
+pub mod Named
+pub mod Alike
+pub mod NodeEnds
+pub mod Seen

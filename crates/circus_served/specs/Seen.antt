@@ -1,0 +1,4 @@
+-- How code is seen.
+pub mod Called
+pub mod Ended
+pub mod Texts

@@ -1,0 +1,7 @@
+-- How a host is found by its name.
+use Rattle.std.specs.Prelude.{ℕ, Bool, List, bytes_eq}
+use Rattle.circus_collate.specs.declared.deployment.Host.{Host}
+use Rattle.circus_record.specs.Naming.{host_name}
+
+abbrev pub called : List ℕ → Host → Bool
+called name host = bytes_eq (host_name host) name
