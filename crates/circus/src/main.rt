@@ -1,8 +1,8 @@
-//! The command `circus`: it fetches the files of the folder that it is called in, and writes to the
-//! standard output. No datagram arrives at its link, which is one in memory.
+//! The command `circus`: it fetches the files of the folder that it is called in, writes to the standard output, and sends and
+//! receives datagrams by UDP on 127.0.0.1.
 #![tactic(auto)]
 
-use circus_outside::{Arrivals, DirShelf, Failing, MemLink, StdSink};
+use circus_outside::{DirShelf, StdSink, UdpLink};
 use circus_program::{Status, circus};
 use circus_value::NoMemory;
 use std::alloc::Global;
@@ -28,10 +28,10 @@ fn words(rt: &HostRuntime, alloc: Global) -> Result<Vec<String>, NoMemory> {
     }
 }
 
-// Runs these words over the real shelf and sink.
+// Runs these words over the real shelf, sink and link.
 fn run(rt: &HostRuntime, alloc: Global, words: &[String]) -> u8 {
     let mut shelf = DirShelf::new(alloc, rt);
     let mut sink = StdSink::new(alloc, rt);
-    let mut link = MemLink::new(alloc, Arrivals::new(alloc), Failing::new(alloc));
+    let mut link = UdpLink::new(alloc, rt);
     circus(alloc, words, &mut shelf, &mut sink, &mut link)
 }

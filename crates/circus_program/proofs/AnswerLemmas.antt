@@ -5,8 +5,9 @@ use Rattle.circus_outside.specs.Told.{told_more}
 use Rattle.circus_program.specs.declared.answer.Step.{Step}
 use Rattle.circus_config.specs.declared.plan.Plan.{Plan}
 use Rattle.circus_config.specs.Program.{IsProgramOf}
-use Rattle.circus_program.specs.Answer.{Due, IsDueOfReplay, AreFetchedOf, AsksFirstOf}
-use Rattle.circus_program.specs.Seen.Step.{due_of, IsDueBehind, IsStepBehind, IsStepOfProgram, IsStepOfReplay}
+use Rattle.circus_program.specs.declared.answer.Step.TheVariants.{Finish, Lack, Replay, Serve}
+use Rattle.circus_program.specs.Answer.{Due, IsDueOfReplay, IsDueOfBytes, AreFetchedOf, AsksFirstOf}
+use Rattle.circus_program.specs.Seen.Step.{due_of, LacksNone, IsLackNoted, IsDueBehind, IsStepBehind, IsStepOfProgram, IsStepOfReplay, IsStepOfPlan}
 use Rattle.circus_running.proofs.ToldLemmas.{told_more-twice}
 
 -- nothing was fetched
@@ -55,3 +56,21 @@ asks-more old middle new name names e h =
       whole = ap (λ l. name ∷ l) h.whole;
       noted = h.noted ∙ ap (λ told. told_more told h.asked) e ∙ told_more-twice old (name ∷ []) h.asked;
     }
+
+-- a step behind the bytes of a program is one of its form
+pub step-of_plan : (shelf : Option (List ℕ → Option (List ℕ))) (program bytes : List ℕ) (IsNext : Plan → Due → Type 0) (due : Due) → IfSome shelf (λ told. told program ≡ Some bytes) → IsDueOfBytes IsNext bytes due
+    → IsStepOfPlan shelf program IsNext due
+step-of_plan shelf program bytes IsNext due told is = record { files = bytes ∷ []; fetched = fetched-more shelf program bytes [] [] told (fetched-none shelf []); is_due = is }
+
+-- what comes of the plan of a program is due of its bytes
+pub bytes-good : {E : Type 0} (program : List ℕ) (plan : Plan) (IsNext : Plan → Due → Type 0) (r : Result Step E) → IsProgramOf program plan
+    → IfOk r (λ step. IsNext plan (due_of step)) → IfOk r (λ step. IsDueOfBytes IsNext program (due_of step))
+bytes-good program plan IsNext (Ok step) means is = inl (plan, means, is)
+bytes-good program plan IsNext (Err e) means is = tt
+
+-- what lacks no file has none to note
+pub noted-none : (fetched : Option (List (List ℕ))) (old new : ℕ) (step : Step) → LacksNone step → IsLackNoted fetched old new step
+noted-none fetched old new (Finish ending) none = tt
+noted-none fetched old new (Lack name) none = absurd none
+noted-none fetched old new (Replay ready) none = tt
+noted-none fetched old new (Serve plan node turns) none = tt

@@ -25,7 +25,8 @@ use Rattle.circus_running.specs.Writing.{Writes, WritesPart}
 use Rattle.circus_ending.specs.declared.status.Status.{Status}
 use Rattle.circus_ending.specs.declared.status.Status.TheVariants.{Done, SinkFault, NoMemory}
 use Rattle.circus_ending.specs.Ending.{Ending}
-use Rattle.circus_program.specs.Replay.{cause_text, refused, spent, behind, replayed, replayed_whole}
+use Rattle.circus_ending.specs.Spent.{spent}
+use Rattle.circus_program.specs.Replay.{cause_text, refused, behind, replayed, replayed_whole}
 use Rattle.circus_program.specs.Seen.Put.{IsPutEnd}
 use Rattle.circus_program.specs.Seen.Ended.{IsEndedBy}
 use Rattle.circus_running.proofs.ToldLemmas.{WritesPart-none}

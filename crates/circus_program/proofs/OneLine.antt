@@ -13,7 +13,9 @@ use Rattle.circus_world.specs.Legal.{refusal}
 use Rattle.circus_world.specs.Course.{Stepped, stepped}
 use Rattle.circus_running.specs.Run.{sent_from}
 use Rattle.circus_ending.specs.Ending.{Ending}
-use Rattle.circus_program.specs.Replay.{cause_text, refused, spent, behind, after_step, replayed}
+use Rattle.circus_ending.specs.Spent.{spent}
+use Rattle.circus_simulated.specs.Booted.{after_step}
+use Rattle.circus_program.specs.Replay.{cause_text, refused, behind, replayed}
 
 module _ {M : Type 0} (declared : M → Signature) (turn : M → List ValueTree → ℕ → List ValueTree → List Outcome → NextTurn) where
   -- what comes after it

@@ -6,14 +6,25 @@ use Rattle.circus_ending.specs.declared.ending.Ending as coded
 use Rattle.circus_ending.specs.Seen.Ending.{ending_of}
 use Rattle.circus_running.specs.Writing.{Writes, WritesPart}
 use Rattle.circus_running.proofs.ToldLemmas.{told_more-nil, Writes-joined, WritesPart-none, WritesPart-longer, WritesPart-joined}
+use Rattle.circus_config.specs.declared.plan.Plan.{Plan}
+use Rattle.circus_serve.specs.Outside.{Tells}
+use Rattle.circus_served.specs.NodeEnds.{IsEndOfServing}
+use Rattle.circus_program.specs.declared.answer.Step.TheVariants.{Serve}
 use Rattle.circus_program.specs.Replay.{behind}
 use Rattle.circus_program.specs.Seen.Put.{IsPutEnd, IsPutIfEnd}
+use Rattle.circus_program.specs.Seen.Step.{IsPutStep}
 
 -- an end for which there may be no memory
 pub put-if : {E : Type 0} (r : Result coded.Ending E) (end : Ending) (old new : Option (List ℕ)) (before after : ℕ) (result : Status)
     → IfOk r (λ ending. ending_of ending ≡ end) → IsPutIfEnd r old new before after result → IsPutEnd end old new before after result
 put-if (Ok ending) end old new before after result is put = subst (λ (e : Ending). IsPutEnd e old new before after result) is put
 put-if (Err refused) end old new before after result is (none, same) = inr (inr (none, WritesPart-none old new end.text same))
+
+-- the end of a node that was served, for which there may be no memory
+pub put-served : {E : Type 0} (r : Result coded.Ending E) (plan : Plan) (number turns : ℕ) (told tells : Tells) (old new : Option (List ℕ)) (before after : ℕ) (result : Status)
+    → IfOk r (λ ending. IsEndOfServing plan number turns told tells (ending_of ending)) → IsPutIfEnd r old new before after result → IsPutStep told tells (Serve plan number turns) old new before after result
+put-served (Ok ending) plan number turns told tells old new before after result served put = inl (ending_of ending, served, put)
+put-served (Err refused) plan number turns told tells old new before after result served put = inr put
 
 -- ---- what is left of an end
 

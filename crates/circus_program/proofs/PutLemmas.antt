@@ -2,19 +2,26 @@
 use Rattle.std.proofs.Common.{◌≡◌, ℕ, ◌⊎◌, ◌==◌, false, if◌then◌else◌, Option, List, sym, subst, ap, ◌∙◌, inl, inr, refl}
 use Rattle.std.specs.Prelude.{IsTrue}
 use Rattle.circus_ending.specs.declared.status.Status.{Status}
-use Rattle.circus_ending.specs.declared.status.Status.TheVariants.{Done, BadCommandLine, BadProgram, BadSchedule, ShelfFault, SinkFault, NoMemory, Spent, NotBuilt, BadPlacing, NoPlacement}
+use Rattle.circus_ending.specs.declared.status.Status.TheVariants.{Done, BadCommandLine, BadProgram, BadSchedule, ShelfFault, SinkFault, LinkFault, NoMemory, Spent, NotBuilt, BadPlacing, NoPlacement}
 use Rattle.circus_ending.specs.Status.{code_of, is_end}
 use Rattle.circus_outside.specs.Faults.{Rose}
 use Rattle.circus_running.specs.Writing.{Writes, WritesPart}
 use Rattle.circus_program.specs.declared.answer.Step.{Step}
-use Rattle.circus_program.specs.declared.answer.Step.TheVariants.{Finish, Lack, Replay}
-use Rattle.circus_program.specs.Answer.{Finishes, Lacks, IsText, IsDue, WasLast, WritesEnd, shelf_fault}
-use Rattle.circus_program.specs.Seen.Put.{IsPut, IsPutEnd, IsFinished, IsAnswer}
+use Rattle.circus_program.specs.declared.answer.Step.TheVariants.{Finish, Lack, Replay, Serve}
+use Rattle.circus_ending.specs.Ending.{Ending}
+use Rattle.circus_ending.specs.Seen.Ending.{ending_of}
+use Rattle.circus_config.specs.declared.plan.Plan.{Plan}
+use Rattle.circus_serve.specs.Outside.{Tells}
+use Rattle.circus_simulated.specs.Seen.Simulated.{world_of}
+use Rattle.circus_served.specs.NodeEnds.{IsEndOfServing}
+use Rattle.circus_program.specs.Answer.{AsksForNode, finish, Finishes, Lacks, IsText, IsDue, WasLast, WritesEnd, shelf_fault}
+use Rattle.circus_program.specs.Seen.Put.{IsPut, IsFinished, IsAnswer}
 use Rattle.circus_record.specs.Naming.{names_of}
-use Rattle.circus_program.specs.Seen.Ready.{world_of, end_of_ready}
-use Rattle.circus_program.specs.Seen.Step.{due_of, written_of, Stands, IsLackNoted}
+use Rattle.circus_program.specs.Seen.Ready.{end_of_ready}
+use Rattle.circus_program.specs.Seen.Step.{due_of, IsWrittenOf, IsPutStep, IsServing, Stands, IsLackNoted}
 use Rattle.circus_running.proofs.ToldLemmas.{WritesPart-all}
 use Rattle.circus_program.proofs.ReplayEnds.{lines_are_end}
+use Rattle.circus_program.proofs.DueKinds.{never_linked, serves_asked}
 
 -- the status with a number
 status_of : ℕ → Status
@@ -25,11 +32,12 @@ status_of n =
     else (if n == 3 then BadSchedule
     else (if n == 4 then ShelfFault
     else (if n == 5 then SinkFault
+    else (if n == 6 then LinkFault
     else (if n == 7 then NoMemory
     else (if n == 8 then Spent
     else (if n == 9 then NotBuilt
     else (if n == 11 then BadPlacing
-    else NoPlacement)))))))))
+    else NoPlacement))))))))))
 
 status_of-code_of : (s : Status) → status_of (code_of s) ≡ s
 unfolding status_of
@@ -39,6 +47,7 @@ status_of-code_of BadProgram = refl
 status_of-code_of BadSchedule = refl
 status_of-code_of ShelfFault = refl
 status_of-code_of SinkFault = refl
+status_of-code_of LinkFault = refl
 status_of-code_of NoMemory = refl
 status_of-code_of Spent = refl
 status_of-code_of NotBuilt = refl
@@ -52,6 +61,20 @@ one_status s t code is also = sym (status_of-code_of s) ∙ ap status_of (sym is
 -- what is no end
 no_end : (s : Status) → is_end s ≡ false → IsTrue (is_end s) → ⊥
 no_end s is_none is_one = cc
+
+-- an end of a node that is served
+serving_is_end : (plan : Plan) (number turns : ℕ) (told tells : Tells) (ending : Ending) → IsEndOfServing plan number turns told tells ending → IsTrue (is_end ending.status)
+serving_is_end plan number turns told tells ending (inl (boot, booted, inl (recorded, served, is))) = ap (λ (e : Ending). is_end e.status) is
+serving_is_end plan number turns told tells ending (inl (boot, booted, inr (inl (peer, spent, is)))) = ap (λ (e : Ending). is_end e.status) is
+serving_is_end plan number turns told tells ending (inl (boot, booted, inr (inr (failed, is)))) = ap (λ (e : Ending). is_end e.status) is
+serving_is_end plan number turns told tells ending (inr (peer, booted, same, is)) = ap (λ (e : Ending). is_end e.status) is
+
+-- words that ask for no node serve none
+pub unserved : (shelf : Option (List ℕ → Option (List ℕ))) (words : List (List ℕ)) (step : Step) → IsDue shelf words (due_of step) → (AsksForNode words → ⊥) → IsServing step → ⊥
+unserved shelf words (Finish ending) due none serving = serving
+unserved shelf words (Lack name) due none serving = serving
+unserved shelf words (Replay ready) due none serving = serving
+unserved shelf words (Serve plan number turns) due none serving = none (serves_asked shelf words plan number turns due)
 
 -- ---- what is put, and given on
 
@@ -75,97 +98,137 @@ given s status result text old middle new before between after (inr (inl (failed
 given s status result text old middle new before between after (inr (inr (none, part))) told stopped finished =
     inr (inr ((stopped (inr none)).0 ∙ none, subst (λ (n : Option (List ℕ)). WritesPart old n text) (sym told) part))
 
+-- the status of a link that failed is that of what was put
+linked_as : (status : Status) (SinkRose : Type 0) (result : Status) → IsFinished status SinkRose result → result ≡ LinkFault → status ≡ LinkFault
+linked_as status SinkRose result (inl stands) failed = sym stands ∙ failed
+linked_as status SinkRose result (inr (inl (stopped, rose))) failed = let clash : SinkFault ≡ LinkFault = sym stopped ∙ failed in absurd (cc)
+linked_as status SinkRose result (inr (inr none)) failed = let clash : NoMemory ≡ LinkFault = sym none ∙ failed in absurd (cc)
+
 -- ---- the clauses
 
-module _ (shelf : Option (List ℕ → Option (List ℕ))) (words : List (List ℕ)) (fetched : Option (List (List ℕ))) (ShelfRose : Type 0) (old new : Option (List ℕ)) (SinkRose : Type 0) where
+module _ (shelf : Option (List ℕ → Option (List ℕ))) (words : List (List ℕ)) (fetched : Option (List (List ℕ))) (ShelfRose : Type 0) (told tells : Tells) (LinkRose : Type 0) (old new : Option (List ℕ)) (SinkRose : Type 0) where
+  -- the clauses of an answer
+  abbrev pub Answers : Status → Type 0
+  Answers result = IsAnswer shelf words fetched ShelfRose told tells LinkRose old new SinkRose result
+
   -- a part of a text that is due was written, and the sink failed
-  answer-stopped : (text : List ℕ) → IsText shelf words fetched ShelfRose text → WritesPart old new text → SinkRose → IsAnswer shelf words fetched ShelfRose old new SinkRose SinkFault
+  answer-stopped : (text : List ℕ) → IsText shelf words told tells fetched ShelfRose text → WritesPart old new text → SinkRose → Answers SinkFault
   answer-stopped text due part rose =
       record {
         ended = λ is_one. absurd (no_end SinkFault refl is_one);
         lacked = λ same. cc;
         shelf_rose = λ same. cc;
+        link_rose = λ same. cc;
         stopped = λ same. inl (text, due, part);
         sink_rose = λ same. rose;
         no_memory = λ same. cc;
       }
 
   -- a part was written, and there was no memory
-  answer-unfinished : (text : List ℕ) → IsText shelf words fetched ShelfRose text → WritesPart old new text → IsAnswer shelf words fetched ShelfRose old new SinkRose NoMemory
+  answer-unfinished : (text : List ℕ) → IsText shelf words told tells fetched ShelfRose text → WritesPart old new text → Answers NoMemory
   answer-unfinished text due part =
       record {
         ended = λ is_one. absurd (no_end NoMemory refl is_one);
         lacked = λ same. cc;
         shelf_rose = λ same. cc;
+        link_rose = λ same. cc;
         stopped = λ same. cc;
         sink_rose = λ same. cc;
         no_memory = λ same. inl (text, due, part);
       }
 
   -- the end that is due was written
-  answer-ended : (status : Status) (text : List ℕ) → IsTrue (is_end status) → Finishes shelf words status text → Writes old new text → IsAnswer shelf words fetched ShelfRose old new SinkRose status
-  answer-ended status text is_one due written =
+  answer-ended : (status : Status) (text : List ℕ) → IsTrue (is_end status) → (status ≡ LinkFault → LinkRose) → Finishes shelf words told tells status text → Writes old new text → Answers status
+  answer-ended status text is_one linked due written =
       let other : (s : Status) → is_end s ≡ false → status ≡ s → ⊥ = λ s is_none same. no_end s is_none (subst (λ (t : Status). IsTrue (is_end t)) same is_one) in
       record {
         ended = λ _. (text, due, written);
         lacked = λ same. absurd (other ShelfFault refl same);
         shelf_rose = λ same. absurd (other ShelfFault refl same);
+        link_rose = linked;
         stopped = λ same. absurd (other SinkFault refl same);
         sink_rose = λ same. absurd (other SinkFault refl same);
         no_memory = λ same. absurd (other NoMemory refl same);
       }
 
   -- the name of a file that was lacking was written
-  answer-lacked : (name : List ℕ) → Lacks shelf words name → WasLast fetched name → ShelfRose → Writes old new (shelf_fault name) → IsAnswer shelf words fetched ShelfRose old new SinkRose ShelfFault
+  answer-lacked : (name : List ℕ) → Lacks shelf words name → WasLast fetched name → ShelfRose → Writes old new (shelf_fault name) → Answers ShelfFault
   answer-lacked name due last rose written =
       record {
         ended = λ is_one. absurd (no_end ShelfFault refl is_one);
         lacked = λ same. (name, due, last, written);
         shelf_rose = λ same. rose;
+        link_rose = λ same. cc;
         stopped = λ same. cc;
         sink_rose = λ same. cc;
         no_memory = λ same. cc;
       }
 
   -- an answer is that of the status that was put
-  put_as : (s result : Status) → result ≡ s → IsAnswer shelf words fetched ShelfRose old new SinkRose s → IsAnswer shelf words fetched ShelfRose old new SinkRose result
-  put_as s result is answer = subst (λ (t : Status). IsAnswer shelf words fetched ShelfRose old new SinkRose t) (sym is) answer
+  put_as : (s result : Status) → result ≡ s → Answers s → Answers result
+  put_as s result is answer = subst (λ (t : Status). Answers t) (sym is) answer
 
   -- the text of an end was given
-  answer-finish : (status result : Status) (text : List ℕ) → IsTrue (is_end status) → Finishes shelf words status text → IsGiven status text old new SinkRose result → IsAnswer shelf words fetched ShelfRose old new SinkRose result
-  answer-finish status result text is_one due (inl whole) = put_as status result whole.0 (answer-ended status text is_one due whole.1)
-  answer-finish status result text is_one due (inr (inl stopped)) =
+  answer-finish : (status result : Status) (text : List ℕ) → IsTrue (is_end status) → (result ≡ LinkFault → status ≡ LinkFault → LinkRose) → Finishes shelf words told tells status text → IsGiven status text old new SinkRose result → Answers result
+  answer-finish status result text is_one linked due (inl whole) = put_as status result whole.0 (answer-ended status text is_one (λ failed. linked (whole.0 ∙ failed) failed) due whole.1)
+  answer-finish status result text is_one linked due (inr (inl stopped)) =
       put_as SinkFault result stopped.0 (answer-stopped text (inl (status, due)) stopped.1 stopped.2)
-  answer-finish status result text is_one due (inr (inr unfinished)) =
+  answer-finish status result text is_one linked due (inr (inr unfinished)) =
       put_as NoMemory result unfinished.0 (answer-unfinished text (inl (status, due)) unfinished.1)
 
+  -- there was no memory for it
+  answer-nothing : (result : Status) → result ≡ NoMemory → new ≡ old → Answers result
+  answer-nothing result is same = put_as NoMemory result is (record {
+    ended = λ is_one. absurd (no_end NoMemory refl is_one);
+    lacked = λ clash. cc;
+    shelf_rose = λ clash. cc;
+    link_rose = λ clash. cc;
+    stopped = λ clash. cc;
+    sink_rose = λ clash. cc;
+    no_memory = λ own. inr same;
+  })
+
   -- the line of a file that was lacking was given
-  answer-lack : (result : Status) (name : List ℕ) → Lacks shelf words name → WasLast fetched name → ShelfRose → IsGiven ShelfFault (shelf_fault name) old new SinkRose result → IsAnswer shelf words fetched ShelfRose old new SinkRose result
+  answer-lack : (result : Status) (name : List ℕ) → Lacks shelf words name → WasLast fetched name → ShelfRose → IsGiven ShelfFault (shelf_fault name) old new SinkRose result → Answers result
   answer-lack result name due last rose (inl whole) = put_as ShelfFault result whole.0 (answer-lacked name due last rose whole.1)
   answer-lack result name due last rose (inr (inl stopped)) =
       put_as SinkFault result stopped.0 (answer-stopped (shelf_fault name) (inr (name, due, last, rose, refl)) stopped.1 stopped.2)
   answer-lack result name due last rose (inr (inr unfinished)) =
       put_as NoMemory result unfinished.0 (answer-unfinished (shelf_fault name) (inr (name, due, last, rose, refl)) unfinished.1)
 
+  -- an end that is due before any node is served
+  answer-end : (end ending : Ending) (result : Status) → IsTrue (is_end end.status) → IsDue shelf words (finish end) → ending ≡ end → tells ≡ told
+      → IsGiven ending.status ending.text old new SinkRose result → Answers result
+  answer-end end ending result is_one due is same given =
+      answer-finish end.status result end.text is_one (λ failed linked. absurd (never_linked shelf words end due linked)) (inl (due, same))
+      (subst (λ (e : Ending). IsGiven e.status e.text old new SinkRose result) is given)
+
   -- what a step comes to was given
-  answer-step : (step : Step) (before after : ℕ) (result : Status) → IsDue shelf words (due_of step) → Stands step → IsLackNoted fetched before after step
-      → (Rose before after → ShelfRose) → IsGiven (written_of step).status (written_of step).text old new SinkRose result → IsAnswer shelf words fetched ShelfRose old new SinkRose result
-  answer-step (Finish ending) before after result due stands noted rose given = answer-finish ending.status result ending.text stands due given
-  answer-step (Replay ready) before after result due stands noted rose given =
-      answer-finish (end_of_ready ready).status result (end_of_ready ready).text (lines_are_end (names_of ready.hosts ready.names) 1 ready.lines (world_of ready)) due given
-  answer-step (Lack name) before after result due stands noted rose given = answer-lack result name.now due noted.1 (rose noted.0) given
+  answer-step : (step : Step) (ending : Ending) (before after : ℕ) (result : Status) → IsDue shelf words (due_of step) → Stands step → IsLackNoted fetched before after step → (Rose before after → ShelfRose)
+      → (result ≡ LinkFault → IsServing step → LinkRose) → IsWrittenOf told tells step ending → IsGiven ending.status ending.text old new SinkRose result → Answers result
+  answer-step (Finish own) ending before after result due stands noted rose linked written given = answer-end (ending_of own) ending result stands due written.0 written.1 given
+  answer-step (Replay ready) ending before after result due stands noted rose linked written given =
+      answer-end (end_of_ready ready) ending result
+      (lines_are_end (names_of ready.simulated.hosts ready.simulated.names) 1 ready.lines (world_of ready.simulated.world)) due written.0 written.1 given
+  answer-step (Lack name) ending before after result due stands noted rose linked written given =
+      answer-lack result name.now due noted.1 (rose noted.0) (subst (λ (e : Ending). IsGiven e.status e.text old new SinkRose result) written.0 given)
+  answer-step (Serve plan number turns) ending before after result due stands noted rose linked written given =
+      answer-finish ending.status result ending.text (serving_is_end plan number turns told tells ending written) (λ failed same. linked failed tt) (inr (plan, number, turns, due, written)) given
 
   -- the end with a number was written
-  pub ended_as : (result s : Status) (code : ℕ) → IsAnswer shelf words fetched ShelfRose old new SinkRose result → code ≡ code_of result → IsTrue (is_end s) → code ≡ code_of s → WritesEnd shelf words old new s
+  pub ended_as : (result s : Status) (code : ℕ) → Answers result → code ≡ code_of result → IsTrue (is_end s) → code ≡ code_of s → WritesEnd shelf words told tells old new s
   ended_as result s code answer coded is_one is =
       let same : result ≡ s = one_status result s code coded is in
-      subst (λ (t : Status). WritesEnd shelf words old new t) same (answer.ended (subst (λ (t : Status). IsTrue (is_end t)) (sym same) is_one))
+      subst (λ (t : Status). WritesEnd shelf words told tells old new t) same (answer.ended (subst (λ (t : Status). IsTrue (is_end t)) (sym same) is_one))
 
-pub answered : (shelf : Option (List ℕ → Option (List ℕ))) (words : List (List ℕ)) (fetched : Option (List (List ℕ))) (step : Step) (asked asks : ℕ) (old middle new : Option (List ℕ)) (before between after : ℕ) (status result : Status)
+pub answered : (shelf : Option (List ℕ → Option (List ℕ))) (words : List (List ℕ)) (fetched : Option (List (List ℕ))) (step : Step) (asked asks : ℕ) (told tells : Tells) (LinkRose : Type 0) (old middle new : Option (List ℕ)) (before between after : ℕ) (status result : Status)
     → IsDue shelf words (due_of step) → Stands step → IsLackNoted fetched asked asks step
-    → IsPutEnd (written_of step) old middle before between status
+    → IsPutStep told tells step old middle before between status → (status ≡ LinkFault → IsServing step → LinkRose)
     → new ≡ middle → ((status ≡ SinkFault) ⊎ (status ≡ NoMemory) → (result ≡ status) × (after ≡ between)) → IsFinished status (Rose between after) result
-    → IsAnswer shelf words fetched (Rose asked asks) old new (Rose before after) result
-answered shelf words fetched step asked asks old middle new before between after status result due stands noted put told stopped finished =
-    answer-step shelf words fetched (Rose asked asks) old new (Rose before after) step asked asks result due stands noted (λ rose. rose)
-    (given (written_of step).status status result (written_of step).text old middle new before between after put told stopped finished)
+    → IsAnswer shelf words fetched (Rose asked asks) told tells LinkRose old new (Rose before after) result
+answered shelf words fetched step asked asks told tells LinkRose old middle new before between after status result due stands noted (inr (none, still)) linked same stopped finished =
+    answer-nothing shelf words fetched (Rose asked asks) told tells LinkRose old new (Rose before after) result ((stopped (inr none)).0 ∙ none) (same ∙ still)
+answered shelf words fetched step asked asks told tells LinkRose old middle new before between after status result due stands noted (inl (ending, written, put)) linked same stopped finished =
+    answer-step shelf words fetched (Rose asked asks) told tells LinkRose old new (Rose before after) step ending asked asks result due stands noted (λ rose. rose)
+    (λ failed. linked (linked_as status (Rose between after) result finished failed)) written
+    (given ending.status status result ending.text old middle new before between after put same stopped finished)

@@ -1,5 +1,5 @@
 -- What comes first of a replay.
-use Rattle.std.proofs.Common.{◌≡◌, ℕ, ◌≤◌, ◌⊎◌, inl, inr, List, length, Result, Ok, Err, IfOk, IfErr, sym, subst, ◌∙◌, arith}
+use Rattle.std.proofs.Common.{◌≡◌, ℕ, ◌≤◌, ◌⊎◌, inl, inr, List, length, Result, Ok, Err, IfOk, IfErr, sym, ap, subst, ◌∙◌, arith}
 use Rattle.std.proofs.lemmas.Slice.Zip.{AllZip-long}
 use Rattle.circus_schedule.specs.declared.line.Line.{Line}
 use Rattle.circus_schedule.specs.declared.schedule_fault.ScheduleFault.{ScheduleFault}
@@ -9,7 +9,15 @@ use Rattle.circus_schedule.specs.Meaning.{Numbers, numbers_of, IsReadAs}
 use Rattle.circus_schedule.specs.Answer.{IsAnswer}
 use Rattle.circus_config.specs.declared.plan.Plan.{Plan}
 use Rattle.circus_ending.specs.Ending.{Ending}
-use Rattle.circus_program.specs.Replay.{replay_of, IsReplayOf, IsEndOfReplay}
+use Rattle.circus_alike.specs.Alike.{declared_of, turn_of}
+use Rattle.circus_record.specs.Naming.{names_of}
+use Rattle.circus_ending.specs.Spent.{spent}
+use Rattle.circus_simulated.specs.Booted.{booted, names_in}
+use Rattle.circus_simulated.specs.Seen.Simulated.{world_of, IsOfPlan}
+use Rattle.circus_program.specs.declared.ready.Ready.{Ready}
+use Rattle.circus_program.specs.Replay.{replayed_whole, replay_of, IsReplayOf, IsEndOfReplay}
+use Rattle.circus_program.specs.Seen.Ready.{end_of_ready}
+use Rattle.circus_program.proofs.ReplayEnds.{from_boot}
 
 -- what is read without a fault is an answer
 pub read-answers : (numbers : Numbers) (text : List ℕ) (read : Result (List Line) ScheduleFault) (lines : List Line) → read ≡ Ok lines → (read ≡ Err NoMemory) ⊎ IsAnswer numbers text read → IsAnswer numbers text (Ok lines)
@@ -38,3 +46,12 @@ pub ended-of_lines : {A E F : Type 0} (plan : Plan) (schedule : List ℕ) (lines
 ended-of_lines plan schedule lines end (Ok (Ok a)) answer is = tt
 ended-of_lines plan schedule lines end (Ok (Err e)) answer is = (Ok lines, answer, is)
 ended-of_lines plan schedule lines end (Err f) answer is = tt
+
+-- a world that has booted replays what its plan does
+pub ready_replays : (plan : Plan) (r : Ready) → IsOfPlan plan r.simulated → booted plan ≡ Ok (world_of r.simulated.world) → end_of_ready r ≡ replay_of plan r.lines
+ready_replays plan r of is =
+    (λ i. replayed_whole declared_of turn_of (names_of (of.hosts i) (of.names i)) r.lines (world_of r.simulated.world)) ∙ ap (from_boot plan r.lines) (sym is)
+
+-- and one that could not boot ends as it does
+pub spent_replays : (plan : Plan) (lines : List Line) (ending : Ending) → (nodes : ℕ × ℕ) × (booted plan ≡ Err nodes) × (ending ≡ spent (names_in plan) nodes) → ending ≡ replay_of plan lines
+spent_replays plan lines ending (nodes, is, written) = written ∙ ap (from_boot plan lines) (sym is)

@@ -17,13 +17,17 @@ use Rattle.circus_ending.specs.declared.status.Status.TheVariants.{Done, BadSche
 use Rattle.circus_ending.specs.Status.{is_end}
 use Rattle.circus_ending.specs.Ending.{Ending}
 use Rattle.circus_config.specs.declared.plan.Plan.{Plan}
-use Rattle.circus_program.specs.Replay.{refused, replayed, booted, replay_of, IsEndOfReplay}
+use Rattle.circus_simulated.specs.Booted.{booted, names_in, after_step}
+use Rattle.circus_program.specs.Replay.{refused, replayed, replayed_whole, replay_of, IsEndOfReplay}
 use Rattle.circus_program.specs.Last.{HasRefused, HasSpent}
 use Rattle.circus_program.proofs.OneLine.{replayed_stepped, replayed_spent, replayed_refused}
-use Rattle.circus_program.proofs.Booted.{from_boot}
 
 abbrev step : Line → WorldState Behaviour → Stepped Behaviour
 step line w = stepped declared_of turn_of line w
+
+-- a replay of lines from what a plan came to at boot
+abbrev pub from_boot : Plan → List Line → Stepped Behaviour → Ending
+from_boot plan lines s = after_step (names_in plan) (replayed_whole declared_of turn_of (names_in plan) lines) s
 
 abbrev lines_end : Names → ℕ → List Line → WorldState Behaviour → Ending
 lines_end names number lines w = replayed declared_of turn_of names number lines w

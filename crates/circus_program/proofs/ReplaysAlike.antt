@@ -27,7 +27,8 @@ use Rattle.circus_report.specs.Report.{member_at, members_lines, ring_lines, res
 use Rattle.circus_running.specs.Run.{beginning, sent_from}
 use Rattle.circus_ending.specs.declared.status.Status.TheVariants.{Done}
 use Rattle.circus_ending.specs.Ending.{Ending}
-use Rattle.circus_program.specs.Replay.{cause_text, refused, behind, after_step, replayed, replayed_whole}
+use Rattle.circus_simulated.specs.Booted.{after_step}
+use Rattle.circus_program.specs.Replay.{cause_text, refused, behind, replayed, replayed_whole}
 
 module _ {M : Type 0} (declared : M → Signature) (turn : M → List ValueTree → ℕ → List ValueTree → List Outcome → NextTurn) (first : M → List ValueTree) where
   abbrev one : Standing M → Standing Behaviour

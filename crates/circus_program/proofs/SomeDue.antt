@@ -2,10 +2,13 @@
 use Rattle.std.proofs.Common.{◌≡◌, ℕ, ◌⊎◌, inl, inr, Option, Some, None, List, [], ◌∷◌, refl, sym, subst}
 use Rattle.circus_config.specs.declared.plan.Plan.{Plan}
 use Rattle.circus_config.specs.Program.{IsProgramOf}
+use Rattle.circus_simulated.specs.Sample.{sample_of}
+use Rattle.circus_served.specs.Named.{no_node}
 use Rattle.circus_program.specs.Form.{Form, stubs, run, replay, node, sample, settle, place, audit, files_of, IsOfForm}
-use Rattle.circus_program.specs.Answer.{Due, fetch, finish, not_built, bad_command_line, IsDueOfForm, AreContents}
+use Rattle.circus_program.specs.Answer.{Due, fetch, finish, serve, not_built, bad_command_line, IsDueOfForm, AreContents}
 use Rattle.circus_program.specs.Last.{IsLast, IsDueLast, file_read, IsToBeRead, IsScheduleAnswered, IsAnswered}
 use Rattle.circus_program.proofs.DecidedWords.{decided_form}
+use Rattle.circus_program.proofs.NamedOnce.{decided_named}
 
 module _ (contents : List ℕ → Option (List ℕ)) where
   record Comes (form : Form) : Type 0 where
@@ -36,8 +39,8 @@ module _ (contents : List ℕ → Option (List ℕ)) where
   comes_to (place placing) = first_file (place placing) placing refl (λ none. record { due = fetch placing; files = []; fetched = tt; is_due = refl; last = none })
   comes_to (stubs program) = first_file (stubs program) program refl (λ none. record { due = fetch program; files = []; fetched = tt; is_due = refl; last = none })
   comes_to (run program) = first_file (run program) program refl (λ none. record { due = fetch program; files = []; fetched = tt; is_due = refl; last = none })
-  comes_to (node _ _ _) = inl (record { due = not_built; files = []; fetched = tt; is_due = refl; last = tt })
-  comes_to (sample _ _ _) = inl (record { due = not_built; files = []; fetched = tt; is_due = refl; last = tt })
+  comes_to (node program name turns) = first_file (node program name turns) program refl (λ none. record { due = fetch program; files = []; fetched = tt; is_due = refl; last = none })
+  comes_to (sample program seed steps) = first_file (sample program seed steps) program refl (λ none. record { due = fetch program; files = []; fetched = tt; is_due = refl; last = none })
   comes_to (settle _ _) = inl (record { due = not_built; files = []; fetched = tt; is_due = refl; last = tt })
   comes_to (audit _ _) = inl (record { due = not_built; files = []; fetched = tt; is_due = refl; last = tt })
 
@@ -65,6 +68,18 @@ module _ (contents : List ℕ → Option (List ℕ)) where
         }
       ] refl
 
+  read_node : (program name : List ℕ) (turns : ℕ) (bytes : List ℕ) (plan : Plan) → contents program ≡ Some bytes → IsProgramOf bytes plan → Comes (node program name turns)
+  read_node program name turns bytes plan there means = elim (decided_named plan.deployment name) [
+    | inl (number, named) ↦ record {
+      due = serve plan number turns;
+      files = bytes ∷ [];
+      fetched = (there, tt);
+      is_due = inl (plan, means, inl (number, named, refl));
+      last = tt;
+    }
+    | inr none ↦ record { due = finish (no_node name); files = bytes ∷ []; fetched = (there, tt); is_due = inl (plan, means, inr (none, refl)); last = tt }
+  ]
+
   same_name : (name other bytes : List ℕ) → Some other ≡ Some name → contents name ≡ Some bytes → contents other ≡ Some bytes
   same_name name other bytes first there = let same : other ≡ name = cc in subst (λ n. contents n ≡ Some bytes) (sym same) there
 
@@ -79,8 +94,13 @@ module _ (contents : List ℕ → Option (List ℕ)) where
       record { due = finish ending; files = bytes ∷ []; fetched = (same_name name program bytes first there, tt); is_due = (ending, end, refl); last = tt }
   comes_read (place placing) name bytes first there (ending, end) =
       record { due = finish ending; files = bytes ∷ []; fetched = (same_name name placing bytes first there, tt); is_due = (ending, end, refl); last = tt }
-  comes_read (node _ _ _) name bytes first there answered = absurd answered
-  comes_read (sample _ _ _) name bytes first there answered = absurd answered
+  comes_read (node program own turns) name bytes first there (inl (plan, means)) = read_node program own turns bytes plan (same_name name program bytes first there) means
+  comes_read (node program own turns) name bytes first there (inr (ending, refused)) =
+      record { due = finish ending; files = bytes ∷ []; fetched = (same_name name program bytes first there, tt); is_due = inr (ending, refused, refl); last = tt }
+  comes_read (sample program seed steps) name bytes first there (inl (plan, means)) =
+      record { due = finish (sample_of plan seed steps); files = bytes ∷ []; fetched = (same_name name program bytes first there, tt); is_due = inl (plan, means, refl); last = tt }
+  comes_read (sample program seed steps) name bytes first there (inr (ending, refused)) =
+      record { due = finish ending; files = bytes ∷ []; fetched = (same_name name program bytes first there, tt); is_due = inr (ending, refused, refl); last = tt }
   comes_read (settle _ _) name bytes first there answered = absurd answered
   comes_read (audit _ _) name bytes first there answered = absurd answered
 

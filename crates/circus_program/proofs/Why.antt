@@ -17,10 +17,13 @@ use Rattle.circus_ending.specs.Program.{history_lines, stubs_lines, IsEndOfProgr
 use Rattle.circus_ending.specs.Placed.{IsEndOfPlacing}
 use Rattle.circus_ending.specs.OneFile.{IsEndOf}
 use Rattle.circus_program.specs.Replay.{IsEndOfReplay}
-use Rattle.circus_program.specs.Answer.{Due, fetch, finish, not_built, bad_command_line, IsDueOfForm, AreContents, IsDue}
-use Rattle.circus_program.specs.Last.{IsLast, IsDueLast, EndsWith, program_read, IsRefusedProgram, IsReplay, IsRefusedReplay, IsSpentReplay, IsUnbuilt, IsNotBuilt}
+use Rattle.circus_simulated.specs.Sample.{sample_of}
+use Rattle.circus_served.specs.Named.{no_node}
+use Rattle.circus_program.specs.Answer.{Due, fetch, finish, serve, not_built, bad_command_line, IsDueOfSample, IsDueOfNode, IsDueOfForm, AreContents, IsDue}
+use Rattle.circus_program.specs.Last.{IsLast, IsDueLast, EndsWith, program_read, IsRefusedProgram, IsNameless, IsReplay, IsRefusedReplay, IsSpentReplay, IsSample, IsSpentSample, IsUnbuilt, IsNotBuilt}
 use Rattle.circus_program.proofs.ReplayEnds.{Refuses, Spends, IsStatusOfReplay, replay_status, Ends, ends_refused, ends_spent}
-use Rattle.circus_program.proofs.OneDue.{asked_by, of_form, OfAsked, OfReplay, OfFile, OfSchedule, one_due}
+use Rattle.circus_program.proofs.SampleEnds.{sample_status, sample_spent}
+use Rattle.circus_program.proofs.OneDue.{of_form, OfProgram, OfFile, OfSchedule, OfWords, one_due}
 
 -- ---- the ends that there are
 
@@ -51,7 +54,7 @@ end_status Stubs bytes ending end = of_program stubs_lines bytes ending end
 end_status Run bytes ending end = of_program history_lines bytes ending end
 
 -- a status that no command of one file ends with
-never_ends : (status : Status) (command : OneFile) (bytes : List ℕ) (ending : Ending) → IsEndOf command bytes ending → (Done ≡ status → ⊥) → (BadProgram ≡ status → ⊥) → (NoPlacement ≡ status → ⊥) → (BadPlacing ≡ status → ⊥) → ending.status ≡ status → ⊥
+pub never_ends : (status : Status) (command : OneFile) (bytes : List ℕ) (ending : Ending) → IsEndOf command bytes ending → (Done ≡ status → ⊥) → (BadProgram ≡ status → ⊥) → (NoPlacement ≡ status → ⊥) → (BadPlacing ≡ status → ⊥) → ending.status ≡ status → ⊥
 never_ends status command bytes ending end no_done no_program no_none no_bad same = by_command command (end_status command bytes ending end)
   where
     by_command : (c : OneFile) → IsEndStatus c ending.status → ⊥
@@ -64,13 +67,20 @@ never_ends status command bytes ending end no_done no_program no_none no_bad sam
     by_command Run (inr bad) = no_program (sym bad ∙ same)
 
 -- a status that no replay ends with
-never_replays : (status : Status) (plan : Plan) (schedule : List ℕ) (ending : Ending) → IsEndOfReplay plan schedule ending → (Done ≡ status → ⊥) → (BadSchedule ≡ status → ⊥) → (Spent ≡ status → ⊥) → ending.status ≡ status → ⊥
+pub never_replays : (status : Status) (plan : Plan) (schedule : List ℕ) (ending : Ending) → IsEndOfReplay plan schedule ending → (Done ≡ status → ⊥) → (BadSchedule ≡ status → ⊥) → (Spent ≡ status → ⊥) → ending.status ≡ status → ⊥
 never_replays status plan schedule ending end no_done no_bad no_spent same = by_status (replay_status plan schedule ending end)
   where
     by_status : IsStatusOfReplay plan schedule ending.status → ⊥
     by_status (inl done) = no_done (sym done ∙ same)
     by_status (inr (inl (bad, why))) = no_bad (sym bad ∙ same)
     by_status (inr (inr (spent, why))) = no_spent (sym spent ∙ same)
+
+-- a status that no sample ends with
+pub never_drawn : (status : Status) (plan : Plan) (seed steps : ℕ) → (Done ≡ status → ⊥) → (Spent ≡ status → ⊥) → (sample_of plan seed steps).status ≡ status → ⊥
+never_drawn status plan seed steps no_done no_spent same = elim (sample_status plan seed steps) [
+  | inl done ↦ no_done (sym done ∙ same)
+  | inr (spent, why) ↦ no_spent (sym spent ∙ same)
+]
 
 -- a program is refused where the end says so
 refused_end : (command : OneFile) (bytes : List ℕ) (ending : Ending) → IsEndOf command bytes ending → ending.status ≡ BadProgram → IsEndOfRefused bytes ending
@@ -104,8 +114,11 @@ replay_spent plan schedule ending end same = elim (replay_status plan schedule e
   | inr (inr (spent, why)) ↦ why
 ]
 
-ends_as : (status : Status) (due : Due) (ending : Ending) → due ≡ finish ending → EndsWith status due → ending.status ≡ status
+pub ends_as : (status : Status) (due : Due) (ending : Ending) → due ≡ finish ending → EndsWith status due → ending.status ≡ status
 ends_as status due ending is ends = subst (EndsWith status) is ends
+
+never_serves : {X : Type 0} (status : Status) (due : Due) (plan : Plan) (number turns : ℕ) → due ≡ serve plan number turns → EndsWith status due → X
+never_serves status due plan number turns is ends = absurd (let none : ⊥ = subst (EndsWith status) is ends in none)
 
 never_fetch : {X : Type 0} (status : Status) (due : Due) (name : List ℕ) → due ≡ fetch name → EndsWith status due → X
 never_fetch status due name is ends = absurd (let none : ⊥ = subst (EndsWith status) is ends in none)
@@ -128,31 +141,45 @@ data Comes (contents : List ℕ → Option (List ℕ)) (words : List (List ℕ))
   lacking : (name : List ℕ) → due ≡ fetch name → Comes contents words due
   unbuilt : IsNotBuilt words → due ≡ not_built → Comes contents words due
   replayed : (plan : Plan) (schedule : List ℕ) (ending : Ending) → IsReplay contents words plan schedule → IsEndOfReplay plan schedule ending → due ≡ finish ending → Comes contents words due
-  refused_replay : (program name bytes : List ℕ) (ending : Ending) → IsOfForm words (replay program name) → contents program ≡ Some bytes → IsEndOfRefused bytes ending → due ≡ finish ending → Comes contents words due
+  drawn : (plan : Plan) (seed steps : ℕ) → IsSample contents words plan seed steps → due ≡ finish (sample_of plan seed steps) → Comes contents words due
+  served : (plan : Plan) (number turns : ℕ) → due ≡ serve plan number turns → Comes contents words due
+  nameless : (name : List ℕ) → IsNameless contents words → due ≡ finish (no_node name) → Comes contents words due
+  refused : (form : Form) (program bytes : List ℕ) (ending : Ending) → IsOfForm words form → program_read form ≡ Some program → contents program ≡ Some bytes → IsEndOfRefused bytes ending → due ≡ finish ending → Comes contents words due
   ended : (command : OneFile) (file bytes : List ℕ) (ending : Ending) → IsOfForm words (form_by command file) → contents file ≡ Some bytes → IsEndOf command bytes ending → due ≡ finish ending → Comes contents words due
 
 module _ (contents : List ℕ → Option (List ℕ)) (words : List (List ℕ)) where
+  -- of a program, where this comes of its plan
+  comes_program : (form : Form) (program : List ℕ) (IsNext : Plan → Due → Type 0) (due : Due) → IsOfForm words form → program_read form ≡ Some program
+      → ((bytes : List ℕ) (plan : Plan) → contents program ≡ Some bytes → IsProgramOf bytes plan → IsNext plan due → Comes contents words due) → OfProgram contents program IsNext due → Comes contents words due
+  comes_program form program IsNext due of first next (inl (none, is)) = lacking program is
+  comes_program form program IsNext due of first next (inr (bytes, there, inl (plan, good, behind))) = next bytes plan there good behind
+  comes_program form program IsNext due of first next (inr (bytes, there, inr (ending, refusal, is))) = refused form program bytes ending of first there refusal is
+
   comes_schedule : (program name bytes : List ℕ) (plan : Plan) (due : Due) → IsOfForm words (replay program name) → contents program ≡ Some bytes → IsProgramOf bytes plan → OfSchedule contents name plan due → Comes contents words due
   comes_schedule program name bytes plan due form there good (inl (none, is)) = lacking name is
   comes_schedule program name bytes plan due form there good (inr (schedule, here, (ending, end, is))) =
       replayed plan schedule ending (record { program = program; name = name; of_form = form; bytes = bytes; program_is = there; good = good; schedule_is = here }) end is
 
-  comes_replay : (program name : List ℕ) (due : Due) → IsOfForm words (replay program name) → OfReplay contents program name due → Comes contents words due
-  comes_replay program name due form (inl (none, is)) = lacking program is
-  comes_replay program name due form (inr (bytes, there, inl (plan, good, behind))) = comes_schedule program name bytes plan due form there good behind
-  comes_replay program name due form (inr (bytes, there, inr (ending, refusal, is))) = refused_replay program name bytes ending form there refusal is
+  comes_node : (program name : List ℕ) (turns : ℕ) (bytes : List ℕ) (plan : Plan) (due : Due) → IsOfForm words (node program name turns) → contents program ≡ Some bytes → IsProgramOf bytes plan → IsDueOfNode name turns plan due → Comes contents words due
+  comes_node program name turns bytes plan due form there good (inl (number, named, is)) = served plan number turns is
+  comes_node program name turns bytes plan due form there good (inr (none, is)) =
+      nameless name (record { program = program; name = name; turns = turns; of_form = form; bytes = bytes; there = there; plan = plan; good = good; nameless = none }) is
 
   comes_file : (command : OneFile) (file : List ℕ) (due : Due) → IsOfForm words (form_by command file) → OfFile contents command file due → Comes contents words due
   comes_file command file due form (inl (none, is)) = lacking file is
   comes_file command file due form (inr (bytes, there, (ending, end, is))) = ended command file bytes ending form there end is
 
-  comes_form : (form : Form) (due : Due) → IsOfForm words form → OfAsked contents (asked_by form) due → Comes contents words due
-  comes_form (replay program name) due form of = comes_replay program name due form of
+  comes_form : (form : Form) (due : Due) → IsOfForm words form → OfWords contents form due → Comes contents words due
+  comes_form (replay program name) due form of =
+      comes_program (replay program name) program (OfSchedule contents name) due form refl (λ bytes plan there good next. comes_schedule program name bytes plan due form there good next) of
   comes_form (place file) due form of = comes_file Place file due form of
   comes_form (stubs program) due form of = comes_file Stubs program due form of
   comes_form (run program) due form of = comes_file Run program due form of
-  comes_form (node program name turns) due form of = unbuilt (node program name turns, form, tt) of
-  comes_form (sample program seed steps) due form of = unbuilt (sample program seed steps, form, tt) of
+  comes_form (node program name turns) due form of =
+      comes_program (node program name turns) program (IsDueOfNode name turns) due form refl (λ bytes plan there good next. comes_node program name turns bytes plan due form there good next) of
+  comes_form (sample program seed steps) due form of =
+      comes_program (sample program seed steps) program (IsDueOfSample seed steps) due form refl
+      (λ bytes plan there good next. drawn plan seed steps (record { program = program; of_form = form; bytes = bytes; program_is = there; good = good }) next) of
   comes_form (settle program deliveries) due form of = unbuilt (settle program deliveries, form, tt) of
   comes_form (audit program «record») due form of = unbuilt (audit program «record», form, tt) of
 
@@ -171,7 +198,10 @@ module _ (contents : List ℕ → Option (List ℕ)) (words : List (List ℕ)) w
   why_words due (unbuilt why is) ends = absurd (let clash : NotBuilt ≡ BadCommandLine = ends_as BadCommandLine due _ is ends in cc)
   why_words due (replayed plan schedule ending of end is) ends =
       absurd (never_replays BadCommandLine plan schedule ending end (λ same. cc) (λ same. cc) (λ same. cc) (ends_as BadCommandLine due ending is ends))
-  why_words due (refused_replay program name bytes ending form there (number, cause, refusal, means) is) ends =
+  why_words due (drawn plan seed steps of is) ends = absurd (never_drawn BadCommandLine plan seed steps (λ same. cc) (λ same. cc) (ends_as BadCommandLine due _ is ends))
+  why_words due (served plan number turns is) ends = never_serves BadCommandLine due plan number turns is ends
+  why_words due (nameless name of is) ends = absurd (let clash : BadProgram ≡ BadCommandLine = ends_as BadCommandLine due _ is ends in cc)
+  why_words due (refused form program bytes ending of first there (number, cause, refusal, means) is) ends =
       absurd (let clash : BadProgram ≡ BadCommandLine = sym (ap (λ (e : Ending). e.status) means) ∙ ends_as BadCommandLine due ending is ends in cc)
   why_words due (ended command file bytes ending form there end is) ends =
       absurd (never_ends BadCommandLine command bytes ending end (λ same. cc) (λ same. cc) (λ same. cc) (λ same. cc) (ends_as BadCommandLine due ending is ends))
@@ -189,14 +219,17 @@ module _ (contents : List ℕ → Option (List ℕ)) (words : List (List ℕ)) w
     | inr (inr bad_placing) ↦ let clash : BadPlacing ≡ BadProgram = sym bad_placing ∙ bad in cc
   ])
 
-  why_program : (due : Due) → Comes contents words due → EndsWith BadProgram due → IsRefusedProgram contents words
+  why_program : (due : Due) → Comes contents words due → EndsWith BadProgram due → IsRefusedProgram contents words ⊎ IsNameless contents words
   why_program due (nothing none is) ends = absurd (let clash : BadCommandLine ≡ BadProgram = ends_as BadProgram due _ is ends in cc)
   why_program due (lacking name is) ends = never_fetch BadProgram due name is ends
   why_program due (unbuilt why is) ends = absurd (let clash : NotBuilt ≡ BadProgram = ends_as BadProgram due _ is ends in cc)
   why_program due (replayed plan schedule ending of end is) ends =
       absurd (never_replays BadProgram plan schedule ending end (λ same. cc) (λ same. cc) (λ same. cc) (ends_as BadProgram due ending is ends))
-  why_program due (refused_replay program name bytes ending form there refusal is) ends = refused_program (replay program name) program bytes ending form refl there refusal
-  why_program due (ended command file bytes ending form there end is) ends = refused_file command file bytes ending form there end (ends_as BadProgram due ending is ends)
+  why_program due (drawn plan seed steps of is) ends = absurd (never_drawn BadProgram plan seed steps (λ same. cc) (λ same. cc) (ends_as BadProgram due _ is ends))
+  why_program due (served plan number turns is) ends = never_serves BadProgram due plan number turns is ends
+  why_program due (nameless name of is) ends = inr of
+  why_program due (refused form program bytes ending of first there refusal is) ends = inl (refused_program form program bytes ending of first there refusal)
+  why_program due (ended command file bytes ending form there end is) ends = inl (refused_file command file bytes ending form there end (ends_as BadProgram due ending is ends))
 
   why_schedule : (due : Due) → Comes contents words due → EndsWith BadSchedule due → IsRefusedReplay contents words
   why_schedule due (nothing none is) ends = absurd (let clash : BadCommandLine ≡ BadSchedule = ends_as BadSchedule due _ is ends in cc)
@@ -204,19 +237,28 @@ module _ (contents : List ℕ → Option (List ℕ)) (words : List (List ℕ)) w
   why_schedule due (unbuilt why is) ends = absurd (let clash : NotBuilt ≡ BadSchedule = ends_as BadSchedule due _ is ends in cc)
   why_schedule due (replayed plan schedule ending of end is) ends =
       record { plan = plan; schedule = schedule; replayed = of; refused = replay_refused plan schedule ending end (ends_as BadSchedule due ending is ends) }
-  why_schedule due (refused_replay program name bytes ending form there (number, cause, refusal, means) is) ends =
+  why_schedule due (drawn plan seed steps of is) ends = absurd (never_drawn BadSchedule plan seed steps (λ same. cc) (λ same. cc) (ends_as BadSchedule due _ is ends))
+  why_schedule due (served plan number turns is) ends = never_serves BadSchedule due plan number turns is ends
+  why_schedule due (nameless name of is) ends = absurd (let clash : BadProgram ≡ BadSchedule = ends_as BadSchedule due _ is ends in cc)
+  why_schedule due (refused form program bytes ending of first there (number, cause, refusal, means) is) ends =
       absurd (let clash : BadProgram ≡ BadSchedule = sym (ap (λ (e : Ending). e.status) means) ∙ ends_as BadSchedule due ending is ends in cc)
   why_schedule due (ended command file bytes ending form there end is) ends =
       absurd (never_ends BadSchedule command bytes ending end (λ same. cc) (λ same. cc) (λ same. cc) (λ same. cc) (ends_as BadSchedule due ending is ends))
 
-  why_spent : (due : Due) → Comes contents words due → EndsWith Spent due → IsSpentReplay contents words
+  why_spent : (due : Due) → Comes contents words due → EndsWith Spent due → IsSpentReplay contents words ⊎ IsSpentSample contents words
   why_spent due (nothing none is) ends = absurd (let clash : BadCommandLine ≡ Spent = ends_as Spent due _ is ends in cc)
   why_spent due (lacking name is) ends = never_fetch Spent due name is ends
   why_spent due (unbuilt why is) ends = absurd (let clash : NotBuilt ≡ Spent = ends_as Spent due _ is ends in cc)
   why_spent due (replayed plan schedule ending of end is) ends =
       let spent = replay_spent plan schedule ending end (ends_as Spent due ending is ends) in
-      record { plan = plan; schedule = schedule; replayed = of; lines = spent.0; read = spent.1; spent = spent.2 }
-  why_spent due (refused_replay program name bytes ending form there (number, cause, refusal, means) is) ends =
+      inl (record { plan = plan; schedule = schedule; replayed = of; lines = spent.0; read = spent.1; spent = spent.2 })
+  why_spent due (drawn plan seed steps of is) ends = elim (sample_status plan seed steps) [
+    | inl done ↦ absurd (let clash : Done ≡ Spent = sym done ∙ ends_as Spent due _ is ends in cc)
+    | inr (spent, why) ↦ inr (record { plan = plan; seed = seed; steps = steps; drawn = of; spent = why })
+  ]
+  why_spent due (served plan number turns is) ends = never_serves Spent due plan number turns is ends
+  why_spent due (nameless name of is) ends = absurd (let clash : BadProgram ≡ Spent = ends_as Spent due _ is ends in cc)
+  why_spent due (refused form program bytes ending of first there (number, cause, refusal, means) is) ends =
       absurd (let clash : BadProgram ≡ Spent = sym (ap (λ (e : Ending). e.status) means) ∙ ends_as Spent due ending is ends in cc)
   why_spent due (ended command file bytes ending form there end is) ends =
       absurd (never_ends Spent command bytes ending end (λ same. cc) (λ same. cc) (λ same. cc) (λ same. cc) (ends_as Spent due ending is ends))
@@ -227,7 +269,10 @@ module _ (contents : List ℕ → Option (List ℕ)) (words : List (List ℕ)) w
   why_unbuilt due (unbuilt why is) ends = why
   why_unbuilt due (replayed plan schedule ending of end is) ends =
       absurd (never_replays NotBuilt plan schedule ending end (λ same. cc) (λ same. cc) (λ same. cc) (ends_as NotBuilt due ending is ends))
-  why_unbuilt due (refused_replay program name bytes ending form there (number, cause, refusal, means) is) ends =
+  why_unbuilt due (drawn plan seed steps of is) ends = absurd (never_drawn NotBuilt plan seed steps (λ same. cc) (λ same. cc) (ends_as NotBuilt due _ is ends))
+  why_unbuilt due (served plan number turns is) ends = never_serves NotBuilt due plan number turns is ends
+  why_unbuilt due (nameless name of is) ends = absurd (let clash : BadProgram ≡ NotBuilt = ends_as NotBuilt due _ is ends in cc)
+  why_unbuilt due (refused form program bytes ending of first there (number, cause, refusal, means) is) ends =
       absurd (let clash : BadProgram ≡ NotBuilt = sym (ap (λ (e : Ending). e.status) means) ∙ ends_as NotBuilt due ending is ends in cc)
   why_unbuilt due (ended command file bytes ending form there end is) ends =
       absurd (never_ends NotBuilt command bytes ending end (λ same. cc) (λ same. cc) (λ same. cc) (λ same. cc) (ends_as NotBuilt due ending is ends))
@@ -260,13 +305,16 @@ module _ (contents : List ℕ → Option (List ℕ)) (words : List (List ℕ)) w
       by_form (run program) of is = due_of_form (run program) (has.bytes ∷ []) (finish (refused_with has.number has.cause)) of (found program is, tt) (refused_with has.number has.cause, inr refusal, refl) tt
       by_form (replay program name) of is = due_of_form (replay program name) (has.bytes ∷ []) (finish (refused_with has.number has.cause)) of (found program is, tt) (inr (refused_with has.number has.cause, refusal, refl)) tt
       by_form (place _) of is = absurd cc
-      by_form (node _ _ _) of is = absurd cc
-      by_form (sample _ _ _) of is = absurd cc
+      by_form (node program name turns) of is = due_of_form (node program name turns) (has.bytes ∷ []) (finish (refused_with has.number has.cause)) of (found program is, tt) (inr (refused_with has.number has.cause, refusal, refl)) tt
+      by_form (sample program seed steps) of is = due_of_form (sample program seed steps) (has.bytes ∷ []) (finish (refused_with has.number has.cause)) of (found program is, tt) (inr (refused_with has.number has.cause, refusal, refl)) tt
       by_form (settle _ _) of is = absurd cc
       by_form (audit _ _) of is = absurd cc
 
-  bad_program : (due : Due) → IsDueLast contents words due → IsRefusedProgram contents words → EndsWith BadProgram due
-  bad_program due is has = same_status BadProgram due _ is (refused_due has has.form has.of_form has.program_is) refl
+  bad_program : (due : Due) → IsDueLast contents words due → IsRefusedProgram contents words ⊎ IsNameless contents words → EndsWith BadProgram due
+  bad_program due is (inl has) = same_status BadProgram due _ is (refused_due has has.form has.of_form has.program_is) refl
+  bad_program due is (inr has) =
+      let other = due_of_form (node has.program has.name has.turns) (has.bytes ∷ []) (finish (no_node has.name)) has.of_form (has.there, tt) (inl (has.plan, has.good, inr (has.nameless, refl))) tt in
+      same_status BadProgram due (finish (no_node has.name)) is other refl
 
   -- a replay that ends so
   replay_due : (status : Status) (plan : Plan) (schedule : List ℕ) (due : Due) → IsDueLast contents words due → IsReplay contents words plan schedule → Ends plan schedule status → EndsWith status due
@@ -277,16 +325,21 @@ module _ (contents : List ℕ → Option (List ℕ)) (words : List (List ℕ)) w
   bad_schedule : (due : Due) → IsDueLast contents words due → IsRefusedReplay contents words → EndsWith BadSchedule due
   bad_schedule due is has = replay_due BadSchedule has.plan has.schedule due is has.replayed (ends_refused has.plan has.schedule has.refused)
 
-  spent : (due : Due) → IsDueLast contents words due → IsSpentReplay contents words → EndsWith Spent due
-  spent due is has = replay_due Spent has.plan has.schedule due is has.replayed (ends_spent has.plan has.schedule has.lines has.read has.spent)
+  spent : (due : Due) → IsDueLast contents words due → IsSpentReplay contents words ⊎ IsSpentSample contents words → EndsWith Spent due
+  spent due is (inr has) =
+      let d = has.drawn in
+      let end = sample_of has.plan has.seed has.steps in
+      let other = due_of_form (sample d.program has.seed has.steps) (d.bytes ∷ []) (finish end) d.of_form (d.program_is, tt) (inl (has.plan, d.good, refl)) tt in
+      same_status Spent due (finish end) is other (sample_spent has.plan has.seed has.steps has.spent)
+  spent due is (inl has) = replay_due Spent has.plan has.schedule due is has.replayed (ends_spent has.plan has.schedule has.lines has.read has.spent)
 
   unbuilt_form : (form : Form) → IsUnbuilt form → IsDueOfForm form [] not_built
   unbuilt_form (replay _ _) un = absurd un
   unbuilt_form (place _) un = absurd un
   unbuilt_form (stubs _) un = absurd un
   unbuilt_form (run _) un = absurd un
-  unbuilt_form (node _ _ _) un = refl
-  unbuilt_form (sample _ _ _) un = refl
+  unbuilt_form (node _ _ _) un = absurd un
+  unbuilt_form (sample _ _ _) un = absurd un
   unbuilt_form (settle _ _) un = refl
   unbuilt_form (audit _ _) un = refl
 
@@ -299,13 +352,13 @@ module _ (contents : List ℕ → Option (List ℕ)) (words : List (List ℕ)) w
   pub words_why : (due : Due) → IsDueLast contents words due → (EndsWith BadCommandLine due ↔ IsOfNoForm words)
   words_why due is = (why_words due (comes_to due is), bad_words due is)
 
-  pub program_why : (due : Due) → IsDueLast contents words due → (EndsWith BadProgram due ↔ IsRefusedProgram contents words)
+  pub program_why : (due : Due) → IsDueLast contents words due → (EndsWith BadProgram due ↔ (IsRefusedProgram contents words ⊎ IsNameless contents words))
   program_why due is = (why_program due (comes_to due is), bad_program due is)
 
   pub schedule_why : (due : Due) → IsDueLast contents words due → (EndsWith BadSchedule due ↔ IsRefusedReplay contents words)
   schedule_why due is = (why_schedule due (comes_to due is), bad_schedule due is)
 
-  pub spent_why : (due : Due) → IsDueLast contents words due → (EndsWith Spent due ↔ IsSpentReplay contents words)
+  pub spent_why : (due : Due) → IsDueLast contents words due → (EndsWith Spent due ↔ (IsSpentReplay contents words ⊎ IsSpentSample contents words))
   spent_why due is = (why_spent due (comes_to due is), spent due is)
 
   pub unbuilt_why : (due : Due) → IsDueLast contents words due → (EndsWith NotBuilt due ↔ IsNotBuilt words)

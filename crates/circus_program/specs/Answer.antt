@@ -14,11 +14,16 @@ use Rattle.circus_ending.specs.declared.one_file.OneFile.TheVariants.{Stubs, Run
 use Rattle.circus_ending.specs.Refusal.{IsGood, IsEndOfRefused}
 use Rattle.circus_ending.specs.OneFile.{IsEndOf}
 use Rattle.circus_record.specs.Line.{line}
+use Rattle.circus_serve.specs.Outside.{Tells}
+use Rattle.circus_simulated.specs.Sample.{sample_of}
+use Rattle.circus_served.specs.Named.{IsNamed, no_node}
+use Rattle.circus_served.specs.NodeEnds.{IsEndOfServing}
 
--- what is due next: the contents of a file, or the end
+-- what is due next: the contents of a file, the end, or to serve a node of a plan for so many takes
 pub data Due : Type 0 where
   fetch : List ℕ → Due
   finish : Ending → Due
+  serve : Plan → ℕ → ℕ → Due
 
 -- the words are of no form
 abbrev pub bad_command_line : Due
@@ -49,6 +54,26 @@ IsDueOfFile command name [] due = due ≡ fetch name
 IsDueOfFile command name (bytes ∷ []) due = (ending : Ending) × IsEndOf command bytes ending × (due ≡ finish ending)
 IsDueOfFile command name (_ ∷ _ ∷ _) due = ⊥
 
+-- what is due of the bytes of a program, where this is due of its plan
+abbrev pub IsDueOfBytes : (Plan → Due → Type 0) → List ℕ → Due → Type 0
+IsDueOfBytes IsNext bytes due = ((plan : Plan) × IsProgramOf bytes plan × IsNext plan due) ⊎ IsDueOfRefused bytes due
+
+-- what is due of a command of one program, whose bytes so far are these
+abbrev pub IsDueOfProgram : List ℕ → (Plan → Due → Type 0) → List (List ℕ) → Due → Type 0
+IsDueOfProgram program IsNext [] due = due ≡ fetch program
+IsDueOfProgram program IsNext (bytes ∷ []) due = IsDueOfBytes IsNext bytes due
+IsDueOfProgram program IsNext (_ ∷ _ ∷ _) due = ⊥
+
+-- what is due of a sample of a plan
+abbrev pub IsDueOfSample : ℕ → ℕ → Plan → Due → Type 0
+IsDueOfSample seed steps plan due = due ≡ finish (sample_of plan seed steps)
+
+-- what is due of a node of a plan, by its name
+abbrev pub IsDueOfNode : List ℕ → ℕ → Plan → Due → Type 0
+IsDueOfNode name turns plan due =
+    ((number : ℕ) × IsNamed plan.deployment name number × (due ≡ serve plan number turns))
+    ⊎ (((number : ℕ) → IsNamed plan.deployment name number → ⊥) × (due ≡ finish (no_node name)))
+
 -- what is due of a form that is not built, before any file is fetched
 abbrev pub IsDueUnbuilt : List (List ℕ) → Due → Type 0
 IsDueUnbuilt [] due = due ≡ not_built
@@ -59,8 +84,8 @@ abbrev pub IsDueOfForm : Form → List (List ℕ) → Due → Type 0
 IsDueOfForm (replay program schedule) files due = IsDueOfReplay program schedule files due
 IsDueOfForm (stubs program) files due = IsDueOfFile Stubs program files due
 IsDueOfForm (run program) files due = IsDueOfFile Run program files due
-IsDueOfForm (node _ _ _) files due = IsDueUnbuilt files due
-IsDueOfForm (sample _ _ _) files due = IsDueUnbuilt files due
+IsDueOfForm (node program name turns) files due = IsDueOfProgram program (IsDueOfNode name turns) files due
+IsDueOfForm (sample program seed steps) files due = IsDueOfProgram program (IsDueOfSample seed steps) files due
 IsDueOfForm (settle _ _) files due = IsDueUnbuilt files due
 IsDueOfForm (place placing) files due = IsDueOfFile Place placing files due
 IsDueOfForm (audit _ _) files due = IsDueUnbuilt files due
@@ -87,9 +112,15 @@ pub record IsDueOfSome (shelf : Option (List ℕ → Option (List ℕ))) (words 
 abbrev pub IsDue : Option (List ℕ → Option (List ℕ)) → List (List ℕ) → Due → Type 0
 IsDue shelf words due = IsDueOfSome shelf words due ⊎ (IsOfNoForm words × (due ≡ bad_command_line))
 
--- the call came to the end that is due, with this status
-abbrev pub Finishes : Option (List ℕ → Option (List ℕ)) → List (List ℕ) → Status → List ℕ → Type 0
-Finishes shelf words status text = IsDue shelf words (finish (record { status = status; text = text }))
+-- the words ask for a node
+abbrev pub AsksForNode : List (List ℕ) → Type 0
+AsksForNode words = (program name : List ℕ) × (turns : ℕ) × IsOfForm words (node program name turns)
+
+-- the call came to the end that is due, with this status: of a node that was served, by what the link tells
+abbrev pub Finishes : Option (List ℕ → Option (List ℕ)) → List (List ℕ) → Tells → Tells → Status → List ℕ → Type 0
+Finishes shelf words old new status text =
+    (IsDue shelf words (finish (record { status = status; text = text })) × (new ≡ old))
+    ⊎ ((plan : Plan) × (number turns : ℕ) × IsDue shelf words (serve plan number turns) × IsEndOfServing plan number turns old new (record { status = status; text = text }))
 
 -- the call came to a fetch that failed, of this name
 abbrev pub Lacks : Option (List ℕ → Option (List ℕ)) → List (List ℕ) → List ℕ → Type 0
@@ -105,19 +136,19 @@ WasLast asked name = IfSome asked (λ names. (before : List (List ℕ)) × (name
 
 -- the text is one that is due in full: of an end, or of a fetch that failed, which was asked for last and with
 -- which the shelf's count of faults rose
-abbrev pub IsText : Option (List ℕ → Option (List ℕ)) → List (List ℕ) → Option (List (List ℕ)) → Type 0 → List ℕ → Type 0
-IsText shelf words fetched ShelfRose text =
-    ((status : Status) × Finishes shelf words status text)
+abbrev pub IsText : Option (List ℕ → Option (List ℕ)) → List (List ℕ) → Tells → Tells → Option (List (List ℕ)) → Type 0 → List ℕ → Type 0
+IsText shelf words before after fetched ShelfRose text =
+    ((status : Status) × Finishes shelf words before after status text)
     ⊎ ((name : List ℕ) × Lacks shelf words name × WasLast fetched name × ShelfRose × (text ≡ shelf_fault name))
 
 -- a part of a text that is due was written, or nothing
-abbrev pub WritesPartOfText : Option (List ℕ → Option (List ℕ)) → List (List ℕ) → Option (List (List ℕ)) → Type 0 → Option (List ℕ) → Option (List ℕ) → Type 0
-WritesPartOfText shelf words fetched ShelfRose old new =
-    ((text : List ℕ) × IsText shelf words fetched ShelfRose text × WritesPart old new text) ⊎ (new ≡ old)
+abbrev pub WritesPartOfText : Option (List ℕ → Option (List ℕ)) → List (List ℕ) → Tells → Tells → Option (List (List ℕ)) → Type 0 → Option (List ℕ) → Option (List ℕ) → Type 0
+WritesPartOfText shelf words before after fetched ShelfRose old new =
+    ((text : List ℕ) × IsText shelf words before after fetched ShelfRose text × WritesPart old new text) ⊎ (new ≡ old)
 
 -- the text of the end that is due with this status was written
-abbrev pub WritesEnd : Option (List ℕ → Option (List ℕ)) → List (List ℕ) → Option (List ℕ) → Option (List ℕ) → Status → Type 0
-WritesEnd shelf words old new status = (text : List ℕ) × Finishes shelf words status text × Writes old new text
+abbrev pub WritesEnd : Option (List ℕ → Option (List ℕ)) → List (List ℕ) → Tells → Tells → Option (List ℕ) → Option (List ℕ) → Status → Type 0
+WritesEnd shelf words before after old new status = (text : List ℕ) × Finishes shelf words before after status text × Writes old new text
 
 -- the name of the file that was due, and was asked for last, was written
 abbrev pub WritesLack : Option (List ℕ → Option (List ℕ)) → List (List ℕ) → Option (List (List ℕ)) → Option (List ℕ) → Option (List ℕ) → Type 0

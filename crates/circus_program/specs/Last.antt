@@ -11,21 +11,25 @@ use Rattle.circus_world.specs.Legal.{refusal}
 use Rattle.circus_world.specs.Course.{stepped}
 use Rattle.circus_ending.specs.declared.status.Status.{Status}
 use Rattle.circus_program.specs.Form.{Form, stubs, run, replay, node, sample, settle, place, audit, IsOfForm}
-use Rattle.circus_program.specs.Replay.{booted, IsEndOfReplay}
+use Rattle.circus_program.specs.Replay.{IsEndOfReplay}
+use Rattle.circus_sample.specs.Sampled.{sampled}
+use Rattle.circus_simulated.specs.Booted.{booted}
+use Rattle.circus_served.specs.Named.{IsNamed}
 use Rattle.circus_ending.specs.declared.one_file.OneFile.TheVariants.{Stubs, Run, Place}
 use Rattle.circus_ending.specs.Ending.{Ending}
-use Rattle.circus_ending.specs.Refusal.{IsEndOfRefused}
+use Rattle.circus_ending.specs.Refusal.{IsGood, IsEndOfRefused}
 use Rattle.circus_ending.specs.OneFile.{IsEndOf}
 use Rattle.circus_config.specs.declared.program_fault.ProgramCause.{ProgramCause}
 use Rattle.circus_config.specs.declared.program_fault.ProgramFault.TheVariants.{Refused}
 use Rattle.circus_config.specs.declared.plan.Plan.{Plan}
 use Rattle.circus_config.specs.Program.{IsProgramOf, IsRefused}
-use Rattle.circus_program.specs.Answer.{Due, fetch, finish, IsDue}
+use Rattle.circus_program.specs.Answer.{Due, fetch, finish, serve, IsDue}
 
--- nothing is due behind it: an end, or the fetch of a file that the shelf doesn't have
+-- nothing is due behind it: an end, a node that is served, or the fetch of a file that the shelf doesn't have
 abbrev pub IsLast : (List ℕ → Option (List ℕ)) → Due → Type 0
 IsLast contents (fetch name) = contents name ≡ None
 IsLast contents (finish ending) = Unit {0}
+IsLast contents (serve plan number turns) = Unit {0}
 
 -- what is due of the words at last
 pub record IsDueLast (contents : List ℕ → Option (List ℕ)) (words : List (List ℕ)) (due : Due) : Type 0 where
@@ -36,6 +40,7 @@ pub record IsDueLast (contents : List ℕ → Option (List ℕ)) (words : List (
 abbrev pub EndsWith : Status → Due → Type 0
 EndsWith status (fetch name) = ⊥
 EndsWith status (finish ending) = ending.status ≡ status
+EndsWith status (serve plan number turns) = ⊥
 
 -- ---- why
 
@@ -60,8 +65,8 @@ file_read (stubs program) = Some program
 file_read (run program) = Some program
 file_read (replay program _) = Some program
 file_read (place placing) = Some placing
-file_read (node _ _ _) = None
-file_read (sample _ _ _) = None
+file_read (node program _ _) = Some program
+file_read (sample program _ _) = Some program
 file_read (settle _ _) = None
 file_read (audit _ _) = None
 
@@ -87,8 +92,8 @@ IsAnswered contents (replay _ schedule) bytes =
 IsAnswered contents (stubs _) bytes = (ending : Ending) × IsEndOf Stubs bytes ending
 IsAnswered contents (run _) bytes = (ending : Ending) × IsEndOf Run bytes ending
 IsAnswered contents (place _) bytes = (ending : Ending) × IsEndOf Place bytes ending
-IsAnswered contents (node _ _ _) bytes = ⊥
-IsAnswered contents (sample _ _ _) bytes = ⊥
+IsAnswered contents (node _ _ _) bytes = IsGood bytes ⊎ ((ending : Ending) × IsEndOfRefused bytes ending)
+IsAnswered contents (sample _ _ _) bytes = IsGood bytes ⊎ ((ending : Ending) × IsEndOfRefused bytes ending)
 IsAnswered contents (settle _ _) bytes = ⊥
 IsAnswered contents (audit _ _) bytes = ⊥
 
@@ -98,8 +103,8 @@ program_read (stubs program) = Some program
 program_read (run program) = Some program
 program_read (replay program _) = Some program
 program_read (place _) = None
-program_read (node _ _ _) = None
-program_read (sample _ _ _) = None
+program_read (node program _ _) = Some program
+program_read (sample program _ _) = Some program
 program_read (settle _ _) = None
 program_read (audit _ _) = None
 
@@ -114,6 +119,18 @@ pub record IsRefusedProgram (contents : List ℕ → Option (List ℕ)) (words :
   pub number : ℕ
   pub cause : ProgramCause
   pub refused : IsRefused bytes (Refused number cause)
+
+-- a node of a program is asked for that has no node of this name
+pub record IsNameless (contents : List ℕ → Option (List ℕ)) (words : List (List ℕ)) : Type 0 where
+  pub program : List ℕ
+  pub name : List ℕ
+  pub turns : ℕ
+  pub of_form : IsOfForm words (node program name turns)
+  pub bytes : List ℕ
+  pub there : contents program ≡ Some bytes
+  pub plan : Plan
+  pub good : IsProgramOf bytes plan
+  pub nameless : (number : ℕ) → IsNamed plan.deployment name number → ⊥
 
 -- the words are a replay of a program that means this plan, and of this schedule
 pub record IsReplay (contents : List ℕ → Option (List ℕ)) (words : List (List ℕ)) (plan : Plan) (schedule : List ℕ) : Type 0 where
@@ -142,14 +159,36 @@ pub record IsSpentReplay (contents : List ℕ → Option (List ℕ)) (words : Li
   pub read : IsAnswer (numbers_of plan.deployment.nodes) schedule (Ok lines)
   pub spent : ((nodes : ℕ × ℕ) × (booted plan ≡ Err nodes)) ⊎ ((w : WorldState Behaviour) × (booted plan ≡ Ok w) × HasSpent lines w)
 
+-- the words are a sample of a program that means this plan
+pub record IsSample (contents : List ℕ → Option (List ℕ)) (words : List (List ℕ)) (plan : Plan) (seed steps : ℕ) : Type 0 where
+  pub program : List ℕ
+  pub of_form : IsOfForm words (sample program seed steps)
+  pub bytes : List ℕ
+  pub program_is : contents program ≡ Some bytes
+  pub good : IsProgramOf bytes plan
+
+-- a node has no number left for another one, at boot or in a step of so many that a seed draws
+abbrev pub HasSpentSample : Plan → ℕ → ℕ → Type 0
+HasSpentSample plan seed steps =
+    ((nodes : ℕ × ℕ) × (booted plan ≡ Err nodes))
+    ⊎ ((w : WorldState Behaviour) × (booted plan ≡ Ok w) × ((nodes : ℕ × ℕ) × (sampled (λ b. b.declared) (λ b. b.turn) steps seed w ≡ Err nodes)))
+
+-- a sample in which a node has no number left for another one
+pub record IsSpentSample (contents : List ℕ → Option (List ℕ)) (words : List (List ℕ)) : Type 0 where
+  pub plan : Plan
+  pub seed : ℕ
+  pub steps : ℕ
+  pub drawn : IsSample contents words plan seed steps
+  pub spent : HasSpentSample plan seed steps
+
 -- another form than those that are built
 abbrev pub IsUnbuilt : Form → Type 0
 IsUnbuilt (replay _ _) = ⊥
 IsUnbuilt (place _) = ⊥
 IsUnbuilt (stubs _) = ⊥
 IsUnbuilt (run _) = ⊥
-IsUnbuilt (node _ _ _) = Unit {0}
-IsUnbuilt (sample _ _ _) = Unit {0}
+IsUnbuilt (node _ _ _) = ⊥
+IsUnbuilt (sample _ _ _) = ⊥
 IsUnbuilt (settle _ _) = Unit {0}
 IsUnbuilt (audit _ _) = Unit {0}
 

@@ -1,34 +1,29 @@
 -- What a replay comes to: the report of the world that the lines leave, or what was sent before a line that is refused, and why.
-use Rattle.std.specs.Prelude.{ℕ, ◌≡◌, ◌+◌, List, [], ◌∷◌, ◌++◌, length, map, codes, slice_get, Option, option_and_then, Result, Ok, Err}
+use Rattle.std.specs.Prelude.{ℕ, ◌≡◌, ◌+◌, List, [], ◌∷◌, ◌++◌, length, codes, Result, Ok, Err}
 use Rattle.std.specs.Option.{option_map_or}
 use Rattle.std.specs.Fmt.{decimal}
 use Rattle.circus_value.specs.ValueTree.{ValueTree}
 use Rattle.circus_value.specs.declared.outcome.Outcome.{Outcome}
-use Rattle.circus_collate.specs.declared.deployment.Host.{Host}
 use Rattle.circus_model.specs.NextTurn.{NextTurn}
-use Rattle.circus_model.specs.Behaviour.{Behaviour}
 use Rattle.circus_model.specs.declared.signature.Signature.{Signature}
 use Rattle.circus_record.specs.Line.{line}
-use Rattle.circus_record.specs.Naming.{Names, names_of}
+use Rattle.circus_record.specs.Naming.{Names}
 use Rattle.circus_schedule.specs.declared.line.Line.{Line}
 use Rattle.circus_schedule.specs.declared.schedule_fault.ScheduleFault.{ScheduleFault}
 use Rattle.circus_schedule.specs.declared.schedule_fault.ScheduleFault.TheVariants as schedule_fault
 use Rattle.circus_schedule.specs.Meaning.{numbers_of}
 use Rattle.circus_schedule.specs.Answer.{IsAnswer}
-use Rattle.circus_check.specs.Seen.Meant.{module_as}
-use Rattle.circus_modules.specs.Behaviours.{program_of}
 use Rattle.circus_config.specs.declared.plan.Plan.{Plan}
-use Rattle.circus_config.specs.Limits.{limit_of}
 use Rattle.circus_world.specs.declared.cause.Cause.{Cause}
 use Rattle.circus_world.specs.declared.cause.Cause.TheVariants.{NoDatagram, NotLive, NotCrashed, NotSpare, AlreadyJoined}
 use Rattle.circus_world.specs.WorldState.{WorldState}
 use Rattle.circus_world.specs.Legal.{refusal}
-use Rattle.circus_world.specs.Course.{Stepped, stepped}
-use Rattle.circus_world.specs.Boot.{before_any, all_booted}
+use Rattle.circus_world.specs.Course.{stepped}
 use Rattle.circus_report.specs.Report.{rest_text}
 use Rattle.circus_running.specs.Run.{beginning, sent_from}
-use Rattle.circus_ending.specs.declared.status.Status.TheVariants.{Done, BadSchedule, Spent}
+use Rattle.circus_ending.specs.declared.status.Status.TheVariants.{Done, BadSchedule}
 use Rattle.circus_ending.specs.Ending.{Ending}
+use Rattle.circus_simulated.specs.Booted.{booted, names_in, after_step}
 
 -- ---- why it ends before its last line
 
@@ -44,21 +39,11 @@ cause_text names (AlreadyJoined node) = names.node node ++ codes " has joined"
 abbrev pub refused : ℕ → List ℕ → Ending
 refused number cause = record { status = BadSchedule; text = line (codes "schedule line " ++ decimal number ++ codes ": " ++ cause) }
 
--- a node has no number left for another one
-abbrev pub spent : Names → ℕ × ℕ → Ending
-spent names nodes = record { status = Spent; text = line (codes "spent " ++ names.node nodes.0 ++ codes " " ++ names.node nodes.1) }
-
 -- this is written in front
 abbrev pub behind : List ℕ → Ending → Ending
 behind text ending = record { status = ending.status; text = text ++ ending.text }
 
 -- ---- over lines
-
-module _ {M : Type 0} where
-  -- what comes after a step, unless a node has no number left
-  abbrev pub after_step : Names → (WorldState M → Ending) → Stepped M → Ending
-  after_step names next (Ok w) = next w
-  after_step names next (Err nodes) = spent names nodes
 
 module _ {M : Type 0} (declared : M → Signature) (turn : M → List ValueTree → ℕ → List ValueTree → List Outcome → NextTurn) where
   -- the lines from this number on, over what was written of the world so far
@@ -74,25 +59,10 @@ module _ {M : Type 0} (declared : M → Signature) (turn : M → List ValueTree 
 
 -- ---- of a program
 
--- what the modules of a plan do
-abbrev pub behaviours_in : Plan → List Behaviour
-behaviours_in plan = program_of (limit_of plan.deployment.format) plan.checked.interfaces (map module_as plan.checked.modules)
-
--- the module that a node hosts
-abbrev pub hosted_by : {M : Type 0} → List M → Host → Option M
-hosted_by modules host = option_and_then (slice_get modules) host.module
-
--- its world at boot
-abbrev pub booted : Plan → Stepped Behaviour
-booted plan =
-    all_booted (λ b. b.declared) (λ b. b.turn) (λ b. b.first) (map (hosted_by (behaviours_in plan)) plan.deployment.nodes)
-    (before_any plan.deployment (behaviours_in plan))
-
 -- a replay of these lines
 abbrev pub replay_of : Plan → List Line → Ending
 replay_of plan lines =
-    let names = names_of plan.deployment.nodes plan.names in
-    after_step names (replayed_whole (λ b. b.declared) (λ b. b.turn) names lines) (booted plan)
+    after_step (names_in plan) (replayed_whole (λ b. b.declared) (λ b. b.turn) (names_in plan) lines) (booted plan)
 
 -- what a schedule comes to that was read so
 abbrev pub IsReplayOf : Plan → Result (List Line) ScheduleFault → Ending → Type 0

@@ -1,7 +1,7 @@
 // What the words ask for, and what comes of it.
 ghost use Rattle.std.specs.Prelude.{◌≡◌, ◌∷◌, [], map, string_bytes, All, IsAscii, IfOk, IfSome, IfNone};
 ghost use Rattle.circus_program.specs.Seen.Words.{form_of};
-ghost use Rattle.circus_program.specs.Answer.{IsDue, IsDueOfForm, AsksOnly, AsksFirstOf, not_built};
+ghost use Rattle.circus_program.specs.Answer.{IsDue, IsDueOfForm, IsDueOfBytes, IsDueOfSample, IsDueOfNode, AsksOnly, AsksFirstOf, not_built};
 ghost use Rattle.std.specs.List.{AllByRecursion};
 ghost use Rattle.circus_collate.specs.Deployment.{IsDeployment};
 ghost use Rattle.circus_idl.specs.Obeys.{Obeys};
@@ -14,18 +14,22 @@ use crate::words::{Form, read_words};
 use circus_config::Plan;
 use circus_ending::{Ending, OneFile, Status, end_of, plan_of};
 use circus_outside::{Shelf, ShelfFault};
+use circus_served::{no_node, node_named};
+use circus_simulated::sample_plan;
 use circus_value::NoMemory;
 use std::alloc::{AllocError, Global};
 
-/// What a command comes to: its end, a file that the shelf doesn't give, or a replay that may begin.
+/// What a command comes to: its end, a file that the shelf doesn't give, a replay that may begin, or a node of a plan that is
+/// to be served for so many takes.
 #[derive(Drop)]
 pub enum Step<'a> {
     Finish(Ending),
     Lack(&'a str),
     Replay(Ready),
+    Serve(Plan, u16, u32),
 }
 
-ghost use Rattle.circus_program.specs.Seen.Step.{due_of, Stands, IsLackNoted, IsStepBehind, IsStepOfProgram, IsStepOfReplay, IsStepOfFile};
+ghost use Rattle.circus_program.specs.Seen.Step.{due_of, Stands, LacksNone, IsLackNoted, IsStepBehind, IsStepOfProgram, IsStepOfReplay, IsStepOfFile, IsStepOfPlan};
 ghost use Rattle.circus_program.specs.Seen.Built.{built_form};
 
 /// What comes of a replay whose program is fetched and read.
@@ -116,11 +120,108 @@ fn one_file<'a, S: Shelf>(
     Ok(Step::Finish(ending))
 }
 
+/// What comes of a sample whose file is fetched.
+fn sample_program<'a>(
+    alloc: Global,
+    program: &[u8],
+    seed: u64,
+    steps: u32,
+) -> Result<Step<'a>, NoMemory>
+    ensures due { IfOk result (λ step. IsDueOfBytes (IsDueOfSample seed steps) program.now (due_of step)) }
+    ensures stands { IfOk result Stands }
+    ensures whole { IfOk result LacksNone }
+{
+    match plan_of(alloc, program)? {
+        Ok(plan) => Ok(Step::Finish(sample_plan(alloc, plan, seed, steps)?)),
+        Err(refused) => Ok(Step::Finish(refused)),
+    }
+}
+
+/// What comes of a sample.
+fn sample<'a, S: Shelf>(
+    alloc: Global,
+    program: &'a str,
+    seed: u64,
+    steps: u32,
+    shelf: &mut S,
+) -> Result<Step<'a>, NoMemory>
+    ensures due { IfOk result (λ step. IsStepOfPlan (S.contents shelf.old) program.now (IsDueOfSample seed steps) (due_of step)) }
+    ensures stands { IfOk result Stands }
+    ensures lack { IfOk result (IsLackNoted (S.fetched shelf.new) (S.faults shelf.old) (S.faults shelf.new)) }
+    ensures asked { AsksFirstOf (S.fetched shelf.old) (S.fetched shelf.new) (program.now ∷ []) }
+{
+    let bytes = match shelf.fetch(program) {
+        Ok(bytes) => bytes,
+        Err(ShelfFault::NoMemory) => return Err(AllocError),
+        Err(ShelfFault::Failed) => return Ok(Step::Lack(program)),
+    };
+    let step = sample_program(alloc, bytes.as_slice(), seed, steps)?;
+    Ok(step)
+}
+
+/// What comes of a node of a plan, by its name.
+fn node_of_plan<'a>(alloc: Global, plan: Plan, name: &str, turns: u32) -> Result<Step<'a>, NoMemory>
+    requires obey { AllByRecursion Obeys plan.checked.interfaces }
+    requires well_formed { AreWellFormed plan.checked.interfaces (map module_as plan.checked.modules) }
+    requires deployed { IsDeployment plan.deployment }
+    requires roots { HaveTheirRoots plan }
+    requires named { All IsAscii plan.names }
+    ensures due { IfOk result (λ step. IsDueOfNode name.now turns plan (due_of step)) }
+    ensures stands { IfOk result Stands }
+    ensures whole { IfOk result LacksNone }
+{
+    match node_named(&plan.deployment, name) {
+        Some(node) => Ok(Step::Serve(plan, node, turns)),
+        None => Ok(Step::Finish(no_node(alloc, name)?)),
+    }
+}
+
+/// What comes of a node of a program that is fetched.
+fn node_program<'a>(
+    alloc: Global,
+    program: &[u8],
+    name: &str,
+    turns: u32,
+) -> Result<Step<'a>, NoMemory>
+    ensures due { IfOk result (λ step. IsDueOfBytes (IsDueOfNode name.now turns) program.now (due_of step)) }
+    ensures stands { IfOk result Stands }
+    ensures whole { IfOk result LacksNone }
+{
+    match plan_of(alloc, program)? {
+        Ok(plan) => node_of_plan(alloc, plan, name, turns),
+        Err(refused) => Ok(Step::Finish(refused)),
+    }
+}
+
+/// What comes of a node of a program.
+fn node<'a, S: Shelf>(
+    alloc: Global,
+    program: &'a str,
+    name: &'a str,
+    turns: u32,
+    shelf: &mut S,
+) -> Result<Step<'a>, NoMemory>
+    ensures due { IfOk result (λ step. IsStepOfPlan (S.contents shelf.old) program.now (IsDueOfNode name.now turns) (due_of step)) }
+    ensures stands { IfOk result Stands }
+    ensures lack { IfOk result (IsLackNoted (S.fetched shelf.new) (S.faults shelf.old) (S.faults shelf.new)) }
+    ensures asked { AsksFirstOf (S.fetched shelf.old) (S.fetched shelf.new) (program.now ∷ []) }
+{
+    let bytes = match shelf.fetch(program) {
+        Ok(bytes) => bytes,
+        Err(ShelfFault::NoMemory) => return Err(AllocError),
+        Err(ShelfFault::Failed) => return Ok(Step::Lack(program)),
+    };
+    let step = node_program(alloc, bytes.as_slice(), name, turns)?;
+    Ok(step)
+}
+
 /// A form that is built.
 enum Built<'a> {
     Stubs(&'a str),
     Run(&'a str),
     Replay(&'a str, &'a str),
+    Node(&'a str, &'a str, u32),
+    Sample(&'a str, u64, u32),
     Place(&'a str),
 }
 
@@ -133,8 +234,18 @@ fn built_of(form: Form<'_>) -> Option<Built<'_>>
         Form::Stubs { program } => Some(Built::Stubs(program)),
         Form::Run { program } => Some(Built::Run(program)),
         Form::Replay { program, schedule } => Some(Built::Replay(program, schedule)),
+        Form::Node {
+            program,
+            name,
+            turns,
+        } => Some(Built::Node(program, name, turns)),
+        Form::Sample {
+            program,
+            seed,
+            steps,
+        } => Some(Built::Sample(program, seed, steps)),
         Form::Place { placing } => Some(Built::Place(placing)),
-        Form::Node { .. } | Form::Sample { .. } | Form::Settle { .. } | Form::Audit { .. } => None,
+        Form::Settle { .. } | Form::Audit { .. } => None,
     }
 }
 
@@ -157,6 +268,8 @@ pub fn follow<'a, S: Shelf>(
         Some(Built::Stubs(program)) => one_file(alloc, OneFile::Stubs, program, shelf),
         Some(Built::Run(program)) => one_file(alloc, OneFile::Run, program, shelf),
         Some(Built::Replay(program, schedule)) => replay(alloc, program, schedule, shelf),
+        Some(Built::Node(program, name, turns)) => node(alloc, program, name, turns, shelf),
+        Some(Built::Sample(program, seed, steps)) => sample(alloc, program, seed, steps, shelf),
         Some(Built::Place(placing)) => one_file(alloc, OneFile::Place, placing, shelf),
         None => {
             let unbuilt = Ending::of_line(alloc, Status::NotBuilt, "not built\n")?;

@@ -1,35 +1,40 @@
 // The top call.
 ghost use Rattle.std.specs.Prelude.{◌≡◌, ◌⊎◌, map, string_bytes, IfOk};
 ghost use Rattle.circus_outside.specs.Faults.{Rose};
-ghost use Rattle.circus_program.specs.Answer.{AsksOnly, WritesEnd, WritesLack, WritesPartOfText, shelf_fault};
+ghost use Rattle.circus_program.specs.Answer.{AsksForNode, AsksOnly, WritesEnd, WritesLack, WritesPartOfText, shelf_fault};
 ghost use Rattle.circus_ending.specs.declared.status.Status.{Status as Ended};
-ghost use Rattle.circus_ending.specs.declared.status.Status.TheVariants.{Done, BadCommandLine, BadProgram, BadSchedule, ShelfFault, NoMemory, Spent, NotBuilt, BadPlacing, NoPlacement};
+ghost use Rattle.circus_ending.specs.declared.status.Status.TheVariants.{Done, BadCommandLine, BadProgram, BadSchedule, ShelfFault, LinkFault, NoMemory, Spent, NotBuilt, BadPlacing, NoPlacement};
 ghost use Rattle.circus_ending.specs.Status.{code_of};
 ghost use Rattle.circus_ending.specs.Seen.Ending.{ending_of};
-ghost use Rattle.circus_program.specs.Seen.Put.{IsAnswer, IsFinished, IsPutEnd};
-ghost use Rattle.circus_program.specs.Seen.Step.{written_of, Stands};
+ghost use Rattle.circus_serve.specs.Outside.{tells_of};
+ghost use Rattle.circus_program.specs.Seen.Put.{IsAnswer, IsFinished};
+ghost use Rattle.circus_program.specs.Seen.Step.{IsPutStep, IsServing, Stands};
 
 use crate::answer::{Step, follow};
 use crate::put::put_end;
 use crate::replay::replay;
 use circus_ending::{Ending, Status};
 use circus_outside::{Link, Shelf, Sink, SinkFault};
+use circus_served::serve_node;
 use circus_value::NoMemory;
 use std::alloc::Global;
 
 /// Does what the words ask for: fetches files from the shelf, writes to the sink line by line, and answers
-/// the status (docs/GUIDE.md, "Statuses"). So far `stubs`, `run`, `replay` and `place` are built; the link is not used. The
-/// report of a replay is written as its lines are stepped.
+/// the status (docs/GUIDE.md, "Statuses"). So far all forms but `settle` and `audit` are built; the link is used by `node`
+/// alone. The report of a replay is written as its lines are stepped.
 ///
-/// - 0: the stubs or the history of a program, the report of a replay, or the best choice of a placing is written.
+/// - 0: the stubs or the history of a program, the report of a replay, the record of a node, the summary of a sample, or the
+///   best choice of a placing is written.
 /// - 1: exactly where the words are of no form.
-/// - 2: exactly where the file of `stubs`, `run` or `replay` is no program; its line and cause are written.
+/// - 2: exactly where the file of another form than `place` is no program, whose line and cause are written, or `node` names
+///   no node of it.
 /// - 3: exactly where a line of the schedule is refused, which the last line written names; behind the lines of what was
 ///   sent before, where it may not be stepped.
 /// - 4: only where the shelf's count of faults rose; the name fetched last is written.
 /// - 5: only where the sink's count of faults rose; what was written is a part of the text.
+/// - 6: only where the link's count of faults rose, in `node`.
 /// - 7: where there is no memory; what was written is a part of the text.
-/// - 8: exactly where a node of a replay has no number left for a call to another one; the two are written, behind the lines
+/// - 8: exactly where a node has no number left for a call to another one; the two are written, in a replay behind the lines
 ///   of what was sent before.
 /// - 9: exactly where the words are of another form than these.
 /// - 11: exactly where the text of a placing is refused, whose line and cause are written.
@@ -43,53 +48,69 @@ pub fn circus<S: Shelf, K: Sink, L: Link>(
 ) -> u8
     ensures known { (status : Ended) × (result ≡ code_of status) }
     ensures asked { AsksOnly (S.fetched shelf.old) (S.fetched shelf.new) (map string_bytes words.now) }
-    ensures link { link.new ≡ link.old }
+    ensures link { (AsksForNode (map string_bytes words.now) → ⊥) → link.new ≡ link.old }
 
-    ensures done { result ≡ code_of Done → WritesEnd (S.contents shelf.old) (map string_bytes words.now) (K.written sink.old) (K.written sink.new) Done }
-    ensures bad_words { result ≡ code_of BadCommandLine → WritesEnd (S.contents shelf.old) (map string_bytes words.now) (K.written sink.old) (K.written sink.new) BadCommandLine }
-    ensures bad_program { result ≡ code_of BadProgram → WritesEnd (S.contents shelf.old) (map string_bytes words.now) (K.written sink.old) (K.written sink.new) BadProgram }
-    ensures bad_schedule { result ≡ code_of BadSchedule → WritesEnd (S.contents shelf.old) (map string_bytes words.now) (K.written sink.old) (K.written sink.new) BadSchedule }
-    ensures spent { result ≡ code_of Spent → WritesEnd (S.contents shelf.old) (map string_bytes words.now) (K.written sink.old) (K.written sink.new) Spent }
-    ensures not_built { result ≡ code_of NotBuilt → WritesEnd (S.contents shelf.old) (map string_bytes words.now) (K.written sink.old) (K.written sink.new) NotBuilt }
-    ensures bad_placing { result ≡ code_of BadPlacing → WritesEnd (S.contents shelf.old) (map string_bytes words.now) (K.written sink.old) (K.written sink.new) BadPlacing }
-    ensures no_placement { result ≡ code_of NoPlacement → WritesEnd (S.contents shelf.old) (map string_bytes words.now) (K.written sink.old) (K.written sink.new) NoPlacement }
+    ensures done { result ≡ code_of Done → WritesEnd (S.contents shelf.old) (map string_bytes words.now) (tells_of (L.bound link.old) (L.taken link.old) (L.given link.old)) (tells_of (L.bound link.new) (L.taken link.new) (L.given link.new)) (K.written sink.old) (K.written sink.new) Done }
+    ensures bad_words { result ≡ code_of BadCommandLine → WritesEnd (S.contents shelf.old) (map string_bytes words.now) (tells_of (L.bound link.old) (L.taken link.old) (L.given link.old)) (tells_of (L.bound link.new) (L.taken link.new) (L.given link.new)) (K.written sink.old) (K.written sink.new) BadCommandLine }
+    ensures bad_program { result ≡ code_of BadProgram → WritesEnd (S.contents shelf.old) (map string_bytes words.now) (tells_of (L.bound link.old) (L.taken link.old) (L.given link.old)) (tells_of (L.bound link.new) (L.taken link.new) (L.given link.new)) (K.written sink.old) (K.written sink.new) BadProgram }
+    ensures bad_schedule { result ≡ code_of BadSchedule → WritesEnd (S.contents shelf.old) (map string_bytes words.now) (tells_of (L.bound link.old) (L.taken link.old) (L.given link.old)) (tells_of (L.bound link.new) (L.taken link.new) (L.given link.new)) (K.written sink.old) (K.written sink.new) BadSchedule }
+    ensures spent { result ≡ code_of Spent → WritesEnd (S.contents shelf.old) (map string_bytes words.now) (tells_of (L.bound link.old) (L.taken link.old) (L.given link.old)) (tells_of (L.bound link.new) (L.taken link.new) (L.given link.new)) (K.written sink.old) (K.written sink.new) Spent }
+    ensures not_built { result ≡ code_of NotBuilt → WritesEnd (S.contents shelf.old) (map string_bytes words.now) (tells_of (L.bound link.old) (L.taken link.old) (L.given link.old)) (tells_of (L.bound link.new) (L.taken link.new) (L.given link.new)) (K.written sink.old) (K.written sink.new) NotBuilt }
+    ensures bad_placing { result ≡ code_of BadPlacing → WritesEnd (S.contents shelf.old) (map string_bytes words.now) (tells_of (L.bound link.old) (L.taken link.old) (L.given link.old)) (tells_of (L.bound link.new) (L.taken link.new) (L.given link.new)) (K.written sink.old) (K.written sink.new) BadPlacing }
+    ensures no_placement { result ≡ code_of NoPlacement → WritesEnd (S.contents shelf.old) (map string_bytes words.now) (tells_of (L.bound link.old) (L.taken link.old) (L.given link.old)) (tells_of (L.bound link.new) (L.taken link.new) (L.given link.new)) (K.written sink.old) (K.written sink.new) NoPlacement }
 
     ensures shelf_fault { result ≡ code_of ShelfFault → WritesLack (S.contents shelf.old) (map string_bytes words.now) (S.fetched shelf.new) (K.written sink.old) (K.written sink.new) }
     ensures shelf_rose { result ≡ code_of ShelfFault → Rose (S.faults shelf.old) (S.faults shelf.new) }
 
-    ensures sink_fault { result ≡ code_of Status.SinkFault → WritesPartOfText (S.contents shelf.old) (map string_bytes words.now) (S.fetched shelf.new) (Rose (S.faults shelf.old) (S.faults shelf.new)) (K.written sink.old) (K.written sink.new) }
+    ensures link_fault { result ≡ code_of LinkFault → WritesEnd (S.contents shelf.old) (map string_bytes words.now) (tells_of (L.bound link.old) (L.taken link.old) (L.given link.old)) (tells_of (L.bound link.new) (L.taken link.new) (L.given link.new)) (K.written sink.old) (K.written sink.new) LinkFault }
+    ensures link_rose { result ≡ code_of LinkFault → Rose (L.faults link.old) (L.faults link.new) }
+
+    ensures sink_fault { result ≡ code_of Status.SinkFault → WritesPartOfText (S.contents shelf.old) (map string_bytes words.now) (tells_of (L.bound link.old) (L.taken link.old) (L.given link.old)) (tells_of (L.bound link.new) (L.taken link.new) (L.given link.new)) (S.fetched shelf.new) (Rose (S.faults shelf.old) (S.faults shelf.new)) (K.written sink.old) (K.written sink.new) }
     ensures sink_rose { result ≡ code_of Status.SinkFault → Rose (K.faults sink.old) (K.faults sink.new) }
 
-    ensures no_memory { result ≡ code_of NoMemory → WritesPartOfText (S.contents shelf.old) (map string_bytes words.now) (S.fetched shelf.new) (Rose (S.faults shelf.old) (S.faults shelf.new)) (K.written sink.old) (K.written sink.new) }
+    ensures no_memory { result ≡ code_of NoMemory → WritesPartOfText (S.contents shelf.old) (map string_bytes words.now) (tells_of (L.bound link.old) (L.taken link.old) (L.given link.old)) (tells_of (L.bound link.new) (L.taken link.new) (L.given link.new)) (S.fetched shelf.new) (Rose (S.faults shelf.old) (S.faults shelf.new)) (K.written sink.old) (K.written sink.new) }
 {
-    let _link = link;
-    let status = answer(alloc, words, shelf, sink);
+    let status = answer(alloc, words, shelf, sink, link);
     status.code()
 }
 
-/// Does what the words ask for, over a shelf and a sink.
-fn answer<S: Shelf, K: Sink>(alloc: Global, words: &[String], shelf: &mut S, sink: &mut K) -> Status
+/// Does what the words ask for.
+fn answer<S: Shelf, K: Sink, L: Link>(
+    alloc: Global,
+    words: &[String],
+    shelf: &mut S,
+    sink: &mut K,
+    link: &mut L,
+) -> Status
     ensures asked { AsksOnly (S.fetched shelf.old) (S.fetched shelf.new) (map string_bytes words.now) }
+    ensures link { (AsksForNode (map string_bytes words.now) → ⊥) → link.new ≡ link.old }
     ensures answer { IsAnswer (S.contents shelf.old) (map string_bytes words.now) (S.fetched shelf.new) (Rose (S.faults shelf.old) (S.faults shelf.new))
+        (tells_of (L.bound link.old) (L.taken link.old) (L.given link.old)) (tells_of (L.bound link.new) (L.taken link.new) (L.given link.new)) (Rose (L.faults link.old) (L.faults link.new))
         (K.written sink.old) (K.written sink.new) (Rose (K.faults sink.old) (K.faults sink.new)) result }
 {
     let step = match follow(alloc, words, shelf) {
         Ok(step) => step,
         Err(_) => return Status::NoMemory,
     };
-    let status = write(alloc, step, sink);
+    let status = write(alloc, step, sink, link);
     finish(sink, status)
 }
 
 /// Writes what a step comes to, and answers its status where all of it was taken.
-fn write<K: Sink>(alloc: Global, step: Step<'_>, sink: &mut K) -> Status
+fn write<K: Sink, L: Link>(alloc: Global, step: Step<'_>, sink: &mut K, link: &mut L) -> Status
     requires { Stands step }
-    ensures { IsPutEnd (written_of step.entry) (K.written sink.old) (K.written sink.new) (K.faults sink.old) (K.faults sink.new) result }
+    ensures put { IsPutStep (tells_of (L.bound link.old) (L.taken link.old) (L.given link.old)) (tells_of (L.bound link.new) (L.taken link.new) (L.given link.new))
+        step.entry (K.written sink.old) (K.written sink.new) (K.faults sink.old) (K.faults sink.new) result }
+    ensures rose { result ≡ Status.LinkFault → IsServing step.entry → Rose (L.faults link.old) (L.faults link.new) }
+    ensures link { (IsServing step.entry → ⊥) → link.new ≡ link.old }
 {
     match step {
         Step::Finish(ending) => put_end(Ok(ending), sink),
         Step::Replay(ready) => replay(alloc, ready, sink),
         Step::Lack(name) => put_end(lack(alloc, name), sink),
+        Step::Serve(plan, node, turns) => {
+            put_end(serve_node(alloc, plan, node, turns, link), sink)
+        }
     }
 }
 

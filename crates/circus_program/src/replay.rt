@@ -8,15 +8,16 @@ ghost use Rattle.circus_program.specs.Seen.Ready.{end_of_ready, IsReady};
 ghost use Rattle.circus_program.specs.Seen.Ended.{IsEndedBy};
 
 use crate::put::put_end;
-use crate::ready::{Ready, spent};
+use crate::ready::Ready;
 use crate::schedule_refused::illegal;
 use circus_collate::Hosts;
 use circus_config::Names;
-use circus_ending::Status;
+use circus_ending::{Status, spent};
 use circus_model::Module;
 use circus_outside::Sink;
 use circus_running::{RunFault, Running};
 use circus_schedule::Line;
+use circus_simulated::Simulated;
 use std::alloc::Global;
 
 /// Runs a replay to its end, and answers the status of that where all was written.
@@ -24,12 +25,12 @@ pub fn replay<K: Sink>(alloc: Global, ready: Ready, sink: &mut K) -> Status
     requires { IsReady ready }
     ensures { IsPutEnd (end_of_ready ready) (K.written sink.old) (K.written sink.new) (K.faults sink.old) (K.faults sink.new) result }
 {
-    let Ready {
+    let Ready { simulated, lines } = ready;
+    let Simulated {
         world,
         hosts,
         names,
-        lines,
-    } = ready;
+    } = simulated;
     match Running::begin(alloc, world, sink) {
         Ok(running) => follow(alloc, running, &hosts, &names, lines.as_slice(), sink),
         Err(fault) => stopped(fault),

@@ -1,5 +1,7 @@
-//! A run of the command over a shelf, a sink and a link in memory, for tests.
+//! A run of the command over a shelf, a sink and a link in memory, for tests; `programs` has programs in parts.
 #![tactic(auto)]
+
+pub mod programs;
 
 use circus_outside::{Arrivals, Failing, File, Files, MemLink, MemShelf, MemSink, Shelf, Sink};
 use circus_program::circus;
@@ -18,6 +20,11 @@ impl Ended {
     /// What was written.
     pub fn written(&self) -> &[u8] {
         self.written.as_slice()
+    }
+
+    /// What was written, which is not copied.
+    pub fn into_written(self) -> Octets {
+        self.written
     }
 
     /// What was written, as a text.
@@ -78,6 +85,24 @@ pub fn perform(
     let mut shelf = MemShelf::new(alloc, files, Failing::new(alloc));
     let mut sink = MemSink::new(alloc, failing);
     let status = perform_over(alloc, words, &mut shelf, &mut sink)?;
+    Ok(Ended {
+        status,
+        written: sink.written().copy()?,
+        fetched: shelf.fetched().len(),
+    })
+}
+
+/// Performs the words over these files and a link.
+pub fn perform_linked(
+    alloc: Global,
+    words: &[&str],
+    files: Files,
+    link: &mut MemLink,
+) -> Result<Ended, NoMemory> {
+    let words = strings(alloc, words)?;
+    let mut shelf = MemShelf::new(alloc, files, Failing::new(alloc));
+    let mut sink = MemSink::new(alloc, Failing::new(alloc));
+    let status = circus(alloc, words.as_slice(), &mut shelf, &mut sink, link);
     Ok(Ended {
         status,
         written: sink.written().copy()?,

@@ -1,7 +1,7 @@
 // The bank.
-use crate::programs::BANK;
 use crate::runs::{Long, Row, Steps, all_leave, all_tell};
 use std::test::Fail;
+use tests_command::programs::BANK;
 
 const BOOT_SENDS: &str = "\
 circus report 1

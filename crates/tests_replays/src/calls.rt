@@ -1,9 +1,9 @@
 // Calls that come again, from several members, and early.
-use crate::programs::{
-    ADDS_ONCE, COUNT, COUNTER, FORMAT_1, ONE_CALL, STEP, STEP_A, STEP_B, STEPS_BOTH,
-};
 use crate::runs::{Row, all_leave};
 use std::test::Fail;
+use tests_command::programs::{
+    ADDS_ONCE, COUNT, COUNTER, FORMAT_1, ONE_CALL, STEP, STEP_A, STEP_B, STEPS_BOTH,
+};
 
 // Two members of each troupe, whose server waits for all callers, or for the first.
 const WAITS_FOR_ALL: &str = "\

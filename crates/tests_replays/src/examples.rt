@@ -1,7 +1,7 @@
 // The replays of the examples.
-use crate::programs::BANK;
 use crate::runs::{Row, all_leave};
 use std::test::Fail;
+use tests_command::programs::BANK;
 
 // examples/join.circus.
 const JOIN: &str = "\

@@ -1,7 +1,7 @@
 // Spares that join.
-use crate::programs::{ADDS_TWICE, COUNT, COUNTER, FORMAT_1, MAIN_AT_M1, STEP, STEP_A, STEPS_ONCE};
 use crate::runs::{Row, all_leave};
 use std::test::Fail;
+use tests_command::programs::{ADDS_TWICE, COUNT, COUNTER, FORMAT_1, MAIN_AT_M1, STEP, STEP_A, STEPS_ONCE};
 
 const ONE_SPARE: &str = "\
 RINGMASTER ring PORT 9000;

@@ -1,10 +1,10 @@
 // Messages of many segments, the second format, and the most steps of an execution.
-use crate::programs::{
+use crate::runs::{Long, Row, Steps, all_leave, all_tell};
+use std::test::Fail;
+use tests_command::programs::{
     BLOCK, BLOCK_CALLED, BLOCK_FILLED, FORMAT_1, FORMAT_2, ONE_CALL_IN_FORMAT_2, ROOM, ROOM_FILLED,
     WHEEL,
 };
-use crate::runs::{Long, Row, Steps, all_leave, all_tell};
-use std::test::Fail;
 
 const IN_FORMAT_2: &str = "\
 circus report 1

@@ -1,7 +1,6 @@
 //! Tests of replays: whole reports, parts of long ones, refusals, and sinks and shelves that fail.
 //!
-//! `programs` has the programs in parts, `reports` the report of one call, and `runs` a table's row and what it asserts. The
-//! other modules have the tests.
+//! `reports` has the report of one call, and `runs` a table's row and what it asserts. The other modules have the tests.
 #![tactic(auto)]
 
 #[cfg(test)]
@@ -16,8 +15,6 @@ mod examples;
 mod joins;
 #[cfg(test)]
 mod lengths;
-#[cfg(test)]
-mod programs;
 #[cfg(test)]
 mod programs_refused;
 #[cfg(test)]

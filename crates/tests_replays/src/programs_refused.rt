@@ -1,8 +1,8 @@
 // Programs that are refused before a schedule is asked for.
-use crate::programs::{ADDS_ONCE, COUNT, COUNTER, FORMAT_1, ONE_CALL, ONE_OF_EACH};
 use crate::runs::{REPLAY, Row, all_leave};
 use circus_outside::{Failing, Files};
 use std::test::Fail;
+use tests_command::programs::{ADDS_ONCE, COUNT, COUNTER, FORMAT_1, ONE_CALL, ONE_OF_EACH};
 use tests_command::{file, joined, perform};
 
 const SECOND_ROOT: &str = "\

@@ -1,11 +1,11 @@
 // Schedules that are refused: where they are read as none, and where a line may not be stepped.
-use crate::programs::{ADDS_ONCE, COUNT, COUNTER, FORMAT_1};
 use crate::reports::{CALL, CALL_ACKNOWLEDGED, RETURN, RETURN_ACKNOWLEDGED, TITLE};
 use crate::runs::replayed;
 use circus_value::NoMemory;
 use std::alloc::Global;
 use std::process::Abort;
 use std::test::Fail;
+use tests_command::programs::{ADDS_ONCE, COUNT, COUNTER, FORMAT_1};
 use tests_command::joined;
 
 // Each troupe has a spare.

@@ -1,7 +1,6 @@
 // Sinks and shelves that fail, a sink that takes one byte of each piece, and one that fails at the end.
 ghost use Rattle.std.specs.Prelude.{None};
 
-use crate::programs::ONE_CALL;
 use crate::reports::{CALL, DELIVER_ALL, REPORT, TITLE};
 use crate::runs::{REPLAY, files};
 use circus_outside::{Failing, MemShelf, MemSink, Sink, SinkFault};
@@ -9,6 +8,7 @@ use circus_value::{NoMemory, Octets};
 use std::alloc::Global;
 use std::process::Abort;
 use std::test::Fail;
+use tests_command::programs::ONE_CALL;
 use tests_command::{Ended, joined, perform, perform_over};
 
 // Takes one byte of a piece, and may fail at the end.

@@ -305,7 +305,7 @@ const REFUSED: [Row; 4] = [
         fetched: 1,
     },
     Row {
-        words: &["sample", "p", "1", "1"],
+        words: &["settle", "p", "1"],
         program: CALLS_WITH_5,
         schedule: DELIVER_ALL,
         written: &[NOT_BUILT],

@@ -5,7 +5,8 @@ use Rattle.circus_running.specs.declared.running.RunFault.{RunFault}
 use Rattle.circus_running.specs.declared.running.RunFault.TheVariants as fault
 use Rattle.circus_ending.specs.declared.status.Status.{Status}
 use Rattle.circus_ending.specs.declared.status.Status.TheVariants.{SinkFault, NoMemory}
-use Rattle.circus_program.specs.Replay.{cause_text, refused, spent}
+use Rattle.circus_ending.specs.Spent.{spent}
+use Rattle.circus_program.specs.Replay.{cause_text, refused}
 use Rattle.circus_program.specs.Seen.Put.{IsPutEnd}
 
 -- the end at the line of this number was put, and nothing where the sink had failed or memory had run out

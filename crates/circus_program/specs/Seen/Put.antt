@@ -2,12 +2,13 @@
 use Rattle.std.specs.Prelude.{◌≡◌, ◌⊎◌, ℕ, Option, List, Result, Ok, Err, IsTrue}
 use Rattle.circus_outside.specs.Faults.{Rose}
 use Rattle.circus_ending.specs.declared.status.Status.{Status}
-use Rattle.circus_ending.specs.declared.status.Status.TheVariants.{ShelfFault, SinkFault, NoMemory}
+use Rattle.circus_ending.specs.declared.status.Status.TheVariants.{ShelfFault, SinkFault, LinkFault, NoMemory}
 use Rattle.circus_ending.specs.Status.{is_end}
 use Rattle.circus_ending.specs.Ending.{Ending}
 use Rattle.circus_ending.specs.declared.ending.Ending as coded
 use Rattle.circus_ending.specs.Seen.Ending.{ending_of}
 use Rattle.circus_running.specs.Writing.{Writes, WritesPart}
+use Rattle.circus_serve.specs.Outside.{Tells}
 use Rattle.circus_program.specs.Answer.{WritesPartOfText, WritesEnd, WritesLack}
 
 -- a text was put with this status, or a part of it, and the sink failed or there was no memory; the sink has counted so many
@@ -31,10 +32,11 @@ abbrev pub IsFinished : Status → Type 0 → Status → Type 0
 IsFinished status SinkRose result = (result ≡ status) ⊎ (((result ≡ SinkFault) × SinkRose) ⊎ (result ≡ NoMemory))
 
 -- each clause of the top call
-pub record IsAnswer (shelf : Option (List ℕ → Option (List ℕ))) (words : List (List ℕ)) (fetched : Option (List (List ℕ))) (ShelfRose : Type 0) (old new : Option (List ℕ)) (SinkRose : Type 0) (result : Status) : Type 0 where
-  pub ended : IsTrue (is_end result) → WritesEnd shelf words old new result
+pub record IsAnswer (shelf : Option (List ℕ → Option (List ℕ))) (words : List (List ℕ)) (fetched : Option (List (List ℕ))) (ShelfRose : Type 0) (before after : Tells) (LinkRose : Type 0) (old new : Option (List ℕ)) (SinkRose : Type 0) (result : Status) : Type 0 where
+  pub ended : IsTrue (is_end result) → WritesEnd shelf words before after old new result
   pub lacked : result ≡ ShelfFault → WritesLack shelf words fetched old new
   pub shelf_rose : result ≡ ShelfFault → ShelfRose
-  pub stopped : result ≡ SinkFault → WritesPartOfText shelf words fetched ShelfRose old new
+  pub link_rose : result ≡ LinkFault → LinkRose
+  pub stopped : result ≡ SinkFault → WritesPartOfText shelf words before after fetched ShelfRose old new
   pub sink_rose : result ≡ SinkFault → SinkRose
-  pub no_memory : result ≡ NoMemory → WritesPartOfText shelf words fetched ShelfRose old new
+  pub no_memory : result ≡ NoMemory → WritesPartOfText shelf words before after fetched ShelfRose old new

@@ -1,16 +1,25 @@
 -- What the code's step says, as plain data.
-use Rattle.std.specs.Prelude.{ℕ, ◌≡◌, ◌⊎◌, Option, List, [], ◌∷◌, IsTrue}
+use Rattle.std.specs.Prelude.{ℕ, ◌≡◌, ◌⊎◌, ◌<◌, Option, List, [], ◌∷◌, length, map, All, IsAscii, IsTrue}
+use Rattle.std.specs.List.{AllByRecursion}
 use Rattle.circus_outside.specs.Faults.{Rose}
+use Rattle.circus_idl.specs.Obeys.{Obeys}
+use Rattle.circus_check.specs.Seen.Meant.{module_as}
+use Rattle.circus_check.specs.WellFormed.{AreWellFormed}
+use Rattle.circus_collate.specs.Deployment.{IsDeployment}
+use Rattle.circus_serve.specs.Outside.{Tells}
+use Rattle.circus_served.specs.NodeEnds.{IsEndOfServing}
 use Rattle.circus_program.specs.declared.answer.Step.{Step}
-use Rattle.circus_program.specs.declared.answer.Step.TheVariants.{Finish, Lack, Replay}
-use Rattle.circus_ending.specs.declared.status.Status.TheVariants.{ShelfFault}
+use Rattle.circus_program.specs.declared.answer.Step.TheVariants.{Finish, Lack, Replay, Serve}
+use Rattle.circus_ending.specs.declared.status.Status.{Status}
+use Rattle.circus_ending.specs.declared.status.Status.TheVariants.{ShelfFault, NoMemory}
 use Rattle.circus_ending.specs.Status.{is_end}
 use Rattle.circus_ending.specs.Ending.{Ending}
 use Rattle.circus_ending.specs.Seen.Ending.{ending_of}
 use Rattle.circus_ending.specs.declared.one_file.OneFile.{OneFile}
 use Rattle.circus_config.specs.declared.plan.Plan.{Plan}
-use Rattle.circus_config.specs.Program.{IsProgramOf}
-use Rattle.circus_program.specs.Answer.{Due, fetch, finish, IsDueOfRefused, IsDueOfSchedule, IsDueOfReplay, IsDueOfFile, AreFetchedOf, WasLast, shelf_fault}
+use Rattle.circus_config.specs.Program.{IsProgramOf, HaveTheirRoots}
+use Rattle.circus_program.specs.Answer.{Due, fetch, finish, serve, IsDueOfRefused, IsDueOfSchedule, IsDueOfReplay, IsDueOfFile, IsDueOfProgram, AreFetchedOf, WasLast, shelf_fault}
+use Rattle.circus_program.specs.Seen.Put.{IsPutEnd}
 use Rattle.circus_program.specs.Seen.Ready.{end_of_ready, IsReady}
 
 -- the end, or the file that was due
@@ -18,23 +27,55 @@ abbrev pub due_of : Step → Due
 due_of (Finish ending) = finish (ending_of ending)
 due_of (Lack name) = fetch name.now
 due_of (Replay ready) = finish (end_of_ready ready)
+due_of (Serve plan node turns) = serve plan node turns
 
--- what it writes, and the status where all of it is taken
-abbrev pub written_of : Step → Ending
-written_of (Finish ending) = ending_of ending
-written_of (Lack name) = record { status = ShelfFault; text = shelf_fault name.now }
-written_of (Replay ready) = end_of_ready ready
+-- what it writes, and the status where all of it is taken; a node that is served by what the link tells
+abbrev pub IsWrittenOf : Tells → Tells → Step → Ending → Type 0
+IsWrittenOf before after (Finish ending) written = (written ≡ ending_of ending) × (after ≡ before)
+IsWrittenOf before after (Lack name) written = (written ≡ record { status = ShelfFault; text = shelf_fault name.now }) × (after ≡ before)
+IsWrittenOf before after (Replay ready) written = (written ≡ end_of_ready ready) × (after ≡ before)
+IsWrittenOf before after (Serve plan node turns) written = IsEndOfServing plan node turns before after written
 
--- an end has the status of one, and a replay may begin
+-- what a step comes to was put, or there was no memory for it
+abbrev pub IsPutStep : Tells → Tells → Step → Option (List ℕ) → Option (List ℕ) → ℕ → ℕ → Status → Type 0
+IsPutStep before after step old new faults count result =
+    ((ending : Ending) × IsWrittenOf before after step ending × IsPutEnd ending old new faults count result) ⊎ ((result ≡ NoMemory) × (new ≡ old))
+
+-- it serves a node
+abbrev pub IsServing : Step → Type 0
+IsServing (Finish ending) = ⊥
+IsServing (Lack name) = ⊥
+IsServing (Replay ready) = ⊥
+IsServing (Serve plan node turns) = Unit {0}
+
+-- a node of a plan that was read of a file
+pub record CanBeServed (plan : Plan) (node : ℕ) : Type 0 where
+  pub obey : AllByRecursion Obeys plan.checked.interfaces
+  pub well_formed : AreWellFormed plan.checked.interfaces (map module_as plan.checked.modules)
+  pub deployed : IsDeployment plan.deployment
+  pub roots : HaveTheirRoots plan
+  pub named : All IsAscii plan.names
+  pub within : node < length plan.deployment.nodes
+
+-- an end has the status of one, a replay may begin, and a node may be served
 abbrev pub Stands : Step → Type 0
 Stands (Finish ending) = IsTrue (is_end ending.status)
 Stands (Lack name) = Unit {0}
 Stands (Replay ready) = IsReady ready
+Stands (Serve plan node turns) = CanBeServed plan node
+
+-- it lacks no file
+abbrev pub LacksNone : Step → Type 0
+LacksNone (Finish ending) = Unit {0}
+LacksNone (Lack name) = ⊥
+LacksNone (Replay ready) = Unit {0}
+LacksNone (Serve plan node turns) = Unit {0}
 
 -- a file that the shelf doesn't give was asked for last, and the count of faults rose
 abbrev pub IsLackNoted : Option (List (List ℕ)) → ℕ → ℕ → Step → Type 0
 IsLackNoted fetched old new (Finish ending) = Unit {0}
 IsLackNoted fetched old new (Replay ready) = Unit {0}
+IsLackNoted fetched old new (Serve plan node turns) = Unit {0}
 IsLackNoted fetched old new (Lack name) = Rose old new × WasLast fetched name.now
 
 -- what is due behind the program of a replay, which means this plan, once these more files are fetched
@@ -65,3 +106,9 @@ pub record IsStepOfFile (shelf : Option (List ℕ → Option (List ℕ))) (comma
   pub files : List (List ℕ)
   pub fetched : AreFetchedOf shelf (name ∷ []) files
   pub is_due : IsDueOfFile command name files due
+
+-- a step that is due of a command of one program, where this is due of its plan
+pub record IsStepOfPlan (shelf : Option (List ℕ → Option (List ℕ))) (program : List ℕ) (IsNext : Plan → Due → Type 0) (due : Due) : Type 0 where
+  pub files : List (List ℕ)
+  pub fetched : AreFetchedOf shelf (program ∷ []) files
+  pub is_due : IsDueOfProgram program IsNext files due

@@ -1,4 +1,5 @@
-use Rattle.circus_program.proofs.PutLemmas.{answered}
+use Rattle.circus_outside.specs.Faults.{Rose}
+use Rattle.circus_program.proofs.PutLemmas.{answered, unserved}
 use Rattle.circus_program.proofs.call.answer.Goals as goal
 
 pub returns-clause-answer : goal.returns-clause-answer
@@ -6,5 +7,10 @@ returns-clause-answer g c =
     let written = g.K.Sink.written in
     let faults = g.K.Sink.faults in
     answered _ _ (g.S.Shelf.fetched c.follow.new.shelf) c.in-Ok.step (g.S.Shelf.faults c.args.shelf.now) (g.S.Shelf.faults c.follow.new.shelf)
+    _ _ (Rose (g.L.Link.faults c.args.link.now) (g.L.Link.faults c.write-status.new.link))
     (written c.args.sink.now) (written c.write-status.new.sink) (written c.finish.new.sink) (faults c.args.sink.now) (faults c.write-status.new.sink) (faults c.finish.new.sink)
-    c.write-status.result c.finish.result c.in-Ok.ensures.due c.in-Ok.ensures.stands c.in-Ok.ensures.lack c.write-status.ensures c.finish.ensures.written c.finish.ensures.stopped c.finish.ensures.status
+    c.write-status.result c.finish.result c.in-Ok.ensures.due c.in-Ok.ensures.stands c.in-Ok.ensures.lack c.write-status.ensures.put c.write-status.ensures.rose
+    c.finish.ensures.written c.finish.ensures.stopped c.finish.ensures.status
+
+pub returns-clause-link : goal.returns-clause-link
+returns-clause-link g c = λ none. c.write-status.ensures.link (unserved _ _ c.in-Ok.step c.in-Ok.ensures.due none)

@@ -1,5 +1,5 @@
 use Rattle.std.proofs.Common.{refl}
-use Rattle.circus_ending.specs.declared.status.Status.TheVariants.{Done, BadCommandLine, BadProgram, BadSchedule, ShelfFault, SinkFault, NoMemory, Spent, NotBuilt, BadPlacing, NoPlacement}
+use Rattle.circus_ending.specs.declared.status.Status.TheVariants.{Done, BadCommandLine, BadProgram, BadSchedule, ShelfFault, SinkFault, LinkFault, NoMemory, Spent, NotBuilt, BadPlacing, NoPlacement}
 use Rattle.circus_program.proofs.PutLemmas.{ended_as, one_status}
 use Rattle.circus_program.proofs.call.circus.Goals as goal
 
@@ -7,28 +7,28 @@ pub returns-clause-known : goal.returns-clause-known
 returns-clause-known g c = (c.answer-status.result, c.code.ensures)
 
 pub returns-clause-done : goal.returns-clause-done
-returns-clause-done g c = λ is. ended_as _ _ _ _ _ _ _ c.answer-status.result Done c.code.result c.answer-status.ensures.answer c.code.ensures refl is
+returns-clause-done g c = λ is. ended_as _ _ _ _ _ _ _ _ _ _ c.answer-status.result Done c.code.result c.answer-status.ensures.answer c.code.ensures refl is
 
 pub returns-clause-bad_words : goal.returns-clause-bad_words
-returns-clause-bad_words g c = λ is. ended_as _ _ _ _ _ _ _ c.answer-status.result BadCommandLine c.code.result c.answer-status.ensures.answer c.code.ensures refl is
+returns-clause-bad_words g c = λ is. ended_as _ _ _ _ _ _ _ _ _ _ c.answer-status.result BadCommandLine c.code.result c.answer-status.ensures.answer c.code.ensures refl is
 
 pub returns-clause-bad_program : goal.returns-clause-bad_program
-returns-clause-bad_program g c = λ is. ended_as _ _ _ _ _ _ _ c.answer-status.result BadProgram c.code.result c.answer-status.ensures.answer c.code.ensures refl is
+returns-clause-bad_program g c = λ is. ended_as _ _ _ _ _ _ _ _ _ _ c.answer-status.result BadProgram c.code.result c.answer-status.ensures.answer c.code.ensures refl is
 
 pub returns-clause-bad_schedule : goal.returns-clause-bad_schedule
-returns-clause-bad_schedule g c = λ is. ended_as _ _ _ _ _ _ _ c.answer-status.result BadSchedule c.code.result c.answer-status.ensures.answer c.code.ensures refl is
+returns-clause-bad_schedule g c = λ is. ended_as _ _ _ _ _ _ _ _ _ _ c.answer-status.result BadSchedule c.code.result c.answer-status.ensures.answer c.code.ensures refl is
 
 pub returns-clause-spent : goal.returns-clause-spent
-returns-clause-spent g c = λ is. ended_as _ _ _ _ _ _ _ c.answer-status.result Spent c.code.result c.answer-status.ensures.answer c.code.ensures refl is
+returns-clause-spent g c = λ is. ended_as _ _ _ _ _ _ _ _ _ _ c.answer-status.result Spent c.code.result c.answer-status.ensures.answer c.code.ensures refl is
 
 pub returns-clause-not_built : goal.returns-clause-not_built
-returns-clause-not_built g c = λ is. ended_as _ _ _ _ _ _ _ c.answer-status.result NotBuilt c.code.result c.answer-status.ensures.answer c.code.ensures refl is
+returns-clause-not_built g c = λ is. ended_as _ _ _ _ _ _ _ _ _ _ c.answer-status.result NotBuilt c.code.result c.answer-status.ensures.answer c.code.ensures refl is
 
 pub returns-clause-bad_placing : goal.returns-clause-bad_placing
-returns-clause-bad_placing g c = λ is. ended_as _ _ _ _ _ _ _ c.answer-status.result BadPlacing c.code.result c.answer-status.ensures.answer c.code.ensures refl is
+returns-clause-bad_placing g c = λ is. ended_as _ _ _ _ _ _ _ _ _ _ c.answer-status.result BadPlacing c.code.result c.answer-status.ensures.answer c.code.ensures refl is
 
 pub returns-clause-no_placement : goal.returns-clause-no_placement
-returns-clause-no_placement g c = λ is. ended_as _ _ _ _ _ _ _ c.answer-status.result NoPlacement c.code.result c.answer-status.ensures.answer c.code.ensures refl is
+returns-clause-no_placement g c = λ is. ended_as _ _ _ _ _ _ _ _ _ _ c.answer-status.result NoPlacement c.code.result c.answer-status.ensures.answer c.code.ensures refl is
 
 pub returns-clause-shelf_fault : goal.returns-clause-shelf_fault
 returns-clause-shelf_fault g c = λ is. c.answer-status.ensures.answer.lacked (one_status c.answer-status.result ShelfFault c.code.result c.code.ensures is)
@@ -44,3 +44,9 @@ returns-clause-sink_rose g c = λ is. c.answer-status.ensures.answer.sink_rose (
 
 pub returns-clause-no_memory : goal.returns-clause-no_memory
 returns-clause-no_memory g c = λ is. c.answer-status.ensures.answer.no_memory (one_status c.answer-status.result NoMemory c.code.result c.code.ensures is)
+
+pub returns-clause-link_fault : goal.returns-clause-link_fault
+returns-clause-link_fault g c = λ is. ended_as _ _ _ _ _ _ _ _ _ _ c.answer-status.result LinkFault c.code.result c.answer-status.ensures.answer c.code.ensures refl is
+
+pub returns-clause-link_rose : goal.returns-clause-link_rose
+returns-clause-link_rose g c = λ is. c.answer-status.ensures.answer.link_rose (one_status c.answer-status.result LinkFault c.code.result c.code.ensures is)

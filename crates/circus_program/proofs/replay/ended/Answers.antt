@@ -1,7 +1,8 @@
 use Rattle.std.proofs.Common.{sym, subst, []}
 use Rattle.circus_record.specs.Naming.{names_of}
 use Rattle.circus_running.specs.declared.running.RunFault.{RunFault}
-use Rattle.circus_program.specs.Replay.{cause_text, refused, spent}
+use Rattle.circus_ending.specs.Spent.{spent}
+use Rattle.circus_program.specs.Replay.{cause_text, refused}
 use Rattle.circus_program.specs.Seen.Ended.{IsEndedBy}
 use Rattle.circus_program.proofs.Pieces.{put-if}
 use Rattle.circus_program.proofs.replay.ended.Goals as goal

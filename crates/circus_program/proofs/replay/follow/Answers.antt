@@ -12,7 +12,7 @@ use Rattle.circus_running.specs.Writing.{Writes}
 use Rattle.circus_ending.specs.declared.status.Status.TheVariants.{Done}
 use Rattle.circus_program.specs.Replay.{replayed}
 use Rattle.circus_program.specs.Seen.Put.{IsPutEnd}
-use Rattle.circus_program.proofs.Stepping.{stepped_keeps}
+use Rattle.circus_simulated.proofs.Stepping.{stepped_keeps}
 use Rattle.circus_program.proofs.Pieces.{begun-none, begun-as, part-left}
 use Rattle.circus_program.proofs.Following.{lines_from, put-stopped, begun-next, put-ended, put-done}
 use Rattle.circus_program.proofs.replay.follow.Goals as goal

@@ -6,7 +6,8 @@ use Rattle.circus_world.specs.WorldState.{WorldState}
 use Rattle.circus_running.specs.Run.{beginning}
 use Rattle.circus_program.specs.Replay.{replayed}
 use Rattle.circus_program.specs.Seen.Put.{IsPutEnd}
-use Rattle.circus_program.specs.Seen.Ready.{declared, turn, first, end_of_ready}
+use Rattle.circus_simulated.specs.Seen.Simulated.{declared, turn, first}
+use Rattle.circus_program.specs.Seen.Ready.{end_of_ready}
 use Rattle.circus_program.proofs.Pieces.{put-left}
 use Rattle.circus_program.proofs.Following.{put-stopped, begun-boot, part-boot}
 use Rattle.circus_program.proofs.replay.replay.Goals as goal
@@ -14,20 +15,20 @@ use Rattle.circus_program.proofs.replay.replay.Goals as goal
 pub returns-in-Ok : goal.returns-in-Ok
 returns-in-Ok g c =
     let r = c.args.ready in
-    let names = names_of r.hosts r.names in
+    let names = names_of r.simulated.hosts r.simulated.names in
     let whole = end_of_ready r in
     let old = g.K.Sink.written c.args.sink.now in
     let now = g.K.Sink.written c.begin.new.sink in
     let new = g.K.Sink.written c.follow.new.sink in
     let begins = g.K.Sink.faults c.begin.new.sink in
     let after = g.K.Sink.faults c.follow.new.sink in
-    let left = replayed declared turn names 1 r.lines r.world in
+    let left = replayed declared turn names 1 r.lines r.simulated.world in
     let here : replayed declared turn names 1 c.as_slice.result.now c.in-Ok.running ≡ left =
     ap (λ (l : List Line). replayed declared turn names 1 l c.in-Ok.running) c.as_slice.ensures
     ∙ ap (λ (w : WorldState TextModule). replayed declared turn names 1 r.lines w) c.in-Ok.ensures.same in
     subst (λ (before : ℕ). IsPutEnd whole old new before after c.follow.result) c.in-Ok.ensures.count
     (put-left whole old left now new begins after c.follow.result
-    (begun-boot declared turn first names r.lines r.world old now c.in-Ok.ensures.put)
+    (begun-boot declared turn first names r.lines r.simulated.world old now c.in-Ok.ensures.put)
     (subst (λ e. IsPutEnd e now new begins after c.follow.result) here c.follow.ensures))
 
 pub returns : goal.returns
@@ -35,5 +36,5 @@ returns g c =
     let r = c.args.ready in
     let old = g.K.Sink.written c.args.sink.now in
     let now = g.K.Sink.written c.begin.new.sink in
-    put-stopped (beginning r.world) (end_of_ready r) old old now (g.K.Sink.faults c.args.sink.now) (g.K.Sink.faults c.begin.new.sink) c.in-Err.fault c.stopped.result
-    c.stopped.ensures.sink c.stopped.ensures.memory c.in-Err.ensures.put c.in-Err.ensures.rose (part-boot declared turn first (names_of r.hosts r.names) r.lines r.world old now)
+    put-stopped (beginning r.simulated.world) (end_of_ready r) old old now (g.K.Sink.faults c.args.sink.now) (g.K.Sink.faults c.begin.new.sink) c.in-Err.fault c.stopped.result
+    c.stopped.ensures.sink c.stopped.ensures.memory c.in-Err.ensures.put c.in-Err.ensures.rose (part-boot declared turn first (names_of r.simulated.hosts r.simulated.names) r.lines r.simulated.world old now)

@@ -1,0 +1,105 @@
+-- What may be due: the fetch of a file, an end that is no failure of the link, or, where the words ask for one, a node to be served.
+use Rattle.std.proofs.Common.{◌≡◌, ℕ, inl, inr, Option, List, [], ◌∷◌, sym, ap, ◌∙◌}
+use Rattle.circus_config.specs.declared.plan.Plan.{Plan}
+use Rattle.circus_ending.specs.declared.status.Status.TheVariants.{BadCommandLine, BadProgram, LinkFault, NotBuilt}
+use Rattle.circus_ending.specs.declared.one_file.OneFile.{OneFile}
+use Rattle.circus_ending.specs.declared.one_file.OneFile.TheVariants.{Stubs, Run, Place}
+use Rattle.circus_ending.specs.Ending.{Ending}
+use Rattle.circus_program.specs.Form.{Form, stubs, run, replay, node, sample, settle, place, audit, IsOfForm}
+use Rattle.circus_program.specs.Answer.{Due, fetch, finish, serve, IsDueOfRefused, IsDueOfSchedule, IsDueOfReplay, IsDueOfFile, IsDueOfProgram, IsDueOfSample, IsDueOfNode, IsDueUnbuilt, IsDueOfForm, IsDue, AsksForNode}
+use Rattle.circus_program.proofs.Why.{never_ends, never_replays, never_drawn, ends_as}
+
+abbrev IsNode : Form → Type 0
+IsNode (node _ _ _) = Unit {0}
+IsNode (stubs _) = ⊥
+IsNode (run _) = ⊥
+IsNode (replay _ _) = ⊥
+IsNode (sample _ _ _) = ⊥
+IsNode (settle _ _) = ⊥
+IsNode (place _) = ⊥
+IsNode (audit _ _) = ⊥
+
+data Kind (form : Form) (due : Due) : Type 0 where
+  fetches : (name : List ℕ) → due ≡ fetch name → Kind form due
+  finishes : (ending : Ending) → due ≡ finish ending → (ending.status ≡ LinkFault → ⊥) → Kind form due
+  serves : (plan : Plan) (number turns : ℕ) → due ≡ serve plan number turns → IsNode form → Kind form due
+
+module _ (form : Form) where
+  of_refused : (bytes : List ℕ) (due : Due) → IsDueOfRefused bytes due → Kind form due
+  of_refused bytes due (ending, (number, cause, refusal, means), is) =
+      finishes ending is (λ same. let clash : BadProgram ≡ LinkFault = sym (ap (λ (e : Ending). e.status) means) ∙ same in cc)
+
+  of_schedule : (plan : Plan) (schedule : List ℕ) (due : Due) → IsDueOfSchedule plan schedule due → Kind form due
+  of_schedule plan schedule due (ending, end, is) = finishes ending is (never_replays LinkFault plan schedule ending end (λ same. cc) (λ same. cc) (λ same. cc))
+
+  of_replay : (program schedule : List ℕ) (files : List (List ℕ)) (due : Due) → IsDueOfReplay program schedule files due → Kind form due
+  of_replay program schedule [] due is = fetches program is
+  of_replay program schedule (bytes ∷ []) due (inl (good, is)) = fetches schedule is
+  of_replay program schedule (bytes ∷ []) due (inr refused) = of_refused bytes due refused
+  of_replay program schedule (bytes ∷ more ∷ []) due (plan, means, is) = of_schedule plan more due is
+  of_replay program schedule (_ ∷ _ ∷ _ ∷ _) due is = absurd is
+
+  of_file : (command : OneFile) (file : List ℕ) (files : List (List ℕ)) (due : Due) → IsDueOfFile command file files due → Kind form due
+  of_file command file [] due is = fetches file is
+  of_file command file (bytes ∷ []) due (ending, end, is) =
+      finishes ending is (never_ends LinkFault command bytes ending end (λ same. cc) (λ same. cc) (λ same. cc) (λ same. cc))
+  of_file command file (_ ∷ _ ∷ _) due is = absurd is
+
+  of_program : (program : List ℕ) (IsNext : Plan → Due → Type 0) (files : List (List ℕ)) (due : Due) → ((plan : Plan) → IsNext plan due → Kind form due) → IsDueOfProgram program IsNext files due → Kind form due
+  of_program program IsNext [] due next is = fetches program is
+  of_program program IsNext (bytes ∷ []) due next (inl (plan, means, is)) = next plan is
+  of_program program IsNext (bytes ∷ []) due next (inr refused) = of_refused bytes due refused
+  of_program program IsNext (_ ∷ _ ∷ _) due next is = absurd is
+
+  of_sample : (seed steps : ℕ) (plan : Plan) (due : Due) → IsDueOfSample seed steps plan due → Kind form due
+  of_sample seed steps plan due is = finishes _ is (never_drawn LinkFault plan seed steps (λ same. cc) (λ same. cc))
+
+  of_node : (name : List ℕ) (turns : ℕ) (plan : Plan) (due : Due) → IsNode form → IsDueOfNode name turns plan due → Kind form due
+  of_node name turns plan due own (inl (number, named, is)) = serves plan number turns is own
+  of_node name turns plan due own (inr (none, is)) = finishes _ is (λ same. let clash : BadProgram ≡ LinkFault = same in cc)
+
+  of_unbuilt : (files : List (List ℕ)) (due : Due) → IsDueUnbuilt files due → Kind form due
+  of_unbuilt [] due is = finishes _ is (λ same. let clash : NotBuilt ≡ LinkFault = same in cc)
+  of_unbuilt (_ ∷ _) due is = absurd is
+
+kind_of : (form : Form) (files : List (List ℕ)) (due : Due) → IsDueOfForm form files due → Kind form due
+kind_of (replay program schedule) files due is = of_replay (replay program schedule) program schedule files due is
+kind_of (stubs program) files due is = of_file (stubs program) Stubs program files due is
+kind_of (run program) files due is = of_file (run program) Run program files due is
+kind_of (place placing) files due is = of_file (place placing) Place placing files due is
+kind_of (node program name turns) files due is =
+    of_program (node program name turns) program (IsDueOfNode name turns) files due (λ plan next. of_node (node program name turns) name turns plan due tt next) is
+kind_of (sample program seed steps) files due is =
+    of_program (sample program seed steps) program (IsDueOfSample seed steps) files due (λ plan next. of_sample (sample program seed steps) seed steps plan due next) is
+kind_of (settle program deliveries) files due is = of_unbuilt (settle program deliveries) files due is
+kind_of (audit program «record») files due is = of_unbuilt (audit program «record») files due is
+
+-- an end is none of a node that is served
+pub never_linked : (shelf : Option (List ℕ → Option (List ℕ))) (words : List (List ℕ)) (ending : Ending) → IsDue shelf words (finish ending) → ending.status ≡ LinkFault → ⊥
+never_linked shelf words ending (inr (none, is)) same = let clash : BadCommandLine ≡ LinkFault = ends_as LinkFault (finish ending) _ is same in cc
+never_linked shelf words ending (inl some) same = by_kind (kind_of some.form some.files (finish ending) some.is_due)
+  where
+    by_kind : Kind some.form (finish ending) → ⊥
+    by_kind (fetches name is) = cc
+    by_kind (finishes other is not_linked) = not_linked (ends_as LinkFault (finish ending) other is same)
+    by_kind (serves plan number turns is own) = cc
+
+asks : (words : List (List ℕ)) (form : Form) → IsOfForm words form → IsNode form → AsksForNode words
+asks words (node program name turns) of own = (program, name, turns, of)
+asks words (stubs _) of own = absurd own
+asks words (run _) of own = absurd own
+asks words (replay _ _) of own = absurd own
+asks words (sample _ _ _) of own = absurd own
+asks words (settle _ _) of own = absurd own
+asks words (place _) of own = absurd own
+asks words (audit _ _) of own = absurd own
+
+-- a node is served where the words ask for one
+pub serves_asked : (shelf : Option (List ℕ → Option (List ℕ))) (words : List (List ℕ)) (plan : Plan) (number turns : ℕ) → IsDue shelf words (serve plan number turns) → AsksForNode words
+serves_asked shelf words plan number turns (inr (none, is)) = absurd (cc)
+serves_asked shelf words plan number turns (inl some) = by_kind (kind_of some.form some.files (serve plan number turns) some.is_due)
+  where
+    by_kind : Kind some.form (serve plan number turns) → AsksForNode words
+    by_kind (fetches name is) = absurd (cc)
+    by_kind (finishes other is not_linked) = absurd (cc)
+    by_kind (serves other host takes is own) = asks words some.form some.of_form own

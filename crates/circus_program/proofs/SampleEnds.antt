@@ -1,0 +1,42 @@
+-- How samples end.
+use Rattle.std.proofs.Common.{◌≡◌, ℕ, ◌⊎◌, inl, inr, refl, ap, ◌∙◌, Ok, Err}
+use Rattle.circus_model.specs.Behaviour.{Behaviour}
+use Rattle.circus_alike.specs.Alike.{declared_of, turn_of}
+use Rattle.circus_world.specs.WorldState.{WorldState}
+use Rattle.circus_world.specs.Course.{Stepped}
+use Rattle.circus_sample.specs.Sampled.{sampled}
+use Rattle.circus_config.specs.declared.plan.Plan.{Plan}
+use Rattle.circus_ending.specs.declared.status.Status.{Status}
+use Rattle.circus_ending.specs.declared.status.Status.TheVariants.{Done, Spent}
+use Rattle.circus_simulated.specs.Booted.{booted, names_in, after_step}
+use Rattle.circus_simulated.specs.Sample.{summed, sample_in, sample_of}
+use Rattle.circus_program.specs.Last.{HasSpentSample}
+
+-- what it comes to behind boot, and behind its last line
+abbrev from_boot : Plan → ℕ → ℕ → Stepped Behaviour → Status
+from_boot plan seed steps s = (after_step (names_in plan) (sample_in (names_in plan) seed steps) s).status
+
+abbrev from_last : Plan → ℕ → Stepped Behaviour → Status
+from_last plan steps s = (after_step (names_in plan) (summed (names_in plan) steps) s).status
+
+-- it is done, or a node has no number left
+abbrev pub IsStatusOfSample : Plan → ℕ → ℕ → Status → Type 0
+IsStatusOfSample plan seed steps status = (status ≡ Done) ⊎ ((status ≡ Spent) × HasSpentSample plan seed steps)
+
+drawn_status : (plan : Plan) (seed steps : ℕ) (w : WorldState Behaviour) → booted plan ≡ Ok w → IsStatusOfSample plan seed steps (from_boot plan seed steps (Ok w))
+drawn_status plan seed steps w is =
+    elim (sampled declared_of turn_of steps seed w) as (λ s. sampled declared_of turn_of steps seed w ≡ s → IsStatusOfSample plan seed steps (from_last plan steps s)) [
+      | Ok last ↦ λ whole. inl refl
+      | Err nodes ↦ λ spent. inr (refl, inr (w, is, (nodes, spent)))
+    ] refl
+
+pub sample_status : (plan : Plan) (seed steps : ℕ) → IsStatusOfSample plan seed steps (sample_of plan seed steps).status
+sample_status plan seed steps =
+    elim (booted plan) as (λ s. booted plan ≡ s → IsStatusOfSample plan seed steps (from_boot plan seed steps s)) [
+      | Ok w ↦ λ is. drawn_status plan seed steps w is
+      | Err nodes ↦ λ is. inr (refl, inl (nodes, is))
+    ] refl
+
+pub sample_spent : (plan : Plan) (seed steps : ℕ) → HasSpentSample plan seed steps → (sample_of plan seed steps).status ≡ Spent
+sample_spent plan seed steps (inl (nodes, is)) = ap (from_boot plan seed steps) is
+sample_spent plan seed steps (inr (w, is, (nodes, spent))) = ap (from_boot plan seed steps) is ∙ ap (from_last plan steps) spent
