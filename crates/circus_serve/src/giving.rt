@@ -1,5 +1,6 @@
 // What a node gives to its link.
 ghost use Rattle.circus_outside.specs.Link.{LinkCounts};
+ghost use Rattle.circus_serve.specs.Outside.{tells_of};
 ghost use Rattle.circus_serve.specs.Happened.{all_given};
 ghost use Rattle.circus_serve.specs.Seen.Asking.{AreGiven};
 
@@ -15,8 +16,8 @@ pub fn give_all<L: Link>(
     link: &mut L,
 ) -> Result<(), LinkFault>
     ensures given { AreGiven
-        (record { bound = L.bound link.old; taken = L.taken link.old; given = L.given link.old })
-        (record { bound = L.bound link.new; taken = L.taken link.new; given = L.given link.new })
+        (tells_of (L.bound link.old) (L.taken link.old) (L.given link.old))
+        (tells_of (L.bound link.new) (L.taken link.new) (L.given link.new))
         (all_given deployment.now gives.now) result }
     ensures counts { LinkCounts result (L.faults link.old) (L.faults link.new) }
 {

@@ -1,6 +1,7 @@
 // What happened to a node that is served.
 ghost use Rattle.std.specs.Prelude.{◌≡◌, ◌+◌, ◌≤◌, [], ◌∷◌, ◌++◌, length, IfOk, OnOk};
 ghost use Rattle.circus_outside.specs.Link.{LinkCounts};
+ghost use Rattle.circus_serve.specs.Outside.{tells_of};
 ghost use Rattle.circus_serve.specs.Happened.{all_given};
 ghost use Rattle.circus_serve.specs.Seen.Asking.{AreGiven};
 
@@ -29,8 +30,8 @@ impl Log {
         link: &mut L,
     ) -> Result<Self, LinkFault>
         ensures given { AreGiven
-            (record { bound = L.bound link.old; taken = L.taken link.old; given = L.given link.old })
-            (record { bound = L.bound link.new; taken = L.taken link.new; given = L.given link.new })
+            (tells_of (L.bound link.old) (L.taken link.old) (L.given link.old))
+            (tells_of (L.bound link.new) (L.taken link.new) (L.given link.new))
             (all_given deployment.now gives) result }
         ensures next { IfOk result (λ log. log.next ≡ 1) }
         ensures happened { IfOk result (λ log. log.happened ≡ Happening.Booted gives ∷ []) }
@@ -52,8 +53,8 @@ impl Log {
         link: &mut L,
     ) -> Result<(), LinkFault>
         ensures given { AreGiven
-            (record { bound = L.bound link.old; taken = L.taken link.old; given = L.given link.old })
-            (record { bound = L.bound link.new; taken = L.taken link.new; given = L.given link.new })
+            (tells_of (L.bound link.old) (L.taken link.old) (L.given link.old))
+            (tells_of (L.bound link.new) (L.taken link.new) (L.given link.new))
             (all_given deployment.now gives) result }
         ensures next { OnOk result (self.new.next ≡ self.old.next + 1) }
         ensures happened { OnOk result (self.new.happened ≡ self.old.happened ++ Happening.Stepped event gives differences ∷ []) }

@@ -3,6 +3,7 @@ ghost use Rattle.std.specs.Prelude.{◌≡◌, ◌<◌, length, IsErrOf};
 ghost use Rattle.circus_outside.specs.Faults.{Rose};
 ghost use Rattle.circus_collate.specs.Deployment.{IsDeployment};
 ghost use Rattle.circus_node.specs.Node.{IsNodeOf};
+ghost use Rattle.circus_serve.specs.Outside.{tells_of};
 ghost use Rattle.circus_serve.specs.Answers.{IsAnswer};
 
 use crate::peers::port_of;
@@ -69,8 +70,8 @@ pub fn serve<M: Module, L: Link>(
     requires deployment { IsDeployment deployment.now }
     requires node { IsNodeOf deployment.now node core }
     ensures served { IsAnswer M.declared M.turn deployment.now node core gives turns
-        (record { bound = L.bound link.old; taken = L.taken link.old; given = L.given link.old })
-        (record { bound = L.bound link.new; taken = L.taken link.new; given = L.given link.new })
+        (tells_of (L.bound link.old) (L.taken link.old) (L.given link.old))
+        (tells_of (L.bound link.new) (L.taken link.new) (L.given link.new))
         result }
     ensures rose { IsErrOf result ServeFault.LinkFailed → Rose (L.faults link.old) (L.faults link.new) }
 {

@@ -4,6 +4,7 @@ ghost use Rattle.circus_collate.specs.Deployment.{IsDeployment};
 ghost use Rattle.circus_wire.specs.Wire.{IsOther};
 ghost use Rattle.circus_node.specs.Node.{IsNodeOf};
 ghost use Rattle.circus_node.specs.Step.{CanCome};
+ghost use Rattle.circus_serve.specs.Outside.{tells_of};
 ghost use Rattle.circus_serve.specs.Serving as model;
 ghost use Rattle.circus_serve.specs.Seen.Counting.{ServeCounts};
 ghost use Rattle.circus_serve.specs.Seen.Going.{served_of, HasGone};
@@ -39,8 +40,8 @@ impl<M: Module> Serving<M> {
         requires { IsNodeOf deployment.now core.wire.own core }
         ensures node { IfOk result (λ serving. IsNodeOf deployment.now core.wire.own serving.core) }
         ensures gone { HasGone served_of deployment.now
-            (record { bound = L.bound link.old; taken = L.taken link.old; given = L.given link.old })
-            (record { bound = L.bound link.new; taken = L.taken link.new; given = L.given link.new })
+            (tells_of (L.bound link.old) (L.taken link.old) (L.given link.old))
+            (tells_of (L.bound link.new) (L.taken link.new) (L.given link.new))
             [] (model.begun M.declared M.turn core gives) result }
         ensures counts { ServeCounts result (L.faults link.old) (L.faults link.new) }
     {
@@ -76,8 +77,8 @@ impl<M: Module> Serving<M> {
         requires node { IsNodeOf deployment.now node self.core }
         ensures node { IfOk result (λ serving. IsNodeOf deployment.now node serving.core) }
         ensures gone { HasGone served_of deployment.now
-            (record { bound = L.bound link.old; taken = L.taken link.old; given = L.given link.old })
-            (record { bound = L.bound link.new; taken = L.taken link.new; given = L.given link.new })
+            (tells_of (L.bound link.old) (L.taken link.old) (L.given link.old))
+            (tells_of (L.bound link.new) (L.taken link.new) (L.given link.new))
             self.log.happened (model.took M.declared M.turn deployment.now node taken (served_of self)) result }
         ensures counts { ServeCounts result (L.faults link.old) (L.faults link.new) }
     {
@@ -101,8 +102,8 @@ impl<M: Module> Serving<M> {
         requires node { IsNodeOf deployment.now node self.core }
         ensures node { IfOk result (λ serving. IsNodeOf deployment.now node serving.core) }
         ensures gone { HasGone served_of deployment.now
-            (record { bound = L.bound link.old; taken = L.taken link.old; given = L.given link.old })
-            (record { bound = L.bound link.new; taken = L.taken link.new; given = L.given link.new })
+            (tells_of (L.bound link.old) (L.taken link.old) (L.given link.old))
+            (tells_of (L.bound link.new) (L.taken link.new) (L.given link.new))
             self.log.happened (model.took M.declared M.turn deployment.now node (TakenFrom.From port bytes) (served_of self)) result }
         ensures counts { ServeCounts result (L.faults link.old) (L.faults link.new) }
     {
@@ -126,8 +127,8 @@ impl<M: Module> Serving<M> {
         requires event { CanCome self.core event }
         ensures node { IfOk result (λ serving. IsNodeOf deployment.now self.core.wire.own serving.core) }
         ensures gone { HasGone served_of deployment.now
-            (record { bound = L.bound link.old; taken = L.taken link.old; given = L.given link.old })
-            (record { bound = L.bound link.new; taken = L.taken link.new; given = L.given link.new })
+            (tells_of (L.bound link.old) (L.taken link.old) (L.given link.old))
+            (tells_of (L.bound link.new) (L.taken link.new) (L.given link.new))
             self.log.happened (model.comes M.declared M.turn event (served_of self)) result }
         ensures counts { ServeCounts result (L.faults link.old) (L.faults link.new) }
     {
@@ -147,8 +148,8 @@ impl<M: Module> Serving<M> {
         requires others { All (IsOther self.core.wire) nodes.now }
         ensures node { IfOk result (λ serving. IsNodeOf deployment.now self.core.wire.own serving.core) }
         ensures gone { HasGone served_of deployment.now
-            (record { bound = L.bound link.old; taken = L.taken link.old; given = L.given link.old })
-            (record { bound = L.bound link.new; taken = L.taken link.new; given = L.given link.new })
+            (tells_of (L.bound link.old) (L.taken link.old) (L.given link.old))
+            (tells_of (L.bound link.new) (L.taken link.new) (L.given link.new))
             self.log.happened (model.all_declared M.declared M.turn nodes.now (served_of self)) result }
         ensures counts { ServeCounts result (L.faults link.old) (L.faults link.new) }
     {
@@ -173,8 +174,8 @@ impl<M: Module> Serving<M> {
         ensures node { IfOk result (λ stepped. IsNodeOf deployment.now self.core.wire.own stepped.0.core) }
         ensures suspects { IfOk result (λ stepped. stepped.1 ≡ model.suspected M.declared M.turn event (served_of self)) }
         ensures gone { HasGone (λ stepped. served_of stepped.0) deployment.now
-            (record { bound = L.bound link.old; taken = L.taken link.old; given = L.given link.old })
-            (record { bound = L.bound link.new; taken = L.taken link.new; given = L.given link.new })
+            (tells_of (L.bound link.old) (L.taken link.old) (L.given link.old))
+            (tells_of (L.bound link.new) (L.taken link.new) (L.given link.new))
             self.log.happened (model.event_comes M.declared M.turn event (served_of self)) result }
         ensures counts { ServeCounts result (L.faults link.old) (L.faults link.new) }
     {

@@ -1,4 +1,5 @@
 use Rattle.std.proofs.Common.{◌≡◌}
+use Rattle.circus_serve.specs.Outside.{tells_of}
 use Rattle.circus_serve.proofs.AskedLemmas.{HasGivenFirst}
 use Rattle.circus_serve.proofs.giving.give_all.Given as goal
 
@@ -9,8 +10,8 @@ invariant-loop-give g l =
     let old = l.initial.link in
     record {
       given : HasGivenFirst l.deployment
-          (record { bound = L.bound old; taken = L.taken old; given = L.given old })
-          (record { bound = L.bound l.link; taken = L.taken l.link; given = L.given l.link })
+          (tells_of (L.bound old) (L.taken old) (L.given old))
+          (tells_of (L.bound l.link) (L.taken l.link) (L.given l.link))
           l.gives l.give-index;
       counts : L.faults l.link ≡ L.faults old;
     }

@@ -6,7 +6,7 @@ use Rattle.circus_outside.specs.declared.link.TakenFrom.{TakenFrom}
 use Rattle.circus_node.specs.Node.{IsNodeOf}
 use Rattle.circus_serve.specs.declared.fault.ServeFault.{ServeFault}
 use Rattle.circus_serve.specs.declared.serving.Serving.{Serving}
-use Rattle.circus_serve.specs.Outside.{Tells}
+use Rattle.circus_serve.specs.Outside.{Tells, tells_of}
 use Rattle.circus_serve.specs.Recorded.{Recorded}
 use Rattle.circus_serve.specs.Answers.{IsAnswer}
 use Rattle.circus_serve.specs.Seen.Faults.{of_link}
@@ -19,8 +19,8 @@ returns-in_err-bind g c =
     let M = g.M.Module in
     let L = g.L.Link in
     let d = c.args.deployment.now in
-    let old : Tells = record { bound = L.bound c.args.link.now; taken = L.taken c.args.link.now; given = L.given c.args.link.now } in
-    let new : Tells = record { bound = L.bound c.bind.new.self; taken = L.taken c.bind.new.self; given = L.given c.bind.new.self } in
+    let old : Tells = tells_of (L.bound c.args.link.now) (L.taken c.args.link.now) (L.given c.args.link.now) in
+    let new : Tells = tells_of (L.bound c.bind.new.self) (L.taken c.bind.new.self) (L.given c.bind.new.self) in
     let r : Result (Recorded g.row.M.Denot) ServeFault = c.from_residual.result in
     let p = err_from_is_err_and c.from_residual.result c.from_residual.ensures.1 in
     let f = c.in_err-bind.field-0.0 in
@@ -40,9 +40,9 @@ returns-in_err-serving g c =
     let M = g.M.Module in
     let L = g.L.Link in
     let d = c.args.deployment.now in
-    let old : Tells = record { bound = L.bound c.args.link.now; taken = L.taken c.args.link.now; given = L.given c.args.link.now } in
-    let mid : Tells = record { bound = L.bound c.bind.new.self; taken = L.taken c.bind.new.self; given = L.given c.bind.new.self } in
-    let new : Tells = record { bound = L.bound c.begin.new.link; taken = L.taken c.begin.new.link; given = L.given c.begin.new.link } in
+    let old : Tells = tells_of (L.bound c.args.link.now) (L.taken c.args.link.now) (L.given c.args.link.now) in
+    let mid : Tells = tells_of (L.bound c.bind.new.self) (L.taken c.bind.new.self) (L.given c.bind.new.self) in
+    let new : Tells = tells_of (L.bound c.begin.new.link) (L.taken c.begin.new.link) (L.given c.begin.new.link) in
     let r : Result (Recorded g.row.M.Denot) ServeFault = c.from_residual-in_err-serving.result in
     let p = err_from_is_err_and c.from_residual-in_err-serving.result c.from_residual-in_err-serving.ensures.1 in
     let f = c.in_err-serving.field-0.0 in
@@ -61,9 +61,9 @@ loop-turn-init g c =
     let M = g.M.Module in
     let L = g.L.Link in
     let d = c.args.deployment.now in
-    let old : Tells = record { bound = L.bound c.args.link.now; taken = L.taken c.args.link.now; given = L.given c.args.link.now } in
-    let mid : Tells = record { bound = L.bound c.bind.new.self; taken = L.taken c.bind.new.self; given = L.given c.bind.new.self } in
-    let new : Tells = record { bound = L.bound c.begin.new.link; taken = L.taken c.begin.new.link; given = L.given c.begin.new.link } in
+    let old : Tells = tells_of (L.bound c.args.link.now) (L.taken c.args.link.now) (L.given c.args.link.now) in
+    let mid : Tells = tells_of (L.bound c.bind.new.self) (L.taken c.bind.new.self) (L.given c.bind.new.self) in
+    let new : Tells = tells_of (L.bound c.begin.new.link) (L.taken c.begin.new.link) (L.given c.begin.new.link) in
     let bound = c.in_ok-bind.ensures.bound ∙ ap (λ port. told_more (L.bound c.args.link.now) (port ∷ [])) c.port_of.ensures in
     record {
       node = subst (λ k. IsNodeOf d k c.in_ok-serving.serving.core) c.requires.node.own c.in_ok-serving.ensures.node;
@@ -77,9 +77,9 @@ returns-in_err-taken g c =
     let M = g.M.Module in
     let L = g.L.Link in
     let d = c.args.deployment.now in
-    let old : Tells = record { bound = L.bound c.args.link.now; taken = L.taken c.args.link.now; given = L.given c.args.link.now } in
-    let mid : Tells = record { bound = L.bound c.loop-turn.link; taken = L.taken c.loop-turn.link; given = L.given c.loop-turn.link } in
-    let new : Tells = record { bound = L.bound c.take.new.self; taken = L.taken c.take.new.self; given = L.given c.take.new.self } in
+    let old : Tells = tells_of (L.bound c.args.link.now) (L.taken c.args.link.now) (L.given c.args.link.now) in
+    let mid : Tells = tells_of (L.bound c.loop-turn.link) (L.taken c.loop-turn.link) (L.given c.loop-turn.link) in
+    let new : Tells = tells_of (L.bound c.take.new.self) (L.taken c.take.new.self) (L.given c.take.new.self) in
     let r : Result (Recorded g.row.M.Denot) ServeFault = c.from_residual-in_err-taken.result in
     let p = err_from_is_err_and c.from_residual-in_err-taken.result c.from_residual-in_err-taken.ensures.1 in
     let f = c.in_err-taken.field-0.0 in
@@ -103,10 +103,10 @@ returns-in_err-serving-2 g c =
     let M = g.M.Module in
     let L = g.L.Link in
     let d = c.args.deployment.now in
-    let old : Tells = record { bound = L.bound c.args.link.now; taken = L.taken c.args.link.now; given = L.given c.args.link.now } in
-    let mid : Tells = record { bound = L.bound c.loop-turn.link; taken = L.taken c.loop-turn.link; given = L.given c.loop-turn.link } in
-    let between : Tells = record { bound = L.bound c.take.new.self; taken = L.taken c.take.new.self; given = L.given c.take.new.self } in
-    let new : Tells = record { bound = L.bound c.take-in-loop-turn.new.link; taken = L.taken c.take-in-loop-turn.new.link; given = L.given c.take-in-loop-turn.new.link } in
+    let old : Tells = tells_of (L.bound c.args.link.now) (L.taken c.args.link.now) (L.given c.args.link.now) in
+    let mid : Tells = tells_of (L.bound c.loop-turn.link) (L.taken c.loop-turn.link) (L.given c.loop-turn.link) in
+    let between : Tells = tells_of (L.bound c.take.new.self) (L.taken c.take.new.self) (L.given c.take.new.self) in
+    let new : Tells = tells_of (L.bound c.take-in-loop-turn.new.link) (L.taken c.take-in-loop-turn.new.link) (L.given c.take-in-loop-turn.new.link) in
     let r : Result (Recorded g.row.M.Denot) ServeFault = c.from_residual-in_err-serving-2.result in
     let p = err_from_is_err_and c.from_residual-in_err-serving-2.result c.from_residual-in_err-serving-2.ensures.1 in
     let f = c.in_err-serving-2.field-0.0 in
@@ -124,10 +124,10 @@ loop-turn-preserved g c =
     let M = g.M.Module in
     let L = g.L.Link in
     let d = c.args.deployment.now in
-    let old : Tells = record { bound = L.bound c.args.link.now; taken = L.taken c.args.link.now; given = L.given c.args.link.now } in
-    let mid : Tells = record { bound = L.bound c.loop-turn.link; taken = L.taken c.loop-turn.link; given = L.given c.loop-turn.link } in
-    let between : Tells = record { bound = L.bound c.take.new.self; taken = L.taken c.take.new.self; given = L.given c.take.new.self } in
-    let new : Tells = record { bound = L.bound c.take-in-loop-turn.new.link; taken = L.taken c.take-in-loop-turn.new.link; given = L.given c.take-in-loop-turn.new.link } in
+    let old : Tells = tells_of (L.bound c.args.link.now) (L.taken c.args.link.now) (L.given c.args.link.now) in
+    let mid : Tells = tells_of (L.bound c.loop-turn.link) (L.taken c.loop-turn.link) (L.given c.loop-turn.link) in
+    let between : Tells = tells_of (L.bound c.take.new.self) (L.taken c.take.new.self) (L.given c.take.new.self) in
+    let new : Tells = tells_of (L.bound c.take-in-loop-turn.new.link) (L.taken c.take-in-loop-turn.new.link) (L.given c.take-in-loop-turn.new.link) in
     record {
       node = c.in_ok-serving-2.ensures.node;
       served = turn_served M.declared M.turn d c.args.node c.args.core c.args.gives old mid between new c.loop-turn._turn c.loop-turn.serving c.in_ok-serving-2.serving c.in_ok-taken.taken c.loop-turn.invariant.served
@@ -140,8 +140,8 @@ returns g c =
     let M = g.M.Module in
     let L = g.L.Link in
     let d = c.args.deployment.now in
-    let old : Tells = record { bound = L.bound c.args.link.now; taken = L.taken c.args.link.now; given = L.given c.args.link.now } in
-    let new : Tells = record { bound = L.bound c.loop-turn.link; taken = L.taken c.loop-turn.link; given = L.given c.loop-turn.link } in
+    let old : Tells = tells_of (L.bound c.args.link.now) (L.taken c.args.link.now) (L.given c.args.link.now) in
+    let new : Tells = tells_of (L.bound c.loop-turn.link) (L.taken c.loop-turn.link) (L.given c.loop-turn.link) in
     let all : c.loop-turn._turn ≡ c.args.turns = omega (arith, c.loop-turn-test.false, c.loop-turn.auto._turn-end) in
     record {
       served = all_served M.declared M.turn d c.args.node c.args.core c.args.gives c.args.turns old new c.loop-turn.serving

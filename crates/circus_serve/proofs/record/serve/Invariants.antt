@@ -1,5 +1,6 @@
 use Rattle.std.proofs.Common.{◌≡◌}
 use Rattle.circus_node.specs.Node.{IsNodeOf}
+use Rattle.circus_serve.specs.Outside.{tells_of}
 use Rattle.circus_serve.proofs.ServedLemmas.{HasServed}
 use Rattle.circus_serve.proofs.record.serve.Given as goal
 
@@ -12,8 +13,8 @@ invariant-loop-turn g l =
     record {
       node : IsNodeOf l.deployment l.node l.serving.core;
       served : HasServed M.declared M.turn l.deployment l.node l.fn.core l.fn.gives
-          (record { bound = L.bound old; taken = L.taken old; given = L.given old })
-          (record { bound = L.bound l.link; taken = L.taken l.link; given = L.given l.link })
+          (tells_of (L.bound old) (L.taken old) (L.given old))
+          (tells_of (L.bound l.link) (L.taken l.link) (L.given l.link))
           l._turn l.serving;
       counts : L.faults l.link ≡ L.faults old;
     }

@@ -2,7 +2,7 @@ use Rattle.std.proofs.Common.{◌≡◌, ◌∙◌, [], true, false, ap, sym, su
 use Rattle.std.proofs.lemmas.Result.{err_from_is_err_and}
 use Rattle.circus_node.specs.declared.event.Event.TheVariants.{Join}
 use Rattle.circus_serve.specs.declared.serving.Serving.{Serving}
-use Rattle.circus_serve.specs.Outside.{Tells}
+use Rattle.circus_serve.specs.Outside.{Tells, tells_of}
 use Rattle.circus_serve.specs.Serving.{Served, Progress, on, comes, begun}
 use Rattle.circus_serve.specs.Seen.Counting.{ServeCounts}
 use Rattle.circus_serve.specs.Seen.Faults.{of_link}
@@ -17,8 +17,8 @@ returns-in_err-log g c =
     let M = g.M.Module in
     let L = g.L.Link in
     let d = c.args.deployment.now in
-    let old : Tells = record { bound = L.bound c.args.link.now; taken = L.taken c.args.link.now; given = L.given c.args.link.now } in
-    let new : Tells = record { bound = L.bound c.begin.new.link; taken = L.taken c.begin.new.link; given = L.given c.begin.new.link } in
+    let old : Tells = tells_of (L.bound c.args.link.now) (L.taken c.args.link.now) (L.given c.args.link.now) in
+    let new : Tells = tells_of (L.bound c.begin.new.link) (L.taken c.begin.new.link) (L.given c.begin.new.link) in
     let r = c.from_residual.result in
     let p = err_from_is_err_and r c.from_residual.ensures.1 in
     let f = c.in_err-log.field-0.0 in
@@ -44,9 +44,9 @@ returns-then-is_spare g c =
     let d = c.args.deployment.now in
     let core = c.args.core in
     let gives = c.args.gives in
-    let old : Tells = record { bound = L.bound c.args.link.now; taken = L.taken c.args.link.now; given = L.given c.args.link.now } in
-    let mid : Tells = record { bound = L.bound c.begin.new.link; taken = L.taken c.begin.new.link; given = L.given c.begin.new.link } in
-    let new : Tells = record { bound = L.bound c.come.new.link; taken = L.taken c.come.new.link; given = L.given c.come.new.link } in
+    let old : Tells = tells_of (L.bound c.args.link.now) (L.taken c.args.link.now) (L.given c.args.link.now) in
+    let mid : Tells = tells_of (L.bound c.begin.new.link) (L.taken c.begin.new.link) (L.given c.begin.new.link) in
+    let new : Tells = tells_of (L.bound c.come.new.link) (L.taken c.come.new.link) (L.given c.come.new.link) in
     let state : Serving g.row.M.Denot g.row.M-Paused.Denot → Served g.row.M.Denot = served_of in
     let serving : Serving g.row.M.Denot g.row.M-Paused.Denot = record { core = core; log = c.in_ok-log.log } in
     let so = boot_so state d M.declared M.turn core gives c.in_ok-log.log.next c.in_ok-log.log.happened c.in_ok-log.ensures.next c.in_ok-log.ensures.happened in
@@ -67,8 +67,8 @@ returns-else-is_spare g c =
     let d = c.args.deployment.now in
     let core = c.args.core in
     let gives = c.args.gives in
-    let old : Tells = record { bound = L.bound c.args.link.now; taken = L.taken c.args.link.now; given = L.given c.args.link.now } in
-    let new : Tells = record { bound = L.bound c.begin.new.link; taken = L.taken c.begin.new.link; given = L.given c.begin.new.link } in
+    let old : Tells = tells_of (L.bound c.args.link.now) (L.taken c.args.link.now) (L.given c.args.link.now) in
+    let new : Tells = tells_of (L.bound c.begin.new.link) (L.taken c.begin.new.link) (L.given c.begin.new.link) in
     let state : Serving g.row.M.Denot g.row.M-Paused.Denot → Served g.row.M.Denot = served_of in
     let serving : Serving g.row.M.Denot g.row.M-Paused.Denot = record { core = core; log = c.in_ok-log.log } in
     record {

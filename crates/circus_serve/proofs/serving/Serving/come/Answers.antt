@@ -4,7 +4,7 @@ use Rattle.circus_wire.specs.Wire.{IsOther}
 use Rattle.circus_node.specs.Node.{IsNodeOf}
 use Rattle.circus_node.specs.NodeState.{NodeState}
 use Rattle.circus_serve.specs.declared.serving.Serving.{Serving}
-use Rattle.circus_serve.specs.Outside.{Tells}
+use Rattle.circus_serve.specs.Outside.{Tells, tells_of}
 use Rattle.circus_serve.specs.Serving.{Served, event_comes, suspected, all_declared, comes}
 use Rattle.circus_serve.specs.Seen.Counting.{ServeCounts}
 use Rattle.circus_serve.specs.Seen.Going.{served_of, HasGone}
@@ -27,8 +27,8 @@ returns-in_err-serving g c =
     let d = c.args.deployment.now in
     let s : Served g.row.M.Denot = served_of c.args.self in
     let state : Serving g.row.M.Denot g.row.M-Paused.Denot × List ℕ → Served g.row.M.Denot = λ stepped. served_of stepped.0 in
-    let old : Tells = record { bound = L.bound c.args.link.now; taken = L.taken c.args.link.now; given = L.given c.args.link.now } in
-    let new : Tells = record { bound = L.bound c.step.new.link; taken = L.taken c.step.new.link; given = L.given c.step.new.link } in
+    let old : Tells = tells_of (L.bound c.args.link.now) (L.taken c.args.link.now) (L.given c.args.link.now) in
+    let new : Tells = tells_of (L.bound c.step.new.link) (L.taken c.step.new.link) (L.given c.step.new.link) in
     let r = c.from_residual.result in
     let p = err_from_is_err_and r c.from_residual.ensures.1 in
     let f = c.in_err-serving.field-0.0 in
@@ -63,9 +63,9 @@ returns g c =
     let own = c.args.self.core.wire.own in
     let s : Served g.row.M.Denot = served_of c.args.self in
     let state : Serving g.row.M.Denot g.row.M-Paused.Denot × List ℕ → Served g.row.M.Denot = λ stepped. served_of stepped.0 in
-    let old : Tells = record { bound = L.bound c.args.link.now; taken = L.taken c.args.link.now; given = L.given c.args.link.now } in
-    let mid : Tells = record { bound = L.bound c.step.new.link; taken = L.taken c.step.new.link; given = L.given c.step.new.link } in
-    let new : Tells = record { bound = L.bound c.declare_all.new.link; taken = L.taken c.declare_all.new.link; given = L.given c.declare_all.new.link } in
+    let old : Tells = tells_of (L.bound c.args.link.now) (L.taken c.args.link.now) (L.given c.args.link.now) in
+    let mid : Tells = tells_of (L.bound c.step.new.link) (L.taken c.step.new.link) (L.given c.step.new.link) in
+    let new : Tells = tells_of (L.bound c.declare_all.new.link) (L.taken c.declare_all.new.link) (L.given c.declare_all.new.link) in
     let serving : Serving g.row.M.Denot g.row.M-Paused.Denot = c.in_ok-serving.serving in
     let suspects : List ℕ = c.in_ok-serving.suspects in
     let same = c.as_slice.ensures ∙ c.in_ok-serving.ensures.suspects in

@@ -3,7 +3,7 @@ use Rattle.std.proofs.lemmas.Result.{err_from_is_err_and}
 use Rattle.std.proofs.lemmas.List.{get_or_default}
 use Rattle.circus_node.specs.Node.{IsNodeOf}
 use Rattle.circus_serve.specs.declared.serving.Serving.{Serving}
-use Rattle.circus_serve.specs.Outside.{Tells}
+use Rattle.circus_serve.specs.Outside.{Tells, tells_of}
 use Rattle.circus_serve.specs.Serving.{Served, all_declared}
 use Rattle.circus_serve.specs.Seen.Counting.{ServeCounts}
 use Rattle.circus_serve.specs.Seen.Going.{served_of, HasGone}
@@ -15,7 +15,7 @@ use Rattle.circus_serve.proofs.serving.Serving.declare_all.Goals as goal
 pub loop-node-init : goal.loop-node-init
 loop-node-init g c =
     let L = g.L.Link in
-    let old : Tells = record { bound = L.bound c.args.link.now; taken = L.taken c.args.link.now; given = L.given c.args.link.now } in
+    let old : Tells = tells_of (L.bound c.args.link.now) (L.taken c.args.link.now) (L.given c.args.link.now) in
     record {
       node = c.requires.node;
       declared = record { left = refl; gone = gone_none served_of c.args.deployment.now old c.args.self };
@@ -40,9 +40,9 @@ returns-in_err-next g c =
     let L = g.L.Link in
     let d = c.args.deployment.now in
     let s : Served g.row.M.Denot = served_of c.args.self in
-    let old : Tells = record { bound = L.bound c.args.link.now; taken = L.taken c.args.link.now; given = L.given c.args.link.now } in
-    let mid : Tells = record { bound = L.bound c.loop-node.link; taken = L.taken c.loop-node.link; given = L.given c.loop-node.link } in
-    let new : Tells = record { bound = L.bound c.step.new.link; taken = L.taken c.step.new.link; given = L.given c.step.new.link } in
+    let old : Tells = tells_of (L.bound c.args.link.now) (L.taken c.args.link.now) (L.given c.args.link.now) in
+    let mid : Tells = tells_of (L.bound c.loop-node.link) (L.taken c.loop-node.link) (L.given c.loop-node.link) in
+    let new : Tells = tells_of (L.bound c.step.new.link) (L.taken c.step.new.link) (L.given c.step.new.link) in
     let i = c.loop-node.node-index in
     let r = c.from_residual.result in
     let p = err_from_is_err_and r c.from_residual.ensures.1 in
@@ -65,9 +65,9 @@ loop-node-preserved g c =
     let L = g.L.Link in
     let d = c.args.deployment.now in
     let s : Served g.row.M.Denot = served_of c.args.self in
-    let old : Tells = record { bound = L.bound c.args.link.now; taken = L.taken c.args.link.now; given = L.given c.args.link.now } in
-    let mid : Tells = record { bound = L.bound c.loop-node.link; taken = L.taken c.loop-node.link; given = L.given c.loop-node.link } in
-    let new : Tells = record { bound = L.bound c.step.new.link; taken = L.taken c.step.new.link; given = L.given c.step.new.link } in
+    let old : Tells = tells_of (L.bound c.args.link.now) (L.taken c.args.link.now) (L.given c.args.link.now) in
+    let mid : Tells = tells_of (L.bound c.loop-node.link) (L.taken c.loop-node.link) (L.given c.loop-node.link) in
+    let new : Tells = tells_of (L.bound c.step.new.link) (L.taken c.step.new.link) (L.given c.step.new.link) in
     let i = c.loop-node.node-index in
     record {
       node = subst (λ k. IsNodeOf d k c.in_ok-next.next.core) c.loop-node.invariant.node.own c.in_ok-next.ensures.node;
@@ -80,8 +80,8 @@ pub returns : goal.returns
 returns g c =
     let M = g.M.Module in
     let L = g.L.Link in
-    let old : Tells = record { bound = L.bound c.args.link.now; taken = L.taken c.args.link.now; given = L.given c.args.link.now } in
-    let new : Tells = record { bound = L.bound c.loop-node.link; taken = L.taken c.loop-node.link; given = L.given c.loop-node.link } in
+    let old : Tells = tells_of (L.bound c.args.link.now) (L.taken c.args.link.now) (L.given c.args.link.now) in
+    let new : Tells = tells_of (L.bound c.loop-node.link) (L.taken c.loop-node.link) (L.given c.loop-node.link) in
     record {
       node = c.loop-node.invariant.node;
       gone = declared_all M.declared M.turn c.args.deployment.now c.args.nodes.now (served_of c.args.self) old new c.loop-node.node-index c.loop-node.serving c.loop-node.invariant.declared

@@ -6,7 +6,7 @@ use Rattle.circus_node.specs.declared.event.Event.TheVariants.{Datagram}
 use Rattle.circus_node.specs.Node.{IsNodeOf}
 use Rattle.circus_serve.specs.declared.fault.ServeFault.TheVariants as fault
 use Rattle.circus_serve.specs.declared.serving.Serving.{Serving}
-use Rattle.circus_serve.specs.Outside.{Tells}
+use Rattle.circus_serve.specs.Outside.{Tells, tells_of}
 use Rattle.circus_serve.specs.Serving.{Served, Progress, on, comes, took, with_foreign}
 use Rattle.circus_serve.specs.Seen.Counting.{ServeCounts}
 use Rattle.circus_serve.specs.Seen.Going.{served_of, HasGone}
@@ -24,7 +24,7 @@ returns-in_err-add_foreign g c =
     let L = g.L.Link in
     let d = c.args.deployment.now in
     let s : Served g.row.M.Denot = served_of c.args.self in
-    let old : Tells = record { bound = L.bound c.args.link.now; taken = L.taken c.args.link.now; given = L.given c.args.link.now } in
+    let old : Tells = tells_of (L.bound c.args.link.now) (L.taken c.args.link.now) (L.given c.args.link.now) in
     let r = c.from_residual.result in
     let p = err_from_is_err_and r c.from_residual.ensures.1 in
     let is : r ≡ Err fault.NoMemory = p.1 ∙ ap Err p.2 in
@@ -42,7 +42,7 @@ returns-in_default g c =
     let L = g.L.Link in
     let d = c.args.deployment.now in
     let s : Served g.row.M.Denot = served_of c.args.self in
-    let old : Tells = record { bound = L.bound c.args.link.now; taken = L.taken c.args.link.now; given = L.given c.args.link.now } in
+    let old : Tells = tells_of (L.bound c.args.link.now) (L.taken c.args.link.now) (L.given c.args.link.now) in
     let state : Serving g.row.M.Denot g.row.M-Paused.Denot → Served g.row.M.Denot = served_of in
     let after : Serving g.row.M.Denot g.row.M-Paused.Denot = record { core = c.args.self.core; log = c.add_foreign.new.self } in
     let foreign : Progress g.row.M.Denot = on (with_foreign c.args.port c.args.bytes s) in
@@ -61,7 +61,7 @@ returns-in_err-bytes g c =
     let L = g.L.Link in
     let d = c.args.deployment.now in
     let s : Served g.row.M.Denot = served_of c.args.self in
-    let old : Tells = record { bound = L.bound c.args.link.now; taken = L.taken c.args.link.now; given = L.given c.args.link.now } in
+    let old : Tells = tells_of (L.bound c.args.link.now) (L.taken c.args.link.now) (L.given c.args.link.now) in
     let r = c.from_residual-in_err-bytes.result in
     let p = err_from_is_err_and r c.from_residual-in_err-bytes.ensures.1 in
     let is : r ≡ Err fault.NoMemory = p.1 ∙ ap Err p.2 in
@@ -85,8 +85,8 @@ returns g c =
     let L = g.L.Link in
     let d = c.args.deployment.now in
     let s : Served g.row.M.Denot = served_of c.args.self in
-    let old : Tells = record { bound = L.bound c.args.link.now; taken = L.taken c.args.link.now; given = L.given c.args.link.now } in
-    let new : Tells = record { bound = L.bound c.come.new.link; taken = L.taken c.come.new.link; given = L.given c.come.new.link } in
+    let old : Tells = tells_of (L.bound c.args.link.now) (L.taken c.args.link.now) (L.given c.args.link.now) in
+    let new : Tells = tells_of (L.bound c.come.new.link) (L.taken c.come.new.link) (L.given c.come.new.link) in
     let foreign : Progress g.row.M.Denot = on (with_foreign c.args.port c.args.bytes s) in
     record {
       node = IfOk-weaker c.come.result _ _ (λ t node. subst (λ k. IsNodeOf d k t.core) c.requires.node.own node) c.come.ensures.node;

@@ -3,7 +3,7 @@ use Rattle.std.proofs.lemmas.Result.{err_from_is_err_and}
 use Rattle.circus_node.specs.declared.event.Outputs.{Outputs}
 use Rattle.circus_serve.specs.declared.fault.ServeFault.TheVariants as fault
 use Rattle.circus_serve.specs.declared.serving.Serving.{Serving}
-use Rattle.circus_serve.specs.Outside.{Tells}
+use Rattle.circus_serve.specs.Outside.{Tells, tells_of}
 use Rattle.circus_serve.specs.Serving.{Served, event_comes}
 use Rattle.circus_serve.specs.Seen.Counting.{ServeCounts}
 use Rattle.circus_serve.specs.Seen.Faults.{of_link, of_step}
@@ -22,7 +22,7 @@ returns-in_err-noted g c =
     let d = c.args.deployment.now in
     let s : Served g.row.M.Denot = served_of c.args.self in
     let state : Serving g.row.M.Denot g.row.M-Paused.Denot × List ℕ → Served g.row.M.Denot = λ stepped. served_of stepped.0 in
-    let old : Tells = record { bound = L.bound c.args.link.now; taken = L.taken c.args.link.now; given = L.given c.args.link.now } in
+    let old : Tells = tells_of (L.bound c.args.link.now) (L.taken c.args.link.now) (L.given c.args.link.now) in
     let r = c.from_residual.result in
     let p = err_from_is_err_and r c.from_residual.ensures.1 in
     let is : r ≡ Err fault.NoMemory = p.1 ∙ ap Err p.2 in
@@ -41,7 +41,7 @@ returns-in_err-core g c =
     let d = c.args.deployment.now in
     let s : Served g.row.M.Denot = served_of c.args.self in
     let state : Serving g.row.M.Denot g.row.M-Paused.Denot × List ℕ → Served g.row.M.Denot = λ stepped. served_of stepped.0 in
-    let old : Tells = record { bound = L.bound c.args.link.now; taken = L.taken c.args.link.now; given = L.given c.args.link.now } in
+    let old : Tells = tells_of (L.bound c.args.link.now) (L.taken c.args.link.now) (L.given c.args.link.now) in
     let r = c.from_residual-in_err-core.result in
     let p = err_from_is_err_and r c.from_residual-in_err-core.ensures.1 in
     let f = c.in_err-core.field-0.0 in
@@ -61,8 +61,8 @@ returns-in_err-add_event g c =
     let d = c.args.deployment.now in
     let s : Served g.row.M.Denot = served_of c.args.self in
     let state : Serving g.row.M.Denot g.row.M-Paused.Denot × List ℕ → Served g.row.M.Denot = λ stepped. served_of stepped.0 in
-    let old : Tells = record { bound = L.bound c.args.link.now; taken = L.taken c.args.link.now; given = L.given c.args.link.now } in
-    let new : Tells = record { bound = L.bound c.add_event.new.link; taken = L.taken c.add_event.new.link; given = L.given c.add_event.new.link } in
+    let old : Tells = tells_of (L.bound c.args.link.now) (L.taken c.args.link.now) (L.given c.args.link.now) in
+    let new : Tells = tells_of (L.bound c.add_event.new.link) (L.taken c.add_event.new.link) (L.given c.add_event.new.link) in
     let r = c.from_residual-in_err-add_event.result in
     let p = err_from_is_err_and r c.from_residual-in_err-add_event.ensures.1 in
     let f = c.in_err-add_event.field-0.0 in
@@ -83,8 +83,8 @@ returns g c =
     let d = c.args.deployment.now in
     let s : Served g.row.M.Denot = served_of c.args.self in
     let state : Serving g.row.M.Denot g.row.M-Paused.Denot × List ℕ → Served g.row.M.Denot = λ stepped. served_of stepped.0 in
-    let old : Tells = record { bound = L.bound c.args.link.now; taken = L.taken c.args.link.now; given = L.given c.args.link.now } in
-    let new : Tells = record { bound = L.bound c.add_event.new.link; taken = L.taken c.add_event.new.link; given = L.given c.add_event.new.link } in
+    let old : Tells = tells_of (L.bound c.args.link.now) (L.taken c.args.link.now) (L.given c.args.link.now) in
+    let new : Tells = tells_of (L.bound c.add_event.new.link) (L.taken c.add_event.new.link) (L.given c.add_event.new.link) in
     let core = c.in_ok-core.core in
     let outputs : Outputs = c.in_ok-core.outputs in
     let ended = c.in_ok-core.ensures.stepped in

@@ -2,7 +2,7 @@ use Rattle.std.proofs.Common.{sym, subst}
 use Rattle.std.proofs.lemmas.Result.{IfOk-weaker}
 use Rattle.circus_outside.specs.declared.link.TakenFrom.{TakenFrom}
 use Rattle.circus_node.specs.Node.{IsNodeOf}
-use Rattle.circus_serve.specs.Outside.{Tells}
+use Rattle.circus_serve.specs.Outside.{Tells, tells_of}
 use Rattle.circus_serve.specs.Serving.{Served, took}
 use Rattle.circus_serve.specs.Seen.Going.{served_of, HasGone}
 use Rattle.circus_serve.proofs.SuspectLemmas.{own_node}
@@ -20,8 +20,8 @@ returns-in-From g c =
     let L = g.L.Link in
     let d = c.args.deployment.now in
     let s : Served g.row.M.Denot = served_of c.args.self in
-    let old : Tells = record { bound = L.bound c.args.link.now; taken = L.taken c.args.link.now; given = L.given c.args.link.now } in
-    let new : Tells = record { bound = L.bound c.hear.new.link; taken = L.taken c.hear.new.link; given = L.given c.hear.new.link } in
+    let old : Tells = tells_of (L.bound c.args.link.now) (L.taken c.args.link.now) (L.given c.args.link.now) in
+    let new : Tells = tells_of (L.bound c.hear.new.link) (L.taken c.hear.new.link) (L.given c.hear.new.link) in
     record {
       node = c.hear.ensures.node;
       gone = subst (λ (taken : TakenFrom). HasGone served_of d old new s.happened (took M.declared M.turn d c.args.node taken s) c.hear.result) (sym c.in-From.is) c.hear.ensures.gone;
@@ -37,8 +37,8 @@ returns-in-Nothing g c =
     let L = g.L.Link in
     let d = c.args.deployment.now in
     let s : Served g.row.M.Denot = served_of c.args.self in
-    let old : Tells = record { bound = L.bound c.args.link.now; taken = L.taken c.args.link.now; given = L.given c.args.link.now } in
-    let new : Tells = record { bound = L.bound c.come.new.link; taken = L.taken c.come.new.link; given = L.given c.come.new.link } in
+    let old : Tells = tells_of (L.bound c.args.link.now) (L.taken c.args.link.now) (L.given c.args.link.now) in
+    let new : Tells = tells_of (L.bound c.come.new.link) (L.taken c.come.new.link) (L.given c.come.new.link) in
     record {
       node = IfOk-weaker c.come.result _ _ (λ t node. subst (λ k. IsNodeOf d k t.core) c.requires.node.own node) c.come.ensures.node;
       gone = subst (λ (taken : TakenFrom). HasGone served_of d old new s.happened (took M.declared M.turn d c.args.node taken s) c.come.result) (sym c.in-Nothing.is) c.come.ensures.gone;
