@@ -1,6 +1,6 @@
 -- What is read of a file, accepted or refused.
 use Rattle.std.proofs.Common.{◌≡◌, ℕ, ◌≤◌, ◌⊎◌, inl, inr, List, [], ◌∷◌, length, map, refl, sym, ◌∙◌, ap, subst, arith, Option, Some, None, Result, Ok, Err, IfOk, IfErr}
-use Rattle.std.specs.Prelude.{All, option_map, IfNone}
+use Rattle.std.specs.Prelude.{All, IsAscii, option_map, IfNone}
 use Rattle.std.specs.List.{AllByRecursion}
 use Rattle.circus_text.specs.declared.token.Token.{Token}
 use Rattle.circus_text.specs.Form.{longest_text}
@@ -43,6 +43,8 @@ use Rattle.circus_check.specs.Meaning.{modules_meant}
 use Rattle.circus_check.specs.Seen.Meant.{module_as}
 use Rattle.circus_deployment.specs.Meaning.{deployment_meant}
 use Rattle.circus_config.specs.declared.program_fault.ProgramCause.TheVariants.{Syntax, Deep}
+use Rattle.circus_check.specs.WellFormed.{AreWellFormed}
+use Rattle.circus_collate.specs.Deployment.{IsDeployment}
 use Rattle.circus_config.specs.declared.plan.Plan.{Plan}
 use Rattle.circus_config.specs.declared.program_fault.ProgramCause.{ProgramCause}
 use Rattle.circus_config.specs.declared.program_fault.ProgramFault.{ProgramFault}
@@ -54,7 +56,7 @@ use Rattle.circus_config.specs.Rank.{rank_of}
 use Rattle.circus_config.specs.Told.{module_names}
 use Rattle.circus_config.specs.Checking.{checked_faults}
 use Rattle.circus_config.specs.Reading.{interfaces_faults, read_faults}
-use Rattle.circus_config.specs.Program.{EachMeans, placed, IsFile, IsStopOf, IsReadOf, IsAnswerTo, IsProgramOf, IsRefused, format_number}
+use Rattle.circus_config.specs.Program.{EachMeans, placed, IsFile, IsStopOf, IsReadOf, IsAnswerTo, IsProgramOf, IsRefused, format_number, HaveTheirRoots, IsPlan}
 use Rattle.circus_config.proofs.Looked.{modules_in_text, same_least, none_looked}
 use Rattle.circus_config.proofs.Rules.{clean_of, all_obey, as_many}
 
@@ -214,3 +216,10 @@ module _ (text : List ℕ) (found : List Token) (tree : ProgramTree) (s : Reader
 -- the least fault of the pass that reads, as what is kept
 pub answered : (text : List ℕ) (faults : List (Fault ProgramCause)) (x : Fault ProgramCause) (answer : ProgramFault) → least_from rank_of None faults ≡ Some x → answer ≡ Refused (line_of text x.place) x.cause → IsAnswerTo text faults answer
 answered text faults x answer least given = (x, least, given)
+
+-- what is known of a plan that was read, together
+pub ok_plan : {E : Type 0} (r : Result Plan E) → IfOk r (λ (p : Plan). AllByRecursion Obeys p.checked.interfaces)
+    → IfOk r (λ (p : Plan). AreWellFormed p.checked.interfaces (map module_as p.checked.modules)) → IfOk r (λ (p : Plan). IsDeployment p.deployment)
+    → IfOk r HaveTheirRoots → IfOk r (λ (p : Plan). All IsAscii p.names) → IfOk r IsPlan
+ok_plan (Ok plan) obey well_formed deployed roots named = record { obey = obey; well_formed = well_formed; deployed = deployed; roots = roots; named = named }
+ok_plan (Err e) obey well_formed deployed roots named = tt

@@ -1,6 +1,7 @@
 -- *Program*: which program a file is, and else the line and the cause of its refusal. Three passes are made, and the first one
 -- with a fault decides: tokens; reading, with the rules of interfaces; checking of modules and deployment.
-use Rattle.std.specs.Prelude.{◌≡◌, ◌⊎◌, ℕ, ◌<◌, ◌≤◌, List, [], ◌∷◌, length, map, Err, Option, Some, None}
+use Rattle.std.specs.Prelude.{◌≡◌, ◌⊎◌, ℕ, ◌<◌, ◌≤◌, List, [], ◌∷◌, length, map, All, IsAscii, Err, Option, Some, None}
+use Rattle.std.specs.List.{AllByRecursion}
 use Rattle.circus_text.specs.declared.token.Token.{Token}
 use Rattle.circus_text.specs.declared.lex_fault.LexFault.{LexFault}
 use Rattle.circus_text.specs.declared.lex_fault.LexFault.TheVariants as lexical
@@ -20,6 +21,7 @@ use Rattle.circus_fault.specs.declared.fault.Fault.{Fault}
 use Rattle.circus_fault.specs.Least.{least_from}
 use Rattle.circus_idl.specs.declared.interface.Interface.{Interface}
 use Rattle.circus_idl.specs.Means.{Means}
+use Rattle.circus_idl.specs.Obeys.{Obeys}
 use Rattle.circus_file.specs.declared.program_text.Format.{Format}
 use Rattle.circus_file.specs.declared.program_text.Format.TheVariants.{One, Two}
 use Rattle.circus_file.specs.WrittenProgram.{WrittenProgram, spelling_program, IsProgram}
@@ -27,6 +29,8 @@ use Rattle.circus_file.specs.ProgramTree.{ProgramTree, program_stands_for}
 use Rattle.circus_file.specs.ProgramReading.{program}
 use Rattle.circus_check.specs.Meaning.{ModuleMeant, modules_meant}
 use Rattle.circus_check.specs.Seen.Meant.{module_as}
+use Rattle.circus_check.specs.WellFormed.{AreWellFormed}
+use Rattle.circus_collate.specs.Deployment.{IsDeployment}
 use Rattle.circus_collate.specs.declared.deployment.Troupe.{Troupe}
 use Rattle.circus_deployment.specs.Meaning.{deployment_meant}
 use Rattle.circus_config.specs.declared.plan.Plan.{Plan}
@@ -82,6 +86,14 @@ pub record IsProgramOf (text : List ℕ) (plan : Plan) : Type 0 where
 -- there is a troupe for each module, a root exactly where the module is one
 abbrev pub HaveTheirRoots : Plan → Type 0
 HaveTheirRoots plan = map (λ (t : Troupe). t.root) plan.deployment.troupes ≡ map (λ (m : ModuleMeant). m.root) (map module_as plan.checked.modules)
+
+-- the interfaces, the modules and the deployment of a plan obey their rules as a whole, and what is named is ASCII
+pub record IsPlan (plan : Plan) : Type 0 where
+  pub obey : AllByRecursion Obeys plan.checked.interfaces
+  pub well_formed : AreWellFormed plan.checked.interfaces (map module_as plan.checked.modules)
+  pub deployed : IsDeployment plan.deployment
+  pub roots : HaveTheirRoots plan
+  pub named : All IsAscii plan.names
 
 -- two plans say the same: deployments, names, interfaces and modules are equal
 pub record SaysSame (plan other : Plan) : Type 0 where

@@ -1,16 +1,14 @@
 // Reading program files.
 ghost use Rattle.std.specs.Prelude.{◌≡◌, ◌⊎◌, ◌≤◌, All, IsAscii, length, map, IfOk, IfErr};
-ghost use Rattle.std.specs.List.{AllByRecursion};
 ghost use Rattle.circus_text.specs.Form.{longest_text};
 ghost use Rattle.circus_text.specs.Token.{IsTokenIn};
 ghost use Rattle.circus_text.specs.Division.{AreTokensOf};
-ghost use Rattle.circus_idl.specs.Obeys.{Obeys};
 ghost use Rattle.circus_check.specs.Seen.Meant.{module_as};
 ghost use Rattle.circus_check.specs.WellFormed.{AreWellFormed};
 ghost use Rattle.circus_collate.specs.Deployment.{IsDeployment};
 ghost use Rattle.circus_config.specs.declared.program_fault.ProgramFault.{ProgramFault};
 ghost use Rattle.circus_config.specs.Told.{names_told};
-ghost use Rattle.circus_config.specs.Program.{lexical_answer, IsProgramOf, IsRefused, HaveTheirRoots};
+ghost use Rattle.circus_config.specs.Program.{lexical_answer, IsProgramOf, IsRefused, HaveTheirRoots, IsPlan};
 
 use crate::checking::plan;
 use crate::interfaces::interfaces;
@@ -79,16 +77,8 @@ fn read_tokens(alloc: Global, bytes: &[u8], found: &[Token]) -> Result<Plan, Pro
 /// at the least place is given, at one place the first in the order of `ProgramCause`. `NoMemory` can come in any pass.
 pub fn read_program(alloc: Global, bytes: &[u8]) -> Result<Plan, ProgramFault>
     ensures ok { IfOk result (IsProgramOf bytes.now) }
-
-    // The interfaces, the modules and the deployment obey their rules as a whole.
-    ensures obey { IfOk result (λ plan. AllByRecursion Obeys plan.checked.interfaces) }
-    ensures well_formed { IfOk result (λ plan. AreWellFormed plan.checked.interfaces (map module_as plan.checked.modules)) }
-    ensures deployed { IfOk result (λ plan. IsDeployment plan.deployment) }
-    ensures roots { IfOk result HaveTheirRoots }
+    ensures plan { IfOk result IsPlan }
     ensures err { IfErr result (λ e. (e ≡ ProgramFault.NoMemory) ⊎ IsRefused bytes.now e) }
-
-    // What is named is ASCII.
-    ensures named { IfOk result (λ plan. All IsAscii plan.names) }
     ensures told { IfErr result (λ e. All IsAscii (names_told e)) }
 {
     read_lexed(alloc, bytes)

@@ -1,13 +1,9 @@
 // Why a program is refused, as it is written.
-ghost use Rattle.std.specs.Prelude.{◌≡◌, ◌++◌, All, IsAscii, IsTrue, map, IfOk, IfErr, OnOk, string_bytes, codes};
+ghost use Rattle.std.specs.Prelude.{◌≡◌, ◌++◌, IsAscii, IsTrue, IfOk, IfErr, OnOk, string_bytes, codes};
 ghost use Rattle.std.specs.Fmt.{decimal};
 ghost use Rattle.std.specs.List.{AllByRecursion};
-ghost use Rattle.circus_idl.specs.Obeys.{Obeys};
-ghost use Rattle.circus_check.specs.Seen.Meant.{module_as};
-ghost use Rattle.circus_check.specs.WellFormed.{AreWellFormed};
-ghost use Rattle.circus_collate.specs.Deployment.{IsDeployment};
 ghost use Rattle.circus_config.specs.Told.{names_in};
-ghost use Rattle.circus_config.specs.Program.{IsProgramOf, HaveTheirRoots};
+ghost use Rattle.circus_config.specs.Program.{IsProgramOf, IsPlan};
 ghost use Rattle.circus_ending.specs.Refusal.{cause_text, refused_text, IsEndOfRefused};
 ghost use Rattle.circus_ending.specs.Seen.Ending.{ending_of};
 ghost use Rattle.circus_ending.specs.Status.{is_end};
@@ -95,11 +91,7 @@ fn refused(alloc: Global, number: u32, cause: &ProgramCause) -> Result<Ending, N
 /// The plan that a program file means, or the end of one that is refused (docs/GUIDE.md, "Statuses").
 pub fn plan_of(alloc: Global, bytes: &[u8]) -> Result<Result<Plan, Ending>, NoMemory>
     ensures program { IfOk result (λ read. IfOk read (IsProgramOf bytes.now)) }
-    ensures obey { IfOk result (λ read. IfOk read (λ plan. AllByRecursion Obeys plan.checked.interfaces)) }
-    ensures well_formed { IfOk result (λ read. IfOk read (λ plan. AreWellFormed plan.checked.interfaces (map module_as plan.checked.modules))) }
-    ensures deployed { IfOk result (λ read. IfOk read (λ plan. IsDeployment plan.deployment)) }
-    ensures roots { IfOk result (λ read. IfOk read HaveTheirRoots) }
-    ensures named { IfOk result (λ read. IfOk read (λ plan. All IsAscii plan.names)) }
+    ensures plan { IfOk result (λ read. IfOk read IsPlan) }
     ensures refused { IfOk result (λ read. IfErr read (λ ending. IsEndOfRefused bytes.now (ending_of ending))) }
     ensures status { IfOk result (λ read. IfErr read (λ ending. IsTrue (is_end ending.status))) }
 {

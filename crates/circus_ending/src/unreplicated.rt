@@ -1,9 +1,6 @@
 // The history of a program when nothing is replicated.
-ghost use Rattle.std.specs.Prelude.{◌≡◌, All, IsAscii, IsTrue, map, IfOk};
-ghost use Rattle.std.specs.List.{AllByRecursion};
-ghost use Rattle.circus_idl.specs.Obeys.{Obeys};
-ghost use Rattle.circus_check.specs.Seen.Meant.{module_as};
-ghost use Rattle.circus_check.specs.WellFormed.{AreWellFormed};
+ghost use Rattle.std.specs.Prelude.{◌≡◌, IsTrue, IfOk};
+ghost use Rattle.circus_config.specs.Program.{IsPlan};
 ghost use Rattle.circus_ending.specs.Program.{history_lines, IsEndOfProgram};
 ghost use Rattle.circus_ending.specs.Seen.Ending.{ending_of};
 ghost use Rattle.circus_ending.specs.Status.{is_end};
@@ -19,9 +16,7 @@ use std::alloc::Global;
 
 // The lines of what the modules of a plan perform.
 fn history_lines(alloc: Global, plan: Plan) -> Result<Octets, NoMemory>
-    requires obey { AllByRecursion Obeys plan.checked.interfaces }
-    requires well_formed { AreWellFormed plan.checked.interfaces (map module_as plan.checked.modules) }
-    requires named { All IsAscii plan.names }
+    requires { IsPlan plan }
     ensures { IfOk result (λ text. text ≡ history_lines plan) }
 {
     let limit = plan.limit();

@@ -1,11 +1,6 @@
 // A plan whose modules are made.
 ghost use Rattle.std.specs.Prelude.{◌≡◌, map, IfOk};
-ghost use Rattle.std.specs.List.{AllByRecursion};
-ghost use Rattle.circus_collate.specs.Deployment.{IsDeployment};
-ghost use Rattle.circus_idl.specs.Obeys.{Obeys};
-ghost use Rattle.circus_check.specs.Seen.Meant.{module_as};
-ghost use Rattle.circus_check.specs.WellFormed.{AreWellFormed};
-ghost use Rattle.circus_config.specs.Program.{HaveTheirRoots};
+ghost use Rattle.circus_config.specs.Program.{IsPlan};
 ghost use Rattle.circus_model.specs.Agree.{Agree};
 ghost use Rattle.circus_model.specs.Behaviour.{behaviours};
 ghost use Rattle.circus_node.specs.Booting.{AreOfTroupes};
@@ -32,10 +27,7 @@ pub struct Loaded {
 /// Makes the modules of a plan that was read of a file (docs/LANGUAGE.md, "Executions"). `NoMemory` is the one fault; the
 /// plan is gone then.
 pub fn load(alloc: Global, plan: Plan) -> Result<Loaded, NoMemory>
-    requires obey { AllByRecursion Obeys plan.checked.interfaces }
-    requires well_formed { AreWellFormed plan.checked.interfaces (map module_as plan.checked.modules) }
-    requires deployed { IsDeployment plan.deployment }
-    requires roots { HaveTheirRoots plan }
+    requires { IsPlan plan }
     ensures deployment { IfOk result (λ loaded. loaded.deployment ≡ plan.deployment) }
     ensures names { IfOk result (λ loaded. loaded.names ≡ plan.names) }
     ensures interfaces { IfOk result (λ loaded. loaded.interfaces ≡ plan.checked.interfaces) }

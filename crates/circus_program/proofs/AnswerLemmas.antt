@@ -1,13 +1,19 @@
 -- What was fetched and asked for, file by file.
-use Rattle.std.proofs.Common.{◌≡◌, ℕ, inl, inr, Option, Some, None, List, [], ◌∷◌, ap, ◌∙◌, Result, Ok, Err, IfOk}
+use Rattle.std.proofs.Common.{◌≡◌, ℕ, inl, inr, Option, Some, None, List, [], ◌∷◌, ap, subst, ◌∙◌, Result, Ok, Err, IfOk}
 use Rattle.std.specs.Prelude.{IfSome}
 use Rattle.circus_outside.specs.Told.{told_more}
 use Rattle.circus_program.specs.declared.answer.Step.{Step}
 use Rattle.circus_config.specs.declared.plan.Plan.{Plan}
 use Rattle.circus_config.specs.Program.{IsProgramOf}
 use Rattle.circus_program.specs.declared.answer.Step.TheVariants.{Finish, Lack, Replay, Serve}
-use Rattle.circus_program.specs.Answer.{Due, IsDueOfReplay, IsDueOfBytes, AreFetchedOf, AsksFirstOf}
-use Rattle.circus_program.specs.Seen.Step.{due_of, LacksNone, IsLackNoted, IsDueBehind, IsStepBehind, IsStepOfProgram, IsStepOfReplay, IsStepOfPlan}
+use Rattle.circus_ending.specs.declared.one_file.OneFile.TheVariants.{Stubs, Run, Place}
+use Rattle.circus_program.specs.Form.{Form, stubs, run, node, sample, place, IsOfForm}
+use Rattle.circus_program.specs.declared.answer.Command.{Command}
+use Rattle.circus_program.specs.declared.answer.Command.TheVariants.{End, OfPlan}
+use Rattle.circus_program.specs.declared.answer.Task.TheVariants.{Sample, Node}
+use Rattle.circus_program.specs.Answer.{Due, IsDueOfReplay, IsDueOfProgram, IsDue, AreFetchedOf, AsksFirstOf, AsksOnly}
+use Rattle.circus_program.specs.Seen.Built.{IsDueOfCommand, file_form}
+use Rattle.circus_program.specs.Seen.Step.{due_of, LacksNone, IsLackNoted, IsDueBehind, IsStepBehind, IsStepOfProgram, IsStepOfReplay, IsStepOfFile}
 use Rattle.circus_running.proofs.ToldLemmas.{told_more-twice}
 
 -- nothing was fetched
@@ -57,14 +63,43 @@ asks-more old middle new name names e h =
       noted = h.noted ∙ ap (λ told. told_more told h.asked) e ∙ told_more-twice old (name ∷ []) h.asked;
     }
 
--- a step behind the bytes of a program is one of its form
-pub step-of_plan : (shelf : Option (List ℕ → Option (List ℕ))) (program bytes : List ℕ) (IsNext : Plan → Due → Type 0) (due : Due) → IfSome shelf (λ told. told program ≡ Some bytes) → IsDueOfBytes IsNext bytes due
-    → IsStepOfPlan shelf program IsNext due
-step-of_plan shelf program bytes IsNext due told is = record { files = bytes ∷ []; fetched = fetched-more shelf program bytes [] [] told (fetched-none shelf []); is_due = is }
+-- a step behind the bytes of a file is one of its form
+pub step-of_file : (shelf : Option (List ℕ → Option (List ℕ))) (name bytes : List ℕ) (IsNext : List ℕ → Due → Type 0) (due : Due) → IfSome shelf (λ told. told name ≡ Some bytes) → IsNext bytes due
+    → IsStepOfFile shelf name IsNext due
+step-of_file shelf name bytes IsNext due told is = record { files = bytes ∷ []; fetched = fetched-more shelf name bytes [] [] told (fetched-none shelf []); is_due = is }
+
+-- a step of a command of one file is due of its form
+due-of_command : (shelf : Option (List ℕ → Option (List ℕ))) (words : List (List ℕ)) (command : Command) (file : List ℕ) (due : Due) → IsOfForm words (file_form command file)
+    → IsStepOfFile shelf file (IsDueOfCommand command) due → IsDue shelf words due
+due-of_command shelf words (End Stubs) file due of h = inl (record { form = stubs file; of_form = of; files = h.files; fetched = h.fetched; is_due = h.is_due })
+due-of_command shelf words (End Run) file due of h = inl (record { form = run file; of_form = of; files = h.files; fetched = h.fetched; is_due = h.is_due })
+due-of_command shelf words (End Place) file due of h = inl (record { form = place file; of_form = of; files = h.files; fetched = h.fetched; is_due = h.is_due })
+due-of_command shelf words (OfPlan (Sample seed steps)) file due of h =
+    inl (record { form = sample file seed steps; of_form = of; files = h.files; fetched = h.fetched; is_due = h.is_due })
+due-of_command shelf words (OfPlan (Node name turns)) file due of h =
+    inl (record { form = node file name.now turns; of_form = of; files = h.files; fetched = h.fetched; is_due = h.is_due })
+
+pub result-of_command : {E : Type 0} (shelf : Option (List ℕ → Option (List ℕ))) (words : List (List ℕ)) (form : Form) (command : Command) (file : List ℕ) (r : Result Step E)
+    → IsOfForm words form → form ≡ file_form command file → IfOk r (λ step. IsStepOfFile shelf file (IsDueOfCommand command) (due_of step)) → IfOk r (λ step. IsDue shelf words (due_of step))
+result-of_command shelf words form command file (Ok step) of is h = due-of_command shelf words command file (due_of step) (subst (λ (f : Form). IsOfForm words f) is of) h
+result-of_command shelf words form command file (Err e) of is h = tt
+
+-- and asks for its file alone
+asks-of_file : (old new : Option (List (List ℕ))) (words : List (List ℕ)) (command : Command) (file : List ℕ) → IsOfForm words (file_form command file)
+    → AsksFirstOf old new (file ∷ []) → AsksOnly old new words
+asks-of_file old new words (End Stubs) file of h = inl (record { form = stubs file; of_form = of; asks = h })
+asks-of_file old new words (End Run) file of h = inl (record { form = run file; of_form = of; asks = h })
+asks-of_file old new words (End Place) file of h = inl (record { form = place file; of_form = of; asks = h })
+asks-of_file old new words (OfPlan (Sample seed steps)) file of h = inl (record { form = sample file seed steps; of_form = of; asks = h })
+asks-of_file old new words (OfPlan (Node name turns)) file of h = inl (record { form = node file name.now turns; of_form = of; asks = h })
+
+pub asks-of_command : (old new : Option (List (List ℕ))) (words : List (List ℕ)) (form : Form) (command : Command) (file : List ℕ) → IsOfForm words form → form ≡ file_form command file
+    → AsksFirstOf old new (file ∷ []) → AsksOnly old new words
+asks-of_command old new words form command file of is h = asks-of_file old new words command file (subst (λ (f : Form). IsOfForm words f) is of) h
 
 -- what comes of the plan of a program is due of its bytes
 pub bytes-good : {E : Type 0} (program : List ℕ) (plan : Plan) (IsNext : Plan → Due → Type 0) (r : Result Step E) → IsProgramOf program plan
-    → IfOk r (λ step. IsNext plan (due_of step)) → IfOk r (λ step. IsDueOfBytes IsNext program (due_of step))
+    → IfOk r (λ step. IsNext plan (due_of step)) → IfOk r (λ step. IsDueOfProgram IsNext program (due_of step))
 bytes-good program plan IsNext (Ok step) means is = inl (plan, means, is)
 bytes-good program plan IsNext (Err e) means is = tt
 
@@ -73,4 +108,4 @@ pub noted-none : (fetched : Option (List (List ℕ))) (old new : ℕ) (step : St
 noted-none fetched old new (Finish ending) none = tt
 noted-none fetched old new (Lack name) none = absurd none
 noted-none fetched old new (Replay ready) none = tt
-noted-none fetched old new (Serve plan node turns) none = tt
+noted-none fetched old new (Serve plan number turns) none = tt

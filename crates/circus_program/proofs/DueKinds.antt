@@ -6,7 +6,7 @@ use Rattle.circus_ending.specs.declared.one_file.OneFile.{OneFile}
 use Rattle.circus_ending.specs.declared.one_file.OneFile.TheVariants.{Stubs, Run, Place}
 use Rattle.circus_ending.specs.Ending.{Ending}
 use Rattle.circus_program.specs.Form.{Form, stubs, run, replay, node, sample, settle, place, audit, IsOfForm}
-use Rattle.circus_program.specs.Answer.{Due, fetch, finish, serve, IsDueOfRefused, IsDueOfSchedule, IsDueOfReplay, IsDueOfFile, IsDueOfProgram, IsDueOfSample, IsDueOfNode, IsDueUnbuilt, IsDueOfForm, IsDue, AsksForNode}
+use Rattle.circus_program.specs.Answer.{Due, fetch, finish, serve, IsDueOfRefused, IsDueOfSchedule, IsDueOfReplay, IsDueOfFile, IsDueOfEnd, IsDueOfProgram, IsDueOfSample, IsDueOfNode, IsDueUnbuilt, IsDueOfForm, IsDue, AsksForNode}
 use Rattle.circus_program.proofs.Why.{never_ends, never_replays, never_drawn, ends_as}
 
 abbrev IsNode : Form → Type 0
@@ -39,17 +39,23 @@ module _ (form : Form) where
   of_replay program schedule (bytes ∷ more ∷ []) due (plan, means, is) = of_schedule plan more due is
   of_replay program schedule (_ ∷ _ ∷ _ ∷ _) due is = absurd is
 
-  of_file : (command : OneFile) (file : List ℕ) (files : List (List ℕ)) (due : Due) → IsDueOfFile command file files due → Kind form due
-  of_file command file [] due is = fetches file is
-  of_file command file (bytes ∷ []) due (ending, end, is) =
-      finishes ending is (never_ends LinkFault command bytes ending end (λ same. cc) (λ same. cc) (λ same. cc) (λ same. cc))
-  of_file command file (_ ∷ _ ∷ _) due is = absurd is
+  of_file : (file : List ℕ) (IsNext : List ℕ → Due → Type 0) (files : List (List ℕ)) (due : Due) → ((bytes : List ℕ) → IsNext bytes due → Kind form due) → IsDueOfFile file IsNext files due → Kind form due
+  of_file file IsNext [] due next is = fetches file is
+  of_file file IsNext (bytes ∷ []) due next is = next bytes is
+  of_file file IsNext (_ ∷ _ ∷ _) due next is = absurd is
 
-  of_program : (program : List ℕ) (IsNext : Plan → Due → Type 0) (files : List (List ℕ)) (due : Due) → ((plan : Plan) → IsNext plan due → Kind form due) → IsDueOfProgram program IsNext files due → Kind form due
-  of_program program IsNext [] due next is = fetches program is
-  of_program program IsNext (bytes ∷ []) due next (inl (plan, means, is)) = next plan is
-  of_program program IsNext (bytes ∷ []) due next (inr refused) = of_refused bytes due refused
-  of_program program IsNext (_ ∷ _ ∷ _) due next is = absurd is
+  of_end : (command : OneFile) (bytes : List ℕ) (due : Due) → IsDueOfEnd command bytes due → Kind form due
+  of_end command bytes due (ending, end, is) = finishes ending is (never_ends LinkFault command bytes ending end (λ same. cc) (λ same. cc) (λ same. cc) (λ same. cc))
+
+  of_command : (command : OneFile) (file : List ℕ) (files : List (List ℕ)) (due : Due) → IsDueOfFile file (IsDueOfEnd command) files due → Kind form due
+  of_command command file files due is = of_file file (IsDueOfEnd command) files due (λ bytes next. of_end command bytes due next) is
+
+  of_bytes : (IsNext : Plan → Due → Type 0) (bytes : List ℕ) (due : Due) → ((plan : Plan) → IsNext plan due → Kind form due) → IsDueOfProgram IsNext bytes due → Kind form due
+  of_bytes IsNext bytes due next (inl (plan, means, is)) = next plan is
+  of_bytes IsNext bytes due next (inr refused) = of_refused bytes due refused
+
+  of_program : (program : List ℕ) (IsNext : Plan → Due → Type 0) (files : List (List ℕ)) (due : Due) → ((plan : Plan) → IsNext plan due → Kind form due) → IsDueOfFile program (IsDueOfProgram IsNext) files due → Kind form due
+  of_program program IsNext files due next is = of_file program (IsDueOfProgram IsNext) files due (λ bytes of. of_bytes IsNext bytes due next of) is
 
   of_sample : (seed steps : ℕ) (plan : Plan) (due : Due) → IsDueOfSample seed steps plan due → Kind form due
   of_sample seed steps plan due is = finishes _ is (never_drawn LinkFault plan seed steps (λ same. cc) (λ same. cc))
@@ -64,9 +70,9 @@ module _ (form : Form) where
 
 kind_of : (form : Form) (files : List (List ℕ)) (due : Due) → IsDueOfForm form files due → Kind form due
 kind_of (replay program schedule) files due is = of_replay (replay program schedule) program schedule files due is
-kind_of (stubs program) files due is = of_file (stubs program) Stubs program files due is
-kind_of (run program) files due is = of_file (run program) Run program files due is
-kind_of (place placing) files due is = of_file (place placing) Place placing files due is
+kind_of (stubs program) files due is = of_command (stubs program) Stubs program files due is
+kind_of (run program) files due is = of_command (run program) Run program files due is
+kind_of (place placing) files due is = of_command (place placing) Place placing files due is
 kind_of (node program name turns) files due is =
     of_program (node program name turns) program (IsDueOfNode name turns) files due (λ plan next. of_node (node program name turns) name turns plan due tt next) is
 kind_of (sample program seed steps) files due is =

@@ -13,12 +13,11 @@ use Rattle.circus_config.specs.Program.{IsProgramOf}
 use Rattle.circus_ending.specs.declared.one_file.OneFile.{OneFile}
 use Rattle.circus_ending.specs.declared.one_file.OneFile.TheVariants.{Stubs, Run, Place}
 use Rattle.circus_ending.specs.Ending.{Ending}
-use Rattle.circus_ending.specs.OneFile.{IsEndOf}
 use Rattle.circus_ending.proofs.OneProgram.{refused_one, good_or_refused}
 use Rattle.circus_ending.proofs.OneEnding.{end_one}
 use Rattle.circus_program.specs.Form.{Form, stubs, run, replay, node, sample, settle, place, audit, words_of, files_of, IsInRange, IsOfForm}
 use Rattle.circus_program.specs.Replay.{IsReplayOf, IsEndOfReplay}
-use Rattle.circus_program.specs.Answer.{Due, fetch, finish, serve, not_built, IsDueOfSchedule, IsDueOfReplay, IsDueOfFile, IsDueOfBytes, IsDueOfProgram, IsDueOfSample, IsDueOfNode, IsDueUnbuilt, IsDueOfForm, AreContents, IsDue}
+use Rattle.circus_program.specs.Answer.{Due, fetch, finish, serve, not_built, IsDueOfSchedule, IsDueOfReplay, IsDueOfFile, IsDueOfEnd, IsDueOfProgram, IsDueOfSample, IsDueOfNode, IsDueUnbuilt, IsDueOfForm, AreContents, IsDue}
 use Rattle.circus_program.specs.Last.{IsLast, IsDueLast}
 use Rattle.circus_program.proofs.PlanOne.{plan_is_one}
 use Rattle.circus_program.proofs.NamedOnce.{named_once}
@@ -99,28 +98,25 @@ asked_one words one other first second =
 -- What comes of it at last.
 
 module _ (contents : List ℕ → Option (List ℕ)) where
+  -- of a file, where this comes of its bytes
+  abbrev pub OfFile : List ℕ → (List ℕ → Due → Type 0) → Due → Type 0
+  OfFile file IsNext due =
+      ((contents file ≡ None) × (due ≡ fetch file))
+      ⊎ ((bytes : List ℕ) × (contents file ≡ Some bytes) × IsNext bytes due)
+
   abbrev pub OfSchedule : List ℕ → Plan → Due → Type 0
-  OfSchedule schedule plan due =
-      ((contents schedule ≡ None) × (due ≡ fetch schedule))
-      ⊎ ((bytes : List ℕ) × (contents schedule ≡ Some bytes) × IsDueOfSchedule plan bytes due)
+  OfSchedule schedule plan due = OfFile schedule (IsDueOfSchedule plan) due
 
   -- of a program, where this comes of its plan
   abbrev pub OfProgram : List ℕ → (Plan → Due → Type 0) → Due → Type 0
-  OfProgram program IsNext due =
-      ((contents program ≡ None) × (due ≡ fetch program))
-      ⊎ ((bytes : List ℕ) × (contents program ≡ Some bytes) × IsDueOfBytes IsNext bytes due)
-
-  abbrev pub OfFile : OneFile → List ℕ → Due → Type 0
-  OfFile command file due =
-      ((contents file ≡ None) × (due ≡ fetch file))
-      ⊎ ((bytes : List ℕ) × (contents file ≡ Some bytes) × ((ending : Ending) × IsEndOf command bytes ending × (due ≡ finish ending)))
+  OfProgram program IsNext due = OfFile program (IsDueOfProgram IsNext) due
 
   -- what comes at last of a form, and of what is asked for
   abbrev pub OfWords : Form → Due → Type 0
   OfWords (replay program schedule) due = OfProgram program (OfSchedule schedule) due
-  OfWords (place placing) due = OfFile Place placing due
-  OfWords (stubs program) due = OfFile Stubs program due
-  OfWords (run program) due = OfFile Run program due
+  OfWords (place placing) due = OfFile placing (IsDueOfEnd Place) due
+  OfWords (stubs program) due = OfFile program (IsDueOfEnd Stubs) due
+  OfWords (run program) due = OfFile program (IsDueOfEnd Run) due
   OfWords (node program name turns) due = OfProgram program (IsDueOfNode name turns) due
   OfWords (sample program seed steps) due = OfProgram program (IsDueOfSample seed steps) due
   OfWords (settle _ _) due = due ≡ not_built
@@ -128,7 +124,7 @@ module _ (contents : List ℕ → Option (List ℕ)) where
 
   abbrev OfAsked : Asked → Due → Type 0
   OfAsked (replaying program schedule) due = OfProgram program (OfSchedule schedule) due
-  OfAsked (reading command file) due = OfFile command file due
+  OfAsked (reading command file) due = OfFile file (IsDueOfEnd command) due
   OfAsked (serving program name word) due = (turns : ℕ) × Spells word turns × OfProgram program (IsDueOfNode name turns) due
   OfAsked (sampling program first second) due = (seed : ℕ) × (steps : ℕ) × Spells first seed × Spells second steps × OfProgram program (IsDueOfSample seed steps) due
   OfAsked unbuilt due = due ≡ not_built
@@ -146,15 +142,10 @@ module _ (contents : List ℕ → Option (List ℕ)) where
       inr (bytes, fetched.0, inl (plan, means, inr (more, fetched.1.0, is)))
   of_replay program schedule (_ ∷ _ ∷ _ ∷ _) due fetched is last = absurd is
 
-  of_file : (command : OneFile) (file : List ℕ) (files : List (List ℕ)) (due : Due) → AreContents contents (file ∷ []) files → IsDueOfFile command file files due → IsLast contents due → OfFile command file due
-  of_file command file [] due fetched is last = inl (lacking file due is last, is)
-  of_file command file (bytes ∷ []) due fetched is last = inr (bytes, fetched.0, is)
-  of_file command file (_ ∷ _ ∷ _) due fetched is last = absurd is
-
-  of_program : (program : List ℕ) (IsNext : Plan → Due → Type 0) (files : List (List ℕ)) (due : Due) → AreContents contents (program ∷ []) files → IsDueOfProgram program IsNext files due → IsLast contents due → OfProgram program IsNext due
-  of_program program IsNext [] due fetched is last = inl (lacking program due is last, is)
-  of_program program IsNext (bytes ∷ []) due fetched is last = inr (bytes, fetched.0, is)
-  of_program program IsNext (_ ∷ _ ∷ _) due fetched is last = absurd is
+  of_file : (file : List ℕ) (IsNext : List ℕ → Due → Type 0) (files : List (List ℕ)) (due : Due) → AreContents contents (file ∷ []) files → IsDueOfFile file IsNext files due → IsLast contents due → OfFile file IsNext due
+  of_file file IsNext [] due fetched is last = inl (lacking file due is last, is)
+  of_file file IsNext (bytes ∷ []) due fetched is last = inr (bytes, fetched.0, is)
+  of_file file IsNext (_ ∷ _ ∷ _) due fetched is last = absurd is
 
   of_unbuilt : (files : List (List ℕ)) (due : Due) → IsDueUnbuilt files due → due ≡ not_built
   of_unbuilt [] due is = is
@@ -162,11 +153,11 @@ module _ (contents : List ℕ → Option (List ℕ)) where
 
   pub of_form : (form : Form) (files : List (List ℕ)) (due : Due) → AreContents contents (files_of form) files → IsDueOfForm form files due → IsLast contents due → OfWords form due
   of_form (replay program schedule) files due fetched is last = of_replay program schedule files due fetched is last
-  of_form (place file) files due fetched is last = of_file Place file files due fetched is last
-  of_form (stubs file) files due fetched is last = of_file Stubs file files due fetched is last
-  of_form (run file) files due fetched is last = of_file Run file files due fetched is last
-  of_form (node program name turns) files due fetched is last = of_program program (IsDueOfNode name turns) files due fetched is last
-  of_form (sample program seed steps) files due fetched is last = of_program program (IsDueOfSample seed steps) files due fetched is last
+  of_form (place file) files due fetched is last = of_file file (IsDueOfEnd Place) files due fetched is last
+  of_form (stubs file) files due fetched is last = of_file file (IsDueOfEnd Stubs) files due fetched is last
+  of_form (run file) files due fetched is last = of_file file (IsDueOfEnd Run) files due fetched is last
+  of_form (node program name turns) files due fetched is last = of_file program (IsDueOfProgram (IsDueOfNode name turns)) files due fetched is last
+  of_form (sample program seed steps) files due fetched is last = of_file program (IsDueOfProgram (IsDueOfSample seed steps)) files due fetched is last
   of_form (settle _ _) files due fetched is last = of_unbuilt files due is
   of_form (audit _ _) files due fetched is last = of_unbuilt files due is
 
@@ -185,21 +176,26 @@ module _ (contents : List ℕ → Option (List ℕ)) where
   there_once : (name one other : List ℕ) → contents name ≡ Some one → contents name ≡ Some other → one ≡ other
   there_once name one other first second = let same : ◌≡◌ {A = Option (List ℕ)} (Some one) (Some other) = sym first ∙ second in cc
 
-  one_of_schedule : (schedule : List ℕ) (plan : Plan) (one other : Due) → OfSchedule schedule plan one → OfSchedule schedule plan other → one ≡ other
-  one_of_schedule schedule plan one other (inl (none, is)) (inl (neither, also)) = is ∙ sym also
-  one_of_schedule schedule plan one other (inl (none, is)) (inr (bytes, there, also)) = absurd cc
-  one_of_schedule schedule plan one other (inr (bytes, there, is)) (inl (none, also)) = absurd cc
-  one_of_schedule schedule plan one other (inr (bytes, there, (ending, end, is))) (inr (others, here, (another, ends, also))) =
-      is
-      ∙ ap finish (replay_one plan others ending another (subst (λ b. IsEndOfReplay plan b ending) (there_once schedule bytes others there here) end) ends)
-      ∙ sym also
+  one_of_file : (file : List ℕ) (IsNext : List ℕ → Due → Type 0) → ((bytes : List ℕ) (one other : Due) → IsNext bytes one → IsNext bytes other → one ≡ other)
+      → (one other : Due) → OfFile file IsNext one → OfFile file IsNext other → one ≡ other
+  one_of_file file IsNext one_of one other (inl (none, is)) (inl (neither, also)) = is ∙ sym also
+  one_of_file file IsNext one_of one other (inl (none, is)) (inr (bytes, there, also)) = absurd cc
+  one_of_file file IsNext one_of one other (inr (bytes, there, is)) (inl (none, also)) = absurd cc
+  one_of_file file IsNext one_of one other (inr (bytes, there, is)) (inr (others, here, also)) =
+      one_of others one other (subst (λ b. IsNext b one) (there_once file bytes others there here) is) also
+
+  one_of_end : (command : OneFile) (bytes : List ℕ) (one other : Due) → IsDueOfEnd command bytes one → IsDueOfEnd command bytes other → one ≡ other
+  one_of_end command bytes one other (ending, end, is) (another, ends, also) = is ∙ ap finish (end_one command bytes ending another end ends) ∙ sym also
+
+  one_of_replay : (plan : Plan) (bytes : List ℕ) (one other : Due) → IsDueOfSchedule plan bytes one → IsDueOfSchedule plan bytes other → one ≡ other
+  one_of_replay plan bytes one other (ending, end, is) (another, ends, also) = is ∙ ap finish (replay_one plan bytes ending another end ends) ∙ sym also
 
   -- where one thing comes of a plan
   abbrev OneOf : (Plan → Due → Type 0) → Type 0
   OneOf IsNext = (bytes : List ℕ) (plan : Plan) (one other : Due) → IsProgramOf bytes plan → IsNext plan one → IsNext plan other → one ≡ other
 
   one_of_bytes : (IsNext : Plan → Due → Type 0) → OneOf IsNext → (bytes : List ℕ) (one other : Due)
-      → IsDueOfBytes IsNext bytes one → IsDueOfBytes IsNext bytes other → one ≡ other
+      → IsDueOfProgram IsNext bytes one → IsDueOfProgram IsNext bytes other → one ≡ other
   one_of_bytes IsNext one_of bytes one other (inl (plan, means, is)) (inl (again, also_means, also)) =
       one_of bytes again one other also_means (subst (λ (p : Plan). IsNext p one) (plan_is_one bytes plan again means also_means) is) also
   one_of_bytes IsNext one_of bytes one other (inl (plan, means, is)) (inr (ending, refused, so)) = absurd (good_or_refused bytes plan ending means refused)
@@ -207,19 +203,7 @@ module _ (contents : List ℕ → Option (List ℕ)) where
   one_of_bytes IsNext one_of bytes one other (inr (ending, refused, is)) (inr (another, again, so)) = is ∙ ap finish (refused_one bytes ending another refused again) ∙ sym so
 
   one_of_program : (program : List ℕ) (IsNext : Plan → Due → Type 0) → OneOf IsNext → (one other : Due) → OfProgram program IsNext one → OfProgram program IsNext other → one ≡ other
-  one_of_program program IsNext one_of one other (inl (none, is)) (inl (neither, also)) = is ∙ sym also
-  one_of_program program IsNext one_of one other (inl (none, is)) (inr (bytes, there, also)) = absurd cc
-  one_of_program program IsNext one_of one other (inr (bytes, there, is)) (inl (none, also)) = absurd cc
-  one_of_program program IsNext one_of one other (inr (bytes, there, is)) (inr (others, here, also)) =
-      one_of_bytes IsNext one_of others one other
-      (subst (λ b. IsDueOfBytes IsNext b one) (there_once program bytes others there here) is) also
-
-  one_of_file : (command : OneFile) (file : List ℕ) (one other : Due) → OfFile command file one → OfFile command file other → one ≡ other
-  one_of_file command file one other (inl (none, is)) (inl (neither, also)) = is ∙ sym also
-  one_of_file command file one other (inl (none, is)) (inr (bytes, there, also)) = absurd cc
-  one_of_file command file one other (inr (bytes, there, is)) (inl (none, also)) = absurd cc
-  one_of_file command file one other (inr (bytes, there, (ending, first, is))) (inr (others, here, (also, second, so))) =
-      is ∙ ap finish (end_one command others ending also (subst (λ b. IsEndOf command b ending) (there_once file bytes others there here) first) second) ∙ sym so
+  one_of_program program IsNext one_of one other is also = one_of_file program (IsDueOfProgram IsNext) (one_of_bytes IsNext one_of) one other is also
 
   one_of_node : (program name : List ℕ) (turns : ℕ) (one other : Due) → OfProgram program (IsDueOfNode name turns) one → OfProgram program (IsDueOfNode name turns) other → one ≡ other
   one_of_node program name turns one other is also = one_of_program program (IsDueOfNode name turns) (λ bytes plan. node_one bytes name turns plan) one other is also
@@ -229,8 +213,8 @@ module _ (contents : List ℕ → Option (List ℕ)) where
 
   one_of_asked : (asked : Asked) (one other : Due) → OfAsked asked one → OfAsked asked other → one ≡ other
   one_of_asked (replaying program schedule) one other is also =
-      one_of_program program (OfSchedule schedule) (λ bytes plan first second means. one_of_schedule schedule plan first second) one other is also
-  one_of_asked (reading command file) one other is also = one_of_file command file one other is also
+      one_of_program program (OfSchedule schedule) (λ bytes plan first second means. one_of_file schedule (IsDueOfSchedule plan) (one_of_replay plan) first second) one other is also
+  one_of_asked (reading command file) one other is also = one_of_file file (IsDueOfEnd command) (one_of_end command) one other is also
   one_of_asked (serving program name word) one other (turns, spelled, is) (others, again, also) =
       one_of_node program name others one other (subst (λ n. OfProgram program (IsDueOfNode name n) one) (spelled_once word turns others spelled again) is) also
   one_of_asked (sampling program first second) one other (seed, steps, seeds, counts, is) (seed', steps', seeds', counts', also) =

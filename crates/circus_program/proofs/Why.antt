@@ -19,7 +19,8 @@ use Rattle.circus_ending.specs.OneFile.{IsEndOf}
 use Rattle.circus_program.specs.Replay.{IsEndOfReplay}
 use Rattle.circus_simulated.specs.Sample.{sample_of}
 use Rattle.circus_served.specs.Named.{no_node}
-use Rattle.circus_program.specs.Answer.{Due, fetch, finish, serve, not_built, bad_command_line, IsDueOfSample, IsDueOfNode, IsDueOfForm, AreContents, IsDue}
+use Rattle.circus_program.specs.Answer.{Due, fetch, finish, serve, not_built, bad_command_line, IsDueOfEnd, IsDueOfSample, IsDueOfNode, IsDueOfForm, AreContents, IsDue}
+use Rattle.circus_program.specs.Seen.Built.{end_form}
 use Rattle.circus_program.specs.Last.{IsLast, IsDueLast, EndsWith, program_read, IsRefusedProgram, IsNameless, IsReplay, IsRefusedReplay, IsSpentReplay, IsSample, IsSpentSample, IsUnbuilt, IsNotBuilt}
 use Rattle.circus_program.proofs.ReplayEnds.{Refuses, Spends, IsStatusOfReplay, replay_status, Ends, ends_refused, ends_spent}
 use Rattle.circus_program.proofs.SampleEnds.{sample_status, sample_spent}
@@ -129,12 +130,6 @@ refused_with number cause = record { status = BadProgram; text = refused_text nu
 
 -- ---- what comes of each form
 
--- a command of one file, as a form
-abbrev form_by : OneFile → List ℕ → Form
-form_by Stubs file = stubs file
-form_by Run file = run file
-form_by Place file = place file
-
 -- what may come of words
 data Comes (contents : List ℕ → Option (List ℕ)) (words : List (List ℕ)) (due : Due) : Type 0 where
   nothing : IsOfNoForm words → due ≡ bad_command_line → Comes contents words due
@@ -145,7 +140,7 @@ data Comes (contents : List ℕ → Option (List ℕ)) (words : List (List ℕ))
   served : (plan : Plan) (number turns : ℕ) → due ≡ serve plan number turns → Comes contents words due
   nameless : (name : List ℕ) → IsNameless contents words → due ≡ finish (no_node name) → Comes contents words due
   refused : (form : Form) (program bytes : List ℕ) (ending : Ending) → IsOfForm words form → program_read form ≡ Some program → contents program ≡ Some bytes → IsEndOfRefused bytes ending → due ≡ finish ending → Comes contents words due
-  ended : (command : OneFile) (file bytes : List ℕ) (ending : Ending) → IsOfForm words (form_by command file) → contents file ≡ Some bytes → IsEndOf command bytes ending → due ≡ finish ending → Comes contents words due
+  ended : (command : OneFile) (file bytes : List ℕ) (ending : Ending) → IsOfForm words (end_form command file) → contents file ≡ Some bytes → IsEndOf command bytes ending → due ≡ finish ending → Comes contents words due
 
 module _ (contents : List ℕ → Option (List ℕ)) (words : List (List ℕ)) where
   -- of a program, where this comes of its plan
@@ -165,7 +160,7 @@ module _ (contents : List ℕ → Option (List ℕ)) (words : List (List ℕ)) w
   comes_node program name turns bytes plan due form there good (inr (none, is)) =
       nameless name (record { program = program; name = name; turns = turns; of_form = form; bytes = bytes; there = there; plan = plan; good = good; nameless = none }) is
 
-  comes_file : (command : OneFile) (file : List ℕ) (due : Due) → IsOfForm words (form_by command file) → OfFile contents command file due → Comes contents words due
+  comes_file : (command : OneFile) (file : List ℕ) (due : Due) → IsOfForm words (end_form command file) → OfFile contents file (IsDueOfEnd command) due → Comes contents words due
   comes_file command file due form (inl (none, is)) = lacking file is
   comes_file command file due form (inr (bytes, there, (ending, end, is))) = ended command file bytes ending form there end is
 
@@ -210,7 +205,7 @@ module _ (contents : List ℕ → Option (List ℕ)) (words : List (List ℕ)) w
   refused_program form program bytes ending of program_is there (number, cause, refusal, is) =
       record { form = form; of_form = of; program = program; program_is = program_is; bytes = bytes; there = there; number = number; cause = cause; refused = refusal }
 
-  refused_file : (command : OneFile) (file bytes : List ℕ) (ending : Ending) → IsOfForm words (form_by command file) → contents file ≡ Some bytes → IsEndOf command bytes ending → ending.status ≡ BadProgram → IsRefusedProgram contents words
+  refused_file : (command : OneFile) (file bytes : List ℕ) (ending : Ending) → IsOfForm words (end_form command file) → contents file ≡ Some bytes → IsEndOf command bytes ending → ending.status ≡ BadProgram → IsRefusedProgram contents words
   refused_file Stubs file bytes ending form there end bad = refused_program (stubs file) file bytes ending form refl there (refused_end Stubs bytes ending end bad)
   refused_file Run file bytes ending form there end bad = refused_program (run file) file bytes ending form refl there (refused_end Run bytes ending end bad)
   refused_file Place file bytes ending form there end bad = absurd (elim (placing_status bytes ending end) [

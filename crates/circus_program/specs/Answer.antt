@@ -48,21 +48,19 @@ IsDueOfReplay program schedule (bytes ∷ []) due = (IsGood bytes × (due ≡ fe
 IsDueOfReplay program schedule (bytes ∷ more ∷ []) due = (plan : Plan) × IsProgramOf bytes plan × IsDueOfSchedule plan more due
 IsDueOfReplay program schedule (_ ∷ _ ∷ _ ∷ _) due = ⊥
 
--- what is due of a command of one file, whose bytes so far are these
-abbrev pub IsDueOfFile : OneFile → List ℕ → List (List ℕ) → Due → Type 0
-IsDueOfFile command name [] due = due ≡ fetch name
-IsDueOfFile command name (bytes ∷ []) due = (ending : Ending) × IsEndOf command bytes ending × (due ≡ finish ending)
-IsDueOfFile command name (_ ∷ _ ∷ _) due = ⊥
+-- what is due of a command of one file, whose bytes so far are these, where this is due of its bytes
+abbrev pub IsDueOfFile : List ℕ → (List ℕ → Due → Type 0) → List (List ℕ) → Due → Type 0
+IsDueOfFile name IsNext [] due = due ≡ fetch name
+IsDueOfFile name IsNext (bytes ∷ []) due = IsNext bytes due
+IsDueOfFile name IsNext (_ ∷ _ ∷ _) due = ⊥
+
+-- what is due of bytes that come to an end
+abbrev pub IsDueOfEnd : OneFile → List ℕ → Due → Type 0
+IsDueOfEnd command bytes due = (ending : Ending) × IsEndOf command bytes ending × (due ≡ finish ending)
 
 -- what is due of the bytes of a program, where this is due of its plan
-abbrev pub IsDueOfBytes : (Plan → Due → Type 0) → List ℕ → Due → Type 0
-IsDueOfBytes IsNext bytes due = ((plan : Plan) × IsProgramOf bytes plan × IsNext plan due) ⊎ IsDueOfRefused bytes due
-
--- what is due of a command of one program, whose bytes so far are these
-abbrev pub IsDueOfProgram : List ℕ → (Plan → Due → Type 0) → List (List ℕ) → Due → Type 0
-IsDueOfProgram program IsNext [] due = due ≡ fetch program
-IsDueOfProgram program IsNext (bytes ∷ []) due = IsDueOfBytes IsNext bytes due
-IsDueOfProgram program IsNext (_ ∷ _ ∷ _) due = ⊥
+abbrev pub IsDueOfProgram : (Plan → Due → Type 0) → List ℕ → Due → Type 0
+IsDueOfProgram IsNext bytes due = ((plan : Plan) × IsProgramOf bytes plan × IsNext plan due) ⊎ IsDueOfRefused bytes due
 
 -- what is due of a sample of a plan
 abbrev pub IsDueOfSample : ℕ → ℕ → Plan → Due → Type 0
@@ -82,12 +80,12 @@ IsDueUnbuilt (_ ∷ _) due = ⊥
 -- what is due of a form, once these of its files are fetched, in order
 abbrev pub IsDueOfForm : Form → List (List ℕ) → Due → Type 0
 IsDueOfForm (replay program schedule) files due = IsDueOfReplay program schedule files due
-IsDueOfForm (stubs program) files due = IsDueOfFile Stubs program files due
-IsDueOfForm (run program) files due = IsDueOfFile Run program files due
-IsDueOfForm (node program name turns) files due = IsDueOfProgram program (IsDueOfNode name turns) files due
-IsDueOfForm (sample program seed steps) files due = IsDueOfProgram program (IsDueOfSample seed steps) files due
+IsDueOfForm (stubs program) files due = IsDueOfFile program (IsDueOfEnd Stubs) files due
+IsDueOfForm (run program) files due = IsDueOfFile program (IsDueOfEnd Run) files due
+IsDueOfForm (node program name turns) files due = IsDueOfFile program (IsDueOfProgram (IsDueOfNode name turns)) files due
+IsDueOfForm (sample program seed steps) files due = IsDueOfFile program (IsDueOfProgram (IsDueOfSample seed steps)) files due
 IsDueOfForm (settle _ _) files due = IsDueUnbuilt files due
-IsDueOfForm (place placing) files due = IsDueOfFile Place placing files due
+IsDueOfForm (place placing) files due = IsDueOfFile placing (IsDueOfEnd Place) files due
 IsDueOfForm (audit _ _) files due = IsDueUnbuilt files due
 
 -- the files are those that the shelf has under the first of the names

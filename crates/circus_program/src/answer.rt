@@ -1,13 +1,8 @@
 // What the words ask for, and what comes of it.
-ghost use Rattle.std.specs.Prelude.{◌≡◌, ◌∷◌, [], map, string_bytes, All, IsAscii, IfOk, IfSome, IfNone};
+ghost use Rattle.std.specs.Prelude.{◌≡◌, ◌∷◌, [], map, string_bytes, IfOk, IfSome, IfNone};
 ghost use Rattle.circus_program.specs.Seen.Words.{form_of};
-ghost use Rattle.circus_program.specs.Answer.{IsDue, IsDueOfForm, IsDueOfBytes, IsDueOfSample, IsDueOfNode, AsksOnly, AsksFirstOf, not_built};
-ghost use Rattle.std.specs.List.{AllByRecursion};
-ghost use Rattle.circus_collate.specs.Deployment.{IsDeployment};
-ghost use Rattle.circus_idl.specs.Obeys.{Obeys};
-ghost use Rattle.circus_check.specs.Seen.Meant.{module_as};
-ghost use Rattle.circus_check.specs.WellFormed.{AreWellFormed};
-ghost use Rattle.circus_config.specs.Program.{HaveTheirRoots};
+ghost use Rattle.circus_program.specs.Answer.{IsDue, IsDueOfForm, AsksOnly, AsksFirstOf, not_built};
+ghost use Rattle.circus_config.specs.Program.{IsPlan};
 
 use crate::ready::{Ready, prepare};
 use crate::words::{Form, read_words};
@@ -29,8 +24,28 @@ pub enum Step<'a> {
     Serve(Plan, u16, u32),
 }
 
-ghost use Rattle.circus_program.specs.Seen.Step.{due_of, Stands, LacksNone, IsLackNoted, IsStepBehind, IsStepOfProgram, IsStepOfReplay, IsStepOfFile, IsStepOfPlan};
-ghost use Rattle.circus_program.specs.Seen.Built.{built_form};
+/// What is done with a plan: a sample of so many lines is drawn from a seed, or a node is served for so many takes.
+#[derive(Clone, Copy)]
+enum Task<'a> {
+    Sample(u64, u32),
+    Node(&'a str, u32),
+}
+
+/// A command that reads one file: it comes to an end, or to a plan with which something is done.
+#[derive(Clone, Copy)]
+enum Command<'a> {
+    End(OneFile),
+    OfPlan(Task<'a>),
+}
+
+/// A form that is built, with its files.
+enum Built<'a> {
+    OneFile(Command<'a>, &'a str),
+    Replay(&'a str, &'a str),
+}
+
+ghost use Rattle.circus_program.specs.Seen.Step.{due_of, Stands, LacksNone, IsLackNoted, IsStepBehind, IsStepOfProgram, IsStepOfReplay, IsStepOfFile};
+ghost use Rattle.circus_program.specs.Seen.Built.{IsDueOfTask, IsDueOfCommand, built_form};
 
 /// What comes of a replay whose program is fetched and read.
 fn replay_plan<'a, S: Shelf>(
@@ -39,11 +54,7 @@ fn replay_plan<'a, S: Shelf>(
     schedule: &'a str,
     shelf: &mut S,
 ) -> Result<Step<'a>, NoMemory>
-    requires obey { AllByRecursion Obeys plan.checked.interfaces }
-    requires well_formed { AreWellFormed plan.checked.interfaces (map module_as plan.checked.modules) }
-    requires deployed { IsDeployment plan.deployment }
-    requires roots { HaveTheirRoots plan }
-    requires named { All IsAscii plan.names }
+    requires { IsPlan plan }
     ensures due { IfOk result (λ step. IsStepBehind (S.contents shelf.old) plan schedule.now (due_of step)) }
     ensures stands { IfOk result Stands }
     ensures lack { IfOk result (IsLackNoted (S.fetched shelf.new) (S.faults shelf.old) (S.faults shelf.new)) }
@@ -99,14 +110,45 @@ fn replay<'a, S: Shelf>(
     Ok(step)
 }
 
+/// What comes of a plan.
+fn of_plan<'a>(alloc: Global, plan: Plan, task: Task<'_>) -> Result<Step<'a>, NoMemory>
+    requires { IsPlan plan }
+    ensures due { IfOk result (λ step. IsDueOfTask task.entry plan (due_of step)) }
+    ensures stands { IfOk result Stands }
+    ensures whole { IfOk result LacksNone }
+{
+    match task {
+        Task::Sample(seed, steps) => Ok(Step::Finish(sample_plan(alloc, plan, seed, steps)?)),
+        Task::Node(name, turns) => match node_named(&plan.deployment, name) {
+            Some(node) => Ok(Step::Serve(plan, node, turns)),
+            None => Ok(Step::Finish(no_node(alloc, name)?)),
+        },
+    }
+}
+
+/// What comes of the bytes of a file.
+fn of_bytes<'a>(alloc: Global, command: Command<'_>, bytes: &[u8]) -> Result<Step<'a>, NoMemory>
+    ensures due { IfOk result (λ step. IsDueOfCommand command.entry bytes.now (due_of step)) }
+    ensures stands { IfOk result Stands }
+    ensures whole { IfOk result LacksNone }
+{
+    match command {
+        Command::End(command) => Ok(Step::Finish(end_of(alloc, command, bytes)?)),
+        Command::OfPlan(task) => match plan_of(alloc, bytes)? {
+            Ok(plan) => of_plan(alloc, plan, task),
+            Err(refused) => Ok(Step::Finish(refused)),
+        },
+    }
+}
+
 /// What comes of a command of one file.
 fn one_file<'a, S: Shelf>(
     alloc: Global,
-    command: OneFile,
+    command: Command<'_>,
     name: &'a str,
     shelf: &mut S,
 ) -> Result<Step<'a>, NoMemory>
-    ensures due { IfOk result (λ step. IsStepOfFile (S.contents shelf.old) command name.now (due_of step)) }
+    ensures due { IfOk result (λ step. IsStepOfFile (S.contents shelf.old) name.now (IsDueOfCommand command.entry) (due_of step)) }
     ensures stands { IfOk result Stands }
     ensures lack { IfOk result (IsLackNoted (S.fetched shelf.new) (S.faults shelf.old) (S.faults shelf.new)) }
     ensures asked { AsksFirstOf (S.fetched shelf.old) (S.fetched shelf.new) (name.now ∷ []) }
@@ -116,113 +158,8 @@ fn one_file<'a, S: Shelf>(
         Err(ShelfFault::NoMemory) => return Err(AllocError),
         Err(ShelfFault::Failed) => return Ok(Step::Lack(name)),
     };
-    let ending = end_of(alloc, command, bytes.as_slice())?;
-    Ok(Step::Finish(ending))
-}
-
-/// What comes of a sample whose file is fetched.
-fn sample_program<'a>(
-    alloc: Global,
-    program: &[u8],
-    seed: u64,
-    steps: u32,
-) -> Result<Step<'a>, NoMemory>
-    ensures due { IfOk result (λ step. IsDueOfBytes (IsDueOfSample seed steps) program.now (due_of step)) }
-    ensures stands { IfOk result Stands }
-    ensures whole { IfOk result LacksNone }
-{
-    match plan_of(alloc, program)? {
-        Ok(plan) => Ok(Step::Finish(sample_plan(alloc, plan, seed, steps)?)),
-        Err(refused) => Ok(Step::Finish(refused)),
-    }
-}
-
-/// What comes of a sample.
-fn sample<'a, S: Shelf>(
-    alloc: Global,
-    program: &'a str,
-    seed: u64,
-    steps: u32,
-    shelf: &mut S,
-) -> Result<Step<'a>, NoMemory>
-    ensures due { IfOk result (λ step. IsStepOfPlan (S.contents shelf.old) program.now (IsDueOfSample seed steps) (due_of step)) }
-    ensures stands { IfOk result Stands }
-    ensures lack { IfOk result (IsLackNoted (S.fetched shelf.new) (S.faults shelf.old) (S.faults shelf.new)) }
-    ensures asked { AsksFirstOf (S.fetched shelf.old) (S.fetched shelf.new) (program.now ∷ []) }
-{
-    let bytes = match shelf.fetch(program) {
-        Ok(bytes) => bytes,
-        Err(ShelfFault::NoMemory) => return Err(AllocError),
-        Err(ShelfFault::Failed) => return Ok(Step::Lack(program)),
-    };
-    let step = sample_program(alloc, bytes.as_slice(), seed, steps)?;
+    let step = of_bytes(alloc, command, bytes.as_slice())?;
     Ok(step)
-}
-
-/// What comes of a node of a plan, by its name.
-fn node_of_plan<'a>(alloc: Global, plan: Plan, name: &str, turns: u32) -> Result<Step<'a>, NoMemory>
-    requires obey { AllByRecursion Obeys plan.checked.interfaces }
-    requires well_formed { AreWellFormed plan.checked.interfaces (map module_as plan.checked.modules) }
-    requires deployed { IsDeployment plan.deployment }
-    requires roots { HaveTheirRoots plan }
-    requires named { All IsAscii plan.names }
-    ensures due { IfOk result (λ step. IsDueOfNode name.now turns plan (due_of step)) }
-    ensures stands { IfOk result Stands }
-    ensures whole { IfOk result LacksNone }
-{
-    match node_named(&plan.deployment, name) {
-        Some(node) => Ok(Step::Serve(plan, node, turns)),
-        None => Ok(Step::Finish(no_node(alloc, name)?)),
-    }
-}
-
-/// What comes of a node of a program that is fetched.
-fn node_program<'a>(
-    alloc: Global,
-    program: &[u8],
-    name: &str,
-    turns: u32,
-) -> Result<Step<'a>, NoMemory>
-    ensures due { IfOk result (λ step. IsDueOfBytes (IsDueOfNode name.now turns) program.now (due_of step)) }
-    ensures stands { IfOk result Stands }
-    ensures whole { IfOk result LacksNone }
-{
-    match plan_of(alloc, program)? {
-        Ok(plan) => node_of_plan(alloc, plan, name, turns),
-        Err(refused) => Ok(Step::Finish(refused)),
-    }
-}
-
-/// What comes of a node of a program.
-fn node<'a, S: Shelf>(
-    alloc: Global,
-    program: &'a str,
-    name: &'a str,
-    turns: u32,
-    shelf: &mut S,
-) -> Result<Step<'a>, NoMemory>
-    ensures due { IfOk result (λ step. IsStepOfPlan (S.contents shelf.old) program.now (IsDueOfNode name.now turns) (due_of step)) }
-    ensures stands { IfOk result Stands }
-    ensures lack { IfOk result (IsLackNoted (S.fetched shelf.new) (S.faults shelf.old) (S.faults shelf.new)) }
-    ensures asked { AsksFirstOf (S.fetched shelf.old) (S.fetched shelf.new) (program.now ∷ []) }
-{
-    let bytes = match shelf.fetch(program) {
-        Ok(bytes) => bytes,
-        Err(ShelfFault::NoMemory) => return Err(AllocError),
-        Err(ShelfFault::Failed) => return Ok(Step::Lack(program)),
-    };
-    let step = node_program(alloc, bytes.as_slice(), name, turns)?;
-    Ok(step)
-}
-
-/// A form that is built.
-enum Built<'a> {
-    Stubs(&'a str),
-    Run(&'a str),
-    Replay(&'a str, &'a str),
-    Node(&'a str, &'a str, u32),
-    Sample(&'a str, u64, u32),
-    Place(&'a str),
 }
 
 /// The form, where it is built.
@@ -230,23 +167,24 @@ fn built_of(form: Form<'_>) -> Option<Built<'_>>
     ensures some { IfSome result (λ built. form_of form.entry ≡ built_form built) }
     ensures other { IfNone result (IsDueOfForm (form_of form.entry) [] not_built) }
 {
-    match form {
-        Form::Stubs { program } => Some(Built::Stubs(program)),
-        Form::Run { program } => Some(Built::Run(program)),
-        Form::Replay { program, schedule } => Some(Built::Replay(program, schedule)),
-        Form::Node {
-            program,
-            name,
-            turns,
-        } => Some(Built::Node(program, name, turns)),
+    let (command, file) = match form {
+        Form::Stubs { program } => (Command::End(OneFile::Stubs), program),
+        Form::Run { program } => (Command::End(OneFile::Run), program),
+        Form::Place { placing } => (Command::End(OneFile::Place), placing),
         Form::Sample {
             program,
             seed,
             steps,
-        } => Some(Built::Sample(program, seed, steps)),
-        Form::Place { placing } => Some(Built::Place(placing)),
-        Form::Settle { .. } | Form::Audit { .. } => None,
-    }
+        } => (Command::OfPlan(Task::Sample(seed, steps)), program),
+        Form::Node {
+            program,
+            name,
+            turns,
+        } => (Command::OfPlan(Task::Node(name, turns)), program),
+        Form::Replay { program, schedule } => return Some(Built::Replay(program, schedule)),
+        Form::Settle { .. } | Form::Audit { .. } => return None,
+    };
+    Some(Built::OneFile(command, file))
 }
 
 /// What comes of the words of a command line.
@@ -265,12 +203,8 @@ pub fn follow<'a, S: Shelf>(
         return Ok(Step::Finish(refused));
     };
     match built_of(form) {
-        Some(Built::Stubs(program)) => one_file(alloc, OneFile::Stubs, program, shelf),
-        Some(Built::Run(program)) => one_file(alloc, OneFile::Run, program, shelf),
+        Some(Built::OneFile(command, file)) => one_file(alloc, command, file, shelf),
         Some(Built::Replay(program, schedule)) => replay(alloc, program, schedule, shelf),
-        Some(Built::Node(program, name, turns)) => node(alloc, program, name, turns, shelf),
-        Some(Built::Sample(program, seed, steps)) => sample(alloc, program, seed, steps, shelf),
-        Some(Built::Place(placing)) => one_file(alloc, OneFile::Place, placing, shelf),
         None => {
             let unbuilt = Ending::of_line(alloc, Status::NotBuilt, "not built\n")?;
             Ok(Step::Finish(unbuilt))

@@ -1,11 +1,6 @@
 // A replay that may begin.
-ghost use Rattle.std.specs.Prelude.{◌≡◌, ◌≤◌, All, IsAscii, IsTrue, length, map, IfOk, IfErr};
-ghost use Rattle.std.specs.List.{AllByRecursion};
-ghost use Rattle.circus_collate.specs.Deployment.{IsDeployment};
-ghost use Rattle.circus_idl.specs.Obeys.{Obeys};
-ghost use Rattle.circus_check.specs.Seen.Meant.{module_as};
-ghost use Rattle.circus_check.specs.WellFormed.{AreWellFormed};
-ghost use Rattle.circus_config.specs.Program.{HaveTheirRoots};
+ghost use Rattle.std.specs.Prelude.{◌≡◌, ◌≤◌, All, IsTrue, length, IfOk, IfErr};
+ghost use Rattle.circus_config.specs.Program.{IsPlan};
 ghost use Rattle.circus_ending.specs.Status.{is_end};
 ghost use Rattle.circus_ending.specs.Seen.Ending.{ending_of};
 ghost use Rattle.circus_schedule.specs.Meaning.{NamesBelow};
@@ -33,11 +28,7 @@ pub fn prepare(
     plan: Plan,
     schedule: &[u8],
 ) -> Result<Result<Ready, Ending>, NoMemory>
-    requires obey { AllByRecursion Obeys plan.checked.interfaces }
-    requires well_formed { AreWellFormed plan.checked.interfaces (map module_as plan.checked.modules) }
-    requires deployed { IsDeployment plan.deployment }
-    requires roots { HaveTheirRoots plan }
-    requires named { All IsAscii plan.names }
+    requires { IsPlan plan }
     ensures ready { IfOk result (λ first. IfOk first IsReady) }
     ensures end { IfOk result (λ first. IfOk first (λ ready. IsEndOfReplay plan schedule.now (end_of_ready ready))) }
     ensures ended { IfOk result (λ first. IfErr first (λ ending. IsEndOfReplay plan schedule.now (ending_of ending))) }
@@ -52,11 +43,7 @@ pub fn prepare(
 
 // The world of a plan at boot, with lines.
 fn boot(alloc: Global, plan: Plan, lines: Lines) -> Result<Result<Ready, Ending>, NoMemory>
-    requires obey { AllByRecursion Obeys plan.checked.interfaces }
-    requires well_formed { AreWellFormed plan.checked.interfaces (map module_as plan.checked.modules) }
-    requires deployed { IsDeployment plan.deployment }
-    requires roots { HaveTheirRoots plan }
-    requires named { All IsAscii plan.names }
+    requires plan { IsPlan plan }
     requires below { All (NamesBelow (length plan.deployment.nodes)) lines }
     requires few { length lines ≤ 200000 }
     ensures ready { IfOk result (λ first. IfOk first IsReady) }

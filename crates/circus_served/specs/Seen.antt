@@ -1,4 +1,3 @@
 -- How code is seen.
 pub mod Called
 pub mod Ended
-pub mod Texts

@@ -1,11 +1,7 @@
 // A node of a plan is served.
-ghost use Rattle.std.specs.Prelude.{◌≡◌, ◌<◌, All, IsAscii, IsTrue, length, map, IfOk, IsErrOf};
-ghost use Rattle.std.specs.List.{AllByRecursion};
+ghost use Rattle.std.specs.Prelude.{◌≡◌, ◌<◌, All, IsAscii, IsTrue, length, IfOk, IsErrOf};
 ghost use Rattle.circus_collate.specs.Deployment.{IsDeployment};
-ghost use Rattle.circus_idl.specs.Obeys.{Obeys};
-ghost use Rattle.circus_check.specs.Seen.Meant.{module_as};
-ghost use Rattle.circus_check.specs.WellFormed.{AreWellFormed};
-ghost use Rattle.circus_config.specs.Program.{HaveTheirRoots};
+ghost use Rattle.circus_config.specs.Program.{IsPlan};
 ghost use Rattle.circus_record.specs.Naming.{names_of};
 ghost use Rattle.circus_node.specs.Node.{IsNodeOf};
 ghost use Rattle.circus_outside.specs.Faults.{Rose};
@@ -13,6 +9,7 @@ ghost use Rattle.circus_ending.specs.Status.{is_end};
 ghost use Rattle.circus_ending.specs.Seen.Ending.{ending_of};
 ghost use Rattle.circus_served.specs.NodeEnds.{done_end, IsEndOfBooted, IsEndOfServing};
 ghost use Rattle.circus_served.specs.Seen.Ended.{EndsSo};
+ghost use Rattle.circus_serve.specs.Outside.{tells_of};
 
 use circus_collate::Deployment;
 use circus_config::{Names, Plan};
@@ -37,15 +34,11 @@ pub fn serve_node<L: Link>(
     turns: u32,
     link: &mut L,
 ) -> Result<Ending, NoMemory>
-    requires obey { AllByRecursion Obeys plan.checked.interfaces }
-    requires well_formed { AreWellFormed plan.checked.interfaces (map module_as plan.checked.modules) }
-    requires deployed { IsDeployment plan.deployment }
-    requires roots { HaveTheirRoots plan }
-    requires named { All IsAscii plan.names }
+    requires plan { IsPlan plan }
     requires within { node < length plan.deployment.nodes }
     ensures ending { IfOk result (λ ending. IsEndOfServing plan node turns
-        (record { bound = L.bound link.old; taken = L.taken link.old; given = L.given link.old })
-        (record { bound = L.bound link.new; taken = L.taken link.new; given = L.given link.new })
+        (tells_of (L.bound link.old) (L.taken link.old) (L.given link.old))
+        (tells_of (L.bound link.new) (L.taken link.new) (L.given link.new))
         (ending_of ending)) }
     ensures status { IfOk result (λ ending. IsTrue (is_end ending.status)) }
     ensures rose { IfOk result (λ ending. ending.status ≡ Status.LinkFault → Rose (L.faults link.old) (L.faults link.new)) }
@@ -83,8 +76,8 @@ fn serve_booted<M: Module, L: Link>(
     requires node { IsNodeOf deployment.now node core }
     ensures ending { IfOk result (λ ending. IsEndOfBooted M.declared M.turn
         (names_of deployment.now.nodes names.now) deployment.now node turns
-        (record { bound = L.bound link.old; taken = L.taken link.old; given = L.given link.old })
-        (record { bound = L.bound link.new; taken = L.taken link.new; given = L.given link.new })
+        (tells_of (L.bound link.old) (L.taken link.old) (L.given link.old))
+        (tells_of (L.bound link.new) (L.taken link.new) (L.given link.new))
         core gives (ending_of ending)) }
     ensures status { IfOk result (λ ending. IsTrue (is_end ending.status)) }
     ensures rose { IfOk result (λ ending. ending.status ≡ Status.LinkFault → Rose (L.faults link.old) (L.faults link.new)) }

@@ -1,11 +1,6 @@
 // A sample of a program.
-ghost use Rattle.std.specs.Prelude.{◌≡◌, All, IsAscii, IsTrue, map, IfOk};
-ghost use Rattle.std.specs.List.{AllByRecursion};
-ghost use Rattle.circus_collate.specs.Deployment.{IsDeployment};
-ghost use Rattle.circus_idl.specs.Obeys.{Obeys};
-ghost use Rattle.circus_check.specs.Seen.Meant.{module_as};
-ghost use Rattle.circus_check.specs.WellFormed.{AreWellFormed};
-ghost use Rattle.circus_config.specs.Program.{HaveTheirRoots};
+ghost use Rattle.std.specs.Prelude.{◌≡◌, IsTrue, IfOk};
+ghost use Rattle.circus_config.specs.Program.{IsPlan};
 ghost use Rattle.circus_ending.specs.Status.{is_end};
 ghost use Rattle.circus_ending.specs.Seen.Ending.{ending_of};
 ghost use Rattle.circus_record.specs.Naming.{names_of};
@@ -22,11 +17,7 @@ use std::alloc::{AllocError, Global};
 /// What comes of so many steps that a seed draws (docs/FORMATS.md, "Samples"): the summary, or that a node has no number
 /// left for another one. `NoMemory` is the one fault.
 pub fn sample_plan(alloc: Global, plan: Plan, seed: u64, steps: u32) -> Result<Ending, NoMemory>
-    requires obey { AllByRecursion Obeys plan.checked.interfaces }
-    requires well_formed { AreWellFormed plan.checked.interfaces (map module_as plan.checked.modules) }
-    requires deployed { IsDeployment plan.deployment }
-    requires roots { HaveTheirRoots plan }
-    requires named { All IsAscii plan.names }
+    requires { IsPlan plan }
     ensures ending { IfOk result (λ ending. ending_of ending ≡ sample_of plan seed steps) }
     ensures status { IfOk result (λ ending. IsTrue (is_end ending.status)) }
 {

@@ -1,11 +1,6 @@
 // The world of a plan at boot.
-ghost use Rattle.std.specs.Prelude.{◌≡◌, ℕ, All, IsAscii, Ok, Err, map, IfOk, IfErr};
-ghost use Rattle.std.specs.List.{AllByRecursion};
-ghost use Rattle.circus_collate.specs.Deployment.{IsDeployment};
-ghost use Rattle.circus_idl.specs.Obeys.{Obeys};
-ghost use Rattle.circus_check.specs.Seen.Meant.{module_as};
-ghost use Rattle.circus_check.specs.WellFormed.{AreWellFormed};
-ghost use Rattle.circus_config.specs.Program.{HaveTheirRoots};
+ghost use Rattle.std.specs.Prelude.{◌≡◌, ℕ, Ok, Err, IfOk, IfErr};
+ghost use Rattle.circus_config.specs.Program.{IsPlan};
 ghost use Rattle.circus_ending.specs.Spent.{spent as spent_end};
 ghost use Rattle.circus_ending.specs.Seen.Ending.{ending_of};
 ghost use Rattle.circus_simulated.specs.Booted.{booted, names_in};
@@ -31,11 +26,7 @@ pub struct Simulated {
 /// The world of a plan that was read of a file, at boot, or the end where a node has no number left then. `NoMemory` is the
 /// one fault.
 pub fn boot_plan(alloc: Global, plan: Plan) -> Result<Result<Simulated, Ending>, NoMemory>
-    requires obey { AllByRecursion Obeys plan.checked.interfaces }
-    requires well_formed { AreWellFormed plan.checked.interfaces (map module_as plan.checked.modules) }
-    requires deployed { IsDeployment plan.deployment }
-    requires roots { HaveTheirRoots plan }
-    requires named { All IsAscii plan.names }
+    requires { IsPlan plan }
     ensures world { IfOk result (λ boot. IfOk boot (λ simulated. booted plan ≡ Ok (world_of simulated.world))) }
     ensures plan { IfOk result (λ boot. IfOk boot (IsOfPlan plan)) }
     ensures ended { IfOk result (λ boot. IfErr boot (λ ending.

@@ -1,13 +1,40 @@
 -- What the code's built form says, as plain data.
+use Rattle.std.specs.Prelude.{List, ℕ}
+use Rattle.circus_config.specs.declared.plan.Plan.{Plan}
+use Rattle.circus_ending.specs.declared.one_file.OneFile.{OneFile}
+use Rattle.circus_ending.specs.declared.one_file.OneFile.TheVariants.{Stubs, Run, Place}
 use Rattle.circus_program.specs.Form.{Form, stubs, run, replay, node, sample, place}
+use Rattle.circus_program.specs.Answer.{Due, IsDueOfEnd, IsDueOfProgram, IsDueOfSample, IsDueOfNode}
+use Rattle.circus_program.specs.declared.answer.Task.{Task}
+use Rattle.circus_program.specs.declared.answer.Task.TheVariants.{Sample, Node}
+use Rattle.circus_program.specs.declared.answer.Command.{Command}
+use Rattle.circus_program.specs.declared.answer.Command.TheVariants.{End, OfPlan}
 use Rattle.circus_program.specs.declared.answer.Built.{Built}
-use Rattle.circus_program.specs.declared.answer.Built.TheVariants.{Stubs, Run, Replay, Node, Sample, Place}
+use Rattle.circus_program.specs.declared.answer.Built.TheVariants.{OneFile as OfFile, Replay}
+
+-- what is due of a plan
+abbrev pub IsDueOfTask : Task → Plan → Due → Type 0
+IsDueOfTask (Sample seed steps) = IsDueOfSample seed steps
+IsDueOfTask (Node name turns) = IsDueOfNode name.now turns
+
+-- what is due of the bytes of a file
+abbrev pub IsDueOfCommand : Command → List ℕ → Due → Type 0
+IsDueOfCommand (End command) = IsDueOfEnd command
+IsDueOfCommand (OfPlan task) = IsDueOfProgram (IsDueOfTask task)
+
+-- the form of a command that comes to the end of a file
+abbrev pub end_form : OneFile → List ℕ → Form
+end_form Stubs file = stubs file
+end_form Run file = run file
+end_form Place file = place file
+
+-- the form of a command with its file
+abbrev pub file_form : Command → List ℕ → Form
+file_form (End command) file = end_form command file
+file_form (OfPlan (Sample seed steps)) file = sample file seed steps
+file_form (OfPlan (Node name turns)) file = node file name.now turns
 
 -- the form with its files
 abbrev pub built_form : Built → Form
-built_form (Stubs program) = stubs program.now
-built_form (Run program) = run program.now
+built_form (OfFile command file) = file_form command file.now
 built_form (Replay program schedule) = replay program.now schedule.now
-built_form (Node program name turns) = node program.now name.now turns
-built_form (Sample program seed steps) = sample program.now seed steps
-built_form (Place placing) = place placing.now

@@ -1,11 +1,6 @@
 -- What the code's step says, as plain data.
-use Rattle.std.specs.Prelude.{ℕ, ◌≡◌, ◌⊎◌, ◌<◌, Option, List, [], ◌∷◌, length, map, All, IsAscii, IsTrue}
-use Rattle.std.specs.List.{AllByRecursion}
+use Rattle.std.specs.Prelude.{ℕ, ◌≡◌, ◌⊎◌, ◌<◌, Option, List, [], ◌∷◌, length, IsTrue}
 use Rattle.circus_outside.specs.Faults.{Rose}
-use Rattle.circus_idl.specs.Obeys.{Obeys}
-use Rattle.circus_check.specs.Seen.Meant.{module_as}
-use Rattle.circus_check.specs.WellFormed.{AreWellFormed}
-use Rattle.circus_collate.specs.Deployment.{IsDeployment}
 use Rattle.circus_serve.specs.Outside.{Tells}
 use Rattle.circus_served.specs.NodeEnds.{IsEndOfServing}
 use Rattle.circus_program.specs.declared.answer.Step.{Step}
@@ -15,10 +10,9 @@ use Rattle.circus_ending.specs.declared.status.Status.TheVariants.{ShelfFault, N
 use Rattle.circus_ending.specs.Status.{is_end}
 use Rattle.circus_ending.specs.Ending.{Ending}
 use Rattle.circus_ending.specs.Seen.Ending.{ending_of}
-use Rattle.circus_ending.specs.declared.one_file.OneFile.{OneFile}
 use Rattle.circus_config.specs.declared.plan.Plan.{Plan}
-use Rattle.circus_config.specs.Program.{IsProgramOf, HaveTheirRoots}
-use Rattle.circus_program.specs.Answer.{Due, fetch, finish, serve, IsDueOfRefused, IsDueOfSchedule, IsDueOfReplay, IsDueOfFile, IsDueOfProgram, AreFetchedOf, WasLast, shelf_fault}
+use Rattle.circus_config.specs.Program.{IsProgramOf, IsPlan}
+use Rattle.circus_program.specs.Answer.{Due, fetch, finish, serve, IsDueOfRefused, IsDueOfSchedule, IsDueOfReplay, IsDueOfFile, AreFetchedOf, WasLast, shelf_fault}
 use Rattle.circus_program.specs.Seen.Put.{IsPutEnd}
 use Rattle.circus_program.specs.Seen.Ready.{end_of_ready, IsReady}
 
@@ -50,11 +44,7 @@ IsServing (Serve plan node turns) = Unit {0}
 
 -- a node of a plan that was read of a file
 pub record CanBeServed (plan : Plan) (node : ℕ) : Type 0 where
-  pub obey : AllByRecursion Obeys plan.checked.interfaces
-  pub well_formed : AreWellFormed plan.checked.interfaces (map module_as plan.checked.modules)
-  pub deployed : IsDeployment plan.deployment
-  pub roots : HaveTheirRoots plan
-  pub named : All IsAscii plan.names
+  pub plan_is : IsPlan plan
   pub within : node < length plan.deployment.nodes
 
 -- an end has the status of one, a replay may begin, and a node may be served
@@ -101,14 +91,8 @@ pub record IsStepOfReplay (shelf : Option (List ℕ → Option (List ℕ))) (pro
   pub fetched : AreFetchedOf shelf (program ∷ schedule ∷ []) files
   pub is_due : IsDueOfReplay program schedule files due
 
--- a step that is due of a command of one file
-pub record IsStepOfFile (shelf : Option (List ℕ → Option (List ℕ))) (command : OneFile) (name : List ℕ) (due : Due) : Type 0 where
+-- a step that is due of a command of one file, where this is due of its bytes
+pub record IsStepOfFile (shelf : Option (List ℕ → Option (List ℕ))) (name : List ℕ) (IsNext : List ℕ → Due → Type 0) (due : Due) : Type 0 where
   pub files : List (List ℕ)
   pub fetched : AreFetchedOf shelf (name ∷ []) files
-  pub is_due : IsDueOfFile command name files due
-
--- a step that is due of a command of one program, where this is due of its plan
-pub record IsStepOfPlan (shelf : Option (List ℕ → Option (List ℕ))) (program : List ℕ) (IsNext : Plan → Due → Type 0) (due : Due) : Type 0 where
-  pub files : List (List ℕ)
-  pub fetched : AreFetchedOf shelf (program ∷ []) files
-  pub is_due : IsDueOfProgram program IsNext files due
+  pub is_due : IsDueOfFile name IsNext files due

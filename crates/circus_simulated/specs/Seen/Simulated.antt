@@ -1,28 +1,14 @@
 -- What clauses see of a world that has just booted.
-use Rattle.std.specs.Prelude.{◌≡◌, ℕ, All, IsAscii, List, length}
-use Rattle.circus_value.specs.ValueTree.{ValueTree}
-use Rattle.circus_value.specs.declared.outcome.Outcome.{Outcome}
-use Rattle.circus_model.specs.NextTurn.{NextTurn}
+use Rattle.std.specs.Prelude.{◌≡◌, All, IsAscii, length}
 use Rattle.circus_model.specs.Behaviour.{Behaviour}
-use Rattle.circus_model.specs.declared.signature.Signature.{Signature}
 use Rattle.circus_machine.specs.declared.text.TextModule.{TextModule}
-use Rattle.circus_machine.specs.Modules.{turn_with}
 use Rattle.circus_record.specs.Naming.{host_name}
 use Rattle.circus_config.specs.declared.plan.Plan.{Plan}
+use Rattle.circus_load.specs.Seen.Behaving.{declared, turn, first}
 use Rattle.circus_world.specs.WorldState.{WorldState}
 use Rattle.circus_world.specs.Alike.{world_as}
 use Rattle.circus_sample.specs.Sampled.{IsUntouched}
 use Rattle.circus_simulated.specs.declared.simulated.Simulated.{Simulated}
-
--- what a module of a program declares, how it goes on, and its first state
-abbrev pub declared : TextModule → Signature
-declared m = m.parts.value.signature
-
-abbrev pub turn : TextModule → List ValueTree → ℕ → List ValueTree → List Outcome → NextTurn
-turn m = turn_with m.parts.value.signature m.parts.value.bodies
-
-abbrev pub first : TextModule → List ValueTree
-first m = m.parts.value.first
 
 -- a world, by what its modules do
 abbrev pub world_of : WorldState TextModule → WorldState Behaviour

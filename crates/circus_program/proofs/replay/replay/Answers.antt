@@ -6,7 +6,7 @@ use Rattle.circus_world.specs.WorldState.{WorldState}
 use Rattle.circus_running.specs.Run.{beginning}
 use Rattle.circus_program.specs.Replay.{replayed}
 use Rattle.circus_program.specs.Seen.Put.{IsPutEnd}
-use Rattle.circus_simulated.specs.Seen.Simulated.{declared, turn, first}
+use Rattle.circus_load.specs.Seen.Behaving.{declared, turn, first}
 use Rattle.circus_program.specs.Seen.Ready.{end_of_ready}
 use Rattle.circus_program.proofs.Pieces.{put-left}
 use Rattle.circus_program.proofs.Following.{put-stopped, begun-boot, part-boot}

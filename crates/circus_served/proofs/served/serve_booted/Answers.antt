@@ -1,7 +1,7 @@
 use Rattle.circus_record.specs.Naming.{names_of}
 use Rattle.circus_outside.specs.Faults.{Rose}
 use Rattle.std.specs.Prelude.{IsErrOf}
-use Rattle.circus_serve.specs.Outside.{Tells}
+use Rattle.circus_serve.specs.Outside.{Tells, tells_of}
 use Rattle.circus_serve.specs.declared.fault.ServeFault.TheVariants.{LinkFailed}
 use Rattle.circus_served.proofs.Ends.{ends_answered, rose_if_failed}
 use Rattle.circus_served.proofs.served.serve_booted.Goals as goal
@@ -23,8 +23,8 @@ returns-clause-ending g c =
     let M = g.M.Module in
     let L = g.L.Link in
     let d = c.args.deployment.now in
-    let old : Tells = record { bound = L.bound c.args.link.now; taken = L.taken c.args.link.now; given = L.given c.args.link.now } in
-    let new : Tells = record { bound = L.bound c.serve-served.new.link; taken = L.taken c.serve-served.new.link; given = L.given c.serve-served.new.link } in
+    let old : Tells = tells_of (L.bound c.args.link.now) (L.taken c.args.link.now) (L.given c.args.link.now) in
+    let new : Tells = tells_of (L.bound c.serve-served.new.link) (L.taken c.serve-served.new.link) (L.given c.serve-served.new.link) in
     ends_answered M.declared M.turn (names_of d.nodes c.args.names.now) d c.args.node c.args.turns old new c.args.core c.args.gives c.serve-served.result c.ended.result
     c.serve-served.ensures.served c.ended.ensures.ending
 

@@ -8,22 +8,13 @@ use Rattle.circus_machine.specs.declared.text.TextModule.{TextModule}
 use Rattle.circus_node.specs.declared.event.StepFault.{StepFault}
 use Rattle.circus_node.specs.Booting.{AreOfTroupes, IsBooted}
 use Rattle.circus_load.proofs.Named.{nodes_ascii}
-use Rattle.circus_serve.specs.Outside.{Tells}
-use Rattle.circus_served.specs.Seen.Texts.{declared, turn, first}
+use Rattle.circus_serve.specs.Outside.{Tells, tells_of}
+use Rattle.circus_load.specs.Seen.Behaving.{declared, turn, first}
 use Rattle.circus_served.proofs.Ends.{served_ends, none_ends, spent_is_end, spent_no_fault, no_end}
 use Rattle.circus_served.proofs.served.serve_node.Goals as goal
 
-pub load-requires-clause-obey : goal.load-requires-clause-obey
-load-requires-clause-obey g c = c.requires.obey
-
-pub load-requires-clause-well_formed : goal.load-requires-clause-well_formed
-load-requires-clause-well_formed g c = c.requires.well_formed
-
-pub load-requires-clause-deployed : goal.load-requires-clause-deployed
-load-requires-clause-deployed g c = c.requires.deployed
-
-pub load-requires-clause-roots : goal.load-requires-clause-roots
-load-requires-clause-roots g c = c.requires.roots
+pub load-requires : goal.load-requires
+load-requires g c = c.requires.plan
 
 pub returns-in_err-deployment-clause-ending : goal.returns-in_err-deployment-clause-ending
 returns-in_err-deployment-clause-ending g c =
@@ -41,7 +32,7 @@ returns-in_err-deployment-clause-rose g c =
     no_end c.from_residual.result _ p.0 p.1
 
 pub boot_of-requires-clause-deployment : goal.boot_of-requires-clause-deployment
-boot_of-requires-clause-deployment g c = subst IsDeployment (sym c.in_ok-deployment.ensures.deployment) c.requires.deployed
+boot_of-requires-clause-deployment g c = subst IsDeployment (sym c.in_ok-deployment.ensures.deployment) c.requires.plan.deployed
 
 pub boot_of-requires-clause-modules : goal.boot_of-requires-clause-modules
 boot_of-requires-clause-modules g c =
@@ -52,10 +43,10 @@ boot_of-requires-clause-within g c =
     subst (λ (d : Deployment). c.args.node < length d.nodes) (sym c.in_ok-deployment.ensures.deployment) c.requires.within
 
 pub serve_booted-requires-clause-deployment : goal.serve_booted-requires-clause-deployment
-serve_booted-requires-clause-deployment g c = subst IsDeployment (sym c.in_ok-deployment.ensures.deployment) c.requires.deployed
+serve_booted-requires-clause-deployment g c = subst IsDeployment (sym c.in_ok-deployment.ensures.deployment) c.requires.plan.deployed
 
 pub serve_booted-requires-clause-names : goal.serve_booted-requires-clause-names
-serve_booted-requires-clause-names g c = subst (All IsAscii) (sym c.in_ok-deployment.ensures.names) c.requires.named
+serve_booted-requires-clause-names g c = subst (All IsAscii) (sym c.in_ok-deployment.ensures.names) c.requires.plan.named
 
 pub serve_booted-requires-clause-node : goal.serve_booted-requires-clause-node
 serve_booted-requires-clause-node g c = c.in-Ok.ensures.node
@@ -64,8 +55,8 @@ pub returns-in-Ok-clause-ending : goal.returns-in-Ok-clause-ending
 returns-in-Ok-clause-ending g c =
     let L = g.L.Link in
     let loaded = c.in_ok-deployment.ensures in
-    let old : Tells = record { bound = L.bound c.args.link.now; taken = L.taken c.args.link.now; given = L.given c.args.link.now } in
-    let new : Tells = record { bound = L.bound c.serve_booted.new.link; taken = L.taken c.serve_booted.new.link; given = L.given c.serve_booted.new.link } in
+    let old : Tells = tells_of (L.bound c.args.link.now) (L.taken c.args.link.now) (L.given c.args.link.now) in
+    let new : Tells = tells_of (L.bound c.serve_booted.new.link) (L.taken c.serve_booted.new.link) (L.given c.serve_booted.new.link) in
     let behave = ap (behaviours declared turn first) c.as_slice.ensures.value ∙ loaded.behave in
     served_ends declared turn first c.args.plan c.in_ok-deployment.field-0.deployment c.as_slice.result.now c.args.node c.args.turns loaded.deployment behave
     old new c.in_ok-deployment.field-0.names (c.in-Ok.core, c.in-Ok.outputs) loaded.names c.in-Ok.ensures.booted c.serve_booted.result c.serve_booted.ensures.ending
@@ -78,7 +69,7 @@ returns-in-Ok-clause-rose g c = c.serve_booted.ensures.rose
 
 pub spent-requires : goal.spent-requires
 spent-requires g c =
-    nodes_ascii c.in_ok-deployment.field-0.deployment (subst IsDeployment (sym c.in_ok-deployment.ensures.deployment) c.requires.deployed)
+    nodes_ascii c.in_ok-deployment.field-0.deployment (subst IsDeployment (sym c.in_ok-deployment.ensures.deployment) c.requires.plan.deployed)
 
 pub returns-clause-ending : goal.returns-clause-ending
 returns-clause-ending g c =
@@ -87,7 +78,7 @@ returns-clause-ending g c =
     let d = c.in_ok-deployment.field-0.deployment in
     let modules = c.as_slice.result.now in
     let behave = ap (behaviours declared turn first) c.as_slice.ensures.value ∙ loaded.behave in
-    let old : Tells = record { bound = L.bound c.args.link.now; taken = L.taken c.args.link.now; given = L.given c.args.link.now } in
+    let old : Tells = tells_of (L.bound c.args.link.now) (L.taken c.args.link.now) (L.given c.args.link.now) in
     let none = subst (λ (f : StepFault). IsBooted declared turn first d modules c.args.node (Err f)) c.in-Err-Spent.field-0-is c.in-Err-Spent.ensures.booted in
     none_ends declared turn first c.args.plan d modules c.args.node c.args.turns loaded.deployment behave old c.in-Err-Spent.peer none c.spent.result c.spent.ensures.ending
 

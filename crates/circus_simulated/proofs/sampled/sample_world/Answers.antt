@@ -6,7 +6,7 @@ use Rattle.circus_record.specs.Naming.{host_name}
 use Rattle.circus_ending.specs.Seen.Ending.{ending_of}
 use Rattle.circus_sample.specs.declared.sampling.SampleFault.{SampleFault}
 use Rattle.circus_sample.specs.Answers.{IsSampled}
-use Rattle.circus_simulated.specs.Seen.Simulated.{declared, turn, first}
+use Rattle.circus_load.specs.Seen.Behaving.{declared, turn, first}
 use Rattle.circus_simulated.proofs.Sampling.{sampled_deployment, drawn_to_end, drawn_to_spent}
 use Rattle.circus_simulated.proofs.sampled.sample_world.Goals as goal
 

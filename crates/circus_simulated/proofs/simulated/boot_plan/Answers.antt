@@ -6,7 +6,7 @@ use Rattle.circus_collate.specs.declared.deployment.Host.{Host}
 use Rattle.circus_record.specs.Naming.{host_name, names_of}
 use Rattle.circus_sample.proofs.Untouched.{booted_new}
 use Rattle.circus_ending.specs.Spent.{spent}
-use Rattle.circus_simulated.specs.Seen.Simulated.{declared, turn, first}
+use Rattle.circus_load.specs.Seen.Behaving.{declared, turn, first}
 use Rattle.circus_load.proofs.Named.{nodes_ascii}
 use Rattle.circus_simulated.proofs.Stepping.{booted_joins}
 use Rattle.circus_simulated.proofs.Booted.{world_booted, none_booted}

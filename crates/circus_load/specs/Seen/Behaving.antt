@@ -1,4 +1,4 @@
--- What a module of a program does.
+-- What a module of a plan declares, how it goes on, and its first state.
 use Rattle.std.specs.Prelude.{ℕ, List}
 use Rattle.circus_value.specs.ValueTree.{ValueTree}
 use Rattle.circus_value.specs.declared.outcome.Outcome.{Outcome}

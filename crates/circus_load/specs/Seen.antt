@@ -1,0 +1,2 @@
+-- How code is seen.
+pub mod Behaving

@@ -1,0 +1,20 @@
+use Rattle.std.proofs.Common.{refl, sym, subst, IfOk}
+use Rattle.circus_config.specs.Program.{IsProgramOf}
+use Rattle.circus_ending.specs.Seen.Ending.{ending_of}
+use Rattle.circus_program.specs.Answer.{finish}
+use Rattle.circus_program.specs.Seen.Built.{IsDueOfTask, IsDueOfCommand}
+use Rattle.circus_program.specs.Seen.Step.{due_of}
+use Rattle.circus_program.specs.declared.answer.Command.{Command}
+use Rattle.circus_program.proofs.AnswerLemmas.{bytes-good}
+use Rattle.circus_program.proofs.answer.of_bytes.Goals as goal
+
+pub returns-in_ok-end_of-in-End-clause-due : goal.returns-in_ok-end_of-in-End-clause-due
+returns-in_ok-end_of-in-End-clause-due c =
+    let end = c.in_ok-end_of-in-End in
+    subst (λ (command : Command). IsDueOfCommand command c.args.bytes.now (finish (ending_of end.field-0))) (sym c.in-End.is) (ending_of end.field-0, end.ensures.ending, refl)
+
+pub returns-in-Ok-clause-due : goal.returns-in-Ok-clause-due
+returns-in-Ok-clause-due c =
+    let means = subst (λ r. IfOk r (IsProgramOf c.args.bytes.now)) c.in-Ok.is c.in_ok-plan-in-OfPlan.ensures.program in
+    subst (λ (command : Command). IfOk c.of_plan.result (λ step. IsDueOfCommand command c.args.bytes.now (due_of step))) (sym c.in-OfPlan.is)
+    (bytes-good c.args.bytes.now c.in-Ok.plan (IsDueOfTask c.in-OfPlan.task) c.of_plan.result means c.of_plan.ensures.due)

@@ -1,0 +1,19 @@
+use Rattle.std.proofs.Common.{ap, sym, subst}
+use Rattle.circus_ending.specs.Seen.Ending.{ending_of}
+use Rattle.circus_program.specs.Answer.{finish}
+use Rattle.circus_program.specs.Seen.Built.{IsDueOfTask}
+use Rattle.circus_program.specs.declared.answer.Task.{Task}
+use Rattle.circus_program.proofs.NamedOnce.{named_within}
+use Rattle.circus_program.proofs.answer.of_plan.Goals as goal
+
+pub returns-in-Sample-clause-due : goal.returns-in-Sample-clause-due
+returns-in-Sample-clause-due c =
+    let sample = c.in_ok-sample_plan-in-Sample in
+    subst (λ (task : Task). IsDueOfTask task c.args.plan (finish (ending_of sample.field-0))) (sym c.in-Sample.is) (ap finish sample.ensures.ending)
+
+pub returns-in-Some-clause-stands : goal.returns-in-Some-clause-stands
+returns-in-Some-clause-stands c =
+    record {
+      plan_is = c.requires;
+      within = named_within c.args.plan.deployment c.in-Node.name.now c.in-Some.node c.in-Some.ensures.named;
+    }
