@@ -1,7 +1,5 @@
-//! A run of the command over a shelf, a sink and a link in memory, for tests; `programs` has programs in parts.
+//! A run of the command over a shelf, a sink and a link in memory, for tests.
 #![tactic(auto)]
-
-pub mod programs;
 
 use circus_outside::{Arrivals, Failing, File, Files, MemLink, MemShelf, MemSink, Shelf, Sink};
 use circus_program::circus;
@@ -20,11 +18,6 @@ impl Ended {
     /// What was written.
     pub fn written(&self) -> &[u8] {
         self.written.as_slice()
-    }
-
-    /// What was written, which is not copied.
-    pub fn into_written(self) -> Octets {
-        self.written
     }
 
     /// What was written, as a text.
@@ -56,11 +49,47 @@ pub fn joined(alloc: Global, texts: &[&str]) -> Result<String, NoMemory> {
     Ok(all)
 }
 
-/// A file of this name.
-pub fn file(alloc: Global, name: &str, contents: &[u8]) -> Result<File, NoMemory> {
+fn file(alloc: Global, name: &str, contents: &[u8]) -> Result<File, NoMemory> {
     let name = octets(alloc, name.as_bytes())?;
     let contents = octets(alloc, contents)?;
     Ok(File { name, contents })
+}
+
+/// A file of this name, and no other.
+pub fn one_file(alloc: Global, name: &str, contents: &[u8]) -> Result<Files, NoMemory> {
+    let mut files = Files::new(alloc);
+    files.push(file(alloc, name, contents)?)?;
+    Ok(files)
+}
+
+/// A program in parts, as the file `p`.
+pub fn program_file(alloc: Global, program: &[&str]) -> Result<Files, NoMemory> {
+    let program = joined(alloc, program)?;
+    one_file(alloc, "p", program.as_str().as_bytes())
+}
+
+/// The words of a replay of the files `p` and `s`.
+pub const REPLAY: &[&str] = &["replay", "p", "s"];
+
+/// The files `p` and `s`: a program in parts, and a schedule.
+pub fn replay_files(alloc: Global, program: &[&str], schedule: &str) -> Result<Files, NoMemory> {
+    let mut files = program_file(alloc, program)?;
+    files.push(file(alloc, "s", schedule.as_bytes())?)?;
+    Ok(files)
+}
+
+/// The call that fails, if a number is given.
+pub fn failing_at(alloc: Global, number: Option<u64>) -> Result<Failing, NoMemory> {
+    let mut failing = Failing::new(alloc);
+    if let Some(number) = number {
+        failing.push(number)?;
+    }
+    Ok(failing)
+}
+
+/// A link at which nothing arrives.
+fn idle_link(alloc: Global) -> MemLink {
+    MemLink::new(alloc, Arrivals::new(alloc), Failing::new(alloc))
 }
 
 /// Performs the words over a shelf and a sink, and answers the status.
@@ -71,8 +100,26 @@ pub fn perform_over<S: Shelf, K: Sink>(
     sink: &mut K,
 ) -> Result<u8, NoMemory> {
     let words = strings(alloc, words)?;
-    let mut link = MemLink::new(alloc, Arrivals::new(alloc), Failing::new(alloc));
-    Ok(circus(alloc, words.as_slice(), shelf, sink, &mut link))
+    Ok(circus(alloc, words.as_slice(), shelf, sink, &mut idle_link(alloc)))
+}
+
+/// Performs the words over these files, a sink of whose puts the listed ones fail, and a link.
+pub fn perform_linked(
+    alloc: Global,
+    words: &[&str],
+    files: Files,
+    failing: Failing,
+    link: &mut MemLink,
+) -> Result<Ended, NoMemory> {
+    let words = strings(alloc, words)?;
+    let mut shelf = MemShelf::new(alloc, files, Failing::new(alloc));
+    let mut sink = MemSink::new(alloc, failing);
+    let status = circus(alloc, words.as_slice(), &mut shelf, &mut sink, link);
+    Ok(Ended {
+        status,
+        written: sink.written().copy()?,
+        fetched: shelf.fetched().len(),
+    })
 }
 
 /// Performs the words over these files and a sink of whose puts the listed ones fail.
@@ -82,30 +129,5 @@ pub fn perform(
     files: Files,
     failing: Failing,
 ) -> Result<Ended, NoMemory> {
-    let mut shelf = MemShelf::new(alloc, files, Failing::new(alloc));
-    let mut sink = MemSink::new(alloc, failing);
-    let status = perform_over(alloc, words, &mut shelf, &mut sink)?;
-    Ok(Ended {
-        status,
-        written: sink.written().copy()?,
-        fetched: shelf.fetched().len(),
-    })
-}
-
-/// Performs the words over these files and a link.
-pub fn perform_linked(
-    alloc: Global,
-    words: &[&str],
-    files: Files,
-    link: &mut MemLink,
-) -> Result<Ended, NoMemory> {
-    let words = strings(alloc, words)?;
-    let mut shelf = MemShelf::new(alloc, files, Failing::new(alloc));
-    let mut sink = MemSink::new(alloc, Failing::new(alloc));
-    let status = circus(alloc, words.as_slice(), &mut shelf, &mut sink, link);
-    Ok(Ended {
-        status,
-        written: sink.written().copy()?,
-        fetched: shelf.fetched().len(),
-    })
+    perform_linked(alloc, words, files, failing, &mut idle_link(alloc))
 }

@@ -4,9 +4,7 @@ use circus_config::{Plan, ProgramCause, ProgramFault, read_program};
 use circus_text::LONGEST_TEXT;
 use circus_value::Octets;
 use std::test::Fail;
-
-const BANK: &[u8] =
-    b"CIRCUS 1;\nBooks: PROGRAM 10 VERSION 1 =\nBEGIN\n  Short: ERROR [gap: LONG CARDINAL] = 1;\n  Move: PROCEDURE [from, to: CARDINAL, amount: LONG CARDINAL]\n    RETURNS [left: LONG CARDINAL] REPORTS [Short] = 1;\nEND.\nDesk: PROGRAM 11 VERSION 1 =\nBEGIN\n  Pay: PROCEDURE [from, to: CARDINAL, amount: LONG CARDINAL] RETURNS [ok: BOOLEAN] = 1;\nEND.\nMODULE Ledger IMPLEMENTS Books;\nBEGIN\n  VAR balance: ARRAY 4 OF LONG CARDINAL;\n  VAR opened: BOOLEAN;\n  PROCEDURE Move BEGIN\n    IF NOT opened THEN balance[0] := 100; opened := TRUE; END;\n    IF amount > balance[from] THEN RAISE Short [amount - balance[from]]; END;\n    balance[from] := balance[from] - amount;\n    balance[to] := balance[to] + amount;\n    RETURN [balance[from]];\n  END;\nEND.\nMODULE Teller IMPLEMENTS Desk IMPORTS Ledger;\nBEGIN\n  VAR refused: CARDINAL;\n  PROCEDURE Pay VAR left: LONG CARDINAL; VAR gap: LONG CARDINAL; BEGIN\n    CALL Ledger.Move [from, to, amount] INTO [left]\n      ON Short [gap] BEGIN refused := refused + 1; RETURN [FALSE]; END;\n    RETURN [TRUE];\n  END;\nEND.\nROOT Day IMPORTS Teller;\nBEGIN\n  VAR paid: CARDINAL;\n  MAIN VAR i: CARDINAL; VAR ok: BOOLEAN; BEGIN\n    WHILE i < 20 DO\n      CALL Teller.Pay [0, 1, 6] INTO [ok];\n      IF ok THEN paid := paid + 1; END;\n      i := i + 1;\n    END;\n    RETURN [];\n  END;\nEND.\nRINGMASTER ring PORT 9100;\nTROUPE Ledger CALLS UNANIMOUS REPLIES FIRST\n  MEMBERS l1 PORT 9101, l2 PORT 9102, l3 PORT 9103 SPARES l4 PORT 9104;\nTROUPE Teller CALLS MAJORITY REPLIES UNANIMOUS\n  MEMBERS t1 PORT 9105, t2 PORT 9106, t3 PORT 9107;\nTROUPE Day CALLS FIRST REPLIES MAJORITY\n  MEMBERS d1 PORT 9108, d2 PORT 9109, d3 PORT 9110;\n";
+use tests_parts::BANK;
 
 fn is_named(plan: &Plan, number: usize, name: &[u8]) -> bool {
     plan.names.get(number).is_some_and(|n| n.as_slice() == name)
@@ -25,7 +23,7 @@ fn is_host(host: Option<&Host>, name: &[u8], port: u16, module: Option<u16>) -> 
 
 #[test]
 fn the_bank(rt: HostRuntime) -> Result<(), Fail> {
-    let plan = read_program(rt.alloc(), BANK)?;
+    let plan = read_program(rt.alloc(), BANK.as_bytes())?;
     assert_eq!(rt; plan.names.len(), 3);
     assert!(rt; is_named(&plan, 0, b"Ledger"));
     assert!(rt; is_named(&plan, 1, b"Teller"));

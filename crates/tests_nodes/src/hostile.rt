@@ -1,5 +1,5 @@
 // What no node of the program sends.
-use crate::net::{Net, message, performs, told_at_boot};
+use crate::net::{FIRST_CALL, Net, message, performs, told_at_boot};
 use crate::programs::{
     COUNTER_ALONE, MAIN_ALONE, TWO_COUNTERS, TWO_WITH_A_SPARE, WITH_A_SPARE, WITH_TWO_SPARES,
     between, once,
@@ -7,10 +7,6 @@ use crate::programs::{
 use circus_value::{Message, Octets};
 use std::alloc::Global;
 use std::test::Fail;
-
-// A call of the root, as its only segment.
-const D0: &str =
-    "00000101000000000000000100010000000100000001000000000000000000010001000200000000000000000005";
 
 const A_ALONE: &str = "CALLS FIRST REPLIES FIRST MEMBERS a1 PORT 9002";
 
@@ -441,7 +437,7 @@ datagram 2 step 1 from s1 to m1 0100010100000000000000020000000100000000000000ff
 
 // The call with ff at a place.
 fn with_ff_at(alloc: Global, place: usize) -> Result<Message, Fail> {
-    let mut bytes = message(alloc, D0)?;
+    let mut bytes = message(alloc, FIRST_CALL)?;
     *bytes.get_mut(place).ok_or("no byte")? = 0xff;
     Ok(bytes)
 }

@@ -15,6 +15,10 @@ use std::process::Abort;
 use std::str::SplitWhitespace;
 use std::test::Fail;
 
+/// The first call of the root `m1` to the counter `s1`, as its only segment.
+pub const FIRST_CALL: &str =
+    "00000101000000000000000100010000000100000001000000000000000000010001000200000000000000000005";
+
 // As many datagrams as are delivered at most.
 const MOST_DATAGRAMS: usize = 10_000;
 

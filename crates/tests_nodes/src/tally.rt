@@ -4,7 +4,7 @@ ghost use Rattle.circus_collate.specs.Deployment.{IsDeployment};
 ghost use Rattle.circus_machine.specs.Tally.{tally_signature};
 ghost use Rattle.circus_node.specs.Booting.{CanBoot};
 
-use crate::net::message;
+use crate::net::{FIRST_CALL, message};
 use crate::node::Node;
 use crate::program::deployment;
 use crate::programs::{COUNTER_ALONE, MAIN_ALONE, once};
@@ -36,9 +36,6 @@ fn lines(alloc: Global, gives: &Gives) -> Result<String, Fail> {
     Ok(text)
 }
 
-const D0: &str =
-    "00000101000000000000000100010000000100000001000000000000000000010001000200000000000000000005";
-
 #[test]
 fn a_tally(rt: HostRuntime) -> Result<(), Fail> {
     let alloc = rt.alloc();
@@ -46,7 +43,7 @@ fn a_tally(rt: HostRuntime) -> Result<(), Fail> {
     assert!(rt; hosts_no_root(&deployment));
     let (node, outputs) = Node::boot(alloc, &deployment, Tally::new(alloc)?, 1)?;
     assert!(rt; outputs.gives.is_empty());
-    let datagram = message(alloc, D0)?.shared()?;
+    let datagram = message(alloc, FIRST_CALL)?.shared()?;
     let (node, outputs) = node.step(1, Event::Datagram(2, datagram))?;
     assert_eq!(rt;
         lines(alloc, &outputs.gives)?.as_str(),

@@ -224,61 +224,6 @@ TROUPE Store CALLS FIRST REPLIES FIRST MEMBERS s1 PORT 9001;
 TROUPE Main CALLS FIRST REPLIES FIRST MEMBERS m1 PORT 9002;
 ";
 
-/// The bank: examples/bank.circus.
-pub const BANK: &[u8] = b"\
-CIRCUS 1;
-Books: PROGRAM 10 VERSION 1 =
-BEGIN
-  Short: ERROR [gap: LONG CARDINAL] = 1;
-  Move: PROCEDURE [from, to: CARDINAL, amount: LONG CARDINAL]
-    RETURNS [left: LONG CARDINAL] REPORTS [Short] = 1;
-END.
-Desk: PROGRAM 11 VERSION 1 =
-BEGIN
-  Pay: PROCEDURE [from, to: CARDINAL, amount: LONG CARDINAL] RETURNS [ok: BOOLEAN] = 1;
-END.
-MODULE Ledger IMPLEMENTS Books;
-BEGIN
-  VAR balance: ARRAY 4 OF LONG CARDINAL;
-  VAR opened: BOOLEAN;
-  PROCEDURE Move BEGIN
-    IF NOT opened THEN balance[0] := 100; opened := TRUE; END;
-    IF amount > balance[from] THEN RAISE Short [amount - balance[from]]; END;
-    balance[from] := balance[from] - amount;
-    balance[to] := balance[to] + amount;
-    RETURN [balance[from]];
-  END;
-END.
-MODULE Teller IMPLEMENTS Desk IMPORTS Ledger;
-BEGIN
-  VAR refused: CARDINAL;
-  PROCEDURE Pay VAR left: LONG CARDINAL; VAR gap: LONG CARDINAL; BEGIN
-    CALL Ledger.Move [from, to, amount] INTO [left]
-      ON Short [gap] BEGIN refused := refused + 1; RETURN [FALSE]; END;
-    RETURN [TRUE];
-  END;
-END.
-ROOT Day IMPORTS Teller;
-BEGIN
-  VAR paid: CARDINAL;
-  MAIN VAR i: CARDINAL; VAR ok: BOOLEAN; BEGIN
-    WHILE i < 20 DO
-      CALL Teller.Pay [0, 1, 6] INTO [ok];
-      IF ok THEN paid := paid + 1; END;
-      i := i + 1;
-    END;
-    RETURN [];
-  END;
-END.
-RINGMASTER ring PORT 9100;
-TROUPE Ledger CALLS UNANIMOUS REPLIES FIRST
-  MEMBERS l1 PORT 9101, l2 PORT 9102, l3 PORT 9103 SPARES l4 PORT 9104;
-TROUPE Teller CALLS MAJORITY REPLIES UNANIMOUS
-  MEMBERS t1 PORT 9105, t2 PORT 9106, t3 PORT 9107;
-TROUPE Day CALLS FIRST REPLIES MAJORITY
-  MEMBERS d1 PORT 9108, d2 PORT 9109, d3 PORT 9110;
-";
-
 /// A module that raises errors.
 pub const VAULT: &[u8] = b"\
 CIRCUS 1;
@@ -309,39 +254,6 @@ BEGIN
 END.
 RINGMASTER ring PORT 9000;
 TROUPE Vault CALLS FIRST REPLIES FIRST MEMBERS v1 PORT 9001;
-TROUPE Main CALLS FIRST REPLIES FIRST MEMBERS m1 PORT 9002;
-";
-
-/// Executions of a million steps, and of one more.
-pub const WHEEL: &[u8] = b"\
-CIRCUS 1;
-Turning: PROGRAM 5 VERSION 1 =
-BEGIN
-  Spin: PROCEDURE [n: LONG CARDINAL] RETURNS [r: LONG CARDINAL] = 1;
-  Late: PROCEDURE [n: LONG CARDINAL] RETURNS [r: LONG CARDINAL] = 2;
-END.
-MODULE Wheel IMPLEMENTS Turning;
-BEGIN
-  PROCEDURE Spin VAR i: LONG CARDINAL; BEGIN
-    WHILE i < n DO i := i + 1; END;
-    RETURN [i];
-  END;
-  PROCEDURE Late VAR i: LONG CARDINAL; BEGIN
-    i := 0;
-    WHILE i < n DO i := i + 1; END;
-    RETURN [i];
-  END;
-END.
-ROOT Main IMPORTS Wheel;
-BEGIN
-  MAIN BEGIN
-    CALL Wheel.Spin [499999];
-    CALL Wheel.Late [499999] ON OTHER BEGIN END;
-    RETURN [];
-  END;
-END.
-RINGMASTER ring PORT 9000;
-TROUPE Wheel CALLS FIRST REPLIES FIRST MEMBERS w1 PORT 9001;
 TROUPE Main CALLS FIRST REPLIES FIRST MEMBERS m1 PORT 9002;
 ";
 

@@ -1,14 +1,13 @@
 // What is written of programs: their histories when nothing is replicated, and their stubs.
 use crate::programs::{
-    BANK, COUNTER, NO_ROOM, ONE_CALLER, ROOM, SHAPES, SHOP, TWICE, TWO_CALLERS, UNANIMOUS, VAULT,
-    WHEEL,
+    COUNTER, NO_ROOM, ONE_CALLER, ROOM, SHAPES, SHOP, TWICE, TWO_CALLERS, UNANIMOUS, VAULT,
 };
-use circus_outside::{Failing, Files};
 use circus_value::{NoMemory, Octets};
 use std::alloc::Global;
 use std::process::Abort;
 use std::test::Fail;
-use tests_command::{Ended, file, perform};
+use tests_command::{Ended, failing_at, one_file, perform};
+use tests_parts::{BANK, WHEEL};
 
 const COUNTED: &[u8] = b"\
 circus history 1
@@ -241,13 +240,8 @@ fn performed(
     program: &[u8],
     failing: Option<u64>,
 ) -> Result<Ended, NoMemory> {
-    let mut files = Files::new(alloc);
-    files.push(file(alloc, "p", program)?)?;
-    let mut puts = Failing::new(alloc);
-    if let Some(number) = failing {
-        puts.push(number)?;
-    }
-    perform(alloc, words, files, puts)
+    let files = one_file(alloc, "p", program)?;
+    perform(alloc, words, files, failing_at(alloc, failing)?)
 }
 
 // Performs words that name a program, and asserts what is written.
@@ -281,7 +275,7 @@ fn histories_are_written(rt: HostRuntime) -> Result<(), Fail> {
 
 #[test]
 fn the_bank_has_a_history(rt: HostRuntime) -> Result<(), Fail> {
-    let ended = performed(rt.alloc(), &["run", "p"], BANK, None)?;
+    let ended = performed(rt.alloc(), &["run", "p"], BANK.as_bytes(), None)?;
     assert_eq!(rt; ended.status, 0);
     let text = ended.text();
     assert!(rt; text.starts_with("circus history 1\nmodule Ledger count 20\n"));
@@ -293,7 +287,7 @@ fn the_bank_has_a_history(rt: HostRuntime) -> Result<(), Fail> {
 
 #[test]
 fn steps_are_counted(rt: HostRuntime) -> Result<(), Fail> {
-    let ended = performed(rt.alloc(), &["run", "p"], WHEEL, None)?;
+    let ended = performed(rt.alloc(), &["run", "p"], WHEEL.as_bytes(), None)?;
     assert!(rt; ended.written() == TURNED && ended.status == 0);
     Ok(())
 }
@@ -332,7 +326,7 @@ fn stubs_are_written(rt: HostRuntime) -> Result<(), Fail> {
     let stubs = ["stubs", "p"].as_slice();
     writes(&rt, rt.alloc(), stubs, COUNTER, STUBS_OF_COUNTER)?;
     writes(&rt, rt.alloc(), stubs, SHOP, STUBS_OF_SHOP)?;
-    writes(&rt, rt.alloc(), stubs, BANK, STUBS_OF_BANK)?;
+    writes(&rt, rt.alloc(), stubs, BANK.as_bytes(), STUBS_OF_BANK)?;
     writes(&rt, rt.alloc(), stubs, SHAPES, STUBS_OF_SHAPES)?;
     Ok(())
 }

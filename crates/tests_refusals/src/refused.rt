@@ -1,17 +1,16 @@
 // Files that the command is given, and how it refuses them.
-use circus_outside::{Failing, Files};
+use circus_outside::Failing;
 use circus_value::NoMemory;
 use std::alloc::Global;
 use std::process::Abort;
-use tests_command::{Ended, file, perform};
+use tests_command::{Ended, REPLAY, one_file, perform};
 
 /// The forms that read the program `p` first.
-pub const FORMS: [&[&str]; 3] = [&["run", "p"], &["stubs", "p"], &["replay", "p", "s"]];
+pub const FORMS: [&[&str]; 3] = [&["run", "p"], &["stubs", "p"], REPLAY];
 
 /// Performs words that name the file `p`.
 pub fn performed(alloc: Global, words: &[&str], program: &[u8]) -> Result<Ended, NoMemory> {
-    let mut files = Files::new(alloc);
-    files.push(file(alloc, "p", program)?)?;
+    let files = one_file(alloc, "p", program)?;
     perform(alloc, words, files, Failing::new(alloc))
 }
 

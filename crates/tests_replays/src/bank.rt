@@ -1,7 +1,7 @@
 // The bank.
 use crate::runs::{Long, Row, Steps, all_leave, all_tell};
 use std::test::Fail;
-use tests_command::programs::BANK;
+use tests_parts::BANK;
 
 const BOOT_SENDS: &str = "\
 circus report 1
@@ -48,38 +48,7 @@ ask 0 step 0 to Teller index 0 procedure 1 arguments [0, 1, 6] state [0]
 now waiting ask 0 state [0]
 ";
 
-const ONE_COMES: &str = "\
-datagram 9 step 1 from t3 to d3 0001010100000000
-ringmaster ring live
-view Ledger 1 l1=0 l2=0 l3=0
-view Teller 1 t1=0 t2=0 t3=0
-view Day 1 d1=0 d2=0 d3=0
-member l1 Ledger live from 0 at 0 count 0
-now idle state [{0, 0, 0, 0}, FALSE]
-member l2 Ledger live from 0 at 0 count 0
-now idle state [{0, 0, 0, 0}, FALSE]
-member l3 Ledger live from 0 at 0 count 0
-now idle state [{0, 0, 0, 0}, FALSE]
-member l4 Ledger live outside
-member t1 Teller live from 0 at 0 count 0
-now idle state [0]
-member t2 Teller live from 0 at 0 count 0
-now idle state [0]
-member t3 Teller live from 0 at 0 count 0
-now idle state [0]
-member d1 Day live from 0 at 0 count 0
-run 0 step 0 path Day procedure 0 clock 0,0,0 arguments []
-ask 0 step 0 to Teller index 0 procedure 1 arguments [0, 1, 6] state [0]
-now waiting ask 0 state [0]
-member d2 Day live from 0 at 0 count 0
-run 0 step 0 path Day procedure 0 clock 0,0,0 arguments []
-ask 0 step 0 to Teller index 0 procedure 1 arguments [0, 1, 6] state [0]
-now waiting ask 0 state [0]
-member d3 Day live from 0 at 0 count 0
-run 0 step 0 path Day procedure 0 clock 0,0,0 arguments []
-ask 0 step 0 to Teller index 0 procedure 1 arguments [0, 1, 6] state [0]
-now waiting ask 0 state [0]
-";
+const ACKNOWLEDGED: &str = "datagram 9 step 1 from t3 to d3 0001010100000000\n";
 
 const ROWS: [Row; 3] = [
     Row {
@@ -97,7 +66,7 @@ const ROWS: [Row; 3] = [
     Row {
         program: &[BANK],
         schedule: "deliver 8\n",
-        written: &[BOOT_SENDS, ONE_COMES],
+        written: &[BOOT_SENDS, ACKNOWLEDGED, NOTHING_COMES],
         status: 0,
     },
 ];

@@ -1,9 +1,7 @@
 // Calls that come again, from several members, and early.
 use crate::runs::{Row, all_leave};
 use std::test::Fail;
-use tests_command::programs::{
-    ADDS_ONCE, COUNT, COUNTER, FORMAT_1, ONE_CALL, STEP, STEP_A, STEP_B, STEPS_BOTH,
-};
+use tests_parts::{ADDS_ONCE, COUNT, COUNTER, FORMAT_1, ONE_CALL, TWO_STEPS};
 
 // Two members of each troupe, whose server waits for all callers, or for the first.
 const WAITS_FOR_ALL: &str = "\
@@ -16,15 +14,6 @@ const WAITS_FOR_FIRST: &str = "\
 RINGMASTER ring PORT 9000;
 TROUPE Counter CALLS FIRST REPLIES FIRST MEMBERS s1 PORT 9001, s2 PORT 9003;
 TROUPE Main CALLS FIRST REPLIES FIRST MEMBERS r1 PORT 9002, r2 PORT 9004;
-";
-
-// A counter of two members, and a member of each other module.
-const TWO_COUNTERS: &str = "\
-RINGMASTER ring PORT 9000;
-TROUPE Counter CALLS FIRST REPLIES FIRST MEMBERS m1 PORT 9001, m2 PORT 9002;
-TROUPE A CALLS FIRST REPLIES FIRST MEMBERS a1 PORT 9003;
-TROUPE B CALLS FIRST REPLIES FIRST MEMBERS b1 PORT 9004;
-TROUPE Main CALLS FIRST REPLIES FIRST MEMBERS r1 PORT 9005;
 ";
 
 const COMES_AGAIN: &str = "\
@@ -180,16 +169,7 @@ const ROWS: [Row; 4] = [
     },
     // The second call comes before the first one.
     Row {
-        program: &[
-            FORMAT_1,
-            COUNT,
-            STEP,
-            COUNTER,
-            STEP_A,
-            STEP_B,
-            STEPS_BOTH,
-            TWO_COUNTERS,
-        ],
+        program: TWO_STEPS,
         schedule: "deliver 0\ndeliver 2\ndeliver 5\ndeliver 7\ndeliver 9\ndeliver 12\ndeliver 3\n",
         written: &[COMES_EARLY],
         status: 0,

@@ -1,7 +1,7 @@
 // Replies that a root waits for, where a member of its server has crashed.
 use crate::runs::{Row, all_leave};
 use std::test::Fail;
-use tests_command::programs::{ADDS_ONCE, COUNT, COUNTER, FORMAT_1};
+use tests_parts::{ADDS_ONCE, COUNT, COUNTER, FORMAT_1};
 
 const TWO_SERVERS: &str = "\
 RINGMASTER ring PORT 9000;

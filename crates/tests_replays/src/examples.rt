@@ -1,7 +1,7 @@
 // The replays of the examples.
 use crate::runs::{Row, all_leave};
 use std::test::Fail;
-use tests_command::programs::BANK;
+use tests_parts::BANK;
 
 // examples/join.circus.
 const JOIN: &str = "\

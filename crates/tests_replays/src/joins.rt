@@ -1,24 +1,13 @@
 // Spares that join.
 use crate::runs::{Row, all_leave};
 use std::test::Fail;
-use tests_command::programs::{ADDS_TWICE, COUNT, COUNTER, FORMAT_1, MAIN_AT_M1, STEP, STEP_A, STEPS_ONCE};
-
-const ONE_SPARE: &str = "\
-RINGMASTER ring PORT 9000;
-TROUPE Counter CALLS FIRST REPLIES FIRST MEMBERS s1 PORT 9001 SPARES s2 PORT 9003;
-";
+use tests_parts::{
+    ADDS_TWICE, COUNT, COUNTER, FORMAT_1, MAIN_AT_M1, ONE_STEP_WITH_A_SPARE, TWO_CALLS_WITH_A_SPARE,
+};
 
 const TWO_SPARES: &str = "\
 RINGMASTER ring PORT 9000;
 TROUPE Counter CALLS FIRST REPLIES FIRST MEMBERS s1 PORT 9001 SPARES s2 PORT 9003, s3 PORT 9004;
-";
-
-// A spare of the module between the counter and the root.
-const A_SPARE_BETWEEN: &str = "\
-RINGMASTER ring PORT 9000;
-TROUPE Counter CALLS FIRST REPLIES FIRST MEMBERS m1 PORT 9001;
-TROUPE A CALLS FIRST REPLIES FIRST MEMBERS a1 PORT 9003 SPARES a2 PORT 9004;
-TROUPE Main CALLS FIRST REPLIES FIRST MEMBERS r1 PORT 9005;
 ";
 
 const PERFORMS_THE_SECOND: &str = "\
@@ -148,22 +137,14 @@ now waiting ask 0 state [0]
 const ROWS: [Row; 3] = [
     // It takes the state behind the first call, and performs the second one.
     Row {
-        program: &[FORMAT_1, COUNT, COUNTER, ADDS_TWICE, ONE_SPARE, MAIN_AT_M1],
+        program: TWO_CALLS_WITH_A_SPARE,
         schedule: "deliver 0\njoin s2\ndeliver 3\ndeliver 5\ndeliver 7\ndeliver 9\ndeliver 2\ndeliver 13\ndeliver 15\ndeliver 17\ndeliver 19\ndeliver 22\ndeliver 24\n",
         written: &[PERFORMS_THE_SECOND],
         status: 0,
     },
     // A busy member gives its state once its run has ended.
     Row {
-        program: &[
-            FORMAT_1,
-            COUNT,
-            STEP,
-            COUNTER,
-            STEP_A,
-            STEPS_ONCE,
-            A_SPARE_BETWEEN,
-        ],
+        program: ONE_STEP_WITH_A_SPARE,
         schedule: "deliver 0\njoin a2\ndeliver 3\ndeliver 5\ndeliver 7\ndeliver 2\ndeliver 10\ndeliver 13\n",
         written: &[BEHIND_THE_RUN],
         status: 0,

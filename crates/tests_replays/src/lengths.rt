@@ -1,9 +1,9 @@
 // Messages of many segments, the second format, and the most steps of an execution.
 use crate::runs::{Long, Row, Steps, all_leave, all_tell};
 use std::test::Fail;
-use tests_command::programs::{
-    BLOCK, BLOCK_CALLED, BLOCK_FILLED, FORMAT_1, FORMAT_2, ONE_CALL_IN_FORMAT_2, ROOM, ROOM_FILLED,
-    WHEEL,
+use tests_parts::{
+    BLOCK, BLOCK_CALL, BLOCK_END, BLOCK_MODULES, FORMAT_1, FORMAT_2, ONE_CALL_IN_FORMAT_2, ROOM,
+    ROOM_FILLED, WHEEL,
 };
 
 const IN_FORMAT_2: &str = "\
@@ -84,7 +84,16 @@ const WHOLE: [Row; 3] = [
         status: 0,
     },
     Row {
-        program: &[FORMAT_2, BLOCK, "9", BLOCK_FILLED, ", q", BLOCK_CALLED],
+        program: &[
+            FORMAT_2,
+            BLOCK,
+            "9",
+            BLOCK_MODULES,
+            "65535",
+            BLOCK_CALL,
+            "q, q, q, q, q, q, q, q, q",
+            BLOCK_END,
+        ],
         schedule: "",
         written: &[TOO_LONG],
         status: 0,
@@ -161,7 +170,16 @@ const LONG: [Long; 3] = [
     },
     // The longest argument.
     Long {
-        program: &[FORMAT_2, BLOCK, "8", BLOCK_FILLED, "", BLOCK_CALLED],
+        program: &[
+            FORMAT_2,
+            BLOCK,
+            "8",
+            BLOCK_MODULES,
+            "65535",
+            BLOCK_CALL,
+            "q, q, q, q, q, q, q, q",
+            BLOCK_END,
+        ],
         schedule: &[Steps::Up(0, 1024)],
         datagrams: 1027,
         lines: &[

@@ -1,9 +1,9 @@
 // Programs that are refused before a schedule is asked for.
-use crate::runs::{REPLAY, Row, all_leave};
-use circus_outside::{Failing, Files};
+use crate::runs::{Row, all_leave};
+use circus_outside::Failing;
 use std::test::Fail;
-use tests_command::programs::{ADDS_ONCE, COUNT, COUNTER, FORMAT_1, ONE_CALL, ONE_OF_EACH};
-use tests_command::{file, joined, perform};
+use tests_command::{REPLAY, joined, one_file, perform};
+use tests_parts::{ADDS_ONCE, COUNT, COUNTER, FORMAT_1, ONE_CALL, ONE_OF_EACH};
 
 const SECOND_ROOT: &str = "\
 ROOT Other IMPORTS Counter;
@@ -59,8 +59,7 @@ fn a_program_that_is_cut_is_refused(rt: HostRuntime) -> Result<(), Fail> {
     let program = joined(alloc, ONE_CALL)?;
     let whole = program.as_str().trim_end();
     for cut in 0..whole.len() {
-        let mut files = Files::new(alloc);
-        files.push(file(alloc, "p", &whole.as_bytes()[..cut])?)?;
+        let files = one_file(alloc, "p", &whole.as_bytes()[..cut])?;
         let ended = perform(alloc, REPLAY, files, Failing::new(alloc))?;
         assert_eq!(rt; (ended.status, ended.fetched), (2, 1), "{cut}");
     }

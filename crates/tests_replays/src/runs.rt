@@ -1,12 +1,9 @@
 //! Replays of a program and a schedule, and what they leave.
-use circus_outside::{Failing, Files};
+use circus_outside::Failing;
 use circus_value::NoMemory;
 use std::alloc::Global;
 use std::process::Abort;
-use tests_command::{Ended, file, joined, perform};
-
-/// The words of a replay of the files `p` and `s`.
-pub const REPLAY: &[&str] = &["replay", "p", "s"];
+use tests_command::{Ended, REPLAY, joined, perform, replay_files};
 
 /// A program in parts, a schedule, and what their replay leaves: what it writes, in parts, and its status.
 pub struct Row {
@@ -37,18 +34,9 @@ pub struct Long {
     pub end: &'static str,
 }
 
-/// The files `p` and `s`.
-pub fn files(alloc: Global, program: &str, schedule: &str) -> Result<Files, NoMemory> {
-    let mut files = Files::new(alloc);
-    files.push(file(alloc, "p", program.as_bytes())?)?;
-    files.push(file(alloc, "s", schedule.as_bytes())?)?;
-    Ok(files)
-}
-
 /// Replays a program under a schedule.
 pub fn replayed(alloc: Global, program: &[&str], schedule: &str) -> Result<Ended, NoMemory> {
-    let program = joined(alloc, program)?;
-    let files = files(alloc, program.as_str(), schedule)?;
+    let files = replay_files(alloc, program, schedule)?;
     perform(alloc, REPLAY, files, Failing::new(alloc))
 }
 

@@ -2,14 +2,13 @@
 ghost use Rattle.std.specs.Prelude.{None};
 
 use crate::reports::{CALL, DELIVER_ALL, REPORT, TITLE};
-use crate::runs::{REPLAY, files};
 use circus_outside::{Failing, MemShelf, MemSink, Sink, SinkFault};
 use circus_value::{NoMemory, Octets};
 use std::alloc::Global;
 use std::process::Abort;
 use std::test::Fail;
-use tests_command::programs::ONE_CALL;
-use tests_command::{Ended, joined, perform, perform_over};
+use tests_command::{Ended, REPLAY, failing_at, joined, perform, perform_over, replay_files};
+use tests_parts::ONE_CALL;
 
 // Takes one byte of a piece, and may fail at the end.
 #[derive(Drop)]
@@ -87,9 +86,8 @@ fn is_taken(
 ) -> Result<(), NoMemory> {
     let mut sink = sink;
     let (schedule, written, _) = row;
-    let program = joined(alloc, ONE_CALL)?;
     let written = joined(alloc, written)?;
-    let files = files(alloc, program.as_str(), schedule)?;
+    let files = replay_files(alloc, ONE_CALL, schedule)?;
     let mut shelf = MemShelf::new(alloc, files, Failing::new(alloc));
     let status = perform_over(alloc, REPLAY, &mut shelf, &mut sink)?;
     assert_eq!(rt; sink.taken.as_slice(), written.as_str().as_bytes());
@@ -115,11 +113,8 @@ fn a_sink_fails_at_the_end(rt: HostRuntime) -> Result<(), Fail> {
 
 // A replay over a sink that fails at the put of this number.
 fn fails_at(alloc: Global, schedule: &str, number: u64) -> Result<Ended, NoMemory> {
-    let program = joined(alloc, ONE_CALL)?;
-    let files = files(alloc, program.as_str(), schedule)?;
-    let mut failing = Failing::new(alloc);
-    failing.push(number)?;
-    perform(alloc, REPLAY, files, failing)
+    let files = replay_files(alloc, ONE_CALL, schedule)?;
+    perform(alloc, REPLAY, files, failing_at(alloc, Some(number))?)
 }
 
 // Asserts that what stands before the put that fails is written, whichever that is.
@@ -152,12 +147,9 @@ const FETCHES: [(u64, &str); 2] = [(0, "shelf fault: p\n"), (1, "shelf fault: s\
 #[test]
 fn a_shelf_fails(rt: HostRuntime) -> Result<(), Fail> {
     let alloc = rt.alloc();
-    let program = joined(alloc, ONE_CALL)?;
     for (number, written) in &FETCHES {
-        let files = files(alloc, program.as_str(), DELIVER_ALL)?;
-        let mut failing = Failing::new(alloc);
-        failing.push(*number)?;
-        let mut shelf = MemShelf::new(alloc, files, failing);
+        let files = replay_files(alloc, ONE_CALL, DELIVER_ALL)?;
+        let mut shelf = MemShelf::new(alloc, files, failing_at(alloc, Some(*number))?);
         let mut sink = MemSink::new(alloc, Failing::new(alloc));
         let status = perform_over(alloc, REPLAY, &mut shelf, &mut sink)?;
         assert_eq!(rt; sink.written().as_slice(), written.as_bytes());

@@ -1,11 +1,10 @@
 // Whole runs of the form `place` over a shelf and a sink in memory: the file `f`, what is written to the byte, and
 // the status.
-use circus_outside::{Failing, Files};
 use circus_value::NoMemory;
 use std::alloc::Global;
 use std::process::Abort;
 use std::test::Fail;
-use tests_command::{Ended, file, perform};
+use tests_command::{Ended, failing_at, one_file, perform};
 
 // examples/first.place.
 const FIRST: &str = "\
@@ -123,13 +122,8 @@ fn placed(
     placing: &str,
     failing: Option<u64>,
 ) -> Result<Ended, NoMemory> {
-    let mut files = Files::new(alloc);
-    files.push(file(alloc, "f", placing.as_bytes())?)?;
-    let mut puts = Failing::new(alloc);
-    if let Some(number) = failing {
-        puts.push(number)?;
-    }
-    perform(alloc, words, files, puts)
+    let files = one_file(alloc, "f", placing.as_bytes())?;
+    perform(alloc, words, files, failing_at(alloc, failing)?)
 }
 
 // Performs `place` with each file, and asserts what is left.

@@ -1,40 +1,25 @@
 // Whole runs of the command over a shelf, a sink and a link in memory. Of a program and a schedule
 // they have what is written to the byte, the status, and how many files were fetched.
-use circus_outside::{Failing, Files};
+use circus_outside::Failing;
 use circus_value::NoMemory;
 use std::alloc::Global;
 use std::process::Abort;
 use std::test::Fail;
-use tests_command::{file, joined, perform};
+use tests_command::{REPLAY, failing_at, joined, perform, replay_files};
+use tests_parts::{COUNT, COUNTER, FORMAT_1, ONE_CALL, ONE_OF_EACH};
 
-const BEFORE_NUMBER: &str = "\
-CIRCUS 1;
-Count: PROGRAM 1 VERSION 1 =
-BEGIN
-  Add: PROCEDURE [n: CARDINAL] RETURNS [sum: CARDINAL] = 1;
-END.
-MODULE Counter IMPLEMENTS Count;
-BEGIN
-  VAR total: CARDINAL;
-  PROCEDURE Add BEGIN
-    total := total + n;
-    RETURN [total];
-  END;
-END.
+const ROOT_BEFORE_NUMBER: &str = "\
 ROOT Main IMPORTS Counter;
 BEGIN
   VAR got: CARDINAL;
   MAIN BEGIN
     CALL Counter.Add [";
 
-const AFTER_NUMBER: &str = "\
+const ROOT_AFTER_NUMBER: &str = "\
 ] INTO [got];
     RETURN [];
   END;
 END.
-RINGMASTER ring PORT 9000;
-TROUPE Counter CALLS FIRST REPLIES FIRST MEMBERS s1 PORT 9001;
-TROUPE Main CALLS FIRST REPLIES FIRST MEMBERS m1 PORT 9002;
 ";
 
 const DELIVER_ALL: &str = "deliver 0\ndeliver 1\ndeliver 2\ndeliver 3\n";
@@ -131,13 +116,6 @@ return cardinal
 
 const NOT_BUILT: &str = "not built\n";
 
-fn files(alloc: Global, program: &str, schedule: &str) -> Result<Files, NoMemory> {
-    let mut files = Files::new(alloc);
-    files.push(file(alloc, "p", program.as_bytes())?)?;
-    files.push(file(alloc, "s", schedule.as_bytes())?)?;
-    Ok(files)
-}
-
 // Words, the files `p` and `s` that they may name, and what their run leaves: what it writes, its status and how
 // many files it fetches.
 struct Row {
@@ -149,16 +127,12 @@ struct Row {
     fetched: usize,
 }
 
-const REPLAY: &[&str] = &["replay", "p", "s"];
-
 const NO_TROUPES: &[&str] = &["CIRCUS 1;\nRINGMASTER ring PORT 9000;\n"];
-
-const CALLS_WITH_5: &[&str] = &[BEFORE_NUMBER, "5", AFTER_NUMBER];
 
 const REPLAYED: [Row; 8] = [
     Row {
         words: REPLAY,
-        program: CALLS_WITH_5,
+        program: ONE_CALL,
         schedule: DELIVER_ALL,
         written: &[
             TITLE,
@@ -176,7 +150,7 @@ const REPLAYED: [Row; 8] = [
     // Nothing is delivered.
     Row {
         words: REPLAY,
-        program: CALLS_WITH_5,
+        program: ONE_CALL,
         schedule: "",
         written: &[TITLE, CALL, VIEWS, SERVER_UNCALLED, ROOT_WAITING],
         status: 0,
@@ -185,7 +159,7 @@ const REPLAYED: [Row; 8] = [
     // A call that comes again isn't performed again.
     Row {
         words: REPLAY,
-        program: CALLS_WITH_5,
+        program: ONE_CALL,
         schedule: "deliver 0\ndeliver 0\ndeliver 0\n",
         written: &[
             TITLE,
@@ -201,7 +175,15 @@ const REPLAYED: [Row; 8] = [
     },
     Row {
         words: REPLAY,
-        program: &[BEFORE_NUMBER, "65535", AFTER_NUMBER],
+        program: &[
+            FORMAT_1,
+            COUNT,
+            COUNTER,
+            ROOT_BEFORE_NUMBER,
+            "65535",
+            ROOT_AFTER_NUMBER,
+            ONE_OF_EACH,
+        ],
         schedule: DELIVER_ALL,
         written: &[GREATEST_CARRIED],
         status: 0,
@@ -210,7 +192,7 @@ const REPLAYED: [Row; 8] = [
     // A datagram that was not sent.
     Row {
         words: REPLAY,
-        program: CALLS_WITH_5,
+        program: ONE_CALL,
         schedule: "deliver 9",
         written: &[TITLE, CALL, "schedule line 1: no datagram 9, 1 sent\n"],
         status: 3,
@@ -219,7 +201,7 @@ const REPLAYED: [Row; 8] = [
     // A call that isn't acknowledged goes again at a tick.
     Row {
         words: REPLAY,
-        program: CALLS_WITH_5,
+        program: ONE_CALL,
         schedule: "tick m1\n",
         written: &[
             TITLE,
@@ -255,7 +237,7 @@ const REPLAYED: [Row; 8] = [
 const SHOWN: [Row; 4] = [
     Row {
         words: &["run", "p"],
-        program: CALLS_WITH_5,
+        program: ONE_CALL,
         schedule: "",
         written: &[HISTORY],
         status: 0,
@@ -263,7 +245,7 @@ const SHOWN: [Row; 4] = [
     },
     Row {
         words: &["stubs", "p"],
-        program: CALLS_WITH_5,
+        program: ONE_CALL,
         schedule: "",
         written: &[STUBS],
         status: 0,
@@ -279,7 +261,14 @@ const SHOWN: [Row; 4] = [
     },
     Row {
         words: &["stubs", "p"],
-        program: &[BEFORE_NUMBER, "5", "] INTO [gone];\n"],
+        program: &[
+            FORMAT_1,
+            COUNT,
+            COUNTER,
+            ROOT_BEFORE_NUMBER,
+            "5",
+            "] INTO [gone];\n",
+        ],
         schedule: "",
         written: &["program line 19: syntax\n"],
         status: 2,
@@ -290,7 +279,7 @@ const SHOWN: [Row; 4] = [
 const REFUSED: [Row; 4] = [
     Row {
         words: &[],
-        program: CALLS_WITH_5,
+        program: ONE_CALL,
         schedule: DELIVER_ALL,
         written: &["circus: bad command line\n"],
         status: 1,
@@ -298,7 +287,7 @@ const REFUSED: [Row; 4] = [
     },
     Row {
         words: &["replay", "absent", "s"],
-        program: CALLS_WITH_5,
+        program: ONE_CALL,
         schedule: DELIVER_ALL,
         written: &["shelf fault: absent\n"],
         status: 4,
@@ -306,7 +295,7 @@ const REFUSED: [Row; 4] = [
     },
     Row {
         words: &["settle", "p", "1"],
-        program: CALLS_WITH_5,
+        program: ONE_CALL,
         schedule: DELIVER_ALL,
         written: &[NOT_BUILT],
         status: 9,
@@ -324,8 +313,7 @@ const REFUSED: [Row; 4] = [
 
 // Runs the words of a row, and asserts what is left.
 fn leaves(rt: &impl Abort, alloc: Global, row: &Row) -> Result<(), NoMemory> {
-    let program = joined(alloc, row.program)?;
-    let files = files(alloc, program.as_str(), row.schedule)?;
+    let files = replay_files(alloc, row.program, row.schedule)?;
     let ended = perform(alloc, row.words, files, Failing::new(alloc))?;
     let written = joined(alloc, row.written)?;
     assert_eq!(rt; ended.text(), written.as_str());
@@ -361,11 +349,8 @@ fn what_cannot_be_done_is_told(rt: HostRuntime) -> Result<(), Fail> {
 #[test]
 fn a_sink_that_fails_keeps_what_stands_before(rt: HostRuntime) -> Result<(), Fail> {
     let alloc = rt.alloc();
-    let program = joined(alloc, CALLS_WITH_5)?;
-    let files = files(alloc, program.as_str(), DELIVER_ALL)?;
-    let mut failing = Failing::new(alloc);
-    failing.push(1)?;
-    let ended = perform(alloc, REPLAY, files, failing)?;
+    let files = replay_files(alloc, ONE_CALL, DELIVER_ALL)?;
+    let ended = perform(alloc, REPLAY, files, failing_at(alloc, Some(1))?)?;
     assert_eq!(rt; (ended.text(), ended.status), (TITLE, 5));
     Ok(())
 }

@@ -1,23 +1,8 @@
 //! A node served over a link in memory, and what it leaves.
-use circus_outside::{Arrival, Arrivals, Failing, Files, MemLink};
-use circus_value::{Message, NoMemory, Octets};
+use circus_outside::{Arrival, Arrivals, Failing, MemLink};
+use circus_value::{Message, NoMemory};
 use std::alloc::Global;
-use tests_command::{file, joined, perform_linked};
-
-/// What serving a node leaves.
-#[derive(Drop)]
-pub struct Left {
-    pub status: u8,
-    written: Octets,
-    pub link: MemLink,
-}
-
-impl Left {
-    /// What was written, as a text.
-    pub fn text(&self) -> &str {
-        str::from_utf8(self.written.as_slice()).unwrap_or("no text")
-    }
-}
+use tests_command::{Ended, failing_at, perform_linked, program_file};
 
 // A datagram from a port, by its digits.
 fn arrival(alloc: Global, port: u16, digits: &str) -> Result<Arrival, NoMemory> {
@@ -29,7 +14,7 @@ fn arrival(alloc: Global, port: u16, digits: &str) -> Result<Arrival, NoMemory> 
 }
 
 /// Serves a node of a program in parts for so many takes, over a link at which these datagrams arrive and of whose calls this
-/// one fails.
+/// one fails. Answers what the run leaves, and the link.
 pub fn served(
     alloc: Global,
     program: &[&str],
@@ -37,23 +22,14 @@ pub fn served(
     turns: &str,
     arriving: &[(u16, &str)],
     fails: Option<u64>,
-) -> Result<Left, NoMemory> {
-    let program = joined(alloc, program)?;
-    let mut files = Files::new(alloc);
-    files.push(file(alloc, "p", program.as_bytes())?)?;
+) -> Result<(Ended, MemLink), NoMemory> {
+    let files = program_file(alloc, program)?;
     let mut arrivals = Arrivals::new(alloc);
     for (port, digits) in arriving {
         arrivals.push(arrival(alloc, *port, digits)?)?;
     }
-    let mut failing = Failing::new(alloc);
-    if let Some(number) = fails {
-        failing.push(number)?;
-    }
-    let mut link = MemLink::new(alloc, arrivals, failing);
-    let ended = perform_linked(alloc, &["node", "p", node, turns], files, &mut link)?;
-    Ok(Left {
-        status: ended.status,
-        written: ended.into_written(),
-        link,
-    })
+    let mut link = MemLink::new(alloc, arrivals, failing_at(alloc, fails)?);
+    let words = ["node", "p", node, turns];
+    let ended = perform_linked(alloc, &words, files, Failing::new(alloc), &mut link)?;
+    Ok((ended, link))
 }

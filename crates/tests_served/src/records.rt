@@ -1,9 +1,9 @@
 // Records of nodes, whole.
 use crate::links::served;
+use circus_value::NoMemory;
+use std::alloc::Global;
 use std::test::Fail;
-use tests_command::programs::{
-    ADDS_ONCE, ADDS_TWICE, COUNT, COUNTER, FORMAT_1, MAIN_AT_M1, ONE_CALL,
-};
+use tests_parts::{ADDS_ONCE, COUNT, COUNTER, FORMAT_1, ONE_CALL, TWO_CALLS_WITH_A_SPARE};
 
 const TWO_SERVERS: &str = "\
 RINGMASTER ring PORT 9000;
@@ -12,13 +12,6 @@ TROUPE Main CALLS FIRST REPLIES WATCHDOG MEMBERS m1 PORT 9002;
 ";
 
 const WATCHED: &[&str] = &[FORMAT_1, COUNT, COUNTER, ADDS_ONCE, TWO_SERVERS];
-
-const A_SPARE: &str = "\
-RINGMASTER ring PORT 9000;
-TROUPE Counter CALLS FIRST REPLIES FIRST MEMBERS s1 PORT 9001 SPARES s2 PORT 9003;
-";
-
-const WITH_SPARE: &[&str] = &[FORMAT_1, COUNT, COUNTER, ADDS_TWICE, A_SPARE, MAIN_AT_M1];
 
 /// A node of a program in parts, the datagrams that arrive, how many takes there are, and what is written.
 struct Row {
@@ -31,7 +24,8 @@ struct Row {
     gives: usize,
 }
 
-const CALL: &str = "00000101000000000000000100010000000100000001000000000000000000010001000200000000000000000005";
+const CALL: &str =
+    "00000101000000000000000100010000000100000001000000000000000000010001000200000000000000000005";
 
 const ROWS: &[Row] = &[
     // Before any take.
@@ -155,7 +149,7 @@ now idle state [5]
     },
     // A spare is told to join; datagrams without bytes.
     Row {
-        program: WITH_SPARE,
+        program: TWO_CALLS_WITH_A_SPARE,
         node: "s2",
         turns: "3",
         arriving: &[(9003, ""), (9002, "")],
@@ -174,7 +168,7 @@ member s2 Counter live asking
     },
     // The Ringmaster's node.
     Row {
-        program: WITH_SPARE,
+        program: TWO_CALLS_WITH_A_SPARE,
         node: "ring",
         turns: "2",
         arriving: &[(9003, "0000010100000000000100010000000200000000")],
@@ -197,39 +191,51 @@ view Main 1 m1=0
 #[test]
 fn writes_records(rt: HostRuntime) -> Result<(), Fail> {
     for row in ROWS {
-        let left = served(rt.alloc(), row.program, row.node, row.turns, row.arriving, None)?;
-        assert_eq!(rt; left.text(), row.written);
-        assert_eq!(rt; left.status, 0);
-        assert_eq!(rt; left.link.bound().len(), 1);
-        assert_eq!(rt; left.link.given().len(), row.gives);
+        let (ended, link) = served(
+            rt.alloc(),
+            row.program,
+            row.node,
+            row.turns,
+            row.arriving,
+            None,
+        )?;
+        assert_eq!(rt; ended.text(), row.written);
+        assert_eq!(rt; ended.status, 0);
+        assert_eq!(rt; link.bound().len(), 1);
+        assert_eq!(rt; link.given().len(), row.gives);
     }
     Ok(())
 }
 
 #[test]
 fn knows_its_nodes(rt: HostRuntime) -> Result<(), Fail> {
-    let left = served(rt.alloc(), ONE_CALL, "x9", "2", &[], None)?;
-    assert_eq!(rt; left.text(), "program has no node x9\n");
-    assert_eq!(rt; left.status, 2);
-    assert_eq!(rt; left.link.bound().len(), 0);
-    let left = served(rt.alloc(), &["CIRCUS 1;\n"], "m1", "2", &[], None)?;
-    assert_eq!(rt; left.text(), "program line 2: syntax\n");
-    assert_eq!(rt; left.status, 2);
-    assert_eq!(rt; left.link.bound().len(), 0);
+    let (ended, link) = served(rt.alloc(), ONE_CALL, "x9", "2", &[], None)?;
+    assert_eq!(rt; ended.text(), "program has no node x9\n");
+    assert_eq!(rt; ended.status, 2);
+    assert_eq!(rt; link.bound().len(), 0);
+    let (ended, link) = served(rt.alloc(), &["CIRCUS 1;\n"], "m1", "2", &[], None)?;
+    assert_eq!(rt; ended.text(), "program line 2: syntax\n");
+    assert_eq!(rt; ended.status, 2);
+    assert_eq!(rt; link.bound().len(), 0);
     Ok(())
+}
+
+// The digits of so many bytes.
+fn digits(alloc: Global, bytes: usize) -> Result<String, NoMemory> {
+    let mut digits = String::new(alloc);
+    for _ in 0..bytes {
+        digits.push_str("ab")?;
+    }
+    Ok(digits)
 }
 
 #[test]
 fn cuts_long_datagrams(rt: HostRuntime) -> Result<(), Fail> {
     let alloc = rt.alloc();
-    let mut digits = String::new(alloc);
-    for _ in 0..2_100 {
-        digits.push_str("ab")?;
-    }
-    let left = served(alloc, ONE_CALL, "s1", "1", &[(9999, digits.as_str())], None)?;
-    let mut line = String::from_str(alloc, "foreign 9999 ")?;
-    line.push_str(&digits.as_str()[..4_096])?;
-    line.push_str("\n")?;
-    assert!(rt; left.text().contains(line.as_str()));
+    let sent = digits(alloc, 2_100)?;
+    let (ended, _) = served(alloc, ONE_CALL, "s1", "1", &[(9999, sent.as_str())], None)?;
+    let taken = digits(alloc, 2_048)?;
+    let line = format!(in alloc; "foreign 9999 {taken}\n")?;
+    assert!(rt; ended.text().contains(line.as_str()));
     Ok(())
 }

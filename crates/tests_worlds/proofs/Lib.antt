@@ -1,3 +1,2 @@
 pub mod Leading
-pub mod Named
 pub mod Replacing

@@ -1,4 +1,5 @@
-//! Programs in parts: the first line, interfaces, modules, a root, and where they run.
+//! Programs for tests, in parts: the first line, interfaces, modules, a root, and where they run.
+#![tactic(auto)]
 
 pub const FORMAT_1: &str = "CIRCUS 1;\n";
 
@@ -110,6 +111,59 @@ BEGIN
 END.
 ";
 
+// Two calls of a counter that has a spare.
+pub const TWO_CALLS_WITH_A_SPARE: &[&str] = &[
+    FORMAT_1,
+    COUNT,
+    COUNTER,
+    ADDS_TWICE,
+    COUNTER_WITH_A_SPARE,
+    MAIN_AT_M1,
+];
+
+const COUNTER_WITH_A_SPARE: &str = "\
+RINGMASTER ring PORT 9000;
+TROUPE Counter CALLS FIRST REPLIES FIRST MEMBERS s1 PORT 9001 SPARES s2 PORT 9003;
+";
+
+// A call of each module between, and two counters.
+pub const TWO_STEPS: &[&str] = &[
+    FORMAT_1,
+    COUNT,
+    STEP,
+    COUNTER,
+    STEP_A,
+    STEP_B,
+    STEPS_BOTH,
+    TWO_COUNTERS,
+];
+
+const TWO_COUNTERS: &str = "\
+RINGMASTER ring PORT 9000;
+TROUPE Counter CALLS FIRST REPLIES FIRST MEMBERS m1 PORT 9001, m2 PORT 9002;
+TROUPE A CALLS FIRST REPLIES FIRST MEMBERS a1 PORT 9003;
+TROUPE B CALLS FIRST REPLIES FIRST MEMBERS b1 PORT 9004;
+TROUPE Main CALLS FIRST REPLIES FIRST MEMBERS r1 PORT 9005;
+";
+
+// A call of one module between, which has a spare.
+pub const ONE_STEP_WITH_A_SPARE: &[&str] = &[
+    FORMAT_1,
+    COUNT,
+    STEP,
+    COUNTER,
+    STEP_A,
+    STEPS_ONCE,
+    A_WITH_A_SPARE,
+];
+
+const A_WITH_A_SPARE: &str = "\
+RINGMASTER ring PORT 9000;
+TROUPE Counter CALLS FIRST REPLIES FIRST MEMBERS m1 PORT 9001;
+TROUPE A CALLS FIRST REPLIES FIRST MEMBERS a1 PORT 9003 SPARES a2 PORT 9004;
+TROUPE Main CALLS FIRST REPLIES FIRST MEMBERS r1 PORT 9005;
+";
+
 // A long argument.
 pub const ROOM: &str = "\
 Room: PROGRAM 1 VERSION 1 =
@@ -138,14 +192,14 @@ TROUPE Store CALLS FIRST REPLIES FIRST MEMBERS s1 PORT 9001;
 TROUPE Main CALLS FIRST REPLIES FIRST MEMBERS m1 PORT 9002;
 ";
 
-// The longest argument.
+// A long argument of sequences.
 pub const BLOCK: &str = "\
 Room: PROGRAM 1 VERSION 1 =
 BEGIN
   Block: TYPE = ARRAY ";
 
 // Behind the number of its sequences.
-pub const BLOCK_FILLED: &str = " OF SEQUENCE 65535 OF CARDINAL;
+pub const BLOCK_MODULES: &str = " OF SEQUENCE 65535 OF CARDINAL;
   Put: PROCEDURE [b: Block] = 1;
 END.
 MODULE Store IMPLEMENTS Room;
@@ -157,11 +211,14 @@ END.
 ROOT Main IMPORTS Store;
 BEGIN
   MAIN VAR q: SEQUENCE 65535 OF CARDINAL; BEGIN
-    WHILE LENGTH(q) < 65535 DO APPEND 7 TO q; END;
-    CALL Store.Put [Store.Block#[q, q, q, q, q, q, q, q";
+    WHILE LENGTH(q) < ";
 
-// Behind the items.
-pub const BLOCK_CALLED: &str = "]];
+// Behind the number of the items of each.
+pub const BLOCK_CALL: &str = " DO APPEND 7 TO q; END;
+    CALL Store.Put [Store.Block#[";
+
+// Behind the sequences.
+pub const BLOCK_END: &str = "]];
     RETURN [];
   END;
 END.
