@@ -14,7 +14,7 @@ use Rattle.circus_resolve.specs.Faults.{Faults}
 use Rattle.circus_body.specs.Ending.{all_end}
 use Rattle.circus_idl.specs.declared.interface.Interface.{Interface}
 use Rattle.circus_lang.specs.ModuleTree.{ModuleTree, ProcedureOf}
-use Rattle.circus_check.specs.Limits.{most_modules}
+use Rattle.circus_limits.specs.Limits.{most_modules}
 use Rattle.circus_check.specs.Naming.{module_named}
 use Rattle.circus_check.specs.Reach.{shared_at}
 use Rattle.circus_check.specs.Faults.{is_later, name_faults, interface_faults, imports_faults, lacking, missing_faults, also_fields, also_variables, parameters_of, arguments_of, variables_faults, variables_parts, state_faults, interface, unknown, forms, offered, body_faults, unless_behind, procedure_faults, whole_procedure, procedures_faults, head_faults, module_faults, modules_faults, faults}

@@ -6,11 +6,9 @@ mod CleanModules
 mod CleanVariables
 pub mod Declared
 mod Endings
-mod ExpressionsInText
 mod FirstOfName
 mod Importing
 mod InOrder
-mod InText
 pub mod Interfaces
 mod KnownTables
 mod ModulesFound
@@ -25,14 +23,11 @@ mod Progressing
 mod Reaching
 mod ReadModules
 mod RegularShapes
-mod Rising
 pub mod SameLeast
 mod Standings
-mod StatementsInText
 mod Surrounded
 mod Tables
 mod Told
 pub mod TypedMore
-mod TypesInText
 mod VariablesFound
 mod WholeModules

@@ -13,7 +13,7 @@ use Rattle.circus_resolve.specs.Faults.{Faults}
 use Rattle.circus_idl.specs.declared.interface.Interface.{Interface}
 use Rattle.circus_lang.specs.ModuleTree.{ModuleTree}
 use Rattle.circus_check.specs.Faults.{module_faults, modules_faults, faults}
-use Rattle.circus_check.specs.Limits.{most_modules}
+use Rattle.circus_limits.specs.Limits.{most_modules}
 use Rattle.circus_check.specs.Meaning.{ModuleMeant, module_meant, modules_meant}
 use Rattle.circus_check.specs.Seen.Progress.{Found}
 use Rattle.circus_check.proofs.CleanModules.{module_clean}

@@ -29,7 +29,11 @@ use Rattle.circus_resolve.specs.Faults.{Faults, place_of_type}
 use Rattle.circus_resolve.specs.Scope.{Standing, a_type, no_module, no_type, unsaid}
 use Rattle.circus_body.specs.Ending.{all_end}
 use Rattle.circus_idl.specs.declared.interface.Interface.{Interface}
-use Rattle.circus_check.specs.Limits.{most_modules}
+use Rattle.circus_text_order.proofs.Rising.{Rise, rising_in, below, split, front, back, behind, unopened, Lies, first, lies_wider}
+use Rattle.circus_text_order.proofs.InText.{AreIn, joined, one, wider}
+use Rattle.circus_text_order.proofs.TypesInText.{named, all_named, type_in, type_begins}
+use Rattle.circus_text_order.proofs.StatementsInText.{listed_in}
+use Rattle.circus_limits.specs.Limits.{most_modules}
 use Rattle.circus_check.specs.Naming.{Import, good, forward, interface_called, module_named, import_of}
 use Rattle.circus_check.specs.Naming as naming
 use Rattle.circus_check.specs.Reach.{shared_at}
@@ -37,10 +41,6 @@ use Rattle.circus_check.specs.Scope.{place_unknown}
 use Rattle.circus_check.specs.Faults.{is_later, name_faults, interface_faults, import_fault, imports_faults, lacking, missing_faults, also_fields, also_variables, parameters_of, variables_faults, variables_parts, plain_faults, fields_of, state_faults, arguments_of, interface, standing, unknown, forms, offered, context, body_faults, procedure_faults, head_faults}
 use Rattle.circus_check.specs.Plain.{AreBefore, procedures_all, module_all, ProceduresInOrder, IsInOrder, ModulesInOrder, AreInOrder}
 use Rattle.circus_check.specs.TextOrder.{AreModulesOf}
-use Rattle.circus_check.proofs.Rising.{Rise, rising_in, below, split, front, back, behind, unopened, Lies, first, lies_wider}
-use Rattle.circus_check.proofs.InText.{AreIn, joined, one, wider}
-use Rattle.circus_check.proofs.TypesInText.{named, all_named, type_in, type_begins}
-use Rattle.circus_check.proofs.StatementsInText.{listed_in}
 
 -- ---- variables
 

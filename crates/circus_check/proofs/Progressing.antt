@@ -13,7 +13,7 @@ use Rattle.circus_check.specs.declared.checking.Progress.{Progress}
 use Rattle.circus_check.specs.declared.module.Program.{Program}
 use Rattle.circus_check.specs.declared.reach.Shared.{Shared}
 use Rattle.circus_check.specs.Faults.{module_faults, faults}
-use Rattle.circus_check.specs.Limits.{most_modules}
+use Rattle.circus_limits.specs.Limits.{most_modules}
 use Rattle.circus_check.specs.Meaning.{ModuleMeant, module_meant, modules_meant}
 use Rattle.circus_check.specs.Reach.{shared_at}
 use Rattle.circus_check.specs.Seen.Meant.{module_as}

@@ -11,7 +11,7 @@ use Rattle.circus_lang.specs.ModuleTree.{ModuleTree, ProcedureOf}
 use Rattle.circus_check.specs.declared.reach.Shared.{Shared as Found}
 use Rattle.circus_check.specs.Answer.{or_else, lacks, SharedBy, shared_by, shares}
 use Rattle.circus_check.specs.Faults.{lacking_of, lacking}
-use Rattle.circus_check.specs.Limits.{most_modules}
+use Rattle.circus_limits.specs.Limits.{most_modules}
 use Rattle.circus_check.specs.Reach.{Shared, shared_at}
 use Rattle.circus_check.specs.Scope.{implemented_by}
 use Rattle.circus_check.specs.Seen.Programs.{order_of}

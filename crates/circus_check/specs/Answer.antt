@@ -8,7 +8,7 @@ use Rattle.circus_idl.specs.declared.interface.Interface.{Interface}
 use Rattle.circus_lang.specs.ModuleTree.{ModuleTree}
 use Rattle.circus_check.specs.declared.check_fault.CheckFault.{CheckFault}
 use Rattle.circus_check.specs.declared.check_fault.CheckFault.TheVariants as answer
-use Rattle.circus_check.specs.Limits.{most_modules}
+use Rattle.circus_limits.specs.Limits.{most_modules}
 use Rattle.circus_check.specs.Reach.{Shared, shared_at}
 use Rattle.circus_check.specs.Scope.{implemented_by}
 use Rattle.circus_check.specs.Faults.{lacking}

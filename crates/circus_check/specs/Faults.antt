@@ -22,7 +22,7 @@ use Rattle.circus_body.specs.Faults.{all_faults}
 use Rattle.circus_idl.specs.declared.interface.Procedure.{Procedure}
 use Rattle.circus_idl.specs.declared.interface.Interface.{Interface}
 use Rattle.circus_lang.specs.ModuleTree.{ModuleTree, VariableTree, ProcedureOf}
-use Rattle.circus_check.specs.Limits.{most_modules}
+use Rattle.circus_limits.specs.Limits.{most_modules}
 use Rattle.circus_resolve.specs.Causes.{of_type}
 use Rattle.circus_check.specs.Naming.{Import, good, forward, no_module, interface_called, module_named, import_of}
 use Rattle.circus_check.specs.Reach.{shared_at}

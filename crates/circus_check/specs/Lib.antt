@@ -1,4 +1,3 @@
-pub mod Limits
 pub mod Naming
 pub mod Reach
 pub mod Scope

@@ -10,7 +10,7 @@ use Rattle.circus_resolve.specs.Causes.{rank}
 use Rattle.circus_resolve.specs.Faults.{Faults}
 use Rattle.circus_idl.specs.declared.interface.Interface.{Interface}
 use Rattle.circus_lang.specs.ModuleTree.{ModuleTree, ProcedureOf}
-use Rattle.circus_check.specs.Limits.{most_modules}
+use Rattle.circus_limits.specs.Limits.{most_modules}
 use Rattle.circus_check.specs.Faults.{faults, forms, variables_parts, procedure_faults, body_faults, head_faults}
 
 -- each of some faults stands before each of others

@@ -11,7 +11,7 @@ use Rattle.circus_checked.specs.WellTyped.{AreTyped}
 use Rattle.circus_idl.specs.declared.interface.DeclaredError.{DeclaredError}
 use Rattle.circus_idl.specs.declared.interface.Procedure.{Procedure}
 use Rattle.circus_idl.specs.declared.interface.Interface.{Interface}
-use Rattle.circus_check.specs.Limits.{most_modules}
+use Rattle.circus_limits.specs.Limits.{most_modules}
 use Rattle.circus_check.specs.Meaning.{BodyMeant, ModuleMeant}
 
 abbrev mutual

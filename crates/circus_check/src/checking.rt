@@ -8,7 +8,7 @@ ghost use Rattle.circus_resolve.specs.Causes.{rank};
 ghost use Rattle.circus_idl.specs.Obeys.{Obeys};
 ghost use Rattle.circus_lang.specs.ModuleTree.{module_of};
 ghost use Rattle.circus_check.specs.Answer.{answer_of, lacks, missing_at, shares as shares_at, shared_told};
-ghost use Rattle.circus_check.specs.Limits.{most_modules};
+ghost use Rattle.circus_limits.specs.Limits.{most_modules, most_interfaces};
 ghost use Rattle.circus_resolve.specs.Faults.{Faults};
 ghost use Rattle.circus_check.specs.Reach.{shared_at};
 ghost use Rattle.circus_check.specs.Faults.{faults, lacking, module_faults};
@@ -24,7 +24,7 @@ ghost use Rattle.circus_check.specs.WellFormed.{AreWellFormed};
 use crate::check_fault::CheckFault;
 use crate::checked::{Checked, Interfaces, Resolved, ResolvedModule};
 use crate::known::Known;
-use crate::module::{MOST_MODULES, Own, Program, check_head, lacking};
+use crate::module::{Own, Program, check_head, lacking};
 use crate::naming::{Import, Naming};
 use crate::procedures::check_procedures;
 use crate::reach::{Reach, Shared};
@@ -33,6 +33,7 @@ use circus_body::Offered;
 use circus_fault::{Best, Fault};
 use circus_idl::{Interface, Procedure};
 use circus_lang::{ModuleText, ModuleTexts};
+use circus_limits::MOST_MODULES;
 use circus_resolve::CheckCause;
 use circus_value::{Duplicate, Fields, Name, NoMemory, Numbers};
 use std::alloc::Global;
@@ -59,7 +60,7 @@ pub fn check(
     modules: ModuleTexts,
 ) -> Result<Checked, CheckFault>
     requires obey { AllByRecursion Obeys interfaces }
-    requires few { length interfaces ≤ 32 }
+    requires few { length interfaces ≤ most_interfaces }
     requires read { AllByRecursion IsRead (map module_of modules) }
 
     // No rule is broken, and each module is answered as what it means.
@@ -94,7 +95,7 @@ fn resolved(
     modules: &[ModuleText],
 ) -> Result<Resolved, CheckFault>
     requires obey { AllByRecursion Obeys interfaces.now }
-    requires few { length interfaces.now ≤ 32 }
+    requires few { length interfaces.now ≤ most_interfaces }
     ensures faultless { OnOk result (faults interfaces.now (map module_of modules.now) ≡ []) }
     ensures meant { IfOk result (λ made. map module_as made ≡ modules_meant interfaces.now (map module_of modules.now) 0 (map module_of modules.now)) }
     ensures err { IfErr result (λ e. (e ≡ CheckFault.NoMemory) ⊎ ((f : Fault CheckCause) × (least_from rank None (faults interfaces.now (map module_of modules.now)) ≡ Some f) × (e ≡ answer_of interfaces.now (map module_of modules.now) f))) }
@@ -112,7 +113,7 @@ fn resolved_among<'p, 's>(
     no_fields: &'s Fields,
 ) -> Result<Resolved, CheckFault>
     requires obey { AllByRecursion Obeys naming.now.interfaces.now }
-    requires few { length naming.now.interfaces.now ≤ 32 }
+    requires few { length naming.now.interfaces.now ≤ most_interfaces }
     requires none { no_fields.now ≡ [] }
     requires told { AreTold known.now naming.now.interfaces.now }
     ensures faultless { OnOk result (faults naming.now.interfaces.now (map module_of naming.now.modules.now) ≡ []) }
@@ -143,7 +144,7 @@ fn resolved_among<'p, 's>(
 // The modules up to the first that is one too many.
 fn resolved_modules(program: &Program<'_, '_>) -> Result<Progress, NoMemory>
     requires program { IsProgram program.now }
-    requires few { length (interfaces_in program.now) ≤ 32 }
+    requires few { length (interfaces_in program.now) ≤ most_interfaces }
     ensures found { IfOk result (λ progress. progress.best.fault ≡ least_from rank None (faults (interfaces_in program.now) (modules_in program.now))) }
     ensures shared { IfOk result (λ progress. AreShares progress.shares.items (modules_in program.now)) }
     ensures meant { IfOk result (λ progress. IfNone progress.best.fault (map module_as progress.made ≡ modules_meant (interfaces_in program.now) (modules_in program.now) 0 (modules_in program.now))) }
@@ -170,8 +171,8 @@ fn add_module<'s>(
     text: &'s ModuleText,
 ) -> Result<(), NoMemory>
     requires program { IsProgram program.now }
-    requires few { length (interfaces_in program.now) ≤ 32 }
-    requires number { number ≤ 32 }
+    requires few { length (interfaces_in program.now) ≤ most_interfaces }
+    requires number { number ≤ most_modules }
     requires its { slice_get program.now.naming.now.modules.now number ≡ Some text.now }
     requires before { IsProgress program.now progress.old number }
     ensures { OnOk result (IsProgress program.now progress.new (number + 1)) }
@@ -196,7 +197,7 @@ fn module<'p, 's>(
     shared: Option<Shared>,
 ) -> Result<ResolvedModule, NoMemory>
     requires program { IsProgram program.now }
-    requires few { length (interfaces_in program.now) ≤ 32 }
+    requires few { length (interfaces_in program.now) ≤ most_interfaces }
     requires own { IsOwn program.now own.now }
     requires shared { option_map shared_as shared ≡ shared_at (modules_in program.now) own.now.number }
     ensures found { OnOk result ((found : Faults) → best.old.fault ≡ least_from rank None found
@@ -221,7 +222,7 @@ fn module<'p, 's>(
 }
 
 fn interface_number(naming: &Naming<'_>, text: &ModuleText) -> Option<u16>
-    requires { length naming.now.interfaces.now ≤ 32 }
+    requires { length naming.now.interfaces.now ≤ most_interfaces }
     ensures { result ≡ interface_number naming.now.interfaces.now text.now.interface }
 {
     match &text.interface {
@@ -234,7 +235,7 @@ fn interface_number(naming: &Naming<'_>, text: &ModuleText) -> Option<u16>
 }
 
 fn import_numbers(program: &Program<'_, '_>, own: &Own<'_, '_>) -> Result<Numbers, NoMemory>
-    requires { own.now.number ≤ 32 }
+    requires { own.now.number ≤ most_modules }
     ensures { IfOk result (λ numbers. numbers ≡ import_numbers (modules_in program.now) own.now.number own.now.text.now.imports) }
 {
     let mut numbers = Numbers::new(program.alloc);

@@ -10,6 +10,7 @@ ghost use Rattle.circus_type.specs.Limits.{most_parts};
 ghost use Rattle.circus_type.specs.Scale.{written_out};
 ghost use Rattle.circus_resolve.specs.Causes.{rank};
 ghost use Rattle.circus_lang.specs.ModuleTree.{module_of, procedure_of, variable_of};
+ghost use Rattle.circus_limits.specs.Limits.{most_modules};
 ghost use Rattle.circus_check.specs.Naming.{interface_called, import_of};
 ghost use Rattle.circus_check.specs.Reach.{shared_at};
 ghost use Rattle.circus_check.specs.Scope.{implemented_by, import_named};
@@ -27,14 +28,12 @@ use circus_body::Offered;
 use circus_fault::{Best, Names};
 use circus_idl::Procedure;
 use circus_lang::{ModuleText, ProcedureText};
+use circus_limits::MOST_MODULES;
 use circus_resolve::CheckCause;
 use circus_syntax::Named;
 use circus_value::{Fields, NoMemory};
 use std::alloc::Global;
 use std::collections::BTreeMap;
-
-/// How many modules a program has at most (docs/LANGUAGE.md, "Rules for modules").
-pub const MOST_MODULES: usize = 32;
 
 /// What all modules of a program share.
 #[derive(Clone, Copy)]
@@ -139,7 +138,7 @@ impl<'p, 's> Program<'p, 's> {
     /// What the names of a module stand for.
     pub fn own(&self, number: usize, text: &'s ModuleText) -> Result<Own<'p, 's>, NoMemory>
         requires program { IsProgram self.now }
-        requires number { number ≤ 32 }
+        requires number { number ≤ most_modules }
         ensures own { IfOk result (IsOwn self.now) }
         ensures its { IfOk result (λ own. (own.number ≡ number) × (own.text.now ≡ text.now)) }
     {

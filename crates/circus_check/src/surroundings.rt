@@ -7,6 +7,7 @@ ghost use Rattle.circus_value.specs.ShapeTree.{field_trees};
 ghost use Rattle.circus_resolve.specs.Seen.Scoped.{variable_in};
 ghost use Rattle.circus_body.specs.Seen.Named.{called_or};
 ghost use Rattle.circus_lang.specs.ModuleTree.{module_of};
+ghost use Rattle.circus_limits.specs.Limits.{most_modules};
 ghost use Rattle.circus_check.specs.Naming.{import_of};
 ghost use Rattle.circus_check.specs.Scope.{variables_behind, places_behind, import_named, called_by};
 ghost use Rattle.circus_check.specs.Seen.Programs.{IsOwn, IsImported, modules_in, interfaces_in, types_in, types_had, types_now};
@@ -92,7 +93,7 @@ fn imported_types<'m, 's>(
 
 // The number of an import, or 0 where it isn't a good one.
 fn import_number(naming: &Naming<'_>, importing: usize, name: &Named) -> u16
-    requires { importing ≤ 32 }
+    requires { importing ≤ most_modules }
     ensures { result ≡ number_or (import_of (map module_of naming.now.modules.now) importing name.now) }
 {
     match naming.import(importing, name) {
@@ -104,7 +105,7 @@ fn import_number(naming: &Naming<'_>, importing: usize, name: &Named) -> u16
 
 // The module of an import, as statements call it.
 fn callee<'m, 's>(program: &Program<'_, 's>, own: &'m Own<'_, 's>, name: &Named) -> Callee<'m, 's>
-    requires few { own.now.number ≤ 32 }
+    requires few { own.now.number ≤ most_modules }
     requires imported { IsImported (interfaces_in program.now) (modules_in program.now) (Some (import_of (modules_in program.now) own.now.number name.now)) (interface_in own.now.types (Some name.now.name)) }
     ensures { called_or (Some result) ≡ called_by (interfaces_in program.now) (modules_in program.now) (Some (import_of (modules_in program.now) own.now.number name.now)) }
 {

@@ -28,7 +28,7 @@ use Rattle.circus_lang.specs.ModuleTree.{ModuleTree}
 use Rattle.circus_lang.specs.ModuleStanding.{module_stands_for}
 use Rattle.circus_lang.specs.WrittenModule.{WrittenModule, serving, root, IsModule}
 use Rattle.circus_file.specs.ProgramTree.{ProgramTree}
-use Rattle.circus_check.specs.Limits.{most_modules}
+use Rattle.circus_limits.specs.Limits.{most_modules, most_interfaces}
 use Rattle.circus_check.specs.Naming.{at_number, interface_named, interface_called}
 use Rattle.circus_check.specs.Scope.{implemented_by}
 use Rattle.circus_check.specs.Faults.{has_procedure, lacking_of, lacking}
@@ -44,7 +44,6 @@ use Rattle.circus_config.specs.declared.program_fault.ProgramCause.{ProgramCause
 use Rattle.circus_config.specs.declared.program_fault.ProgramCause.TheVariants.{Syntax, Deep, Repeated, TooMany}
 use Rattle.circus_config.specs.declared.program_fault.ProgramFault.{ProgramFault}
 use Rattle.circus_config.specs.declared.program_fault.ProgramFault.TheVariants.{NoMemory}
-use Rattle.circus_config.specs.Limits.{most_interfaces}
 use Rattle.circus_config.specs.Rank.{rank_of}
 use Rattle.circus_config.specs.Told.{interface_cause, interface_told, module_names, name_at, shared_cause, lacking_cause, module_cause, module_told, deployment_cause, deployment_told, names_in, names_told}
 use Rattle.circus_config.specs.Reading.{name_faults, interfaces_faults, read_faults}

@@ -18,7 +18,7 @@ use Rattle.circus_troupe.specs.declared.deployment_text.DeploymentText.{Deployme
 use Rattle.circus_troupe.specs.DeploymentSpelling.{spelling_deployment}
 use Rattle.circus_file.specs.WrittenProgram.{WrittenProgram, spelling_heading, spelling_program, IsProgram}
 use Rattle.circus_file.specs.ProgramTree.{program_stands_for}
-use Rattle.circus_check.specs.Limits.{most_modules}
+use Rattle.circus_limits.specs.Limits.{most_modules}
 use Rattle.circus_check.specs.Faults.{faults}
 use Rattle.circus_check.specs.Plain.{all}
 use Rattle.circus_check.specs.TextOrder.{AreModulesOf}

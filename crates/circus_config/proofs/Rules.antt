@@ -31,7 +31,7 @@ use Rattle.circus_idl.specs.Obeys.{Obeys}
 use Rattle.circus_idl.proofs.Obeying.{meant_obeys}
 use Rattle.circus_config.specs.declared.program_fault.ProgramCause.{ProgramCause}
 use Rattle.circus_config.specs.declared.program_fault.ProgramCause.TheVariants.{Syntax, Deep, TooMany}
-use Rattle.circus_config.specs.Limits.{most_interfaces}
+use Rattle.circus_limits.specs.Limits.{most_interfaces}
 use Rattle.circus_config.specs.Rank.{rank_of}
 use Rattle.circus_config.specs.Told.{interface_cause, interface_told}
 use Rattle.circus_config.specs.Reading.{name_faults, interfaces_faults}

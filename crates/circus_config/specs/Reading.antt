@@ -10,7 +10,7 @@ use Rattle.circus_fault.specs.Stopping.{stop_faults}
 use Rattle.circus_idl.specs.Faults.{Cut, cut_of, interface_faults}
 use Rattle.circus_config.specs.declared.program_fault.ProgramCause.{ProgramCause}
 use Rattle.circus_config.specs.declared.program_fault.ProgramCause.TheVariants.{Syntax, Deep, Repeated, TooMany}
-use Rattle.circus_config.specs.Limits.{most_interfaces}
+use Rattle.circus_limits.specs.Limits.{most_interfaces}
 use Rattle.circus_config.specs.Told.{interface_told}
 
 -- the name of an interface behind earlier ones, of which there are so many

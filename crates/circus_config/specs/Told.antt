@@ -8,7 +8,7 @@ use Rattle.circus_idl.specs.declared.interface.Interface.{Interface}
 use Rattle.circus_resolve.specs.declared.cause.CheckCause.{CheckCause}
 use Rattle.circus_resolve.specs.declared.cause.CheckCause.TheVariants as check
 use Rattle.circus_lang.specs.ModuleTree.{ModuleTree}
-use Rattle.circus_check.specs.Limits.{most_modules}
+use Rattle.circus_limits.specs.Limits.{most_modules}
 use Rattle.circus_check.specs.Answer.{lacks, shares, SharedBy}
 use Rattle.circus_deployment.specs.declared.cause.Cause as deployed
 use Rattle.circus_deployment.specs.declared.cause.Cause.TheVariants as deployment

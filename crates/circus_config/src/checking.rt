@@ -12,6 +12,7 @@ ghost use Rattle.circus_check.specs.Seen.Meant.{module_as};
 ghost use Rattle.circus_check.specs.WellFormed.{AreWellFormed};
 ghost use Rattle.circus_collate.specs.Deployment.{IsDeployment};
 ghost use Rattle.circus_deployment.specs.Meaning.{deployment_meant};
+ghost use Rattle.circus_limits.specs.Limits.{most_interfaces};
 ghost use Rattle.circus_config.specs.declared.program_fault.ProgramFault.{ProgramFault};
 ghost use Rattle.circus_config.specs.Told.{module_names};
 ghost use Rattle.circus_config.specs.Seen.{looked_faults};
@@ -54,7 +55,7 @@ pub fn plan(
 ) -> Result<Plan, ProgramFault>
     requires short { length bytes.now ≤ longest_text }
     requires obey { AllByRecursion Obeys interfaces }
-    requires few { length interfaces ≤ 32 }
+    requires few { length interfaces ≤ most_interfaces }
     requires read { AllByRecursion IsRead (program_of text).modules }
     requires written { IsDeploymentText text.deployment }
     ensures faultless { IfOk result (λ plan. looked_faults interfaces (program_of text).modules (length bytes.now) text.deployment ≡ []) }

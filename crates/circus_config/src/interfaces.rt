@@ -15,10 +15,10 @@ ghost use Rattle.circus_config.specs.Seen.{kept};
 
 use crate::ProgramCause;
 use crate::least::Least;
-use crate::limits::MOST_INTERFACES;
 use crate::told::of_interface;
 use circus_check::Interfaces;
 use circus_fault::Names;
+use circus_limits::MOST_INTERFACES;
 use circus_syntax::{InterfaceText, Stop};
 use circus_value::NoMemory;
 use std::alloc::Global;

@@ -2,15 +2,13 @@
 //!
 //! `read` goes over a file in three passes: its tokens, the interfaces with their rules in `interfaces`, and the modules and
 //! the deployment in `checking`. `told` says how each fault is told; `least` keeps the least of them, and refuses a file for
-//! it. `plan` has what a file means, `program_fault` why one is refused, `limits` how many interfaces there may be and how
-//! large values, and `laws` what holds of every file.
+//! it. `plan` has what a file means, `program_fault` why one is refused, and `laws` what holds of every file.
 #![tactic(auto)]
 
 mod checking;
 mod interfaces;
 mod laws;
 mod least;
-mod limits;
 mod plan;
 mod program_fault;
 mod read;

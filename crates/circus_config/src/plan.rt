@@ -1,10 +1,10 @@
 // What a program file means.
 ghost use Rattle.std.specs.Prelude.{◌≡◌};
-ghost use Rattle.circus_config.specs.Limits.{limit_of};
+ghost use Rattle.circus_limits.specs.Limits.{limit_of};
 
-use crate::limits::{FIRST_LIMIT, SECOND_LIMIT};
 use circus_check::Checked;
 use circus_collate::Deployment;
+use circus_limits::limit_of;
 use circus_value::{ListOf, Name};
 
 /// The names of modules, in their order.
@@ -23,10 +23,6 @@ impl Plan {
     pub fn limit(&self) -> u32
         ensures { result ≡ limit_of self.now.deployment.format }
     {
-        if self.deployment.format == 1 {
-            FIRST_LIMIT
-        } else {
-            SECOND_LIMIT
-        }
+        limit_of(self.deployment.format)
     }
 }

@@ -17,7 +17,7 @@ use Rattle.circus_troupe.specs.declared.deployment_text.WrittenKind.TheVariants.
 use Rattle.circus_troupe.specs.declared.deployment_text.HostText.{HostText}
 use Rattle.circus_troupe.specs.declared.deployment_text.TroupeText.{TroupeText}
 use Rattle.circus_deployment.specs.declared.cause.Cause.TheVariants.{Unknown, Repeated, OutOfRange, TooMany}
-use Rattle.circus_deployment.specs.Limits.{most_nodes, most_founders, most_needed, greatest_port}
+use Rattle.circus_limits.specs.Limits.{most_nodes, most_members, most_needed, greatest_port}
 use Rattle.circus_deployment.specs.Faults.{Before, node_faults, behind_node, nodes_faults, needed_faults, crowd_faults, troupe_faults, troupes_faults, lacking}
 
 abbrev pub host_name : HostText → List ℕ
@@ -93,7 +93,7 @@ pub record IsTroupeClean (modules : Known) (t : TroupeText) : Type 0 where
   pub known : is_none (modules t.name.name) ≡ false
   pub calls : IsNeeded t.calls.kind
   pub replies : IsNeeded t.replies.kind
-  pub few : length t.members ≤ most_founders
+  pub few : length t.members ≤ most_members
 
 pub record AreTroupes (modules earlier : Known) (ts : List TroupeText) : Type 0 where
   pub fresh : AllByRecursion (λ n. IsFresh earlier n) (map troupe_name ts)
@@ -106,7 +106,7 @@ troupes_clean modules earlier number (t ∷ ts) none =
     let (own, rest) = none_in (troupe_faults modules earlier t) (troupes_faults modules (also t.name.name number earlier) (number + 1) ts) none in
     let unknown_ones = faults_if (is_none (modules t.name.name)) t.name.at Unknown in
     let again_ones = faults_if (is_some (earlier t.name.name)) t.name.at Repeated in
-    let (four, many) = none_in (unknown_ones ++ again_ones ++ needed_faults t.calls.kind ++ needed_faults t.replies.kind) (crowd_faults (slice_get t.members most_founders)) own in
+    let (four, many) = none_in (unknown_ones ++ again_ones ++ needed_faults t.calls.kind ++ needed_faults t.replies.kind) (crowd_faults (slice_get t.members most_members)) own in
     let (three, replies) = none_in (unknown_ones ++ again_ones ++ needed_faults t.calls.kind) (needed_faults t.replies.kind) four in
     let (two, calls) = none_in (unknown_ones ++ again_ones) (needed_faults t.calls.kind) three in
     let (unknown, again) = none_in unknown_ones again_ones two in
@@ -120,7 +120,7 @@ troupes_clean modules earlier number (t ∷ ts) none =
           known = no_fault _ _ _ unknown;
           calls = needed_clean t.calls.kind calls;
           replies = needed_clean t.replies.kind replies;
-          few = none_past t.members most_founders (crowd_none (slice_get t.members most_founders) many);
+          few = none_past t.members most_members (crowd_none (slice_get t.members most_members) many);
         },
         others.clean,
       );

@@ -3,7 +3,7 @@ use Rattle.std.proofs.Common.{◌≡◌, ℕ, ◌+◌, ◌≤◌, List, [], ◌�
 use Rattle.std.specs.List.{AllByRecursion, flat_map}
 use Rattle.circus_troupe.specs.declared.deployment_text.TroupeText.{TroupeText}
 use Rattle.circus_deployment.specs.declared.meaning.NumberedTroupe.{NumberedTroupe}
-use Rattle.circus_deployment.specs.Limits.{most_nodes}
+use Rattle.circus_limits.specs.Limits.{most_nodes}
 use Rattle.circus_deployment.specs.Nodes.{Numbered, hosts_of, numbered_from}
 use Rattle.circus_deployment.specs.Seen.{numbered_as}
 

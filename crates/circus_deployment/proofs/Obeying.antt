@@ -32,7 +32,7 @@ use Rattle.circus_collate.specs.declared.kind.Kind.TheVariants.{Watchdog}
 use Rattle.circus_collate.specs.declared.deployment.Troupe.{Troupe}
 use Rattle.circus_collate.specs.declared.deployment.Host.{Host}
 use Rattle.circus_collate.specs.Deployment.{is_word, IsKind, IsTroupe, IsHost, IsDeployment}
-use Rattle.circus_deployment.specs.Limits.{most_nodes, greatest_port}
+use Rattle.circus_limits.specs.Limits.{most_nodes, greatest_port}
 use Rattle.circus_deployment.specs.Nodes.{spares_of, hosts_of, ringmaster_host, nodes_of, numbered_from, numbered, module_numbers, troupe_numbers}
 use Rattle.circus_deployment.specs.Nodes as nodes
 use Rattle.circus_deployment.specs.Faults.{no_nodes, nodes_faults, troupes_faults, lacking, deployment_faults}

@@ -13,7 +13,7 @@ use Rattle.circus_troupe.specs.declared.deployment_text.TroupeText.{TroupeText}
 use Rattle.circus_troupe.specs.declared.deployment_text.DeploymentText.{DeploymentText}
 use Rattle.circus_deployment.specs.declared.cause.Cause.{Cause}
 use Rattle.circus_deployment.specs.declared.cause.Cause.TheVariants.{Unknown, Repeated, OutOfRange, Missing, TooMany}
-use Rattle.circus_deployment.specs.Limits.{most_nodes, most_founders, most_needed, greatest_port}
+use Rattle.circus_limits.specs.Limits.{most_nodes, most_members, most_needed, greatest_port}
 use Rattle.circus_deployment.specs.Nodes.{nodes_of, module_numbers, troupe_numbers}
 
 abbrev pub Faults : Type 0
@@ -70,7 +70,7 @@ crowd_faults (Some h) = faults_if true h.name.at TooMany
 abbrev pub troupe_faults : Known → Known → TroupeText → Faults
 troupe_faults modules earlier t =
     faults_if (is_none (modules t.name.name)) t.name.at Unknown ++ faults_if (is_some (earlier t.name.name)) t.name.at Repeated
-    ++ needed_faults t.calls.kind ++ needed_faults t.replies.kind ++ crowd_faults (slice_get t.members most_founders)
+    ++ needed_faults t.calls.kind ++ needed_faults t.replies.kind ++ crowd_faults (slice_get t.members most_members)
 
 -- troupes from a number on
 abbrev pub troupes_faults : Known → Known → ℕ → List TroupeText → Faults

@@ -1,4 +1,3 @@
-pub mod Limits
 pub mod Rank
 pub mod Nodes
 pub mod Faults

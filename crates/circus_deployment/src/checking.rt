@@ -12,7 +12,7 @@ ghost use Rattle.circus_collate.specs.declared.deployment.Troupe.{Troupe};
 ghost use Rattle.circus_deployment.specs.declared.cause.Cause.{Cause};
 ghost use Rattle.circus_deployment.specs.declared.deployment_fault.DeploymentFault.{DeploymentFault};
 ghost use Rattle.circus_deployment.specs.Rank.{rank_of};
-ghost use Rattle.circus_deployment.specs.Limits.{most_nodes};
+ghost use Rattle.circus_limits.specs.Limits.{most_nodes};
 ghost use Rattle.circus_deployment.specs.Nodes.{nodes_of, module_numbers, troupe_numbers};
 ghost use Rattle.circus_deployment.specs.Faults.{lacking, deployment_faults};
 ghost use Rattle.circus_deployment.specs.Meaning.{deployment_meant};

@@ -2,13 +2,12 @@
 //! mean.
 //!
 //! `checking` goes over them: `nodes` finds the faults of nodes and `troupes` those of troupes, each of a `cause`;
-//! `deployment_fault` says what can be wrong, and `limits` has the limits. `meaning` makes the deployment.
+//! `deployment_fault` says what can be wrong. `meaning` makes the deployment.
 #![tactic(auto)]
 
 mod cause;
 mod checking;
 mod deployment_fault;
-mod limits;
 mod meaning;
 mod nodes;
 mod troupes;

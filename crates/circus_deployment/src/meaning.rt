@@ -3,7 +3,7 @@ ghost use Rattle.std.specs.Prelude.{◌≡◌, ℕ, ◌+◌, ◌≤◌, ◌<◌,
 ghost use Rattle.std.specs.List.{flat_map, AllByRecursion};
 ghost use Rattle.circus_fault.specs.Seen.Tables.{known_of};
 ghost use Rattle.circus_lang.specs.ModuleTree.{module_of};
-ghost use Rattle.circus_deployment.specs.Limits.{most_nodes};
+ghost use Rattle.circus_limits.specs.Limits.{most_nodes};
 ghost use Rattle.circus_deployment.specs.Nodes.{spares_of, hosts_of, numbered};
 ghost use Rattle.circus_deployment.specs.Meaning.{kind_of, host_meant, module_of_troupe, hosts_meant, nodes_meant, numbers_from, troupe_meant, troupe_at, troupes_meant};
 ghost use Rattle.circus_deployment.specs.declared.meaning.NumberedTroupe.{NumberedTroupe};

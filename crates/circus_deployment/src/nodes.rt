@@ -8,8 +8,8 @@ ghost use Rattle.circus_deployment.specs.Faults.{no_nodes, node_faults, behind_n
 ghost use Rattle.circus_deployment.specs.Seen.{before_of};
 
 use crate::cause::Cause;
-use crate::limits::{GREATEST_PORT, MOST_NODES};
 use circus_fault::{Best, Names, NumberSet};
+use circus_limits::{GREATEST_PORT, MOST_NODES};
 use circus_syntax::{Named, Numeral};
 use circus_troupe::{DeploymentText, HostText, HostTexts, TroupeText};
 use circus_value::NoMemory;

@@ -10,9 +10,9 @@ ghost use Rattle.circus_deployment.specs.Nodes.{module_numbers, troupe_numbers};
 ghost use Rattle.circus_deployment.specs.Faults.{needed_faults, crowd_faults, troupe_faults, troupes_faults, lacking};
 
 use crate::cause::Cause;
-use crate::limits::{MOST_FOUNDERS, MOST_NEEDED};
 use circus_fault::{Best, Names};
 use circus_lang::ModuleText;
+use circus_limits::{MOST_MEMBERS, MOST_NEEDED};
 use circus_syntax::Named;
 use circus_troupe::{HostText, KindText, TroupeText, WrittenKind};
 use circus_value::NoMemory;
@@ -52,7 +52,7 @@ fn troupe<'a>(
     best.note(earlier.is_some(), text.name.at, Cause::Repeated);
     needed(best, text.calls);
     needed(best, text.replies);
-    crowd(best, text.members.get(MOST_FOUNDERS));
+    crowd(best, text.members.get(MOST_MEMBERS));
     Ok(())
 }
 

@@ -11,7 +11,7 @@ use Rattle.circus_modules.specs.Behaviours.{program_of}
 use Rattle.circus_config.specs.declared.plan.Plan.{Plan}
 use Rattle.circus_config.specs.declared.program_fault.ProgramFault.{ProgramFault}
 use Rattle.circus_config.specs.declared.program_fault.ProgramFault.TheVariants.{Refused}
-use Rattle.circus_config.specs.Limits.{limit_of}
+use Rattle.circus_limits.specs.Limits.{limit_of}
 use Rattle.circus_config.specs.Program.{IsProgramOf, SaysSame}
 use Rattle.circus_config.proofs.OneAnswer.{plan_one, refusal_one, not_both}
 use Rattle.circus_ending.specs.declared.status.Status.TheVariants.{Done, BadProgram}

@@ -10,7 +10,7 @@ use Rattle.circus_stub.specs.StubsText.{stubs_text}
 use Rattle.circus_check.specs.Seen.Meant.{module_as}
 use Rattle.circus_modules.specs.Behaviours.{program_of}
 use Rattle.circus_config.specs.declared.plan.Plan.{Plan}
-use Rattle.circus_config.specs.Limits.{limit_of}
+use Rattle.circus_limits.specs.Limits.{limit_of}
 use Rattle.circus_config.specs.Program.{IsProgramOf}
 use Rattle.circus_ending.specs.declared.status.Status.TheVariants.{Done}
 use Rattle.circus_ending.specs.Ending.{Ending}

@@ -1,6 +1,6 @@
 -- The fields of a call message's header, and which calls there are.
 use Rattle.std.specs.Prelude.{ℕ, ◌<◌, ◌≤◌, Bool, true, false, List, [], ◌∷◌, ◌++◌, length, map, All}
-use Rattle.circus_header.specs.Limits.{most_modules, most_nodes, most_asks, longest_path}
+use Rattle.circus_limits.specs.Limits.{most_modules, most_nodes, most_asks, longest_path}
 use Rattle.circus_header.specs.Field.{Field, word, long}
 use Rattle.circus_header.specs.declared.call.CallHeader.{CallHeader}
 use Rattle.circus_header.specs.declared.call.Request.{Request}

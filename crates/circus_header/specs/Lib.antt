@@ -1,4 +1,3 @@
-pub mod Limits
 pub mod Field
 pub mod CallFields
 pub mod ReturnFields

@@ -1,6 +1,6 @@
 -- The fields of a return message's header, and which returns there are.
 use Rattle.std.specs.Prelude.{◌≤◌, Bool, true, false, List, [], ◌∷◌, length, map}
-use Rattle.circus_header.specs.Limits.{most_modules}
+use Rattle.circus_limits.specs.Limits.{most_modules}
 use Rattle.circus_header.specs.Field.{Field, word, long}
 use Rattle.circus_header.specs.CallFields.{IsIncarnation}
 use Rattle.circus_header.specs.declared.answer.ReturnHeader.{ReturnHeader}

@@ -10,23 +10,21 @@ ghost use Rattle.circus_header.specs.Reading.{calls, returns, IsAnswer};
 use crate::party::{Client, Server};
 use crate::{Call, CallHeader, HeaderFault, Request, ReturnHeader};
 use circus_external::{ByteSource, long_at, word_at};
+use circus_limits::{LONGEST_PATH, MOST_ASKS, MOST_MODULES, MOST_NODES};
 use circus_value::{Clock, ListOf, Parts, Path};
 use std::alloc::Global;
 
 /// The greatest number of a module or of a troupe.
-const MOST_MODULE: u16 = 31;
+const LAST_MODULE: u16 = MOST_MODULES as u16 - 1;
 
 /// The greatest number of a node.
-const MOST_NODE: u16 = 63;
+const LAST_NODE: u16 = MOST_NODES as u16 - 1;
 
 /// The greatest number of an ask.
-const MOST_ASK: u16 = 65_534;
-
-/// How many asks there are from a root down at most.
-const LONGEST_PATH: u16 = 31;
+const LAST_ASK: u16 = MOST_ASKS - 1;
 
 /// How many counts a clock has at most.
-const LONGEST_CLOCK: u16 = 32;
+const LONGEST_CLOCK: u16 = MOST_MODULES as u16;
 
 /// The header that a call message begins with, and how many bytes it has (docs/FORMATS.md, "Headers").
 ///
@@ -114,7 +112,7 @@ fn ask<S: ByteSource>(
 ) -> Result<(CallHeader, usize), HeaderFault>
     ensures { Reading (S.octets source.now) ask_layout at result }
 {
-    let (root, at) = word(source, at, 0, MOST_MODULE)?;
+    let (root, at) = word(source, at, 0, LAST_MODULE)?;
     let (path, at) = path(alloc, source, at)?;
     let (client, at) = client(source, at)?;
     let (server, at) = server(source, at)?;
@@ -136,7 +134,7 @@ fn ask<S: ByteSource>(
 fn client<S: ByteSource>(source: &S, at: usize) -> Result<(Client, usize), HeaderFault>
     ensures { Reading (S.octets source.now) client_layout at result }
 {
-    let (number, at) = word(source, at, 0, MOST_MODULE)?;
+    let (number, at) = word(source, at, 0, LAST_MODULE)?;
     let (incarnation, at) = long(source, at, 1, u32::MAX)?;
     let (index, at) = long(source, at, 0, u32::MAX)?;
     let client = Client {
@@ -150,7 +148,7 @@ fn client<S: ByteSource>(source: &S, at: usize) -> Result<(Client, usize), Heade
 fn server<S: ByteSource>(source: &S, at: usize) -> Result<(Server, usize), HeaderFault>
     ensures { Reading (S.octets source.now) server_layout at result }
 {
-    let (number, at) = word(source, at, 0, MOST_MODULE)?;
+    let (number, at) = word(source, at, 0, LAST_MODULE)?;
     let (incarnation, at) = long(source, at, 1, u32::MAX)?;
     let (procedure, at) = word(source, at, 0, u16::MAX)?;
     let server = Server {
@@ -165,7 +163,7 @@ fn request<S: ByteSource>(source: &S, at: usize) -> Result<(Request, usize), Hea
     ensures { Reading (S.octets source.now) request_layout at result }
 {
     let (request, at) = word(source, at, 0, 3)?;
-    let (troupe, at) = word(source, at, 0, MOST_MODULE)?;
+    let (troupe, at) = word(source, at, 0, LAST_MODULE)?;
     let (node, at) = word(source, at, 0, most_node(request))?;
     let (count, at) = long(source, at, 0, most_count(request))?;
     Ok((request_of(request, troupe, node, count), at))
@@ -175,7 +173,7 @@ fn request<S: ByteSource>(source: &S, at: usize) -> Result<(Request, usize), Hea
 fn most_node(request: u16) -> u16
     ensures { result ≡ layouts.most_node request }
 {
-    if request == 0 { 0 } else { MOST_NODE }
+    if request == 0 { 0 } else { LAST_NODE }
 }
 
 // The greatest number of the count's field in a request of this number.
@@ -199,7 +197,7 @@ fn request_of(request: u16, troupe: u16, node: u16, count: u32) -> Request
 fn fetch<S: ByteSource>(source: &S, at: usize) -> Result<(Call, usize), HeaderFault>
     ensures { Reading (S.octets source.now) fetch_layout at result }
 {
-    let (troupe, at) = word(source, at, 0, MOST_MODULE)?;
+    let (troupe, at) = word(source, at, 0, LAST_MODULE)?;
     let (incarnation, at) = long(source, at, 1, u32::MAX)?;
     Ok((Call::Fetch(troupe, incarnation), at))
 }
@@ -251,7 +249,7 @@ fn words<S: ByteSource>(
     let mut path = ListOf::new(alloc);
     let mut at = from;
     for _i in 0..count {
-        let (number, next) = word(source, at, 0, MOST_ASK)?;
+        let (number, next) = word(source, at, 0, LAST_ASK)?;
         path.push(number)?;
         at = next;
     }

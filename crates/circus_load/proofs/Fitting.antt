@@ -1,5 +1,5 @@
 -- Modules that agree, of which those are roots whose troupes are, are those of the troupes.
-use Rattle.std.proofs.Common.{◌≡◌, ℕ, zero, suc, ◌<◌, ◌≤◌, ◌⊎◌, inl, inr, Bool, true, false, List, [], ◌∷◌, length, map, Option, None, Some, refl, sym, ◌∙◌, ap, subst, arith}
+use Rattle.std.proofs.Common.{◌≡◌, ℕ, zero, suc, ◌<◌, ◌≤◌, Bool, true, false, List, [], ◌∷◌, length, map, Option, None, Some, refl, sym, ◌∙◌, ap, subst, arith}
 use Rattle.std.specs.Prelude.{Contains, find, slice_get, option_map, ◌==◌, if◌then◌else◌}
 use Rattle.std.specs.Option.{option_map_or}
 use Rattle.std.proofs.lemmas.Bool.Decides.{nat_tests}
@@ -10,15 +10,14 @@ use Rattle.circus_collate.specs.declared.deployment.Troupe.{Troupe}
 use Rattle.circus_collate.specs.declared.deployment.Deployment.{Deployment}
 use Rattle.circus_idl.specs.declared.interface.Interface.{Interface}
 use Rattle.circus_check.specs.Meaning.{ModuleMeant}
-use Rattle.circus_config.specs.Limits.{limit_of}
+use Rattle.circus_limits.specs.Limits.{limit_of}
 use Rattle.circus_model.specs.Agree.{Agree, IsAt}
 use Rattle.circus_model.specs.Behaviour.{Behaviour}
 use Rattle.circus_model.specs.Lawful.{import_of}
 use Rattle.circus_model.specs.declared.signature.Import.{Import}
 use Rattle.circus_modules.specs.Signatures.{implemented}
 use Rattle.circus_modules.specs.Behaviours.{behaviour_of, program_of}
-use Rattle.circus_node.specs.Accepting.{is_root}
-use Rattle.circus_node.specs.Bodies.{most_bytes}
+use Rattle.circus_accepting.specs.Accepting.{is_root}
 use Rattle.circus_node.specs.Booting.{IsOfTroupe, AreOfTroupes}
 
 -- what an image at a place is the image of
@@ -44,7 +43,7 @@ module _ (d : Deployment) (program : List Behaviour) where
   abbrev pub RootsAre : Type 0
   RootsAre = map (λ (t : Troupe). t.root) d.troupes ≡ map (λ (b : Behaviour). b.declared.root) program
 
-  module _ (roots : RootsAre) (agree : Agree program) (within : (place : ℕ) (b : Behaviour) → IsAt program place b → b.declared.limit ≤ most_bytes d.format) where
+  module _ (roots : RootsAre) (agree : Agree program) (within : (place : ℕ) (b : Behaviour) → IsAt program place b → b.declared.limit ≤ limit_of d.format) where
     root_kept : (place : ℕ) (b : Behaviour) → IsAt program place b → b.declared.root ≡ is_root d place
     root_kept place b at = by_troupe (slice_get d.troupes place) (
         sym (slice_get-map (λ (t : Troupe). t.root) d.troupes place)
@@ -86,14 +85,11 @@ roots_meant : (limit : ℕ) (interfaces : List Interface) (numbers : List (Optio
 roots_meant limit interfaces numbers [] = refl
 roots_meant limit interfaces numbers (m ∷ ms) = ap (λ roots. m.root ∷ roots) (roots_meant limit interfaces numbers ms)
 
-limits_meant : (limit most : ℕ) (interfaces : List Interface) (modules : List ModuleMeant) → limit ≤ most → (place : ℕ) (b : Behaviour) → IsAt (program_of limit interfaces modules) place b → b.declared.limit ≤ most
-limits_meant limit most interfaces modules few place b at =
+limits_meant : (limit : ℕ) (interfaces : List Interface) (modules : List ModuleMeant) (place : ℕ) (b : Behaviour) → IsAt (program_of limit interfaces modules) place b → b.declared.limit ≤ limit
+limits_meant limit interfaces modules place b at =
+    let same : limit ≤ limit = omega (arith) in
     let (m, there, is) = image_at (behaviour_of limit interfaces (implemented modules)) modules place b at in
-    subst (λ (x : Behaviour). x.declared.limit ≤ most) is few
-
-limits_agree : (format : ℕ) → (format ≡ 1) ⊎ (format ≡ 2) → limit_of format ≤ most_bytes format
-limits_agree format (inl is) = subst (λ f. limit_of f ≤ most_bytes f) (sym is) (omega (arith))
-limits_agree format (inr is) = subst (λ f. limit_of f ≤ most_bytes f) (sym is) (omega (arith))
+    subst (λ (x : Behaviour). x.declared.limit ≤ limit) is same
 
 declared_by : {M : Type 0} (behaviour : M → Behaviour) (modules : List M) → map (λ (b : Behaviour). b.declared) (map behaviour modules) ≡ map (λ m. (behaviour m).declared) modules
 declared_by behaviour [] = refl
@@ -101,13 +97,13 @@ declared_by behaviour (m ∷ ms) = ap (λ l. (behaviour m).declared ∷ l) (decl
 
 -- modules that do what is meant, where the roots of a plan are those of its troupes
 pub meant_of_troupes : {M : Type 0} (behaviour : M → Behaviour) (made : List M) (d : Deployment) (interfaces : List Interface) (modules : List ModuleMeant)
-    → (d.format ≡ 1) ⊎ (d.format ≡ 2) → map (λ (t : Troupe). t.root) d.troupes ≡ map (λ (m : ModuleMeant). m.root) modules
+    → map (λ (t : Troupe). t.root) d.troupes ≡ map (λ (m : ModuleMeant). m.root) modules
     → map behaviour made ≡ program_of (limit_of d.format) interfaces modules → Agree (map behaviour made)
     → AreOfTroupes d (map (λ m. (behaviour m).declared) made)
-meant_of_troupes behaviour made d interfaces modules format roots is agree =
+meant_of_troupes behaviour made d interfaces modules roots is agree =
     subst (AreOfTroupes d) (declared_by behaviour made)
     (of_troupes d (map behaviour made)
     (roots ∙ sym (roots_meant (limit_of d.format) interfaces (implemented modules) modules) ∙ ap (map (λ (b : Behaviour). b.declared.root)) (sym is))
     agree
-    (subst (λ p. (place : ℕ) (b : Behaviour) → IsAt p place b → b.declared.limit ≤ most_bytes d.format) (sym is)
-    (limits_meant (limit_of d.format) (most_bytes d.format) interfaces modules (limits_agree d.format format))))
+    (subst (λ p. (place : ℕ) (b : Behaviour) → IsAt p place b → b.declared.limit ≤ limit_of d.format) (sym is)
+    (limits_meant (limit_of d.format) interfaces modules)))

@@ -5,7 +5,7 @@ use Rattle.circus_model.specs.Behaviour.{Behaviour}
 use Rattle.circus_check.specs.Seen.Meant.{module_as}
 use Rattle.circus_modules.specs.Behaviours.{program_of}
 use Rattle.circus_config.specs.declared.plan.Plan.{Plan}
-use Rattle.circus_config.specs.Limits.{limit_of}
+use Rattle.circus_limits.specs.Limits.{limit_of}
 
 -- one for each troupe, in their order
 abbrev pub behaviours_in : Plan → List Behaviour

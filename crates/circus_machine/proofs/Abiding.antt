@@ -23,10 +23,10 @@ use Rattle.circus_checked.specs.StatementTree.{statement_trees}
 use Rattle.circus_machine.specs.Meaning.{Going, Flow, goes_on, ends, asks, most_steps, does_all}
 use Rattle.circus_machine.specs.Meaning as meaning
 use Rattle.circus_machine.specs.Bodies.{next_turn, flow_of}
-use Rattle.circus_machine.specs.Typed.{Hold}
+use Rattle.circus_evaluate.specs.Typed.{Hold}
 use Rattle.circus_machine.specs.Modules.{trees, IsBodyOf, AreBodiesOf, place_of, body_at, turn_by, behaves}
 use Rattle.circus_machine.specs.declared.body.Body.{Body}
-use Rattle.circus_machine.proofs.Alike.{some_same}
+use Rattle.circus_evaluate.proofs.Alike.{some_same}
 use Rattle.circus_machine.proofs.Fulfilling.{fit_hold, hold_length, hold_both, hold_front}
 use Rattle.circus_machine.proofs.Behaving.{Well, Ending, fails_ends, on, over, asking}
 use Rattle.circus_machine.proofs.Lawful.{Goes, does_all_safe}

@@ -5,10 +5,10 @@ use Rattle.circus_value.specs.ValueTree.{ValueTree, sequence, value_trees}
 use Rattle.circus_value.specs.ExternalSize.{external_size, size_of_values}
 use Rattle.circus_model.specs.declared.language_error.LanguageError.TheVariants.{TooLong}
 use Rattle.circus_checked.specs.declared.kinds.NumberKind.{NumberKind}
-use Rattle.circus_machine.specs.Got.{Got, and_then}
+use Rattle.circus_evaluate.specs.Got.{Got, and_then}
 use Rattle.circus_machine.specs.Storing.{as_item, with_more, appended_over}
-use Rattle.circus_machine.specs.Seen.Putting.{with_last}
-use Rattle.circus_machine.proofs.Items.{count_of_trees, list_of_trees}
+use Rattle.circus_evaluate.specs.Putting.{with_last}
+use Rattle.circus_evaluate.proofs.Items.{count_of_trees, list_of_trees}
 
 size_append : (ts : List ValueTree) (t : ValueTree) → size_of_values (ts ++ t ∷ []) ≡ size_of_values ts + external_size t
 size_append [] t = omega arith

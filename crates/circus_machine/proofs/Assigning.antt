@@ -14,14 +14,15 @@ use Rattle.circus_checked.specs.declared.kinds.NumberKind.TheVariants as kind
 use Rattle.circus_checked.specs.declared.expression.CheckedPlace.{CheckedPlace}
 use Rattle.circus_checked.specs.ExpressionTree.{suffix_trees}
 use Rattle.circus_checked.specs.Sorts.{sort_of, kind_of, shape_of, Holds, at}
-use Rattle.circus_machine.specs.Got.{Got, number, whole, Raising, and_then, as_kind, number_of}
-use Rattle.circus_machine.specs.Parts.{list_of, part_at, with_part}
-use Rattle.circus_machine.specs.Evaluating.{steps_of}
+use Rattle.circus_evaluate.specs.Got.{Got, number, whole, Raising, and_then, as_kind, number_of}
+use Rattle.circus_evaluate.specs.Parts.{list_of, part_at, with_part}
+use Rattle.circus_evaluate.specs.Evaluating.{steps_of}
 use Rattle.circus_machine.specs.Storing.{stored_over, as_item, with_more, appended_over, kept, stored}
-use Rattle.circus_machine.specs.Typed.{IsGot, Hold, AreWell}
-use Rattle.circus_machine.proofs.Alike.{some_same}
-use Rattle.circus_machine.proofs.Fitting.{then_ok, then_any, if_ok, StepsTo, steps_fit, put_fits}
-use Rattle.circus_machine.proofs.Sound.{kind_fits, value_fits, hold_get, steps_are}
+use Rattle.circus_evaluate.specs.Typed.{IsGot, Hold}
+use Rattle.circus_machine.specs.Typed.{AreWell}
+use Rattle.circus_evaluate.proofs.Alike.{some_same}
+use Rattle.circus_evaluate.proofs.Fitting.{then_ok, then_any, if_ok, StepsTo, steps_fit, put_fits}
+use Rattle.circus_evaluate.proofs.Sound.{kind_fits, value_fits, hold_get, steps_are}
 
 hold_set : (shapes : List ShapeTree) (values : List ValueTree) (n : ℕ) (s : ShapeTree) (t : ValueTree) → Hold shapes values → slice_get shapes n ≡ Some s → IsTrue (fits s t) → Hold shapes (slice_set values n t)
 hold_set [] values n s t hold is fit = cc

@@ -8,12 +8,12 @@ use Rattle.circus_value.specs.declared.outcome.Outcome.{Outcome}
 use Rattle.circus_value.specs.declared.outcome.Outcome.TheVariants.{Raised}
 use Rattle.circus_model.specs.Lawful.{outcome_fits, is_reported, values_of, import_takes, import_answers}
 use Rattle.circus_model.specs.LanguageError.{number_of, is_language_error}
-use Rattle.circus_model.specs.Limits.{most_asks}
+use Rattle.circus_limits.specs.Limits.{most_asks}
 use Rattle.circus_model.specs.declared.language_error.LanguageError.{LanguageError}
 use Rattle.circus_model.specs.declared.language_error.LanguageError.TheVariants.{Range, Index, Zero, TooLong, StepLimit, CallLimit, ThreadSpent, WrongChoice, Unhandled}
 use Rattle.circus_model.specs.declared.signature.ProcedureShape.{ProcedureShape}
 use Rattle.circus_model.specs.declared.signature.Signature.{Signature}
-use Rattle.circus_machine.specs.Got.{Raising}
+use Rattle.circus_evaluate.specs.Got.{Raising}
 use Rattle.circus_machine.specs.Meaning.{Going, Flow, goes_on, ends, asks, then_does, raising, fails, stepped}
 use Rattle.circus_machine.specs.Typed.{AreWell}
 

@@ -6,10 +6,10 @@ use Rattle.circus_value.specs.declared.outcome.Outcome.TheVariants.{Returned, Ra
 use Rattle.circus_checked.specs.declared.expression.CheckedPlace.{CheckedPlace}
 use Rattle.circus_checked.specs.ExpressionTree.{ExpressionTree}
 use Rattle.circus_checked.specs.StatementTree.{StatementTree, StatementTrees, HandlerTrees, assign, branch, repeat, append, call, give, raise, no_statements, more_statements, no_handlers, more_handlers}
-use Rattle.circus_model.specs.Limits.{most_asks}
+use Rattle.circus_limits.specs.Limits.{most_asks}
 use Rattle.circus_model.specs.LanguageError.{is_language_error}
-use Rattle.circus_machine.specs.Got.{Got, Raising, got_of, truth_of}
-use Rattle.circus_machine.specs.Evaluating.{evaluate}
+use Rattle.circus_evaluate.specs.Got.{Got, Raising, got_of, truth_of}
+use Rattle.circus_evaluate.specs.Evaluating.{evaluate}
 use Rattle.circus_machine.specs.Storing.{stored_over, appended_over, stored}
 use Rattle.circus_machine.specs.Meaning.{Going, Flow, goes_on, ends, asks, then_does, raising, step_of, stepped, with_variables, leaving, assigned, filled, tested, left_with, takes, called, turns, answered, unhandled, catches, does, does_all, handled}
 

@@ -2,7 +2,7 @@
 use Rattle.std.proofs.Common.{◌≡◌, ℕ, List, Option, Some, None, slice_get, sym, subst, ◌∙◌}
 use Rattle.circus_machine.specs.Meaning.{Going, Flow, goes_on}
 use Rattle.circus_machine.specs.Seen.Code.{Act, act, Comes, Follows, behind_all, further, ended, asked}
-use Rattle.circus_machine.proofs.Alike.{some_same}
+use Rattle.circus_evaluate.proofs.Alike.{some_same}
 
 none_some : {X : Type 0} (a : Act) (o : Option Act) → o ≡ None → o ≡ Some a → X
 none_some a o none some = cc

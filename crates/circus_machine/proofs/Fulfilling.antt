@@ -17,14 +17,14 @@ use Rattle.circus_model.specs.declared.signature.ProcedureShape.{ProcedureShape}
 use Rattle.circus_checked.specs.ExpressionTree.{ExpressionTree, expression_trees}
 use Rattle.circus_checked.specs.Sorts.{of}
 use Rattle.circus_checked.specs.WellTyped.{EachGives, no_values, more_values}
-use Rattle.circus_machine.specs.Got.{and_then, value_of}
-use Rattle.circus_machine.specs.Evaluating.{evaluate, evaluate_all}
+use Rattle.circus_evaluate.specs.Got.{and_then, value_of}
+use Rattle.circus_evaluate.specs.Evaluating.{evaluate, evaluate_all}
 use Rattle.circus_machine.specs.Meaning.{leaving}
-use Rattle.circus_machine.specs.Typed.{Hold}
+use Rattle.circus_evaluate.specs.Typed.{Hold}
 use Rattle.circus_machine.specs.Modules.{trees, IsImported, Raises}
-use Rattle.circus_machine.proofs.Alike.{some_same}
-use Rattle.circus_machine.proofs.Fitting.{then_ok, if_ok}
-use Rattle.circus_machine.proofs.Sound.{value_given, gives}
+use Rattle.circus_evaluate.proofs.Alike.{some_same}
+use Rattle.circus_evaluate.proofs.Fitting.{then_ok, if_ok}
+use Rattle.circus_evaluate.proofs.Sound.{value_given, gives}
 
 -- ---- values of the shapes of a list
 

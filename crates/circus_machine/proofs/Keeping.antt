@@ -12,20 +12,20 @@ use Rattle.circus_model.specs.declared.language_error.LanguageError.{LanguageErr
 use Rattle.circus_model.specs.declared.language_error.LanguageError.TheVariants.{TooLong, WrongChoice}
 use Rattle.circus_checked.specs.declared.expression.CheckedPlace.{CheckedPlace}
 use Rattle.circus_checked.specs.ExpressionTree.{suffix_trees}
-use Rattle.circus_machine.specs.Got.{Raising, and_then}
-use Rattle.circus_machine.specs.Parts.{Step, part_at, with_part}
-use Rattle.circus_machine.specs.Evaluating.{steps_of}
+use Rattle.circus_evaluate.specs.Got.{Raising, and_then}
+use Rattle.circus_evaluate.specs.Parts.{Step, part_at, with_part}
+use Rattle.circus_evaluate.specs.Evaluating.{steps_of}
 use Rattle.circus_machine.specs.Storing.{kept, stored}
-use Rattle.circus_machine.specs.Seen.Changing.{AreSized, Resized, Changed, grows_by, shrinks_by}
-use Rattle.circus_machine.specs.Seen.Putting.{put_over, with_put_item, item_put}
-use Rattle.circus_machine.specs.declared.part.Put.{Put}
-use Rattle.circus_machine.specs.declared.part.Put.TheVariants.{Whole, More}
+use Rattle.circus_machine.specs.Seen.Changing.{AreSized, Resized, Changed}
+use Rattle.circus_evaluate.specs.Putting.{put_over, with_put_item, item_put, grows_by, shrinks_by}
+use Rattle.circus_evaluate.specs.declared.part.Put.{Put}
+use Rattle.circus_evaluate.specs.declared.part.Put.TheVariants.{Whole, More}
 use Rattle.circus_machine.specs.declared.store.Sizes.{Sizes}
-use Rattle.circus_machine.specs.declared.got.Stop.{Stop}
-use Rattle.circus_machine.specs.declared.got.Stop.TheVariants.{Raises}
+use Rattle.circus_evaluate.specs.declared.got.Stop.{Stop}
+use Rattle.circus_evaluate.specs.declared.got.Stop.TheVariants.{Raises}
 use Rattle.circus_machine.specs.declared.store.Variables.{Variables}
-use Rattle.circus_machine.proofs.Alike.{some_same, handed_on}
-use Rattle.circus_machine.proofs.PartSizes.{state_size, found, part_within, put_is, put_size}
+use Rattle.circus_evaluate.proofs.Alike.{some_same, handed_on}
+use Rattle.circus_evaluate.proofs.PartSizes.{state_size, found, part_within, put_is, put_size}
 
 -- ---- what is kept
 

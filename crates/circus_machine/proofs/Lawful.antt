@@ -10,7 +10,7 @@ use Rattle.circus_value.specs.declared.outcome.Outcome.{Outcome}
 use Rattle.circus_value.specs.declared.outcome.Outcome.TheVariants.{Returned, Raised}
 use Rattle.circus_model.specs.Lawful.{outcome_fits, is_reported, is_raised_by_language}
 use Rattle.circus_model.specs.LanguageError.{is_language_error}
-use Rattle.circus_model.specs.Limits.{most_asks}
+use Rattle.circus_limits.specs.Limits.{most_asks}
 use Rattle.circus_model.specs.declared.language_error.LanguageError.TheVariants.{StepLimit, CallLimit, Unhandled}
 use Rattle.circus_model.specs.declared.signature.ProcedureShape.{ProcedureShape}
 use Rattle.circus_model.specs.declared.signature.Signature.{Signature}
@@ -20,13 +20,13 @@ use Rattle.circus_checked.specs.StatementTree.{StatementTree, StatementTrees, Ha
 use Rattle.circus_checked.specs.Sorts.{a_truth, sort_of, kind_of, Has, Holds}
 use Rattle.circus_checked.specs.WellTyped.{EachGives, EachTakes, Take, IsTyped, AreTyped, AreHandlers}
 use Rattle.circus_checked.specs.WellTyped as w
-use Rattle.circus_machine.specs.Got.{Got, Raising, got_of, truth_of}
-use Rattle.circus_machine.specs.Evaluating.{evaluate}
+use Rattle.circus_evaluate.specs.Got.{Got, Raising, got_of, truth_of}
+use Rattle.circus_evaluate.specs.Evaluating.{evaluate}
 use Rattle.circus_machine.specs.Storing.{stored_over, appended_over, stored}
 use Rattle.circus_machine.specs.Meaning.{Going, Flow, goes_on, ends, then_does, raising, leaving, assigned, stores, filled, tested, left_with, takes, called, turns, answered, does, does_all, handled}
-use Rattle.circus_machine.specs.Typed.{IsGot, Hold}
+use Rattle.circus_evaluate.specs.Typed.{IsGot, Hold}
 use Rattle.circus_machine.specs.Modules.{trees, IsImported, Takes, Raises, Reports}
-use Rattle.circus_machine.proofs.Sound.{gives, got_is}
+use Rattle.circus_evaluate.proofs.Sound.{gives, got_is}
 use Rattle.circus_machine.proofs.Assigning.{stored_well, over_fits, append_fits}
 use Rattle.circus_machine.proofs.Fulfilling.{hold_fit, fit_hold, leaving_given, imported_takes, imported_answers, same_imported, raises_reported, reported_holds, language_alone}
 use Rattle.circus_machine.proofs.Behaving.{going_with, Well, raised_ends, Behaves, on, over, asking, failing, raised, in_step, behind}

@@ -1,5 +1,4 @@
 mod Abiding
-mod Alike
 mod Appending
 mod Assigning
 mod Beginning
@@ -7,17 +6,10 @@ mod Behaving
 mod Compiling
 mod CompilingSteps
 mod Emitting
-mod Fitting
 mod Flows
 mod Following
 mod Fulfilling
-mod Items
 mod Keeping
 mod Lawful
 mod Moving
-mod PartSizes
-mod PutLemmas
-mod Sound
-mod Stepping
-mod Stopping
 mod Turning

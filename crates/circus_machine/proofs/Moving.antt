@@ -6,16 +6,16 @@ use Rattle.circus_value.specs.ValueTree.{ValueTree}
 use Rattle.circus_value.specs.declared.outcome.Outcome.{Outcome}
 use Rattle.circus_model.specs.declared.language_error.LanguageError.{LanguageError}
 use Rattle.circus_checked.specs.declared.expression.CheckedPlace.{CheckedPlace}
-use Rattle.circus_machine.specs.Got.{Got, Raising, got_of}
+use Rattle.circus_evaluate.specs.Got.{Got, Raising, got_of}
 use Rattle.circus_machine.specs.Storing.{stored, stored_over}
 use Rattle.circus_machine.specs.Meaning.{Going, Flow, goes_on, then_does, fails, raising, with_variables, assigned, filled}
 use Rattle.circus_machine.specs.Seen.Changing.{Changed}
 use Rattle.circus_machine.specs.Seen.Running.{going, Keeps, Does, nothing}
-use Rattle.circus_machine.specs.declared.got.Stop.{Stop}
-use Rattle.circus_machine.specs.declared.got.Stop.TheVariants.{Raises, NoMemory}
+use Rattle.circus_evaluate.specs.declared.got.Stop.{Stop}
+use Rattle.circus_evaluate.specs.declared.got.Stop.TheVariants.{Raises, NoMemory}
 use Rattle.circus_machine.specs.declared.store.Variables.{Variables}
 use Rattle.circus_machine.specs.declared.execution.Execution.{Execution}
-use Rattle.circus_machine.proofs.Alike.{some_same, handed_on}
+use Rattle.circus_evaluate.proofs.Alike.{some_same, handed_on}
 
 pub then_goes : {X Y : Type 0} (f : Flow X) (x : X) (g : X → Flow Y) → f ≡ goes_on x → then_does f g ≡ g x
 then_goes f x g is = ap (λ r. then_does r g) is

@@ -7,14 +7,14 @@ use Rattle.circus_value.specs.declared.outcome.Outcome.TheVariants.{Returned, Ra
 use Rattle.circus_model.specs.declared.language_error.LanguageError.{LanguageError}
 use Rattle.circus_model.specs.declared.language_error.LanguageError.TheVariants.{TooLong, StepLimit, CallLimit, Unhandled}
 use Rattle.circus_model.specs.LanguageError as language
-use Rattle.circus_model.specs.Limits.{most_asks}
+use Rattle.circus_limits.specs.Limits.{most_asks}
 use Rattle.circus_model.specs.NextTurn.{NextTurn}
 use Rattle.circus_model.specs.NextTurn as next_turn
 use Rattle.circus_checked.specs.declared.expression.CheckedPlace.{CheckedPlace}
 use Rattle.circus_checked.specs.ExpressionTree.{ExpressionTree, expression_trees}
 use Rattle.circus_checked.specs.StatementTree.{StatementTree, StatementTrees, HandlerTrees, assign, branch, repeat, append, call, give, raise, no_statements, more_statements, no_handlers, more_handlers}
-use Rattle.circus_machine.specs.Got.{Got, Raising, and_then, got_of, truth_of}
-use Rattle.circus_machine.specs.Evaluating.{evaluate, evaluate_all}
+use Rattle.circus_evaluate.specs.Got.{Got, Raising, and_then, got_of, truth_of}
+use Rattle.circus_evaluate.specs.Evaluating.{evaluate, evaluate_all}
 use Rattle.circus_machine.specs.Storing.{stored_over, appended_over, stored}
 
 -- the steps that an execution has

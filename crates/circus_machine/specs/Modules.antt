@@ -18,7 +18,7 @@ use Rattle.circus_model.specs.NextTurn.{NextTurn, ends}
 use Rattle.circus_checked.specs.StatementTree.{statement_trees}
 use Rattle.circus_checked.specs.WellTyped.{AreTyped}
 use Rattle.circus_machine.specs.Bodies.{next_turn}
-use Rattle.circus_machine.specs.Typed.{Hold}
+use Rattle.circus_evaluate.specs.Typed.{Hold}
 use Rattle.circus_machine.specs.declared.body.Body.{Body}
 
 abbrev pub trees : List Shape → List ShapeTree

@@ -1,7 +1,4 @@
 -- How code is seen. No public call cites these.
-pub mod Given
-pub mod Steps
-pub mod Putting
 pub mod Code
 pub mod Changing
 pub mod Instructions

@@ -8,9 +8,9 @@ use Rattle.circus_checked.specs.declared.kinds.NumberKind.{NumberKind}
 use Rattle.circus_checked.specs.declared.kinds.NumberKind.TheVariants as kind
 use Rattle.circus_checked.specs.declared.expression.CheckedPlace.{CheckedPlace}
 use Rattle.circus_checked.specs.ExpressionTree.{suffix_trees}
-use Rattle.circus_machine.specs.Got.{Got, number, whole, Raising, and_then, as_kind, number_of, value_of}
-use Rattle.circus_machine.specs.Parts.{part_at, with_part, list_of}
-use Rattle.circus_machine.specs.Evaluating.{steps_of}
+use Rattle.circus_evaluate.specs.Got.{Got, number, whole, Raising, and_then, as_kind, number_of, value_of}
+use Rattle.circus_evaluate.specs.Parts.{part_at, with_part, list_of}
+use Rattle.circus_evaluate.specs.Evaluating.{steps_of}
 
 -- what is stored over an old value: a number becomes one of the old one's kind
 abbrev pub stored_over : Got → ValueTree → Raising ValueTree

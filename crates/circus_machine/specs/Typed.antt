@@ -1,25 +1,9 @@
--- What expressions of a sort may give, and variables that hold values of their shapes.
-use Rattle.std.specs.Prelude.{ℕ, ◌≤◌, IsTrue, List, [], ◌∷◌, take}
+-- Variables that hold values of their shapes, with a state within the limit.
+use Rattle.std.specs.Prelude.{ℕ, ◌≤◌, List, take}
 use Rattle.circus_value.specs.ShapeTree.{ShapeTree}
 use Rattle.circus_value.specs.ValueTree.{ValueTree}
-use Rattle.circus_value.specs.Fits.{fits}
 use Rattle.circus_value.specs.ExternalSize.{size_of_values}
-use Rattle.circus_checked.specs.Sorts.{Sort, a_number, of}
-use Rattle.circus_machine.specs.Got.{Got, number, whole}
-
--- what an expression of a sort may give
-abbrev pub IsGot : Sort → Got → Type 0
-IsGot a_number (number z) = Unit {0}
-IsGot a_number (whole t) = ⊥
-IsGot (of s) (number z) = ⊥
-IsGot (of s) (whole t) = IsTrue (fits s t)
-
--- values of these shapes, one of each, in order
-abbrev pub Hold : List ShapeTree → List ValueTree → Type 0
-Hold [] [] = Unit {0}
-Hold [] (t ∷ ts) = ⊥
-Hold (s ∷ shapes) [] = ⊥
-Hold (s ∷ shapes) (t ∷ ts) = IsTrue (fits s t) × Hold shapes ts
+use Rattle.circus_evaluate.specs.Typed.{Hold}
 
 -- variables of these shapes, of which the first so many are a state within the limit
 pub record AreWell (limit states : ℕ) (shapes : List ShapeTree) (variables : List ValueTree) : Type 0 where

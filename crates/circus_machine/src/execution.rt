@@ -10,10 +10,9 @@ ghost use Rattle.circus_machine.specs.Seen.Instructions.{act_of, catch_of};
 ghost use Rattle.circus_machine.specs.Seen.Running.{Does, HasAsked, Moves, GoesAhead, nothing, beside};
 
 use crate::code::{Asking, Catch, Instruction};
-use crate::evaluate::{evaluate_all, given_in, truth_in};
-use crate::got::{Got, Stop};
 use crate::store::{Change, Variables};
 use circus_checked::{CheckedExpression, CheckedExpressions, CheckedPlace};
+use circus_evaluate::{Got, Stop, evaluate_all, given_in, truth_in};
 use circus_model::LanguageError;
 use circus_value::{Outcome, Values, values_size};
 use std::alloc::Global;

@@ -3,26 +3,18 @@ ghost use Rattle.std.specs.Prelude.{ℕ, List, IfOk};
 ghost use Rattle.circus_value.specs.ShapeTree.{ShapeTree, sequence};
 ghost use Rattle.circus_value.specs.ValueTree.{ValueTree};
 ghost use Rattle.circus_checked.specs.declared.expression.CheckedPlace.{CheckedPlace};
-ghost use Rattle.circus_checked.specs.ExpressionTree.{ExpressionTree};
 ghost use Rattle.circus_checked.specs.StatementTree.{StatementTrees};
-ghost use Rattle.circus_machine.specs.Got.{Got};
-ghost use Rattle.circus_machine.specs.Evaluating.{evaluate};
+ghost use Rattle.circus_evaluate.specs.Got.{Got};
 ghost use Rattle.circus_machine.specs.Storing.{stored_over, appended_over, stored};
-ghost use Rattle.circus_checked.specs.Sorts.{Sort, sort_of, kind_of, Has, Holds};
+ghost use Rattle.circus_checked.specs.Sorts.{sort_of, kind_of, Holds};
 ghost use Rattle.circus_machine.specs.Meaning.{Going, does_all};
-ghost use Rattle.circus_machine.specs.Typed.{IsGot, Hold, AreWell};
+ghost use Rattle.circus_evaluate.specs.Typed.{IsGot};
+ghost use Rattle.circus_machine.specs.Typed.{AreWell};
 ghost use Rattle.circus_machine.specs.Seen.Code.{codes_of, Comes};
 
 /// The code of a body does what the body means (docs/LANGUAGE.md, "Statements").
 pub fn code_does_what_it_means()
     ensures { (limit states : ℕ) (body : StatementTrees) (c : Going) → Comes limit states (codes_of body) (does_all limit states body c) 0 c }
-{}
-
-/// An expression of a sort gives what the sort says, in variables that hold values of their shapes, or raises an error of
-/// the language (docs/LANGUAGE.md, "Expressions").
-pub fn expressions_give_their_sorts()
-    ensures { (limit : ℕ) (shapes : List ShapeTree) (variables : List ValueTree) (e : ExpressionTree) (s : Sort)
-        → Hold shapes variables → Has shapes e s → IfOk (evaluate limit variables e) (IsGot s) }
 {}
 
 /// What is stored in a place keeps the variables' shapes, and the state within the limit, or an error of the language is

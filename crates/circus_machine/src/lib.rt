@@ -2,26 +2,21 @@
 //!
 //! `body` has bodies that are started and resumed, `code` the flat list of instructions that a body becomes, `run` goes
 //! through it until the execution asks or ends, `execution` what each instruction does, and `store` the variables with
-//! their sizes. `evaluate` has what expressions give, `got` and `number` the values that they give, and `part` parts of
-//! values. `text` has modules whose procedures have bodies, `tally` a module that is no text, and `laws` what holds of every
-//! body.
+//! their sizes. `text` has modules whose procedures have bodies, `tally` a module that is no text, and `laws` what holds of
+//! every body. What expressions give is `circus_evaluate`.
 #![tactic(auto)]
 
 mod body;
 mod code;
-mod evaluate;
 mod execution;
-mod got;
 mod laws;
-mod number;
-mod part;
 mod run;
 mod store;
 mod tally;
 mod text;
 
 pub use body::Body;
-pub use laws::{code_does_what_it_means, expressions_give_their_sorts, stored_values_keep_shapes};
+pub use laws::{code_does_what_it_means, stored_values_keep_shapes};
 pub use run::Paused;
 pub use tally::{Tally, Unused};
 pub use text::{Bodies, TextModule, Waiting};

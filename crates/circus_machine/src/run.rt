@@ -14,7 +14,7 @@ ghost use Rattle.circus_machine.specs.Seen.Running.{going, Awaits, StandsAtAsk};
 
 use crate::code::{Code, Instruction};
 use crate::execution::{Execution, Move};
-use crate::got::Stop;
+use circus_evaluate::Stop;
 use circus_model::{LanguageError, Turn};
 use circus_value::{NoMemory, Outcome};
 use std::alloc::{AllocError, Global};

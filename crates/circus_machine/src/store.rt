@@ -5,15 +5,12 @@ ghost use Rattle.circus_value.specs.ValueOf.{tree_of};
 ghost use Rattle.circus_value.specs.ExternalSize.{external_size, size_of_values};
 ghost use Rattle.circus_model.specs.declared.language_error.LanguageError.TheVariants.{TooLong, WrongChoice};
 ghost use Rattle.circus_machine.specs.Storing as storing;
-ghost use Rattle.circus_machine.specs.Seen.Given.{given_as};
-ghost use Rattle.circus_machine.specs.Seen.Putting.{put_over};
-ghost use Rattle.circus_machine.specs.Seen.Changing.{changed_over, grows_by, shrinks_by, AreSized, Resized, Changed};
+ghost use Rattle.circus_evaluate.specs.Given.{given_as};
+ghost use Rattle.circus_evaluate.specs.Putting.{put_over, grows_by, shrinks_by};
+ghost use Rattle.circus_machine.specs.Seen.Changing.{changed_over, AreSized, Resized, Changed};
 
-use crate::evaluate::steps_of;
-use crate::got::{Given, Stop};
-use crate::number::as_kind;
-use crate::part::{Put, part_at, put_item};
 use circus_checked::{CheckedPlace, NumberKind};
+use circus_evaluate::{Given, Put, Stop, as_kind, part_at, put_item, steps_of};
 use circus_model::LanguageError;
 use circus_value::{Duplicate, ListOf, NoMemory, State, Value, Values, external_size, values_size};
 use std::alloc::Global;
@@ -87,27 +84,6 @@ fn as_item(kind: Option<NumberKind>, given: Given) -> Result<Value, LanguageErro
         (None, Given::Whole(value)) => Ok(value),
         (Some(kind), Given::Number(number)) => as_kind(kind, number),
         _ => Err(LanguageError::Range),
-    }
-}
-
-impl Put {
-    // How many bytes more there are, once it was put.
-    fn grows_by(&self) -> u64
-        ensures { result ≡ min (grows_by self.now) (2 ^ 64 - 1) }
-    {
-        match self {
-            Put::Whole(value) | Put::More(value) => external_size(value),
-        }
-    }
-
-    // How many bytes fewer there are, once it was put where this value stood.
-    fn shrinks_by(&self, old: &Value) -> u64
-        ensures { result ≡ min (shrinks_by self.now (tree_of old.now)) (2 ^ 64 - 1) }
-    {
-        match self {
-            Put::Whole(_) => external_size(old),
-            Put::More(_) => 0,
-        }
     }
 }
 

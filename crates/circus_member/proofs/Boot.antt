@@ -18,18 +18,18 @@ use Rattle.circus_performing.specs.Acts.{as_founder, as_spare}
 use Rattle.circus_performing.specs.Record.{behaviour, IsRecord}
 use Rattle.circus_performing.proofs.Records.{acts_keep}
 use Rattle.circus_gather.specs.Gathering as gathering
-use Rattle.circus_member.specs.declared.place.Place.{Place}
-use Rattle.circus_member.specs.declared.place.Beginning.{Beginning}
-use Rattle.circus_member.specs.declared.place.Beginning.TheVariants.{Founder, Spare}
-use Rattle.circus_member.specs.declared.occurrence.AskName.{AskName}
-use Rattle.circus_member.specs.MemberState.{MemberState, Doing}
-use Rattle.circus_member.specs.Callable.{IsReply}
-use Rattle.circus_member.specs.Rules.{is_settled, stays_open}
-use Rattle.circus_member.specs.Step.{waits, performer_at_boot, entered, main_start, before_any, starts_at_boot}
-use Rattle.circus_member.specs.Happening.{IsHome}
-use Rattle.circus_member.specs.Seen.Sound.{IsHeld, IsOpenAsk, AreNamed, IsSound, MayStart, IsRested}
-use Rattle.circus_member.proofs.Starting.{sound_entered}
-use Rattle.circus_member.proofs.Unsettled.{entered_left}
+use Rattle.circus_member_rules.specs.declared.place.Place.{Place}
+use Rattle.circus_member_rules.specs.declared.place.Beginning.{Beginning}
+use Rattle.circus_member_rules.specs.declared.place.Beginning.TheVariants.{Founder, Spare}
+use Rattle.circus_member_rules.specs.declared.occurrence.AskName.{AskName}
+use Rattle.circus_member_step.specs.MemberState.{MemberState, Doing}
+use Rattle.circus_member_rules.specs.Callable.{IsReply}
+use Rattle.circus_member_rules.specs.Rules.{is_settled, stays_open}
+use Rattle.circus_member_step.specs.Step.{waits, performer_at_boot, entered, main_start, before_any, starts_at_boot}
+use Rattle.circus_member_step.specs.Happening.{IsHome}
+use Rattle.circus_member_step.specs.Seen.Sound.{IsHeld, IsOpenAsk, AreNamed, IsSound, MayStart, IsRested}
+use Rattle.circus_member_step.proofs.Starting.{sound_entered}
+use Rattle.circus_member_step.proofs.Unsettled.{entered_left}
 
 none_named : AreNamed []
 unfolding IsDistinct

@@ -1,28 +1,9 @@
-pub mod Calls
-pub mod Returns
-pub mod Places
-pub mod Named
-pub mod Homes
-pub mod Held
-pub mod Runs
-pub mod Writing
-pub mod Threads
-pub mod Sound
-pub mod Handled
-pub mod Turned
-pub mod Entering
-pub mod Starting
-pub mod Enough
-pub mod Resting
-pub mod Concerned
-pub mod Unsettled
-pub mod Going
-pub mod Giving
-pub mod Restoring
-pub mod Parts
-pub mod Opening
-pub mod Telling
-pub mod Done
-pub mod Boot
-pub mod Stepping
-pub mod Nexts
+mod Going
+mod Giving
+mod Restoring
+mod Parts
+mod Opening
+mod Telling
+mod Boot
+mod Stepping
+mod Nexts

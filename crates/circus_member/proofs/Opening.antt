@@ -4,7 +4,7 @@ use Rattle.std.specs.Prelude.{IfSome, slice_get, is_some, option_copied}
 use Rattle.std.specs.Option.{option_map_or}
 use Rattle.std.proofs.lemmas.Option.{same_Some}
 use Rattle.circus_collate.specs.declared.view.View.{View}
-use Rattle.circus_model.specs.Limits.{most_asks}
+use Rattle.circus_limits.specs.Limits.{most_asks}
 use Rattle.circus_model.specs.Behaviour.{Behaviour, IsModule}
 use Rattle.circus_record.specs.declared.record.AskRecord.{AskRecord}
 use Rattle.circus_record.specs.declared.record.RunRecord.{RunRecord}
@@ -16,18 +16,19 @@ use Rattle.circus_fanout.specs.Asking.{Asking, with_view, calls_for_a_view}
 use Rattle.circus_performing.specs.Performing.{open_ask, last_of}
 use Rattle.circus_performing.specs.Record.{IsRecord}
 use Rattle.circus_performing.proofs.Records.{performing_has_one}
-use Rattle.circus_member.specs.declared.occurrence.AskName.{AskName}
-use Rattle.circus_member.specs.declared.occurrence.Effect.{Effect}
-use Rattle.circus_member.specs.MemberState.{MemberState, Doing, with_ask}
-use Rattle.circus_member.specs.Messages.{reply_message}
-use Rattle.circus_member.specs.Rules.{index_of_last, answers, answers_of_run, calls_of_ask}
-use Rattle.circus_member.specs.Step.{name_of_last, asking_begun, reply_of_run, opened_by_view, opened_ask, ended_run, opened_last, ended_last, after_turns}
-use Rattle.circus_member.specs.Callable.{MayCall, IsReply}
-use Rattle.circus_member.specs.Seen.Sound.{IsRunOf, HasTurned}
-use Rattle.circus_member.proofs.Homes.{may_call, slice_get_none}
-use Rattle.circus_member.proofs.Runs.{few_asks}
-use Rattle.circus_member.proofs.Writing.{CanWrite, writable_ask, one_is_performing, ask_is_lawful, last_has_ended, reply_is}
-use Rattle.circus_member.proofs.Turned.{IsAsking, asking_now}
+use Rattle.circus_member_rules.specs.declared.occurrence.AskName.{AskName}
+use Rattle.circus_member_rules.specs.declared.occurrence.Effect.{Effect}
+use Rattle.circus_member_rules.specs.OpenAsks.{with_ask}
+use Rattle.circus_member_step.specs.MemberState.{MemberState, Doing}
+use Rattle.circus_member_rules.specs.Messages.{reply_message}
+use Rattle.circus_member_rules.specs.Rules.{index_of_last, answers, answers_of_run, calls_of_ask}
+use Rattle.circus_member_step.specs.Step.{name_of_last, asking_begun, reply_of_run, opened_by_view, opened_ask, ended_run, opened_last, ended_last, after_turns}
+use Rattle.circus_member_rules.specs.Callable.{MayCall, IsReply}
+use Rattle.circus_member_step.specs.Seen.Sound.{IsRunOf, HasTurned}
+use Rattle.circus_member_step.proofs.Homes.{may_call, slice_get_none}
+use Rattle.circus_member_step.proofs.Runs.{few_asks}
+use Rattle.circus_member_step.proofs.Writing.{CanWrite, writable_ask, one_is_performing, ask_is_lawful, last_has_ended, reply_is}
+use Rattle.circus_member_step.proofs.Turned.{IsAsking, asking_now}
 
 module _ {M : Type 0} (b : Behaviour) (lawful : IsModule b) (m : MemberState M) (h : HasTurned b m) (r : IsRecord b m.performing.began m.performing.kept) where
   -- the last run

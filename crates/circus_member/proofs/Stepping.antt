@@ -6,17 +6,18 @@ use Rattle.circus_model.specs.declared.signature.Signature.{Signature}
 use Rattle.circus_model.specs.NextTurn.{NextTurn}
 use Rattle.circus_model.specs.Behaviour.{IsModule}
 use Rattle.circus_performing.specs.Record.{behaviour}
-use Rattle.circus_member.specs.declared.closing.Concern.{Concern}
-use Rattle.circus_member.specs.declared.occurrence.AskName.{AskName}
-use Rattle.circus_member.specs.declared.occurrence.Occurrence.{Occurrence}
-use Rattle.circus_member.specs.MemberState.{MemberState, Doing, behind}
-use Rattle.circus_member.specs.Step.{concern_of, handled, executed, closed_by, looked_up, stepped}
-use Rattle.circus_member.specs.GoneOn.{HasGoneOn}
-use Rattle.circus_member.specs.Seen.Sound.{IsSound, IsRested}
-use Rattle.circus_member.proofs.Starting.{IsSoundNow, sound_executed}
-use Rattle.circus_member.proofs.Resting.{rested}
-use Rattle.circus_member.proofs.Unsettled.{waited_by, closed_same}
-use Rattle.circus_member.proofs.Done.{executed_done, still_done}
+use Rattle.circus_member_rules.specs.declared.closing.Concern.{Concern}
+use Rattle.circus_member_rules.specs.declared.occurrence.AskName.{AskName}
+use Rattle.circus_member_rules.specs.declared.occurrence.Occurrence.{Occurrence}
+use Rattle.circus_member_step.specs.MemberState.{MemberState, Doing, behind}
+use Rattle.circus_member_rules.specs.Rules.{concern_of}
+use Rattle.circus_member_step.specs.Step.{handled, executed, closed_by, looked_up, stepped}
+use Rattle.circus_member_step.specs.GoneOn.{HasGoneOn}
+use Rattle.circus_member_step.specs.Seen.Sound.{IsSound, IsRested}
+use Rattle.circus_member_step.proofs.Starting.{IsSoundNow, sound_executed}
+use Rattle.circus_member_step.proofs.Resting.{rested}
+use Rattle.circus_member_step.proofs.Unsettled.{waited_by, closed_same}
+use Rattle.circus_member_step.proofs.Done.{executed_done, still_done}
 
 module _ {M : Type 0} (declared : M → Signature) (turn : M → List ValueTree → ℕ → List ValueTree → List Outcome → NextTurn) (first : M → List ValueTree) (at : ℕ) (o : Occurrence) (m : MemberState M) where
   -- what happens is handled, goes on, and is closed

@@ -1,8 +1,1 @@
-pub mod Messages
-pub mod MemberState
-pub mod Rules
-pub mod Callable
-pub mod Step
-pub mod Happening
-pub mod GoneOn
 pub mod Seen

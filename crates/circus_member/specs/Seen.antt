@@ -1,4 +1,2 @@
 -- How code is seen: codes of what is kept. No public call cites these.
-pub mod AsksCode
 pub mod StateCode
-pub mod Sound

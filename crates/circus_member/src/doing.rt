@@ -1,31 +1,30 @@
 // A step so far: what the member is, and what it has made.
-ghost use Rattle.std.specs.Prelude.{◌≡◌, ◌≤◌, [], if◌then◌else◌, length, IfOk, OnOk, option_map};
+ghost use Rattle.std.specs.Prelude.{◌≡◌, ◌≤◌, [], if◌then◌else◌, length, Ok, IfOk, OnOk, option_map};
+ghost use Rattle.circus_limits.specs.Limits.{most_modules};
 ghost use Rattle.circus_header.specs.CallFields.{IsIncarnation};
 ghost use Rattle.circus_model.specs.Lawful.{IsState};
 ghost use Rattle.circus_performing.specs.Performing as performing;
 ghost use Rattle.circus_performing.specs.Record.{behaviour};
-ghost use Rattle.circus_member.specs.MemberState.{behind};
-ghost use Rattle.circus_member.specs.Rules as rules;
-ghost use Rattle.circus_member.specs.Step as step;
-ghost use Rattle.circus_member.specs.Callable.{AreViews, AllMayCall, AreReplies, AreHosts};
-ghost use Rattle.circus_member.specs.Happening.{IsHome, CanHappen};
-ghost use Rattle.circus_member.specs.Seen.Sound.{AreOpen, IsSound, HasTurned, MayStart};
+ghost use Rattle.circus_member_step.specs.MemberState.{behind};
+ghost use Rattle.circus_member_rules.specs.Rules as rules;
+ghost use Rattle.circus_member_step.specs.Step as step;
+ghost use Rattle.circus_member_rules.specs.Callable.{AreViews, AllMayCall, AreReplies, AreHosts};
+ghost use Rattle.circus_member_step.specs.Happening.{IsHome, CanHappen};
+ghost use Rattle.circus_member_step.specs.Seen.Sound.{AreOpen, IsSound, HasTurned, MayStart};
 
-use crate::calls_in::{answer_all, begin_at, take_call, take_state_request};
-use crate::calls_out::{calls_of_ask, value_of_ask};
-use crate::closing::{Concern, close_by};
-use crate::joining::{ask_for_states, givers, look_up, request_to_ring, tell_gone};
-use crate::messages::{body_of, reply_message};
-use crate::open_asks::OpenAsks;
-use crate::running::{
-    header_of_ask, index_of_last, is_idle, name_of_last, name_of_open, reply_of_run, start_of_call,
-};
-use crate::{AskName, Difference, Effects, Occurrence, Place};
 use circus_collate::{Table, View};
 use circus_fanout::Fanout;
 use circus_gather::Gather;
 use circus_header::{CallHeader, Reply, Request};
 use circus_known::Known;
+use circus_member_rules::{
+    AskName, Concern, Difference, Effects, Occurrence, OpenAsks, Place, answer_all, ask_for_states,
+    begin_at, body_of, calls_of_ask, close_by, givers, look_up, reply_message, request_to_ring,
+    take_call, take_state_request, tell_gone, value_of_ask,
+};
+use circus_member_step::{
+    header_of_ask, index_of_last, is_idle, name_of_last, name_of_open, reply_of_run, start_of_call,
+};
 use circus_model::Module;
 use circus_performing::{Performer, RunStart};
 use circus_transfer::{Joiner, snapshot};
@@ -47,7 +46,7 @@ pub(crate) struct Doing<M: Module> {
 }
 
 impl<M: Module> Model for Doing<M> {
-    ghost use Rattle.circus_member.specs.MemberState.{Doing};
+    ghost use Rattle.circus_member_step.specs.MemberState.{Doing};
     ghost use Rattle.circus_member.specs.Seen.StateCode.{doing_code};
 
     ghost Value = { Doing M };
@@ -63,7 +62,7 @@ impl<M: Module> Model for Doing<M> {
 impl<M: Module> Doing<M> {
     /// What happens is handled, and a reply that differs is told.
     pub fn handle(
-        self,
+        mut self,
         at: u64,
         occurrence: Occurrence,
     ) -> Result<(Self, Option<Difference>), NoMemory>
@@ -78,29 +77,56 @@ impl<M: Module> Doing<M> {
                 header,
                 body,
                 sender,
-            } => Ok((self.asked(header, body, sender)?, None)),
+            } => {
+                let done = self.asked(header, body, sender);
+                Ok((self.unless_spent(done)?, None))
+            }
             Occurrence::Fetched {
                 incarnation,
                 sender,
-            } => Ok((self.fetched(incarnation, sender)?, None)),
+            } => {
+                let done = self.fetched(incarnation, sender);
+                Ok((self.unless_spent(done)?, None))
+            }
             Occurrence::Replied { name, from, reply } => self.replied(name, from, reply),
             Occurrence::IsStale {
                 name,
                 server,
                 from,
                 incarnation,
-            } => Ok((self.stale(name, server, from, incarnation)?, None)),
+            } => {
+                let done = self.stale(name, server, from, incarnation);
+                Ok((self.unless_spent(done)?, None))
+            }
             Occurrence::IsBefore { name, from } => Ok((self.before(name, from), None)),
-            Occurrence::Told { request, table } => Ok((self.told(request, table)?, None)),
+            Occurrence::Told { request, table } => {
+                let done = self.told(request, table);
+                Ok((self.unless_spent(done)?, None))
+            }
             Occurrence::Restored { state, count } => Ok((self.restored(at, state, count)?, None)),
-            Occurrence::Declared(node) => Ok((self.declared(node)?, None)),
-            Occurrence::Joins => Ok((self.joins()?, None)),
+            Occurrence::Declared(node) => {
+                let done = self.declared(node);
+                Ok((self.unless_spent(done)?, None))
+            }
+            Occurrence::Joins => {
+                let done = self.joins();
+                Ok((self.unless_spent(done)?, None))
+            }
         }
     }
 
-    fn asked(mut self, header: CallHeader, body: Parts, sender: Caller) -> Result<Self, NoMemory>
-        requires { AreReplies self.member.gathered.replies }
-        ensures { IfOk result (λ d. d ≡ behind self (step.asked self.member header body sender)) }
+    // It goes on, unless memory ran out in what was done.
+    fn unless_spent(self, done: Result<(), NoMemory>) -> Result<Self, NoMemory>
+        ensures goes { IfOk result (λ d. d ≡ self) }
+        ensures done { IfOk result (λ _. done ≡ Ok tt) }
+    {
+        done?;
+        Ok(self)
+    }
+
+    fn asked(&mut self, header: CallHeader, body: Parts, sender: Caller) -> Result<(), NoMemory>
+        requires { AreReplies self.old.member.gathered.replies }
+        ensures { OnOk result (self.new ≡ behind self.old (step.asked self.old.member header body sender)) }
     {
         take_call(
             self.alloc,
@@ -110,13 +136,12 @@ impl<M: Module> Doing<M> {
             header,
             body,
             sender,
-        )?;
-        Ok(self)
+        )
     }
 
-    fn fetched(mut self, incarnation: u32, sender: Caller) -> Result<Self, NoMemory>
+    fn fetched(&mut self, incarnation: u32, sender: Caller) -> Result<(), NoMemory>
         requires { IsIncarnation incarnation }
-        ensures { IfOk result (λ d. d ≡ behind self (step.fetched self.member incarnation sender)) }
+        ensures { OnOk result (self.new ≡ behind self.old (step.fetched self.old.member incarnation sender)) }
     {
         take_state_request(
             self.alloc,
@@ -125,8 +150,7 @@ impl<M: Module> Doing<M> {
             &mut self.effects,
             incarnation,
             sender,
-        )?;
-        Ok(self)
+        )
     }
 
     fn replied(
@@ -143,15 +167,15 @@ impl<M: Module> Doing<M> {
     }
 
     fn stale(
-        mut self,
+        &mut self,
         name: AskName,
         server: u16,
         from: u16,
         incarnation: u32,
-    ) -> Result<Self, NoMemory>
-        requires asks { AllMayCall self.member.known self.member.asks }
-        requires views { AreViews self.member.known }
-        ensures { IfOk result (λ d. d ≡ behind self (step.stale self.member name server from incarnation)) }
+    ) -> Result<(), NoMemory>
+        requires asks { AllMayCall self.old.member.known self.old.member.asks }
+        requires views { AreViews self.old.member.known }
+        ensures { OnOk result (self.new ≡ behind self.old (step.stale self.old.member name server from incarnation)) }
     {
         self.asks.stale(
             self.alloc,
@@ -162,7 +186,7 @@ impl<M: Module> Doing<M> {
             &mut self.effects,
         )?;
         self.known.want(server, incarnation);
-        Ok(self)
+        Ok(())
     }
 
     fn before(mut self, name: AskName, from: u16) -> Self
@@ -172,18 +196,8 @@ impl<M: Module> Doing<M> {
         self
     }
 
-    fn told(mut self, request: Request, table: Table) -> Result<Self, NoMemory>
-        requires home { IsHome (M.declared self.member.performing.hosted) self.member.place self.member.known.views }
-        requires asks { AreOpen (M.declared self.member.performing.hosted) self.member.place.troupe (length self.member.known.views) self.member.asks }
-        requires table { IsIncarnation table.view.incarnation }
-        ensures { IfOk result (λ d. d ≡ behind self (step.told self.member request table)) }
-    {
-        self.take_table(request, table)?;
-        Ok(self)
-    }
-
-    // Takes the table that answers a request.
-    fn take_table(&mut self, request: Request, table: Table) -> Result<(), NoMemory>
+    // The Ringmaster answers a request.
+    fn told(&mut self, request: Request, table: Table) -> Result<(), NoMemory>
         requires home { IsHome (M.declared self.old.member.performing.hosted) self.old.member.place self.old.member.known.views }
         requires asks { AreOpen (M.declared self.old.member.performing.hosted) self.old.member.place.troupe (length self.old.member.known.views) self.old.member.asks }
         requires table { IsIncarnation table.view.incarnation }
@@ -233,9 +247,9 @@ impl<M: Module> Doing<M> {
             .new_view(self.alloc, &self.known, view, &mut self.effects)
     }
 
-    fn declared(mut self, node: u16) -> Result<Self, NoMemory>
-        requires { AreHosts self.member.place }
-        ensures { IfOk result (λ d. d ≡ behind self (step.declared_down self.member node)) }
+    fn declared(&mut self, node: u16) -> Result<(), NoMemory>
+        requires { AreHosts self.old.member.place }
+        ensures { OnOk result (self.new ≡ behind self.old (step.declared_down self.old.member node)) }
     {
         self.known.declare(node)?;
         tell_gone(
@@ -244,22 +258,20 @@ impl<M: Module> Doing<M> {
             &self.known,
             node,
             &mut self.effects,
-        )?;
-        Ok(self)
+        )
     }
 
-    fn joins(mut self) -> Result<Self, NoMemory>
-        requires { IsHome (M.declared self.member.performing.hosted) self.member.place self.member.known.views }
-        ensures { IfOk result (λ d. d ≡ behind self (step.joins self.member)) }
+    fn joins(&mut self) -> Result<(), NoMemory>
+        requires { IsHome (M.declared self.old.member.performing.hosted) self.old.member.place self.old.member.known.views }
+        ensures { OnOk result (self.new ≡ behind self.old (step.joins self.old.member)) }
     {
         self.performer.join();
         let request = Request::Join(self.place.troupe, self.place.node);
-        request_to_ring(self.alloc, &self.known, request, &mut self.effects)?;
-        Ok(self)
+        request_to_ring(self.alloc, &self.known, request, &mut self.effects)
     }
 
     // A state comes: one that fetches a state has it, and is active from its count on.
-    fn restored(self, at: u64, state: State, count: u32) -> Result<Self, NoMemory>
+    fn restored(mut self, at: u64, state: State, count: u32) -> Result<Self, NoMemory>
         requires sound { IsSound (behaviour M.declared M.turn M.first self.member.performing.hosted) self.member }
         requires state { IsState (M.declared self.member.performing.hosted) state }
         ensures kept { IfOk result (λ d. d ≡ behind self (step.restored at self.member state count)) }
@@ -268,28 +280,9 @@ impl<M: Module> Doing<M> {
         if !is_fetching(self.performer.record().phase) {
             return Ok(self);
         }
-        let Doing {
-            alloc,
-            place,
-            known,
-            gather,
-            performer,
-            asks,
-            requests,
-            effects,
-        } = self;
-        let mut doing = Doing {
-            alloc,
-            place,
-            known,
-            gather,
-            performer: performer.activate(state, count, at)?,
-            asks,
-            requests,
-            effects,
-        };
-        doing.begin(count)?;
-        Ok(doing)
+        self.performer = self.performer.activate(state, count, at)?;
+        let begun = self.begin(count);
+        self.unless_spent(begun)
     }
 
     // The member is active from this call on, and tells so.
@@ -343,64 +336,27 @@ impl<M: Module> Doing<M> {
         }
     }
 
-    fn answer(self, reply: Reply, at: u64) -> Result<Self, NoMemory>
+    fn answer(mut self, reply: Reply, at: u64) -> Result<Self, NoMemory>
         requires sound { IsSound (behaviour M.declared M.turn M.first self.member.performing.hosted) self.member }
         requires value { step.value_of_open self.member ≡ Some reply }
         ensures { IfOk result (λ d. d ≡ step.answered_by M.turn at self reply) }
     {
-        let Doing {
-            alloc,
-            place,
-            known,
-            gather,
-            performer,
-            asks,
-            requests,
-            effects,
-        } = self;
-        let mut doing = Doing {
-            alloc,
-            place,
-            known,
-            gather,
-            performer: performer.answer(reply.outcome, reply.clock, at)?,
-            asks,
-            requests,
-            effects,
-        };
-        doing.after_turns()?;
-        Ok(doing)
+        self.performer = self.performer.answer(reply.outcome, reply.clock, at)?;
+        let turned = self.after_turns();
+        self.unless_spent(turned)
     }
 
     /// A run is entered.
-    pub fn enter(self, start: RunStart, at: u64) -> Result<Self, NoMemory>
+    pub fn enter(mut self, start: RunStart, at: u64) -> Result<Self, NoMemory>
         requires sound { IsSound (behaviour M.declared M.turn M.first self.member.performing.hosted) self.member }
         requires may { MayStart (M.declared self.member.performing.hosted) self.member start }
         ensures { IfOk result (λ d. d ≡ step.entered M.turn at self start) }
     {
-        let Doing {
-            alloc,
-            place,
-            known,
-            mut gather,
-            performer,
-            asks,
-            requests,
-            effects,
-        } = self;
-        gather.started(performer.record().count);
-        let mut doing = Doing {
-            alloc,
-            place,
-            known,
-            gather,
-            performer: performer.enter(start, at)?,
-            asks,
-            requests,
-            effects,
-        };
-        doing.after_turns()?;
-        Ok(doing)
+        let count = self.performer.record().count;
+        self.gather.started(count);
+        self.performer = self.performer.enter(start, at)?;
+        let turned = self.after_turns();
+        self.unless_spent(turned)
     }
 
     // Behind turns of the last run: it asks, or has ended.
@@ -519,7 +475,7 @@ impl<M: Module> Doing<M> {
 
     /// The views that are wanted are looked up.
     pub fn look_up(&mut self) -> Result<(), NoMemory>
-        requires { length self.old.member.known.views ≤ 32 }
+        requires { length self.old.member.known.views ≤ most_modules }
         ensures { OnOk result (self.new ≡ step.looked_up self.old) }
     {
         look_up(self.alloc, &mut self.known, &mut self.effects)

@@ -1,23 +1,23 @@
 // A member of a troupe.
 ghost use Rattle.std.specs.Prelude.{◌≡◌, ◌≤◌, length, [], IfOk, option_copied, option_map};
-ghost use Rattle.circus_header.specs.Limits.{most_modules};
+ghost use Rattle.circus_limits.specs.Limits.{most_modules};
 ghost use Rattle.circus_fanout.specs.Asking.{Asking};
-ghost use Rattle.circus_member.specs.MemberState.{asking_of};
-ghost use Rattle.circus_member.specs.Step as step;
-ghost use Rattle.circus_member.specs.Happening.{IsHome, CanHappen};
-ghost use Rattle.circus_member.specs.GoneOn.{HasGoneOn};
-ghost use Rattle.circus_member.specs.Seen.Sound.{IsRested};
+ghost use Rattle.circus_member_rules.specs.OpenAsks.{asking_of};
+ghost use Rattle.circus_member_step.specs.Step as step;
+ghost use Rattle.circus_member_step.specs.Happening.{IsHome, CanHappen};
+ghost use Rattle.circus_member_step.specs.GoneOn.{HasGoneOn};
+ghost use Rattle.circus_member_step.specs.Seen.Sound.{IsRested};
 ghost use Rattle.circus_performing.specs.Record.{behaviour};
 
-use crate::closing::concern_of;
 use crate::doing::Doing;
-use crate::open_asks::OpenAsks;
-use crate::running::{main_start, name_of_open};
-use crate::{AskName, Beginning, Difference, Effects, Occurrence, Place};
 use circus_collate::Views;
 use circus_gather::Gather;
 use circus_header::CallHeader;
 use circus_known::Known;
+use circus_member_rules::{
+    AskName, Beginning, Difference, Effects, Occurrence, OpenAsks, Place, concern_of,
+};
+use circus_member_step::{main_start, name_of_open};
 use circus_model::{Module, Signature};
 use circus_performing::Performer;
 use circus_record::MemberRecord;
@@ -38,9 +38,9 @@ pub struct Member<M: Module> {
 }
 
 impl<M: Module> Model for Member<M> {
-    ghost use Rattle.circus_member.specs.MemberState.{MemberState};
+    ghost use Rattle.circus_member_step.specs.MemberState.{MemberState};
     ghost use Rattle.circus_member.specs.Seen.StateCode.{state_code};
-    ghost use Rattle.circus_member.specs.Seen.Sound.{IsRested};
+    ghost use Rattle.circus_member_step.specs.Seen.Sound.{IsRested};
     ghost use Rattle.circus_performing.specs.Record.{behaviour};
 
     ghost Value = { MemberState M };

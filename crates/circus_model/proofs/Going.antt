@@ -7,7 +7,7 @@ use Rattle.circus_model.specs.declared.language_error.LanguageError.TheVariants.
 use Rattle.circus_value.specs.declared.outcome.Outcome.{Outcome}
 use Rattle.circus_value.specs.declared.outcome.Outcome.TheVariants.{Raised}
 use Rattle.circus_model.specs.declared.history.Ask.{Ask}
-use Rattle.circus_model.specs.Limits.{most_asks}
+use Rattle.circus_limits.specs.Limits.{most_asks}
 use Rattle.circus_model.specs.NextTurn.{NextTurn, asks, ends}
 use Rattle.circus_model.specs.Behaviour.{Behaviour}
 use Rattle.circus_model.specs.Agree.{IsAt, AreModules, Agree}

@@ -14,7 +14,7 @@ use Rattle.circus_model.specs.declared.turn.Turn.{Turn}
 use Rattle.circus_model.specs.declared.turn.Turn.TheVariants as T
 use Rattle.circus_model.specs.declared.alone.Thread.{Thread as Running}
 use Rattle.circus_model.specs.declared.alone.Order.{Order as Given}
-use Rattle.circus_model.specs.Limits.{most_asks}
+use Rattle.circus_limits.specs.Limits.{most_asks}
 use Rattle.circus_model.specs.Gives.{Gives}
 use Rattle.circus_model.specs.NextTurn.{NextTurn, asks, ends}
 use Rattle.circus_model.specs.Lawful.{ReplyFits, RepliesFit}

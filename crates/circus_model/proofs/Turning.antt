@@ -15,7 +15,7 @@ use Rattle.circus_model.specs.declared.signature.Import.{Import}
 use Rattle.circus_model.specs.declared.signature.ProcedureShape.{ProcedureShape}
 use Rattle.circus_model.specs.declared.history.Ask.{Ask}
 use Rattle.circus_model.specs.declared.history.Run.{Run}
-use Rattle.circus_model.specs.Limits.{most_asks}
+use Rattle.circus_limits.specs.Limits.{most_asks}
 use Rattle.circus_model.specs.NextTurn.{NextTurn, asks, ends}
 use Rattle.circus_model.specs.Lawful.{IsState, CanStart, ReplyFits, RepliesFit, IsLawful, procedure_numbered, import_of, arguments_fit, import_answers, outcome_fits, is_reported}
 use Rattle.circus_model.specs.Behaviour.{Behaviour}

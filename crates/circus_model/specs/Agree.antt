@@ -2,7 +2,7 @@
 use Rattle.std.specs.Prelude.{ℕ, ◌≡◌, ◌<◌, ◌≤◌, true, false, List, [], ◌∷◌, Contains, Some, slice_get}
 use Rattle.circus_model.specs.declared.signature.Import.{Import}
 use Rattle.circus_model.specs.declared.signature.ProcedureShape.{ProcedureShape}
-use Rattle.circus_model.specs.Limits.{most_bytes}
+use Rattle.circus_limits.specs.Limits.{most_bytes}
 use Rattle.circus_model.specs.Behaviour.{Behaviour, IsModule}
 
 -- the module at a place

@@ -8,7 +8,7 @@ use Rattle.circus_value.specs.declared.outcome.Outcome.{Outcome}
 use Rattle.circus_value.specs.declared.outcome.Outcome.TheVariants.{Returned, Raised}
 use Rattle.circus_model.specs.declared.history.Ask.{Ask}
 use Rattle.circus_model.specs.declared.history.Run.{Run}
-use Rattle.circus_model.specs.Limits.{most_asks, most_calls}
+use Rattle.circus_limits.specs.Limits.{most_asks, most_calls}
 use Rattle.circus_model.specs.NextTurn.{NextTurn, asks, ends}
 use Rattle.circus_model.specs.Behaviour.{Behaviour}
 

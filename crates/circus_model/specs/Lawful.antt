@@ -11,7 +11,7 @@ use Rattle.circus_model.specs.declared.signature.Signature.{Signature}
 use Rattle.circus_model.specs.declared.signature.Import.{Import}
 use Rattle.circus_model.specs.declared.signature.ProcedureShape.{ProcedureShape}
 use Rattle.circus_model.specs.declared.signature.ErrorShape.{ErrorShape}
-use Rattle.circus_model.specs.Limits.{most_asks, most_bytes}
+use Rattle.circus_limits.specs.Limits.{most_asks, most_bytes}
 use Rattle.circus_model.specs.NextTurn.{NextTurn, asks, ends}
 
 -- the procedure with a number

@@ -1,4 +1,3 @@
-pub mod Limits
 pub mod LanguageError
 pub mod NextTurn
 pub mod Lawful

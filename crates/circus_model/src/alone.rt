@@ -2,7 +2,7 @@
 ghost use Rattle.std.specs.Prelude.{◌≡◌, ℕ, ◌<◌, ◌≤◌, [], ◌∷◌, ◌++◌, length, map, None, Some, unwrap_or, slice_index_or, slice_set, vec_len, IfOk, OnOk};
 ghost use Rattle.circus_model.specs.Behaviour.{behaviours};
 ghost use Rattle.circus_model.specs.Agree.{Agree, IsRoot};
-ghost use Rattle.circus_model.specs.Limits.{most_modules};
+ghost use Rattle.circus_limits.specs.Limits.{most_modules};
 ghost use Rattle.circus_model.specs.Execution.{fresh, thread_of, joined, history_of};
 ghost use Rattle.circus_model.specs.Seen.Ready.{IsThread, IsOrder};
 ghost use Rattle.circus_model.specs.Seen.Threads.{seen, ordered, HasPerformed, HasAnswered};

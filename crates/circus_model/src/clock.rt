@@ -2,10 +2,8 @@
 ghost use Rattle.std.specs.Prelude.{◌≡◌};
 ghost use Rattle.circus_model.specs.Execution.{is_spent};
 
+use circus_limits::MOST_CALLS;
 use circus_value::Clock;
-
-// The calls that a thread may make.
-const MOST_CALLS: u64 = 16_777_216;
 
 /// Whether a thread with this clock has made all its calls: its counts come to 16,777,216 or more. It takes no memory.
 pub fn is_spent(clock: &Clock) -> bool

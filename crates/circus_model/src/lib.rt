@@ -25,5 +25,6 @@ pub use laws::{
 pub use module::Module;
 pub use signature::{
     ErrorShape, ErrorShapes, Import, Imports, ProcedureShape, ProcedureShapes, Signature,
+    procedure_numbered,
 };
 pub use turn::Turn;

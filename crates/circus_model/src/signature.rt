@@ -1,4 +1,7 @@
 // What a module declares.
+ghost use Rattle.std.specs.Prelude.{◌≡◌, option_copied};
+ghost use Rattle.circus_model.specs.Lawful.{procedure_numbered};
+
 use circus_value::{Duplicate, ListOf, NoMemory, Shapes};
 
 /// What a module declares to those that run it and to those that call it.
@@ -31,6 +34,16 @@ pub struct ProcedureShape {
 }
 
 pub type ProcedureShapes = ListOf<ProcedureShape>;
+
+/// The first procedure with a number. It takes no memory.
+pub fn procedure_numbered(procedures: &ProcedureShapes, number: u16) -> Option<&ProcedureShape>
+    ensures { option_copied result ≡ procedure_numbered number procedures.now }
+{
+    procedures
+        .as_slice()
+        .iter()
+        .find(|procedure| procedure.number == number)
+}
 
 /// An error, by its number, with the shapes of its values.
 #[derive(Debug, Drop)]

@@ -6,7 +6,7 @@ use Rattle.circus_model.specs.declared.signature.Import.{Import}
 use Rattle.circus_model.specs.Agree as agree
 use Rattle.circus_model.specs.Agree.{Agree, IsOfEarlier, IsRoot, main_alone, itself, by_import}
 use Rattle.circus_model.specs.Behaviour.{Behaviour}
-use Rattle.circus_model.specs.Limits.{most_bytes}
+use Rattle.circus_limits.specs.Limits.{most_bytes}
 use Rattle.circus_fault.proofs.Items.{contains_first, contains_later, of_each}
 use Rattle.circus_idl.specs.declared.interface.Interface.{Interface}
 use Rattle.circus_check.specs.Meaning.{ModuleMeant}

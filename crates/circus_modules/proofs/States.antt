@@ -7,7 +7,7 @@ use Rattle.circus_value.specs.ShapeTree.{FieldTree}
 use Rattle.circus_value.specs.ShapeOf.{tree_of, shape_in}
 use Rattle.circus_value.specs.Fits.{fits, all_fit}
 use Rattle.circus_value.specs.ExternalSize.{size_of_values}
-use Rattle.circus_machine.specs.Typed.{Hold}
+use Rattle.circus_evaluate.specs.Typed.{Hold}
 use Rattle.circus_type.specs.Limits.{most_parts, most_zero_bytes}
 use Rattle.circus_type.specs.Obeys.{ObeysWhole}
 use Rattle.circus_type.specs.Together.{shapes_of, parts_of, zero_size_of}

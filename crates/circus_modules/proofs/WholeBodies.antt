@@ -10,7 +10,7 @@ use Rattle.circus_model.specs.Agree.{main_alone}
 use Rattle.circus_machine.specs.declared.body.Body.{Body}
 use Rattle.circus_machine.specs.Modules as machine
 use Rattle.circus_machine.specs.Modules.{trees, IsBodyOf, AreBodiesOf}
-use Rattle.circus_machine.specs.Typed.{Hold}
+use Rattle.circus_evaluate.specs.Typed.{Hold}
 use Rattle.circus_type.specs.Together.{shapes_of}
 use Rattle.circus_idl.specs.Obeys.{Obeys}
 use Rattle.circus_idl.specs.declared.interface.Procedure.{Procedure}

@@ -3,7 +3,7 @@ ghost use Rattle.std.specs.Prelude.{◌≡◌, ◌≤◌, length, map, IfOk};
 ghost use Rattle.std.specs.List.{AllByRecursion};
 ghost use Rattle.circus_model.specs.Agree.{Agree};
 ghost use Rattle.circus_model.specs.Behaviour.{behaviours};
-ghost use Rattle.circus_model.specs.Limits.{most_modules};
+ghost use Rattle.circus_limits.specs.Limits.{most_modules};
 ghost use Rattle.circus_idl.specs.Obeys.{Obeys};
 ghost use Rattle.circus_check.specs.Seen.Meant.{module_as, body_as};
 ghost use Rattle.circus_check.specs.WellFormed.{AreWellFormed};

@@ -9,7 +9,7 @@ ghost use Rattle.circus_modules.specs.Zeros.{zeros};
 use circus_value::{Arm, Chosen, Duplicate, Field, Label, ListOf, NoMemory, Shape, Value, Values};
 use std::alloc::Global;
 
-/// The zero value of a shape: FALSE, 0, empty, the first label or arm, and zeros within (docs/LANGUAGE.md, "Types").
+/// The zero value of a shape: FALSE, 0, empty, the first label or arm, and zeros within (docs/LANGUAGE.md, "Interfaces").
 /// `NoMemory` is the one fault.
 #[cycle(zero)]
 #[tactic(auto, using(crate::proofs::ZeroTrees::zeros_are, crate::proofs::ZeroTrees::copies_are))]

@@ -15,9 +15,9 @@ use Rattle.circus_value.specs.declared.caller.Caller.{Caller}
 use Rattle.circus_wire.specs.declared.delivery.Batch.{Batch}
 use Rattle.circus_wire.specs.Wire.{PeerState, WireState, Remains, IsOther, place_of, node_at, peer_at, of_peer, sent_to, changed, is_up, next_number, is_awaited, called_to, sent_by_call, answered, sent_by_answer, after_datagram, sent_by_datagram, all_ticked, batches, given_below, sent_by_tick, peer_answered}
 use Rattle.circus_wire.proofs.Places.{length_changed, node_differs}
-use Rattle.circus_member.specs.declared.occurrence.Purpose.{Purpose}
-use Rattle.circus_member.specs.declared.occurrence.Effect.{Effect}
-use Rattle.circus_member.specs.declared.occurrence.Effect.TheVariants as made
+use Rattle.circus_member_rules.specs.declared.occurrence.Purpose.{Purpose}
+use Rattle.circus_member_rules.specs.declared.occurrence.Effect.{Effect}
+use Rattle.circus_member_rules.specs.declared.occurrence.Effect.TheVariants as made
 use Rattle.circus_node.specs.declared.event.Give.{Give}
 use Rattle.circus_node.specs.Sending.{Sending, sent, spent, give_to, gives_of, is_sendable, handed, all_handed}
 

@@ -1,5 +1,3 @@
-pub mod HeadLemmas
-pub mod BodyLemmas
 pub mod ViewLemmas
 pub mod SendLemmas
 pub mod RingLemmas

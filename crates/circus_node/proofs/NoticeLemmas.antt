@@ -12,13 +12,13 @@ use Rattle.circus_known.specs.Notices.{Notice, Told, Answered, Notices, none_yet
 use Rattle.circus_value.specs.ValueTree.{ValueTree}
 use Rattle.circus_model.specs.Behaviour.{Behaviour}
 use Rattle.circus_performing.specs.Performing.{is_fetching}
-use Rattle.circus_member.specs.declared.occurrence.Occurrence.{Occurrence}
-use Rattle.circus_member.specs.declared.occurrence.Occurrence.TheVariants as comes
-use Rattle.circus_member.specs.declared.place.Place.{Place}
-use Rattle.circus_member.specs.declared.place.Beginning.{Beginning}
-use Rattle.circus_member.specs.MemberState.{MemberState, Doing}
-use Rattle.circus_member.specs.Rules.{ringmaster, wanted_by_call}
-use Rattle.circus_member.specs.Step.{is_lookup, known_by_table, handled}
+use Rattle.circus_member_rules.specs.declared.occurrence.Occurrence.{Occurrence}
+use Rattle.circus_member_rules.specs.declared.occurrence.Occurrence.TheVariants as comes
+use Rattle.circus_member_rules.specs.declared.place.Place.{Place}
+use Rattle.circus_member_rules.specs.declared.place.Beginning.{Beginning}
+use Rattle.circus_member_step.specs.MemberState.{MemberState, Doing}
+use Rattle.circus_member_rules.specs.Rules.{ringmaster, wanted_by_call}
+use Rattle.circus_member_step.specs.Step.{is_lookup, known_by_table, handled}
 use Rattle.circus_node.specs.Noticing.{noticed_by_call, noticed_by_table, notices_of, with_all, noticed, Happenings, after_step, after_all, noticed_by_all, member_at_boot}
 use Rattle.circus_node.proofs.ViewLemmas.{with_state, executed_knows, booted_knows}
 

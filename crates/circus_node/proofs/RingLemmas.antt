@@ -22,7 +22,7 @@ use Rattle.circus_ring.specs.ViewOf.{IsViewOf}
 use Rattle.circus_ring.proofs.Performing.{has_both, view_shown}
 use Rattle.circus_ring.proofs.Staying.{views_are}
 use Rattle.circus_ring.proofs.Deploying.{deployed_are}
-use Rattle.circus_member.specs.Rules.{answer}
+use Rattle.circus_member_rules.specs.Rules.{answer}
 use Rattle.circus_node.specs.Making.{table_message, table_answers}
 use Rattle.circus_node.specs.Seen.Kept.{IsRingOf}
 

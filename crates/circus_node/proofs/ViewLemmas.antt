@@ -20,15 +20,15 @@ use Rattle.circus_record.specs.declared.record.AskRecord.{AskRecord}
 use Rattle.circus_performing.specs.declared.start.RunStart.{RunStart}
 use Rattle.circus_performing.specs.Performing as performing
 use Rattle.circus_performing.specs.Performing.{open_ask, last_of, is_fetching, made_active}
-use Rattle.circus_member.specs.declared.occurrence.Occurrence.{Occurrence}
-use Rattle.circus_member.specs.declared.occurrence.Occurrence.TheVariants as comes
-use Rattle.circus_member.specs.declared.place.Place.{Place}
-use Rattle.circus_member.specs.declared.place.Beginning.{Beginning}
-use Rattle.circus_member.specs.MemberState.{MemberState, Doing, adding}
-use Rattle.circus_member.specs.Rules.{snapshots_owed, active_call, before_answers}
-use Rattle.circus_member.specs.Step.{name_of_last, asking_begun, with_record, opened_by_view, opened_ask, ended_run, is_idle, after_turns, given_states, value_of_open, next_start, start_of_call, main_start, answered_by, answered_open, entered, starting, executed, handled, told, restored, stepped, before_any, performer_at_boot, starts_at_boot, booted}
-use Rattle.circus_node.specs.Seen.Kept.{IsMemberOf}
-use Rattle.circus_member.proofs.Homes.{told_as_many, ring_views, called_views, declared_views}
+use Rattle.circus_member_rules.specs.declared.occurrence.Occurrence.{Occurrence}
+use Rattle.circus_member_rules.specs.declared.occurrence.Occurrence.TheVariants as comes
+use Rattle.circus_member_rules.specs.declared.place.Place.{Place}
+use Rattle.circus_member_rules.specs.declared.place.Beginning.{Beginning}
+use Rattle.circus_member_step.specs.MemberState.{MemberState, Doing, adding}
+use Rattle.circus_member_rules.specs.Rules.{snapshots_owed, active_call, before_answers}
+use Rattle.circus_member_step.specs.Step.{name_of_last, asking_begun, with_record, opened_by_view, opened_ask, ended_run, is_idle, after_turns, given_states, value_of_open, next_start, start_of_call, main_start, answered_by, answered_open, entered, starting, executed, handled, told, restored, stepped, before_any, performer_at_boot, starts_at_boot, booted}
+use Rattle.circus_accepting.specs.Accepting.{IsMemberOf}
+use Rattle.circus_member_step.proofs.Homes.{told_as_many, ring_views, called_views, declared_views}
 
 -- what holds of each case holds
 by_option : {A B : Type 0} (P : B → Type 0) (f : A → B) (o : Option A) (d : B) → ((x : A) → P (f x)) → P d → P (option_map_or f o d)

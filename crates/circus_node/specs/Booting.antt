@@ -15,15 +15,15 @@ use Rattle.circus_model.specs.declared.signature.Signature.{Signature}
 use Rattle.circus_model.specs.declared.signature.Import.{Import}
 use Rattle.circus_performing.specs.Record.{behaviour}
 use Rattle.circus_wire.specs.Wire as wire
-use Rattle.circus_member.specs.declared.place.Beginning.{Beginning}
-use Rattle.circus_member.specs.declared.place.Beginning.TheVariants.{Founder, Spare}
-use Rattle.circus_member.specs.Step as member_step
+use Rattle.circus_member_rules.specs.declared.place.Beginning.{Beginning}
+use Rattle.circus_member_rules.specs.declared.place.Beginning.TheVariants.{Founder, Spare}
+use Rattle.circus_member_step.specs.Step as member_step
 use Rattle.circus_node.specs.declared.home.Home.{Home}
 use Rattle.circus_node.specs.declared.event.Outputs.{Outputs}
 use Rattle.circus_node.specs.declared.event.StepFault.{StepFault}
 use Rattle.circus_node.specs.NodeState.{NodeState, member, ringmaster}
-use Rattle.circus_node.specs.Accepting.{troupe_at, is_root}
-use Rattle.circus_node.specs.Bodies.{most_bytes}
+use Rattle.circus_accepting.specs.Accepting.{troupe_at, is_root}
+use Rattle.circus_limits.specs.Limits.{limit_of}
 use Rattle.circus_node.specs.Making.{Made, consequences, nothing}
 use Rattle.circus_node.specs.Step.{Ended, IsEnded, concluded}
 
@@ -56,7 +56,7 @@ pub record IsOfTroupe (d : Deployment) (number : ℕ) (declared : Signature) : T
   pub root : declared.root ≡ is_root d number
   pub main : declared.root ≡ true → declared.procedures ≡ main_alone
   pub imports : (callee : ℕ) (i : Import) → import_of callee declared.imports ≡ Some i → (callee < number) × (is_root d callee ≡ false)
-  pub limit : declared.limit ≤ most_bytes d.format
+  pub limit : declared.limit ≤ limit_of d.format
 
 -- a node of a program, with a module exactly where it isn't the Ringmaster's
 pub record CanBoot (d : Deployment) (node : ℕ) (declared : Option Signature) : Type 0 where

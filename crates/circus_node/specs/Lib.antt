@@ -1,8 +1,5 @@
-pub mod Headers
-pub mod Bodies
 pub mod Node
 pub mod NodeState
-pub mod Accepting
 pub mod Making
 pub mod Sending
 pub mod Step

@@ -16,17 +16,17 @@ use Rattle.circus_model.specs.NextTurn.{NextTurn}
 use Rattle.circus_model.specs.declared.signature.Signature.{Signature}
 use Rattle.circus_wire.specs.declared.delivery.Heard.{Heard}
 use Rattle.circus_wire.specs.declared.delivery.Heard.TheVariants.{Dropped, Taken, Called, Returned}
-use Rattle.circus_member.specs.declared.occurrence.Purpose.{Purpose}
-use Rattle.circus_member.specs.declared.occurrence.Effect.{Effect}
-use Rattle.circus_member.specs.declared.occurrence.Difference.{Difference}
-use Rattle.circus_member.specs.declared.occurrence.Occurrence.{Occurrence}
-use Rattle.circus_member.specs.declared.occurrence.Occurrence.TheVariants as comes
-use Rattle.circus_member.specs.MemberState.{MemberState}
-use Rattle.circus_member.specs.Rules.{answer}
-use Rattle.circus_member.specs.Step as member_step
+use Rattle.circus_member_rules.specs.declared.occurrence.Purpose.{Purpose}
+use Rattle.circus_member_rules.specs.declared.occurrence.Effect.{Effect}
+use Rattle.circus_member_rules.specs.declared.occurrence.Difference.{Difference}
+use Rattle.circus_member_rules.specs.declared.occurrence.Occurrence.{Occurrence}
+use Rattle.circus_member_rules.specs.declared.occurrence.Occurrence.TheVariants as comes
+use Rattle.circus_member_step.specs.MemberState.{MemberState}
+use Rattle.circus_member_rules.specs.Rules.{answer}
+use Rattle.circus_member_step.specs.Step as member_step
 use Rattle.circus_node.specs.declared.acting.Consequences.{Consequences}
 use Rattle.circus_node.specs.NodeState.{Acting, member, ringmaster}
-use Rattle.circus_node.specs.Accepting.{accepted, accepted_request}
+use Rattle.circus_accepting.specs.Accepting.{accepted, accepted_request}
 
 -- the member or the Ringmaster afterwards, and what comes of it
 pub record Made (M : Type 0) : Type 0 where

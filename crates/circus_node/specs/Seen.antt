@@ -1,7 +1,6 @@
 -- How code is seen: codes of what is kept, and what code keeps true. No public call cites these.
 pub mod Faults
 pub mod Kept
-pub mod Can
 pub mod ActingOf
 pub mod StationOf
 pub mod Sent

@@ -5,9 +5,9 @@ use Rattle.circus_segment.specs.Segment.{part_size, most_segments}
 use Rattle.circus_exchange.specs.Limits.{never_used}
 use Rattle.circus_wire.specs.declared.delivery.Batch.{Batch}
 use Rattle.circus_wire.specs.Wire.{WireState, is_up, next_number, called_to, sent_by_call, answered, sent_by_answer}
-use Rattle.circus_member.specs.declared.occurrence.Purpose.{Purpose}
-use Rattle.circus_member.specs.declared.occurrence.Effect.{Effect}
-use Rattle.circus_member.specs.declared.occurrence.Effect.TheVariants as made
+use Rattle.circus_member_rules.specs.declared.occurrence.Purpose.{Purpose}
+use Rattle.circus_member_rules.specs.declared.occurrence.Effect.{Effect}
+use Rattle.circus_member_rules.specs.declared.occurrence.Effect.TheVariants as made
 use Rattle.circus_node.specs.declared.event.Give.{Give}
 
 -- the pairs and what was sent so far, or a node to which no number is left

@@ -2,7 +2,7 @@
 ghost use Rattle.std.specs.Prelude.{◌≡◌};
 
 use bytes::Bytes;
-use circus_member::Difference;
+use circus_member_rules::Difference;
 use circus_value::{ListOf, Message, NoMemory, Nodes};
 use circus_wire::WireFault;
 use std::alloc::Global;

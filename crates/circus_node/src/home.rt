@@ -1,12 +1,12 @@
 // Where the member of a node stands at boot.
-ghost use Rattle.std.specs.Prelude.{◌≡◌, map, IfOk, if◌then◌else◌};
+ghost use Rattle.std.specs.Prelude.{◌≡◌, map, IfOk};
 ghost use Rattle.circus_value.specs.Among.{is_among};
 ghost use Rattle.circus_collate.specs.declared.deployment.Host.{Host as Hosting};
 ghost use Rattle.circus_node.specs.Booting as booting;
 
-use crate::program::troupe_at;
+use circus_accepting::troupe_at;
 use circus_collate::{Deployment, Host, Troupe};
-use circus_member::{Beginning, Place};
+use circus_member_rules::{Beginning, Place};
 use circus_value::{ListOf, NoMemory, is_among};
 use std::alloc::Global;
 

@@ -5,8 +5,8 @@ ghost use Rattle.circus_collate.specs.declared.deployment.Deployment.{Deployment
 ghost use Rattle.circus_collate.specs.declared.view.View.{View};
 ghost use Rattle.circus_known.specs.Knowing.{known_by};
 ghost use Rattle.circus_known.specs.Notices.{none_yet};
-ghost use Rattle.circus_member.specs.declared.place.Beginning.{Beginning as Begun};
-ghost use Rattle.circus_member.specs.declared.place.Place.{Place as Standing};
+ghost use Rattle.circus_member_rules.specs.declared.place.Beginning.{Beginning as Begun};
+ghost use Rattle.circus_member_rules.specs.declared.place.Place.{Place as Standing};
 ghost use Rattle.circus_model.specs.Behaviour.{Behaviour};
 ghost use Rattle.circus_model.specs.declared.signature.Signature.{Signature as Declared};
 ghost use Rattle.circus_node.specs.Booting.{CanBoot, AreOfTroupes, declared_at};

@@ -1,12 +1,12 @@
 // What is made is sent.
-ghost use Rattle.std.specs.Prelude.{◌≡◌, ◌⊎◌, ◌++◌, OnOk, map, length};
+ghost use Rattle.std.specs.Prelude.{◌≡◌, ◌⊎◌, ◌++◌, OnOk};
 ghost use Rattle.std.specs.List.{flat_map};
 ghost use Rattle.circus_wire.specs.Wire.{Remains};
 ghost use Rattle.circus_node.specs.Sending as sending;
 ghost use Rattle.circus_node.specs.Seen.Sent.{IsHanded};
 
 use crate::{Give, Gives, StepFault};
-use circus_member::{Effect, Effects, Purpose};
+use circus_member_rules::{Effect, Effects, Purpose};
 use circus_segment::{LONGEST, PART};
 use circus_value::{Caller, Message, NoMemory};
 use circus_wire::{Batch, Batches, Wire};

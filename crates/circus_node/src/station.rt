@@ -10,7 +10,7 @@ use crate::sending::{add_all_gives, add_gives, hand_all};
 use crate::{Gives, Outputs, StepFault};
 use bytes::Bytes;
 use circus_collate::Deployment;
-use circus_member::Purpose;
+use circus_member_rules::Purpose;
 use circus_value::{Duplicate, ListOf, NoMemory};
 use circus_wire::{Heard, Wire};
 use std::alloc::Global;

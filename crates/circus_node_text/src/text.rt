@@ -4,11 +4,11 @@ ghost use Rattle.std.specs.Option.{option_map_or};
 ghost use Rattle.circus_record.specs.Naming.{host_name, names_of};
 ghost use Rattle.circus_record.specs.MemberText.{member_lines};
 ghost use Rattle.circus_node.specs.NodeState.{member_record, ring_views};
-ghost use Rattle.circus_node.specs.Accepting as accepting;
 ghost use Rattle.circus_report.specs.ViewLines.{ringmaster_line, views_lines};
 ghost use Rattle.circus_node_text.specs.NodeText.{node_lines, node_text};
 
 use crate::happening::append_happened;
+use circus_accepting::troupe_at;
 use circus_collate::Deployment;
 use circus_model::Module;
 use circus_node::NodeCore;
@@ -105,11 +105,4 @@ fn append_ringmaster<M: Module, N: Naming>(
         write!(text, "{views}")?;
     }
     Ok(())
-}
-
-// The troupe of the member that a node hosts.
-fn troupe_at(deployment: &Deployment, node: u16) -> Option<u16>
-    ensures { result ≡ accepting.troupe_at deployment.now node }
-{
-    deployment.nodes.get(usize::from(node))?.module
 }

@@ -28,7 +28,7 @@ segments_taken first format (more acts act) lawful = segments_taken first format
 number_fits : (ts : List Piece) (call : ℕ) → Each IsSegment ts → has_arrived ts 0 call ≡ true → call < 2 ^ 32
 number_fits ts call each h = (let f = found IsSegment ts 0 call each h in subst (λ n. n < 2 ^ 32) f.part.call_is f.is.call)
 
-may_do : (first format : ℕ) (acts : Acts) (act : Act) → AreLawful first format (more acts act) → MayDo first format acts (taken_by (start first format) acts) act
+pub may_do : (first format : ℕ) (acts : Acts) (act : Act) → AreLawful first format (more acts act) → MayDo first format acts (taken_by (start first format) acts) act
 may_do first format acts (Return call message) lawful = (lawful.1.0, number_fits (taken_by (start first format) acts) call (segments_taken first format acts lawful.0) lawful.1.1, lawful.1.1, lawful.1.2)
 may_do first format acts act lawful = lawful.1
 
@@ -41,7 +41,7 @@ fine_lawful first format none_yet lawful = record { calls = λ q m h. absurd (no
 fine_lawful first format (more acts act) lawful =
     fine_act first format acts (taken_by (start first format) acts) (end_after (start first format) acts) act (hands_lawful first format acts lawful.0) (fine_lawful first format acts lawful.0) (may_do first format acts act lawful)
 
-keeping_lawful : (first format : ℕ) (acts : Acts) → (format ≡ 1) ⊎ (format ≡ 2) → AreLawful first format acts → Keeping first format acts (taken_by (start first format) acts) (end_after (start first format) acts)
+pub keeping_lawful : (first format : ℕ) (acts : Acts) → (format ≡ 1) ⊎ (format ≡ 2) → AreLawful first format acts → Keeping first format acts (taken_by (start first format) acts) (end_after (start first format) acts)
 keeping_lawful first format acts known lawful = record {
   known = known;
   format_is = format_stays (start first format) acts;

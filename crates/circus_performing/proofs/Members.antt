@@ -8,7 +8,7 @@ use Rattle.circus_transfer.specs.declared.joiner.Joiner.{Joiner}
 use Rattle.circus_transfer.specs.declared.joiner.Joiner.TheVariants.{Active}
 use Rattle.circus_model.specs.declared.turn.Turn.{Turn}
 use Rattle.circus_model.specs.declared.turn.Turn.TheVariants as T
-use Rattle.circus_model.specs.Limits.{most_asks}
+use Rattle.circus_limits.specs.Limits.{most_asks}
 use Rattle.circus_model.specs.NextTurn.{asks, ends}
 use Rattle.circus_model.specs.Lawful.{IsState, import_answers}
 use Rattle.circus_model.specs.Gives.{Gives, CanResume}

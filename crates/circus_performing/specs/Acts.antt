@@ -5,7 +5,7 @@ use Rattle.circus_value.specs.ExternalSize.{size_of_values}
 use Rattle.circus_value.specs.declared.outcome.Outcome.{Outcome}
 use Rattle.circus_collate.specs.declared.table.Table.{Table}
 use Rattle.circus_model.specs.declared.signature.Signature.{Signature}
-use Rattle.circus_model.specs.Limits.{most_bytes}
+use Rattle.circus_limits.specs.Limits.{most_bytes}
 use Rattle.circus_model.specs.Lawful.{IsState, arguments_fit, import_answers}
 use Rattle.circus_model.specs.Behaviour.{Behaviour}
 use Rattle.circus_record.specs.declared.record.AskRecord.{AskRecord}

@@ -11,7 +11,7 @@ use Rattle.circus_transfer.specs.declared.joiner.Joiner.TheVariants.{Outside, As
 use Rattle.circus_transfer.specs.Joining.{after_join, after_table}
 use Rattle.circus_model.specs.LanguageError.{number_of}
 use Rattle.circus_model.specs.declared.language_error.LanguageError.TheVariants.{ThreadSpent}
-use Rattle.circus_model.specs.Limits.{most_asks}
+use Rattle.circus_limits.specs.Limits.{most_asks}
 use Rattle.circus_model.specs.NextTurn.{NextTurn, asks, ends}
 use Rattle.circus_model.specs.Execution.{is_spent}
 use Rattle.circus_record.specs.declared.record.AskRecord.{AskRecord}

@@ -1,7 +1,7 @@
 // The best choice.
 ghost use Rattle.std.specs.Prelude.{◌≡◌, ℕ, ◌<◌, ◌≤◌, ◌==◌, List, length, IfOk, IfSome, IfNone};
 ghost use Rattle.std.specs.List.{list_any};
-ghost use Rattle.circus_placing.specs.Obeys.{Obeys};
+ghost use Rattle.circus_placing.specs.Obeys.{most_machines, Obeys};
 ghost use Rattle.circus_place.specs.Choice.{IsChoice, Satisfies, kept_by, IsBest};
 ghost use Rattle.circus_place.specs.Seen.Table.{flag_at};
 
@@ -43,7 +43,7 @@ pub fn place(alloc: Global, placing: &Placing) -> Result<Option<Chosen>, NoMemor
 
 // Whether a member is present, machine by machine.
 fn present_at(alloc: Global, placing: &Placing) -> Result<ListOf<bool>, NoMemory>
-    requires { length placing.now.machines ≤ 24 }
+    requires { length placing.now.machines ≤ most_machines }
     ensures len { IfOk result (λ made. length made ≡ length placing.now.machines) }
     ensures flags { IfOk result (λ made. (m : ℕ) → m < length placing.now.machines → flag_at made m ≡ list_any (λ n. m == n) placing.now.present) }
 {

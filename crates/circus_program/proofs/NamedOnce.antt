@@ -16,7 +16,7 @@ use Rattle.circus_troupe.specs.declared.deployment_text.DeploymentText.{Deployme
 use Rattle.circus_collate.specs.declared.deployment.Host.{Host}
 use Rattle.circus_collate.specs.declared.deployment.Deployment.{Deployment}
 use Rattle.circus_deployment.specs.declared.cause.Cause.TheVariants.{Repeated, OutOfRange, TooMany}
-use Rattle.circus_deployment.specs.Limits.{most_nodes, greatest_port}
+use Rattle.circus_limits.specs.Limits.{most_nodes, greatest_port}
 use Rattle.circus_deployment.specs.Nodes.{hosts_of, nodes_of, module_numbers}
 use Rattle.circus_deployment.specs.Faults.{Before, no_nodes, node_faults, behind_node, nodes_faults, troupes_faults}
 use Rattle.circus_deployment.specs.Meaning.{host_meant, module_of_troupe, hosts_meant, nodes_meant}

@@ -11,7 +11,7 @@ use Rattle.circus_program.specs.declared.answer.Step.TheVariants.{Finish, Lack, 
 use Rattle.circus_ending.specs.Ending.{Ending}
 use Rattle.circus_ending.specs.Seen.Ending.{ending_of}
 use Rattle.circus_config.specs.declared.plan.Plan.{Plan}
-use Rattle.circus_serve.specs.Outside.{Tells}
+use Rattle.circus_log.specs.Outside.{Tells}
 use Rattle.circus_simulated.specs.Seen.Simulated.{world_of}
 use Rattle.circus_served.specs.NodeEnds.{IsEndOfServing}
 use Rattle.circus_program.specs.Answer.{AsksForNode, finish, Finishes, Lacks, IsText, IsDue, WasLast, WritesEnd, shelf_fault}

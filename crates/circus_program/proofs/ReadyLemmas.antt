@@ -6,13 +6,12 @@ use Rattle.circus_schedule.specs.declared.schedule_fault.ScheduleFault.{Schedule
 use Rattle.circus_schedule.specs.declared.schedule_fault.ScheduleFault.TheVariants.{NoMemory}
 use Rattle.circus_schedule.specs.TextLines.{lines_of}
 use Rattle.circus_schedule.specs.Meaning.{Numbers, numbers_of, IsReadAs}
-use Rattle.circus_schedule.specs.Answer.{IsAnswer}
+use Rattle.circus_schedule.specs.Answer.{most_lines, IsAnswer}
 use Rattle.circus_config.specs.declared.plan.Plan.{Plan}
 use Rattle.circus_ending.specs.Ending.{Ending}
 use Rattle.circus_alike.specs.Alike.{declared_of, turn_of}
 use Rattle.circus_record.specs.Naming.{names_of}
-use Rattle.circus_ending.specs.Spent.{spent}
-use Rattle.circus_simulated.specs.Booted.{booted, names_in}
+use Rattle.circus_simulated.specs.Booted.{booted}
 use Rattle.circus_simulated.specs.Seen.Simulated.{world_of, IsOfPlan}
 use Rattle.circus_program.specs.declared.ready.Ready.{Ready}
 use Rattle.circus_program.specs.Replay.{replayed_whole, replay_of, IsReplayOf, IsEndOfReplay}
@@ -25,7 +24,7 @@ read-answers numbers text read lines is (inl none) = absurd (let clash : ◌≡�
 read-answers numbers text read lines is (inr answer) = subst (λ (r : Result (List Line) ScheduleFault). IsAnswer numbers text r) is answer
 
 -- its lines are few
-pub read-few : (numbers : Numbers) (text : List ℕ) (lines : List Line) → IsAnswer numbers text (Ok lines) → length lines ≤ 200000
+pub read-few : (numbers : Numbers) (text : List ℕ) (lines : List Line) → IsAnswer numbers text (Ok lines) → length lines ≤ most_lines
 read-few numbers text lines answer = omega (arith, answer.few, AllZip-long (IsReadAs numbers) (lines_of text) lines answer.each)
 
 -- what comes of a fault comes of the schedule
@@ -51,7 +50,3 @@ ended-of_lines plan schedule lines end (Err f) answer is = tt
 pub ready_replays : (plan : Plan) (r : Ready) → IsOfPlan plan r.simulated → booted plan ≡ Ok (world_of r.simulated.world) → end_of_ready r ≡ replay_of plan r.lines
 ready_replays plan r of is =
     (λ i. replayed_whole declared_of turn_of (names_of (of.hosts i) (of.names i)) r.lines (world_of r.simulated.world)) ∙ ap (from_boot plan r.lines) (sym is)
-
--- and one that could not boot ends as it does
-pub spent_replays : (plan : Plan) (lines : List Line) (ending : Ending) → (nodes : ℕ × ℕ) × (booted plan ≡ Err nodes) × (ending ≡ spent (names_in plan) nodes) → ending ≡ replay_of plan lines
-spent_replays plan lines ending (nodes, is, written) = written ∙ ap (from_boot plan lines) (sym is)

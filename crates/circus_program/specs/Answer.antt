@@ -14,7 +14,7 @@ use Rattle.circus_ending.specs.declared.one_file.OneFile.TheVariants.{Stubs, Run
 use Rattle.circus_ending.specs.Refusal.{IsGood, IsEndOfRefused}
 use Rattle.circus_ending.specs.OneFile.{IsEndOf}
 use Rattle.circus_record.specs.Line.{line}
-use Rattle.circus_serve.specs.Outside.{Tells}
+use Rattle.circus_log.specs.Outside.{Tells}
 use Rattle.circus_simulated.specs.Sample.{sample_of}
 use Rattle.circus_served.specs.Named.{IsNamed, no_node}
 use Rattle.circus_served.specs.NodeEnds.{IsEndOfServing}

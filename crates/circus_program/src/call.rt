@@ -6,7 +6,7 @@ ghost use Rattle.circus_ending.specs.declared.status.Status.{Status as Ended};
 ghost use Rattle.circus_ending.specs.declared.status.Status.TheVariants.{Done, BadCommandLine, BadProgram, BadSchedule, ShelfFault, LinkFault, NoMemory, Spent, NotBuilt, BadPlacing, NoPlacement};
 ghost use Rattle.circus_ending.specs.Status.{code_of};
 ghost use Rattle.circus_ending.specs.Seen.Ending.{ending_of};
-ghost use Rattle.circus_serve.specs.Outside.{tells_of};
+ghost use Rattle.circus_log.specs.Outside.{tells_of};
 ghost use Rattle.circus_program.specs.Seen.Put.{IsAnswer, IsFinished};
 ghost use Rattle.circus_program.specs.Seen.Step.{IsPutStep, IsServing, Stands};
 

@@ -3,6 +3,7 @@ ghost use Rattle.std.specs.Prelude.{◌≡◌, ◌≤◌, All, IsTrue, length, I
 ghost use Rattle.circus_config.specs.Program.{IsPlan};
 ghost use Rattle.circus_ending.specs.Status.{is_end};
 ghost use Rattle.circus_ending.specs.Seen.Ending.{ending_of};
+ghost use Rattle.circus_schedule.specs.Answer.{most_lines};
 ghost use Rattle.circus_schedule.specs.Meaning.{NamesBelow};
 ghost use Rattle.circus_program.specs.Replay.{replay_of, IsEndOfReplay};
 ghost use Rattle.circus_program.specs.Seen.Ready.{end_of_ready, IsReady};
@@ -45,7 +46,7 @@ pub fn prepare(
 fn boot(alloc: Global, plan: Plan, lines: Lines) -> Result<Result<Ready, Ending>, NoMemory>
     requires plan { IsPlan plan }
     requires below { All (NamesBelow (length plan.deployment.nodes)) lines }
-    requires few { length lines ≤ 200000 }
+    requires few { length lines ≤ most_lines }
     ensures ready { IfOk result (λ first. IfOk first IsReady) }
     ensures end { IfOk result (λ first. IfOk first (λ ready. end_of_ready ready ≡ replay_of plan lines)) }
     ensures ended { IfOk result (λ first. IfErr first (λ ending. ending_of ending ≡ replay_of plan lines)) }

@@ -6,11 +6,9 @@ ghost use Rattle.circus_ring.specs.RingTable as ring_table;
 
 use circus_collate::{Entries, Entry, RingResult, Since, Table, Troupe, View};
 use circus_header::Request;
+use circus_limits::MOST_MEMBERS;
 use circus_value::{Duplicate, ListOf, NoMemory, is_among};
 use std::alloc::Global;
-
-/// The most entries of a view.
-pub const MOST_ENTRIES: usize = 16;
 
 /// The incarnation after which none comes.
 const LAST_INCARNATION: u32 = u32::MAX;
@@ -48,7 +46,7 @@ fn join_taken(troupe: &Troupe, view: &View, node: u16) -> RingResult
         RingResult::RootTroupe
     } else if !is_among(troupe.spares.as_slice(), node) {
         RingResult::NotSpare
-    } else if !view.has_node(node) && view.entries.len() >= MOST_ENTRIES {
+    } else if !view.has_node(node) && view.entries.len() >= MOST_MEMBERS {
         RingResult::Full
     } else {
         RingResult::Done

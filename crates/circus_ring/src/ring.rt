@@ -1,6 +1,6 @@
 // The views of all troupes.
 ghost use Rattle.std.specs.Prelude.{◌≡◌, ℕ, ◌<◌, ◌≤◌, List, [], ◌∷◌, ◌++◌, length, map, Some, IfOk, OnOk, OnErr, IsTrue, ◌↔◌};
-ghost use Rattle.circus_header.specs.Limits.{most_modules};
+ghost use Rattle.circus_limits.specs.Limits.{most_modules};
 ghost use Rattle.circus_header.specs.declared.call.Request.{Request as Asked};
 ghost use Rattle.circus_collate.specs.declared.deployment.Troupe.{Troupe as Members};
 ghost use Rattle.circus_ring.specs.RingTable.{kept_after, answer_after};

@@ -9,17 +9,17 @@ ghost use Rattle.circus_ring.specs.TableFields as table_fields;
 ghost use Rattle.circus_ring.specs.TableFields.{IsTable, IsTableRead};
 ghost use Rattle.circus_ring.specs.Seen.TableLayout as layouts;
 
-use crate::requests::MOST_ENTRIES;
 use circus_collate::{Entries, Entry, RingResult, Since, Table, View};
 use circus_header::{HeaderFault, long, push_long, push_word, word};
+use circus_limits::{MOST_MEMBERS, MOST_MODULES, MOST_NODES};
 use circus_value::{ListOf, Message, NoMemory};
 use std::alloc::Global;
 
 /// The greatest number of a troupe.
-const MOST_TROUPE: u16 = 31;
+const LAST_TROUPE: u16 = MOST_MODULES as u16 - 1;
 
 /// The greatest number of a node.
-const MOST_NODE: u16 = 63;
+const LAST_NODE: u16 = MOST_NODES as u16 - 1;
 
 /// Adds the bytes of a table at the end of `out` (docs/FORMATS.md, "Tables"). After `NoMemory`, the one fault, `out`
 /// is unchanged.
@@ -104,9 +104,9 @@ fn any_table(alloc: Global, bytes: &[u8]) -> Result<(Table, usize), HeaderFault>
     ensures { Reading bytes.now layouts.table_layout 0 result }
 {
     let (number, at) = word(&bytes, 0, 0, 3)?;
-    let (troupe, at) = word(&bytes, at, 0, MOST_TROUPE)?;
+    let (troupe, at) = word(&bytes, at, 0, LAST_TROUPE)?;
     let (incarnation, at) = long(&bytes, at, 1, u32::MAX)?;
-    let (count, at) = word(&bytes, at, 0, MOST_ENTRIES as u16)?;
+    let (count, at) = word(&bytes, at, 0, MOST_MEMBERS as u16)?;
     let (entries, end) = entries(alloc, bytes, at, count)?;
     Ok((table_of(number, troupe, incarnation, entries), end))
 }
@@ -157,7 +157,7 @@ fn entries(
 fn entry(bytes: &[u8], at: usize) -> Result<(Entry, usize), HeaderFault>
     ensures { Reading bytes.now layouts.entry_layout at result }
 {
-    let (node, at) = word(&bytes, at, 0, MOST_NODE)?;
+    let (node, at) = word(&bytes, at, 0, LAST_NODE)?;
     let (kind, at) = word(&bytes, at, 0, 1)?;
     let (first, at) = long(&bytes, at, 0, most_first(kind))?;
     Ok((entry_of(node, kind, first), at))

@@ -2,6 +2,7 @@
 use Rattle.std.specs.Prelude.{ℕ, ◌≡◌, ◌<◌, ◌≤◌, ◌^◌, List, [], ◌∷◌, length, codes, IsTrue}
 use Rattle.std.specs.Fmt.{decimal}
 use Rattle.std.specs.List.{join_with_byte}
+use Rattle.circus_limits.specs.Limits.{longest_name}
 use Rattle.circus_collate.specs.Deployment.{is_word}
 
 -- what is written in a line, with the names of nodes
@@ -25,10 +26,6 @@ words_of (join node) = codes "join" ∷ node ∷ []
 -- its one spelling: the words, with one space between two
 abbrev pub text_of : WrittenLine → List ℕ
 text_of line = join_with_byte 32 (words_of line)
-
--- how many bytes a name has at most
-abbrev pub longest_name : ℕ
-longest_name = 32
 
 -- a name of a node is a word
 abbrev pub IsName : List ℕ → Type 0

@@ -9,6 +9,7 @@ ghost use Rattle.circus_schedule.specs.Seen.Written.{written_as};
 
 use crate::cut::cut_at;
 use crate::decimal::decimal_at_most;
+use circus_limits::LONGEST_NAME;
 
 /// A line with the names of its nodes.
 #[derive(Clone, Copy, Debug)]
@@ -32,9 +33,6 @@ const DOWN: &[u8] = b"down ";
 const JOIN: &[u8] = b"join ";
 
 const SPACE: u8 = b' ';
-
-/// How many bytes a name has at most.
-const LONGEST_NAME: usize = 32;
 
 /// The line that the text is. `None` exactly where it is none. It takes no memory.
 pub fn written_line(text: &[u8]) -> Option<Written<'_>>

@@ -1,5 +1,5 @@
 -- What happens to a node stands behind what happened before, and so does what it gives.
-use Rattle.std.proofs.Common.{◌≡◌, ℕ, Bool, if◌then◌else◌, List, [], ◌∷◌, ◌++◌, map, flat_map, Option, None, Some, Ok, Err, refl, sym, ap, ◌∙◌, append_assoc, append-nil}
+use Rattle.std.proofs.Common.{◌≡◌, ℕ, List, [], ◌∷◌, ◌++◌, map, flat_map, Option, None, Some, Ok, Err, refl, sym, ap, ◌∙◌, append_assoc, append-nil}
 use Rattle.std.proofs.lemmas.List.{map-append}
 use Rattle.std.proofs.lemmas.Grind.{flat_map-append}
 use Rattle.std.specs.Option.{option_map_or}
@@ -11,14 +11,13 @@ use Rattle.circus_model.specs.declared.signature.Signature.{Signature}
 use Rattle.circus_outside.specs.declared.link.TakenFrom.{TakenFrom}
 use Rattle.circus_outside.specs.declared.link.TakenFrom.TheVariants.{From, Nothing}
 use Rattle.circus_node.specs.declared.event.Event.{Event}
-use Rattle.circus_node.specs.declared.event.Event.TheVariants.{Datagram, Tick, Down, Join}
+use Rattle.circus_node.specs.declared.event.Event.TheVariants.{Datagram, Tick, Down}
 use Rattle.circus_node.specs.declared.event.Give.{Give}
-use Rattle.circus_node.specs.NodeState.{NodeState}
 use Rattle.circus_node.specs.Step as step
-use Rattle.circus_serve.specs.declared.happening.Happening.{Happening}
-use Rattle.circus_serve.specs.declared.happening.Happening.TheVariants.{Stepped, Foreign}
-use Rattle.circus_serve.specs.Happened.{port_of, peer_at, gives_in, given_in}
-use Rattle.circus_serve.specs.Serving.{Served, Progress, on, spent, happened_by, and_then, concluded, event_comes, all_declared, suspected, comes, took, all_took, with_foreign, is_spare, at_boot, begun}
+use Rattle.circus_log.specs.declared.happening.Happening.{Happening}
+use Rattle.circus_log.specs.declared.happening.Happening.TheVariants.{Stepped, Foreign}
+use Rattle.circus_log.specs.Happened.{port_of, peer_at, gives_in, given_in}
+use Rattle.circus_log.specs.Serving.{Served, Progress, on, spent, happened_by, and_then, concluded, event_comes, all_declared, suspected, comes, took, all_took, with_foreign}
 
 pub given_in-append : (d : Deployment) (xs ys : List Happening) → given_in d (xs ++ ys) ≡ given_in d xs ++ given_in d ys
 given_in-append d xs ys =
@@ -82,8 +81,3 @@ module _ {M : Type 0} (declared : M → Signature) (turn : M → List ValueTree 
           → and_then (all_took declared turn d own (others ++ taken ∷ [])) p ≡ and_then (took declared turn d own taken) (and_then (all_took declared turn d own others) p)
       by_first later (on t) = later t
       by_first later (spent node happened) = refl
-
-  -- it is told to join where it is a spare
-  pub begun_so : (node : NodeState M) (gives : List Give) (is : Bool) → is_spare node ≡ is
-      → begun declared turn node gives ≡ (if is then comes declared turn Join (at_boot node gives) else on (at_boot node gives))
-  begun_so node gives is same = ap (λ b. if b then comes declared turn Join (at_boot node gives) else on (at_boot node gives)) same

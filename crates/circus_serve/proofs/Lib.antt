@@ -1,9 +1,6 @@
-pub mod AskedLemmas
 pub mod EventLemmas
+pub mod GivenLemmas
 pub mod GoneLemmas
 pub mod HappenedLemmas
-pub mod RunLemmas
 pub mod ServedLemmas
-pub mod SpareLemmas
 pub mod SuspectLemmas
-pub mod TakesLemmas

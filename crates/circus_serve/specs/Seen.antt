@@ -1,4 +1,5 @@
--- How code is seen: what its parts do, what they keep true, and codes of what is kept. No public call cites these.
+-- How code is seen: how a node goes on by its parts, faults of one kind as those of another, and codes of what is kept. No
+-- public call of the crate cites these.
 pub mod Asking
 pub mod Counting
 pub mod Faults

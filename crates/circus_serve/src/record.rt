@@ -1,15 +1,15 @@
 // A node is served over a link, and the record of it.
-ghost use Rattle.std.specs.Prelude.{◌≡◌, ◌<◌, length, IsErrOf};
+ghost use Rattle.std.specs.Prelude.{◌≡◌, ◌<◌, IsErrOf};
 ghost use Rattle.circus_outside.specs.Faults.{Rose};
 ghost use Rattle.circus_collate.specs.Deployment.{IsDeployment};
 ghost use Rattle.circus_node.specs.Node.{IsNodeOf};
-ghost use Rattle.circus_serve.specs.Outside.{tells_of};
+ghost use Rattle.circus_log.specs.Outside.{tells_of};
 ghost use Rattle.circus_serve.specs.Answers.{IsAnswer};
 
-use crate::peers::port_of;
+use crate::ServeFault;
 use crate::serving::Serving;
-use crate::{Happenings, ServeFault};
 use circus_collate::Deployment;
+use circus_log::{Happenings, port_of};
 use circus_model::Module;
 use circus_node::{Gives, NodeCore};
 use circus_outside::Link;

@@ -95,6 +95,3 @@ pub sample_booted : (plan : Plan) (s : Simulated) (seed steps : ℕ) → IsOfPla
     → sample_in (names_of s.hosts s.names) seed steps (world_of s.world) ≡ sample_of plan seed steps
 sample_booted plan s seed steps of is =
     (λ i. sample_in (names_of (of.hosts i) (of.names i)) seed steps (world_of s.world)) ∙ ap (after_step (names_in plan) (sample_in (names_in plan) seed steps)) (sym is)
-
-pub sample_unbooted : (plan : Plan) (seed steps : ℕ) (ending : Ending) → (nodes : ℕ × ℕ) × (booted plan ≡ Err nodes) × (ending ≡ spent (names_in plan) nodes) → ending ≡ sample_of plan seed steps
-sample_unbooted plan seed steps ending (nodes, is, written) = written ∙ ap (after_step (names_in plan) (sample_in (names_in plan) seed steps)) (sym is)

@@ -16,8 +16,8 @@ use Rattle.circus_pair.specs.Lawful.{AreLawful}
 use Rattle.circus_pair.specs.TwoEnds.{sent_by}
 use Rattle.circus_wire.specs.WireActs.{WireAct, WireActs, begun}
 use Rattle.circus_wire.specs.WireStanding.{WireStands}
-use Rattle.circus_member.specs.declared.occurrence.Purpose.{Purpose}
-use Rattle.circus_member.specs.declared.occurrence.Effect.{Effect}
+use Rattle.circus_member_rules.specs.declared.occurrence.Purpose.{Purpose}
+use Rattle.circus_member_rules.specs.declared.occurrence.Effect.{Effect}
 use Rattle.circus_node.specs.declared.event.Outputs.{Outputs}
 use Rattle.circus_node.specs.Booting.{AreOfTroupes, booted, fresh_wire, home_of, made_at_boot}
 use Rattle.circus_node.specs.NodeState.{NodeState}

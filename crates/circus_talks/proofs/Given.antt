@@ -18,9 +18,9 @@ use Rattle.circus_wire.specs.WireStanding.{WireStands, pair_of, owed_to, sent_in
 use Rattle.circus_wire.proofs.Changing.{found_by, peer_is}
 use Rattle.circus_wire.proofs.Owing.{found_stands}
 use Rattle.circus_wire.proofs.Performing.{call_stands, call_owes, answer_stands, answer_owes, unawaited_stands}
-use Rattle.circus_member.specs.declared.occurrence.Purpose.{Purpose}
-use Rattle.circus_member.specs.declared.occurrence.Effect.{Effect}
-use Rattle.circus_member.specs.declared.occurrence.Effect.TheVariants as made
+use Rattle.circus_member_rules.specs.declared.occurrence.Purpose.{Purpose}
+use Rattle.circus_member_rules.specs.declared.occurrence.Effect.{Effect}
+use Rattle.circus_member_rules.specs.declared.occurrence.Effect.TheVariants as made
 use Rattle.circus_node.specs.declared.event.Give.{Give}
 use Rattle.circus_node.specs.declared.event.Outputs.{Outputs}
 use Rattle.circus_node.specs.NodeState.{NodeState}

@@ -20,7 +20,7 @@ use Rattle.circus_wire.specs.WireStanding.{WireStands, pair_of, owed_to, ticks_b
 use Rattle.circus_wire.proofs.Owing.{tick_owed}
 use Rattle.circus_wire.proofs.Performing.{came_stands, came_owes}
 use Rattle.circus_wire.proofs.Standing.{stands_begun, stands_ticked, stands_stopped}
-use Rattle.circus_member.specs.declared.occurrence.Purpose.{Purpose}
+use Rattle.circus_member_rules.specs.declared.occurrence.Purpose.{Purpose}
 use Rattle.circus_node.specs.declared.event.Event.{Event}
 use Rattle.circus_node.specs.declared.event.Event.TheVariants.{Datagram, Tick, Down, Join}
 use Rattle.circus_node.specs.declared.event.Outputs.{Outputs}

@@ -10,9 +10,9 @@ use Rattle.circus_pair.specs.TwoEnds.{Talk, silent, at_first, at_second, acts_at
 use Rattle.circus_pair.proofs.Agreeing.{talk_agrees}
 use Rattle.circus_wire.specs.Wire.{WireState, is_up}
 use Rattle.circus_wire.specs.WireActs.{WireAct, WireActs, followed_by, CallTo, AnswerTo, CameFrom, TickAll, StopOf, act_at, acts_at, awaits_after}
-use Rattle.circus_member.specs.declared.occurrence.Purpose.{Purpose}
-use Rattle.circus_member.specs.declared.occurrence.Effect.{Effect}
-use Rattle.circus_member.specs.declared.occurrence.Effect.TheVariants as made
+use Rattle.circus_member_rules.specs.declared.occurrence.Purpose.{Purpose}
+use Rattle.circus_member_rules.specs.declared.occurrence.Effect.{Effect}
+use Rattle.circus_member_rules.specs.declared.occurrence.Effect.TheVariants as made
 use Rattle.circus_node.specs.Sending.{is_sendable}
 use Rattle.circus_talks.specs.NodeActs.{with_all, handed_by}
 

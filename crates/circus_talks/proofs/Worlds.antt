@@ -21,7 +21,7 @@ use Rattle.circus_wire.specs.Wire.{WireState, IsOther}
 use Rattle.circus_wire.specs.WireActs.{WireAct, WireActs, acts_at}
 use Rattle.circus_wire.specs.WireStanding.{WireStands, pair_of}
 use Rattle.circus_wire.proofs.Histories.{knows_lawful, sent_is}
-use Rattle.circus_member.specs.declared.occurrence.Purpose.{Purpose}
+use Rattle.circus_member_rules.specs.declared.occurrence.Purpose.{Purpose}
 use Rattle.circus_node.specs.declared.event.Event.{Event}
 use Rattle.circus_node.specs.declared.event.Event.TheVariants as comes
 use Rattle.circus_node.specs.declared.event.Outputs.{Outputs}

@@ -10,7 +10,7 @@ use Rattle.circus_pair.specs.Acts.{Acts}
 use Rattle.circus_wire.specs.Wire.{Beginning}
 use Rattle.circus_wire.specs.WireActs.{WireActs, begun, acts_at}
 use Rattle.circus_wire.specs.WireStanding.{pair_of}
-use Rattle.circus_member.specs.declared.occurrence.Purpose.{Purpose}
+use Rattle.circus_member_rules.specs.declared.occurrence.Purpose.{Purpose}
 use Rattle.circus_node.specs.declared.event.Event.{Event}
 use Rattle.circus_node.specs.declared.event.Event.TheVariants as comes
 use Rattle.circus_schedule.specs.declared.line.Line.{Line}

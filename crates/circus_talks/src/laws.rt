@@ -10,7 +10,7 @@ ghost use Rattle.circus_wire.specs.Wire.{heard_from};
 ghost use Rattle.circus_wire.specs.WireActs.{purpose_of};
 ghost use Rattle.circus_wire.specs.WireStanding.{WireStands, pair_of};
 ghost use Rattle.circus_wire.specs.declared.delivery.Heard.TheVariants.{Called, Returned};
-ghost use Rattle.circus_member.specs.declared.occurrence.Purpose.{Purpose};
+ghost use Rattle.circus_member_rules.specs.declared.occurrence.Purpose.{Purpose};
 ghost use Rattle.circus_node.specs.Booting.{AreOfTroupes};
 ghost use Rattle.circus_schedule.specs.declared.line.Line.{Line};
 ghost use Rattle.circus_world.specs.declared.sent.Sent.{Sent};

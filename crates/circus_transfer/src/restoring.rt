@@ -1,15 +1,14 @@
 // The state that a message hands over.
-ghost use Rattle.std.specs.Prelude.{◌≡◌, ◌≤◌, length, drop, true};
-ghost use Rattle.circus_external.specs.Seen.Given.{Gives};
+ghost use Rattle.std.specs.Prelude.{◌≡◌, true};
 ghost use Rattle.circus_external.specs.Reading.{fields_reading};
 ghost use Rattle.circus_external.specs.Refusal.{are_proper};
 ghost use Rattle.circus_transfer.specs.Snapshot.{fields_of, snapshot_fields};
 ghost use Rattle.circus_transfer.specs.Restoring.{IsRestored};
 ghost use Rattle.circus_transfer.specs.Seen.Restored.{Restores};
 
-use crate::TransferFault;
-use circus_external::{ExternalFault, read_from, read_long, read_word};
-use circus_value::{Shapes, State, Values};
+use crate::{TransferFault, read_values};
+use circus_external::{read_long, read_word};
+use circus_value::{Shapes, State};
 use std::alloc::Global;
 
 /// The first word of a snapshot.
@@ -32,30 +31,9 @@ pub fn restore(alloc: Global, bytes: &[u8], shapes: &Shapes) -> Result<(State, u
         return Err(TransferFault::BadField(0));
     }
     let (count, at) = read_long(&bytes, at)?;
-    let (state, end) = read_state(alloc, bytes, at, shapes)?;
+    let (state, end) = read_values(alloc, &bytes, at, shapes)?;
     if end < bytes.len() {
         return Err(TransferFault::Excess(end as u64));
     }
     Ok((state, count))
-}
-
-// One value for each shape, from a place on, and the place behind them.
-#[tactic(auto, using(crate::proofs::Fields::shapes_more, crate::proofs::Fields::shapes_all, crate::proofs::Fields::shapes_fault))]
-fn read_state(
-    alloc: Global,
-    bytes: &[u8],
-    from: usize,
-    shapes: &Shapes,
-) -> Result<(State, usize), ExternalFault>
-    requires { from ≤ length bytes.now }
-    ensures { Gives (λ ts. ts) bytes.now result (fields_reading (fields_of shapes.now) from (drop from bytes.now)) }
-{
-    let mut state = Values::new(alloc);
-    let mut at = from;
-    for shape in shapes.as_slice() {
-        let (value, next) = read_from(alloc, &bytes, at, shape)?;
-        state.push(value)?;
-        at = next;
-    }
-    Ok((state, at))
 }

@@ -1,5 +1,6 @@
 //! The pairs of a node with all other ones.
 ghost use Rattle.std.specs.Prelude.{◌≡◌, ◌≢◌, ◌⊎◌, ℕ, ◌<◌, ◌≤◌, [], ◌++◌, length, true, IfOk, OnOk, OnErr, Ok, Err, slice_get, option_copied};
+ghost use Rattle.circus_limits.specs.Limits.{most_nodes};
 ghost use Rattle.circus_segment.specs.Segment.{Piece, reading};
 ghost use Rattle.circus_segment.specs.Seen.Pieces.{piece};
 ghost use Rattle.circus_pair.specs.declared.fault.PairFault.TheVariants.{Spent as NoNumber};
@@ -63,7 +64,7 @@ fn place_of(own: u16, node: u16) -> usize
 
 // The node at a place among the others.
 fn node_at(own: u16, place: usize) -> u16
-    requires { place < 64 }
+    requires { place < most_nodes }
     ensures { result ≡ model.node_at own place }
 {
     let place = place as u16;
@@ -76,7 +77,7 @@ impl<P: Drop> Wire<P> {
     pub fn new(alloc: Global, own: u16, nodes: usize, format: u8) -> Result<Self, NoMemory>
         requires format { (format ≡ 1) ⊎ (format ≡ 2) }
         requires own { own < nodes }
-        requires few { nodes ≤ 64 }
+        requires few { nodes ≤ most_nodes }
         ensures value { IfOk result (λ wire. wire ≡ model.before_any (record { own = own; nodes = nodes; first = 0; format = format })) }
         ensures stands { IfOk result (λ wire. WireStands wire (record { own = own; nodes = nodes; first = 0; format = format }) begun) }
     {
@@ -93,7 +94,7 @@ impl<P: Drop> Wire<P> {
     ) -> Result<Self, NoMemory>
         requires format { (format ≡ 1) ⊎ (format ≡ 2) }
         requires own { own < nodes }
-        requires few { nodes ≤ 64 }
+        requires few { nodes ≤ most_nodes }
         ensures value { IfOk result (λ wire. wire ≡ model.before_any (record { own = own; nodes = nodes; first = number; format = format })) }
         ensures stands { IfOk result (λ wire. WireStands wire (record { own = own; nodes = nodes; first = number; format = format }) begun) }
     {

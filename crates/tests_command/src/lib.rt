@@ -5,6 +5,7 @@ use circus_outside::{Arrivals, Failing, File, Files, MemLink, MemShelf, MemSink,
 use circus_program::circus;
 use circus_value::{Duplicate, NoMemory, Octets};
 use std::alloc::Global;
+use tests_parts::joined;
 
 /// What a run leaves: its status, what it wrote, and how many files it fetched.
 #[derive(Drop)]
@@ -36,15 +37,6 @@ fn strings(alloc: Global, texts: &[&str]) -> Result<Vec<String>, NoMemory> {
     let mut all = Vec::new(alloc);
     for text in texts {
         all.push(String::from_str(alloc, text)?)?;
-    }
-    Ok(all)
-}
-
-/// The texts, one behind another.
-pub fn joined(alloc: Global, texts: &[&str]) -> Result<String, NoMemory> {
-    let mut all = String::new(alloc);
-    for text in texts {
-        all.push_str(text)?;
     }
     Ok(all)
 }

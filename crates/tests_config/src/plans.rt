@@ -4,7 +4,7 @@ use circus_config::{Plan, ProgramCause, ProgramFault, read_program};
 use circus_text::LONGEST_TEXT;
 use circus_value::Octets;
 use std::test::Fail;
-use tests_parts::BANK;
+use tests_parts::{BANK, joined};
 
 fn is_named(plan: &Plan, number: usize, name: &[u8]) -> bool {
     plan.names.get(number).is_some_and(|n| n.as_slice() == name)
@@ -23,7 +23,8 @@ fn is_host(host: Option<&Host>, name: &[u8], port: u16, module: Option<u16>) -> 
 
 #[test]
 fn the_bank(rt: HostRuntime) -> Result<(), Fail> {
-    let plan = read_program(rt.alloc(), BANK.as_bytes())?;
+    let bank = joined(rt.alloc(), BANK)?;
+    let plan = read_program(rt.alloc(), bank.as_str().as_bytes())?;
     assert_eq!(rt; plan.names.len(), 3);
     assert!(rt; is_named(&plan, 0, b"Ledger"));
     assert!(rt; is_named(&plan, 1, b"Teller"));

@@ -4,6 +4,10 @@ use circus_text::{LONGEST_TEXT, tokens};
 use circus_value::{NoMemory, Octets};
 use std::alloc::Global;
 use std::test::Fail;
+use tests_parts::{
+    ADDS_ONCE, ADDS_TWICE, BANK_MODULES, COUNTER, ROOM_FILLED, ROOM_MODULES, STEP_A, STEP_B,
+    STEPS_BOTH, VAULT_MODULES, WHEEL_MODULES, joined,
+};
 
 /// A text, and the place of the token with which no module goes on, or `None` where it is read.
 type Row = (&'static [u8], Option<u64>);
@@ -481,179 +485,15 @@ const NESTS: [Nest; 21] = [
     ),
 ];
 
-// The modules of programs, and how many there are.
-const PROGRAMS: [(&[u8], usize); 7] = [
-    (
-        b"MODULE Counter IMPLEMENTS Count;
-BEGIN
-  VAR total: CARDINAL;
-  PROCEDURE Add BEGIN
-    total := total + n;
-    RETURN [total];
-  END;
-END.
-ROOT Main IMPORTS Counter;
-BEGIN
-  VAR got: CARDINAL;
-  MAIN BEGIN
-    CALL Counter.Add [5] INTO [got];
-    RETURN [];
-  END;
-END.",
-        2,
-    ),
-    (
-        b"MODULE Counter IMPLEMENTS Count;
-BEGIN
-  VAR total: CARDINAL;
-  PROCEDURE Add BEGIN
-    total := total + n;
-    RETURN [total];
-  END;
-END.
-ROOT Main IMPORTS Counter;
-BEGIN
-  VAR got: CARDINAL;
-  MAIN BEGIN
-    CALL Counter.Add [5] INTO [got];
-    CALL Counter.Add [7] INTO [got];
-    RETURN [];
-  END;
-END.",
-        2,
-    ),
-    (
-        b"MODULE Counter IMPLEMENTS Count;
-BEGIN
-  VAR total: CARDINAL;
-  PROCEDURE Add BEGIN
-    total := total + n;
-    RETURN [total];
-  END;
-END.
-MODULE A IMPLEMENTS Step IMPORTS Counter;
-BEGIN
-  PROCEDURE Go BEGIN
-    CALL Counter.Add [1];
-    RETURN [];
-  END;
-END.
-MODULE B IMPLEMENTS Step IMPORTS Counter;
-BEGIN
-  PROCEDURE Go BEGIN
-    CALL Counter.Add [2];
-    RETURN [];
-  END;
-END.
-ROOT Main IMPORTS A, B;
-BEGIN
-  MAIN BEGIN
-    CALL A.Go [];
-    CALL B.Go [];
-    RETURN [];
-  END;
-END.",
-        4,
-    ),
-    (
-        b"MODULE Store IMPLEMENTS Room;
-BEGIN
-  PROCEDURE Put BEGIN
-    RETURN [LENGTH(q)];
-  END;
-END.
-ROOT Main IMPORTS Store;
-BEGIN
-  MAIN VAR q: SEQUENCE 40000 OF CARDINAL; BEGIN
-    WHILE LENGTH(q) < 32767 DO APPEND 7 TO q; END;
-    CALL Store.Put [q];
-    RETURN [];
-  END;
-END.",
-        2,
-    ),
-    (
-        b"MODULE Ledger IMPLEMENTS Books;
-BEGIN
-  VAR balance: ARRAY 4 OF LONG CARDINAL;
-  VAR opened: BOOLEAN;
-  PROCEDURE Move BEGIN
-    IF NOT opened THEN balance[0] := 100; opened := TRUE; END;
-    IF amount > balance[from] THEN RAISE Short [amount - balance[from]]; END;
-    balance[from] := balance[from] - amount;
-    balance[to] := balance[to] + amount;
-    RETURN [balance[from]];
-  END;
-END.
-MODULE Teller IMPLEMENTS Desk IMPORTS Ledger;
-BEGIN
-  VAR refused: CARDINAL;
-  PROCEDURE Pay VAR left: LONG CARDINAL; VAR gap: LONG CARDINAL; BEGIN
-    CALL Ledger.Move [from, to, amount] INTO [left]
-      ON Short [gap] BEGIN refused := refused + 1; RETURN [FALSE]; END;
-    RETURN [TRUE];
-  END;
-END.
-ROOT Day IMPORTS Teller;
-BEGIN
-  VAR paid: CARDINAL;
-  MAIN VAR i: CARDINAL; VAR ok: BOOLEAN; BEGIN
-    WHILE i < 20 DO
-      CALL Teller.Pay [0, 1, 6] INTO [ok];
-      IF ok THEN paid := paid + 1; END;
-      i := i + 1;
-    END;
-    RETURN [];
-  END;
-END.",
-        3,
-    ),
-    (
-        b"MODULE Vault IMPLEMENTS Keep;
-BEGIN
-  VAR tries: CARDINAL;
-  VAR gold: CARDINAL;
-  PROCEDURE Take BEGIN
-    tries := tries + 1;
-    IF n > gold THEN RAISE Empty [n - gold]; END;
-    gold := gold - n;
-    RETURN [gold];
-  END;
-END.
-ROOT Main IMPORTS Vault;
-BEGIN
-  VAR b: CARDINAL;
-  MAIN BEGIN
-    CALL Vault.Take [3] ON Empty [b] BEGIN b := b + 1; END;
-    CALL Vault.Take [4];
-    RETURN [];
-  END;
-END.",
-        2,
-    ),
-    (
-        b"MODULE Wheel IMPLEMENTS Turning;
-BEGIN
-  PROCEDURE Spin VAR i: LONG CARDINAL; BEGIN
-    WHILE i < n DO i := i + 1; END;
-    RETURN [i];
-  END;
-  PROCEDURE Late VAR i: LONG CARDINAL; BEGIN
-    i := 0;
-    WHILE i < n DO i := i + 1; END;
-    RETURN [i];
-  END;
-END.
-ROOT Main IMPORTS Wheel;
-BEGIN
-  MAIN BEGIN
-    CALL Wheel.Spin [499999];
-    CALL Wheel.Late [499999] ON OTHER BEGIN END;
-    RETURN [];
-  END;
-END.",
-        2,
-    ),
+// The modules of programs, in parts, and how many there are.
+const PROGRAMS: [(&[&str], usize); 7] = [
+    (&[COUNTER, ADDS_ONCE], 2),
+    (&[COUNTER, ADDS_TWICE], 2),
+    (&[COUNTER, STEP_A, STEP_B, STEPS_BOTH], 4),
+    (&[ROOM_MODULES, "32767", ROOM_FILLED], 2),
+    (&[BANK_MODULES], 3),
+    (&[VAULT_MODULES], 2),
+    (&[WHEEL_MODULES], 2),
 ];
 
 // Whether this place is that of a fault, a number of bytes further on.
@@ -782,8 +622,9 @@ fn expected_comes_first(rt: HostRuntime) -> Result<(), Fail> {
 
 #[test]
 fn programs(rt: HostRuntime) -> Result<(), Fail> {
-    for (text, many) in PROGRAMS.iter() {
-        assert!(rt; modules_in(rt.alloc(), text)? == *many);
+    for (parts, many) in PROGRAMS.iter() {
+        let text = joined(rt.alloc(), parts)?;
+        assert!(rt; modules_in(rt.alloc(), text.as_str().as_bytes())? == *many);
     }
     Ok(())
 }

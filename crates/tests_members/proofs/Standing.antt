@@ -16,7 +16,7 @@ use Rattle.circus_header.specs.declared.answer.Reply.{Reply}
 use Rattle.circus_model.specs.declared.signature.Import.{Import}
 use Rattle.circus_model.specs.declared.signature.Signature.{Signature}
 use Rattle.circus_value.specs.ExternalSize.{size_of_values}
-use Rattle.circus_model.specs.Limits.{most_bytes}
+use Rattle.circus_limits.specs.Limits.{most_bytes}
 use Rattle.circus_model.specs.Lawful.{IsState, arguments_fit, import_of, import_answers}
 use Rattle.circus_machine.specs.Tally.{tally_signature, one_sum}
 use Rattle.circus_record.specs.declared.record.AskRecord.{AskRecord}
@@ -26,13 +26,14 @@ use Rattle.circus_performing.specs.declared.start.RunStart.{RunStart}
 use Rattle.circus_performing.specs.Performing.{Performing, founder, open_ask, activated, made_active}
 use Rattle.circus_performing.specs.Acts.{CanEnter, CanAnswer}
 use Rattle.circus_fanout.specs.Asking.{Asking}
-use Rattle.circus_member.specs.declared.place.Place.{Place}
-use Rattle.circus_member.specs.declared.occurrence.AskName.{AskName}
-use Rattle.circus_member.specs.declared.occurrence.Occurrence.TheVariants as comes
-use Rattle.circus_member.specs.Messages.{arguments_in}
-use Rattle.circus_member.specs.MemberState.{MemberState, asking_of}
-use Rattle.circus_member.specs.Callable.{AreHosts}
-use Rattle.circus_member.specs.Happening.{IsHome, IsCallTo, IsReplyTo, CanHappen}
+use Rattle.circus_member_rules.specs.declared.place.Place.{Place}
+use Rattle.circus_member_rules.specs.declared.occurrence.AskName.{AskName}
+use Rattle.circus_member_rules.specs.declared.occurrence.Occurrence.TheVariants as comes
+use Rattle.circus_member_rules.specs.Messages.{arguments_in}
+use Rattle.circus_member_rules.specs.OpenAsks.{asking_of}
+use Rattle.circus_member_step.specs.MemberState.{MemberState}
+use Rattle.circus_member_rules.specs.Callable.{AreHosts}
+use Rattle.circus_member_step.specs.Happening.{IsHome, IsCallTo, IsReplyTo, CanHappen}
 use Rattle.tests_members.specs.Staying.{StandsAt, Stays}
 use Rattle.tests_members.specs.Taker.{IsTaker, AnswersTake}
 use Rattle.tests_members.specs.Members.{AreTroupes, IsOfRoot, IsOfCalled, Takes, TakesNow, IsReplyOfVault, IsCall, SpellsByte, IsFetching}

@@ -16,15 +16,15 @@ use Rattle.circus_record.specs.declared.record.AskRecord.{AskRecord}
 use Rattle.circus_record.specs.declared.record.RunRecord.{RunRecord}
 use Rattle.circus_performing.specs.Performing as performing
 use Rattle.circus_performing.specs.Performing.{is_fetching, open_ask, last_of, made_active}
-use Rattle.circus_member.specs.declared.occurrence.Occurrence.{Occurrence}
-use Rattle.circus_member.specs.declared.occurrence.Occurrence.TheVariants as comes
-use Rattle.circus_member.specs.declared.place.Place.{Place}
-use Rattle.circus_member.specs.declared.place.Beginning.{Beginning}
-use Rattle.circus_member.specs.declared.place.Beginning.TheVariants.{Founder, Spare}
-use Rattle.circus_member.specs.MemberState.{MemberState, Doing, adding}
-use Rattle.circus_member.specs.Rules.{snapshots_owed, active_call, before_answers}
-use Rattle.circus_member.specs.Step.{is_idle, name_of_last, asking_begun, with_record, opened_by_view, opened_ask, ended_run, after_turns, value_of_open, given_states, next_start, answered_by, answered_open, entered, start_of_call, starting, executed, handled, told, restored, stepped, starts_at_boot, before_any, performer_at_boot, main_start, booted}
-use Rattle.circus_member.proofs.Homes.{told_as_many, ring_views, called_views, declared_views}
+use Rattle.circus_member_rules.specs.declared.occurrence.Occurrence.{Occurrence}
+use Rattle.circus_member_rules.specs.declared.occurrence.Occurrence.TheVariants as comes
+use Rattle.circus_member_rules.specs.declared.place.Place.{Place}
+use Rattle.circus_member_rules.specs.declared.place.Beginning.{Beginning}
+use Rattle.circus_member_rules.specs.declared.place.Beginning.TheVariants.{Founder, Spare}
+use Rattle.circus_member_step.specs.MemberState.{MemberState, Doing, adding}
+use Rattle.circus_member_rules.specs.Rules.{snapshots_owed, active_call, before_answers}
+use Rattle.circus_member_step.specs.Step.{is_idle, name_of_last, asking_begun, with_record, opened_by_view, opened_ask, ended_run, after_turns, value_of_open, given_states, next_start, answered_by, answered_open, entered, start_of_call, starting, executed, handled, told, restored, stepped, starts_at_boot, before_any, performer_at_boot, main_start, booted}
+use Rattle.circus_member_step.proofs.Homes.{told_as_many, ring_views, called_views, declared_views}
 use Rattle.tests_members.specs.Staying.{StandsAt, Stays}
 
 -- what holds of each case holds

@@ -7,7 +7,7 @@ use Rattle.circus_model.specs.declared.signature.Signature.{Signature}
 use Rattle.circus_record.specs.declared.record.AskRecord.{AskRecord}
 use Rattle.circus_performing.specs.Performing.{Performing, is_fetching}
 use Rattle.circus_fanout.specs.Asking.{Asking}
-use Rattle.circus_member.specs.MemberState.{MemberState}
+use Rattle.circus_member_step.specs.MemberState.{MemberState}
 use Rattle.tests_members.specs.Taker.{IsTaker, AnswersTake}
 
 -- the troupes of nodes, of which there are few

@@ -1,8 +1,8 @@
 -- Where members stand, which stays so through their steps.
 use Rattle.std.specs.Prelude.{◌≡◌, List, length}
 use Rattle.circus_collate.specs.declared.view.View.{View}
-use Rattle.circus_member.specs.declared.place.Place.{Place}
-use Rattle.circus_member.specs.MemberState.{MemberState}
+use Rattle.circus_member_rules.specs.declared.place.Place.{Place}
+use Rattle.circus_member_step.specs.MemberState.{MemberState}
 
 -- a member stands in this place, hosts this module, and knows as many views as these
 pub record StandsAt {M : Type 0} (home : Place) (host : M) (known : List View) (m : MemberState M) : Type 0 where

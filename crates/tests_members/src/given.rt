@@ -4,11 +4,11 @@ ghost use Rattle.circus_header.specs.CallFields.{IsIncarnation};
 ghost use Rattle.circus_collate.specs.declared.table.RingResult.TheVariants.{Done};
 ghost use Rattle.circus_collate.specs.declared.view.View.{View as Known};
 ghost use Rattle.circus_machine.specs.Tally.{one_sum};
-ghost use Rattle.circus_member.specs.Callable.{AreHosts};
+ghost use Rattle.circus_member_rules.specs.Callable.{AreHosts};
 ghost use Rattle.tests_members.specs.Members.{AreTroupes};
 
 use circus_collate::{Entries, Entry, Kind, RingResult, Since, Table, View, Views};
-use circus_member::Place;
+use circus_member_rules::Place;
 use circus_value::{Caller, Clock, ListOf, NoMemory, Value, Values};
 use std::alloc::Global;
 

@@ -1,7 +1,7 @@
 // Members of the root that takes from a vault, which is troupe 1 behind so many servers.
 ghost use Rattle.std.specs.Prelude.{◌<◌, length, IsTrue, IfOk, IfSome};
-ghost use Rattle.circus_member.specs.Happening.{CanHappen};
-ghost use Rattle.circus_member.specs.MemberState.{asking_of};
+ghost use Rattle.circus_member_step.specs.Happening.{CanHappen};
+ghost use Rattle.circus_member_rules.specs.OpenAsks.{asking_of};
 ghost use Rattle.tests_members.specs.Members.{IsOfRoot, IsReplyOfVault, Takes};
 ghost use Rattle.tests_members.specs.Taker.{IsTaker};
 
@@ -12,7 +12,8 @@ use crate::taker::{left, taker};
 use circus_collate::Kind;
 use circus_header::{Reply, Request};
 use circus_machine::TextModule;
-use circus_member::{AskName, Beginning, Effects, Member, Occurrence};
+use circus_member::Member;
+use circus_member_rules::{AskName, Beginning, Effects, Occurrence};
 use circus_model::Module;
 use circus_value::NoMemory;
 use std::alloc::Global;

@@ -2,7 +2,7 @@
 use crate::tallies::Event::{Asked, Fetched, Joins, Restored, TakenIn};
 use crate::tallies::{Addition, Row, all_pass, tally};
 use circus_collate::Kind;
-use circus_member::Beginning;
+use circus_member_rules::Beginning;
 use circus_transfer::Joiner;
 use std::test::Fail;
 

@@ -1,7 +1,7 @@
 // What members make, in short.
 ghost use Rattle.std.specs.Prelude.{◌<◌};
 
-use circus_member::{Effect, Effects};
+use circus_member_rules::{Effect, Effects};
 use circus_value::{ListOf, Message, NoMemory, Nodes};
 use std::alloc::Global;
 

@@ -1,10 +1,11 @@
 // Members as they boot, and their steps.
 ghost use Rattle.std.specs.Prelude.{IfOk};
-ghost use Rattle.circus_member.specs.Happening.{CanHappen, IsHome};
+ghost use Rattle.circus_member_step.specs.Happening.{CanHappen, IsHome};
 ghost use Rattle.tests_members.specs.Staying.{StandsAt, Stays};
 
 use circus_collate::Views;
-use circus_member::{Beginning, Difference, Effects, Member, Occurrence, Place};
+use circus_member::Member;
+use circus_member_rules::{Beginning, Difference, Effects, Occurrence, Place};
 use circus_model::Module;
 use circus_value::NoMemory;
 use std::alloc::Global;

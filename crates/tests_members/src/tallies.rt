@@ -1,6 +1,6 @@
 // Members of a tally at nodes 1 and 2, whose clients are nodes 3 and 4.
 ghost use Rattle.std.specs.Prelude.{◌<◌, IfOk};
-ghost use Rattle.circus_member.specs.Happening.{CanHappen};
+ghost use Rattle.circus_member_step.specs.Happening.{CanHappen};
 ghost use Rattle.circus_machine.specs.Tally.{tally_signature};
 ghost use Rattle.tests_members.specs.Members.{IsOfCalled, IsCall, SpellsByte};
 
@@ -10,7 +10,8 @@ use crate::stepping::{Stepped, booted, stepped};
 use circus_collate::Kind;
 use circus_header::{CallHeader, Request};
 use circus_machine::Tally;
-use circus_member::{Beginning, Member, Occurrence};
+use circus_member::Member;
+use circus_member_rules::{Beginning, Occurrence};
 use circus_value::{Message, NoMemory, Parts, Path};
 use std::alloc::Global;
 use std::process::Abort;

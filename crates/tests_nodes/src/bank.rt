@@ -1,8 +1,7 @@
 // Three desks of a bank, whose calls are collated.
-use crate::net::Net;
-use crate::programs::bank;
 use std::process::Abort;
 use std::test::Fail;
+use tests_net::{Net, bank};
 
 // Members, what their lines have, and how these end.
 const MEMBERS: [(&str, &str, &str); 10] = [

@@ -1,9 +1,7 @@
 // Whole runs.
-use crate::net::{Row, all_perform, performs};
-use crate::programs::{
-    COUNTER_ALONE, MAIN_ALONE, TWO_COUNTERS, TWO_COUNTERS_OF_ALL, TWO_ROOTS, shared,
-};
+use crate::performing::{Row, all_perform, performs};
 use std::test::Fail;
+use tests_net::{COUNTER_ALONE, MAIN_ALONE, TWO_COUNTERS, TWO_COUNTERS_OF_ALL, TWO_ROOTS, shared};
 
 const TWO_SHARED: &str = "CALLS FIRST REPLIES FIRST MEMBERS m1 PORT 9001, m2 PORT 9002";
 

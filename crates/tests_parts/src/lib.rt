@@ -1,5 +1,18 @@
 //! Programs for tests, in parts: the first line, interfaces, modules, a root, and where they run.
+//!
+//! `joined` makes one text of the parts.
 #![tactic(auto)]
+
+use std::alloc::{AllocError, Global};
+
+/// The texts, one behind another.
+pub fn joined(alloc: Global, texts: &[&str]) -> Result<String, AllocError> {
+    let mut all = String::new(alloc);
+    for text in texts {
+        all.push_str(text)?;
+    }
+    Ok(all)
+}
 
 pub const FORMAT_1: &str = "CIRCUS 1;\n";
 
@@ -164,12 +177,43 @@ TROUPE A CALLS FIRST REPLIES FIRST MEMBERS a1 PORT 9003 SPARES a2 PORT 9004;
 TROUPE Main CALLS FIRST REPLIES FIRST MEMBERS r1 PORT 9005;
 ";
 
-// A long argument.
+// A long argument, and ones that are too long in the first format.
+pub const ROOM_OF_32767: &[&str] = &[
+    FORMAT_1,
+    ROOM,
+    ROOM_MODULES,
+    "32767",
+    ROOM_FILLED,
+    STORE_AND_MAIN,
+];
+
+pub const ROOM_OF_32768: &[&str] = &[
+    FORMAT_1,
+    ROOM,
+    ROOM_MODULES,
+    "32768",
+    ROOM_FILLED,
+    STORE_AND_MAIN,
+];
+
+pub const ROOM_OF_32768_IN_FORMAT_2: &[&str] = &[
+    FORMAT_2,
+    ROOM,
+    ROOM_MODULES,
+    "32768",
+    ROOM_FILLED,
+    STORE_AND_MAIN,
+];
+
 pub const ROOM: &str = "\
 Room: PROGRAM 1 VERSION 1 =
 BEGIN
   Put: PROCEDURE [q: SEQUENCE 40000 OF CARDINAL] RETURNS [n: CARDINAL] = 1;
 END.
+";
+
+// Up to the number of its items.
+pub const ROOM_MODULES: &str = "\
 MODULE Store IMPLEMENTS Room;
 BEGIN
   PROCEDURE Put BEGIN
@@ -181,12 +225,15 @@ BEGIN
   MAIN VAR q: SEQUENCE 40000 OF CARDINAL; BEGIN
     WHILE LENGTH(q) < ";
 
-// Behind the number of its items.
+// Behind that number.
 pub const ROOM_FILLED: &str = " DO APPEND 7 TO q; END;
     CALL Store.Put [q];
     RETURN [];
   END;
 END.
+";
+
+pub const STORE_AND_MAIN: &str = "\
 RINGMASTER ring PORT 9000;
 TROUPE Store CALLS FIRST REPLIES FIRST MEMBERS s1 PORT 9001;
 TROUPE Main CALLS FIRST REPLIES FIRST MEMBERS m1 PORT 9002;
@@ -222,19 +269,20 @@ pub const BLOCK_END: &str = "]];
     RETURN [];
   END;
 END.
-RINGMASTER ring PORT 9000;
-TROUPE Store CALLS FIRST REPLIES FIRST MEMBERS s1 PORT 9001;
-TROUPE Main CALLS FIRST REPLIES FIRST MEMBERS m1 PORT 9002;
 ";
 
 // As many steps as an execution may have, and one more.
-pub const WHEEL: &str = "\
-CIRCUS 1;
+pub const WHEEL: &[&str] = &[FORMAT_1, TURNS, WHEEL_MODULES, WHEEL_AND_MAIN];
+
+const TURNS: &str = "\
 Turns: PROGRAM 1 VERSION 1 =
 BEGIN
   Spin: PROCEDURE [n: LONG CARDINAL] RETURNS [r: LONG CARDINAL] = 1;
   Late: PROCEDURE [n: LONG CARDINAL] RETURNS [r: LONG CARDINAL] = 2;
 END.
+";
+
+pub const WHEEL_MODULES: &str = "\
 MODULE Wheel IMPLEMENTS Turns;
 BEGIN
   PROCEDURE Spin VAR i: LONG CARDINAL; BEGIN
@@ -255,14 +303,58 @@ BEGIN
     RETURN [];
   END;
 END.
+";
+
+const WHEEL_AND_MAIN: &str = "\
 RINGMASTER ring PORT 9000;
 TROUPE Wheel CALLS FIRST REPLIES FIRST MEMBERS s1 PORT 9001;
 TROUPE Main CALLS FIRST REPLIES FIRST MEMBERS m1 PORT 9002;
 ";
 
+// A module that raises errors.
+pub const VAULT: &[&str] = &[FORMAT_1, KEEP, VAULT_MODULES, VAULT_AND_MAIN];
+
+const KEEP: &str = "\
+Keep: PROGRAM 4 VERSION 1 =
+BEGIN
+  Empty: ERROR [short: CARDINAL] = 1;
+  Take: PROCEDURE [n: CARDINAL] RETURNS [left: CARDINAL] REPORTS [Empty] = 1;
+END.
+";
+
+pub const VAULT_MODULES: &str = "\
+MODULE Vault IMPLEMENTS Keep;
+BEGIN
+  VAR tries: CARDINAL;
+  VAR gold: CARDINAL;
+  PROCEDURE Take BEGIN
+    tries := tries + 1;
+    IF n > gold THEN RAISE Empty [n - gold]; END;
+    gold := gold - n;
+    RETURN [gold];
+  END;
+END.
+ROOT Main IMPORTS Vault;
+BEGIN
+  VAR b: CARDINAL;
+  MAIN BEGIN
+    CALL Vault.Take [3] ON Empty [b] BEGIN b := b + 1; END;
+    CALL Vault.Take [4];
+    RETURN [];
+  END;
+END.
+";
+
+const VAULT_AND_MAIN: &str = "\
+RINGMASTER ring PORT 9000;
+TROUPE Vault CALLS FIRST REPLIES FIRST MEMBERS v1 PORT 9001;
+TROUPE Main CALLS FIRST REPLIES FIRST MEMBERS m1 PORT 9002;
+";
+
 // examples/bank.circus.
-pub const BANK: &str = "\
-CIRCUS 1;
+pub const BANK: &[&str] = &[FORMAT_1, BOOKS_AND_DESK, BANK_MODULES, BANK_TROUPES];
+
+const BOOKS_AND_DESK: &str = "\
 Books: PROGRAM 10 VERSION 1 =
 BEGIN
   Short: ERROR [gap: LONG CARDINAL] = 1;
@@ -273,6 +365,9 @@ Desk: PROGRAM 11 VERSION 1 =
 BEGIN
   Pay: PROCEDURE [from, to: CARDINAL, amount: LONG CARDINAL] RETURNS [ok: BOOLEAN] = 1;
 END.
+";
+
+pub const BANK_MODULES: &str = "\
 MODULE Ledger IMPLEMENTS Books;
 BEGIN
   VAR balance: ARRAY 4 OF LONG CARDINAL;
@@ -306,6 +401,9 @@ BEGIN
     RETURN [];
   END;
 END.
+";
+
+const BANK_TROUPES: &str = "\
 RINGMASTER ring PORT 9100;
 TROUPE Ledger CALLS UNANIMOUS REPLIES FIRST
   MEMBERS l1 PORT 9101, l2 PORT 9102, l3 PORT 9103 SPARES l4 PORT 9104;

@@ -1,13 +1,14 @@
 // What is written of programs: their histories when nothing is replicated, and their stubs.
-use crate::programs::{
-    COUNTER, NO_ROOM, ONE_CALLER, ROOM, SHAPES, SHOP, TWICE, TWO_CALLERS, UNANIMOUS, VAULT,
-};
-use circus_value::{NoMemory, Octets};
+use crate::programs::{SHAPES, SHOP, UNANIMOUS};
+use circus_value::NoMemory;
 use std::alloc::Global;
 use std::process::Abort;
 use std::test::Fail;
-use tests_command::{Ended, failing_at, one_file, perform};
-use tests_parts::{BANK, WHEEL};
+use tests_command::{Ended, failing_at, perform, program_file};
+use tests_parts::{
+    BANK, ONE_CALL, ONE_STEP_WITH_A_SPARE, ROOM_OF_32767, ROOM_OF_32768, ROOM_OF_32768_IN_FORMAT_2,
+    TWO_CALLS_WITH_A_SPARE, TWO_STEPS, VAULT, WHEEL,
+};
 
 const COUNTED: &[u8] = b"\
 circus history 1
@@ -233,14 +234,14 @@ const BROKEN: [(&str, &str, &str); 5] = [
     ),
 ];
 
-// Performs words that name the file `p`, over a sink of whose puts one fails, if a number is given.
+// Performs words that name the file `p`, a program in parts, over a sink of whose puts one fails, if a number is given.
 fn performed(
     alloc: Global,
     words: &[&str],
-    program: &[u8],
+    program: &[&str],
     failing: Option<u64>,
 ) -> Result<Ended, NoMemory> {
-    let files = one_file(alloc, "p", program)?;
+    let files = program_file(alloc, program)?;
     perform(alloc, words, files, failing_at(alloc, failing)?)
 }
 
@@ -249,7 +250,7 @@ fn writes(
     rt: &impl Abort,
     alloc: Global,
     words: &[&str],
-    program: &[u8],
+    program: &[&str],
     written: &[u8],
 ) -> Result<(), NoMemory> {
     let ended = performed(alloc, words, program, None)?;
@@ -258,24 +259,30 @@ fn writes(
     Ok(())
 }
 
+// Programs in parts, and their histories.
+const HISTORIES: [(&[&str], &[u8]); 9] = [
+    (ONE_CALL, COUNTED),
+    (TWO_CALLS_WITH_A_SPARE, HISTORY_OF_TWICE),
+    (UNANIMOUS, COUNTED),
+    (TWO_STEPS, HISTORY_OF_TWO_CALLERS),
+    (ONE_STEP_WITH_A_SPARE, HISTORY_OF_ONE_CALLER),
+    (ROOM_OF_32768, HISTORY_OF_NO_ROOM),
+    (VAULT, HISTORY_OF_VAULT),
+    (&[SHOP], HISTORY_OF_SHOP),
+    (&[SHAPES], HISTORY_OF_SHAPES),
+];
+
 #[test]
 fn histories_are_written(rt: HostRuntime) -> Result<(), Fail> {
-    let run = ["run", "p"].as_slice();
-    writes(&rt, rt.alloc(), run, COUNTER, COUNTED)?;
-    writes(&rt, rt.alloc(), run, TWICE, HISTORY_OF_TWICE)?;
-    writes(&rt, rt.alloc(), run, UNANIMOUS, COUNTED)?;
-    writes(&rt, rt.alloc(), run, TWO_CALLERS, HISTORY_OF_TWO_CALLERS)?;
-    writes(&rt, rt.alloc(), run, ONE_CALLER, HISTORY_OF_ONE_CALLER)?;
-    writes(&rt, rt.alloc(), run, NO_ROOM, HISTORY_OF_NO_ROOM)?;
-    writes(&rt, rt.alloc(), run, VAULT, HISTORY_OF_VAULT)?;
-    writes(&rt, rt.alloc(), run, SHOP, HISTORY_OF_SHOP)?;
-    writes(&rt, rt.alloc(), run, SHAPES, HISTORY_OF_SHAPES)?;
+    for (program, history) in &HISTORIES {
+        writes(&rt, rt.alloc(), &["run", "p"], program, history)?;
+    }
     Ok(())
 }
 
 #[test]
 fn the_bank_has_a_history(rt: HostRuntime) -> Result<(), Fail> {
-    let ended = performed(rt.alloc(), &["run", "p"], BANK.as_bytes(), None)?;
+    let ended = performed(rt.alloc(), &["run", "p"], BANK, None)?;
     assert_eq!(rt; ended.status, 0);
     let text = ended.text();
     assert!(rt; text.starts_with("circus history 1\nmodule Ledger count 20\n"));
@@ -287,14 +294,14 @@ fn the_bank_has_a_history(rt: HostRuntime) -> Result<(), Fail> {
 
 #[test]
 fn steps_are_counted(rt: HostRuntime) -> Result<(), Fail> {
-    let ended = performed(rt.alloc(), &["run", "p"], WHEEL.as_bytes(), None)?;
+    let ended = performed(rt.alloc(), &["run", "p"], WHEEL, None)?;
     assert!(rt; ended.written() == TURNED && ended.status == 0);
     Ok(())
 }
 
 #[test]
 fn a_long_value_is_written(rt: HostRuntime) -> Result<(), Fail> {
-    let ended = performed(rt.alloc(), &["run", "p"], ROOM, None)?;
+    let ended = performed(rt.alloc(), &["run", "p"], ROOM_OF_32767, None)?;
     assert_eq!(rt; ended.status, 0);
     assert!(rt;
         ended
@@ -307,11 +314,7 @@ fn a_long_value_is_written(rt: HostRuntime) -> Result<(), Fail> {
 // A value that is too long in format 1 isn't in format 2.
 #[test]
 fn a_longer_value_is_written(rt: HostRuntime) -> Result<(), Fail> {
-    let alloc = rt.alloc();
-    let mut program = Octets::new(alloc);
-    program.append(b"CIRCUS 2;")?;
-    program.append(NO_ROOM.strip_prefix(b"CIRCUS 1;").unwrap_or(NO_ROOM))?;
-    let ended = performed(alloc, &["run", "p"], program.as_slice(), None)?;
+    let ended = performed(rt.alloc(), &["run", "p"], ROOM_OF_32768_IN_FORMAT_2, None)?;
     assert_eq!(rt; ended.status, 0);
     assert!(rt;
         ended
@@ -324,20 +327,19 @@ fn a_longer_value_is_written(rt: HostRuntime) -> Result<(), Fail> {
 #[test]
 fn stubs_are_written(rt: HostRuntime) -> Result<(), Fail> {
     let stubs = ["stubs", "p"].as_slice();
-    writes(&rt, rt.alloc(), stubs, COUNTER, STUBS_OF_COUNTER)?;
-    writes(&rt, rt.alloc(), stubs, SHOP, STUBS_OF_SHOP)?;
-    writes(&rt, rt.alloc(), stubs, BANK.as_bytes(), STUBS_OF_BANK)?;
-    writes(&rt, rt.alloc(), stubs, SHAPES, STUBS_OF_SHAPES)?;
+    writes(&rt, rt.alloc(), stubs, ONE_CALL, STUBS_OF_COUNTER)?;
+    writes(&rt, rt.alloc(), stubs, &[SHOP], STUBS_OF_SHOP)?;
+    writes(&rt, rt.alloc(), stubs, BANK, STUBS_OF_BANK)?;
+    writes(&rt, rt.alloc(), stubs, &[SHAPES], STUBS_OF_SHAPES)?;
     Ok(())
 }
 
 #[test]
 fn the_shop_is_broken(rt: HostRuntime) -> Result<(), Fail> {
-    let shop = str::from_utf8(SHOP).unwrap_or("no text");
     for (old, new, written) in &BROKEN {
-        let (before, after) = shop.split_once(*old).unwrap_or(("", ""));
-        let broken = format!(in rt.alloc(); "{before}{new}{after}")?;
-        let ended = performed(rt.alloc(), &["run", "p"], broken.as_bytes(), None)?;
+        let (before, after) = SHOP.split_once(*old).unwrap_or(("", ""));
+        let broken = [before, *new, after];
+        let ended = performed(rt.alloc(), &["run", "p"], &broken, None)?;
         assert_eq!(rt; (ended.text(), ended.status), (*written, 2));
     }
     Ok(())
@@ -346,12 +348,12 @@ fn the_shop_is_broken(rt: HostRuntime) -> Result<(), Fail> {
 #[test]
 fn no_program_is_there(rt: HostRuntime) -> Result<(), Fail> {
     for words in [["run", "absent"], ["stubs", "absent"]] {
-        let ended = performed(rt.alloc(), &words, COUNTER, None)?;
+        let ended = performed(rt.alloc(), &words, ONE_CALL, None)?;
         assert_eq!(rt; (ended.text(), ended.status), ("shelf fault: absent\n", 4));
         assert_eq!(rt; ended.fetched, 1);
     }
     for words in [["run", ""], ["stubs", ""]] {
-        let ended = performed(rt.alloc(), &words, COUNTER, None)?;
+        let ended = performed(rt.alloc(), &words, ONE_CALL, None)?;
         assert_eq!(rt;
             (ended.text(), ended.status),
             ("circus: bad command line\n", 1)
@@ -364,9 +366,9 @@ fn no_program_is_there(rt: HostRuntime) -> Result<(), Fail> {
 #[test]
 fn a_sink_fails_at_a_line(rt: HostRuntime) -> Result<(), Fail> {
     let alloc = rt.alloc();
-    let ended = performed(alloc, &["run", "p"], COUNTER, Some(1))?;
+    let ended = performed(alloc, &["run", "p"], ONE_CALL, Some(1))?;
     assert_eq!(rt; (ended.text(), ended.status), ("circus history 1\n", 5));
-    let ended = performed(alloc, &["stubs", "p"], COUNTER, Some(0))?;
+    let ended = performed(alloc, &["stubs", "p"], ONE_CALL, Some(0))?;
     assert_eq!(rt; (ended.text(), ended.status), ("", 5));
     Ok(())
 }

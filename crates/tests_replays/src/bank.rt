@@ -52,19 +52,19 @@ const ACKNOWLEDGED: &str = "datagram 9 step 1 from t3 to d3 0001010100000000\n";
 
 const ROWS: [Row; 3] = [
     Row {
-        program: &[BANK],
+        program: BANK,
         schedule: "",
         written: &[BOOT_SENDS, NOTHING_COMES],
         status: 0,
     },
     Row {
-        program: &[BANK],
+        program: BANK,
         schedule: "deliver 9\n",
         written: &[BOOT_SENDS, "schedule line 1: no datagram 9, 9 sent\n"],
         status: 3,
     },
     Row {
-        program: &[BANK],
+        program: BANK,
         schedule: "deliver 8\n",
         written: &[BOOT_SENDS, ACKNOWLEDGED, NOTHING_COMES],
         status: 0,
@@ -73,7 +73,7 @@ const ROWS: [Row; 3] = [
 
 // Every datagram is delivered once, in the order of sending.
 const A_DAY: [Long; 1] = [Long {
-    program: &[BANK],
+    program: BANK,
     schedule: &[Steps::Up(0, 1439)],
     datagrams: 1440,
     lines: &[

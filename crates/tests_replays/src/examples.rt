@@ -284,7 +284,7 @@ const ROWS: [Row; 3] = [
         status: 0,
     },
     Row {
-        program: &[BANK],
+        program: BANK,
         schedule: BANK_STEPS,
         written: &[REPORT_OF_BANK],
         status: 0,

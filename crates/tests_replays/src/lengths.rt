@@ -2,8 +2,8 @@
 use crate::runs::{Long, Row, Steps, all_leave, all_tell};
 use std::test::Fail;
 use tests_parts::{
-    BLOCK, BLOCK_CALL, BLOCK_END, BLOCK_MODULES, FORMAT_1, FORMAT_2, ONE_CALL_IN_FORMAT_2, ROOM,
-    ROOM_FILLED, WHEEL,
+    BLOCK, BLOCK_CALL, BLOCK_END, BLOCK_MODULES, FORMAT_2, ONE_CALL_IN_FORMAT_2, ROOM_OF_32767,
+    ROOM_OF_32768, ROOM_OF_32768_IN_FORMAT_2, STORE_AND_MAIN, WHEEL,
 };
 
 const IN_FORMAT_2: &str = "\
@@ -78,7 +78,7 @@ const WHOLE: [Row; 3] = [
         status: 0,
     },
     Row {
-        program: &[FORMAT_1, ROOM, "32768", ROOM_FILLED],
+        program: ROOM_OF_32768,
         schedule: "",
         written: &[TOO_LONG],
         status: 0,
@@ -93,6 +93,7 @@ const WHOLE: [Row; 3] = [
             BLOCK_CALL,
             "q, q, q, q, q, q, q, q, q",
             BLOCK_END,
+            STORE_AND_MAIN,
         ],
         schedule: "",
         written: &[TOO_LONG],
@@ -102,7 +103,7 @@ const WHOLE: [Row; 3] = [
 
 // The first call takes as many steps as there may be, the second one would take one more.
 const STEPS: [Row; 1] = [Row {
-    program: &[WHEEL],
+    program: WHEEL,
     schedule: "deliver 0\ndeliver 1\ndeliver 2\ndeliver 3\ndeliver 4\ndeliver 5\ndeliver 6\ndeliver 7\n",
     written: &[MOST_STEPS],
     status: 0,
@@ -111,7 +112,7 @@ const STEPS: [Row; 1] = [Row {
 const LONG: [Long; 3] = [
     // 65 segments, in the opposite order. One is lost, and sent again at a tick.
     Long {
-        program: &[FORMAT_1, ROOM, "32767", ROOM_FILLED],
+        program: ROOM_OF_32767,
         schedule: &[
             Steps::Down(11, 64),
             Steps::Down(0, 9),
@@ -146,7 +147,7 @@ const LONG: [Long; 3] = [
         end: "now waiting ask 0 state []\n",
     },
     Long {
-        program: &[FORMAT_2, ROOM, "32768", ROOM_FILLED],
+        program: ROOM_OF_32768_IN_FORMAT_2,
         schedule: &[Steps::Up(0, 64)],
         datagrams: 67,
         lines: &[
@@ -179,6 +180,7 @@ const LONG: [Long; 3] = [
             BLOCK_CALL,
             "q, q, q, q, q, q, q, q",
             BLOCK_END,
+            STORE_AND_MAIN,
         ],
         schedule: &[Steps::Up(0, 1024)],
         datagrams: 1027,

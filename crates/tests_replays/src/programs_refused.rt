@@ -2,8 +2,8 @@
 use crate::runs::{Row, all_leave};
 use circus_outside::Failing;
 use std::test::Fail;
-use tests_command::{REPLAY, joined, one_file, perform};
-use tests_parts::{ADDS_ONCE, COUNT, COUNTER, FORMAT_1, ONE_CALL, ONE_OF_EACH};
+use tests_command::{REPLAY, one_file, perform};
+use tests_parts::{ADDS_ONCE, COUNT, COUNTER, FORMAT_1, ONE_CALL, ONE_OF_EACH, joined};
 
 const SECOND_ROOT: &str = "\
 ROOT Other IMPORTS Counter;

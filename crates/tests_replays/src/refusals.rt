@@ -5,8 +5,7 @@ use circus_value::NoMemory;
 use std::alloc::Global;
 use std::process::Abort;
 use std::test::Fail;
-use tests_command::joined;
-use tests_parts::{ADDS_ONCE, COUNT, COUNTER, FORMAT_1};
+use tests_parts::{ADDS_ONCE, COUNT, COUNTER, FORMAT_1, joined};
 
 // Each troupe has a spare.
 const WITH_SPARES: &str = "\

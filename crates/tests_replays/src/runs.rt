@@ -3,7 +3,8 @@ use circus_outside::Failing;
 use circus_value::NoMemory;
 use std::alloc::Global;
 use std::process::Abort;
-use tests_command::{Ended, REPLAY, joined, perform, replay_files};
+use tests_command::{Ended, REPLAY, perform, replay_files};
+use tests_parts::joined;
 
 /// A program in parts, a schedule, and what their replay leaves: what it writes, in parts, and its status.
 pub struct Row {

@@ -7,8 +7,8 @@ use circus_value::{NoMemory, Octets};
 use std::alloc::Global;
 use std::process::Abort;
 use std::test::Fail;
-use tests_command::{Ended, REPLAY, failing_at, joined, perform, perform_over, replay_files};
-use tests_parts::ONE_CALL;
+use tests_command::{Ended, REPLAY, failing_at, perform, perform_over, replay_files};
+use tests_parts::{ONE_CALL, joined};
 
 // Takes one byte of a piece, and may fail at the end.
 #[derive(Drop)]

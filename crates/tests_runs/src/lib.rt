@@ -1,9 +1,6 @@
-//! Tests of whole runs of the command, of the words that it takes, and of the shelf, the sink and the link that
-//! it stands on.
+//! Tests of whole runs of the command, and of the words that it takes.
 #![tactic(auto)]
 
-#[cfg(test)]
-mod outside;
 #[cfg(test)]
 mod placings;
 #[cfg(test)]

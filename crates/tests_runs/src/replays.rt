@@ -5,8 +5,8 @@ use circus_value::NoMemory;
 use std::alloc::Global;
 use std::process::Abort;
 use std::test::Fail;
-use tests_command::{REPLAY, failing_at, joined, perform, replay_files};
-use tests_parts::{COUNT, COUNTER, FORMAT_1, ONE_CALL, ONE_OF_EACH};
+use tests_command::{REPLAY, failing_at, perform, replay_files};
+use tests_parts::{COUNT, COUNTER, FORMAT_1, ONE_CALL, ONE_OF_EACH, joined};
 
 const ROOT_BEFORE_NUMBER: &str = "\
 ROOT Main IMPORTS Counter;

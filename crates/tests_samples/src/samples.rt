@@ -89,8 +89,8 @@ fn writes_summaries(rt: HostRuntime) -> Result<(), Fail> {
 
 #[test]
 fn draws_one_sample(rt: HostRuntime) -> Result<(), Fail> {
-    let one = sampled(rt.alloc(), &[BANK], "5", "20000")?;
-    let other = sampled(rt.alloc(), &[BANK], "5", "20000")?;
+    let one = sampled(rt.alloc(), BANK, "5", "20000")?;
+    let other = sampled(rt.alloc(), BANK, "5", "20000")?;
     assert_eq!(rt; one.status, 0);
     assert!(rt;
         one.text()

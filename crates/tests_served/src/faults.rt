@@ -72,7 +72,7 @@ fn ends_where_the_link_fails(rt: HostRuntime) -> Result<(), Fail> {
 
 #[test]
 fn ends_where_boot_gives_nothing(rt: HostRuntime) -> Result<(), Fail> {
-    let (ended, link) = served(rt.alloc(), ONE_CALL, "m1", "0", &[], Some(1))?;
+    let (ended, _) = served(rt.alloc(), ONE_CALL, "m1", "0", &[], Some(1))?;
     assert_eq!(rt; ended.text(), "link fault\n");
     assert_eq!(rt; ended.status, 6);
     Ok(())

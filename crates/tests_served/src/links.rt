@@ -1,15 +1,14 @@
 //! A node served over a link in memory, and what it leaves.
 use circus_outside::{Arrival, Arrivals, Failing, MemLink};
-use circus_value::{Message, NoMemory};
+use circus_value::Message;
 use std::alloc::Global;
+use std::test::Fail;
 use tests_command::{Ended, failing_at, perform_linked, program_file};
 
 // A datagram from a port, by its digits.
-fn arrival(alloc: Global, port: u16, digits: &str) -> Result<Arrival, NoMemory> {
+fn arrival(alloc: Global, port: u16, digits: &str) -> Result<Arrival, Fail> {
     let mut bytes = Message::new(alloc);
-    if let Ok(decoded) = hex::decode(alloc, digits) {
-        bytes.append(decoded.as_slice())?;
-    }
+    bytes.append(hex::decode(alloc, digits)?.as_slice())?;
     Ok(Arrival { port, bytes })
 }
 
@@ -22,7 +21,7 @@ pub fn served(
     turns: &str,
     arriving: &[(u16, &str)],
     fails: Option<u64>,
-) -> Result<(Ended, MemLink), NoMemory> {
+) -> Result<(Ended, MemLink), Fail> {
     let files = program_file(alloc, program)?;
     let mut arrivals = Arrivals::new(alloc);
     for (port, digits) in arriving {

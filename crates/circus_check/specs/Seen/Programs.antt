@@ -16,6 +16,7 @@ use Rattle.circus_idl.specs.declared.interface.Procedure.{Procedure}
 use Rattle.circus_idl.specs.declared.interface.Interface.{Interface}
 use Rattle.circus_idl.specs.Obeys.{Obeys}
 use Rattle.circus_lang.specs.ModuleTree.{ModuleTree, module_of}
+use Rattle.circus_limits.specs.Limits.{most_modules}
 use Rattle.circus_check.specs.declared.known.Known.{Known}
 use Rattle.circus_check.specs.declared.module.Program.{Program}
 use Rattle.circus_check.specs.declared.module.Own.{Own}
@@ -93,7 +94,7 @@ list_now o = option_map (λ (ps : Bor (List Procedure)). ps.now) o
 
 -- what the names of a module stand for
 pub record IsOwn (p : Program) (own : Own) : Type 0 where
-  pub few : own.number ≤ 32
+  pub few : own.number ≤ most_modules
   pub known : IsTableOf (interfaces_in p) own.text.now.interface own.types.own
   pub imported : (name : List ℕ) → IsImported (interfaces_in p) (modules_in p) (import_named (modules_in p) own.number own.text.now.imports name) (interface_in own.types (Some name))
   pub types : (m : Option (List ℕ)) (name : List ℕ) → standing_in own.types m name ≡ type_named (interfaces_in p) (modules_in p) own.number (module_of own.text.now) m name

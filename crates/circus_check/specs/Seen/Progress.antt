@@ -11,7 +11,7 @@ use Rattle.circus_check.specs.declared.checking.Progress.{Progress}
 use Rattle.circus_check.specs.declared.module.Program.{Program}
 use Rattle.circus_check.specs.declared.reach.Shared.{Shared}
 use Rattle.circus_check.specs.Faults.{faults, modules_faults}
-use Rattle.circus_check.specs.Limits.{most_modules}
+use Rattle.circus_limits.specs.Limits.{most_modules}
 use Rattle.circus_check.specs.Meaning.{modules_meant}
 use Rattle.circus_check.specs.Reach.{shared_at}
 use Rattle.circus_check.specs.Seen.Meant.{module_as}
@@ -31,5 +31,5 @@ pub record IsProgress (p : Program) (progress : Progress) (i : ℕ) : Type 0 whe
   pub as_many : length progress.shares.items ≡ min i (suc most_modules)
   pub shared : (n : ℕ) (s : Option Shared) → slice_get progress.shares.items n ≡ Some s → option_map shared_as s ≡ shared_at (modules_in p) n
   pub found : Found (interfaces_in p) (modules_in p) progress.best.fault i (drop i (take (suc most_modules) (modules_in p)))
-  pub few : IfNone progress.best.fault (i ≤ 32)
+  pub few : IfNone progress.best.fault (i ≤ most_modules)
   pub meant : IfNone progress.best.fault (map module_as progress.made ++ modules_meant (interfaces_in p) (modules_in p) i (drop i (modules_in p)) ≡ modules_meant (interfaces_in p) (modules_in p) 0 (modules_in p))

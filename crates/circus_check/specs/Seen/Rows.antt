@@ -3,7 +3,7 @@ use Rattle.std.specs.Prelude.{◌≡◌, ℕ, suc, Bool, false, List, Option, So
 use Rattle.circus_lang.specs.ModuleTree.{ModuleTree}
 use Rattle.circus_check.specs.declared.reach.Shared.{Shared as Found}
 use Rattle.circus_check.specs.declared.reach.Reach.{Reach}
-use Rattle.circus_check.specs.Limits.{most_modules}
+use Rattle.circus_limits.specs.Limits.{most_modules}
 use Rattle.circus_check.specs.Reach.{Shared, reaches_below, shared_at}
 
 abbrev pub shared_as : Found → Shared

@@ -2,13 +2,10 @@
 use Rattle.std.specs.Prelude.{◌≡◌, ℕ, ◌<◌, List, All, map, take, Result, Ok, Err, slice_set}
 use Rattle.circus_value.specs.ValueTree.{ValueTree}
 use Rattle.circus_value.specs.ExternalSize.{external_size, size_of_values}
-use Rattle.circus_value.specs.ValueOf.{tree_of}
-use Rattle.circus_machine.specs.Got.{Got, Raising}
+use Rattle.circus_evaluate.specs.Got.{Got, Raising}
 use Rattle.circus_machine.specs.Storing.{stored_over, appended_over, kept}
-use Rattle.circus_machine.specs.declared.got.Stop.{Stop}
-use Rattle.circus_machine.specs.declared.got.Stop.TheVariants.{Raises, NoMemory}
-use Rattle.circus_machine.specs.declared.part.Put.{Put}
-use Rattle.circus_machine.specs.declared.part.Put.TheVariants.{Whole, More}
+use Rattle.circus_evaluate.specs.declared.got.Stop.{Stop}
+use Rattle.circus_evaluate.specs.declared.got.Stop.TheVariants.{Raises, NoMemory}
 use Rattle.circus_machine.specs.declared.store.Change.{Change}
 use Rattle.circus_machine.specs.declared.store.Change.TheVariants.{Assign, Append}
 use Rattle.circus_machine.specs.declared.store.Variables.{Variables}
@@ -19,16 +16,6 @@ use Rattle.circus_model.specs.declared.language_error.LanguageError.{LanguageErr
 abbrev pub changed_over : Change → Got → ValueTree → Raising ValueTree
 changed_over Assign x old = stored_over x old
 changed_over (Append bound kind) x old = appended_over bound kind x old
-
--- how many bytes more there are, once something was put
-abbrev pub grows_by : Put → ℕ
-grows_by (Whole value) = external_size (tree_of value)
-grows_by (More value) = external_size (tree_of value)
-
--- and how many fewer
-abbrev pub shrinks_by : Put → ValueTree → ℕ
-shrinks_by (Whole value) old = external_size old
-shrinks_by (More value) old = 0
 
 -- the sizes are those of the values and of the state, none of which is too great for the code's numbers
 pub record AreSized (v : Variables) : Type 0 where

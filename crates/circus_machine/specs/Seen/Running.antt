@@ -7,8 +7,8 @@ use Rattle.circus_checked.specs.ExpressionTree.{ExpressionTree}
 use Rattle.circus_machine.specs.Meaning.{Going, Flow, goes_on, ends, asks, fails, called, takes}
 use Rattle.circus_machine.specs.Seen.Code.{Act, Catch, ask, replied, act, Follows}
 use Rattle.circus_machine.specs.Seen.Changing.{AreSized}
-use Rattle.circus_machine.specs.declared.got.Stop.{Stop}
-use Rattle.circus_machine.specs.declared.got.Stop.TheVariants.{Raises, NoMemory}
+use Rattle.circus_evaluate.specs.declared.got.Stop.{Stop}
+use Rattle.circus_evaluate.specs.declared.got.Stop.TheVariants.{Raises, NoMemory}
 use Rattle.circus_machine.specs.declared.execution.Execution.{Execution}
 use Rattle.circus_machine.specs.declared.execution.Move.{Move}
 use Rattle.circus_machine.specs.declared.execution.Move.TheVariants.{Goes, Ends, Asks}

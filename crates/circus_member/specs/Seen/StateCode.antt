@@ -10,13 +10,13 @@ use Rattle.circus_gather.specs.Seen.GatheredCode.{gathered_code}
 use Rattle.circus_fanout.specs.Asking.{Asking}
 use Rattle.circus_performing.specs.Performing.{Performing}
 use Rattle.circus_performing.specs.Seen.MemberCode.{member_code}
-use Rattle.circus_member.specs.declared.place.Place.{Place}
-use Rattle.circus_member.specs.contracts.place.Place as place_model
-use Rattle.circus_member.specs.declared.occurrence.AskName.{AskName}
-use Rattle.circus_member.specs.declared.occurrence.Effect.{Effect}
-use Rattle.circus_member.specs.contracts.occurrence.Effect as effect_model
-use Rattle.circus_member.specs.MemberState.{MemberState, Doing}
-use Rattle.circus_member.specs.Seen.AsksCode.{asks_code}
+use Rattle.circus_member_rules.specs.declared.place.Place.{Place}
+use Rattle.circus_member_rules.specs.contracts.place.Place as place_model
+use Rattle.circus_member_rules.specs.declared.occurrence.AskName.{AskName}
+use Rattle.circus_member_rules.specs.declared.occurrence.Effect.{Effect}
+use Rattle.circus_member_rules.specs.contracts.occurrence.Effect as effect_model
+use Rattle.circus_member_step.specs.MemberState.{MemberState, Doing}
+use Rattle.circus_member_rules.specs.Seen.AsksCode.{asks_code}
 
 abbrev pub state_code : {M : Type 0} → Coded M → Coded (MemberState M)
 state_code {M} hosted =

@@ -1,7 +1,7 @@
 -- When a thread may perform an order.
 use Rattle.std.specs.Prelude.{ℕ, ◌≡◌, ◌≤◌, List, [], length, IsTrue, slice_index_or}
 use Rattle.circus_value.specs.ExternalSize.{size_of_values}
-use Rattle.circus_model.specs.Limits.{most_bytes}
+use Rattle.circus_limits.specs.Limits.{most_bytes}
 use Rattle.circus_model.specs.Lawful.{IsState, arguments_fit}
 use Rattle.circus_model.specs.Behaviour.{Behaviour}
 use Rattle.circus_model.specs.Agree.{IsAt}

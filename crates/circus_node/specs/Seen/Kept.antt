@@ -1,18 +1,14 @@
 -- What code keeps true of a node.
-use Rattle.std.specs.Prelude.{◌≡◌, ℕ, List, length, Option, Some}
+use Rattle.std.specs.Prelude.{◌≡◌, ℕ, List, Option, Some}
 use Rattle.circus_collate.specs.Deployment.{IsDeployment}
 use Rattle.circus_collate.specs.declared.deployment.Deployment.{Deployment}
 use Rattle.circus_header.specs.declared.call.Request.{Request}
 use Rattle.circus_ring.specs.RingTable.{Kept, kept_after}
 use Rattle.circus_model.specs.declared.signature.Signature.{Signature}
-use Rattle.circus_member.specs.MemberState.{MemberState}
+use Rattle.circus_accepting.specs.Accepting.{IsMemberOf}
 use Rattle.circus_node.specs.declared.home.Home.{Home}
 use Rattle.circus_node.specs.NodeState.{Acting, member, ringmaster}
 use Rattle.circus_node.specs.Booting.{home_of, IsOfTroupe}
-
--- the member knows a view of each troupe
-pub record IsMemberOf {M : Type 0} (d : Deployment) (m : MemberState M) : Type 0 where
-  pub views : length m.known.views ≡ length d.troupes
 
 -- the views are those after some requests
 pub record IsRingOf (d : Deployment) (kept : Kept) : Type 0 where

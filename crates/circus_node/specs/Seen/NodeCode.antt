@@ -8,9 +8,9 @@ use Rattle.circus_ring.specs.RingTable.{Kept}
 use Rattle.circus_ring.specs.contracts.ring.Ring as ring_model
 use Rattle.circus_wire.specs.Wire.{WireState}
 use Rattle.circus_wire.specs.Seen.PeerCode.{wire_code}
-use Rattle.circus_member.specs.declared.occurrence.Purpose.{Purpose}
-use Rattle.circus_member.specs.contracts.occurrence.Purpose as purpose_model
-use Rattle.circus_member.specs.MemberState.{MemberState}
+use Rattle.circus_member_rules.specs.declared.occurrence.Purpose.{Purpose}
+use Rattle.circus_member_rules.specs.contracts.occurrence.Purpose as purpose_model
+use Rattle.circus_member_step.specs.MemberState.{MemberState}
 use Rattle.circus_member.specs.Seen.StateCode.{state_code}
 use Rattle.circus_node.specs.NodeState.{Acting, member, ringmaster, NodeState}
 

@@ -1,7 +1,7 @@
 -- What handing over comes to, but for want of memory.
 use Rattle.std.specs.Prelude.{◌≡◌, List, Result, Ok, Err}
 use Rattle.circus_wire.specs.Wire.{WireState}
-use Rattle.circus_member.specs.declared.occurrence.Purpose.{Purpose}
+use Rattle.circus_member_rules.specs.declared.occurrence.Purpose.{Purpose}
 use Rattle.circus_node.specs.declared.event.Give.{Give}
 use Rattle.circus_node.specs.declared.event.StepFault.{StepFault}
 use Rattle.circus_node.specs.declared.event.StepFault.TheVariants as fault

@@ -7,7 +7,7 @@ use Rattle.circus_segment.specs.Segment.{Piece}
 use Rattle.circus_segment.specs.declared.fault.SegmentFault.{SegmentFault}
 use Rattle.circus_wire.specs.declared.delivery.Heard.{Heard}
 use Rattle.circus_wire.specs.Wire.{Remains, after_datagram, sent_by_datagram, heard_from, all_ticked, sent_by_tick, suspected_by_tick}
-use Rattle.circus_member.specs.declared.occurrence.Purpose.{Purpose}
+use Rattle.circus_member_rules.specs.declared.occurrence.Purpose.{Purpose}
 use Rattle.circus_node.specs.declared.station.Station.{Station}
 use Rattle.circus_node.specs.declared.acting.Consequences.{Consequences}
 use Rattle.circus_node.specs.declared.event.Give.{Give}

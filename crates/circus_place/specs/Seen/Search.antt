@@ -2,6 +2,7 @@
 use Rattle.std.specs.Prelude.{◌≡◌, ℕ, ◌≤◌, Bool, true, false, ◌&&◌, if◌then◌else◌, nat_lt, List, [], ◌∷◌, ◌++◌, Option, Some, None, length, count_by}
 use Rattle.std.proofs.Common.{zero, suc}
 use Rattle.circus_value.specs.Among.{is_among}
+use Rattle.circus_placing.specs.Obeys.{most_machines}
 use Rattle.circus_place.specs.declared.choice.Chosen.{Chosen}
 use Rattle.circus_place.specs.declared.test.Test.{Test}
 use Rattle.circus_place.specs.declared.search.Search.{Search}
@@ -44,5 +45,5 @@ best_from test present machines (suc left) ms best =
 pub record IsReady (s : Search) : Type 0 where
   pub test : IsTestOf s.size s.test.now
   pub few_members : s.size ≤ 5
-  pub few_machines : length s.present.now ≤ 24
+  pub few_machines : length s.present.now ≤ most_machines
   pub most : (choice : List ℕ) → AreApart choice → flagged s.present.now choice ≤ s.most

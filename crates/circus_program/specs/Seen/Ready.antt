@@ -2,6 +2,7 @@
 use Rattle.std.specs.Prelude.{◌≤◌, All, length}
 use Rattle.circus_model.specs.Behaviour.{Behaviour}
 use Rattle.circus_record.specs.Naming.{names_of}
+use Rattle.circus_schedule.specs.Answer.{most_lines}
 use Rattle.circus_schedule.specs.Meaning.{NamesBelow}
 use Rattle.circus_ending.specs.Ending.{Ending}
 use Rattle.circus_simulated.specs.Seen.Simulated.{world_of, IsFresh}
@@ -16,4 +17,4 @@ end_of_ready r = replayed_whole (λ (b : Behaviour). b.declared) (λ (b : Behavi
 pub record IsReady (r : Ready) : Type 0 where
   pub fresh : IsFresh r.simulated
   pub below : All (NamesBelow (length r.simulated.hosts)) r.lines
-  pub few : length r.lines ≤ 200000
+  pub few : length r.lines ≤ most_lines

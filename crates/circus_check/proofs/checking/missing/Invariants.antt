@@ -1,6 +1,6 @@
 use Rattle.std.proofs.Common.{◌≡◌, suc, drop, take}
 use Rattle.circus_check.specs.Answer.{lacks}
-use Rattle.circus_check.specs.Limits.{most_modules}
+use Rattle.circus_limits.specs.Limits.{most_modules}
 use Rattle.circus_check.specs.Seen.Programs.{modules_in, interfaces_in}
 use Rattle.circus_check.proofs.checking.missing.Given as goal
 

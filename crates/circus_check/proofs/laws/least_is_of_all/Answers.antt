@@ -1,5 +1,5 @@
 use Rattle.std.proofs.Common.{suc, [], take, refl}
-use Rattle.circus_check.specs.Limits.{most_modules}
+use Rattle.circus_limits.specs.Limits.{most_modules}
 use Rattle.circus_check.proofs.SameLeast.{modules_same}
 use Rattle.circus_check.proofs.laws.least_is_of_all.Goals as goal
 

@@ -6,7 +6,7 @@ use Rattle.circus_resolve.specs.declared.cause.CheckCause.TheVariants as cause
 use Rattle.circus_resolve.specs.Causes.{rank}
 use Rattle.circus_lang.specs.ModuleTree.{module_of}
 use Rattle.circus_check.specs.declared.reach.Shared.{Shared}
-use Rattle.circus_check.specs.Limits.{most_modules}
+use Rattle.circus_limits.specs.Limits.{most_modules}
 use Rattle.circus_check.specs.Naming.{module_named}
 use Rattle.circus_check.specs.Reach.{shared_at}
 use Rattle.circus_check.specs.Faults.{is_later}

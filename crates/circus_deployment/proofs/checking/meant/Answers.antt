@@ -1,7 +1,7 @@
 use Rattle.std.proofs.Common.{◌+◌, ◌≤◌, length, sym, ◌∙◌, ap, subst, arith}
 use Rattle.std.specs.List.{AllByRecursion}
 use Rattle.circus_deployment.specs.declared.meaning.NumberedTroupe.{NumberedTroupe}
-use Rattle.circus_deployment.specs.Limits.{most_nodes}
+use Rattle.circus_limits.specs.Limits.{most_nodes}
 use Rattle.circus_deployment.specs.Nodes.{hosts_of, numbered}
 use Rattle.circus_deployment.proofs.NumberedMore.{few_numbered}
 use Rattle.circus_deployment.proofs.checking.meant.Goals as goal

@@ -1,6 +1,6 @@
 use Rattle.std.proofs.Common.{◌≡◌, ◌+◌, ◌≤◌, ◌++◌, drop, length, map}
 use Rattle.std.specs.List.{flat_map}
-use Rattle.circus_deployment.specs.Limits.{most_nodes}
+use Rattle.circus_limits.specs.Limits.{most_nodes}
 use Rattle.circus_deployment.specs.Nodes.{hosts_of, numbered_from, numbered}
 use Rattle.circus_deployment.specs.Seen.{numbered_as}
 use Rattle.circus_deployment.proofs.meaning.numbered.Given as goal

@@ -8,7 +8,7 @@ use Rattle.circus_machine.specs.Seen.Code.{replied, Comes, Follows}
 use Rattle.circus_machine.specs.Seen.Instructions.{act_of, acts_of, catch_of}
 use Rattle.circus_machine.specs.Seen.Running.{going, Does, beside, Awaits}
 use Rattle.circus_machine.specs.declared.code.Instruction.TheVariants as I
-use Rattle.circus_machine.proofs.Alike.{some_same}
+use Rattle.circus_evaluate.proofs.Alike.{some_same}
 use Rattle.circus_machine.proofs.Turning.{gives_end, after_reply}
 use Rattle.circus_machine.proofs.run.resume.Goals as goal
 

@@ -1,6 +1,6 @@
 use Rattle.std.proofs.Common.{◌≡◌, ◌+◌, ◌*◌, ◌-◌, [], length, get_or}
 use Rattle.circus_model.specs.Behaviour.{behaviours}
-use Rattle.circus_model.specs.Limits.{most_asks}
+use Rattle.circus_limits.specs.Limits.{most_asks}
 use Rattle.circus_model.specs.Gives.{Gives}
 use Rattle.circus_model.specs.Execution.{replies_of}
 use Rattle.circus_model.specs.Seen.Threads.{seen, ordered}

@@ -1,7 +1,7 @@
 use Rattle.std.proofs.Common.{◌≡◌, [], ◌∷◌, ◌++◌, ap, ◌∙◌}
 use Rattle.std.proofs.lemmas.Result.{IfOk-weaker}
 use Rattle.circus_ring.specs.RingTable.{kept_by}
-use Rattle.circus_member.specs.Rules.{answer}
+use Rattle.circus_member_rules.specs.Rules.{answer}
 use Rattle.circus_node.specs.declared.acting.Consequences.{Consequences}
 use Rattle.circus_node.specs.Making.{consequences, table_answers}
 use Rattle.circus_node.specs.Seen.Kept.{IsRingOf}

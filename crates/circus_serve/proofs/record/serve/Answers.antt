@@ -5,11 +5,11 @@ use Rattle.circus_outside.specs.Told.{told_more}
 use Rattle.circus_outside.specs.declared.link.TakenFrom.{TakenFrom}
 use Rattle.circus_node.specs.Node.{IsNodeOf}
 use Rattle.circus_serve.specs.declared.fault.ServeFault.{ServeFault}
+use Rattle.circus_log.specs.Outside.{Tells, tells_of}
+use Rattle.circus_serve.specs.Seen.Faults.{of_link}
 use Rattle.circus_serve.specs.declared.serving.Serving.{Serving}
-use Rattle.circus_serve.specs.Outside.{Tells, tells_of}
 use Rattle.circus_serve.specs.Recorded.{Recorded}
 use Rattle.circus_serve.specs.Answers.{IsAnswer}
-use Rattle.circus_serve.specs.Seen.Faults.{of_link}
 use Rattle.circus_serve.proofs.ServedLemmas.{bind_faulted, boot_faulted, boot_served, take_faulted, turn_faulted, turn_served, HasServed, all_served, rose_by, rose_then, not_failed}
 use Rattle.circus_serve.proofs.SuspectLemmas.{own_node}
 use Rattle.circus_serve.proofs.record.serve.Goals as goal

@@ -2,7 +2,7 @@ use Rattle.std.proofs.Common.{◌≡◌, ◌+◌, Some, None, Ok, Err, slice_get
 use Rattle.circus_value.specs.ValueOf.{tree_of}
 use Rattle.circus_machine.specs.Storing.{stored_over}
 use Rattle.circus_machine.specs.Meaning.{Going, then_does, assigned, filled}
-use Rattle.circus_machine.specs.Seen.Given.{given_as}
+use Rattle.circus_evaluate.specs.Given.{given_as}
 use Rattle.circus_machine.specs.Seen.Running.{going, nothing}
 use Rattle.circus_machine.specs.declared.execution.Execution.{Execution}
 use Rattle.circus_machine.proofs.Moving.{then_goes, filled_none, filled_step, drop_past, does_from, does_not, stops, change_does}

@@ -1,9 +1,9 @@
 use Rattle.std.proofs.Common.{sym, ap, ◌∙◌}
 use Rattle.circus_checked.specs.ExpressionOf.{tree_of}
-use Rattle.circus_machine.specs.Got.{Got}
-use Rattle.circus_machine.specs.Evaluating.{evaluate}
+use Rattle.circus_evaluate.specs.Got.{Got}
+use Rattle.circus_evaluate.specs.Evaluating.{evaluate}
 use Rattle.circus_machine.specs.Meaning.{stores, stepped, then_does, raising, assigned}
-use Rattle.circus_machine.specs.Seen.Given.{given_as}
+use Rattle.circus_evaluate.specs.Given.{given_as}
 use Rattle.circus_machine.specs.Seen.Changing.{changed_over}
 use Rattle.circus_machine.specs.Seen.Running.{going, nothing}
 use Rattle.circus_machine.proofs.Moving.{then_goes, does_from, change_does}

@@ -3,11 +3,11 @@ use Rattle.std.proofs.lemmas.List.{length-map}
 use Rattle.circus_value.specs.ValueOf.{tree_of}
 use Rattle.circus_value.specs.ExternalSize.{external_size}
 use Rattle.circus_value.specs.declared.value.Value.{Value}
-use Rattle.circus_machine.specs.declared.part.Step as declared
-use Rattle.circus_machine.specs.Parts.{part_at, with_part}
-use Rattle.circus_machine.specs.Seen.Putting.{put_over, with_put_item}
-use Rattle.circus_machine.specs.Seen.Given.{given_as}
-use Rattle.circus_machine.specs.Seen.Steps.{step_as}
+use Rattle.circus_evaluate.specs.declared.part.Step as declared
+use Rattle.circus_evaluate.specs.Parts.{part_at, with_part}
+use Rattle.circus_evaluate.specs.Putting.{put_over, with_put_item}
+use Rattle.circus_evaluate.specs.Given.{given_as}
+use Rattle.circus_evaluate.specs.Steps.{step_as}
 use Rattle.circus_machine.specs.Seen.Changing.{AreSized, changed_over}
 use Rattle.circus_machine.proofs.Keeping.{variable_within, shrinks_within, resized_whole, put_there, stored_is, raised}
 use Rattle.circus_machine.proofs.store.Variables.change.Goals as goal

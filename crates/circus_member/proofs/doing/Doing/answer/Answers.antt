@@ -1,11 +1,12 @@
-use Rattle.std.proofs.Common.{◌≡◌, refl, sym, subst, ap, ◌∙◌, Some}
+use Rattle.std.proofs.Common.{◌≡◌, sym, subst, ap, ◌∙◌, Some}
+use Rattle.std.specs.Prelude.{IfOk}
 use Rattle.circus_model.specs.Behaviour.{IsModule}
 use Rattle.circus_performing.specs.Record.{behaviour}
-use Rattle.circus_member.specs.Step.{value_of_open, after_turns, answered_by}
-use Rattle.circus_member.specs.Seen.Sound.{IsSound, HasTurned}
-use Rattle.circus_member.proofs.Parts.{doing_of}
-use Rattle.circus_member.proofs.Turned.{has_turned}
-use Rattle.circus_member.proofs.Entering.{has_value, can_answer, with_answered, turned_by_reply}
+use Rattle.circus_member_step.specs.Step.{value_of_open, after_turns, answered_by}
+use Rattle.circus_member_step.specs.Seen.Sound.{IsSound, HasTurned}
+use Rattle.circus_member.proofs.Parts.{doing_of, all_goes_on}
+use Rattle.circus_member_step.proofs.Turned.{has_turned}
+use Rattle.circus_member_step.proofs.Entering.{has_value, can_answer, with_answered, turned_by_reply}
 use Rattle.circus_member.proofs.doing.Doing.answer.Goals as goal
 
 pub answer-requires : goal.answer-requires
@@ -17,26 +18,8 @@ answer-requires g c =
     let value = subst (λ x. value_of_open x.member ≡ Some c.args.reply) (sym c.self.view_is) c.requires.value in
     can_answer b d.member c.args.reply sound (has_value b d.member c.args.reply sound value)
 
-pub same-asks : goal.same-asks
-same-asks g c = refl
-
-pub same-requests : goal.same-requests
-same-requests g c = refl
-
-pub same-effects : goal.same-effects
-same-effects g c = refl
-
-pub same-doing : goal.same-doing
-same-doing g c = refl
-
-pub same-doing-2 : goal.same-doing-2
-same-doing-2 g c = refl
-
-pub same-doing-3 : goal.same-doing-3
-same-doing-3 g c = refl
-
-pub after_turns-requires : goal.after_turns-requires
-after_turns-requires g c =
+pub after_turns-turned-requires : goal.after_turns-turned-requires
+after_turns-turned-requires g c =
     let i = c.self.inside in
     let d = doing_of i.place i.known i.gather i.performer i.asks i.requests i.effects in
     let b = behaviour g.M.Module.declared g.M.Module.turn g.M.Module.first i.performer.hosted in
@@ -44,13 +27,16 @@ after_turns-requires g c =
     let sound = subst (λ x. IsSound (behaviour g.M.Module.declared g.M.Module.turn g.M.Module.first x.member.performing.hosted) x.member) (sym c.self.view_is) c.requires.sound in
     let value = subst (λ x. value_of_open x.member ≡ Some c.args.reply) (sym c.self.view_is) c.requires.value in
     let turned = turned_by_reply b lawful d.member c.args.at c.args.reply sound (has_value b d.member c.args.reply sound value) in
-    subst (λ p. HasTurned (behaviour g.M.Module.declared g.M.Module.turn g.M.Module.first p.hosted) (record d.member { performing = p })) (sym c.in_ok-answer.ensures)
+    subst (λ p. HasTurned (behaviour g.M.Module.declared g.M.Module.turn g.M.Module.first p.hosted) (record d.member { performing = p })) (sym c.in_ok-self-inside.ensures)
     (has_turned b (with_answered b lawful d.member c.args.at c.args.reply) turned)
 
 pub returns : goal.returns
 returns g c =
     let i = c.self.inside in
     let d = doing_of i.place i.known i.gather i.performer i.asks i.requests i.effects in
-    c.in_ok-after_turns.ensures
-    ∙ ap (λ p. after_turns (doing_of i.place i.known i.gather p i.asks i.requests i.effects)) c.in_ok-answer.ensures
+    let same =
+    ap (λ p. after_turns (doing_of i.place i.known i.gather p i.asks i.requests i.effects)) c.in_ok-self-inside.ensures
     ∙ ap (λ x. answered_by g.M.Module.turn c.args.at x c.args.reply) c.self.view_is
+    in
+    subst (λ x. IfOk c.unless_spent.result (λ d. d ≡ x)) same
+    (all_goes_on _ _ c.unless_spent.result c.after_turns-turned.result c.unless_spent.ensures.goes c.unless_spent.ensures.done c.after_turns-turned.ensures)

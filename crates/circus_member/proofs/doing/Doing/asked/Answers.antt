@@ -1,5 +1,5 @@
 use Rattle.std.proofs.Common.{sym, subst}
-use Rattle.circus_member.specs.Callable.{AreReplies}
+use Rattle.circus_member_rules.specs.Callable.{AreReplies}
 use Rattle.circus_member.proofs.doing.Doing.asked.Goals as goal
 
 pub take_call-requires : goal.take_call-requires

@@ -1,5 +1,5 @@
 use Rattle.std.proofs.Common.{sym, subst}
-use Rattle.circus_member.specs.Callable.{AreHosts}
+use Rattle.circus_member_rules.specs.Callable.{AreHosts}
 use Rattle.circus_member.proofs.doing.Doing.declared.Goals as goal
 
 pub tell_gone-requires : goal.tell_gone-requires

@@ -1,39 +1,22 @@
-use Rattle.std.proofs.Common.{refl, sym, subst, ap, ◌∙◌}
+use Rattle.std.proofs.Common.{◌≡◌, sym, subst, ap, ◌∙◌}
+use Rattle.std.specs.Prelude.{IfOk}
 use Rattle.circus_model.specs.Behaviour.{IsModule}
 use Rattle.circus_gather.specs.Gathering.{with_start}
 use Rattle.circus_performing.specs.Acts.{CanEnter}
 use Rattle.circus_performing.specs.Record.{behaviour}
-use Rattle.circus_member.specs.Step.{after_turns, entered}
-use Rattle.circus_member.specs.Seen.Sound.{IsSound, HasTurned, MayStart}
-use Rattle.circus_member.proofs.Parts.{doing_of}
-use Rattle.circus_member.proofs.Turned.{has_turned}
-use Rattle.circus_member.proofs.Entering.{with_entered, turned_by_start}
+use Rattle.circus_member_step.specs.Step.{after_turns, entered}
+use Rattle.circus_member_step.specs.Seen.Sound.{IsSound, HasTurned, MayStart}
+use Rattle.circus_member.proofs.Parts.{doing_of, all_goes_on}
+use Rattle.circus_member_step.proofs.Turned.{has_turned}
+use Rattle.circus_member_step.proofs.Entering.{with_entered, turned_by_start}
 use Rattle.circus_member.proofs.doing.Doing.enter.Goals as goal
 
 pub enter-requires : goal.enter-requires
 enter-requires g c =
     subst (λ x. CanEnter (g.M.Module.declared x.member.performing.hosted) c.args.start x.member.performing.kept) (sym c.self.view_is) c.requires.may.can
 
-pub same-asks : goal.same-asks
-same-asks g c = refl
-
-pub same-requests : goal.same-requests
-same-requests g c = refl
-
-pub same-effects : goal.same-effects
-same-effects g c = refl
-
-pub same-doing : goal.same-doing
-same-doing g c = refl
-
-pub same-doing-2 : goal.same-doing-2
-same-doing-2 g c = refl
-
-pub same-doing-3 : goal.same-doing-3
-same-doing-3 g c = refl
-
-pub after_turns-requires : goal.after_turns-requires
-after_turns-requires g c =
+pub after_turns-turned-requires : goal.after_turns-turned-requires
+after_turns-turned-requires g c =
     let i = c.self.inside in
     let d = doing_of i.place i.known i.gather i.performer i.asks i.requests i.effects in
     let b = behaviour g.M.Module.declared g.M.Module.turn g.M.Module.first i.performer.hosted in
@@ -42,7 +25,7 @@ after_turns-requires g c =
     let may = subst (λ x. MayStart (g.M.Module.declared x.member.performing.hosted) x.member c.args.start) (sym c.self.view_is) c.requires.may in
     let turned = turned_by_start b lawful d.member c.args.at c.args.start sound may in
     let started = c.started.ensures ∙ ap (λ k. with_start i.gather k.count) c.record.ensures.value in
-    subst (λ p. HasTurned (behaviour g.M.Module.declared g.M.Module.turn g.M.Module.first p.hosted) (record d.member { gathered = c.started.new.self; performing = p })) (sym c.in_ok-enter.ensures)
+    subst (λ p. HasTurned (behaviour g.M.Module.declared g.M.Module.turn g.M.Module.first p.hosted) (record d.member { gathered = c.started.new.self; performing = p })) (sym c.in_ok-self-inside.ensures)
     (subst (λ x. HasTurned b (record (with_entered b lawful d.member c.args.at c.args.start) { gathered = x })) (sym started)
     (has_turned b (with_entered b lawful d.member c.args.at c.args.start) turned))
 
@@ -50,7 +33,10 @@ pub returns : goal.returns
 returns g c =
     let i = c.self.inside in
     let started = c.started.ensures ∙ ap (λ k. with_start i.gather k.count) c.record.ensures.value in
-    c.in_ok-after_turns.ensures
-    ∙ ap (λ x. after_turns (doing_of i.place i.known x c.in_ok-enter.field-0 i.asks i.requests i.effects)) started
-    ∙ ap (λ p. after_turns (doing_of i.place i.known (with_start i.gather i.performer.kept.count) p i.asks i.requests i.effects)) c.in_ok-enter.ensures
+    let same =
+    ap (λ x. after_turns (doing_of i.place i.known x c.in_ok-self-inside.field-0 i.asks i.requests i.effects)) started
+    ∙ ap (λ p. after_turns (doing_of i.place i.known (with_start i.gather i.performer.kept.count) p i.asks i.requests i.effects)) c.in_ok-self-inside.ensures
     ∙ ap (λ x. entered g.M.Module.turn c.args.at x c.args.start) c.self.view_is
+    in
+    subst (λ x. IfOk c.unless_spent.result (λ d. d ≡ x)) same
+    (all_goes_on _ _ c.unless_spent.result c.after_turns-turned.result c.unless_spent.ensures.goes c.unless_spent.ensures.done c.after_turns-turned.ensures)

@@ -2,44 +2,45 @@ use Rattle.std.proofs.Common.{◌≡◌, Option, refl, sym, subst}
 use Rattle.std.proofs.lemmas.Result.{IfOk-weaker}
 use Rattle.circus_model.specs.Behaviour.{IsModule}
 use Rattle.circus_performing.specs.Record.{behaviour}
-use Rattle.circus_member.specs.declared.occurrence.Difference.{Difference}
-use Rattle.circus_member.specs.MemberState.{Doing, behind}
-use Rattle.circus_member.specs.Step.{replied}
-use Rattle.circus_member.specs.Seen.Sound.{IsSound}
-use Rattle.circus_member.proofs.Homes.{are_views, all_may_call}
-use Rattle.circus_member.proofs.Handled.{sound_asked, sound_fetched, sound_replied, sound_stale, sound_before, sound_told, sound_declared, sound_joins}
+use Rattle.circus_member_rules.specs.declared.occurrence.Difference.{Difference}
+use Rattle.circus_member_step.specs.MemberState.{Doing, behind}
+use Rattle.circus_member_step.specs.Step.{replied}
+use Rattle.circus_member_step.specs.Seen.Sound.{IsSound}
+use Rattle.circus_member_step.proofs.Homes.{are_views, all_may_call}
+use Rattle.circus_member_step.proofs.Handled.{sound_asked, sound_fetched, sound_replied, sound_stale, sound_before, sound_told, sound_declared, sound_joins}
+use Rattle.circus_member.proofs.Parts.{goes_on}
 use Rattle.circus_member.proofs.doing.Doing.handle.Goals as goal
 
-pub asked-requires : goal.asked-requires
-asked-requires g c = c.requires.sound.replies
+pub asked-done-requires : goal.asked-done-requires
+asked-done-requires g c = c.requires.sound.replies
 
-pub returns-in_ok-asked-in-Asked-clause-kept : goal.returns-in_ok-asked-in-Asked-clause-kept
-returns-in_ok-asked-in-Asked-clause-kept g c = rw c.in-Asked.is c.in_ok-asked-in-Asked.ensures
+pub returns-in_ok-unless_spent-in-Asked-clause-kept : goal.returns-in_ok-unless_spent-in-Asked-clause-kept
+returns-in_ok-unless_spent-in-Asked-clause-kept g c = rw c.in-Asked.is (goes_on c.asked-done.result c.in_ok-unless_spent-in-Asked.ensures.goes c.in_ok-unless_spent-in-Asked.ensures.done c.asked-done.ensures)
 
-pub returns-in_ok-asked-in-Asked-clause-told : goal.returns-in_ok-asked-in-Asked-clause-told
-returns-in_ok-asked-in-Asked-clause-told g c = rw c.in-Asked.is refl
+pub returns-in_ok-unless_spent-in-Asked-clause-told : goal.returns-in_ok-unless_spent-in-Asked-clause-told
+returns-in_ok-unless_spent-in-Asked-clause-told g c = rw c.in-Asked.is refl
 
-pub returns-in_ok-asked-in-Asked-clause-sound : goal.returns-in_ok-asked-in-Asked-clause-sound
-returns-in_ok-asked-in-Asked-clause-sound g c =
+pub returns-in_ok-unless_spent-in-Asked-clause-sound : goal.returns-in_ok-unless_spent-in-Asked-clause-sound
+returns-in_ok-unless_spent-in-Asked-clause-sound g c =
     let m = c.args.self.member in
     let b = behaviour g.M.Module.declared g.M.Module.turn g.M.Module.first m.performing.hosted in
-    subst (λ (d : Doing g.row.M.Denot). IsSound (behaviour g.M.Module.declared g.M.Module.turn g.M.Module.first d.member.performing.hosted) d.member) (sym c.in_ok-asked-in-Asked.ensures)
+    subst (λ (d : Doing g.row.M.Denot). IsSound (behaviour g.M.Module.declared g.M.Module.turn g.M.Module.first d.member.performing.hosted) d.member) (sym (goes_on c.asked-done.result c.in_ok-unless_spent-in-Asked.ensures.goes c.in_ok-unless_spent-in-Asked.ensures.done c.asked-done.ensures))
     (sound_asked b m c.in-Asked.header c.in-Asked.body c.in-Asked.sender (rw c.in-Asked.is at c.requires.can) c.requires.sound)
 
-pub fetched-requires : goal.fetched-requires
-fetched-requires g c = rw c.in-Fetched.is at c.requires.can
+pub fetched-done-requires : goal.fetched-done-requires
+fetched-done-requires g c = rw c.in-Fetched.is at c.requires.can
 
-pub returns-in_ok-fetched-in-Fetched-clause-kept : goal.returns-in_ok-fetched-in-Fetched-clause-kept
-returns-in_ok-fetched-in-Fetched-clause-kept g c = rw c.in-Fetched.is c.in_ok-fetched-in-Fetched.ensures
+pub returns-in_ok-unless_spent-in-Fetched-clause-kept : goal.returns-in_ok-unless_spent-in-Fetched-clause-kept
+returns-in_ok-unless_spent-in-Fetched-clause-kept g c = rw c.in-Fetched.is (goes_on c.fetched-done.result c.in_ok-unless_spent-in-Fetched.ensures.goes c.in_ok-unless_spent-in-Fetched.ensures.done c.fetched-done.ensures)
 
-pub returns-in_ok-fetched-in-Fetched-clause-told : goal.returns-in_ok-fetched-in-Fetched-clause-told
-returns-in_ok-fetched-in-Fetched-clause-told g c = rw c.in-Fetched.is refl
+pub returns-in_ok-unless_spent-in-Fetched-clause-told : goal.returns-in_ok-unless_spent-in-Fetched-clause-told
+returns-in_ok-unless_spent-in-Fetched-clause-told g c = rw c.in-Fetched.is refl
 
-pub returns-in_ok-fetched-in-Fetched-clause-sound : goal.returns-in_ok-fetched-in-Fetched-clause-sound
-returns-in_ok-fetched-in-Fetched-clause-sound g c =
+pub returns-in_ok-unless_spent-in-Fetched-clause-sound : goal.returns-in_ok-unless_spent-in-Fetched-clause-sound
+returns-in_ok-unless_spent-in-Fetched-clause-sound g c =
     let m = c.args.self.member in
     let b = behaviour g.M.Module.declared g.M.Module.turn g.M.Module.first m.performing.hosted in
-    subst (λ (d : Doing g.row.M.Denot). IsSound (behaviour g.M.Module.declared g.M.Module.turn g.M.Module.first d.member.performing.hosted) d.member) (sym c.in_ok-fetched-in-Fetched.ensures)
+    subst (λ (d : Doing g.row.M.Denot). IsSound (behaviour g.M.Module.declared g.M.Module.turn g.M.Module.first d.member.performing.hosted) d.member) (sym (goes_on c.fetched-done.result c.in_ok-unless_spent-in-Fetched.ensures.goes c.in_ok-unless_spent-in-Fetched.ensures.done c.fetched-done.ensures))
     (sound_fetched b m c.in-Fetched.incarnation c.in-Fetched.sender c.requires.sound)
 
 pub returns-in-Replied-clause-kept : goal.returns-in-Replied-clause-kept
@@ -59,25 +60,25 @@ returns-in-Replied-clause-sound g c =
     (λ done is. subst (λ (d : Doing g.row.M.Denot). IsSound (behaviour g.M.Module.declared g.M.Module.turn g.M.Module.first d.member.performing.hosted) d.member) (sym is) (sound_replied b m a.name a.from a.reply (rw a.is at c.requires.can) c.requires.sound))
     c.replied.ensures.kept
 
-pub stale-requires-clause-asks : goal.stale-requires-clause-asks
-stale-requires-clause-asks g c =
+pub stale-done-requires-clause-asks : goal.stale-done-requires-clause-asks
+stale-done-requires-clause-asks g c =
     let m = c.args.self.member in
     all_may_call (g.M.Module.declared m.performing.hosted) m.place m.known m.asks c.requires.sound.home c.requires.sound.asks
 
-pub stale-requires-clause-views : goal.stale-requires-clause-views
-stale-requires-clause-views g c = are_views c.args.self.member.known c.requires.sound.home.incarnations
+pub stale-done-requires-clause-views : goal.stale-done-requires-clause-views
+stale-done-requires-clause-views g c = are_views c.args.self.member.known c.requires.sound.home.incarnations
 
-pub returns-in_ok-stale-in-IsStale-clause-kept : goal.returns-in_ok-stale-in-IsStale-clause-kept
-returns-in_ok-stale-in-IsStale-clause-kept g c = rw c.in-IsStale.is c.in_ok-stale-in-IsStale.ensures
+pub returns-in_ok-unless_spent-in-IsStale-clause-kept : goal.returns-in_ok-unless_spent-in-IsStale-clause-kept
+returns-in_ok-unless_spent-in-IsStale-clause-kept g c = rw c.in-IsStale.is (goes_on c.stale-done.result c.in_ok-unless_spent-in-IsStale.ensures.goes c.in_ok-unless_spent-in-IsStale.ensures.done c.stale-done.ensures)
 
-pub returns-in_ok-stale-in-IsStale-clause-told : goal.returns-in_ok-stale-in-IsStale-clause-told
-returns-in_ok-stale-in-IsStale-clause-told g c = rw c.in-IsStale.is refl
+pub returns-in_ok-unless_spent-in-IsStale-clause-told : goal.returns-in_ok-unless_spent-in-IsStale-clause-told
+returns-in_ok-unless_spent-in-IsStale-clause-told g c = rw c.in-IsStale.is refl
 
-pub returns-in_ok-stale-in-IsStale-clause-sound : goal.returns-in_ok-stale-in-IsStale-clause-sound
-returns-in_ok-stale-in-IsStale-clause-sound g c =
+pub returns-in_ok-unless_spent-in-IsStale-clause-sound : goal.returns-in_ok-unless_spent-in-IsStale-clause-sound
+returns-in_ok-unless_spent-in-IsStale-clause-sound g c =
     let m = c.args.self.member in
     let b = behaviour g.M.Module.declared g.M.Module.turn g.M.Module.first m.performing.hosted in
-    subst (λ (d : Doing g.row.M.Denot). IsSound (behaviour g.M.Module.declared g.M.Module.turn g.M.Module.first d.member.performing.hosted) d.member) (sym c.in_ok-stale-in-IsStale.ensures)
+    subst (λ (d : Doing g.row.M.Denot). IsSound (behaviour g.M.Module.declared g.M.Module.turn g.M.Module.first d.member.performing.hosted) d.member) (sym (goes_on c.stale-done.result c.in_ok-unless_spent-in-IsStale.ensures.goes c.in_ok-unless_spent-in-IsStale.ensures.done c.stale-done.ensures))
     (sound_stale b m c.in-IsStale.name c.in-IsStale.server c.in-IsStale.from c.in-IsStale.incarnation c.requires.sound)
 
 pub returns-in-IsBefore-clause-kept : goal.returns-in-IsBefore-clause-kept
@@ -93,27 +94,27 @@ returns-in-IsBefore-clause-sound g c =
     subst (λ (d : Doing g.row.M.Denot). IsSound (behaviour g.M.Module.declared g.M.Module.turn g.M.Module.first d.member.performing.hosted) d.member) (sym c.before-in-IsBefore.ensures)
     (sound_before b m c.in-IsBefore.name c.in-IsBefore.from c.requires.sound)
 
-pub told-requires-clause-home : goal.told-requires-clause-home
-told-requires-clause-home g c = c.requires.sound.home
+pub told-done-requires-clause-home : goal.told-done-requires-clause-home
+told-done-requires-clause-home g c = c.requires.sound.home
 
-pub told-requires-clause-asks : goal.told-requires-clause-asks
-told-requires-clause-asks g c = c.requires.sound.asks
+pub told-done-requires-clause-asks : goal.told-done-requires-clause-asks
+told-done-requires-clause-asks g c = c.requires.sound.asks
 
-pub told-requires-clause-table : goal.told-requires-clause-table
-told-requires-clause-table g c = rw c.in-Told.is at c.requires.can
+pub told-done-requires-clause-table : goal.told-done-requires-clause-table
+told-done-requires-clause-table g c = rw c.in-Told.is at c.requires.can
 
-pub returns-in_ok-told-in-Told-clause-kept : goal.returns-in_ok-told-in-Told-clause-kept
-returns-in_ok-told-in-Told-clause-kept g c = rw c.in-Told.is c.in_ok-told-in-Told.ensures
+pub returns-in_ok-unless_spent-in-Told-clause-kept : goal.returns-in_ok-unless_spent-in-Told-clause-kept
+returns-in_ok-unless_spent-in-Told-clause-kept g c = rw c.in-Told.is (goes_on c.told-done.result c.in_ok-unless_spent-in-Told.ensures.goes c.in_ok-unless_spent-in-Told.ensures.done c.told-done.ensures)
 
-pub returns-in_ok-told-in-Told-clause-told : goal.returns-in_ok-told-in-Told-clause-told
-returns-in_ok-told-in-Told-clause-told g c = rw c.in-Told.is refl
+pub returns-in_ok-unless_spent-in-Told-clause-told : goal.returns-in_ok-unless_spent-in-Told-clause-told
+returns-in_ok-unless_spent-in-Told-clause-told g c = rw c.in-Told.is refl
 
-pub returns-in_ok-told-in-Told-clause-sound : goal.returns-in_ok-told-in-Told-clause-sound
-returns-in_ok-told-in-Told-clause-sound g c =
+pub returns-in_ok-unless_spent-in-Told-clause-sound : goal.returns-in_ok-unless_spent-in-Told-clause-sound
+returns-in_ok-unless_spent-in-Told-clause-sound g c =
     let m = c.args.self.member in
     let b = behaviour g.M.Module.declared g.M.Module.turn g.M.Module.first m.performing.hosted in
     let lawful : IsModule b = record { first_is_state = g.met.M.Module.first_is_state m.performing.hosted; turns_are_lawful = g.met.M.Module.turns_are_lawful m.performing.hosted } in
-    subst (λ (d : Doing g.row.M.Denot). IsSound (behaviour g.M.Module.declared g.M.Module.turn g.M.Module.first d.member.performing.hosted) d.member) (sym c.in_ok-told-in-Told.ensures)
+    subst (λ (d : Doing g.row.M.Denot). IsSound (behaviour g.M.Module.declared g.M.Module.turn g.M.Module.first d.member.performing.hosted) d.member) (sym (goes_on c.told-done.result c.in_ok-unless_spent-in-Told.ensures.goes c.in_ok-unless_spent-in-Told.ensures.done c.told-done.ensures))
     (sound_told b lawful m c.in-Told.request c.in-Told.table (rw c.in-Told.is at c.requires.can) c.requires.sound)
 
 pub restored-requires-clause-sound : goal.restored-requires-clause-sound
@@ -131,36 +132,36 @@ returns-in_ok-restored-in-Restored-clause-told g c = rw c.in-Restored.is refl
 pub returns-in_ok-restored-in-Restored-clause-sound : goal.returns-in_ok-restored-in-Restored-clause-sound
 returns-in_ok-restored-in-Restored-clause-sound g c = c.in_ok-restored-in-Restored.ensures.sound
 
-pub declared-requires : goal.declared-requires
-declared-requires g c = c.requires.sound.home.hosts
+pub declared-done-requires : goal.declared-done-requires
+declared-done-requires g c = c.requires.sound.home.hosts
 
-pub returns-in_ok-declared-in-Declared-clause-kept : goal.returns-in_ok-declared-in-Declared-clause-kept
-returns-in_ok-declared-in-Declared-clause-kept g c = rw c.in-Declared.is c.in_ok-declared-in-Declared.ensures
+pub returns-in_ok-unless_spent-in-Declared-clause-kept : goal.returns-in_ok-unless_spent-in-Declared-clause-kept
+returns-in_ok-unless_spent-in-Declared-clause-kept g c = rw c.in-Declared.is (goes_on c.declared-done.result c.in_ok-unless_spent-in-Declared.ensures.goes c.in_ok-unless_spent-in-Declared.ensures.done c.declared-done.ensures)
 
-pub returns-in_ok-declared-in-Declared-clause-told : goal.returns-in_ok-declared-in-Declared-clause-told
-returns-in_ok-declared-in-Declared-clause-told g c = rw c.in-Declared.is refl
+pub returns-in_ok-unless_spent-in-Declared-clause-told : goal.returns-in_ok-unless_spent-in-Declared-clause-told
+returns-in_ok-unless_spent-in-Declared-clause-told g c = rw c.in-Declared.is refl
 
-pub returns-in_ok-declared-in-Declared-clause-sound : goal.returns-in_ok-declared-in-Declared-clause-sound
-returns-in_ok-declared-in-Declared-clause-sound g c =
+pub returns-in_ok-unless_spent-in-Declared-clause-sound : goal.returns-in_ok-unless_spent-in-Declared-clause-sound
+returns-in_ok-unless_spent-in-Declared-clause-sound g c =
     let m = c.args.self.member in
     let b = behaviour g.M.Module.declared g.M.Module.turn g.M.Module.first m.performing.hosted in
     let lawful : IsModule b = record { first_is_state = g.met.M.Module.first_is_state m.performing.hosted; turns_are_lawful = g.met.M.Module.turns_are_lawful m.performing.hosted } in
-    subst (λ (d : Doing g.row.M.Denot). IsSound (behaviour g.M.Module.declared g.M.Module.turn g.M.Module.first d.member.performing.hosted) d.member) (sym c.in_ok-declared-in-Declared.ensures)
+    subst (λ (d : Doing g.row.M.Denot). IsSound (behaviour g.M.Module.declared g.M.Module.turn g.M.Module.first d.member.performing.hosted) d.member) (sym (goes_on c.declared-done.result c.in_ok-unless_spent-in-Declared.ensures.goes c.in_ok-unless_spent-in-Declared.ensures.done c.declared-done.ensures))
     (sound_declared b lawful m c.in-Declared.node c.requires.sound)
 
-pub joins-requires : goal.joins-requires
-joins-requires g c = c.requires.sound.home
+pub joins-done-requires : goal.joins-done-requires
+joins-done-requires g c = c.requires.sound.home
 
-pub returns-in_ok-joins-in-Joins-clause-kept : goal.returns-in_ok-joins-in-Joins-clause-kept
-returns-in_ok-joins-in-Joins-clause-kept g c = rw c.in-Joins.is c.in_ok-joins-in-Joins.ensures
+pub returns-in_ok-unless_spent-in-Joins-clause-kept : goal.returns-in_ok-unless_spent-in-Joins-clause-kept
+returns-in_ok-unless_spent-in-Joins-clause-kept g c = rw c.in-Joins.is (goes_on c.joins-done.result c.in_ok-unless_spent-in-Joins.ensures.goes c.in_ok-unless_spent-in-Joins.ensures.done c.joins-done.ensures)
 
-pub returns-in_ok-joins-in-Joins-clause-told : goal.returns-in_ok-joins-in-Joins-clause-told
-returns-in_ok-joins-in-Joins-clause-told g c = rw c.in-Joins.is refl
+pub returns-in_ok-unless_spent-in-Joins-clause-told : goal.returns-in_ok-unless_spent-in-Joins-clause-told
+returns-in_ok-unless_spent-in-Joins-clause-told g c = rw c.in-Joins.is refl
 
-pub returns-in_ok-joins-in-Joins-clause-sound : goal.returns-in_ok-joins-in-Joins-clause-sound
-returns-in_ok-joins-in-Joins-clause-sound g c =
+pub returns-in_ok-unless_spent-in-Joins-clause-sound : goal.returns-in_ok-unless_spent-in-Joins-clause-sound
+returns-in_ok-unless_spent-in-Joins-clause-sound g c =
     let m = c.args.self.member in
     let b = behaviour g.M.Module.declared g.M.Module.turn g.M.Module.first m.performing.hosted in
     let lawful : IsModule b = record { first_is_state = g.met.M.Module.first_is_state m.performing.hosted; turns_are_lawful = g.met.M.Module.turns_are_lawful m.performing.hosted } in
-    subst (λ (d : Doing g.row.M.Denot). IsSound (behaviour g.M.Module.declared g.M.Module.turn g.M.Module.first d.member.performing.hosted) d.member) (sym c.in_ok-joins-in-Joins.ensures)
+    subst (λ (d : Doing g.row.M.Denot). IsSound (behaviour g.M.Module.declared g.M.Module.turn g.M.Module.first d.member.performing.hosted) d.member) (sym (goes_on c.joins-done.result c.in_ok-unless_spent-in-Joins.ensures.goes c.in_ok-unless_spent-in-Joins.ensures.done c.joins-done.ensures))
     (sound_joins b lawful m c.requires.sound)

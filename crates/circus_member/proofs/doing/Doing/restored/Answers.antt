@@ -1,14 +1,16 @@
 use Rattle.std.proofs.Common.{◌≡◌, refl, sym, subst, ap, ◌∙◌, arith}
+use Rattle.std.specs.Prelude.{IfOk}
+use Rattle.std.proofs.lemmas.Result.{IfOk-weaker}
 use Rattle.circus_model.specs.Lawful.{IsState}
 use Rattle.circus_model.specs.Behaviour.{IsModule}
 use Rattle.circus_performing.specs.Performing.{is_fetching}
 use Rattle.circus_performing.specs.Record.{behaviour}
-use Rattle.circus_member.specs.MemberState.{behind}
-use Rattle.circus_member.specs.Step.{restored}
-use Rattle.circus_member.specs.Happening.{IsHome}
-use Rattle.circus_member.specs.Seen.Sound.{IsSound}
-use Rattle.circus_member.proofs.Parts.{doing_of}
-use Rattle.circus_member.proofs.Handled.{sound_restored}
+use Rattle.circus_member_step.specs.MemberState.{Doing, behind}
+use Rattle.circus_member_step.specs.Step.{restored}
+use Rattle.circus_member_step.specs.Happening.{IsHome}
+use Rattle.circus_member_step.specs.Seen.Sound.{IsSound}
+use Rattle.circus_member.proofs.Parts.{doing_of, all_goes_on}
+use Rattle.circus_member_step.proofs.Handled.{sound_restored}
 use Rattle.circus_member.proofs.Restoring.{not_restored, restored_so, active_hosted, restored_hosted}
 use Rattle.circus_member.proofs.doing.Doing.restored.Goals as goal
 
@@ -17,24 +19,6 @@ same-self g c = refl
 
 pub same-state : goal.same-state
 same-state g c = refl
-
-pub same-asks : goal.same-asks
-same-asks g c = refl
-
-pub same-requests : goal.same-requests
-same-requests g c = refl
-
-pub same-effects : goal.same-effects
-same-effects g c = refl
-
-pub same-doing : goal.same-doing
-same-doing g c = refl
-
-pub same-doing-2 : goal.same-doing-2
-same-doing-2 g c = refl
-
-pub same-doing-3 : goal.same-doing-3
-same-doing-3 g c = refl
 
 pub returns-then-not-is_fetching-clause-kept : goal.returns-then-not-is_fetching-clause-kept
 returns-then-not-is_fetching-clause-kept g c =
@@ -49,11 +33,11 @@ returns-then-not-is_fetching-clause-sound g c = c.requires.sound
 pub activate-requires : goal.activate-requires
 activate-requires g c = subst (λ d. IsState (g.M.Module.declared d.member.performing.hosted) c.args.state) (sym c.self.view_is) c.requires.state
 
-pub begin-requires : goal.begin-requires
-begin-requires g c =
+pub begin-begun-requires : goal.begin-begun-requires
+begin-begun-requires g c =
     let i = c.self.inside in
     let sound = subst (λ x. IsSound (behaviour g.M.Module.declared g.M.Module.turn g.M.Module.first x.member.performing.hosted) x.member) (sym c.self.view_is) c.requires.sound in
-    let same = ap (λ p. p.hosted) c.in_ok-activate.ensures ∙ active_hosted c.args.at c.args.state c.args.count i.performer in
+    let same = ap (λ p. p.hosted) c.in_ok-self-inside.ensures ∙ active_hosted c.args.at c.args.state c.args.count i.performer in
     subst (λ h. IsHome (g.M.Module.declared h) i.place i.known.views) (sym same) sound.home
 
 pub returns-clause-kept : goal.returns-clause-kept
@@ -61,21 +45,22 @@ returns-clause-kept g c =
     let i = c.self.inside in
     let d = doing_of i.place i.known i.gather i.performer i.asks i.requests i.effects in
     let fetching = ap is_fetching (ap (λ k. k.phase) (sym c.record.ensures.value)) ∙ sym c.is_fetching.ensures ∙ c.if-not-is_fetching.false in
-    c.in_ok-begin.ensures
-    ∙ restored_so d c.args.at c.args.state c.args.count c.in_ok-activate.field-0 fetching c.in_ok-activate.ensures
+    let same =
+    restored_so d c.args.at c.args.state c.args.count c.in_ok-self-inside.field-0 fetching c.in_ok-self-inside.ensures
     ∙ ap (λ x. behind x (restored c.args.at x.member c.args.state c.args.count)) c.self.view_is
+    in
+    subst (λ x. IfOk c.unless_spent.result (λ d. d ≡ x)) same
+    (all_goes_on _ _ c.unless_spent.result c.begin-begun.result c.unless_spent.ensures.goes c.unless_spent.ensures.done c.begin-begun.ensures)
 
 pub returns-clause-sound : goal.returns-clause-sound
 returns-clause-sound g c =
-    let i = c.self.inside in
-    let d = doing_of i.place i.known i.gather i.performer i.asks i.requests i.effects in
     let m = c.args.self.member in
-    let fetching = ap is_fetching (ap (λ k. k.phase) (sym c.record.ensures.value)) ∙ sym c.is_fetching.ensures ∙ c.if-not-is_fetching.false in
-    let is = c.in_ok-begin.ensures
-    ∙ restored_so d c.args.at c.args.state c.args.count c.in_ok-activate.field-0 fetching c.in_ok-activate.ensures
-    ∙ ap (λ x. behind x (restored c.args.at x.member c.args.state c.args.count)) c.self.view_is in
     let b = behaviour g.M.Module.declared g.M.Module.turn g.M.Module.first m.performing.hosted in
     let lawful : IsModule b = record { first_is_state = g.met.M.Module.first_is_state m.performing.hosted; turns_are_lawful = g.met.M.Module.turns_are_lawful m.performing.hosted } in
     let sound = sound_restored b lawful m c.args.at c.args.state c.args.count c.requires.state (omega (arith, c.ranges.count.fits)) c.requires.sound in
-    subst (λ x. IsSound (behaviour g.M.Module.declared g.M.Module.turn g.M.Module.first x.member.performing.hosted) x.member) (sym is)
-    (subst (λ h. IsSound (behaviour g.M.Module.declared g.M.Module.turn g.M.Module.first h) (restored c.args.at m c.args.state c.args.count).member) (sym (restored_hosted c.args.at c.args.state c.args.count m)) sound)
+    IfOk-weaker c.unless_spent.result
+    (λ (d : Doing g.row.M.Denot). d ≡ behind c.args.self (restored c.args.at m c.args.state c.args.count))
+    (λ (d : Doing g.row.M.Denot). IsSound (behaviour g.M.Module.declared g.M.Module.turn g.M.Module.first d.member.performing.hosted) d.member)
+    (λ d is. subst (λ (x : Doing g.row.M.Denot). IsSound (behaviour g.M.Module.declared g.M.Module.turn g.M.Module.first x.member.performing.hosted) x.member) (sym is)
+    (subst (λ h. IsSound (behaviour g.M.Module.declared g.M.Module.turn g.M.Module.first h) (restored c.args.at m c.args.state c.args.count).member) (sym (restored_hosted c.args.at c.args.state c.args.count m)) sound))
+    (returns-clause-kept g c)

@@ -1,5 +1,5 @@
 use Rattle.std.proofs.Common.{sym, subst}
-use Rattle.circus_member.specs.Callable.{AreViews, AllMayCall}
+use Rattle.circus_member_rules.specs.Callable.{AreViews, AllMayCall}
 use Rattle.circus_member.proofs.doing.Doing.stale.Goals as goal
 
 pub stale-requires-clause-asks : goal.stale-requires-clause-asks

@@ -1,6 +1,6 @@
 use Rattle.std.proofs.Common.{◌≡◌, IfOk, sym, ap, subst, ◌∙◌}
 use Rattle.circus_node.specs.declared.acting.Consequences.{Consequences}
-use Rattle.circus_member.specs.MemberState.{MemberState}
+use Rattle.circus_member_step.specs.MemberState.{MemberState}
 use Rattle.circus_node.specs.NodeState.{Acting, member}
 use Rattle.circus_node.specs.Making.{is_told_to_join}
 use Rattle.circus_node.specs.Seen.ActingOf.{acting_of}

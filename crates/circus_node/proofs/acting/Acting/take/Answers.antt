@@ -7,12 +7,12 @@ use Rattle.circus_model.specs.NextTurn.{NextTurn}
 use Rattle.circus_model.specs.declared.signature.Signature.{Signature}
 use Rattle.circus_ring.specs.RingTable.{Kept}
 use Rattle.circus_wire.specs.declared.delivery.Heard.{Heard}
-use Rattle.circus_member.specs.declared.occurrence.Occurrence.{Occurrence}
-use Rattle.circus_member.specs.declared.occurrence.Purpose.{Purpose}
-use Rattle.circus_member.specs.MemberState.{MemberState}
+use Rattle.circus_member_rules.specs.declared.occurrence.Occurrence.{Occurrence}
+use Rattle.circus_member_rules.specs.declared.occurrence.Purpose.{Purpose}
+use Rattle.circus_member_step.specs.MemberState.{MemberState}
 use Rattle.circus_node.specs.declared.acting.Consequences.{Consequences}
 use Rattle.circus_node.specs.NodeState.{Acting, member, ringmaster}
-use Rattle.circus_node.specs.Accepting.{accepted}
+use Rattle.circus_accepting.specs.Accepting.{accepted}
 use Rattle.circus_node.specs.Making.{Made, refused, happens, arrives}
 use Rattle.circus_node.specs.Seen.ActingOf.{acting_of}
 use Rattle.circus_node.specs.Seen.Kept.{IsActing}

@@ -1,5 +1,5 @@
 use Rattle.std.proofs.Common.{◌≡◌, ◌+◌, ◌-◌, length}
-use Rattle.circus_model.specs.Limits.{most_asks}
+use Rattle.circus_limits.specs.Limits.{most_asks}
 use Rattle.circus_performing.specs.Performing.{replies_of}
 use Rattle.circus_performing.specs.Record.{behaviour}
 use Rattle.circus_performing.proofs.Members.{IsGoing}

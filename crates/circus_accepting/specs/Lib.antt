@@ -1,0 +1,4 @@
+pub mod Headers
+pub mod Bodies
+pub mod Accepting
+pub mod Seen

@@ -1,0 +1,4 @@
+pub mod AskedLemmas
+mod RunLemmas
+pub mod SpareLemmas
+mod TakesLemmas

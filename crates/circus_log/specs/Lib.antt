@@ -1,0 +1,5 @@
+pub mod Happened
+pub mod Running
+pub mod Serving
+pub mod Outside
+pub mod Giving

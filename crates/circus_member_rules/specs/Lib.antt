@@ -1,0 +1,5 @@
+pub mod Messages
+pub mod OpenAsks
+pub mod Rules
+pub mod Callable
+pub mod Seen

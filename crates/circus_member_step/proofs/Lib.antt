@@ -1,0 +1,16 @@
+pub mod Named
+pub mod Homes
+pub mod Held
+pub mod Runs
+pub mod Writing
+pub mod Threads
+pub mod Sound
+pub mod Handled
+pub mod Turned
+pub mod Entering
+pub mod Starting
+pub mod Enough
+pub mod Resting
+pub mod Concerned
+pub mod Unsettled
+pub mod Done

@@ -1,0 +1,5 @@
+pub mod MemberState
+pub mod Step
+pub mod Happening
+pub mod GoneOn
+pub mod Seen

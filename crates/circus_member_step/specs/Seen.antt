@@ -1,0 +1,2 @@
+-- What holds of a member behind each step.
+pub mod Sound

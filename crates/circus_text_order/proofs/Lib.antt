@@ -1,0 +1,5 @@
+mod ExpressionsInText
+pub mod InText
+pub mod Rising
+pub mod StatementsInText
+pub mod TypesInText
