@@ -23,11 +23,6 @@ pub both_ok : {T E P Q R : Type 0} (r : Result T E) → (P → Q → R) → OnOk
 both_ok (Ok x) f p q = f p q
 both_ok (Err e) f p q = tt
 
--- what follows from one
-pub so_ok : {T E P Q : Type 0} (r : Result T E) → (P → Q) → OnOk r P → OnOk r Q
-so_ok (Ok x) f p = f p
-so_ok (Err e) f p = tt
-
 -- where it goes on, what was done without a fault holds
 pub goes_on : {A E : Type 0} {a b d : A} (done : Result (Unit {0}) E) → d ≡ a → done ≡ Ok tt → OnOk done (a ≡ b) → d ≡ b
 goes_on {a = a} {b = b} done goes is on = goes ∙ subst (λ r. OnOk r (a ≡ b)) is on

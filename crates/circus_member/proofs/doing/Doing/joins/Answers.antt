@@ -1,11 +1,12 @@
 use Rattle.std.proofs.Common.{ap, ◌∙◌}
+use Rattle.std.proofs.lemmas.Result.{on_ok_weaker}
 use Rattle.circus_member_step.specs.MemberState.{behind}
 use Rattle.circus_member_step.specs.Step.{joins}
-use Rattle.circus_member.proofs.Parts.{doing_of, so_ok}
+use Rattle.circus_member.proofs.Parts.{doing_of}
 use Rattle.circus_member.proofs.doing.Doing.joins.Goals as goal
 
 pub returns : goal.returns
 returns g c =
     let i = c.self.inside in
-    so_ok c.request_to_ring.result (λ made. (λ j. doing_of i.place i.known i.gather (c.join.ensures j) i.asks i.requests (made j)) ∙ ap (λ d. behind d (joins d.member)) c.self.view_is)
+    on_ok_weaker c.request_to_ring.result (λ made. (λ j. doing_of i.place i.known i.gather (c.join.ensures j) i.asks i.requests (made j)) ∙ ap (λ d. behind d (joins d.member)) c.self.view_is)
     c.request_to_ring.ensures
