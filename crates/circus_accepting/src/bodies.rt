@@ -13,7 +13,7 @@ use circus_value::{NoMemory, Outcome, Parts, Shapes, State, Values, values_size}
 use std::alloc::Global;
 
 /// The most bytes of a message in parts.
-const MOST_BYTES: usize = 16_777_216;
+const LONGEST_MESSAGE: usize = 16_777_216;
 
 /// One value for each shape, which the bytes from a place on spell. `None` where they don't, or are more than the most.
 pub(crate) fn values_at(
@@ -133,7 +133,7 @@ pub(crate) fn restored_in(
     ensures read { IfOk result (λ restored. restored ≡ bodies.restored_in signature.now.variables signature.now.limit message.now) }
     ensures state { IfOk result (λ restored. IfSome restored (λ r. IsState signature.now r.0)) }
 {
-    prove!(message.len() <= MOST_BYTES);
+    prove!(message.len() <= LONGEST_MESSAGE);
     let bytes = message.joined()?;
     match restore(alloc, bytes.as_slice(), &signature.variables) {
         Ok((state, count)) => {

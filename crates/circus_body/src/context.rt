@@ -25,7 +25,7 @@ pub struct Offered<'s> {
 
 /// The procedures of an interface, by their names.
 #[derive(Drop)]
-pub struct Procedures<'s> {
+pub struct OfferedProcedures<'s> {
     pub table: BTreeMap<&'s [u8], Offered<'s>>,
 }
 
@@ -33,7 +33,7 @@ pub struct Procedures<'s> {
 #[derive(Clone, Copy)]
 pub struct Callee<'m, 't> {
     pub number: u16,
-    pub procedures: Option<&'m Procedures<'t>>,
+    pub procedures: Option<&'m OfferedProcedures<'t>>,
 }
 
 /// What the statements of a body may name.
@@ -55,7 +55,7 @@ impl<'s> Offered<'s> {
     }
 }
 
-impl<'s> Procedures<'s> {
+impl<'s> OfferedProcedures<'s> {
     /// The procedure of this name.
     pub fn get(&self, name: &[u8]) -> Option<&Offered<'s>>
         ensures { known_offer result ≡ offered_in self.now name.now }

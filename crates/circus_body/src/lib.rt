@@ -11,7 +11,7 @@ mod laws;
 mod statement;
 mod wants;
 
-pub use context::{Callee, Context, Offered, Procedures, Reported};
+pub use context::{Callee, Context, Offered, OfferedProcedures, Reported};
 pub use ending::all_end;
 pub use laws::faultless_are_well_formed;
 pub use statement::resolve_statements;

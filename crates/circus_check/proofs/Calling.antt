@@ -11,7 +11,7 @@ use Rattle.circus_resolve.specs.declared.scope.Types.{Types}
 use Rattle.circus_resolve.specs.Scope.{Standing}
 use Rattle.circus_resolve.specs.Seen.Scoped as resolve
 use Rattle.circus_resolve.specs.Seen.Scoped.{known_types, module_or}
-use Rattle.circus_body.specs.declared.context.Procedures.{Procedures}
+use Rattle.circus_body.specs.declared.context.OfferedProcedures.{OfferedProcedures}
 use Rattle.circus_body.specs.Context.{Called, unsaid, a_module}
 use Rattle.circus_body.specs.Seen.Named.{called_or, offered_in}
 use Rattle.circus_idl.specs.declared.interface.Interface.{Interface}
@@ -85,11 +85,11 @@ around_types outer scope own imported (Some m) name = all_types (get_by (λ k. s
 -- ---- calls
 
 -- what a call finds in a table of procedures
-abbrev called_now : ℕ → Option Procedures → Called
+abbrev called_now : ℕ → Option OfferedProcedures → Called
 called_now number None = unsaid
 called_now number (Some p) = a_module number (offered_in p)
 
-by_callee : (number : ℕ) (procedures : Option (Bor Procedures)) → called_or (Some (record { number = number; procedures = procedures })) ≡ called_now number (option_copied procedures)
+by_callee : (number : ℕ) (procedures : Option (Bor OfferedProcedures)) → called_or (Some (record { number = number; procedures = procedures })) ≡ called_now number (option_copied procedures)
 by_callee number None = refl
 by_callee number (Some p) = refl
 
@@ -113,7 +113,7 @@ called_import interfaces modules forward known is = ap (λ t. called_now 0 (proc
 called_import interfaces modules no_module known is = ap (λ t. called_now 0 (procedures_now t)) is
 
 -- a callee is what the rules say of its import
-pub called_is : (interfaces : List Interface) (modules : List ModuleTree) (import : Import) (found : Option (Option (Bor Known))) (number : ℕ) (procedures : Option (Bor Procedures)) → IsImported interfaces modules (Some import) found
+pub called_is : (interfaces : List Interface) (modules : List ModuleTree) (import : Import) (found : Option (Option (Bor Known))) (number : ℕ) (procedures : Option (Bor OfferedProcedures)) → IsImported interfaces modules (Some import) found
     → number ≡ number_or import → option_copied procedures ≡ procedures_now (known_in found) → called_or (Some (record { number = number; procedures = procedures })) ≡ called_by interfaces modules (Some import)
 called_is interfaces modules import None number procedures is numbered same = absurd is
 called_is interfaces modules import (Some known) number procedures is numbered same =

@@ -98,14 +98,6 @@ zeros_step bytes z next f rest whole one more before = omega (arith, sum_by-cons
 
 -- ---- what holds where a call succeeds
 
-pub on_ok : {T E P Q : Type 0} (r : Result T E) → (P → Q) → OnOk r P → OnOk r Q
-on_ok (Ok x) more holds = more holds
-on_ok (Err e) more holds = holds
-
 pub on_any : {T E P : Type 0} (r : Result T E) → P → OnOk r P
 on_any (Ok x) holds = holds
 on_any (Err e) holds = tt
-
-pub on_value : {T E : Type 0} (P Q : T → Type 0) (r : Result T E) → ((x : T) → P x → Q x) → IfOk r P → IfOk r Q
-on_value P Q (Ok x) more holds = more x holds
-on_value P Q (Err e) more holds = holds

@@ -14,13 +14,13 @@ pub type Interfaces = ListOf<Interface>;
 
 /// The variables of a procedure of its own, and its statements.
 #[derive(Debug, Drop)]
-pub struct Body {
+pub struct CheckedBody {
     pub locals: Fields,
     pub statements: CheckedStatements,
 }
 
 /// The bodies of a module, in the order of the procedures of its interface.
-pub type Bodies = ListOf<Body>;
+pub type CheckedBodies = ListOf<CheckedBody>;
 
 /// A module in which each name is the number of what it names.
 #[derive(Debug, Drop)]
@@ -33,17 +33,17 @@ pub struct ResolvedModule {
     pub imports: Numbers,
     /// Its state.
     pub variables: Fields,
-    pub bodies: Bodies,
+    pub bodies: CheckedBodies,
 }
 
 /// Modules in order, each of which has its place as its number.
-pub type Resolved = ListOf<ResolvedModule>;
+pub type ResolvedModules = ListOf<ResolvedModule>;
 
 /// Interfaces that obey the rules, and modules that are well formed over them.
 #[derive(Debug, Drop)]
 pub struct Checked {
     pub interfaces: Interfaces,
-    pub modules: Resolved,
+    pub modules: ResolvedModules,
     pub ghost obey: { ∥ AllByRecursion Obeys interfaces ∥₁ },
     pub ghost well_formed: { ∥ AreWellFormed interfaces (map module_as modules) ∥₁ },
 }

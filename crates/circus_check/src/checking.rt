@@ -22,7 +22,7 @@ ghost use Rattle.circus_check.specs.Seen.Rows.{shared_as, AreShares};
 ghost use Rattle.circus_check.specs.WellFormed.{AreWellFormed};
 
 use crate::check_fault::CheckFault;
-use crate::checked::{Checked, Interfaces, Resolved, ResolvedModule};
+use crate::checked::{Checked, Interfaces, ResolvedModule, ResolvedModules};
 use crate::known::Known;
 use crate::module::{Own, Program, check_head, lacking};
 use crate::naming::{Import, Naming};
@@ -42,7 +42,7 @@ use std::collections::BTreeMap;
 // What is made and found of the modules so far.
 #[derive(Drop)]
 struct Progress {
-    made: Resolved,
+    made: ResolvedModules,
     reach: Reach,
     best: Best<CheckCause>,
     // For each module, what it shares as a second root.
@@ -93,7 +93,7 @@ fn resolved(
     alloc: Global,
     interfaces: &[Interface],
     modules: &[ModuleText],
-) -> Result<Resolved, CheckFault>
+) -> Result<ResolvedModules, CheckFault>
     requires obey { AllByRecursion Obeys interfaces.now }
     requires few { length interfaces.now ≤ most_interfaces }
     ensures faultless { OnOk result (faults interfaces.now (map module_of modules.now) ≡ []) }
@@ -111,7 +111,7 @@ fn resolved_among<'p, 's>(
     naming: &'p Naming<'s>,
     known: &'p [Known<'s>],
     no_fields: &'s Fields,
-) -> Result<Resolved, CheckFault>
+) -> Result<ResolvedModules, CheckFault>
     requires obey { AllByRecursion Obeys naming.now.interfaces.now }
     requires few { length naming.now.interfaces.now ≤ most_interfaces }
     requires none { no_fields.now ≡ [] }
@@ -150,7 +150,7 @@ fn resolved_modules(program: &Program<'_, '_>) -> Result<Progress, NoMemory>
     ensures meant { IfOk result (λ progress. IfNone progress.best.fault (map module_as progress.made ≡ modules_meant (interfaces_in program.now) (modules_in program.now) 0 (modules_in program.now))) }
 {
     let mut progress = Progress {
-        made: Resolved::new(program.alloc),
+        made: ResolvedModules::new(program.alloc),
         reach: Reach::new(program.alloc),
         best: Best { fault: None },
         shares: Vec::new(program.alloc),

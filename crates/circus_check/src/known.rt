@@ -4,7 +4,7 @@ ghost use Rattle.circus_body.specs.Seen.Named.{offered_as};
 ghost use Rattle.circus_check.specs.Scope.{offered_by};
 ghost use Rattle.circus_check.specs.Seen.Known.{TellsInterface, TellsNothing};
 
-use circus_body::{Offered, Procedures, Reported};
+use circus_body::{Offered, OfferedProcedures, Reported};
 use circus_idl::{Interface, Procedure};
 use circus_resolve::Types;
 use circus_type::{Measure, shape_measure};
@@ -18,7 +18,7 @@ pub struct Known<'s> {
     pub types: Types<'s>,
     /// How large each of its types is.
     pub sizes: BTreeMap<&'s [u8], Measure>,
-    pub procedures: Procedures<'s>,
+    pub procedures: OfferedProcedures<'s>,
     /// The procedures in order.
     pub order: &'s [Procedure],
 }
@@ -33,7 +33,7 @@ impl<'s> Known<'s> {
                 table: BTreeMap::new(alloc),
             },
             sizes: BTreeMap::new(alloc),
-            procedures: Procedures {
+            procedures: OfferedProcedures {
                 table: BTreeMap::new(alloc),
             },
             order: &[],

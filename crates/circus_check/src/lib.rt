@@ -20,7 +20,9 @@ mod type_scope;
 mod variables;
 
 pub use check_fault::CheckFault;
-pub use checked::{Bodies, Body, Checked, Interfaces, Resolved, ResolvedModule};
+pub use checked::{
+    Checked, CheckedBodies, CheckedBody, Interfaces, ResolvedModule, ResolvedModules,
+};
 pub use checking::check;
 pub use laws::{
     faultless_are_well_formed, least_is_of_all, least_is_of_all_in_a_text, modules_are_in_order,

@@ -23,7 +23,7 @@ ghost use Rattle.circus_check.specs.Seen.Contexts.{context_with};
 ghost use Rattle.circus_check.specs.Seen.Scoped.{form_in};
 ghost use Rattle.circus_check.specs.Seen.Surroundings.{IsAround, context_around, place_for, count_for};
 
-use crate::checked::{Bodies, Body};
+use crate::checked::{CheckedBodies, CheckedBody};
 use crate::module::{Own, Program, also_fields};
 use crate::naming::first_place;
 use crate::surroundings::Surroundings;
@@ -181,7 +181,7 @@ fn body<'s>(
     around: &Surroundings<'_, 's>,
     offers: &Offered<'s>,
     text: &ProcedureText,
-) -> Result<Option<Body>, NoMemory>
+) -> Result<Option<CheckedBody>, NoMemory>
     requires own { IsOwn program.now own.now }
     requires around { IfNone best.old.fault (IsAround program.now own.now (field_trees (faults.fields_of (form_in own.now.types) (module_of own.now.text.now).variables)) around.now) }
     requires offers { Some (offered_as offers.now) ≡ faults.offered (interfaces_in program.now) (modules_in program.now) own.now.number (module_of own.now.text.now) (procedure_of text.now) }
@@ -193,7 +193,7 @@ fn body<'s>(
     }
     let locals = fields(program.alloc, &own.types, text.variables.as_slice())?;
     let made = statements(program.alloc, best, around, offers, &locals, text)?;
-    Ok(Some(Body {
+    Ok(Some(CheckedBody {
         locals,
         statements: made,
     }))
@@ -208,7 +208,7 @@ fn procedure<'p, 's>(
     parts: &mut u32,
     so_far: &mut SoFar<'s>,
     text: &'s ProcedureText,
-) -> Result<Option<Body>, NoMemory>
+) -> Result<Option<CheckedBody>, NoMemory>
     requires program { IsProgram program.now }
     requires own { IsOwn program.now own.now }
     requires names { holds_name so_far.old.state ≡ faults.also_variables (map variable_of own.now.text.now.variables) no_name }
@@ -264,7 +264,7 @@ fn body_count(own: &Own<'_, '_>) -> usize
 }
 
 // A place for each body, none of which is there yet.
-fn slots(alloc: Global, count: usize) -> Result<Vec<Option<Body>>, NoMemory>
+fn slots(alloc: Global, count: usize) -> Result<Vec<Option<CheckedBody>>, NoMemory>
     ensures { IfOk result (λ slots. slots.items ≡ replicate count None) }
 {
     let mut slots = Vec::new(alloc);
@@ -275,7 +275,7 @@ fn slots(alloc: Global, count: usize) -> Result<Vec<Option<Body>>, NoMemory>
 }
 
 // Puts a body at its place, where there is one.
-fn put_body(slots: &mut Vec<Option<Body>>, place: usize, body: Option<Body>)
+fn put_body(slots: &mut Vec<Option<CheckedBody>>, place: usize, body: Option<CheckedBody>)
     ensures { slots.new.items ≡ slice_set slots.old.items place body }
 {
     if place < slots.len() {
@@ -291,7 +291,7 @@ pub fn check_procedures<'p, 's>(
     own: &Own<'p, 's>,
     state: &Fields,
     parts: &mut u32,
-) -> Result<Bodies, NoMemory>
+) -> Result<CheckedBodies, NoMemory>
     requires program { IsProgram program.now }
     requires own { IsOwn program.now own.now }
     requires state { IfNone best.old.fault (state.now ≡ faults.fields_of (form_in own.now.types) (module_of own.now.text.now).variables) }
@@ -318,10 +318,10 @@ pub fn check_procedures<'p, 's>(
 
 // The bodies that are there, in order.
 #[tactic(auto, using(crate::proofs::BodiesPlaced::there_append))]
-fn bodies(alloc: Global, slots: Vec<Option<Body>>) -> Result<Bodies, NoMemory>
+fn bodies(alloc: Global, slots: Vec<Option<CheckedBody>>) -> Result<CheckedBodies, NoMemory>
     ensures { IfOk result (λ bodies. bodies ≡ those_there slots.items) }
 {
-    let mut bodies = Bodies::new(alloc);
+    let mut bodies = CheckedBodies::new(alloc);
     for slot in slots {
         match slot {
             Some(body) => bodies.push(body)?,

@@ -17,7 +17,7 @@ ghost use Rattle.circus_check.specs.Seen.Surroundings.{IsAround, own_variables, 
 use crate::known::Known;
 use crate::module::{Own, Program};
 use crate::naming::{Import, Naming};
-use circus_body::{Callee, Procedures};
+use circus_body::{Callee, OfferedProcedures};
 use circus_resolve::{ModuleScope, Scope, Types, Variable};
 use circus_syntax::Named;
 use circus_value::{Fields, NoMemory};
@@ -66,7 +66,7 @@ fn types_of<'m, 's>(known: Option<&'m Known<'s>>) -> Option<&'m Types<'s>>
 }
 
 // Its procedures.
-fn procedures_of<'m, 's>(known: Option<&'m Known<'s>>) -> Option<&'m Procedures<'s>>
+fn procedures_of<'m, 's>(known: Option<&'m Known<'s>>) -> Option<&'m OfferedProcedures<'s>>
     ensures { option_copied result ≡ procedures_now known.entry }
 {
     match known {

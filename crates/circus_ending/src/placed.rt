@@ -10,7 +10,7 @@ ghost use Rattle.circus_ending.specs.declared.status.Status.TheVariants.{BadPlac
 ghost use Rattle.circus_place.specs.Choice.{kept_by};
 
 use crate::{Ending, Status};
-use circus_place::{Chosen, PlaceCause, PlaceFault, place, read_place};
+use circus_place::{PlaceCause, PlaceFault, Placement, place, read_place};
 use circus_placing::{Machine, Placing};
 use circus_value::{NoMemory, name_text};
 use std::alloc::{AllocError, Global};
@@ -87,7 +87,7 @@ fn append_members(text: &mut String, machines: &[Machine], chosen: &[u16]) -> Re
 }
 
 // The end of a placing whose best choice this is.
-fn choice(alloc: Global, placing: &Placing, chosen: &Chosen) -> Result<Ending, NoMemory>
+fn choice(alloc: Global, placing: &Placing, chosen: &Placement) -> Result<Ending, NoMemory>
     requires named { All (λ m. IsAscii m.name) placing.now.machines }
     requires inside { All (λ number. number < length placing.now.machines) chosen.now.members }
     requires few { length chosen.now.members ≤ 5 }

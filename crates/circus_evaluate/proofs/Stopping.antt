@@ -8,21 +8,21 @@ use Rattle.circus_checked.specs.declared.expression.CheckedExpression.{CheckedEx
 use Rattle.circus_checked.specs.declared.expression.CheckedSuffix.{CheckedSuffix}
 use Rattle.circus_checked.specs.declared.expression.CheckedSuffix.TheVariants as S
 use Rattle.circus_evaluate.specs.Got.{Raising}
-use Rattle.circus_evaluate.specs.declared.got.Stop.{Stop}
-use Rattle.circus_evaluate.specs.declared.got.Stop.TheVariants.{Raises, NoMemory}
+use Rattle.circus_evaluate.specs.declared.got.NoValue.{NoValue}
+use Rattle.circus_evaluate.specs.declared.got.NoValue.TheVariants.{Raises, NoMemory}
 use Rattle.circus_evaluate.specs.Given.{Gives}
 use Rattle.circus_evaluate.proofs.Alike.{handed_on}
 
 -- memory ran out
-pub no_memory : {A B : Type 0} (view : A → B) (r : Result A Stop) (meant : Raising B) → IsErr r × IsErrAnd r (λ f. f ≡ NoMemory) → Gives view r meant
+pub no_memory : {A B : Type 0} (view : A → B) (r : Result A NoValue) (meant : Raising B) → IsErr r × IsErrAnd r (λ f. f ≡ NoMemory) → Gives view r meant
 no_memory view r meant p = rw (handed_on r NoMemory p) tt
 
 -- an error was raised that is meant
-pub raised : {A B : Type 0} (view : A → B) (r : Result A Stop) (meant : Raising B) (e : LanguageError) → IsErr r × IsErrAnd r (λ f. f ≡ Raises e) → meant ≡ Err e → Gives view r meant
+pub raised : {A B : Type 0} (view : A → B) (r : Result A NoValue) (meant : Raising B) (e : LanguageError) → IsErr r × IsErrAnd r (λ f. f ≡ Raises e) → meant ≡ Err e → Gives view r meant
 raised view r meant e p same = rw (handed_on r (Raises e) p) same
 
 -- what stopped a part stops the whole
-pub passes : {A B C D : Type 0} (view : A → B) (other : C → D) (r : Result A Stop) (e : Stop) (meant : Raising B) (before : Raising D) → IsErr r × IsErrAnd r (λ f. f ≡ e) → Gives other (Err e) before
+pub passes : {A B C D : Type 0} (view : A → B) (other : C → D) (r : Result A NoValue) (e : NoValue) (meant : Raising B) (before : Raising D) → IsErr r × IsErrAnd r (λ f. f ≡ e) → Gives other (Err e) before
     → ((error : LanguageError) → before ≡ Err error → meant ≡ Err error) → Gives view r meant
 passes view other r (Raises error) meant before p gives so = raised view r meant error p (so error gives)
 passes view other r NoMemory meant before p gives so = no_memory view r meant p

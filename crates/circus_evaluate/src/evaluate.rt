@@ -11,7 +11,7 @@ ghost use Rattle.circus_evaluate.specs.Given.{got_as, given_as, Gives};
 ghost use Rattle.circus_evaluate.specs.Steps.{step_as};
 ghost use Rattle.circus_evaluate.specs.Seen.Suffixes.{step_of};
 
-use crate::got::{Given, Got, Stop, made, made_text};
+use crate::got::{Given, Got, NoValue, made, made_text};
 use crate::number::{as_kind, calculate, is_ordered, literal, negated};
 use crate::part::{Step, part_by};
 use circus_checked::{
@@ -30,7 +30,7 @@ pub(crate) fn evaluate<'a>(
     limit: u32,
     variables: &'a Values,
     expression: &CheckedExpression,
-) -> Result<Got<'a>, Stop>
+) -> Result<Got<'a>, NoValue>
     ensures { Gives got_as result (evaluating.evaluate limit variables.now (tree_of expression.now)) }
 {
     use CheckedExpression::*;
@@ -70,7 +70,7 @@ pub fn truth_in(
     limit: u32,
     variables: &Values,
     expression: &CheckedExpression,
-) -> Result<bool, Stop>
+) -> Result<bool, NoValue>
     ensures { Gives (λ truth. truth) result (and_then (evaluating.evaluate limit variables.now (tree_of expression.now)) (λ x. Ok (got.truth_of x))) }
 {
     Ok(evaluate(alloc, limit, variables, expression)?.is_true())
@@ -83,7 +83,7 @@ fn number_in(
     limit: u32,
     variables: &Values,
     expression: &CheckedExpression,
-) -> Result<i64, Stop>
+) -> Result<i64, NoValue>
     ensures { Gives (λ number. number) result (and_then (evaluating.evaluate limit variables.now (tree_of expression.now)) got.number_of) }
 {
     evaluate(alloc, limit, variables, expression)?.number()
@@ -97,7 +97,7 @@ pub fn given_in(
     limit: u32,
     variables: &Values,
     expression: &CheckedExpression,
-) -> Result<Given, Stop>
+) -> Result<Given, NoValue>
     ensures { Gives given_as result (evaluating.evaluate limit variables.now (tree_of expression.now)) }
 {
     Ok(evaluate(alloc, limit, variables, expression)?.apart()?)
@@ -110,11 +110,11 @@ fn value_in(
     limit: u32,
     variables: &Values,
     expression: &CheckedExpression,
-) -> Result<Value, Stop>
+) -> Result<Value, NoValue>
     ensures { Gives values.tree_of result (and_then (evaluating.evaluate limit variables.now (tree_of expression.now)) got.value_of) }
 {
     match given_in(alloc, limit, variables, expression)? {
-        Given::Number(_) => Err(Stop::Raises(LanguageError::Range)),
+        Given::Number(_) => Err(NoValue::Raises(LanguageError::Range)),
         Given::Whole(value) => Ok(value),
     }
 }
@@ -128,7 +128,7 @@ fn decided(
     decides: bool,
     left: &CheckedOperand,
     right: &CheckedOperand,
-) -> Result<Got<'static>, Stop>
+) -> Result<Got<'static>, NoValue>
     ensures { Gives got_as result (evaluating.unless_decided decides (evaluating.evaluate limit variables.now left.now) (evaluating.evaluate limit variables.now right.now)) }
 {
     if truth_in(alloc, limit, variables, left.expression())? == decides {
@@ -143,7 +143,7 @@ fn denied(
     limit: u32,
     variables: &Values,
     operand: &CheckedOperand,
-) -> Result<Got<'static>, Stop>
+) -> Result<Got<'static>, NoValue>
     ensures { Gives got_as result (evaluating.evaluate limit variables.now (e.negation operand.now)) }
 {
     Ok(Got::truth(!truth_in(alloc, limit, variables, operand.expression())?))
@@ -157,7 +157,7 @@ fn compared_whole(
     variables: &Values,
     left: &CheckedOperand,
     right: &CheckedOperand,
-) -> Result<Got<'static>, Stop>
+) -> Result<Got<'static>, NoValue>
     ensures { Gives got_as result (evaluating.evaluate limit variables.now (e.equal left.now right.now)) }
 {
     let one = evaluate(alloc, limit, variables, left.expression())?;
@@ -173,7 +173,7 @@ fn compared(
     order: Order,
     left: &CheckedOperand,
     right: &CheckedOperand,
-) -> Result<Got<'static>, Stop>
+) -> Result<Got<'static>, NoValue>
     ensures { Gives got_as result (evaluating.evaluate limit variables.now (e.compare order left.now right.now)) }
 {
     let one = number_in(alloc, limit, variables, left.expression())?;
@@ -189,7 +189,7 @@ fn calculated(
     calculation: Calculation,
     left: &CheckedOperand,
     right: &CheckedOperand,
-) -> Result<Got<'static>, Stop>
+) -> Result<Got<'static>, NoValue>
     ensures { Gives got_as result (evaluating.evaluate limit variables.now (e.calculate calculation left.now right.now)) }
 {
     let one = number_in(alloc, limit, variables, left.expression())?;
@@ -203,7 +203,7 @@ fn minus(
     limit: u32,
     variables: &Values,
     operand: &CheckedOperand,
-) -> Result<Got<'static>, Stop>
+) -> Result<Got<'static>, NoValue>
     ensures { Gives got_as result (evaluating.evaluate limit variables.now (e.minus operand.now)) }
 {
     negated(number_in(alloc, limit, variables, operand.expression())?)
@@ -217,7 +217,7 @@ fn append_text(
     variables: &Values,
     bytes: &mut Octets,
     expression: &CheckedExpression,
-) -> Result<(), Stop>
+) -> Result<(), NoValue>
     ensures { Gives (λ _. bytes.new) result (and_then (and_then (evaluating.evaluate limit variables.now (tree_of expression.now)) got.bytes_of) (λ more. Ok (bytes.old ++ more))) }
 {
     let text = evaluate(alloc, limit, variables, expression)?;
@@ -232,7 +232,7 @@ fn joined(
     variables: &Values,
     left: &CheckedOperand,
     right: &CheckedOperand,
-) -> Result<Got<'static>, Stop>
+) -> Result<Got<'static>, NoValue>
     ensures { Gives got_as result (evaluating.evaluate limit variables.now (e.join left.now right.now)) }
 {
     let mut bytes = ListOf::new(alloc);
@@ -249,7 +249,7 @@ fn stands(
     variables: &Values,
     arm: u16,
     operand: &CheckedOperand,
-) -> Result<Got<'static>, Stop>
+) -> Result<Got<'static>, NoValue>
     ensures { Gives got_as result (evaluating.evaluate limit variables.now (e.is_arm arm operand.now)) }
 {
     let choice = evaluate(alloc, limit, variables, operand.expression())?;
@@ -262,7 +262,7 @@ fn length(
     limit: u32,
     variables: &Values,
     operand: &CheckedOperand,
-) -> Result<Got<'static>, Stop>
+) -> Result<Got<'static>, NoValue>
     ensures { Gives got_as result (evaluating.evaluate limit variables.now (e.length_of operand.now)) }
 {
     let items = evaluate(alloc, limit, variables, operand.expression())?;
@@ -277,7 +277,7 @@ fn chosen(
     variables: &Values,
     arm: u16,
     operand: &CheckedOperand,
-) -> Result<Got<'static>, Stop>
+) -> Result<Got<'static>, NoValue>
     ensures { Gives got_as result (evaluating.evaluate limit variables.now (e.arm arm operand.now)) }
 {
     let value = value_in(alloc, limit, variables, operand.expression())?;
@@ -291,7 +291,7 @@ fn converted(
     variables: &Values,
     kind: NumberKind,
     operand: &CheckedOperand,
-) -> Result<Got<'static>, Stop>
+) -> Result<Got<'static>, NoValue>
     ensures { Gives got_as result (evaluating.evaluate limit variables.now (e.convert kind operand.now)) }
 {
     let number = number_in(alloc, limit, variables, operand.expression())?;
@@ -307,7 +307,7 @@ pub fn evaluate_all(
     limit: u32,
     variables: &Values,
     expressions: &CheckedExpressions,
-) -> Result<Values, Stop>
+) -> Result<Values, NoValue>
     ensures { Gives (λ values. values) result (evaluating.evaluate_all limit variables.now (expression_trees expressions.now)) }
 {
     let mut values = Values::new(alloc);
@@ -324,7 +324,7 @@ fn read<'a>(
     limit: u32,
     variables: &'a Values,
     place: &CheckedPlace,
-) -> Result<Got<'a>, Stop>
+) -> Result<Got<'a>, NoValue>
     ensures { Gives got_as result (evaluating.evaluate limit variables.now (e.read place.now.variable (suffix_trees place.now.suffixes))) }
 {
     let variable = variables.get(usize::from(place.variable));
@@ -337,7 +337,12 @@ fn read<'a>(
 
 // The step that a suffix is.
 #[cycle(evaluation)]
-fn step(alloc: Global, limit: u32, variables: &Values, suffix: &CheckedSuffix) -> Result<Step, Stop>
+fn step(
+    alloc: Global,
+    limit: u32,
+    variables: &Values,
+    suffix: &CheckedSuffix,
+) -> Result<Step, NoValue>
     ensures { Gives step_as result (step_of limit variables.now (suffix_of suffix.now)) }
 {
     Ok(match suffix {
@@ -357,7 +362,7 @@ pub fn steps_of(
     limit: u32,
     variables: &Values,
     suffixes: &CheckedSuffixes,
-) -> Result<ListOf<Step>, Stop>
+) -> Result<ListOf<Step>, NoValue>
     ensures { Gives (λ steps. map step_as steps) result (evaluating.steps_of limit variables.now (suffix_trees suffixes.now)) }
 {
     let mut steps = ListOf::new(alloc);

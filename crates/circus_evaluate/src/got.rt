@@ -32,32 +32,32 @@ pub enum Given {
 
 /// Why there is no value.
 #[derive(Clone, Copy, Debug)]
-pub enum Stop {
+pub enum NoValue {
     /// The language raises this error (docs/LANGUAGE.md, "Executions").
     Raises(LanguageError),
     /// Memory ran out.
     NoMemory,
 }
 
-impl From<NoMemory> for Stop {
+impl From<NoMemory> for NoValue {
     ghost use Rattle.std.specs.Prelude.{◌≡◌};
-    ghost use Rattle.circus_evaluate.specs.declared.got.Stop.TheVariants.{NoMemory};
+    ghost use Rattle.circus_evaluate.specs.declared.got.NoValue.TheVariants.{NoMemory};
 
     ghost from_gives = { λ _ stop. stop ≡ NoMemory };
 
     fn from(_refused: NoMemory) -> Self {
-        Stop::NoMemory
+        NoValue::NoMemory
     }
 }
 
-impl From<LanguageError> for Stop {
+impl From<LanguageError> for NoValue {
     ghost use Rattle.std.specs.Prelude.{◌≡◌};
-    ghost use Rattle.circus_evaluate.specs.declared.got.Stop.TheVariants.{Raises};
+    ghost use Rattle.circus_evaluate.specs.declared.got.NoValue.TheVariants.{Raises};
 
     ghost from_gives = { λ error stop. stop ≡ Raises error };
 
     fn from(error: LanguageError) -> Self {
-        Stop::Raises(error)
+        NoValue::Raises(error)
     }
 }
 
@@ -100,22 +100,22 @@ impl<'a> Got<'a> {
     }
 
     /// The number.
-    pub(crate) fn number(&self) -> Result<i64, Stop>
+    pub(crate) fn number(&self) -> Result<i64, NoValue>
         ensures { Gives (λ z. z) result (got.number_of (got_as self.now)) }
     {
         match self {
             Got::Number(number) => Ok(*number),
-            _ => Err(Stop::Raises(LanguageError::Range)),
+            _ => Err(NoValue::Raises(LanguageError::Range)),
         }
     }
 
     /// The bytes of a text.
-    pub(crate) fn bytes(&self) -> Result<&[u8], Stop>
+    pub(crate) fn bytes(&self) -> Result<&[u8], NoValue>
         ensures { Gives bytes_as result (got.bytes_of (got_as self.now)) }
     {
         match self.value() {
             Some(Value::Text(bytes)) => Ok(bytes.as_slice()),
-            _ => Err(Stop::Raises(LanguageError::Range)),
+            _ => Err(NoValue::Raises(LanguageError::Range)),
         }
     }
 
@@ -131,13 +131,13 @@ impl<'a> Got<'a> {
     }
 
     /// How long a text or a sequence is.
-    pub(crate) fn length(&self) -> Result<Got<'static>, Stop>
+    pub(crate) fn length(&self) -> Result<Got<'static>, NoValue>
         ensures { Gives got_as result (evaluating.length_given (got_as self.now)) }
     {
         match self.value() {
             Some(Value::Text(bytes)) => literal(bytes.len() as u64),
             Some(Value::Sequence(items)) => literal(items.len() as u64),
-            _ => Err(Stop::Raises(LanguageError::Range)),
+            _ => Err(NoValue::Raises(LanguageError::Range)),
         }
     }
 
@@ -163,24 +163,24 @@ impl<'a> Got<'a> {
 }
 
 /// A value that is made, unless it is above the limit.
-pub(crate) fn made(value: Value, limit: u32) -> Result<Got<'static>, Stop>
+pub(crate) fn made(value: Value, limit: u32) -> Result<Got<'static>, NoValue>
     ensures { Gives got_as result (got.made limit (tree_of value)) }
 {
     if external_size(&value) <= u64::from(limit) {
         Ok(Got::Made(value))
     } else {
-        Err(Stop::Raises(LanguageError::TooLong))
+        Err(NoValue::Raises(LanguageError::TooLong))
     }
 }
 
 /// A text that is made, unless it is too long.
-pub(crate) fn made_text(bytes: Octets, limit: u32) -> Result<Got<'static>, Stop>
+pub(crate) fn made_text(bytes: Octets, limit: u32) -> Result<Got<'static>, NoValue>
     ensures { Gives got_as result (got.made_text limit bytes) }
 {
     if bytes.len() <= MOST_TEXT {
         made(Value::Text(bytes), limit)
     } else {
-        Err(Stop::Raises(LanguageError::TooLong))
+        Err(NoValue::Raises(LanguageError::TooLong))
     }
 }
 

@@ -12,7 +12,7 @@ mod number;
 mod part;
 
 pub use evaluate::{evaluate_all, given_in, steps_of, truth_in};
-pub use got::{Given, Got, Stop};
+pub use got::{Given, Got, NoValue};
 pub use laws::expressions_give_their_sorts;
 pub use number::as_kind;
 pub use part::{Put, Step, part_at, put_item};

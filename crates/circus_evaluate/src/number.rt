@@ -7,13 +7,17 @@ ghost use Rattle.circus_evaluate.specs.Evaluating as evaluating;
 ghost use Rattle.circus_evaluate.specs.Given.{got_as, Gives};
 ghost use Rattle.circus_evaluate.specs.Seen.Values.{ranged};
 
-use crate::got::{Got, Stop};
+use crate::got::{Got, NoValue};
 use circus_checked::{Calculation, NumberKind, Order};
 use circus_model::LanguageError;
 use circus_value::Value;
 
 /// What is calculated of two numbers.
-pub(crate) fn calculate(calculation: Calculation, one: i64, two: i64) -> Result<Got<'static>, Stop>
+pub(crate) fn calculate(
+    calculation: Calculation,
+    one: i64,
+    two: i64,
+) -> Result<Got<'static>, NoValue>
     ensures { Gives got_as result (evaluating.calculation calculation one two) }
 {
     match calculation {
@@ -26,22 +30,22 @@ pub(crate) fn calculate(calculation: Calculation, one: i64, two: i64) -> Result<
 }
 
 // A quotient, rounded toward zero.
-fn divided(one: i64, two: i64) -> Result<Got<'static>, Stop>
+fn divided(one: i64, two: i64) -> Result<Got<'static>, NoValue>
     ensures { Gives got_as result (evaluating.calculation Div one two) }
 {
     if two == 0 {
-        Err(Stop::Raises(LanguageError::Zero))
+        Err(NoValue::Raises(LanguageError::Zero))
     } else {
         in_range(one.checked_div(two))
     }
 }
 
 // A remainder, which has the sign of the dividend.
-fn remainder(one: i64, two: i64) -> Result<Got<'static>, Stop>
+fn remainder(one: i64, two: i64) -> Result<Got<'static>, NoValue>
     ensures { Gives got_as result (evaluating.calculation Mod one two) }
 {
     if two == 0 {
-        Err(Stop::Raises(LanguageError::Zero))
+        Err(NoValue::Raises(LanguageError::Zero))
     } else if two == -1 {
         Ok(Got::Number(0))
     } else {
@@ -50,26 +54,26 @@ fn remainder(one: i64, two: i64) -> Result<Got<'static>, Stop>
 }
 
 /// A number with the other sign.
-pub(crate) fn negated(number: i64) -> Result<Got<'static>, Stop>
+pub(crate) fn negated(number: i64) -> Result<Got<'static>, NoValue>
     ensures { Gives got_as result (got.calculated (neg_ℤ number)) }
 {
     in_range(number.checked_neg())
 }
 
 /// A number of the text.
-pub(crate) fn literal(number: u64) -> Result<Got<'static>, Stop>
+pub(crate) fn literal(number: u64) -> Result<Got<'static>, NoValue>
     ensures { Gives got_as result (got.calculated (pos number)) }
 {
     in_range(i64::try_from(number).ok())
 }
 
 // A number, where the language has it.
-fn in_range(number: Option<i64>) -> Result<Got<'static>, Stop>
+fn in_range(number: Option<i64>) -> Result<Got<'static>, NoValue>
     ensures { Gives got_as result (ranged number) }
 {
     match number {
         Some(number) => Ok(Got::Number(number)),
-        None => Err(Stop::Raises(LanguageError::Range)),
+        None => Err(NoValue::Raises(LanguageError::Range)),
     }
 }
 

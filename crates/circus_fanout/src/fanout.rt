@@ -14,7 +14,6 @@ use std::marker::Model;
 
 /// A call to every member of a troupe, from its asking until it is answered by all (docs/PROTOCOL.md, "Calls out").
 /// The views and the nodes that are down are given to each call; they are those that the caller knows then.
-#[derive(Drop)]
 pub struct Fanout {
     alloc: Global,
     header: CallHeader,
@@ -22,6 +21,20 @@ pub struct Fanout {
     kind: Kind,
     asked: Vec<Asked>,
     said: ListOf<Said<Reply>>,
+}
+
+// Written out, so that dropping one is one step of a proof (docs/PROOFS.md, "Cost").
+impl Drop for Fanout {
+    fn drop(self) {
+        let Fanout {
+            alloc: _,
+            header: _,
+            body: _,
+            kind: _,
+            asked: _,
+            said: _,
+        } = self;
+    }
 }
 
 impl Model for Fanout {

@@ -22,12 +22,24 @@ pub type Wants = ListOf<Want>;
 
 /// The views that a member knows, the nodes that were declared down to it, and the views that it wants
 /// (docs/PROTOCOL.md, "The Ringmaster").
-#[derive(Debug, Drop)]
+#[derive(Debug)]
 pub struct Known {
     alloc: Global,
     views: Views,
     down: Nodes,
     wants: Wants,
+}
+
+// Written out, so that dropping one is one step of a proof (docs/PROOFS.md, "Cost").
+impl Drop for Known {
+    fn drop(self) {
+        let Known {
+            alloc: _,
+            views: _,
+            down: _,
+            wants: _,
+        } = self;
+    }
 }
 
 impl Model for Known {

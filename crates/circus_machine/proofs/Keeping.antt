@@ -21,8 +21,8 @@ use Rattle.circus_evaluate.specs.Putting.{put_over, with_put_item, item_put, gro
 use Rattle.circus_evaluate.specs.declared.part.Put.{Put}
 use Rattle.circus_evaluate.specs.declared.part.Put.TheVariants.{Whole, More}
 use Rattle.circus_machine.specs.declared.store.Sizes.{Sizes}
-use Rattle.circus_evaluate.specs.declared.got.Stop.{Stop}
-use Rattle.circus_evaluate.specs.declared.got.Stop.TheVariants.{Raises}
+use Rattle.circus_evaluate.specs.declared.got.NoValue.{NoValue}
+use Rattle.circus_evaluate.specs.declared.got.NoValue.TheVariants.{Raises}
 use Rattle.circus_machine.specs.declared.store.Variables.{Variables}
 use Rattle.circus_evaluate.proofs.Alike.{some_same, handed_on}
 use Rattle.circus_evaluate.proofs.PartSizes.{state_size, found, part_within, put_is, put_size}
@@ -167,7 +167,7 @@ module _ (limit most : ℕ) (v : Variables) (index : ℕ) (change : ValueTree �
     put_there = ap (item_put steps put index v.values) stands ∙ ap (slice_set v.values index) (put_is steps put t old part)
 
 -- an error was raised that is meant
-pub raised : (r : Result (Unit {0}) Stop) (meant : Raising (List ValueTree)) (v : Variables) (e : LanguageError) → IsErr r × IsErrAnd r (λ f. f ≡ Raises e) → meant ≡ Err e → Changed r meant v v
+pub raised : (r : Result (Unit {0}) NoValue) (meant : Raising (List ValueTree)) (v : Variables) (e : LanguageError) → IsErr r × IsErrAnd r (λ f. f ≡ Raises e) → meant ≡ Err e → Changed r meant v v
 raised r meant v e p same = rw (handed_on r (Raises e) p) (same, refl)
 
 pub too_great : (r : Result Sizes LanguageError) (limit : ℕ) (v : Variables) (index : ℕ) (w : ValueTree) (e : LanguageError) → IsErr r × IsErrAnd r (λ f. f ≡ e) → e ≡ TooLong → kept limit v.states v.values index w ≡ Err TooLong → Resized limit v index w r

@@ -11,8 +11,8 @@ use Rattle.circus_machine.specs.Storing.{stored, stored_over}
 use Rattle.circus_machine.specs.Meaning.{Going, Flow, goes_on, then_does, fails, raising, with_variables, assigned, filled}
 use Rattle.circus_machine.specs.Seen.Changing.{Changed}
 use Rattle.circus_machine.specs.Seen.Running.{going, Keeps, Does, nothing}
-use Rattle.circus_evaluate.specs.declared.got.Stop.{Stop}
-use Rattle.circus_evaluate.specs.declared.got.Stop.TheVariants.{Raises, NoMemory}
+use Rattle.circus_evaluate.specs.declared.got.NoValue.{NoValue}
+use Rattle.circus_evaluate.specs.declared.got.NoValue.TheVariants.{Raises, NoMemory}
 use Rattle.circus_machine.specs.declared.store.Variables.{Variables}
 use Rattle.circus_machine.specs.declared.execution.Execution.{Execution}
 use Rattle.circus_evaluate.proofs.Alike.{some_same, handed_on}
@@ -69,22 +69,22 @@ keeps_more : (old mid new : Execution) → Keeps old mid → Keeps mid new → K
 keeps_more old mid new first second = record { states = second.states ∙ first.states; sized = second.sized }
 
 -- a part that does from a later execution on what another one does
-pub does_from : {A X : Type 0} (view : A → Going → X) (part rest : Going → Flow X) (result : Result A Stop) (old mid new : Execution) → Keeps old mid → ((replies : List Outcome) → part (going old replies) ≡ rest (going mid replies))
+pub does_from : {A X : Type 0} (view : A → Going → X) (part rest : Going → Flow X) (result : Result A NoValue) (old mid new : Execution) → Keeps old mid → ((replies : List Outcome) → part (going old replies) ≡ rest (going mid replies))
     → Does view rest result mid new → Does view part result old new
 does_from view part rest (Ok a) old mid new kept same done = (keeps_more old mid new kept done.0, λ replies. same replies ∙ done.1 replies)
 does_from view part rest (Err (Raises error)) old mid new kept same done = (done.0 ∙ kept.states, λ replies. same replies ∙ done.1 replies)
 does_from view part rest (Err NoMemory) old mid new kept same done = tt
 
 -- what stopped the first part stops both
-pub does_not : {A B X Y : Type 0} (view : A → Going → X) (other : B → Going → Y) (part : Going → Flow X) (more : X → Flow Y) (e : Stop) (old new : Execution) → Does view part (Err e) old new → Does other (λ c. then_does (part c) more) (Err e) old new
+pub does_not : {A B X Y : Type 0} (view : A → Going → X) (other : B → Going → Y) (part : Going → Flow X) (more : X → Flow Y) (e : NoValue) (old new : Execution) → Does view part (Err e) old new → Does other (λ c. then_does (part c) more) (Err e) old new
 does_not view other part more (Raises error) old new done = (done.0, λ replies. then_fails (part (going old replies)) error new.variables.values more (done.1 replies))
 does_not view other part more NoMemory old new done = tt
 
-pub stops : {A X : Type 0} (view : A → Going → X) (part : Going → Flow X) (r : Result A Stop) (e : Stop) (old new : Execution) → IsErr r × IsErrAnd r (λ f. f ≡ e) → Does view part (Err e) old new → Does view part r old new
+pub stops : {A X : Type 0} (view : A → Going → X) (part : Going → Flow X) (r : Result A NoValue) (e : NoValue) (old new : Execution) → IsErr r × IsErrAnd r (λ f. f ≡ e) → Does view part (Err e) old new → Does view part r old new
 stops view part r e old new p done = rw (handed_on r e p) done
 
 -- a change of the variables is an assignment
-pub change_does : (limit : ℕ) (result : Result (Unit {0}) Stop) (e : Execution) (after : Variables) (p : CheckedPlace) (change : ValueTree → Raising ValueTree)
+pub change_does : (limit : ℕ) (result : Result (Unit {0}) NoValue) (e : Execution) (after : Variables) (p : CheckedPlace) (change : ValueTree → Raising ValueTree)
     → Changed result (stored limit e.variables.states e.variables.values p change) e.variables after → Does nothing (assigned limit e.variables.states p change) result e (record { variables = after; steps = e.steps; asks = e.asks })
 change_does limit (Ok done) e after p change changed =
     (record { states = changed.1.0; sized = changed.1.1 }, λ replies. assigned_goes limit e.variables.states p change (going e replies) after.values changed.0)

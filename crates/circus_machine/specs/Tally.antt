@@ -4,6 +4,7 @@ use Rattle.circus_value.specs.ValueTree.{ValueTree, cardinal, long_cardinal}
 use Rattle.circus_value.specs.declared.shape.Shape.TheVariants.{Cardinal, LongCardinal}
 use Rattle.circus_value.specs.declared.outcome.Outcome.{Outcome}
 use Rattle.circus_value.specs.declared.outcome.Outcome.TheVariants.{Returned, Raised}
+use Rattle.circus_limits.specs.Limits.{first_limit}
 use Rattle.circus_model.specs.declared.language_error.LanguageError.TheVariants.{Range}
 use Rattle.circus_model.specs.LanguageError as language
 use Rattle.circus_model.specs.declared.signature.ProcedureShape.{ProcedureShape}
@@ -17,7 +18,7 @@ add = record { number = 1; arguments = Cardinal ∷ []; results = LongCardinal �
 -- one variable, and one procedure
 abbrev pub tally_signature : Signature
 tally_signature =
-    record { root = false; imports = []; variables = LongCardinal ∷ []; procedures = add ∷ []; limit = 65536 }
+    record { root = false; imports = []; variables = LongCardinal ∷ []; procedures = add ∷ []; limit = first_limit }
 
 -- a state, and results, of this sum
 abbrev pub one_sum : ℕ → List ValueTree

@@ -12,7 +12,7 @@ ghost use Rattle.circus_machine.specs.Seen.Running.{Does, HasAsked, Moves, GoesA
 use crate::code::{Asking, Catch, Instruction};
 use crate::store::{Change, Variables};
 use circus_checked::{CheckedExpression, CheckedExpressions, CheckedPlace};
-use circus_evaluate::{Got, Stop, evaluate_all, given_in, truth_in};
+use circus_evaluate::{Got, NoValue, evaluate_all, given_in, truth_in};
 use circus_model::LanguageError;
 use circus_value::{Outcome, Values, values_size};
 use std::alloc::Global;
@@ -39,13 +39,13 @@ pub(crate) enum Move {
 
 impl Execution {
     // Counts a step, or raises an error where none is left.
-    fn count(&mut self) -> Result<(), Stop>
+    fn count(&mut self) -> Result<(), NoValue>
         requires { AreSized self.old.variables }
         ensures does { Does nothing meaning.stepped result self.old self.new }
         ensures fewer { OnOk result (self.new.steps < self.old.steps) }
     {
         if self.steps == 0 {
-            return Err(Stop::Raises(LanguageError::StepLimit));
+            return Err(NoValue::Raises(LanguageError::StepLimit));
         }
         self.steps -= 1;
         Ok(())
@@ -59,7 +59,7 @@ impl Execution {
         place: &CheckedPlace,
         change: Change,
         expression: &CheckedExpression,
-    ) -> Result<(), Stop>
+    ) -> Result<(), NoValue>
         requires { AreSized self.old.variables }
         ensures does { Does nothing (meaning.stores limit self.old.variables.states place.now (changed_over change) (tree_of expression.now)) result self.old self.new }
         ensures fewer { OnOk result (self.new.steps < self.old.steps) }
@@ -75,7 +75,7 @@ impl Execution {
         alloc: Global,
         limit: u32,
         condition: &CheckedExpression,
-    ) -> Result<bool, Stop>
+    ) -> Result<bool, NoValue>
         requires { AreSized self.old.variables }
         ensures does { Does beside (meaning.tested limit self.old.variables.states (tree_of condition.now)) result self.old self.new }
         ensures fewer { OnOk result (self.new.steps < self.old.steps) }
@@ -90,7 +90,7 @@ impl Execution {
         alloc: Global,
         limit: u32,
         expressions: &CheckedExpressions,
-    ) -> Result<Values, Stop>
+    ) -> Result<Values, NoValue>
         requires { AreSized self.old.variables }
         ensures does { Does beside (meaning.left_with limit self.old.variables.states expressions.now) result self.old self.new }
         ensures fewer { OnOk result (self.new.steps < self.old.steps) }
@@ -98,7 +98,7 @@ impl Execution {
         self.count()?;
         let values = evaluate_all(alloc, limit, &self.variables.values, expressions)?;
         if values_size(&values) > u64::from(limit) {
-            return Err(Stop::Raises(LanguageError::TooLong));
+            return Err(NoValue::Raises(LanguageError::TooLong));
         }
         Ok(values)
     }
@@ -109,14 +109,14 @@ impl Execution {
         alloc: Global,
         limit: u32,
         expressions: &CheckedExpressions,
-    ) -> Result<Values, Stop>
+    ) -> Result<Values, NoValue>
         requires { AreSized self.old.variables }
         ensures asks { HasAsked limit self.old.variables.states expressions.now result self.old self.new }
         ensures fewer { OnOk result (self.new.steps < self.old.steps) }
     {
         let arguments = self.leave(alloc, limit, expressions)?;
         if self.asks == u16::MAX {
-            return Err(Stop::Raises(LanguageError::CallLimit));
+            return Err(NoValue::Raises(LanguageError::CallLimit));
         }
         self.asks += 1;
         Ok(arguments)
@@ -129,7 +129,7 @@ impl Execution {
         limit: u32,
         places: &[CheckedPlace],
         values: &Values,
-    ) -> Result<(), Stop>
+    ) -> Result<(), NoValue>
         requires { AreSized self.old.variables }
         ensures { Does nothing (meaning.filled limit self.old.variables.states places.now values.now) result self.old self.new }
     {
@@ -155,7 +155,7 @@ impl Execution {
         at: usize,
         error: u16,
         values: &Values,
-    ) -> Result<usize, Stop>
+    ) -> Result<usize, NoValue>
         requires sized { AreSized self.old.variables }
         requires place { at < 4294967296 }
         ensures { Does beside (acts.caught limit self.old.variables.states at (map catch_of catches.now) error values.now) result self.old self.new }
@@ -166,7 +166,7 @@ impl Execution {
                 return Ok(at + 1 + catch.offset as usize);
             }
         }
-        Err(Stop::Raises(unhandled(error)))
+        Err(NoValue::Raises(unhandled(error)))
     }
 
     /// Where the execution goes on behind an ask at a place, by the reply. No step is counted. After `NoMemory` the
@@ -178,7 +178,7 @@ impl Execution {
         asking: &Asking,
         at: usize,
         reply: &Outcome,
-    ) -> Result<usize, Stop>
+    ) -> Result<usize, NoValue>
         requires sized { AreSized self.old.variables }
         requires place { at < 4294967296 }
         ensures { Does beside (acts.replied limit self.old.variables.states at asking.now.into (map catch_of asking.now.catches) asking.now.skip reply.now) result self.old self.new }
@@ -201,7 +201,7 @@ impl Execution {
         limit: u32,
         instruction: &Instruction,
         at: usize,
-    ) -> Result<Move, Stop>
+    ) -> Result<Move, NoValue>
         requires sized { AreSized self.old.variables }
         requires place { at < 4294967296 }
         ensures moves { Moves limit self.old.variables.states (act_of instruction.now) at result self.old self.new }

@@ -14,7 +14,7 @@ ghost use Rattle.circus_machine.specs.Seen.Running.{going, Awaits, StandsAtAsk};
 
 use crate::code::{Code, Instruction};
 use crate::execution::{Execution, Move};
-use circus_evaluate::Stop;
+use circus_evaluate::NoValue;
 use circus_model::{LanguageError, Turn};
 use circus_value::{NoMemory, Outcome};
 use std::alloc::{AllocError, Global};
@@ -75,8 +75,8 @@ pub(crate) fn run(
                     paused: Paused { place, execution },
                 });
             }
-            Err(Stop::Raises(error)) => return Ok(execution.failed(alloc, error)),
-            Err(Stop::NoMemory) => return Err(AllocError),
+            Err(NoValue::Raises(error)) => return Ok(execution.failed(alloc, error)),
+            Err(NoValue::NoMemory) => return Err(AllocError),
         }
     }
 }
@@ -104,7 +104,7 @@ pub(crate) fn resume(
     };
     match execution.reply(alloc, limit, asking, place, reply) {
         Ok(next) => run(alloc, limit, code, execution, next),
-        Err(Stop::Raises(error)) => Ok(execution.failed(alloc, error)),
-        Err(Stop::NoMemory) => Err(AllocError),
+        Err(NoValue::Raises(error)) => Ok(execution.failed(alloc, error)),
+        Err(NoValue::NoMemory) => Err(AllocError),
     }
 }

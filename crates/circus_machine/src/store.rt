@@ -10,7 +10,7 @@ ghost use Rattle.circus_evaluate.specs.Putting.{put_over, grows_by, shrinks_by};
 ghost use Rattle.circus_machine.specs.Seen.Changing.{changed_over, AreSized, Resized, Changed};
 
 use circus_checked::{CheckedPlace, NumberKind};
-use circus_evaluate::{Given, Put, Stop, as_kind, part_at, put_item, steps_of};
+use circus_evaluate::{Given, NoValue, Put, as_kind, part_at, put_item, steps_of};
 use circus_model::LanguageError;
 use circus_value::{Duplicate, ListOf, NoMemory, State, Value, Values, external_size, values_size};
 use std::alloc::Global;
@@ -219,7 +219,7 @@ impl Variables {
         place: &CheckedPlace,
         change: Change,
         given: Given,
-    ) -> Result<(), Stop>
+    ) -> Result<(), NoValue>
         requires { AreSized self.old }
         ensures { Changed result (storing.stored limit self.old.states self.old.values place.now (changed_over change (given_as given))) self.old self.new }
     {

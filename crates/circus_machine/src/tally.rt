@@ -7,12 +7,10 @@ ghost use Rattle.circus_model.specs.declared.turn.Turn.TheVariants.{Ends};
 ghost use Rattle.circus_machine.specs.Tally as tally;
 ghost use Rattle.circus_machine.specs.Tally.{add, tally_signature, tally_turn};
 
+use circus_limits::FIRST_LIMIT;
 use circus_model::{LanguageError, Module, ProcedureShape, ProcedureShapes, Signature, Turn};
 use circus_value::{Duplicate, ListOf, NoMemory, Outcome, Shape, Shapes, State, Value, Values};
 use std::alloc::Global;
-
-/// The most bytes of a state, of arguments, of results and of an error's values.
-const LIMIT: u32 = 65_536;
 
 /// A module written in Rattle, with one variable, a LONG CARDINAL. Procedure 1 adds a CARDINAL to it and returns the
 /// sum; where that is above 4,294,967,295 it raises 60001 and changes nothing.
@@ -37,7 +35,7 @@ impl Tally {
                 imports: ListOf::new(alloc),
                 variables: one_shape(alloc, Shape::LongCardinal)?,
                 procedures: procedures(alloc)?,
-                limit: LIMIT,
+                limit: FIRST_LIMIT,
             },
         })
     }

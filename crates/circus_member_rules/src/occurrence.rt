@@ -90,7 +90,7 @@ pub enum Effect {
 pub type Effects = ListOf<Effect>;
 
 /// A reply that differs from the first one to the same ask (docs/PROTOCOL.md, "Calls out").
-#[derive(Debug, Drop)]
+#[derive(Debug)]
 pub struct Difference {
     pub run: u32,
     pub ask: u32,
@@ -98,4 +98,18 @@ pub struct Difference {
     pub first_reply: Reply,
     pub second: u16,
     pub second_reply: Reply,
+}
+
+// Written out, so that dropping one is one step of a proof (docs/PROOFS.md, "Cost").
+impl Drop for Difference {
+    fn drop(self) {
+        let Difference {
+            run: _,
+            ask: _,
+            first: _,
+            first_reply: _,
+            second: _,
+            second_reply: _,
+        } = self;
+    }
 }

@@ -3,7 +3,7 @@ use Rattle.std.proofs.Common.{◌≡◌, List, [], ◌∷◌, ◌++◌, map, sym
 use Rattle.std.specs.List.{AllByRecursion}
 use Rattle.std.proofs.lemmas.List.{map-append}
 use Rattle.circus_machine.specs.declared.body.Body.{Body as Compiled}
-use Rattle.circus_check.specs.declared.checked.Body.{Body}
+use Rattle.circus_check.specs.declared.checked.CheckedBody.{CheckedBody}
 use Rattle.circus_check.specs.declared.checked.ResolvedModule.{ResolvedModule}
 use Rattle.circus_check.specs.Seen.Meant.{body_as, module_as}
 use Rattle.circus_modules.specs.Signatures.{implemented}
@@ -13,14 +13,14 @@ use Rattle.circus_modules.specs.Seen.Made.{IsMade, AreMade}
 pub first_and_others : {X Y : Type 0} (P : Y → Type 0) (f : X → Y) (left others : List X) (x : X) → left ≡ x ∷ others → AllByRecursion P (map f left) → P (f x) × AllByRecursion P (map f others)
 first_and_others P f left others x is all = subst (λ xs. AllByRecursion P (map f xs)) is all
 
-more_made : (bodies : List Body) (b : Body) (made : List Compiled) (one : Compiled) → AreMade (map body_as bodies) made → IsMade (body_as b) one → AreMade (map body_as (bodies ++ b ∷ [])) (made ++ one ∷ [])
+more_made : (bodies : List CheckedBody) (b : CheckedBody) (made : List Compiled) (one : Compiled) → AreMade (map body_as bodies) made → IsMade (body_as b) one → AreMade (map body_as (bodies ++ b ∷ [])) (made ++ one ∷ [])
 more_made [] b [] one are is = (is, tt)
 more_made [] b (_ ∷ _) one are is = absurd are
 more_made (_ ∷ _) b [] one are is = absurd are
 more_made (a ∷ bodies) b (m ∷ made) one are is = (are.0, more_made bodies b made one are.1 is)
 
 -- a body more
-pub made_with : (bodies : List Body) (b : Body) (made all : List Compiled) (one : Compiled) → all ≡ made ++ one ∷ [] → AreMade (map body_as bodies) made → IsMade (body_as b) one → AreMade (map body_as (bodies ++ b ∷ [])) all
+pub made_with : (bodies : List CheckedBody) (b : CheckedBody) (made all : List Compiled) (one : Compiled) → all ≡ made ++ one ∷ [] → AreMade (map body_as bodies) made → IsMade (body_as b) one → AreMade (map body_as (bodies ++ b ∷ [])) all
 made_with bodies b made all one grown are is = subst (AreMade (map body_as (bodies ++ b ∷ []))) (sym grown) (more_made bodies b made one are is)
 
 -- what modules implement

@@ -7,6 +7,7 @@ use Rattle.circus_value.specs.ShapeTree.{FieldTree}
 use Rattle.circus_value.specs.ShapeOf.{tree_of, shape_in}
 use Rattle.circus_value.specs.Fits.{fits, all_fit}
 use Rattle.circus_value.specs.ExternalSize.{size_of_values}
+use Rattle.circus_limits.specs.Limits.{first_limit}
 use Rattle.circus_evaluate.specs.Typed.{Hold}
 use Rattle.circus_type.specs.Limits.{most_parts, most_zero_bytes}
 use Rattle.circus_type.specs.Obeys.{ObeysWhole}
@@ -35,7 +36,7 @@ zeros_size : (fields : List FieldTree) → size_of_values (zeros fields) ≡ zer
 zeros_size [] = refl
 zeros_size (f ∷ fs) = ap (λ n. zero_size f.shape + n) (zeros_size fs) ∙ sym (sum_by-cons zero_size f.shape (shapes_of fs))
 
-pub zeros_within : (fields : List FieldTree) (limit : ℕ) → zero_size_of fields ≤ most_zero_bytes → 65536 ≤ limit → size_of_values (zeros fields) ≤ limit
+pub zeros_within : (fields : List FieldTree) (limit : ℕ) → zero_size_of fields ≤ most_zero_bytes → first_limit ≤ limit → size_of_values (zeros fields) ≤ limit
 zeros_within fields limit small large = omega (arith, zeros_size fields, small, large)
 
 -- as many variables as there are parts have few bytes

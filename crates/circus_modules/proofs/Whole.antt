@@ -4,6 +4,7 @@ use Rattle.std.specs.Prelude.{slice_get}
 use Rattle.std.specs.List.{AllByRecursion, flat_map}
 use Rattle.std.proofs.lemmas.Option.{same_Some}
 use Rattle.circus_value.specs.ShapeTree.{FieldTree}
+use Rattle.circus_limits.specs.Limits.{first_limit}
 use Rattle.circus_type.specs.Limits.{most_parts}
 use Rattle.circus_type.specs.Obeys.{ObeysWhole}
 use Rattle.circus_type.specs.Together.{shapes_of, parts_of}
@@ -58,7 +59,7 @@ module _ (interfaces : List Interface) (modules : List ModuleMeant) (m : ModuleM
 fewer : (variables locals : List FieldTree) → parts_of (shapes_of (variables ++ locals)) ≤ most_parts → parts_of (shapes_of locals) ≤ most_parts
 fewer variables locals few = omega (arith, parts_joined variables locals, few)
 
-module _ (limit : ℕ) (interfaces : List Interface) (modules : List ModuleMeant) (large : 65536 ≤ limit) (obey : AllByRecursion Obeys interfaces) where
+module _ (limit : ℕ) (interfaces : List Interface) (modules : List ModuleMeant) (large : first_limit ≤ limit) (obey : AllByRecursion Obeys interfaces) where
   can_be_made : (n : ℕ) (m : ModuleMeant) → IsModule interfaces modules n m → CanBeMade limit interfaces (implemented modules) m
   can_be_made n m good = record {
     first = record { fits = zeros_fit_shapes m.variables good.types; within = zeros_within m.variables limit good.small large };

@@ -3,7 +3,7 @@ ghost use Rattle.std.specs.Prelude.{◌≡◌, ◌≤◌, length, map, IfOk};
 ghost use Rattle.std.specs.List.{AllByRecursion};
 ghost use Rattle.circus_model.specs.Agree.{Agree};
 ghost use Rattle.circus_model.specs.Behaviour.{behaviours};
-ghost use Rattle.circus_limits.specs.Limits.{most_modules};
+ghost use Rattle.circus_limits.specs.Limits.{most_modules, first_limit, most_bytes};
 ghost use Rattle.circus_idl.specs.Obeys.{Obeys};
 ghost use Rattle.circus_check.specs.Seen.Meant.{module_as, body_as};
 ghost use Rattle.circus_check.specs.WellFormed.{AreWellFormed};
@@ -12,7 +12,7 @@ ghost use Rattle.circus_modules.specs.Seen.Made.{AreMade, IsSmall, CanBeMade};
 
 use crate::signature::signature;
 use crate::zero::zero_fields;
-use circus_check::{Bodies, Checked, Interfaces, Resolved, ResolvedModule};
+use circus_check::{Checked, CheckedBodies, Interfaces, ResolvedModule, ResolvedModules};
 use circus_idl::Interface;
 use circus_machine::{Body, TextModule};
 use circus_value::{ListOf, NoMemory};
@@ -26,7 +26,7 @@ fn implemented(alloc: Global, modules: &[ResolvedModule]) -> Result<Vec<Option<u
 }
 
 // The bodies, compiled.
-fn compiled(alloc: Global, bodies: Bodies) -> Result<ListOf<Body>, NoMemory>
+fn compiled(alloc: Global, bodies: CheckedBodies) -> Result<ListOf<Body>, NoMemory>
     requires { AllByRecursion IsSmall (map body_as bodies) }
     ensures { IfOk result (λ made. AreMade (map body_as bodies) made) }
 {
@@ -63,7 +63,7 @@ fn text_modules(
     limit: u32,
     interfaces: &[Interface],
     implemented: &[Option<u16>],
-    modules: Resolved,
+    modules: ResolvedModules,
 ) -> Result<Vec<TextModule>, NoMemory>
     requires { AllByRecursion (CanBeMade limit interfaces.now implemented.now) (map module_as modules) }
     ensures { IfOk result (λ made. behaviours ⟦<TextModule as circus_model::Module>⟧.declared ⟦<TextModule as circus_model::Module>⟧.turn ⟦<TextModule as circus_model::Module>⟧.first made.items
@@ -83,8 +83,8 @@ pub fn modules_of(
     limit: u32,
     checked: Checked,
 ) -> Result<(Interfaces, Vec<TextModule>), NoMemory>
-    requires least { 65536 ≤ limit }
-    requires most { limit ≤ 1048576 }
+    requires least { first_limit ≤ limit }
+    requires most { limit ≤ most_bytes }
     requires obey { AllByRecursion Obeys checked.interfaces }
     requires well_formed { AreWellFormed checked.interfaces (map module_as checked.modules) }
     ensures interfaces { IfOk result (λ made. made.0 ≡ checked.interfaces) }

@@ -81,9 +81,15 @@ enum Role<M: Module> {
 }
 
 /// A member or the Ringmaster.
-#[derive(Drop)]
 pub(crate) struct Acting<M: Module> {
     role: Role<M>,
+}
+
+// Written out, so that dropping one is one step of a proof (docs/PROOFS.md, "Cost").
+impl<M: Module> Drop for Acting<M> {
+    fn drop(self) {
+        let Acting { role: _ } = self;
+    }
 }
 
 impl<M: Module> Model for Acting<M> {
@@ -187,7 +193,8 @@ impl<M: Module> Acting<M> {
         ensures came { IfOk result (λ made. made.1 ≡ (making.arrives M.declared M.turn deployment.now at from heard self).came) }
         ensures kept { IfOk result (λ made. IsActing deployment.now made.0) }
     {
-        match self.role {
+        let Acting { role } = self;
+        match role {
             Role::Member(member) => {
                 match accept(alloc, deployment, &member, from, heard)? {
                     Some(occurrence) => happen(alloc, member, at, occurrence),
@@ -212,7 +219,8 @@ impl<M: Module> Acting<M> {
         ensures came { IfOk result (λ made. made.1 ≡ (making.learns_down M.declared M.turn at node self).came) }
         ensures kept { (d : Deployed) → IsActing d self → IfOk result (λ made. IsActing d made.0) }
     {
-        match self.role {
+        let Acting { role } = self;
+        match role {
             Role::Member(member) => happen(alloc, member, at, Occurrence::Declared(node)),
             Role::Ringmaster(ring) => {
                 Ok((Acting::ringmaster(ring), Consequences::nothing(alloc)))
@@ -226,7 +234,8 @@ impl<M: Module> Acting<M> {
         ensures came { IfOk result (λ made. made.1 ≡ (making.is_told_to_join M.declared M.turn at self).came) }
         ensures kept { (d : Deployed) → IsActing d self → IfOk result (λ made. IsActing d made.0) }
     {
-        match self.role {
+        let Acting { role } = self;
+        match role {
             Role::Member(member) => happen(alloc, member, at, Occurrence::Joins),
             Role::Ringmaster(ring) => {
                 Ok((Acting::ringmaster(ring), Consequences::nothing(alloc)))

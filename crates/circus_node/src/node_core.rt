@@ -30,10 +30,19 @@ use std::marker::Model;
 ///
 /// Clauses see the program's troupes and nodes, the pairs, what the node does, and how much it has dropped;
 /// `specs/Step.antt` says what a step does to them.
-#[derive(Drop)]
 pub struct NodeCore<M: Module> {
     station: Station,
     acting: Acting<M>,
+}
+
+// Written out, so that dropping one is one step of a proof (docs/PROOFS.md, "Cost").
+impl<M: Module> Drop for NodeCore<M> {
+    fn drop(self) {
+        let NodeCore {
+            station: _,
+            acting: _,
+        } = self;
+    }
 }
 
 impl<M: Module> Model for NodeCore<M> {

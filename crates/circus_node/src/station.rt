@@ -16,7 +16,6 @@ use circus_wire::{Heard, Wire};
 use std::alloc::Global;
 
 /// The program's troupes and nodes, the pairs with the other nodes, and a count.
-#[derive(Drop)]
 pub(crate) struct Station {
     pub alloc: Global,
     pub deployment: Deployment,
@@ -24,6 +23,19 @@ pub(crate) struct Station {
     pub wire: Wire<Purpose>,
     /// How many datagrams counted for nothing, and how many messages that arrived were not accepted.
     pub dropped: u64,
+}
+
+// Written out, so that dropping one is one step of a proof (docs/PROOFS.md, "Cost").
+impl Drop for Station {
+    fn drop(self) {
+        let Station {
+            alloc: _,
+            deployment: _,
+            node: _,
+            wire: _,
+            dropped: _,
+        } = self;
+    }
 }
 
 impl Station {

@@ -18,12 +18,23 @@ const WAIT: u64 = 250;
 /// since a take last did so, or since the port was bound, and a datagram that comes before: so time passes also where
 /// datagrams come all the time. That nobody listens at a port fails neither a give nor a later take; where no port is bound
 /// both fail. It tells nothing. Clauses see it as its count of faults.
-#[derive(Drop)]
 pub struct UdpLink<R: Net + Clock> {
     alloc: Global,
     runtime: R,
     port: Option<Port>,
     faults: u64,
+}
+
+// Written out, so that dropping one is one step of a proof (docs/PROOFS.md, "Cost").
+impl<R: Net + Clock + Drop> Drop for UdpLink<R> {
+    fn drop(self) {
+        let UdpLink {
+            alloc: _,
+            runtime: _,
+            port: _,
+            faults: _,
+        } = self;
+    }
 }
 
 impl<R: Net + Clock> Model for UdpLink<R> {

@@ -23,13 +23,25 @@ use std::mem;
 
 /// A member: its module, its record, and its run where that waits for a reply (docs/PROTOCOL.md, "Performing"). Clauses
 /// see the module, the state with which the member became active, and the record.
-#[derive(Drop)]
 pub struct Performer<M: Module> {
     alloc: Global,
     hosted: M,
     began: State,
     kept: MemberRecord,
     paused: Option<M::Paused>,
+}
+
+// Written out, so that dropping one is one step of a proof (docs/PROOFS.md, "Cost").
+impl<M: Module> Drop for Performer<M> {
+    fn drop(self) {
+        let Performer {
+            alloc: _,
+            hosted: _,
+            began: _,
+            kept: _,
+            paused: _,
+        } = self;
+    }
 }
 
 impl<M: Module> Model for Performer<M> {

@@ -6,7 +6,7 @@ use Rattle.std.proofs.lemmas.Bool.{cases_lt}
 use Rattle.std.proofs.lemmas.Bool.{and_parts, eqb-true, ltb-true, ltb-false, lt-ltb, le-ltb, true≢false, false_from_ne_true}
 use Rattle.std.proofs.lemmas.List.Elements.{All-nil, All-cons, All-head, All-tail}
 use Rattle.circus_place.specs.Choice.{is_before}
-use Rattle.circus_place.specs.declared.choice.Chosen.{Chosen}
+use Rattle.circus_place.specs.declared.choice.Placement.{Placement}
 use Rattle.circus_place.specs.declared.test.Test.{Test}
 use Rattle.circus_place.specs.Seen.Test.{passes}
 use Rattle.circus_value.specs.Among.{is_among}
@@ -47,18 +47,18 @@ before_once (x ∷ xs) (y ∷ ys) before = by_first (nat_lt x y) refl before (be
 
 -- The best of the choices that were seen.
 
-pub record IsChampion (t : Test) (present : List Bool) (Seen : List ℕ → Type 0) (x : Chosen) : Type 0 where
+pub record IsChampion (t : Test) (present : List Bool) (Seen : List ℕ → Type 0) (x : Placement) : Type 0 where
   pub seen : Seen x.members
   pub satisfies : passes t x.members ≡ true
   pub counted : x.kept ≡ flagged present x.members
   pub most : (c : List ℕ) → Seen c → passes t c ≡ true → flagged present c ≤ x.kept
   pub first : (c : List ℕ) → Seen c → passes t c ≡ true → flagged present c ≡ x.kept → is_before c x.members ≡ false
 
-abbrev pub Champion : Test → List Bool → (List ℕ → Type 0) → Option Chosen → Type 0
+abbrev pub Champion : Test → List Bool → (List ℕ → Type 0) → Option Placement → Type 0
 Champion t present Seen None = (c : List ℕ) → Seen c → passes t c ≡ true → ⊥
 Champion t present Seen (Some x) = IsChampion t present Seen x
 
-champion_same : (t : Test) (present : List Bool) (Seen Also : List ℕ → Type 0) (best : Option Chosen) → ((c : List ℕ) → Seen c → Also c) → ((c : List ℕ) → Also c → Seen c) → Champion t present Seen best → Champion t present Also best
+champion_same : (t : Test) (present : List Bool) (Seen Also : List ℕ → Type 0) (best : Option Placement) → ((c : List ℕ) → Seen c → Also c) → ((c : List ℕ) → Also c → Seen c) → Champion t present Seen best → Champion t present Also best
 champion_same t present Seen Also None there back champion = λ c also passed. champion c (back c also) passed
 champion_same t present Seen Also (Some x) there back champion = record {
   seen = there x.members champion.seen;
@@ -76,7 +76,7 @@ AllBefore Seen ms = (s more : List ℕ) → Seen s → is_before s (ms ++ more) 
 abbrev Besides : (List ℕ → Type 0) → List ℕ → List ℕ → Type 0
 Besides Seen ms c = Seen c ⊎ (c ≡ ms)
 
-offered_is : (t : Test) (present : List Bool) (Seen : List ℕ → Type 0) (ms : List ℕ) (best : Option Chosen) (passed improved : Bool) → passes t ms ≡ passed → improves (flagged present ms) best ≡ improved
+offered_is : (t : Test) (present : List Bool) (Seen : List ℕ → Type 0) (ms : List ℕ) (best : Option Placement) (passed improved : Bool) → passes t ms ≡ passed → improves (flagged present ms) best ≡ improved
     → ((s : List ℕ) → Seen s → is_before s ms ≡ true) → Champion t present Seen best
     → Champion t present (Besides Seen ms) (cond (passed && improved) (Some (record { members = ms; kept = flagged present ms })) best)
 offered_is t present Seen ms None false improved fails more before champion = λ c seen passed. failed c seen passed
@@ -206,14 +206,14 @@ narrower n left ms c (k ∷ more) is len below apart = (
 
 -- what holds after a machine had its turn
 abbrev Turn : Test → List Bool → ℕ → ℕ → List ℕ → Type 1
-Turn t present n left ms = (Seen : List ℕ → Type 0) (best : Option Chosen) → AreApart ms → AllBefore Seen ms → Champion t present Seen best → Champion t present (And Seen (Extends n left ms)) (best_from t present n left ms best)
+Turn t present n left ms = (Seen : List ℕ → Type 0) (best : Option Placement) → AreApart ms → AllBefore Seen ms → Champion t present Seen best → Champion t present (And Seen (Extends n left ms)) (best_from t present n left ms best)
 
 before_turn : (Seen : List ℕ → Type 0) (n left : ℕ) (ms : List ℕ) (m : ℕ) → AllBefore Seen ms → AllBefore (And Seen (Turned n left ms m)) (ms ++ m ∷ [])
 before_turn Seen n left ms m before s more (inl seen) = ap (is_before s) (append_assoc ms (m ∷ []) more) ∙ before s (m ∷ more) seen
 before_turn Seen n left ms m before s more (inr (k, low, e)) = ap (λ l. is_before l ((ms ++ m ∷ []) ++ more)) e.is ∙ before_at ms k m e.more more low
 
 -- the turn of a machine that is none of these, and of one that is
-one_turn : (t : Test) (present : List Bool) (n left : ℕ) (ms : List ℕ) (Seen : List ℕ → Type 0) (m : ℕ) (so_far : Option Chosen) (b : Bool) → is_among ms m ≡ b → Turn t present n left (ms ++ m ∷ []) → AreApart ms → AllBefore Seen ms
+one_turn : (t : Test) (present : List Bool) (n left : ℕ) (ms : List ℕ) (Seen : List ℕ → Type 0) (m : ℕ) (so_far : Option Placement) (b : Bool) → is_among ms m ≡ b → Turn t present n left (ms ++ m ∷ []) → AreApart ms → AllBefore Seen ms
     → Champion t present (And Seen (Turned n left ms m)) so_far → Champion t present (And Seen (Turned n left ms (suc m))) (cond b so_far (best_from t present n left (ms ++ m ∷ []) so_far))
 one_turn t present n left ms Seen m so_far true among turn apart before champion =
     champion_same t present (And Seen (Turned n left ms m)) (And Seen (Turned n left ms (suc m))) so_far there back champion
@@ -250,7 +250,7 @@ one_turn t present n left ms Seen m so_far false new turn apart before champion 
             let same : k ≡ m = omega (arith, low, above) in
             inr (subst (λ (j : ℕ). Extends n left (ms ++ j ∷ []) c) same e)
 
-turns_is : (t : Test) (present : List Bool) (n left : ℕ) (ms : List ℕ) (Seen : List ℕ → Type 0) (best : Option Chosen) → ((m : ℕ) → Turn t present n left (ms ++ m ∷ [])) → AreApart ms → AllBefore Seen ms → Champion t present Seen best
+turns_is : (t : Test) (present : List Bool) (n left : ℕ) (ms : List ℕ) (Seen : List ℕ → Type 0) (best : Option Placement) → ((m : ℕ) → Turn t present n left (ms ++ m ∷ [])) → AreApart ms → AllBefore Seen ms → Champion t present Seen best
     → (m : ℕ) → Champion t present (And Seen (Turned n left ms m)) (in_turn (λ k b. cond (is_among ms k) b (best_from t present n left (ms ++ k ∷ []) b)) m best)
 turns_is t present n left ms Seen best turn apart before champion zero =
     champion_same t present Seen (And Seen (Turned n left ms zero)) best (λ c seen. inl seen) back champion

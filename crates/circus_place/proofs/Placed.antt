@@ -11,7 +11,7 @@ use Rattle.circus_placing.specs.declared.placing.Placing.{Placing}
 use Rattle.circus_placing.specs.ConditionTree.{tree_of}
 use Rattle.circus_place.specs.Value.{does_hold}
 use Rattle.circus_place.specs.Choice.{IsChoice, Satisfies, kept_by, IsBest}
-use Rattle.circus_place.specs.declared.choice.Chosen.{Chosen}
+use Rattle.circus_place.specs.declared.choice.Placement.{Placement}
 use Rattle.circus_place.specs.declared.test.Test.{Test}
 use Rattle.circus_place.specs.Seen.Table.{AreTablesOf, flag_at}
 use Rattle.circus_place.specs.declared.attributes.Attributes.{Attributes}
@@ -140,7 +140,7 @@ are_for p t present tables members are members_are same flags = record {
 }
 
 -- the best of all choices
-pub found_is : (p : Placing) (t : Test) (present : List Bool) → AreFor p t present → (best : Option Chosen) (n left : ℕ) (ms : List ℕ) → n ≡ length p.machines → left ≡ p.members → ms ≡ [] → best ≡ best_from t present n left ms None
+pub found_is : (p : Placing) (t : Test) (present : List Bool) → AreFor p t present → (best : Option Placement) (n left : ℕ) (ms : List ℕ) → n ≡ length p.machines → left ≡ p.members → ms ≡ [] → best ≡ best_from t present n left ms None
     → Champion t present (And Nothing (Extends (length p.machines) p.members [])) best
 found_is p t present are best n left ms n_is left_is none is =
     subst (Champion t present (And Nothing (Extends (length p.machines) p.members []))) (sym (is ∙ (λ i. best_from t present (n_is i) (left_is i) (none i) None)))
@@ -156,10 +156,10 @@ champion_choice : (p : Placing) (c : List ℕ) → And Nothing (Extends (length 
 champion_choice p c (inl none) = absurd none
 champion_choice p c (inr e) = choice_extends p c e
 
-champion_kept : (p : Placing) (t : Test) (present : List Bool) → AreFor p t present → (x : Chosen) → IsChampion t present (And Nothing (Extends (length p.machines) p.members [])) x → x.kept ≡ kept_by p x.members
+champion_kept : (p : Placing) (t : Test) (present : List Bool) → AreFor p t present → (x : Placement) → IsChampion t present (And Nothing (Extends (length p.machines) p.members [])) x → x.kept ≡ kept_by p x.members
 champion_kept p t present are x champion = champion.counted ∙ kept_is p t present are x.members (champion_choice p x.members champion.seen)
 
-champion_best : (p : Placing) (t : Test) (present : List Bool) → AreFor p t present → (x : Chosen) → IsChampion t present (And Nothing (Extends (length p.machines) p.members [])) x → IsBest p x.members
+champion_best : (p : Placing) (t : Test) (present : List Bool) → AreFor p t present → (x : Placement) → IsChampion t present (And Nothing (Extends (length p.machines) p.members [])) x → IsBest p x.members
 champion_best p t present are x champion =
     let is : IsChoice p x.members = champion_choice p x.members champion.seen in
     let kept : x.kept ≡ kept_by p x.members = champion_kept p t present are x champion in
@@ -175,15 +175,15 @@ champion_best p t present are x champion =
 champion_none : (p : Placing) (t : Test) (present : List Bool) → AreFor p t present → Champion t present (And Nothing (Extends (length p.machines) p.members [])) None → (c : List ℕ) → IsChoice p c → Satisfies p c → ⊥
 champion_none p t present are champion c choice satisfied = champion c (inr (extends_choice p c choice)) (are.test c (placed p c choice) ∙ satisfied)
 
-pub found_best : (p : Placing) (t : Test) (present : List Bool) → AreFor p t present → (best : Option Chosen) → Champion t present (And Nothing (Extends (length p.machines) p.members [])) best → IfSome best (λ x. IsBest p x.members)
+pub found_best : (p : Placing) (t : Test) (present : List Bool) → AreFor p t present → (best : Option Placement) → Champion t present (And Nothing (Extends (length p.machines) p.members [])) best → IfSome best (λ x. IsBest p x.members)
 found_best p t present are None champion = tt
 found_best p t present are (Some x) champion = champion_best p t present are x champion
 
-pub found_kept : (p : Placing) (t : Test) (present : List Bool) → AreFor p t present → (best : Option Chosen) → Champion t present (And Nothing (Extends (length p.machines) p.members [])) best → IfSome best (λ x. x.kept ≡ kept_by p x.members)
+pub found_kept : (p : Placing) (t : Test) (present : List Bool) → AreFor p t present → (best : Option Placement) → Champion t present (And Nothing (Extends (length p.machines) p.members [])) best → IfSome best (λ x. x.kept ≡ kept_by p x.members)
 found_kept p t present are None champion = tt
 found_kept p t present are (Some x) champion = champion_kept p t present are x champion
 
-pub found_none : (p : Placing) (t : Test) (present : List Bool) → AreFor p t present → (best : Option Chosen) → Champion t present (And Nothing (Extends (length p.machines) p.members [])) best
+pub found_none : (p : Placing) (t : Test) (present : List Bool) → AreFor p t present → (best : Option Placement) → Champion t present (And Nothing (Extends (length p.machines) p.members [])) best
     → IfNone best ((c : List ℕ) → IsChoice p c → Satisfies p c → ⊥)
 found_none p t present are None champion = champion_none p t present are champion
 found_none p t present are (Some x) champion = tt

@@ -5,7 +5,7 @@ use Rattle.std.proofs.Math.Bool.{and-false, or-false, or_assoc}
 use Rattle.std.proofs.Math.Nat.{le-min, min-le_right}
 use Rattle.std.proofs.lemmas.Bool.{ltb-false, le-ltb, or_parts, eqb-true, true≢false, not-false}
 use Rattle.std.proofs.lemmas.List.Sums.{count_by-le-length, sum_by-append}
-use Rattle.circus_place.specs.declared.choice.Chosen.{Chosen}
+use Rattle.circus_place.specs.declared.choice.Placement.{Placement}
 use Rattle.circus_place.specs.declared.test.Test.{Test}
 use Rattle.circus_place.specs.Seen.Table.{flag_at}
 use Rattle.circus_place.specs.Seen.Test.{passes, known, is_known_false, IsTestOf}
@@ -30,11 +30,11 @@ apart_push (x ∷ xs) m apart new =
     let (other, later) = or_parts (x == m) (is_among xs m) new in
     (among-push xs m x ∙ (λ i. apart.0 i || eq_sym x m other i), apart_push xs m apart.1 later)
 
-in_turn_stays : (turn : ℕ → Option Chosen → Option Chosen) (n : ℕ) (best : Option Chosen) → ((m : ℕ) → turn m best ≡ best) → in_turn turn n best ≡ best
+in_turn_stays : (turn : ℕ → Option Placement → Option Placement) (n : ℕ) (best : Option Placement) → ((m : ℕ) → turn m best ≡ best) → in_turn turn n best ≡ best
 in_turn_stays turn zero best stays = refl
 in_turn_stays turn (suc n) best stays = ap (turn n) (in_turn_stays turn n best stays) ∙ stays n
 
-best_stays : (t : Test) (present : List Bool) (n left : ℕ) (ms : List ℕ) (best : Option Chosen) → AreApart ms
+best_stays : (t : Test) (present : List Bool) (n left : ℕ) (ms : List ℕ) (best : Option Placement) → AreApart ms
     → ((more : List ℕ) → length more ≡ left → AreApart (ms ++ more) → offered t present (ms ++ more) best ≡ best) → best_from t present n left ms best ≡ best
 unfolding best_from
 best_stays t present n zero ms best apart stays =
@@ -56,19 +56,19 @@ known_false (Some false) is = refl
 known_false None is = cc
 
 -- the condition fails, whoever the others are
-pub refuted : (t : Test) (present : List Bool) (n left members : ℕ) (ms : List ℕ) (best : Option Chosen) → IsTestOf members t → length ms + left ≡ members → AreApart ms → is_known_false (known t ms) ≡ true
+pub refuted : (t : Test) (present : List Bool) (n left members : ℕ) (ms : List ℕ) (best : Option Placement) → IsTestOf members t → length ms + left ≡ members → AreApart ms → is_known_false (known t ms) ≡ true
     → best_from t present n left ms best ≡ best
 refuted t present n left members ms best of whole apart fails =
     best_stays t present n left ms best apart
     (λ more len later. ap (λ b. cond (b && improves (flagged present (ms ++ more)) best) (Some (record { members = ms ++ more; kept = flagged present (ms ++ more) })) best)
     (known_is t members ms more of (omega (arith, length-append ms more)) false (known_false (known t ms) fails)))
 
-improves_less : (k l : ℕ) (best : Option Chosen) → k ≤ l → improves l best ≡ false → improves k best ≡ false
+improves_less : (k l : ℕ) (best : Option Placement) → k ≤ l → improves l best ≡ false → improves k best ≡ false
 improves_less k l None le is = cc
 improves_less k l (Some best) le is = le-ltb best.kept k (omega (arith, ltb-false best.kept l is))
 
 -- no more can be kept than by the best so far
-pub bounded : (t : Test) (present : List Bool) (n left most : ℕ) (ms : List ℕ) (best : Option Chosen) → AreApart ms → ((choice : List ℕ) → AreApart choice → flagged present choice ≤ most)
+pub bounded : (t : Test) (present : List Bool) (n left most : ℕ) (ms : List ℕ) (best : Option Placement) → AreApart ms → ((choice : List ℕ) → AreApart choice → flagged present choice ≤ most)
     → improves (min most (flagged present ms + left)) best ≡ false → best_from t present n left ms best ≡ best
 bounded t present n left most ms best apart few full =
     best_stays t present n left ms best apart
@@ -79,7 +79,7 @@ bounded t present n left most ms best apart few full =
     ∙ ap (λ b. cond b (Some (record { members = ms ++ more; kept = flagged present (ms ++ more) })) best) (and-false (passes t (ms ++ more))))
 
 -- a whole choice that doesn't fail and keeps more is the best
-pub taken : (t : Test) (present : List Bool) (n left members most : ℕ) (ms : List ℕ) (best : Option Chosen) → IsTestOf members t → length ms ≡ members → left ≡ 0 → is_known_false (known t ms) ≡ false
+pub taken : (t : Test) (present : List Bool) (n left members most : ℕ) (ms : List ℕ) (best : Option Placement) → IsTestOf members t → length ms ≡ members → left ≡ 0 → is_known_false (known t ms) ≡ false
     → improves (min most (flagged present ms + left)) best ≡ true → best_from t present n left ms best ≡ Some (record { members = ms; kept = flagged present ms })
 unfolding best_from
 taken t present n left members most ms best of whole none fails more =
@@ -97,7 +97,7 @@ taken t present n left members most ms best of whole none fails more =
         by_answer false is = absurd (true≢false (sym more ∙ improves_less (min most (flagged present ms + left)) (flagged present ms) best (omega (arith, min-le_right most (flagged present ms + left))) is))
 
 -- where members are lacking each machine has its turn
-pub turns : (t : Test) (present : List Bool) (n left rest : ℕ) (ms : List ℕ) (best : Option Chosen) → left ≡ suc rest
+pub turns : (t : Test) (present : List Bool) (n left rest : ℕ) (ms : List ℕ) (best : Option Placement) → left ≡ suc rest
     → best_from t present n left ms best ≡ in_turn (λ m b. cond (is_among ms m) b (best_from t present n rest (ms ++ m ∷ []) b)) n best
 unfolding best_from
 turns t present n left rest ms best some = ap (λ l. best_from t present n l ms best) some

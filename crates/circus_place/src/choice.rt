@@ -14,14 +14,14 @@ use std::alloc::Global;
 /// The machines of the members, in their order, and how many members stay where one is present. Machines
 /// are numbered from 0.
 #[derive(Debug, Drop)]
-pub struct Chosen {
+pub struct Placement {
     pub members: Numbers,
     pub kept: u16,
 }
 
 /// The best choice of machines: of those of which the condition holds one that keeps most, and of these the
 /// first in the order of lists of numbers (docs/LANGUAGE.md, "Placing"). `None` where it holds of none.
-pub fn place(alloc: Global, placing: &Placing) -> Result<Option<Chosen>, NoMemory>
+pub fn place(alloc: Global, placing: &Placing) -> Result<Option<Placement>, NoMemory>
     requires { Obeys placing.now }
     ensures best { IfOk result (λ answer. IfSome answer (λ chosen. IsBest placing.now chosen.members)) }
     ensures kept { IfOk result (λ answer. IfSome answer (λ chosen. chosen.kept ≡ kept_by placing.now chosen.members)) }

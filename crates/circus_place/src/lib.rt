@@ -12,5 +12,5 @@ mod relation;
 mod search;
 mod test;
 
-pub use choice::{Chosen, place};
+pub use choice::{Placement, place};
 pub use circus_placing_text::{PlaceCause, PlaceFault, read_place};

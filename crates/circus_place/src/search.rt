@@ -1,10 +1,10 @@
 // The search for the best choice.
 ghost use Rattle.std.specs.Prelude.{◌≡◌, ◌+◌, ◌-◌, ◌<◌, ◌≤◌, ◌∷◌, [], ◌++◌, min, length, vec_len, IfOk, OnOk, if◌then◌else◌};
-ghost use Rattle.circus_place.specs.declared.choice.Chosen.{Chosen};
+ghost use Rattle.circus_place.specs.declared.choice.Placement.{Placement};
 ghost use Rattle.circus_value.specs.Among.{is_among};
 ghost use Rattle.circus_place.specs.Seen.Search.{flagged, improves, AreApart, best_from, IsReady};
 
-use crate::choice::Chosen;
+use crate::choice::Placement;
 use crate::relation::flag_at;
 use crate::test::Test;
 use circus_value::{ListOf, NoMemory, Numbers};
@@ -31,7 +31,7 @@ impl Search<'_> {
         &self,
         members: &mut Vec<u16>,
         kept: usize,
-        best: &mut Option<Chosen>,
+        best: &mut Option<Placement>,
     ) -> Result<(), NoMemory>
         requires ready { IsReady self.now }
         requires fits { vec_len members.old ≤ self.now.size }
@@ -60,7 +60,7 @@ impl Search<'_> {
         machine: u16,
         members: &mut Vec<u16>,
         kept: usize,
-        best: &mut Option<Chosen>,
+        best: &mut Option<Placement>,
     ) -> Result<(), NoMemory>
         requires ready { IsReady self.now }
         requires fits { vec_len members.old < self.now.size }
@@ -81,7 +81,7 @@ impl Search<'_> {
     }
 
     // Whether a choice that begins with so many members, of whom so many are kept, can keep more than the best.
-    fn can_improve(&self, members: usize, kept: usize, best: &Option<Chosen>) -> bool
+    fn can_improve(&self, members: usize, kept: usize, best: &Option<Placement>) -> bool
         requires ready { IsReady self.now }
         requires fits { members ≤ self.now.size }
         requires few { kept ≤ members }
@@ -93,13 +93,13 @@ impl Search<'_> {
         }
     }
 
-    fn chosen(&self, members: &[u16], kept: usize) -> Result<Chosen, NoMemory>
+    fn chosen(&self, members: &[u16], kept: usize) -> Result<Placement, NoMemory>
         requires { kept ≤ 5 }
         ensures { IfOk result (λ chosen. chosen ≡ record { members = members.now; kept = kept }) }
     {
         let mut numbers = Numbers::new(self.alloc);
         numbers.append(members)?;
-        Ok(Chosen {
+        Ok(Placement {
             members: numbers,
             kept: kept as u16,
         })

@@ -7,7 +7,7 @@ use Rattle.circus_config.specs.declared.plan.Plan.{Plan}
 use Rattle.circus_config.specs.Program.{IsProgramOf}
 use Rattle.circus_program.specs.declared.answer.Step.TheVariants.{Finish, Lack, Replay, Serve}
 use Rattle.circus_ending.specs.declared.one_file.OneFile.TheVariants.{Stubs, Run, Place}
-use Rattle.circus_program.specs.Form.{Form, stubs, run, node, sample, place, IsOfForm}
+use Rattle.circus_program.specs.Form.{CommandForm, stubs, run, node, sample, place, IsOfForm}
 use Rattle.circus_program.specs.declared.answer.Command.{Command}
 use Rattle.circus_program.specs.declared.answer.Command.TheVariants.{End, OfPlan}
 use Rattle.circus_program.specs.declared.answer.Task.TheVariants.{Sample, Node}
@@ -79,9 +79,9 @@ due-of_command shelf words (OfPlan (Sample seed steps)) file due of h =
 due-of_command shelf words (OfPlan (Node name turns)) file due of h =
     inl (record { form = node file name.now turns; of_form = of; files = h.files; fetched = h.fetched; is_due = h.is_due })
 
-pub result-of_command : {E : Type 0} (shelf : Option (List ℕ → Option (List ℕ))) (words : List (List ℕ)) (form : Form) (command : Command) (file : List ℕ) (r : Result Step E)
+pub result-of_command : {E : Type 0} (shelf : Option (List ℕ → Option (List ℕ))) (words : List (List ℕ)) (form : CommandForm) (command : Command) (file : List ℕ) (r : Result Step E)
     → IsOfForm words form → form ≡ file_form command file → IfOk r (λ step. IsStepOfFile shelf file (IsDueOfCommand command) (due_of step)) → IfOk r (λ step. IsDue shelf words (due_of step))
-result-of_command shelf words form command file (Ok step) of is h = due-of_command shelf words command file (due_of step) (subst (λ (f : Form). IsOfForm words f) is of) h
+result-of_command shelf words form command file (Ok step) of is h = due-of_command shelf words command file (due_of step) (subst (λ (f : CommandForm). IsOfForm words f) is of) h
 result-of_command shelf words form command file (Err e) of is h = tt
 
 -- and asks for its file alone
@@ -93,9 +93,9 @@ asks-of_file old new words (End Place) file of h = inl (record { form = place fi
 asks-of_file old new words (OfPlan (Sample seed steps)) file of h = inl (record { form = sample file seed steps; of_form = of; asks = h })
 asks-of_file old new words (OfPlan (Node name turns)) file of h = inl (record { form = node file name.now turns; of_form = of; asks = h })
 
-pub asks-of_command : (old new : Option (List (List ℕ))) (words : List (List ℕ)) (form : Form) (command : Command) (file : List ℕ) → IsOfForm words form → form ≡ file_form command file
+pub asks-of_command : (old new : Option (List (List ℕ))) (words : List (List ℕ)) (form : CommandForm) (command : Command) (file : List ℕ) → IsOfForm words form → form ≡ file_form command file
     → AsksFirstOf old new (file ∷ []) → AsksOnly old new words
-asks-of_command old new words form command file of is h = asks-of_file old new words command file (subst (λ (f : Form). IsOfForm words f) is of) h
+asks-of_command old new words form command file of is h = asks-of_file old new words command file (subst (λ (f : CommandForm). IsOfForm words f) is of) h
 
 -- what comes of the plan of a program is due of its bytes
 pub bytes-good : {E : Type 0} (program : List ℕ) (plan : Plan) (IsNext : Plan → Due → Type 0) (r : Result Step E) → IsProgramOf program plan

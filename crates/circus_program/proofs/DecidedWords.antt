@@ -1,7 +1,7 @@
 -- Whether words are of a form can be told.
 use Rattle.std.proofs.Common.{◌≡◌, ◌≢◌, ℕ, ◌^◌, ◌⊎◌, ◌∙◌, inl, inr, List, [], ◌∷◌, subst, ap, refl, arith, codes}
 use Rattle.std.specs.Fmt.{decimal}
-use Rattle.circus_program.specs.Form.{Form, stubs, run, replay, node, sample, settle, place, audit, IsOfForm, IsOfNoForm}
+use Rattle.circus_program.specs.Form.{CommandForm, stubs, run, replay, node, sample, settle, place, audit, IsOfForm, IsOfNoForm}
 use Rattle.circus_program.proofs.Decided.{IsDecided, decided_as, decided_both, same_bytes, Some_below, decided_number}
 
 -- ---- so many words behind a command
@@ -71,15 +71,15 @@ abbrev IsSampled : List ℕ → List ℕ → List ℕ → Type 0
 IsSampled program seed steps = IsFile program × (Some_below (λ n. seed ≡ decimal n) (2 ^ 64) × Some_below (λ n. steps ≡ decimal n) 200001)
 
 module _ (words : List (List ℕ)) where
-  settled : Three IsSettled (codes "settle") words → (form : Form) × IsOfForm words form
+  settled : Three IsSettled (codes "settle") words → (form : CommandForm) × IsOfForm words form
   settled (program, count, spelled, (some, (n, low, is))) =
       (settle program n, record { spelled = spelled ∙ ap (λ w. codes "settle" ∷ program ∷ w ∷ []) is; in_range = (some, omega (arith, low)) })
 
-  noded : Four IsNode (codes "node") words → (form : Form) × IsOfForm words form
+  noded : Four IsNode (codes "node") words → (form : CommandForm) × IsOfForm words form
   noded (program, name, turns, spelled, (some, (n, low, is))) =
       (node program name n, record { spelled = spelled ∙ ap (λ w. codes "node" ∷ program ∷ name ∷ w ∷ []) is; in_range = (some, omega (arith, low)) })
 
-  sampled : Four IsSampled (codes "sample") words → (form : Form) × IsOfForm words form
+  sampled : Four IsSampled (codes "sample") words → (form : CommandForm) × IsOfForm words form
   sampled (program, seed, steps, spelled, (some, ((n, low, is), (m, few, are)))) =
       (sample program n m, record { spelled = spelled ∙ ap (λ w. codes "sample" ∷ program ∷ w ∷ steps ∷ []) is ∙ ap (λ w. codes "sample" ∷ program ∷ decimal n ∷ w ∷ []) are; in_range = (some, low, omega (arith, few)) })
 
@@ -87,7 +87,7 @@ module _ (words : List (List ℕ)) where
   of_none : (Two IsFile (codes "stubs") words → ⊥) → (Two IsFile (codes "run") words → ⊥) → (Three AreFiles (codes "replay") words → ⊥) → (Four IsNode (codes "node") words → ⊥) → (Four IsSampled (codes "sample") words → ⊥) → (Three IsSettled (codes "settle") words → ⊥) → (Two IsFile (codes "place") words → ⊥) → (Three AreFiles (codes "audit") words → ⊥) → IsOfNoForm words
   of_none no_stubs no_run no_replay no_node no_sample no_settle no_place no_audit = each
     where
-      each : (form : Form) → IsOfForm words form → ⊥
+      each : (form : CommandForm) → IsOfForm words form → ⊥
       each (stubs program) is = no_stubs (program, is.spelled, is.in_range)
       each (run program) is = no_run (program, is.spelled, is.in_range)
       each (replay program schedule) is = no_replay (program, schedule, is.spelled, is.in_range)
@@ -97,7 +97,7 @@ module _ (words : List (List ℕ)) where
       each (place placing) is = no_place (placing, is.spelled, is.in_range)
       each (audit program «record») is = no_audit (program, «record», is.spelled, is.in_range)
 
-  pub decided_form : ((form : Form) × IsOfForm words form) ⊎ IsOfNoForm words
+  pub decided_form : ((form : CommandForm) × IsOfForm words form) ⊎ IsOfNoForm words
   decided_form = elim (decided_two IsFile file (codes "stubs") words) [
     | inl (program, spelled, some) ↦ inl (stubs program, record { spelled = spelled; in_range = some })
     | inr no_stubs ↦ elim (decided_two IsFile file (codes "run") words) [

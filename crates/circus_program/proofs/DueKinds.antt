@@ -5,11 +5,11 @@ use Rattle.circus_ending.specs.declared.status.Status.TheVariants.{BadCommandLin
 use Rattle.circus_ending.specs.declared.one_file.OneFile.{OneFile}
 use Rattle.circus_ending.specs.declared.one_file.OneFile.TheVariants.{Stubs, Run, Place}
 use Rattle.circus_ending.specs.Ending.{Ending}
-use Rattle.circus_program.specs.Form.{Form, stubs, run, replay, node, sample, settle, place, audit, IsOfForm}
+use Rattle.circus_program.specs.Form.{CommandForm, stubs, run, replay, node, sample, settle, place, audit, IsOfForm}
 use Rattle.circus_program.specs.Answer.{Due, fetch, finish, serve, IsDueOfRefused, IsDueOfSchedule, IsDueOfReplay, IsDueOfFile, IsDueOfEnd, IsDueOfProgram, IsDueOfSample, IsDueOfNode, IsDueUnbuilt, IsDueOfForm, IsDue, AsksForNode}
 use Rattle.circus_program.proofs.Why.{never_ends, never_replays, never_drawn, ends_as}
 
-abbrev IsNode : Form → Type 0
+abbrev IsNode : CommandForm → Type 0
 IsNode (node _ _ _) = Unit {0}
 IsNode (stubs _) = ⊥
 IsNode (run _) = ⊥
@@ -19,12 +19,12 @@ IsNode (settle _ _) = ⊥
 IsNode (place _) = ⊥
 IsNode (audit _ _) = ⊥
 
-data Kind (form : Form) (due : Due) : Type 0 where
+data Kind (form : CommandForm) (due : Due) : Type 0 where
   fetches : (name : List ℕ) → due ≡ fetch name → Kind form due
   finishes : (ending : Ending) → due ≡ finish ending → (ending.status ≡ LinkFault → ⊥) → Kind form due
   serves : (plan : Plan) (number turns : ℕ) → due ≡ serve plan number turns → IsNode form → Kind form due
 
-module _ (form : Form) where
+module _ (form : CommandForm) where
   of_refused : (bytes : List ℕ) (due : Due) → IsDueOfRefused bytes due → Kind form due
   of_refused bytes due (ending, (number, cause, refusal, means), is) =
       finishes ending is (λ same. let clash : BadProgram ≡ LinkFault = sym (ap (λ (e : Ending). e.status) means) ∙ same in cc)
@@ -68,7 +68,7 @@ module _ (form : Form) where
   of_unbuilt [] due is = finishes _ is (λ same. let clash : NotBuilt ≡ LinkFault = same in cc)
   of_unbuilt (_ ∷ _) due is = absurd is
 
-kind_of : (form : Form) (files : List (List ℕ)) (due : Due) → IsDueOfForm form files due → Kind form due
+kind_of : (form : CommandForm) (files : List (List ℕ)) (due : Due) → IsDueOfForm form files due → Kind form due
 kind_of (replay program schedule) files due is = of_replay (replay program schedule) program schedule files due is
 kind_of (stubs program) files due is = of_command (stubs program) Stubs program files due is
 kind_of (run program) files due is = of_command (run program) Run program files due is
@@ -90,7 +90,7 @@ never_linked shelf words ending (inl some) same = by_kind (kind_of some.form som
     by_kind (finishes other is not_linked) = not_linked (ends_as LinkFault (finish ending) other is same)
     by_kind (serves plan number turns is own) = cc
 
-asks : (words : List (List ℕ)) (form : Form) → IsOfForm words form → IsNode form → AsksForNode words
+asks : (words : List (List ℕ)) (form : CommandForm) → IsOfForm words form → IsNode form → AsksForNode words
 asks words (node program name turns) of own = (program, name, turns, of)
 asks words (stubs _) of own = absurd own
 asks words (run _) of own = absurd own

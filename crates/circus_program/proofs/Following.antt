@@ -11,8 +11,8 @@ use Rattle.circus_record.specs.Naming.{Names, names_of}
 use Rattle.circus_schedule.specs.declared.line.Line.{Line}
 use Rattle.circus_alike.specs.Alike.{declared_of, turn_of}
 use Rattle.circus_world.specs.Alike.{world_as}
-use Rattle.circus_world.specs.declared.cause.Cause.{Cause}
-use Rattle.circus_world.specs.declared.cause.Cause.TheVariants.{NoDatagram, NotLive, NotCrashed, NotSpare, AlreadyJoined}
+use Rattle.circus_world.specs.declared.cause.LineCause.{LineCause}
+use Rattle.circus_world.specs.declared.cause.LineCause.TheVariants.{NoDatagram, NotLive, NotCrashed, NotSpare, AlreadyJoined}
 use Rattle.circus_world.specs.WorldState.{WorldState}
 use Rattle.circus_world.specs.Legal.{refusal}
 use Rattle.circus_world.specs.Course.{stepped}
@@ -35,7 +35,7 @@ use Rattle.circus_program.proofs.OneLine.{replayed_stepped, replayed_spent, repl
 use Rattle.circus_program.proofs.Pieces.{IsBegun, begun-none, begun-as, begun-more, part-left, part-next, put-left}
 
 -- a cause names nodes alone
-cause_same : (hosts : List Host) (modules : List (List ℕ)) (cause : Cause) → cause_text (names_of hosts []) cause ≡ cause_text (names_of hosts modules) cause
+cause_same : (hosts : List Host) (modules : List (List ℕ)) (cause : LineCause) → cause_text (names_of hosts []) cause ≡ cause_text (names_of hosts modules) cause
 cause_same hosts modules (NoDatagram number sent) = refl
 cause_same hosts modules (NotLive node) = refl
 cause_same hosts modules (NotCrashed node) = refl

@@ -15,7 +15,7 @@ use Rattle.circus_ending.specs.declared.one_file.OneFile.TheVariants.{Stubs, Run
 use Rattle.circus_ending.specs.Ending.{Ending}
 use Rattle.circus_ending.proofs.OneProgram.{refused_one, good_or_refused}
 use Rattle.circus_ending.proofs.OneEnding.{end_one}
-use Rattle.circus_program.specs.Form.{Form, stubs, run, replay, node, sample, settle, place, audit, words_of, files_of, IsInRange, IsOfForm}
+use Rattle.circus_program.specs.Form.{CommandForm, stubs, run, replay, node, sample, settle, place, audit, words_of, files_of, IsInRange, IsOfForm}
 use Rattle.circus_program.specs.Replay.{IsReplayOf, IsEndOfReplay}
 use Rattle.circus_program.specs.Answer.{Due, fetch, finish, serve, not_built, IsDueOfSchedule, IsDueOfReplay, IsDueOfFile, IsDueOfEnd, IsDueOfProgram, IsDueOfSample, IsDueOfNode, IsDueUnbuilt, IsDueOfForm, AreContents, IsDue}
 use Rattle.circus_program.specs.Last.{IsLast, IsDueLast}
@@ -54,7 +54,7 @@ data Asked : Type 0 where
   sampling : List ℕ → List ℕ → List ℕ → Asked
   unbuilt : Asked
 
-abbrev asked_by : Form → Asked
+abbrev asked_by : CommandForm → Asked
 asked_by (replay program schedule) = replaying program schedule
 asked_by (place placing) = reading Place placing
 asked_by (stubs program) = reading Stubs program
@@ -73,7 +73,7 @@ asked_of (command ∷ program ∷ first ∷ second ∷ []) =
     cond (bytes_eq command (codes "node")) (serving program first second) (cond (bytes_eq command (codes "sample")) (sampling program first second) unbuilt)
 asked_of _ = unbuilt
 
-asked_is : (form : Form) → asked_of (words_of form) ≡ asked_by form
+asked_is : (form : CommandForm) → asked_of (words_of form) ≡ asked_by form
 asked_is (replay _ _) = refl
 asked_is (place _) = refl
 asked_is (stubs _) = refl
@@ -91,7 +91,7 @@ spelled_once : (word : List ℕ) (one other : ℕ) → Spells word one → Spell
 spelled_once word one other (is, small) (also, low) = decimal_injective one other small low (sym is ∙ also)
 
 -- words ask for one thing
-asked_one : (words : List (List ℕ)) (one other : Form) → IsOfForm words one → IsOfForm words other → asked_by one ≡ asked_by other
+asked_one : (words : List (List ℕ)) (one other : CommandForm) → IsOfForm words one → IsOfForm words other → asked_by one ≡ asked_by other
 asked_one words one other first second =
     sym (asked_is one) ∙ ap asked_of (sym first.spelled ∙ second.spelled) ∙ asked_is other
 
@@ -112,7 +112,7 @@ module _ (contents : List ℕ → Option (List ℕ)) where
   OfProgram program IsNext due = OfFile program (IsDueOfProgram IsNext) due
 
   -- what comes at last of a form, and of what is asked for
-  abbrev pub OfWords : Form → Due → Type 0
+  abbrev pub OfWords : CommandForm → Due → Type 0
   OfWords (replay program schedule) due = OfProgram program (OfSchedule schedule) due
   OfWords (place placing) due = OfFile placing (IsDueOfEnd Place) due
   OfWords (stubs program) due = OfFile program (IsDueOfEnd Stubs) due
@@ -151,7 +151,7 @@ module _ (contents : List ℕ → Option (List ℕ)) where
   of_unbuilt [] due is = is
   of_unbuilt (_ ∷ _) due is = absurd is
 
-  pub of_form : (form : Form) (files : List (List ℕ)) (due : Due) → AreContents contents (files_of form) files → IsDueOfForm form files due → IsLast contents due → OfWords form due
+  pub of_form : (form : CommandForm) (files : List (List ℕ)) (due : Due) → AreContents contents (files_of form) files → IsDueOfForm form files due → IsLast contents due → OfWords form due
   of_form (replay program schedule) files due fetched is last = of_replay program schedule files due fetched is last
   of_form (place file) files due fetched is last = of_file file (IsDueOfEnd Place) files due fetched is last
   of_form (stubs file) files due fetched is last = of_file file (IsDueOfEnd Stubs) files due fetched is last
@@ -161,7 +161,7 @@ module _ (contents : List ℕ → Option (List ℕ)) where
   of_form (settle _ _) files due fetched is last = of_unbuilt files due is
   of_form (audit _ _) files due fetched is last = of_unbuilt files due is
 
-  of_asked : (form : Form) (due : Due) → IsInRange form → OfWords form due → OfAsked (asked_by form) due
+  of_asked : (form : CommandForm) (due : Due) → IsInRange form → OfWords form due → OfAsked (asked_by form) due
   of_asked (replay program schedule) due range of = of
   of_asked (place file) due range of = of
   of_asked (stubs file) due range of = of

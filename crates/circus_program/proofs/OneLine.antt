@@ -7,7 +7,7 @@ use Rattle.circus_model.specs.NextTurn.{NextTurn}
 use Rattle.circus_model.specs.declared.signature.Signature.{Signature}
 use Rattle.circus_record.specs.Naming.{Names}
 use Rattle.circus_schedule.specs.declared.line.Line.{Line}
-use Rattle.circus_world.specs.declared.cause.Cause.{Cause}
+use Rattle.circus_world.specs.declared.cause.LineCause.{LineCause}
 use Rattle.circus_world.specs.WorldState.{WorldState}
 use Rattle.circus_world.specs.Legal.{refusal}
 use Rattle.circus_world.specs.Course.{Stepped, stepped}
@@ -25,7 +25,7 @@ module _ {M : Type 0} (declared : M → Signature) (turn : M → List ValueTree 
   replayed_legal : (names : Names) (number : ℕ) (line : Line) (lines : List Line) (w : WorldState M) → refusal w line ≡ None
       → replayed declared turn names number (line ∷ lines) w ≡ after_line names number lines w (stepped declared turn line w)
   replayed_legal names number line lines w legal =
-      ap (λ (o : Option Cause). option_map_or (λ cause. refused number (cause_text names cause)) o (after_line names number lines w (stepped declared turn line w))) legal
+      ap (λ (o : Option LineCause). option_map_or (λ cause. refused number (cause_text names cause)) o (after_line names number lines w (stepped declared turn line w))) legal
 
   pub replayed_stepped : (names : Names) (number : ℕ) (line : Line) (lines : List Line) (w next : WorldState M) → refusal w line ≡ None → stepped declared turn line w ≡ Ok next
       → replayed declared turn names number (line ∷ lines) w ≡ behind (sent_from (length w.sent) next) (replayed declared turn names (number + 1) lines next)
@@ -35,7 +35,7 @@ module _ {M : Type 0} (declared : M → Signature) (turn : M → List ValueTree 
       → replayed declared turn names number (line ∷ lines) w ≡ spent names nodes
   replayed_spent names number line lines w nodes legal is = replayed_legal names number line lines w legal ∙ ap (after_line names number lines w) is
 
-  pub replayed_refused : (names : Names) (number : ℕ) (line : Line) (lines : List Line) (w : WorldState M) (cause : Cause) → refusal w line ≡ Some cause
+  pub replayed_refused : (names : Names) (number : ℕ) (line : Line) (lines : List Line) (w : WorldState M) (cause : LineCause) → refusal w line ≡ Some cause
       → replayed declared turn names number (line ∷ lines) w ≡ refused number (cause_text names cause)
   replayed_refused names number line lines w cause is =
-      ap (λ (o : Option Cause). option_map_or (λ cause. refused number (cause_text names cause)) o (after_line names number lines w (stepped declared turn line w))) is
+      ap (λ (o : Option LineCause). option_map_or (λ cause. refused number (cause_text names cause)) o (after_line names number lines w (stepped declared turn line w))) is

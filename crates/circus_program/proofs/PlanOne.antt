@@ -4,7 +4,7 @@ use Rattle.std.specs.List.{AllByRecursion}
 use Rattle.std.proofs.Math.Logic.{∥∥₁_prop}
 use Rattle.circus_idl.specs.declared.interface.Interface.{Interface}
 use Rattle.circus_idl.specs.Obeys.{Obeys}
-use Rattle.circus_check.specs.declared.checked.Body.{Body}
+use Rattle.circus_check.specs.declared.checked.CheckedBody.{CheckedBody}
 use Rattle.circus_check.specs.declared.checked.Checked.{Checked}
 use Rattle.circus_check.specs.declared.checked.ResolvedModule.{ResolvedModule}
 use Rattle.circus_check.specs.Meaning.{BodyMeant, ModuleMeant}
@@ -16,13 +16,13 @@ use Rattle.circus_config.proofs.OneAnswer.{plan_one}
 
 -- ---- modules that mean the same are the same
 
-body_of : BodyMeant → Body
+body_of : BodyMeant → CheckedBody
 body_of b = record { locals = b.locals; statements = b.statements }
 
 module_of : ModuleMeant → ResolvedModule
 module_of m = record { name = m.name; root = m.root; interface = m.interface; imports = m.imports; variables = m.variables; bodies = map body_of m.bodies }
 
-bodies_of : (bs : List Body) → map body_of (map body_as bs) ≡ bs
+bodies_of : (bs : List CheckedBody) → map body_of (map body_as bs) ≡ bs
 unfolding body_of
 bodies_of [] = refl
 bodies_of (b ∷ bs) = ap (λ l. b ∷ l) (bodies_of bs)

@@ -16,7 +16,7 @@ use Rattle.circus_record.specs.Naming.{Names}
 use Rattle.circus_node.specs.NodeState.{Acting, member, ringmaster, member_record, ring_views}
 use Rattle.circus_alike.specs.Alike.{declared_of, turn_of, acting_as}
 use Rattle.circus_schedule.specs.declared.line.Line.{Line}
-use Rattle.circus_world.specs.declared.cause.Cause.{Cause}
+use Rattle.circus_world.specs.declared.cause.LineCause.{LineCause}
 use Rattle.circus_world.specs.WorldState.{WorldState, Standing}
 use Rattle.circus_world.specs.Legal.{refusal}
 use Rattle.circus_world.specs.Course.{Stepped, stepped}
@@ -90,7 +90,7 @@ module _ {M : Type 0} (declared : M → Signature) (turn : M → List ValueTree 
   replayed_as names number (line ∷ lines) w =
       let next : WorldState M → Ending = λ after. behind (sent_from (length w.sent) after) (replayed declared turn names (number + 1) lines after) in
       let also : WorldState Behaviour → Ending = λ after. behind (sent_from (length w.sent) after) (replayed declared_of turn_of names (number + 1) lines after) in
-      let unless : Option Cause → Ending → Ending = λ o e. option_map_or (λ cause. refused number (cause_text names cause)) o e in
+      let unless : Option LineCause → Ending → Ending = λ o e. option_map_or (λ cause. refused number (cause_text names cause)) o e in
       ap (unless (refusal w line)) (
       after_as names next also (λ after. ap (behind (sent_from (length w.sent) after)) (replayed_as names (number + 1) lines after)) (stepped declared turn line w)
       ∙ ap (after_step names also) (world_stepped_as declared turn first line w))

@@ -4,14 +4,14 @@ use Rattle.circus_config.specs.declared.plan.Plan.{Plan}
 use Rattle.circus_config.specs.Program.{IsProgramOf}
 use Rattle.circus_simulated.specs.Sample.{sample_of}
 use Rattle.circus_served.specs.Named.{no_node}
-use Rattle.circus_program.specs.Form.{Form, stubs, run, replay, node, sample, settle, place, audit, files_of, IsOfForm}
+use Rattle.circus_program.specs.Form.{CommandForm, stubs, run, replay, node, sample, settle, place, audit, files_of, IsOfForm}
 use Rattle.circus_program.specs.Answer.{Due, fetch, finish, serve, not_built, bad_command_line, IsDueOfForm, AreContents}
 use Rattle.circus_program.specs.Last.{IsLast, IsDueLast, file_read, IsToBeRead, IsScheduleAnswered, IsAnswered}
 use Rattle.circus_program.proofs.DecidedWords.{decided_form}
 use Rattle.circus_program.proofs.NamedOnce.{decided_named}
 
 module _ (contents : List ℕ → Option (List ℕ)) where
-  record Comes (form : Form) : Type 0 where
+  record Comes (form : CommandForm) : Type 0 where
     due : Due
     files : List (List ℕ)
     fetched : AreContents contents (files_of form) files
@@ -19,22 +19,22 @@ module _ (contents : List ℕ → Option (List ℕ)) where
     last : IsLast contents due
 
   -- a form that has these words
-  due_of : (words : List (List ℕ)) (form : Form) → IsOfForm words form → Comes form → (due : Due) × IsDueLast contents words due
+  due_of : (words : List (List ℕ)) (form : CommandForm) → IsOfForm words form → Comes form → (due : Due) × IsDueLast contents words due
   due_of words form of c = (c.due, record { is_due = inl (record { form = form; of_form = of; files = c.files; fetched = c.fetched; is_due = c.is_due }); last = c.last })
 
   -- ---- the first file isn't there, or is to be read
 
-  abbrev IsThere : Form → Type 0
+  abbrev IsThere : CommandForm → Type 0
   IsThere form = (name : List ℕ) × (bytes : List ℕ) × (file_read form ≡ Some name) × (contents name ≡ Some bytes)
 
-  first_file : (form : Form) (name : List ℕ) → file_read form ≡ Some name → (contents name ≡ None → Comes form) → Comes form ⊎ IsThere form
+  first_file : (form : CommandForm) (name : List ℕ) → file_read form ≡ Some name → (contents name ≡ None → Comes form) → Comes form ⊎ IsThere form
   first_file form name first absent =
       elim (contents name) as (λ o. contents name ≡ o → Comes form ⊎ IsThere form) [
         | None ↦ λ none. inl (absent none)
         | Some bytes ↦ λ there. inr (name, bytes, first, there)
       ] refl
 
-  comes_to : (form : Form) → Comes form ⊎ IsThere form
+  comes_to : (form : CommandForm) → Comes form ⊎ IsThere form
   comes_to (replay program schedule) = first_file (replay program schedule) program refl (λ none. record { due = fetch program; files = []; fetched = tt; is_due = refl; last = none })
   comes_to (place placing) = first_file (place placing) placing refl (λ none. record { due = fetch placing; files = []; fetched = tt; is_due = refl; last = none })
   comes_to (stubs program) = first_file (stubs program) program refl (λ none. record { due = fetch program; files = []; fetched = tt; is_due = refl; last = none })
@@ -83,7 +83,7 @@ module _ (contents : List ℕ → Option (List ℕ)) where
   same_name : (name other bytes : List ℕ) → Some other ≡ Some name → contents name ≡ Some bytes → contents other ≡ Some bytes
   same_name name other bytes first there = let same : other ≡ name = cc in subst (λ n. contents n ≡ Some bytes) (sym same) there
 
-  comes_read : (form : Form) (name bytes : List ℕ) → file_read form ≡ Some name → contents name ≡ Some bytes → IsAnswered contents form bytes → Comes form
+  comes_read : (form : CommandForm) (name bytes : List ℕ) → file_read form ≡ Some name → contents name ≡ Some bytes → IsAnswered contents form bytes → Comes form
   comes_read (replay program schedule) name bytes first there (inl (plan, means, answered)) =
       read_schedule program schedule bytes plan (same_name name program bytes first there) means answered
   comes_read (replay program schedule) name bytes first there (inr (ending, refused)) =

@@ -5,7 +5,7 @@ use Rattle.circus_schedule.specs.Meaning.{numbers_of}
 use Rattle.circus_schedule.specs.Answer.{IsAnswer}
 use Rattle.circus_ending.specs.declared.status.Status.{Status}
 use Rattle.circus_ending.specs.declared.status.Status.TheVariants.{Done, BadCommandLine, BadProgram, BadSchedule, Spent, NotBuilt, BadPlacing, NoPlacement}
-use Rattle.circus_program.specs.Form.{Form, stubs, run, replay, node, sample, settle, place, audit, files_of, IsOfForm, IsOfNoForm}
+use Rattle.circus_program.specs.Form.{CommandForm, stubs, run, replay, node, sample, settle, place, audit, files_of, IsOfForm, IsOfNoForm}
 use Rattle.circus_ending.specs.Ending.{Ending}
 use Rattle.circus_config.specs.declared.plan.Plan.{Plan}
 use Rattle.circus_config.specs.declared.program_fault.ProgramCause.{ProgramCause}
@@ -139,12 +139,12 @@ data Comes (contents : List ℕ → Option (List ℕ)) (words : List (List ℕ))
   drawn : (plan : Plan) (seed steps : ℕ) → IsSample contents words plan seed steps → due ≡ finish (sample_of plan seed steps) → Comes contents words due
   served : (plan : Plan) (number turns : ℕ) → due ≡ serve plan number turns → Comes contents words due
   nameless : (name : List ℕ) → IsNameless contents words → due ≡ finish (no_node name) → Comes contents words due
-  refused : (form : Form) (program bytes : List ℕ) (ending : Ending) → IsOfForm words form → program_read form ≡ Some program → contents program ≡ Some bytes → IsEndOfRefused bytes ending → due ≡ finish ending → Comes contents words due
+  refused : (form : CommandForm) (program bytes : List ℕ) (ending : Ending) → IsOfForm words form → program_read form ≡ Some program → contents program ≡ Some bytes → IsEndOfRefused bytes ending → due ≡ finish ending → Comes contents words due
   ended : (command : OneFile) (file bytes : List ℕ) (ending : Ending) → IsOfForm words (end_form command file) → contents file ≡ Some bytes → IsEndOf command bytes ending → due ≡ finish ending → Comes contents words due
 
 module _ (contents : List ℕ → Option (List ℕ)) (words : List (List ℕ)) where
   -- of a program, where this comes of its plan
-  comes_program : (form : Form) (program : List ℕ) (IsNext : Plan → Due → Type 0) (due : Due) → IsOfForm words form → program_read form ≡ Some program
+  comes_program : (form : CommandForm) (program : List ℕ) (IsNext : Plan → Due → Type 0) (due : Due) → IsOfForm words form → program_read form ≡ Some program
       → ((bytes : List ℕ) (plan : Plan) → contents program ≡ Some bytes → IsProgramOf bytes plan → IsNext plan due → Comes contents words due) → OfProgram contents program IsNext due → Comes contents words due
   comes_program form program IsNext due of first next (inl (none, is)) = lacking program is
   comes_program form program IsNext due of first next (inr (bytes, there, inl (plan, good, behind))) = next bytes plan there good behind
@@ -164,7 +164,7 @@ module _ (contents : List ℕ → Option (List ℕ)) (words : List (List ℕ)) w
   comes_file command file due form (inl (none, is)) = lacking file is
   comes_file command file due form (inr (bytes, there, (ending, end, is))) = ended command file bytes ending form there end is
 
-  comes_form : (form : Form) (due : Due) → IsOfForm words form → OfWords contents form due → Comes contents words due
+  comes_form : (form : CommandForm) (due : Due) → IsOfForm words form → OfWords contents form due → Comes contents words due
   comes_form (replay program name) due form of =
       comes_program (replay program name) program (OfSchedule contents name) due form refl (λ bytes plan there good next. comes_schedule program name bytes plan due form there good next) of
   comes_form (place file) due form of = comes_file Place file due form of
@@ -201,7 +201,7 @@ module _ (contents : List ℕ → Option (List ℕ)) (words : List (List ℕ)) w
   why_words due (ended command file bytes ending form there end is) ends =
       absurd (never_ends BadCommandLine command bytes ending end (λ same. cc) (λ same. cc) (λ same. cc) (λ same. cc) (ends_as BadCommandLine due ending is ends))
 
-  refused_program : (form : Form) (program bytes : List ℕ) (ending : Ending) → IsOfForm words form → program_read form ≡ Some program → contents program ≡ Some bytes → IsEndOfRefused bytes ending → IsRefusedProgram contents words
+  refused_program : (form : CommandForm) (program bytes : List ℕ) (ending : Ending) → IsOfForm words form → program_read form ≡ Some program → contents program ≡ Some bytes → IsEndOfRefused bytes ending → IsRefusedProgram contents words
   refused_program form program bytes ending of program_is there (number, cause, refusal, is) =
       record { form = form; of_form = of; program = program; program_is = program_is; bytes = bytes; there = there; number = number; cause = cause; refused = refusal }
 
@@ -278,14 +278,14 @@ module _ (contents : List ℕ → Option (List ℕ)) (words : List (List ℕ)) w
   same_status : (status : Status) (due other : Due) → IsDueLast contents words due → IsDueLast contents words other → EndsWith status other → EndsWith status due
   same_status status due other is also ends = subst (EndsWith status) (sym (one_due contents words due other is also)) ends
 
-  due_of_form : (form : Form) (files : List (List ℕ)) (due : Due) → IsOfForm words form → AreContents contents (files_of form) files → IsDueOfForm form files due → IsLast contents due → IsDueLast contents words due
+  due_of_form : (form : CommandForm) (files : List (List ℕ)) (due : Due) → IsOfForm words form → AreContents contents (files_of form) files → IsDueOfForm form files due → IsLast contents due → IsDueLast contents words due
   due_of_form form files due of fetched is last = record { is_due = inl (record { form = form; of_form = of; files = files; fetched = fetched; is_due = is }); last = last }
 
   bad_words : (due : Due) → IsDueLast contents words due → IsOfNoForm words → EndsWith BadCommandLine due
   bad_words due is none =
       same_status BadCommandLine due bad_command_line is (record { is_due = inr (none, refl); last = tt }) refl
 
-  refused_due : (has : IsRefusedProgram contents words) (form : Form) → IsOfForm words form → program_read form ≡ Some has.program
+  refused_due : (has : IsRefusedProgram contents words) (form : CommandForm) → IsOfForm words form → program_read form ≡ Some has.program
       → IsDueLast contents words (finish (refused_with has.number has.cause))
   refused_due has form of is = by_form form of is
     where
@@ -295,7 +295,7 @@ module _ (contents : List ℕ → Option (List ℕ)) (words : List (List ℕ)) w
       found : (name : List ℕ) → Some name ≡ Some has.program → contents name ≡ Some has.bytes
       found name same = let is : name ≡ has.program = cc in subst (λ n. contents n ≡ Some has.bytes) (sym is) has.there
 
-      by_form : (f : Form) → IsOfForm words f → program_read f ≡ Some has.program → IsDueLast contents words (finish (refused_with has.number has.cause))
+      by_form : (f : CommandForm) → IsOfForm words f → program_read f ≡ Some has.program → IsDueLast contents words (finish (refused_with has.number has.cause))
       by_form (stubs program) of is = due_of_form (stubs program) (has.bytes ∷ []) (finish (refused_with has.number has.cause)) of (found program is, tt) (refused_with has.number has.cause, inr refusal, refl) tt
       by_form (run program) of is = due_of_form (run program) (has.bytes ∷ []) (finish (refused_with has.number has.cause)) of (found program is, tt) (refused_with has.number has.cause, inr refusal, refl) tt
       by_form (replay program name) of is = due_of_form (replay program name) (has.bytes ∷ []) (finish (refused_with has.number has.cause)) of (found program is, tt) (inr (refused_with has.number has.cause, refusal, refl)) tt
@@ -328,7 +328,7 @@ module _ (contents : List ℕ → Option (List ℕ)) (words : List (List ℕ)) w
       same_status Spent due (finish end) is other (sample_spent has.plan has.seed has.steps has.spent)
   spent due is (inl has) = replay_due Spent has.plan has.schedule due is has.replayed (ends_spent has.plan has.schedule has.lines has.read has.spent)
 
-  unbuilt_form : (form : Form) → IsUnbuilt form → IsDueOfForm form [] not_built
+  unbuilt_form : (form : CommandForm) → IsUnbuilt form → IsDueOfForm form [] not_built
   unbuilt_form (replay _ _) un = absurd un
   unbuilt_form (place _) un = absurd un
   unbuilt_form (stubs _) un = absurd un

@@ -3,7 +3,7 @@ use Rattle.std.specs.Prelude.{ℕ, ◌≡◌, ◌⊎◌, Option, Some, List, [],
 use Rattle.circus_outside.specs.Told.{told_more}
 use Rattle.circus_ending.specs.declared.status.Status.{Status}
 use Rattle.circus_ending.specs.declared.status.Status.TheVariants.{BadCommandLine, NotBuilt}
-use Rattle.circus_program.specs.Form.{Form, stubs, run, replay, node, sample, settle, place, audit, IsOfForm, IsOfNoForm, files_of}
+use Rattle.circus_program.specs.Form.{CommandForm, stubs, run, replay, node, sample, settle, place, audit, IsOfForm, IsOfNoForm, files_of}
 use Rattle.circus_ending.specs.Ending.{Ending}
 use Rattle.circus_program.specs.Replay.{IsEndOfReplay}
 use Rattle.circus_config.specs.declared.plan.Plan.{Plan}
@@ -78,7 +78,7 @@ IsDueUnbuilt [] due = due ≡ not_built
 IsDueUnbuilt (_ ∷ _) due = ⊥
 
 -- what is due of a form, once these of its files are fetched, in order
-abbrev pub IsDueOfForm : Form → List (List ℕ) → Due → Type 0
+abbrev pub IsDueOfForm : CommandForm → List (List ℕ) → Due → Type 0
 IsDueOfForm (replay program schedule) files due = IsDueOfReplay program schedule files due
 IsDueOfForm (stubs program) files due = IsDueOfFile program (IsDueOfEnd Stubs) files due
 IsDueOfForm (run program) files due = IsDueOfFile program (IsDueOfEnd Run) files due
@@ -100,7 +100,7 @@ AreFetchedOf shelf names files = IfSome shelf (λ contents. AreContents contents
 
 -- a form that the words have, and what is due of it once some of its files are fetched
 pub record IsDueOfSome (shelf : Option (List ℕ → Option (List ℕ))) (words : List (List ℕ)) (due : Due) : Type 0 where
-  pub form : Form
+  pub form : CommandForm
   pub of_form : IsOfForm words form
   pub files : List (List ℕ)
   pub fetched : AreFetchedOf shelf (files_of form) files
@@ -162,7 +162,7 @@ pub record AsksFirstOf (old new : Option (List (List ℕ))) (names : List (List 
 
 -- a form that the words have, of whose files the first were asked for
 pub record AsksOfForm (old new : Option (List (List ℕ))) (words : List (List ℕ)) : Type 0 where
-  pub form : Form
+  pub form : CommandForm
   pub of_form : IsOfForm words form
   pub asks : AsksFirstOf old new (files_of form)
 

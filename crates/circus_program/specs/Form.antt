@@ -3,26 +3,26 @@ use Rattle.std.specs.Prelude.{ℕ, ◌≡◌, ◌≢◌, ◌<◌, ◌≤◌, ◌
 use Rattle.std.specs.Fmt.{decimal}
 
 -- the words of a command line; files and names are byte lists
-pub data Form : Type 0 where
+pub data CommandForm : Type 0 where
   -- program
-  stubs : List ℕ → Form
+  stubs : List ℕ → CommandForm
   -- program
-  run : List ℕ → Form
+  run : List ℕ → CommandForm
   -- program, schedule
-  replay : List ℕ → List ℕ → Form
+  replay : List ℕ → List ℕ → CommandForm
   -- program, node's name, takes
-  node : List ℕ → List ℕ → ℕ → Form
+  node : List ℕ → List ℕ → ℕ → CommandForm
   -- program, seed, steps
-  sample : List ℕ → ℕ → ℕ → Form
+  sample : List ℕ → ℕ → ℕ → CommandForm
   -- program, deliveries
-  settle : List ℕ → ℕ → Form
+  settle : List ℕ → ℕ → CommandForm
   -- placing
-  place : List ℕ → Form
+  place : List ℕ → CommandForm
   -- program, record
-  audit : List ℕ → List ℕ → Form
+  audit : List ℕ → List ℕ → CommandForm
 
 -- what is written on the command line
-abbrev pub words_of : Form → List (List ℕ)
+abbrev pub words_of : CommandForm → List (List ℕ)
 words_of (stubs program) = codes "stubs" ∷ program ∷ []
 words_of (run program) = codes "run" ∷ program ∷ []
 words_of (replay program schedule) = codes "replay" ∷ program ∷ schedule ∷ []
@@ -45,7 +45,7 @@ abbrev pub most_deliveries : ℕ
 most_deliveries = 1000000
 
 -- files have names, and numbers are in their ranges
-abbrev pub IsInRange : Form → Type 0
+abbrev pub IsInRange : CommandForm → Type 0
 IsInRange (stubs program) = program ≢ []
 IsInRange (run program) = program ≢ []
 IsInRange (replay program schedule) = (program ≢ []) × (schedule ≢ [])
@@ -56,16 +56,16 @@ IsInRange (place placing) = placing ≢ []
 IsInRange (audit program «record») = (program ≢ []) × («record» ≢ [])
 
 -- the words are of this form
-pub record IsOfForm (words : List (List ℕ)) (form : Form) : Type 0 where
+pub record IsOfForm (words : List (List ℕ)) (form : CommandForm) : Type 0 where
   pub spelled : words ≡ words_of form
   pub in_range : IsInRange form
 
 -- the words are of no form
 abbrev pub IsOfNoForm : List (List ℕ) → Type 0
-IsOfNoForm words = (form : Form) → IsOfForm words form → ⊥
+IsOfNoForm words = (form : CommandForm) → IsOfForm words form → ⊥
 
 -- the files that a form names, in the order in which they are fetched
-abbrev pub files_of : Form → List (List ℕ)
+abbrev pub files_of : CommandForm → List (List ℕ)
 files_of (stubs program) = program ∷ []
 files_of (run program) = program ∷ []
 files_of (replay program schedule) = program ∷ schedule ∷ []

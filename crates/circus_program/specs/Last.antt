@@ -5,12 +5,12 @@ use Rattle.circus_schedule.specs.declared.line.Line.{Line}
 use Rattle.circus_schedule.specs.declared.schedule_fault.ScheduleFault.{ScheduleFault}
 use Rattle.circus_schedule.specs.Meaning.{numbers_of}
 use Rattle.circus_schedule.specs.Answer.{IsAnswer}
-use Rattle.circus_world.specs.declared.cause.Cause.{Cause}
+use Rattle.circus_world.specs.declared.cause.LineCause.{LineCause}
 use Rattle.circus_world.specs.WorldState.{WorldState}
 use Rattle.circus_world.specs.Legal.{refusal}
 use Rattle.circus_world.specs.Course.{stepped}
 use Rattle.circus_ending.specs.declared.status.Status.{Status}
-use Rattle.circus_program.specs.Form.{Form, stubs, run, replay, node, sample, settle, place, audit, IsOfForm}
+use Rattle.circus_program.specs.Form.{CommandForm, stubs, run, replay, node, sample, settle, place, audit, IsOfForm}
 use Rattle.circus_program.specs.Replay.{IsEndOfReplay}
 use Rattle.circus_sample.specs.Sampled.{sampled}
 use Rattle.circus_simulated.specs.Booted.{booted}
@@ -48,7 +48,7 @@ EndsWith status (serve plan number turns) = ⊥
 abbrev pub HasRefused : List Line → WorldState Behaviour → Type 0
 HasRefused [] w = ⊥
 HasRefused (line ∷ lines) w =
-    ((cause : Cause) × (refusal w line ≡ Some cause))
+    ((cause : LineCause) × (refusal w line ≡ Some cause))
     ⊎ ((refusal w line ≡ None) × (next : WorldState Behaviour) × (stepped (λ b. b.declared) (λ b. b.turn) line w ≡ Ok next) × HasRefused lines next)
 
 -- a node has no number left in the step of a line, once those before it were stepped
@@ -60,7 +60,7 @@ HasSpent (line ∷ lines) w =
     ⊎ ((next : WorldState Behaviour) × (stepped (λ b. b.declared) (λ b. b.turn) line w ≡ Ok next) × HasSpent lines next))
 
 -- the first file of a form that is built
-abbrev pub file_read : Form → Option (List ℕ)
+abbrev pub file_read : CommandForm → Option (List ℕ)
 file_read (stubs program) = Some program
 file_read (run program) = Some program
 file_read (replay program _) = Some program
@@ -72,7 +72,7 @@ file_read (audit _ _) = None
 
 -- it is there, and reading it is to answer
 pub record IsToBeRead (contents : List ℕ → Option (List ℕ)) (words : List (List ℕ)) : Type 0 where
-  pub form : Form
+  pub form : CommandForm
   pub of_form : IsOfForm words form
   pub name : List ℕ
   pub first : file_read form ≡ Some name
@@ -86,7 +86,7 @@ IsScheduleAnswered plan (Some schedule) = (ending : Ending) × IsEndOfReplay pla
 
 -- reading these bytes answers, and of a replay the schedule too: that they are a program or are refused, of a command of one
 -- file its end
-abbrev pub IsAnswered : (List ℕ → Option (List ℕ)) → Form → List ℕ → Type 0
+abbrev pub IsAnswered : (List ℕ → Option (List ℕ)) → CommandForm → List ℕ → Type 0
 IsAnswered contents (replay _ schedule) bytes =
     ((plan : Plan) × IsProgramOf bytes plan × IsScheduleAnswered plan (contents schedule)) ⊎ ((ending : Ending) × IsEndOfRefused bytes ending)
 IsAnswered contents (stubs _) bytes = (ending : Ending) × IsEndOf Stubs bytes ending
@@ -98,7 +98,7 @@ IsAnswered contents (settle _ _) bytes = ⊥
 IsAnswered contents (audit _ _) bytes = ⊥
 
 -- that file where it is a program
-abbrev pub program_read : Form → Option (List ℕ)
+abbrev pub program_read : CommandForm → Option (List ℕ)
 program_read (stubs program) = Some program
 program_read (run program) = Some program
 program_read (replay program _) = Some program
@@ -110,7 +110,7 @@ program_read (audit _ _) = None
 
 -- a program that is refused
 pub record IsRefusedProgram (contents : List ℕ → Option (List ℕ)) (words : List (List ℕ)) : Type 0 where
-  pub form : Form
+  pub form : CommandForm
   pub of_form : IsOfForm words form
   pub program : List ℕ
   pub program_is : program_read form ≡ Some program
@@ -182,7 +182,7 @@ pub record IsSpentSample (contents : List ℕ → Option (List ℕ)) (words : Li
   pub spent : HasSpentSample plan seed steps
 
 -- another form than those that are built
-abbrev pub IsUnbuilt : Form → Type 0
+abbrev pub IsUnbuilt : CommandForm → Type 0
 IsUnbuilt (replay _ _) = ⊥
 IsUnbuilt (place _) = ⊥
 IsUnbuilt (stubs _) = ⊥
@@ -194,4 +194,4 @@ IsUnbuilt (audit _ _) = Unit {0}
 
 -- the words are of a form that is not built
 abbrev pub IsNotBuilt : List (List ℕ) → Type 0
-IsNotBuilt words = (form : Form) × IsOfForm words form × IsUnbuilt form
+IsNotBuilt words = (form : CommandForm) × IsOfForm words form × IsUnbuilt form

@@ -14,8 +14,8 @@ use Rattle.circus_schedule.specs.declared.schedule_fault.ScheduleFault.TheVarian
 use Rattle.circus_schedule.specs.Meaning.{numbers_of}
 use Rattle.circus_schedule.specs.Answer.{IsAnswer}
 use Rattle.circus_config.specs.declared.plan.Plan.{Plan}
-use Rattle.circus_world.specs.declared.cause.Cause.{Cause}
-use Rattle.circus_world.specs.declared.cause.Cause.TheVariants.{NoDatagram, NotLive, NotCrashed, NotSpare, AlreadyJoined}
+use Rattle.circus_world.specs.declared.cause.LineCause.{LineCause}
+use Rattle.circus_world.specs.declared.cause.LineCause.TheVariants.{NoDatagram, NotLive, NotCrashed, NotSpare, AlreadyJoined}
 use Rattle.circus_world.specs.WorldState.{WorldState}
 use Rattle.circus_world.specs.Legal.{refusal}
 use Rattle.circus_world.specs.Course.{stepped}
@@ -28,7 +28,7 @@ use Rattle.circus_simulated.specs.Booted.{booted, names_in, after_step}
 -- ---- why it ends before its last line
 
 -- why a line may not be stepped
-abbrev pub cause_text : Names → Cause → List ℕ
+abbrev pub cause_text : Names → LineCause → List ℕ
 cause_text names (NoDatagram number sent) = codes "no datagram " ++ decimal number ++ codes ", " ++ decimal sent ++ codes " sent"
 cause_text names (NotLive node) = names.node node ++ codes " is not live"
 cause_text names (NotCrashed node) = names.node node ++ codes " has not crashed"

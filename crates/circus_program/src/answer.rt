@@ -5,7 +5,7 @@ ghost use Rattle.circus_program.specs.Answer.{IsDue, IsDueOfForm, AsksOnly, Asks
 ghost use Rattle.circus_config.specs.Program.{IsPlan};
 
 use crate::ready::{Ready, prepare};
-use crate::words::{Form, read_words};
+use crate::words::{CommandForm, read_words};
 use circus_config::Plan;
 use circus_ending::{Ending, OneFile, Status, end_of, plan_of};
 use circus_outside::{Shelf, ShelfFault};
@@ -163,26 +163,26 @@ fn one_file<'a, S: Shelf>(
 }
 
 /// The form, where it is built.
-fn built_of(form: Form<'_>) -> Option<Built<'_>>
+fn built_of(form: CommandForm<'_>) -> Option<Built<'_>>
     ensures some { IfSome result (λ built. form_of form.entry ≡ built_form built) }
     ensures other { IfNone result (IsDueOfForm (form_of form.entry) [] not_built) }
 {
     let (command, file) = match form {
-        Form::Stubs { program } => (Command::End(OneFile::Stubs), program),
-        Form::Run { program } => (Command::End(OneFile::Run), program),
-        Form::Place { placing } => (Command::End(OneFile::Place), placing),
-        Form::Sample {
+        CommandForm::Stubs { program } => (Command::End(OneFile::Stubs), program),
+        CommandForm::Run { program } => (Command::End(OneFile::Run), program),
+        CommandForm::Place { placing } => (Command::End(OneFile::Place), placing),
+        CommandForm::Sample {
             program,
             seed,
             steps,
         } => (Command::OfPlan(Task::Sample(seed, steps)), program),
-        Form::Node {
+        CommandForm::Node {
             program,
             name,
             turns,
         } => (Command::OfPlan(Task::Node(name, turns)), program),
-        Form::Replay { program, schedule } => return Some(Built::Replay(program, schedule)),
-        Form::Settle { .. } | Form::Audit { .. } => return None,
+        CommandForm::Replay { program, schedule } => return Some(Built::Replay(program, schedule)),
+        CommandForm::Settle { .. } | CommandForm::Audit { .. } => return None,
     };
     Some(Built::OneFile(command, file))
 }

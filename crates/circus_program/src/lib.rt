@@ -17,4 +17,4 @@ mod words;
 pub use call::circus;
 pub use circus_ending::Status;
 pub use laws::{ends_tell_why, one_thing_is_due};
-pub use words::{Form, read_words};
+pub use words::{CommandForm, read_words};

@@ -12,7 +12,7 @@ use circus_ending::{Ending, Status};
 use circus_record::{Naming, ProgramNames};
 use circus_schedule::ScheduleFault;
 use circus_value::{ListOf, Name, NoMemory, Octets};
-use circus_world::Cause;
+use circus_world::LineCause;
 use std::alloc::{AllocError, Global};
 use std::fmt;
 
@@ -62,7 +62,7 @@ fn unknown_text(alloc: Global, number: u32, name: &Name) -> Result<Octets, NoMem
 #[derive(Drop)]
 struct CauseText<'a, N> {
     names: &'a N,
-    cause: Cause,
+    cause: LineCause,
 }
 
 impl<N: Naming> fmt::Display for CauseText<'_, N> {
@@ -70,20 +70,20 @@ impl<N: Naming> fmt::Display for CauseText<'_, N> {
 
     fn fmt<W: fmt::Write>(&self, f: &mut fmt::Formatter<W>) -> fmt::Result {
         match self.cause {
-            Cause::NoDatagram(number, sent) => write!(f, "no datagram {number}, {sent} sent"),
-            Cause::NotLive(node) => {
+            LineCause::NoDatagram(number, sent) => write!(f, "no datagram {number}, {sent} sent"),
+            LineCause::NotLive(node) => {
                 let node = self.names.node(usize::from(node));
                 write!(f, "{node} is not live")
             }
-            Cause::NotCrashed(node) => {
+            LineCause::NotCrashed(node) => {
                 let node = self.names.node(usize::from(node));
                 write!(f, "{node} has not crashed")
             }
-            Cause::NotSpare(node) => {
+            LineCause::NotSpare(node) => {
                 let node = self.names.node(usize::from(node));
                 write!(f, "{node} is not a spare")
             }
-            Cause::AlreadyJoined(node) => {
+            LineCause::AlreadyJoined(node) => {
                 let node = self.names.node(usize::from(node));
                 write!(f, "{node} has joined")
             }
@@ -92,7 +92,12 @@ impl<N: Naming> fmt::Display for CauseText<'_, N> {
 }
 
 /// The end at a line of this number that may not be stepped.
-pub fn illegal(alloc: Global, hosts: &Hosts, number: u64, cause: Cause) -> Result<Ending, NoMemory>
+pub fn illegal(
+    alloc: Global,
+    hosts: &Hosts,
+    number: u64,
+    cause: LineCause,
+) -> Result<Ending, NoMemory>
     requires { All (λ h. IsAscii (host_name h)) hosts.now }
     ensures ending { IfOk result (λ ending. ending_of ending ≡ refused_end number (cause_text (names_of hosts.now []) cause)) }
     ensures status { IfOk result (λ ending. ending.status ≡ Status.BadSchedule) }

@@ -14,7 +14,7 @@ const MOST_DELIVERIES: u64 = 1_000_000;
 
 /// What the words of a command line ask for (docs/GUIDE.md).
 #[derive(Clone, Copy, Debug)]
-pub enum Form<'a> {
+pub enum CommandForm<'a> {
     /// `stubs PROGRAM`: the stubs of all interfaces.
     Stubs {
         program: &'a str,
@@ -59,7 +59,7 @@ pub enum Form<'a> {
 /// The form of the words of a command line (docs/GUIDE.md). The names of files are not empty; numbers
 /// are decimal without leading zeros and in the ranges of their form. `None` exactly where the words
 /// are of no form. It takes no memory.
-pub fn read_words(words: &[String]) -> Option<Form<'_>>
+pub fn read_words(words: &[String]) -> Option<CommandForm<'_>>
     ensures form { IfSome result (λ form. IsOfForm (map string_bytes words.now) (form_of form)) }
     ensures none { IfNone result (IsOfNoForm (map string_bytes words.now)) }
 {
@@ -78,7 +78,7 @@ pub fn read_words(words: &[String]) -> Option<Form<'_>>
     }
 }
 
-fn read_two_words<'a>(command: &'a str, file: &'a str) -> Option<Form<'a>>
+fn read_two_words<'a>(command: &'a str, file: &'a str) -> Option<CommandForm<'a>>
     ensures form { IfSome result (λ form. IsOfForm (command.now ∷ file.now ∷ []) (form_of form)) }
     ensures none { IfNone result (IsOfNoForm (command.now ∷ file.now ∷ [])) }
 {
@@ -86,14 +86,18 @@ fn read_two_words<'a>(command: &'a str, file: &'a str) -> Option<Form<'a>>
         return None;
     }
     match command {
-        "stubs" => Some(Form::Stubs { program: file }),
-        "run" => Some(Form::Run { program: file }),
-        "place" => Some(Form::Place { placing: file }),
+        "stubs" => Some(CommandForm::Stubs { program: file }),
+        "run" => Some(CommandForm::Run { program: file }),
+        "place" => Some(CommandForm::Place { placing: file }),
         _ => None,
     }
 }
 
-fn read_three_words<'a>(command: &'a str, program: &'a str, second: &'a str) -> Option<Form<'a>>
+fn read_three_words<'a>(
+    command: &'a str,
+    program: &'a str,
+    second: &'a str,
+) -> Option<CommandForm<'a>>
     ensures form { IfSome result (λ form. IsOfForm (command.now ∷ program.now ∷ second.now ∷ []) (form_of form)) }
     ensures none { IfNone result (IsOfNoForm (command.now ∷ program.now ∷ second.now ∷ [])) }
 {
@@ -101,18 +105,18 @@ fn read_three_words<'a>(command: &'a str, program: &'a str, second: &'a str) -> 
         return None;
     }
     match command {
-        "replay" if !second.is_empty() => Some(Form::Replay {
+        "replay" if !second.is_empty() => Some(CommandForm::Replay {
             program,
             schedule: second,
         }),
         "settle" => {
             let deliveries = decimal_at_most(second.as_bytes(), MOST_DELIVERIES)?;
-            Some(Form::Settle {
+            Some(CommandForm::Settle {
                 program,
                 deliveries: deliveries as u32,
             })
         }
-        "audit" if !second.is_empty() => Some(Form::Audit {
+        "audit" if !second.is_empty() => Some(CommandForm::Audit {
             program,
             record: second,
         }),
@@ -125,7 +129,7 @@ fn read_four_words<'a>(
     program: &'a str,
     second: &'a str,
     third: &'a str,
-) -> Option<Form<'a>>
+) -> Option<CommandForm<'a>>
     ensures form { IfSome result (λ form. IsOfForm (command.now ∷ program.now ∷ second.now ∷ third.now ∷ []) (form_of form)) }
     ensures none { IfNone result (IsOfNoForm (command.now ∷ program.now ∷ second.now ∷ third.now ∷ [])) }
 {
@@ -135,7 +139,7 @@ fn read_four_words<'a>(
     match command {
         "node" => {
             let turns = decimal_at_most(third.as_bytes(), MOST_TURNS)?;
-            Some(Form::Node {
+            Some(CommandForm::Node {
                 program,
                 name: second,
                 turns: turns as u32,
@@ -144,7 +148,7 @@ fn read_four_words<'a>(
         "sample" => {
             let seed = decimal_at_most(second.as_bytes(), u64::MAX)?;
             let steps = decimal_at_most(third.as_bytes(), MOST_STEPS)?;
-            Some(Form::Sample {
+            Some(CommandForm::Sample {
                 program,
                 seed,
                 steps: steps as u32,

@@ -3,7 +3,7 @@ use circus_transfer::Joiner;
 use circus_value::{Clock, Duplicate, ListOf, NoMemory, Outcome, Path, State, Values};
 
 /// A call that a run made. Its reply, its clock and its step are there exactly where it was answered.
-#[derive(Debug, Drop)]
+#[derive(Debug)]
 pub struct AskRecord {
     pub callee: u16,
     /// How many calls to the callee the thread had made before.
@@ -21,10 +21,27 @@ pub struct AskRecord {
     pub answered: Option<u64>,
 }
 
+// Written out, so that dropping one is one step of a proof (docs/PROOFS.md, "Cost").
+impl Drop for AskRecord {
+    fn drop(self) {
+        let AskRecord {
+            callee: _,
+            index: _,
+            procedure: _,
+            arguments: _,
+            state: _,
+            reply: _,
+            after: _,
+            asked: _,
+            answered: _,
+        } = self;
+    }
+}
+
 pub type AskRecords = ListOf<AskRecord>;
 
 /// One execution of a procedure. Its outcome, state, clock and step at the end are there exactly where it has ended.
-#[derive(Debug, Drop)]
+#[derive(Debug)]
 pub struct RunRecord {
     /// The ask numbers from the root down, none for the root's own run.
     pub path: Path,
@@ -43,6 +60,25 @@ pub struct RunRecord {
     pub started: u64,
     /// The step in which it ended.
     pub ended: Option<u64>,
+}
+
+// Written out, so that dropping one is one step of a proof (docs/PROOFS.md, "Cost").
+impl Drop for RunRecord {
+    fn drop(self) {
+        let RunRecord {
+            path: _,
+            root: _,
+            procedure: _,
+            arguments: _,
+            entry: _,
+            asks: _,
+            outcome: _,
+            state: _,
+            end: _,
+            started: _,
+            ended: _,
+        } = self;
+    }
 }
 
 pub type RunRecords = ListOf<RunRecord>;

@@ -11,7 +11,7 @@ use circus_model::Module;
 use circus_outside::Sink;
 use circus_report::{REPORT, show_rest, show_sent};
 use circus_value::{ListOf, Name, NoMemory};
-use circus_world::{Cause, Line, World, WorldFault};
+use circus_world::{Line, LineCause, World, WorldFault};
 use std::alloc::Global;
 use std::marker::Model;
 use thiserror::Error;
@@ -25,7 +25,7 @@ pub enum RunFault {
 
     /// The line may not be stepped. Nothing was put in the call.
     #[error("the line may not be stepped")]
-    Illegal(Cause),
+    Illegal(LineCause),
 
     /// The first node has no number left for a call to the second. Nothing was put in the call.
     #[error("node {0} has no number left for node {1}")]

@@ -10,7 +10,7 @@ use Rattle.circus_schedule.specs.declared.line.Line.TheVariants.{Deliver, Tick, 
 use Rattle.circus_schedule.specs.declared.sample.Facts.{Facts}
 use Rattle.circus_schedule.specs.Meaning.{NamesBelow}
 use Rattle.circus_schedule.specs.Sampling.{step_drawn, drawn, line_drawn, IsPossible}
-use Rattle.circus_world.specs.declared.cause.Cause.TheVariants.{NoDatagram, NotLive, NotSpare, AlreadyJoined}
+use Rattle.circus_world.specs.declared.cause.LineCause.TheVariants.{NoDatagram, NotLive, NotSpare, AlreadyJoined}
 use Rattle.circus_world.specs.WorldState.{WorldState, Standing, is_live, has_joined}
 use Rattle.circus_world.specs.Legal.{refusal, unless_told, is_spare}
 use Rattle.circus_world.proofs.SlotLemmas.{get_there, all_at}

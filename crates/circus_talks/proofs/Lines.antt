@@ -17,8 +17,8 @@ use Rattle.circus_node.specs.NodeState.{NodeState}
 use Rattle.circus_schedule.specs.declared.line.Line.{Line}
 use Rattle.circus_schedule.specs.declared.line.Line.TheVariants.{Deliver, Tick, Crash, Down, Join}
 use Rattle.circus_world.specs.declared.sent.Sent.{Sent}
-use Rattle.circus_world.specs.declared.cause.Cause.{Cause}
-use Rattle.circus_world.specs.declared.cause.Cause.TheVariants.{NoDatagram}
+use Rattle.circus_world.specs.declared.cause.LineCause.{LineCause}
+use Rattle.circus_world.specs.declared.cause.LineCause.TheVariants.{NoDatagram}
 use Rattle.circus_world.specs.WorldState.{WorldState, Standing, is_live}
 use Rattle.circus_world.specs.Course.{Stepped, noted, passed, crashed, told_to_join, comes_to, stepped}
 use Rattle.circus_world.specs.Lines.{Leads, Lead}
@@ -77,7 +77,7 @@ module _ {M : Type 0} where
 
 below_sent : (below : Bool) (number most : ℕ) → (if below then None else Some (NoDatagram number most)) ≡ None → below ≡ true
 below_sent true number most legal = refl
-below_sent false number most legal = absurd (let clash : ◌≡◌ {A = Option Cause} (Some (NoDatagram number most)) None = legal in cc)
+below_sent false number most legal = absurd (let clash : ◌≡◌ {A = Option LineCause} (Some (NoDatagram number most)) None = legal in cc)
 
 module _ {M : Type 0} (declared : M → Signature) (turn : M → List ValueTree → ℕ → List ValueTree → List Outcome → NextTurn) where
   -- ---- what a line adds at the pairs of a node

@@ -12,8 +12,8 @@ use Rattle.circus_node.specs.declared.event.Event.TheVariants as comes
 use Rattle.circus_node.specs.Step.{CanCome}
 use Rattle.circus_schedule.specs.declared.line.Line.TheVariants.{Deliver, Down}
 use Rattle.circus_world.specs.declared.sent.Sent.{Sent}
-use Rattle.circus_world.specs.declared.cause.Cause.{Cause}
-use Rattle.circus_world.specs.declared.cause.Cause.TheVariants.{NotCrashed, NotLive}
+use Rattle.circus_world.specs.declared.cause.LineCause.{LineCause}
+use Rattle.circus_world.specs.declared.cause.LineCause.TheVariants.{NotCrashed, NotLive}
 use Rattle.circus_world.specs.WorldState.{WorldState, Standing, is_live, has_crashed}
 use Rattle.circus_world.specs.Legal.{refusal, unless_live}
 use Rattle.circus_world.specs.Course.{passed, comes_to, delivered, stepped}
@@ -28,7 +28,7 @@ not_both (Some step) none some = cc
 
 pub live_then : (live : Bool) (node : ℕ) → (if live then None else Some (NotLive node)) ≡ None → live ≡ true
 live_then true node legal = refl
-live_then false node legal = absurd (let clash : ◌≡◌ {A = Option Cause} (Some (NotLive node)) None = legal in cc)
+live_then false node legal = absurd (let clash : ◌≡◌ {A = Option LineCause} (Some (NotLive node)) None = legal in cc)
 
 module _ {M : Type 0} where
   is_other : (w : WorldState M) (node other : ℕ) (s : Standing M) → IsSound w → slice_get w.nodes node ≡ Some s
@@ -61,7 +61,7 @@ module _ {M : Type 0} where
   crashed_before : (crashed : Bool) (told node : ℕ) (w : WorldState M) → (if crashed then unless_live w told else Some (NotCrashed node)) ≡ None
       → (crashed ≡ true) × (unless_live w told ≡ None)
   crashed_before true told node w legal = (refl, legal)
-  crashed_before false told node w legal = absurd (let clash : ◌≡◌ {A = Option Cause} (Some (NotCrashed node)) None = legal in cc)
+  crashed_before false told node w legal = absurd (let clash : ◌≡◌ {A = Option LineCause} (Some (NotCrashed node)) None = legal in cc)
 
   pub down_differs : (w : WorldState M) (node told : ℕ) → refusal w (Down node told) ≡ None → node ≢ told
   down_differs w node told legal same =

@@ -3,8 +3,8 @@ use Rattle.std.proofs.Common.{◌≡◌, ◌<◌, ℕ, Bool, true, false, length
 use Rattle.std.specs.Prelude.{slice_get, option_and_then, is_none, is_some, if◌then◌else◌}
 use Rattle.std.specs.Option.{option_map_or}
 use Rattle.circus_schedule.specs.declared.line.Line.TheVariants.{Join}
-use Rattle.circus_world.specs.declared.cause.Cause.{Cause}
-use Rattle.circus_world.specs.declared.cause.Cause.TheVariants.{NotSpare, NotLive, AlreadyJoined}
+use Rattle.circus_world.specs.declared.cause.LineCause.{LineCause}
+use Rattle.circus_world.specs.declared.cause.LineCause.TheVariants.{NotSpare, NotLive, AlreadyJoined}
 use Rattle.circus_world.specs.WorldState.{WorldState, Standing, is_live, has_crashed, has_joined}
 use Rattle.circus_world.specs.Legal.{is_spare, unless_told, refusal}
 use Rattle.circus_world.proofs.SlotLemmas.{get_there}
@@ -46,6 +46,6 @@ module _ {M : Type 0} where
   pub may_join : (w : WorldState M) (node : ℕ) (joined : Bool) → is_spare w.deployment node ≡ true → is_live w node ≡ true → has_joined w node ≡ joined
       → refusal w (Join node) ≡ (if joined then Some (AlreadyJoined node) else None)
   may_join w node joined spare live is =
-      let among : Option Cause → Bool → Option Cause = λ cause b. if b then cause else Some (NotSpare node) in
-      let alive : Bool → Option Cause = λ b. if b then unless_told w node else Some (NotLive node) in
+      let among : Option LineCause → Bool → Option LineCause = λ cause b. if b then cause else Some (NotSpare node) in
+      let alive : Bool → Option LineCause = λ b. if b then unless_told w node else Some (NotLive node) in
       ap (among (alive (is_live w node))) spare ∙ ap alive live ∙ ap (λ (b : Bool). if b then Some (AlreadyJoined node) else None) is

@@ -17,8 +17,8 @@ use Rattle.circus_node.specs.Booting.{AreOfTroupes, booted}
 use Rattle.circus_node.specs.Step as node_step
 use Rattle.circus_schedule.specs.declared.line.Line.{Line}
 use Rattle.circus_schedule.specs.declared.line.Line.TheVariants.{Deliver, Tick, Crash, Down, Join}
-use Rattle.circus_world.specs.declared.cause.Cause.{Cause}
-use Rattle.circus_world.specs.declared.cause.Cause.TheVariants.{NoDatagram}
+use Rattle.circus_world.specs.declared.cause.LineCause.{LineCause}
+use Rattle.circus_world.specs.declared.cause.LineCause.TheVariants.{NoDatagram}
 use Rattle.circus_world.specs.declared.sent.Sent.{Sent}
 use Rattle.circus_world.specs.WorldState.{WorldState, Standing, is_live}
 use Rattle.circus_world.specs.Course.{sent_by, Stepped, passed, crashed, told_to_join, concluded, comes_to, delivered}
@@ -31,7 +31,7 @@ use Rattle.circus_world.proofs.SoundLemmas.{noted_length, booted_sound, step_sou
 
 below_sent : (below : Bool) (number most : ℕ) → (if below then None else Some (NoDatagram number most)) ≡ None → below ≡ true
 below_sent true number most legal = refl
-below_sent false number most legal = absurd (let clash : ◌≡◌ {A = Option Cause} (Some (NoDatagram number most)) None = legal in cc)
+below_sent false number most legal = absurd (let clash : ◌≡◌ {A = Option LineCause} (Some (NoDatagram number most)) None = legal in cc)
 
 -- what is sent in a step comes behind what was sent before
 behind : (step : ℕ) (sent more : List Sent) → All (λ (s : Sent). s.step ≤ step) sent → AllPairs (λ (a b : Sent). a.step ≤ b.step) sent

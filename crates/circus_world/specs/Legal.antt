@@ -6,8 +6,8 @@ use Rattle.circus_collate.specs.declared.deployment.Deployment.{Deployment}
 use Rattle.circus_accepting.specs.Accepting.{troupe_at}
 use Rattle.circus_schedule.specs.declared.line.Line.{Line}
 use Rattle.circus_schedule.specs.declared.line.Line.TheVariants.{Deliver, Tick, Crash, Down, Join}
-use Rattle.circus_world.specs.declared.cause.Cause.{Cause}
-use Rattle.circus_world.specs.declared.cause.Cause.TheVariants.{NoDatagram, NotLive, NotCrashed, NotSpare, AlreadyJoined}
+use Rattle.circus_world.specs.declared.cause.LineCause.{LineCause}
+use Rattle.circus_world.specs.declared.cause.LineCause.TheVariants.{NoDatagram, NotLive, NotCrashed, NotSpare, AlreadyJoined}
 use Rattle.circus_world.specs.WorldState.{WorldState, is_live, has_crashed, has_joined}
 
 -- a node is a spare of its troupe
@@ -16,17 +16,17 @@ is_spare d node =
     option_map_or (λ troupe. is_among troupe.spares node) (option_and_then (slice_get d.troupes) (troupe_at d node)) false
 
 module _ {M : Type 0} where
-  abbrev pub unless_sent : WorldState M → ℕ → Option Cause
+  abbrev pub unless_sent : WorldState M → ℕ → Option LineCause
   unless_sent w number = if nat_lt number (length w.sent) then None else Some (NoDatagram number (length w.sent))
 
-  abbrev pub unless_live : WorldState M → ℕ → Option Cause
+  abbrev pub unless_live : WorldState M → ℕ → Option LineCause
   unless_live w node = if is_live w node then None else Some (NotLive node)
 
-  abbrev pub unless_told : WorldState M → ℕ → Option Cause
+  abbrev pub unless_told : WorldState M → ℕ → Option LineCause
   unless_told w node = if has_joined w node then Some (AlreadyJoined node) else None
 
   -- why a line may not be stepped; none where it may
-  abbrev pub refusal : WorldState M → Line → Option Cause
+  abbrev pub refusal : WorldState M → Line → Option LineCause
   refusal w (Deliver number) = unless_sent w number
   refusal w (Tick node) = unless_live w node
   refusal w (Crash node) = unless_live w node

@@ -2,7 +2,7 @@
 
 /// Why a line of a schedule is refused, by the numbers of its nodes (docs/FORMATS.md, "Schedules").
 #[derive(Clone, Copy, Debug, PartialEq, Eq, Drop)]
-pub enum Cause {
+pub enum LineCause {
     /// No datagram has this number; so many were sent.
     NoDatagram(u64, u64),
     /// The node has crashed.

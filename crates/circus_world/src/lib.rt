@@ -11,7 +11,7 @@ mod sent;
 mod slot;
 mod world;
 
-pub use cause::Cause;
+pub use cause::LineCause;
 pub use circus_schedule::{Line, Lines};
 pub use laws::{
     datagrams_go_between_nodes, steps_never_fall, what_was_sent_stays, worlds_depend_on_behaviours,

@@ -16,7 +16,7 @@ ghost use Rattle.circus_world.specs.declared.slot.Slot.{Slot as SlotOf};
 
 use crate::legal::is_spare;
 use crate::slot::Slot;
-use crate::{Cause, Line, Sent, SentList};
+use crate::{Line, LineCause, Sent, SentList};
 use circus_collate::{Deployment, Views};
 use circus_model::Module;
 use circus_node::{Event, Gives, NodeCore, StepFault};
@@ -27,13 +27,25 @@ use std::marker::Model;
 use thiserror::Error;
 
 /// The nodes of a program after boot and some lines, and what they have sent (docs/PROTOCOL.md, "The world").
-#[derive(Drop)]
 pub struct World<M: Module> {
     deployment: Deployment,
     modules: Vec<M>,
     slots: Vec<Slot<M>>,
     sent: SentList,
     steps: u64,
+}
+
+// Written out, so that dropping one is one step of a proof (docs/PROOFS.md, "Cost").
+impl<M: Module> Drop for World<M> {
+    fn drop(self) {
+        let World {
+            deployment: _,
+            modules: _,
+            slots: _,
+            sent: _,
+            steps: _,
+        } = self;
+    }
 }
 
 impl<M: Module> Model for World<M> {
@@ -79,7 +91,7 @@ impl From<NoMemory> for BootFault {
 pub enum WorldFault<M: Module> {
     /// The line may not be stepped: the world as it was, and why.
     #[error("the line may not be stepped")]
-    Illegal(World<M>, Cause),
+    Illegal(World<M>, LineCause),
 
     /// Memory ran out, and the world is gone.
     #[error("out of memory")]
@@ -196,7 +208,7 @@ impl<M: Module> World<M> {
     }
 
     // Why a line may not be stepped.
-    fn refusal(&self, line: &Line) -> Option<Cause>
+    fn refusal(&self, line: &Line) -> Option<LineCause>
         requires { NamesBelow (length self.now.nodes) line.now }
         ensures { result ≡ refusal self.now line.now }
     {
@@ -206,7 +218,7 @@ impl<M: Module> World<M> {
             Line::Crash(node) => self.unless_live(node),
             Line::Down(node, told) => {
                 if self.crashed(node).is_none() {
-                    return Some(Cause::NotCrashed(node));
+                    return Some(LineCause::NotCrashed(node));
                 }
                 self.unless_live(told)
             }
@@ -214,40 +226,40 @@ impl<M: Module> World<M> {
         }
     }
 
-    fn unless_sent(&self, number: u64) -> Option<Cause>
+    fn unless_sent(&self, number: u64) -> Option<LineCause>
         ensures { result ≡ legal.unless_sent self.now number }
     {
         let sent = self.sent.len() as u64;
         if number < sent {
             None
         } else {
-            Some(Cause::NoDatagram(number, sent))
+            Some(LineCause::NoDatagram(number, sent))
         }
     }
 
     #[tactic(auto, using(crate::proofs::LegalLemmas::live, crate::proofs::LegalLemmas::down))]
-    fn unless_live(&self, node: u16) -> Option<Cause>
+    fn unless_live(&self, node: u16) -> Option<LineCause>
         requires { node < length self.now.nodes }
         ensures { result ≡ legal.unless_live self.now node }
     {
         match self.crashed(node) {
             None => None,
-            Some(_) => Some(Cause::NotLive(node)),
+            Some(_) => Some(LineCause::NotLive(node)),
         }
     }
 
-    fn unless_may_join(&self, node: u16) -> Option<Cause>
+    fn unless_may_join(&self, node: u16) -> Option<LineCause>
         requires { node < length self.now.nodes }
         ensures { result ≡ refusal self.now (Line.Join node) }
     {
         if !is_spare(&self.deployment, node) {
-            return Some(Cause::NotSpare(node));
+            return Some(LineCause::NotSpare(node));
         }
         if let Some(cause) = self.unless_live(node) {
             return Some(cause);
         }
         if self.slots[usize::from(node)].joins {
-            return Some(Cause::AlreadyJoined(node));
+            return Some(LineCause::AlreadyJoined(node));
         }
         None
     }

@@ -1,11 +1,10 @@
 // What no node of the program sends.
-use crate::performing::performs;
 use circus_value::{Message, Octets};
 use std::alloc::Global;
 use std::test::Fail;
 use tests_net::{
     COUNTER_ALONE, FIRST_CALL, MAIN_ALONE, Net, TWO_COUNTERS, TWO_WITH_A_SPARE, WITH_A_SPARE,
-    WITH_TWO_SPARES, between, message, once, told_at_boot,
+    WITH_TWO_SPARES, between, message, once, performed, told_at_boot,
 };
 
 const A_ALONE: &str = "CALLS FIRST REPLIES FIRST MEMBERS a1 PORT 9002";
@@ -277,7 +276,8 @@ const SCRIPTS: [&str; 4] = [
 fn calls(rt: HostRuntime) -> Result<(), Fail> {
     let program = once(rt.alloc(), COUNTER_ALONE, MAIN_ALONE)?;
     for script in SCRIPTS {
-        performs(&rt, rt.alloc(), &program, script)?;
+        let told = performed(rt.alloc(), &program, script)?;
+        assert_eq!(rt; told.as_str(), script);
     }
     Ok(())
 }
@@ -286,7 +286,8 @@ fn calls(rt: HostRuntime) -> Result<(), Fail> {
 fn calls_of_a_client(rt: HostRuntime) -> Result<(), Fail> {
     let program = between(rt.alloc(), A_ALONE)?;
     for script in [PATHS, A_THREAD_IS_SPENT] {
-        performs(&rt, rt.alloc(), &program, script)?;
+        let told = performed(rt.alloc(), &program, script)?;
+        assert_eq!(rt; told.as_str(), script);
     }
     Ok(())
 }
@@ -680,7 +681,9 @@ fn no_snapshots(rt: HostRuntime) -> Result<(), Fail> {
 #[test]
 fn snapshots(rt: HostRuntime) -> Result<(), Fail> {
     let program = once(rt.alloc(), TWO_WITH_A_SPARE, MAIN_ALONE)?;
-    performs(&rt, rt.alloc(), &program, SNAPSHOTS)
+    let told = performed(rt.alloc(), &program, SNAPSHOTS)?;
+    assert_eq!(rt; told.as_str(), SNAPSHOTS);
+    Ok(())
 }
 
 // Clocks of other lengths; outcomes that aren't whole, have bytes behind them, or are of a kind or an error that there is none
@@ -775,7 +778,8 @@ const ANSWERS: [&str; 3] = [
 fn answers(rt: HostRuntime) -> Result<(), Fail> {
     let program = once(rt.alloc(), COUNTER_ALONE, MAIN_ALONE)?;
     for script in ANSWERS {
-        performs(&rt, rt.alloc(), &program, script)?;
+        let told = performed(rt.alloc(), &program, script)?;
+        assert_eq!(rt; told.as_str(), script);
     }
     Ok(())
 }

@@ -4,6 +4,7 @@ ghost use Rattle.circus_value.specs.declared.shape.Shape.TheVariants.{Cardinal};
 ghost use Rattle.circus_value.specs.ValueTree.{cardinal};
 ghost use Rattle.tests_members.specs.Taker.{AreOfVault, OffersTake, ImportsVault, HasMain, IsTaker, AnswersTake};
 
+use circus_limits::FIRST_LIMIT;
 use circus_machine::TextModule;
 use circus_model::{ErrorShapes, Imports, Module, ProcedureShapes, Signature};
 use circus_modules::modules_of;
@@ -11,8 +12,6 @@ use circus_value::{NoMemory, Outcome, Shape, Shapes, Value, Values};
 use std::alloc::Global;
 use std::test::Fail;
 use tests_sources::checked;
-
-const LIMIT: u32 = 65_536;
 
 const VAULT: &[u8] = b"Keep: PROGRAM 4 VERSION 1 = BEGIN
     Empty: ERROR [short: CARDINAL] = 1;
@@ -78,7 +77,7 @@ pub fn taker(alloc: Global) -> Result<TextModule, Fail>
     ensures { IfOk result (λ m. IsTaker (⟦<TextModule as circus_model::Module>⟧.declared m)) }
 {
     let checked = checked(alloc, 1, VAULT)??;
-    let (_interfaces, mut modules) = modules_of(alloc, LIMIT, checked)?;
+    let (_interfaces, mut modules) = modules_of(alloc, FIRST_LIMIT, checked)?;
     match modules.pop() {
         Some(root) if is_taker(root.signature()) => Ok(root),
         _ => Err(Fail::new("the last module takes from no vault")),

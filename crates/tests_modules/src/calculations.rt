@@ -1,6 +1,6 @@
 // Arithmetic, and numbers that are stored as one of a kind.
 use crate::bodies::{OF_TYPES, Row, come_to};
-use crate::program::FORMAT_1;
+use circus_limits::FIRST_LIMIT;
 use std::test::Fail;
 
 const CALCULATIONS: [Row; 37] = [
@@ -93,7 +93,7 @@ const CALCULATIONS: [Row; 37] = [
 #[test]
 fn numbers_are_calculated(rt: HostRuntime) -> Result<(), Fail> {
     let variables = b"VAR n: LONG INTEGER; MAIN BEGIN ";
-    assert!(rt; come_to(rt.alloc(), OF_TYPES, variables, &CALCULATIONS, FORMAT_1)?);
+    assert!(rt; come_to(rt.alloc(), OF_TYPES, variables, &CALCULATIONS, FIRST_LIMIT)?);
     Ok(())
 }
 
@@ -128,6 +128,6 @@ const KINDS: [Row; 13] = [
 fn kinds_hold_what_they_can(rt: HostRuntime) -> Result<(), Fail> {
     let variables =
         b"VAR a: CARDINAL; VAR b: INTEGER; VAR c: LONG CARDINAL; MAIN BEGIN a := 3; b := 3; c := 3; ";
-    assert!(rt; come_to(rt.alloc(), OF_TYPES, variables, &KINDS, FORMAT_1)?);
+    assert!(rt; come_to(rt.alloc(), OF_TYPES, variables, &KINDS, FIRST_LIMIT)?);
     Ok(())
 }

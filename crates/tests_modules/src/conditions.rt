@@ -1,6 +1,6 @@
 // Truth values: OR, AND and NOT, and what is compared.
 use crate::bodies::{OF_TYPES, comes_to};
-use crate::program::FORMAT_1;
+use circus_limits::FIRST_LIMIT;
 use circus_value::Octets;
 use std::alloc::Global;
 use std::test::Fail;
@@ -91,7 +91,7 @@ fn conditions_come_to(alloc: Global, conditions: &[&[u8]], end: &[u8]) -> Result
             OF_TYPES,
             variables,
             (statements.as_slice(), end),
-            FORMAT_1,
+            FIRST_LIMIT,
         )? {
             return Ok(false);
         }

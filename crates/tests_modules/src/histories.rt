@@ -1,5 +1,6 @@
 // Programs run alone, and the lines of their histories compared with what rows say.
-use crate::program::{FORMAT_1, Program, lines};
+use crate::program::{Program, lines};
+use circus_limits::FIRST_LIMIT;
 use std::test::Fail;
 
 // One call.
@@ -21,7 +22,7 @@ fn one_call(rt: HostRuntime) -> Result<(), Fail> {
         ask 0 to Counter index 0 procedure 1 arguments [5] state [0]\n\
         reply 0 clock 1,0 returned [5]\n\
         end 0 clock 1,0 returned [] state [5]\n";
-    assert!(rt; lines(rt.alloc(), &COUNTER, FORMAT_1)?.as_slice() == told.as_slice());
+    assert!(rt; lines(rt.alloc(), &COUNTER, FIRST_LIMIT)?.as_slice() == told.as_slice());
     Ok(())
 }
 
@@ -50,7 +51,7 @@ fn raises_keep_the_state(rt: HostRuntime) -> Result<(), Fail> {
         ask 1 to Vault index 1 procedure 1 arguments [4] state [4]\n\
         reply 1 clock 2,0 raised 1 [4]\n\
         end 0 clock 2,0 raised 60009 [] state [4]\n";
-    assert!(rt; lines(rt.alloc(), &VAULT, FORMAT_1)?.as_slice() == told.as_slice());
+    assert!(rt; lines(rt.alloc(), &VAULT, FIRST_LIMIT)?.as_slice() == told.as_slice());
     Ok(())
 }
 
@@ -80,7 +81,7 @@ fn a_run_has_a_million_steps(rt: HostRuntime) -> Result<(), Fail> {
         ask 1 to Wheel index 1 procedure 2 arguments [499999] state []\n\
         reply 1 clock 2,0 raised 60005 []\n\
         end 0 clock 2,0 returned [] state []\n";
-    assert!(rt; lines(rt.alloc(), &WHEEL, FORMAT_1)?.as_slice() == told.as_slice());
+    assert!(rt; lines(rt.alloc(), &WHEEL, FIRST_LIMIT)?.as_slice() == told.as_slice());
     Ok(())
 }
 
@@ -104,7 +105,7 @@ fn stand_in(lines: &[u8], text: &[u8]) -> bool {
 
 #[test]
 fn a_day_passes_at_the_bank(rt: HostRuntime) -> Result<(), Fail> {
-    let shown = lines(rt.alloc(), &BANK, FORMAT_1)?;
+    let shown = lines(rt.alloc(), &BANK, FIRST_LIMIT)?;
     let text = shown.as_slice();
     assert!(rt; stand_in(b"circus history 1\nmodule Ledger count 20\n", text));
     let teller =
@@ -152,7 +153,7 @@ fn errors_are_reported_and_handled(rt: HostRuntime) -> Result<(), Fail> {
         ask 3 to Store index 3 procedure 2 arguments [1] state [20, FALSE]\n\
         reply 3 clock 4,0 raised 1 []\n\
         end 0 clock 4,0 returned [] state [20, TRUE]\n";
-    assert!(rt; lines(rt.alloc(), &STORE, FORMAT_1)?.as_slice() == told.as_slice());
+    assert!(rt; lines(rt.alloc(), &STORE, FIRST_LIMIT)?.as_slice() == told.as_slice());
     Ok(())
 }
 
@@ -170,6 +171,6 @@ fn variables_are_zero_at_first(rt: HostRuntime) -> Result<(), Fail> {
         module Main count 1\n\
         run 0 path Main procedure 0 clock 0 arguments []\n\
         end 0 clock 0 returned [] state [FALSE, 0, 0, \"\", #4, {[0, \"\"], [0, \"\"]}, {}, 7(#3)]\n";
-    assert!(rt; lines(rt.alloc(), &ZEROS, FORMAT_1)?.as_slice() == told.as_slice());
+    assert!(rt; lines(rt.alloc(), &ZEROS, FIRST_LIMIT)?.as_slice() == told.as_slice());
     Ok(())
 }

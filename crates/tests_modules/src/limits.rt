@@ -1,6 +1,6 @@
 // The limits of texts, of values and states, and of what leaves an execution together.
 use crate::bodies::{OF_CALLS, OF_TYPES, Row, come_to, history_of};
-use crate::program::{FORMAT_1, FORMAT_2};
+use circus_limits::{FIRST_LIMIT, MOST_BYTES};
 use std::test::Fail;
 
 // A text that is no part of the state, of 65,534 bytes and so of 65,536 in external form, and a number beside it.
@@ -36,8 +36,8 @@ const IN_FORMAT_2: [Row; 3] = [
 
 #[test]
 fn texts_are_within_the_limit(rt: HostRuntime) -> Result<(), Fail> {
-    assert!(rt; come_to(rt.alloc(), OF_TYPES, LONG_TEXT, &IN_FORMAT_1, FORMAT_1)?);
-    assert!(rt; come_to(rt.alloc(), OF_TYPES, LONG_TEXT, &IN_FORMAT_2, FORMAT_2)?);
+    assert!(rt; come_to(rt.alloc(), OF_TYPES, LONG_TEXT, &IN_FORMAT_1, FIRST_LIMIT)?);
+    assert!(rt; come_to(rt.alloc(), OF_TYPES, LONG_TEXT, &IN_FORMAT_2, MOST_BYTES)?);
     Ok(())
 }
 
@@ -70,7 +70,7 @@ const OF_STATES: [Row; 4] = [
 
 #[test]
 fn states_are_within_the_limit(rt: HostRuntime) -> Result<(), Fail> {
-    assert!(rt; come_to(rt.alloc(), OF_TYPES, STATE, &OF_STATES, FORMAT_1)?);
+    assert!(rt; come_to(rt.alloc(), OF_TYPES, STATE, &OF_STATES, FIRST_LIMIT)?);
     Ok(())
 }
 
@@ -81,7 +81,7 @@ fn a_state_that_is_too_long_is_not_stored(rt: HostRuntime) -> Result<(), Fail> {
         OF_TYPES,
         STATE,
         b"b := \"abcde\"; n := 2;",
-        FORMAT_1,
+        FIRST_LIMIT,
     )?;
     let raised: &[u8] = b"\nend 0 clock 0,0 raised 60004 [] state [1, \"xx";
     let text = shown.as_slice();
@@ -117,6 +117,6 @@ const OF_ALL: [Row; 4] = [
 
 #[test]
 fn what_leaves_together_is_within_the_limit(rt: HostRuntime) -> Result<(), Fail> {
-    assert!(rt; come_to(rt.alloc(), OF_CALLS, TOGETHER, &OF_ALL, FORMAT_1)?);
+    assert!(rt; come_to(rt.alloc(), OF_CALLS, TOGETHER, &OF_ALL, FIRST_LIMIT)?);
     Ok(())
 }

@@ -1,6 +1,6 @@
 // Places: what they read, and what is stored in them.
 use crate::bodies::{OF_TYPES, Row, come_to};
-use crate::program::FORMAT_1;
+use circus_limits::FIRST_LIMIT;
 use std::test::Fail;
 
 // A number, arrays, sequences, a record and a choice, and what they are at first.
@@ -199,14 +199,14 @@ const BOUNDED: [Row; 4] = [
 
 #[test]
 fn places_are_read(rt: HostRuntime) -> Result<(), Fail> {
-    assert!(rt; come_to(rt.alloc(), OF_TYPES, VARIABLES, &READ, FORMAT_1)?);
+    assert!(rt; come_to(rt.alloc(), OF_TYPES, VARIABLES, &READ, FIRST_LIMIT)?);
     Ok(())
 }
 
 #[test]
 fn places_are_written(rt: HostRuntime) -> Result<(), Fail> {
     let bounded = b"VAR s: M.B; VAR e: SEQUENCE 0 OF STRING; MAIN BEGIN s := M.B#[1]; ";
-    assert!(rt; come_to(rt.alloc(), OF_TYPES, VARIABLES, &WRITTEN, FORMAT_1)?);
-    assert!(rt; come_to(rt.alloc(), OF_TYPES, bounded, &BOUNDED, FORMAT_1)?);
+    assert!(rt; come_to(rt.alloc(), OF_TYPES, VARIABLES, &WRITTEN, FIRST_LIMIT)?);
+    assert!(rt; come_to(rt.alloc(), OF_TYPES, bounded, &BOUNDED, FIRST_LIMIT)?);
     Ok(())
 }

@@ -3,18 +3,13 @@ ghost use Rattle.std.specs.Prelude.{◌≤◌, All, IsAscii, IfOk, IfSome};
 
 use circus_check::ResolvedModule;
 use circus_history::show_history;
+use circus_limits::FIRST_LIMIT;
 use circus_model::{History, run_alone};
 use circus_modules::modules_of;
 use circus_value::{Duplicate, ListOf, Name, NoMemory, Octets};
 use std::alloc::Global;
 use std::test::Fail;
 use tests_sources::checked;
-
-/// The bytes that states and values may have in a program of format 1.
-pub const FORMAT_1: u32 = 65_536;
-
-/// And in one of format 2.
-pub const FORMAT_2: u32 = 1_048_576;
 
 /// How many interfaces stand in a text, and the text.
 pub type Program<'a> = (usize, &'a [u8]);
@@ -54,7 +49,7 @@ fn performed(
 
 /// What the modules of a program do alone, or `None` where it isn't run.
 pub fn history(alloc: Global, program: &Program<'_>) -> Result<Option<History>, Fail> {
-    Ok(performed(alloc, program, FORMAT_1)?.map(|(_, history)| history))
+    Ok(performed(alloc, program, FIRST_LIMIT)?.map(|(_, history)| history))
 }
 
 /// The lines of what the modules of a program do alone, whose states and values may have so many bytes, or no bytes where it

@@ -1,6 +1,6 @@
 // Statements: IF, WHILE and RETURN, what is copied, and calls with what is made of their replies.
 use crate::bodies::{OF_CALLS, OF_TYPES, Row, come_to};
-use crate::program::FORMAT_1;
+use circus_limits::FIRST_LIMIT;
 use std::test::Fail;
 
 const ALONE: [Row; 16] = [
@@ -76,7 +76,7 @@ const ALONE: [Row; 16] = [
 #[test]
 fn statements_are_done(rt: HostRuntime) -> Result<(), Fail> {
     let variables = b"VAR n: CARDINAL; VAR s: M.S; VAR t: M.S; MAIN BEGIN ";
-    assert!(rt; come_to(rt.alloc(), OF_TYPES, variables, &ALONE, FORMAT_1)?);
+    assert!(rt; come_to(rt.alloc(), OF_TYPES, variables, &ALONE, FIRST_LIMIT)?);
     Ok(())
 }
 
@@ -196,6 +196,6 @@ const CALLING: [Row; 25] = [
 fn calls_are_made_and_answered(rt: HostRuntime) -> Result<(), Fail> {
     let variables =
         b"VAR n: CARDINAL; VAR m: CARDINAL; VAR a: ARRAY 2 OF CARDINAL; MAIN BEGIN n := 5; ";
-    assert!(rt; come_to(rt.alloc(), OF_CALLS, variables, &CALLING, FORMAT_1)?);
+    assert!(rt; come_to(rt.alloc(), OF_CALLS, variables, &CALLING, FIRST_LIMIT)?);
     Ok(())
 }

@@ -10,7 +10,7 @@ mod node;
 mod program;
 mod programs;
 
-pub use net::{FIRST_CALL, Net, message, told_at_boot};
+pub use net::{FIRST_CALL, Net, message, performed, told_at_boot};
 pub use node::Node;
 pub use program::deployment;
 pub use programs::{

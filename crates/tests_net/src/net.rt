@@ -32,7 +32,6 @@ struct Sent {
 }
 
 /// The nodes of a program, what they have sent, and the lines of what was given since these were last asked for.
-#[derive(Drop)]
 pub struct Net {
     alloc: Global,
     program: Program,
@@ -42,6 +41,21 @@ pub struct Net {
     sent: Vec<Sent>,
     step: u64,
     told: String,
+}
+
+// Written out, so that dropping one is one step of a proof (docs/PROOFS.md, "Cost").
+impl Drop for Net {
+    fn drop(self) {
+        let Net {
+            alloc: _,
+            program: _,
+            nodes: _,
+            crashed: _,
+            sent: _,
+            step: _,
+            told: _,
+        } = self;
+    }
 }
 
 impl Net {
@@ -366,6 +380,11 @@ pub fn message(alloc: Global, digits: &str) -> Result<Message, Fail> {
     let mut bytes = Message::new(alloc);
     bytes.append(hex::decode(alloc, digits)?.as_slice())?;
     Ok(bytes)
+}
+
+/// What the nodes of a program tell where they boot and a script is performed.
+pub fn performed(alloc: Global, program: &Octets, script: &str) -> Result<String, Fail> {
+    Net::boot(alloc, program)?.perform(script)
 }
 
 /// What bytes from node m1 make node s1 tell in a program that has just booted.

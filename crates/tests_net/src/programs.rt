@@ -99,11 +99,7 @@ pub const FOUR_ROOTS: &str =
     "CALLS FIRST REPLIES FIRST MEMBERS r1 PORT 9021, r2 PORT 9022, r3 PORT 9023, r4 PORT 9024";
 
 fn joined(alloc: Global, parts: &[&str]) -> Result<Octets, NoMemory> {
-    let mut text = Octets::new(alloc);
-    for part in parts {
-        text.append(part.as_bytes())?;
-    }
-    Ok(text)
+    Ok(Octets::of(tests_parts::joined(alloc, parts)?.into_bytes()))
 }
 
 /// A root that adds 5 once, with these troupes behind `TROUPE Counter` and `TROUPE Main`.

@@ -3,7 +3,7 @@ use circus_value::Octets;
 use std::alloc::Global;
 use std::process::Abort;
 use std::test::Fail;
-use tests_net::{Net, once};
+use tests_net::{once, performed};
 
 /// The nodes of a program tell from boot on what a script has.
 pub fn performs(
@@ -12,8 +12,7 @@ pub fn performs(
     program: &Octets,
     script: &str,
 ) -> Result<(), Fail> {
-    let told = Net::boot(alloc, program)?.perform(script)?;
-    assert_eq!(rt; told.as_str(), script);
+    assert_eq!(rt; performed(alloc, program, script)?.as_str(), script);
     Ok(())
 }
 

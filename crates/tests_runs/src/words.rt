@@ -1,5 +1,5 @@
 //! The words of command lines.
-use circus_program::{Form, read_words};
+use circus_program::{CommandForm, read_words};
 use std::alloc::{AllocError, Global};
 use std::test::Fail;
 
@@ -15,26 +15,36 @@ fn words_of(alloc: Global, line: &str) -> Result<Vec<String>, AllocError> {
 #[test]
 fn reads_files(rt: HostRuntime) -> Result<(), Fail> {
     let words = words_of(rt.alloc(), "stubs p")?;
-    assert!(rt; matches!(read_words(&words), Some(Form::Stubs { program: "p" })));
+    assert!(rt;
+        matches!(
+            read_words(&words),
+            Some(CommandForm::Stubs { program: "p" })
+        )
+    );
     let words = words_of(rt.alloc(), "run p")?;
-    assert!(rt; matches!(read_words(&words), Some(Form::Run { program: "p" })));
+    assert!(rt; matches!(read_words(&words), Some(CommandForm::Run { program: "p" })));
     let words = words_of(rt.alloc(), "replay p s")?;
     assert!(rt;
         matches!(
             read_words(&words),
-            Some(Form::Replay {
+            Some(CommandForm::Replay {
                 program: "p",
                 schedule: "s"
             })
         )
     );
     let words = words_of(rt.alloc(), "place f")?;
-    assert!(rt; matches!(read_words(&words), Some(Form::Place { placing: "f" })));
+    assert!(rt;
+        matches!(
+            read_words(&words),
+            Some(CommandForm::Place { placing: "f" })
+        )
+    );
     let words = words_of(rt.alloc(), "audit p r")?;
     assert!(rt;
         matches!(
             read_words(&words),
-            Some(Form::Audit {
+            Some(CommandForm::Audit {
                 program: "p",
                 record: "r"
             })
@@ -49,7 +59,7 @@ fn reads_numbers(rt: HostRuntime) -> Result<(), Fail> {
     assert!(rt;
         matches!(
             read_words(&words),
-            Some(Form::Node {
+            Some(CommandForm::Node {
                 program: "p",
                 name: "m1",
                 turns: 100_000
@@ -60,7 +70,7 @@ fn reads_numbers(rt: HostRuntime) -> Result<(), Fail> {
     assert!(rt;
         matches!(
             read_words(&words),
-            Some(Form::Sample {
+            Some(CommandForm::Sample {
                 program: "p",
                 seed: u64::MAX,
                 steps: 200_000
@@ -71,7 +81,7 @@ fn reads_numbers(rt: HostRuntime) -> Result<(), Fail> {
     assert!(rt;
         matches!(
             read_words(&words),
-            Some(Form::Settle {
+            Some(CommandForm::Settle {
                 program: "p",
                 deliveries: 0
             })

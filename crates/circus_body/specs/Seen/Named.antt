@@ -8,7 +8,7 @@ use Rattle.circus_value.specs.ShapeTree.{field_trees}
 use Rattle.circus_resolve.specs.Seen.Scoped.{scope_as}
 use Rattle.circus_body.specs.declared.context.Reported.{Reported as Error}
 use Rattle.circus_body.specs.declared.context.Offered.{Offered as Procedure}
-use Rattle.circus_body.specs.declared.context.Procedures.{Procedures}
+use Rattle.circus_body.specs.declared.context.OfferedProcedures.{OfferedProcedures}
 use Rattle.circus_body.specs.declared.context.Callee.{Callee}
 use Rattle.circus_body.specs.declared.context.Context.{Context as Table}
 use Rattle.circus_body.specs.Context.{Reported, Offered, Called, not_imported, unsaid, a_module, Context}
@@ -24,7 +24,7 @@ offered_as p = record {
   reported = λ name. option_map reported_as (get_by (λ k. slice_cmp nat_cmp name k.now) p.reported);
 }
 
-abbrev pub offered_in : Procedures → List ℕ → Option Offered
+abbrev pub offered_in : OfferedProcedures → List ℕ → Option Offered
 offered_in procedures name = option_map offered_as (get_by (λ k. slice_cmp nat_cmp name k.now) procedures.table)
 
 -- a module that is imported or not

@@ -1,10 +1,10 @@
 -- What resolved modules are to clauses.
 use Rattle.std.specs.Prelude.{map}
-use Rattle.circus_check.specs.declared.checked.Body.{Body}
+use Rattle.circus_check.specs.declared.checked.CheckedBody.{CheckedBody}
 use Rattle.circus_check.specs.declared.checked.ResolvedModule.{ResolvedModule}
 use Rattle.circus_check.specs.Meaning.{BodyMeant, ModuleMeant}
 
-abbrev pub body_as : Body → BodyMeant
+abbrev pub body_as : CheckedBody → BodyMeant
 body_as b = record { locals = b.locals; statements = b.statements }
 
 abbrev pub module_as : ResolvedModule → ModuleMeant

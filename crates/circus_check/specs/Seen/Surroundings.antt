@@ -9,7 +9,7 @@ use Rattle.circus_value.specs.ShapeTree.{FieldTrees, field_trees}
 use Rattle.circus_resolve.specs.Scope.{Variable}
 use Rattle.circus_resolve.specs.Seen.Scoped.{variable_in, type_named}
 use Rattle.circus_body.specs.declared.context.Offered.{Offered}
-use Rattle.circus_body.specs.declared.context.Procedures.{Procedures}
+use Rattle.circus_body.specs.declared.context.OfferedProcedures.{OfferedProcedures}
 use Rattle.circus_body.specs.Context.{Context}
 use Rattle.circus_body.specs.Seen.Named.{called_or, offered_as}
 use Rattle.circus_idl.specs.declared.interface.Procedure.{Procedure}
@@ -62,5 +62,5 @@ number_or (good k) = k
 number_or _ = 0
 
 -- the procedures of an interface that may be unknown
-abbrev pub procedures_now : Option (Bor Known) → Option Procedures
+abbrev pub procedures_now : Option (Bor Known) → Option OfferedProcedures
 procedures_now known = option_map (λ (k : Bor Known). k.now.procedures) known

@@ -4,8 +4,8 @@ use Rattle.circus_value.specs.ValueTree.{ValueTree}
 use Rattle.circus_value.specs.ExternalSize.{external_size, size_of_values}
 use Rattle.circus_evaluate.specs.Got.{Got, Raising}
 use Rattle.circus_machine.specs.Storing.{stored_over, appended_over, kept}
-use Rattle.circus_evaluate.specs.declared.got.Stop.{Stop}
-use Rattle.circus_evaluate.specs.declared.got.Stop.TheVariants.{Raises, NoMemory}
+use Rattle.circus_evaluate.specs.declared.got.NoValue.{NoValue}
+use Rattle.circus_evaluate.specs.declared.got.NoValue.TheVariants.{Raises, NoMemory}
 use Rattle.circus_machine.specs.declared.store.Change.{Change}
 use Rattle.circus_machine.specs.declared.store.Change.TheVariants.{Assign, Append}
 use Rattle.circus_machine.specs.declared.store.Variables.{Variables}
@@ -32,7 +32,7 @@ Resized limit v index t (Ok sizes) =
 Resized limit v index t (Err error) = kept limit v.states v.values index t ≡ Err error
 
 -- the variables are those that are meant, or are as before where an error is raised
-abbrev pub Changed : Result (Unit {0}) Stop → Raising (List ValueTree) → Variables → Variables → Type 0
+abbrev pub Changed : Result (Unit {0}) NoValue → Raising (List ValueTree) → Variables → Variables → Type 0
 Changed (Ok done) meant old new = (meant ≡ Ok new.values) × ((new.states ≡ old.states) × AreSized new)
 Changed (Err (Raises error)) meant old new = (meant ≡ Err error) × (new ≡ old)
 Changed (Err NoMemory) meant old new = Unit {0}

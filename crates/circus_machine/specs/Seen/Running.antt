@@ -7,8 +7,8 @@ use Rattle.circus_checked.specs.ExpressionTree.{ExpressionTree}
 use Rattle.circus_machine.specs.Meaning.{Going, Flow, goes_on, ends, asks, fails, called, takes}
 use Rattle.circus_machine.specs.Seen.Code.{Act, Catch, ask, replied, act, Follows}
 use Rattle.circus_machine.specs.Seen.Changing.{AreSized}
-use Rattle.circus_evaluate.specs.declared.got.Stop.{Stop}
-use Rattle.circus_evaluate.specs.declared.got.Stop.TheVariants.{Raises, NoMemory}
+use Rattle.circus_evaluate.specs.declared.got.NoValue.{NoValue}
+use Rattle.circus_evaluate.specs.declared.got.NoValue.TheVariants.{Raises, NoMemory}
 use Rattle.circus_machine.specs.declared.execution.Execution.{Execution}
 use Rattle.circus_machine.specs.declared.execution.Move.{Move}
 use Rattle.circus_machine.specs.declared.execution.Move.TheVariants.{Goes, Ends, Asks}
@@ -24,14 +24,14 @@ pub record Keeps (old new : Execution) : Type 0 where
   pub sized : AreSized new.variables
 
 -- whatever replies are left, a part of the language does what was done
-abbrev pub Does : {A X : Type 0} → (A → Going → X) → (Going → Flow X) → Result A Stop → Execution → Execution → Type 0
+abbrev pub Does : {A X : Type 0} → (A → Going → X) → (Going → Flow X) → Result A NoValue → Execution → Execution → Type 0
 Does view part (Ok a) old new = Keeps old new × ((replies : List Outcome) → part (going old replies) ≡ goes_on (view a (going new replies)))
 Does view part (Err (Raises error)) old new =
     (new.variables.states ≡ old.variables.states) × ((replies : List Outcome) → part (going old replies) ≡ fails error new.variables.values)
 Does view part (Err NoMemory) old new = Unit {0}
 
 -- it goes on with fewer steps left, or ahead
-abbrev pub GoesAhead : ℕ → Result Move Stop → Execution → Execution → Type 0
+abbrev pub GoesAhead : ℕ → Result Move NoValue → Execution → Execution → Type 0
 GoesAhead at (Ok (Goes next)) old new = (new.steps < old.steps) ⊎ ((new.steps ≡ old.steps) × (at < next))
 GoesAhead at (Ok (Ends outcome)) old new = Unit {0}
 GoesAhead at (Ok (Asks callee procedure arguments)) old new = Unit {0}
@@ -60,7 +60,7 @@ module _ (limit states : ℕ) where
     pub goes : (reply : Outcome) (replies : List Outcome) → act limit states a at (going old (reply ∷ replies)) ≡ replied limit states at into table skip reply (going new replies)
 
   -- values with which a module is asked, where an ask is left
-  abbrev pub HasAsked : List ExpressionTree → Result (List ValueTree) Stop → Execution → Execution → Type 0
+  abbrev pub HasAsked : List ExpressionTree → Result (List ValueTree) NoValue → Execution → Execution → Type 0
   HasAsked es (Ok arguments) old new =
       Keeps old new × (before : ℕ) × (new.asks ≡ before + 1) × ((callee procedure : ℕ) (replies : List Outcome) →
       called limit states callee procedure es (going old replies) ≡ takes callee procedure arguments replies (record (going new replies) { asks = before }))
@@ -70,7 +70,7 @@ module _ (limit states : ℕ) where
   HasAsked es (Err NoMemory) old new = Unit {0}
 
   -- what the machine does at an instruction
-  abbrev pub Moves : Act → ℕ → Result Move Stop → Execution → Execution → Type 0
+  abbrev pub Moves : Act → ℕ → Result Move NoValue → Execution → Execution → Type 0
   Moves a at (Ok (Goes next)) old new = Keeps old new × ((replies : List Outcome) → act limit states a at (going old replies) ≡ goes_on (next, going new replies))
   Moves a at (Ok (Ends outcome)) old new =
       (new.variables.states ≡ old.variables.states) × ((replies : List Outcome) → act limit states a at (going old replies) ≡ ends outcome new.variables.values)

@@ -3,7 +3,7 @@ use Rattle.std.specs.Prelude.{◌≡◌, ℕ, ◌≤◌, Bool, true, false, ◌&
 use Rattle.std.proofs.Common.{zero, suc}
 use Rattle.circus_value.specs.Among.{is_among}
 use Rattle.circus_placing.specs.Obeys.{most_machines}
-use Rattle.circus_place.specs.declared.choice.Chosen.{Chosen}
+use Rattle.circus_place.specs.declared.choice.Placement.{Placement}
 use Rattle.circus_place.specs.declared.test.Test.{Test}
 use Rattle.circus_place.specs.declared.search.Search.{Search}
 use Rattle.circus_place.specs.Seen.Table.{flag_at}
@@ -14,19 +14,19 @@ abbrev pub flagged : List Bool → List ℕ → ℕ
 flagged present choice = count_by (flag_at present) choice
 
 -- more are kept than by the best so far
-abbrev pub improves : ℕ → Option Chosen → Bool
+abbrev pub improves : ℕ → Option Placement → Bool
 improves kept None = true
 improves kept (Some best) = nat_lt best.kept kept
 
 -- the better of the best so far and a further choice
-abbrev pub offered : Test → List Bool → List ℕ → Option Chosen → Option Chosen
+abbrev pub offered : Test → List Bool → List ℕ → Option Placement → Option Placement
 offered test present choice best =
     if passes test choice && improves (flagged present choice) best
     then Some (record { members = choice; kept = flagged present choice })
     else best
 
 -- what becomes of the best when each of the numbers below this one has its turn, the least first
-abbrev pub in_turn : (ℕ → Option Chosen → Option Chosen) → ℕ → Option Chosen → Option Chosen
+abbrev pub in_turn : (ℕ → Option Placement → Option Placement) → ℕ → Option Placement → Option Placement
 in_turn turn zero best = best
 in_turn turn (suc n) best = turn n (in_turn turn n best)
 
@@ -36,7 +36,7 @@ AreApart [] = Unit {0}
 AreApart (m ∷ ms) = (is_among ms m ≡ false) × AreApart ms
 
 -- the best after all choices that begin with these machines, with so many members more
-unfoldable pub best_from : Test → List Bool → ℕ → ℕ → List ℕ → Option Chosen → Option Chosen
+unfoldable pub best_from : Test → List Bool → ℕ → ℕ → List ℕ → Option Placement → Option Placement
 best_from test present machines zero ms best = offered test present ms best
 best_from test present machines (suc left) ms best =
     in_turn (λ m b. if is_among ms m then b else best_from test present machines left (ms ++ m ∷ []) b) machines best

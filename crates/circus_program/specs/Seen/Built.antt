@@ -3,7 +3,7 @@ use Rattle.std.specs.Prelude.{List, ℕ}
 use Rattle.circus_config.specs.declared.plan.Plan.{Plan}
 use Rattle.circus_ending.specs.declared.one_file.OneFile.{OneFile}
 use Rattle.circus_ending.specs.declared.one_file.OneFile.TheVariants.{Stubs, Run, Place}
-use Rattle.circus_program.specs.Form.{Form, stubs, run, replay, node, sample, place}
+use Rattle.circus_program.specs.Form.{CommandForm, stubs, run, replay, node, sample, place}
 use Rattle.circus_program.specs.Answer.{Due, IsDueOfEnd, IsDueOfProgram, IsDueOfSample, IsDueOfNode}
 use Rattle.circus_program.specs.declared.answer.Task.{Task}
 use Rattle.circus_program.specs.declared.answer.Task.TheVariants.{Sample, Node}
@@ -23,18 +23,18 @@ IsDueOfCommand (End command) = IsDueOfEnd command
 IsDueOfCommand (OfPlan task) = IsDueOfProgram (IsDueOfTask task)
 
 -- the form of a command that comes to the end of a file
-abbrev pub end_form : OneFile → List ℕ → Form
+abbrev pub end_form : OneFile → List ℕ → CommandForm
 end_form Stubs file = stubs file
 end_form Run file = run file
 end_form Place file = place file
 
 -- the form of a command with its file
-abbrev pub file_form : Command → List ℕ → Form
+abbrev pub file_form : Command → List ℕ → CommandForm
 file_form (End command) file = end_form command file
 file_form (OfPlan (Sample seed steps)) file = sample file seed steps
 file_form (OfPlan (Node name turns)) file = node file name.now turns
 
 -- the form with its files
-abbrev pub built_form : Built → Form
+abbrev pub built_form : Built → CommandForm
 built_form (OfFile command file) = file_form command file.now
 built_form (Replay program schedule) = replay program.now schedule.now

@@ -1,11 +1,11 @@
 -- What the code's form says, as plain data.
-use Rattle.circus_program.specs.Form.{Form}
+use Rattle.circus_program.specs.Form.{CommandForm}
 use Rattle.circus_program.specs.Form as plain
-use Rattle.circus_program.specs.declared.words.Form as coded
-use Rattle.circus_program.specs.declared.words.Form.TheVariants.{Stubs, Run, Replay, Node, Sample, Settle, Place, Audit}
+use Rattle.circus_program.specs.declared.words.CommandForm as coded
+use Rattle.circus_program.specs.declared.words.CommandForm.TheVariants.{Stubs, Run, Replay, Node, Sample, Settle, Place, Audit}
 
 -- the files and the name by their bytes
-abbrev pub form_of : coded.Form → Form
+abbrev pub form_of : coded.CommandForm → CommandForm
 form_of (Stubs program) = plain.stubs program.now
 form_of (Run program) = plain.run program.now
 form_of (Replay program schedule) = plain.replay program.now schedule.now

@@ -1,4 +1,5 @@
 use Rattle.std.proofs.Common.{◌≡◌, ◌++◌, ◌∙◌, ap, sym, append_assoc}
+use Rattle.std.proofs.lemmas.Result.{on_ok_weaker}
 use Rattle.circus_fault.specs.Least.{least_from}
 use Rattle.circus_fault.proofs.LeastMore.{least_then}
 use Rattle.circus_type.specs.Scale.{written_out}
@@ -9,7 +10,6 @@ use Rattle.circus_check.specs.Faults.{name_faults, interface_faults, imports_fau
 use Rattle.circus_check.specs.Seen.Programs.{modules_in, interfaces_in, missing_among}
 use Rattle.circus_check.specs.Seen.Scoped.{unknown_in, form_in}
 use Rattle.circus_check.proofs.OwnTables.{unknown_are, forms_are, missing_are}
-use Rattle.circus_check.proofs.VariablesFound.{on_ok}
 use Rattle.circus_check.proofs.module.check_head.Goals as goal
 
 pub returns-clause-found : goal.returns-clause-found
@@ -39,7 +39,7 @@ returns-clause-found c =
     (least_then rank best b1 b2 named implements c.check_name.ensures c.check_interface.ensures)
     (c.check_imports.ensures ∙ ap (λ ns. least_from rank b2 (imports_faults modules i ns)) c.as_slice.ensures))
     (c.in_ok-check_missing.ensures ∙ ap (least_from rank b3) (ap (λ o. missing_among o m) c.requires.own.order ∙ missing_are interface m)) in
-    on_ok c.check_state.result (λ found.
+    on_ok_weaker c.check_state.result (λ found.
     least_then rank best b4 c.check_state.new.best.fault head (variables ++ state) first found
     ∙ ap (least_from rank best) (sym (append_assoc head variables state))
     ∙ (λ j. let unknown = unknown_are program own c.requires.own j in let forms = forms_are program own c.requires.own j in

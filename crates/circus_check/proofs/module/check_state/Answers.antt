@@ -1,4 +1,5 @@
 use Rattle.std.proofs.Common.{◌∙◌, ap, map, ◌≡◌, is_some}
+use Rattle.std.proofs.lemmas.Result.{on_ok_weaker}
 use Rattle.circus_fault.specs.Least.{least_from}
 use Rattle.circus_fault.specs.Seen.Tables.{holds_name}
 use Rattle.circus_fault.proofs.LeastMore.{least_then}
@@ -12,7 +13,7 @@ use Rattle.circus_check.specs.Seen.Programs.{interfaces_in, parameters_in}
 use Rattle.circus_check.specs.Seen.Scoped.{unknown_in, form_in}
 use Rattle.circus_check.specs.Seen.Tables.{either}
 use Rattle.circus_check.proofs.OwnTables.{sizes_are, parameters_are}
-use Rattle.circus_check.proofs.VariablesFound.{either_none, variables_cut, variables_counted, on_ok, on_any}
+use Rattle.circus_check.proofs.VariablesFound.{either_none, variables_cut, variables_counted, on_any}
 use Rattle.circus_check.proofs.module.check_state.Goals as goal
 
 pub returns-clause-found : goal.returns-clause-found
@@ -32,7 +33,7 @@ returns-clause-found c =
     let first =
     c.in_ok-variables.ensures.found
     ∙ ap (least_from rank best) ((λ i. variables_faults cut_off unknown (sizes_are program own c.requires.own i) (c.requires.first i) (none i) (map variable_of (c.as_slice-list.ensures i))) ∙ variables_cut unknown forms 0 (parameters_of interface) vs) in
-    on_ok c.state_size.result (λ found.
+    on_ok_weaker c.state_size.result (λ found.
     least_then rank best c.variables.new.best.fault c.state_size.new.best.fault variables (state_faults unknown forms (parameters_of interface) m) first
     (found ∙ (λ i. least_from rank c.variables.new.best.fault (state_faults unknown forms (outer i) (record m { variables = map variable_of (c.as_slice-list.ensures i) })))))
     c.state_size.ensures

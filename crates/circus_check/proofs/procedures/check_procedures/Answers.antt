@@ -2,6 +2,7 @@ use Rattle.std.proofs.Common.{◌≡◌, ℕ, ◌+◌, Bool, false, List, ◌∷
 use Rattle.std.specs.Prelude.{slice_get, bytes_eq, ◌||◌}
 use Rattle.std.proofs.lemmas.List.{take-map, map_more, length-map, drop_all}
 use Rattle.std.proofs.lemmas.Option.{slice_get-map, slice_get_read}
+use Rattle.std.proofs.lemmas.Result.{IfOk-weaker}
 use Rattle.circus_fault.specs.declared.fault.Fault.{Fault}
 use Rattle.circus_fault.specs.Least.{least_from}
 use Rattle.circus_fault.specs.Seen.Tables.{holds_name}
@@ -22,7 +23,7 @@ use Rattle.circus_check.proofs.BodiesPlaced.{AreApart, IsThere, bodies_more, bod
 use Rattle.circus_check.proofs.OwnTables.{forms_are}
 use Rattle.circus_check.proofs.ProceduresFound.{IsFound, found_more, clean_is, has_more, there_is, apart_is, of_none, if_none_by, in_place_is, found_end}
 use Rattle.circus_check.specs.Seen.Surroundings.{count_for}
-use Rattle.circus_check.proofs.VariablesFound.{none_held, on_any, on_value}
+use Rattle.circus_check.proofs.VariablesFound.{none_held, on_any}
 use Rattle.circus_check.proofs.procedures.check_procedures.Goals as goal
 
 pub loop-written-preserved : goal.loop-written-preserved
@@ -119,7 +120,7 @@ returns-clause-meant c =
     let interface = implemented_by interfaces own.text.now.interface in
     let meant = body_meant interfaces modules own.number m in
     let past : length ps ≤ c.loop-written.written = omega (arith, length-map ts procedure_of, c.loop-written-test.false) in
-    on_value _ _ c.bodies.result (λ made is.
+    IfOk-weaker c.bodies.result _ _ (λ made is.
     if_none_by c.loop-written.best.fault (λ none.
     bodies_all body_as meant order ps c.loop-written.written c.loop-written.slots.items made past is (c.loop-written.invariant.bodies none)
     ∙ (λ i. map meant (in_place (c.requires.own.order i) (map procedure_of (c.as_slice-text-items.ensures i))))

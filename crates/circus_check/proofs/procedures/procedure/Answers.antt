@@ -1,4 +1,5 @@
 use Rattle.std.proofs.Common.{◌≡◌, ◌+◌, min, sym, ◌∙◌, ap, arith}
+use Rattle.std.proofs.lemmas.Result.{on_ok_weaker}
 use Rattle.circus_fault.specs.Seen.Tables.{holds_name}
 use Rattle.circus_type.specs.Limits.{most_parts}
 use Rattle.circus_body.specs.Seen.Named.{known_offer}
@@ -6,13 +7,12 @@ use Rattle.circus_lang.specs.ModuleTree.{module_of, procedure_of}
 use Rattle.circus_check.specs.Faults.{procedure_faults}
 use Rattle.circus_check.specs.Seen.Programs.{modules_in, interfaces_in}
 use Rattle.circus_check.proofs.ProceduresFound.{whole_found, whole_none, nothing_offered, kept_none, of_none, if_none_by, if_lost}
-use Rattle.circus_check.proofs.VariablesFound.{on_ok}
 use Rattle.circus_check.proofs.procedures.procedure.Goals as goal
 
 pub returns-in-Some-clause-found : goal.returns-in-Some-clause-found
 returns-in-Some-clause-found c =
     let own = c.args.own.now in
-    on_ok c.body.result (λ then found before first full.
+    on_ok_weaker c.body.result (λ then found before first full.
     whole_found (interfaces_in c.args.program.now) (modules_in c.args.program.now) own.number (module_of own.text.now) found before (holds_name c.args.so_far.now.procedures) (procedure_of c.args.text.now)
     c.args.best.now.fault c.head.new.best.fault c.body.new.best.fault first (c.in_ok-offers.ensures.found before full) then)
     c.body.ensures.found

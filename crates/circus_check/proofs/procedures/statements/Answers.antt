@@ -1,4 +1,5 @@
 use Rattle.std.proofs.Common.{◌∙◌, ap}
+use Rattle.std.proofs.lemmas.Result.{on_ok_weaker, IfOk-weaker}
 use Rattle.circus_value.specs.ShapeTree.{field_trees}
 use Rattle.circus_statement.specs.StatementTree.{statement_trees}
 use Rattle.circus_fault.specs.Least.{least_from}
@@ -6,15 +7,14 @@ use Rattle.circus_resolve.specs.Causes.{rank}
 use Rattle.circus_body.specs.Faults.{all_faults}
 use Rattle.circus_body.specs.Meaning.{all_do}
 use Rattle.circus_check.proofs.Surrounded.{context_are}
-use Rattle.circus_check.proofs.VariablesFound.{on_ok, on_value}
 use Rattle.circus_check.proofs.procedures.statements.Goals as goal
 
 pub returns-clause-found : goal.returns-clause-found
 returns-clause-found c =
     let same = context_are c.in_ok-scope.scope c.args.around.now c.args.own.now (field_trees c.args.locals.now) c.in_ok-scope.ensures.variables c.in_ok-scope.ensures.outer in
-    on_ok c.resolved.result (λ found. found ∙ ap (λ names. least_from rank c.args.best.now.fault (all_faults names (statement_trees c.args.procedure.now.statements))) same) c.resolved.ensures.found
+    on_ok_weaker c.resolved.result (λ found. found ∙ ap (λ names. least_from rank c.args.best.now.fault (all_faults names (statement_trees c.args.procedure.now.statements))) same) c.resolved.ensures.found
 
 pub returns-clause-meant : goal.returns-clause-meant
 returns-clause-meant c =
     let same = context_are c.in_ok-scope.scope c.args.around.now c.args.own.now (field_trees c.args.locals.now) c.in_ok-scope.ensures.variables c.in_ok-scope.ensures.outer in
-    on_value _ _ c.resolved.result (λ made is. is ∙ ap (λ names. all_do names (statement_trees c.args.procedure.now.statements)) same) c.resolved.ensures.meant
+    IfOk-weaker c.resolved.result _ _ (λ made is. is ∙ ap (λ names. all_do names (statement_trees c.args.procedure.now.statements)) same) c.resolved.ensures.meant

@@ -16,7 +16,7 @@ both_came came es made o p is effects difference =
     is ∙ ap (λ x. consequences x (option_to_list o)) effects ∙ ap (λ x. consequences made (option_to_list x)) difference
 
 pub returns-clause-acting : goal.returns-clause-acting
-returns-clause-acting g c = c.member-2.ensures ∙ ap (λ (m : MemberState g.row.M.Denot). member m) c.in_ok-member.ensures.member
+returns-clause-acting g c = c.member.ensures ∙ ap (λ (m : MemberState g.row.M.Denot). member m) c.in_ok-member.ensures.member
 
 pub returns-clause-came : goal.returns-clause-came
 returns-clause-came g c =
@@ -25,5 +25,5 @@ returns-clause-came g c =
 pub returns-clause-kept : goal.returns-clause-kept
 returns-clause-kept g c d of =
     let M = g.M.Module in
-    subst (λ (a : Acting g.row.M.Denot). IsActing d a) (sym c.member-2.ensures)
+    subst (λ (a : Acting g.row.M.Denot). IsActing d a) (sym c.member.ensures)
     (still_member M.declared M.turn c.args.at c.args.occurrence c.args.member c.in_ok-member.member d of c.in_ok-member.ensures.member)

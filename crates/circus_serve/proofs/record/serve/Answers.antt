@@ -149,8 +149,5 @@ returns g c =
       rose = λ failed. absurd (not_failed (record { happened = c.loop-turn.serving.log.happened; node = c.loop-turn.serving.core }) failed);
     }
 
-pub same-core : goal.same-core
-same-core g c = refl
-
 pub same-gives : goal.same-gives
 same-gives g c = refl

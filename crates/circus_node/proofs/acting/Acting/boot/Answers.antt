@@ -71,7 +71,7 @@ returns-in_ok-came-in-Some-Some-clause-acting g c =
     let a = c.in-Some-Some in
     let views = c.in_ok-views-in-Some-Some.ensures ∙ c.views.ensures ∙ ap (λ (k : Kept). k.views) c.in_ok-ring.ensures in
     acting_here M.declared M.turn M.first c.args.deployment.now c.args.home c.args.hosted a.home a.hosted c.in_ok-views-in-Some-Some.views c.in_ok-member-in-Some-Some.member
-    c.member-in-Some-Some.result a.is-0 a.is-1 views c.member-in-Some-Some.ensures c.in_ok-member-in-Some-Some.ensures.member
+    c.member.result a.is-0 a.is-1 views c.member.ensures c.in_ok-member-in-Some-Some.ensures.member
 
 pub returns-in_ok-came-in-Some-Some-clause-came : goal.returns-in_ok-came-in-Some-Some-clause-came
 returns-in_ok-came-in-Some-Some-clause-came g c =
@@ -86,7 +86,7 @@ returns-in_ok-came-in-Some-Some-clause-kept g c =
     let M = g.M.Module in
     let a = c.in-Some-Some in
     let views = c.in_ok-views-in-Some-Some.ensures ∙ c.views.ensures ∙ ap (λ (k : Kept). k.views) c.in_ok-ring.ensures in
-    subst (λ (x : Acting g.row.M.Denot). IsActing c.args.deployment.now x) (sym c.member-in-Some-Some.ensures)
+    subst (λ (x : Acting g.row.M.Denot). IsActing c.args.deployment.now x) (sym c.member.ensures)
     (booted_of M.declared M.turn M.first a.home.place c.in_ok-views-in-Some-Some.views a.home.beginning a.hosted c.in_ok-member-in-Some-Some.member c.args.deployment.now
     views c.in_ok-member-in-Some-Some.ensures.member)
 

@@ -28,13 +28,13 @@ made_by declared turn d at from heard m self o p own is so =
 
 pub accept-requires : goal.accept-requires
 accept-requires g c =
-    let own = ap (λ (m : MemberState g.row.M.Denot). member m) c.in-Member.member-is ∙ sym (ap acting_of c.in-Member.is) ∙ c.self.view_is in
+    let own = sym (ap acting_of c.in-Member.is) ∙ c.self.view_is in
     subst (λ (a : Acting g.row.M.Denot). IsActing c.args.deployment.now a) (sym own) c.requires
 
 pub returns-in-Some-clause-acting : goal.returns-in-Some-clause-acting
 returns-in-Some-clause-acting g c =
     let M = g.M.Module in
-    let own = ap (λ (m : MemberState g.row.M.Denot). member m) c.in-Member.member-is ∙ sym (ap acting_of c.in-Member.is) ∙ c.self.view_is in
+    let own = sym (ap acting_of c.in-Member.is) ∙ c.self.view_is in
     subst (λ (made : Made g.row.M.Denot). IfOk c.happen.result (λ (r : Acting g.row.M.Denot × Consequences). r.0 ≡ made.acting))
     (made_by M.declared M.turn c.args.deployment.now c.args.at c.args.from c.args.heard _ c.args.self _ _ own c.in_ok-occurrence-in-Member.ensures.accepted c.in-Some.is)
     c.happen.ensures.acting
@@ -42,56 +42,56 @@ returns-in-Some-clause-acting g c =
 pub returns-in-Some-clause-came : goal.returns-in-Some-clause-came
 returns-in-Some-clause-came g c =
     let M = g.M.Module in
-    let own = ap (λ (m : MemberState g.row.M.Denot). member m) c.in-Member.member-is ∙ sym (ap acting_of c.in-Member.is) ∙ c.self.view_is in
+    let own = sym (ap acting_of c.in-Member.is) ∙ c.self.view_is in
     subst (λ (made : Made g.row.M.Denot). IfOk c.happen.result (λ (r : Acting g.row.M.Denot × Consequences). r.1 ≡ made.came))
     (made_by M.declared M.turn c.args.deployment.now c.args.at c.args.from c.args.heard _ c.args.self _ _ own c.in_ok-occurrence-in-Member.ensures.accepted c.in-Some.is)
     c.happen.ensures.came
 
 pub returns-in-Some-clause-kept : goal.returns-in-Some-clause-kept
 returns-in-Some-clause-kept g c =
-    let own = ap (λ (m : MemberState g.row.M.Denot). member m) c.in-Member.member-is ∙ sym (ap acting_of c.in-Member.is) ∙ c.self.view_is in
+    let own = sym (ap acting_of c.in-Member.is) ∙ c.self.view_is in
     c.happen.ensures.kept c.args.deployment.now (subst (λ (a : Acting g.row.M.Denot). IsActing c.args.deployment.now a) (sym own) c.requires)
 
 pub returns-in-None-clause-acting : goal.returns-in-None-clause-acting
 returns-in-None-clause-acting g c =
     let M = g.M.Module in
-    let own = ap (λ (m : MemberState g.row.M.Denot). member m) c.in-Member.member-is ∙ sym (ap acting_of c.in-Member.is) ∙ c.self.view_is in
-    c.member-in-None.ensures
+    let own = sym (ap acting_of c.in-Member.is) ∙ c.self.view_is in
+    c.member.ensures
     ∙ ap (λ (made : Made g.row.M.Denot). made.acting)
     (made_by M.declared M.turn c.args.deployment.now c.args.at c.args.from c.args.heard _ c.args.self _ _ own c.in_ok-occurrence-in-Member.ensures.accepted c.in-None.is)
 
 pub returns-in-None-clause-came : goal.returns-in-None-clause-came
 returns-in-None-clause-came g c =
     let M = g.M.Module in
-    let own = ap (λ (m : MemberState g.row.M.Denot). member m) c.in-Member.member-is ∙ sym (ap acting_of c.in-Member.is) ∙ c.self.view_is in
+    let own = sym (ap acting_of c.in-Member.is) ∙ c.self.view_is in
     c.a_drop.ensures
     ∙ ap (λ (made : Made g.row.M.Denot). made.came)
     (made_by M.declared M.turn c.args.deployment.now c.args.at c.args.from c.args.heard _ c.args.self _ _ own c.in_ok-occurrence-in-Member.ensures.accepted c.in-None.is)
 
 pub returns-in-None-clause-kept : goal.returns-in-None-clause-kept
 returns-in-None-clause-kept g c =
-    let own = ap (λ (m : MemberState g.row.M.Denot). member m) c.in-Member.member-is ∙ sym (ap acting_of c.in-Member.is) ∙ c.self.view_is in
-    subst (λ (a : Acting g.row.M.Denot). IsActing c.args.deployment.now a) (sym (c.member-in-None.ensures ∙ own)) c.requires
+    let own = sym (ap acting_of c.in-Member.is) ∙ c.self.view_is in
+    subst (λ (a : Acting g.row.M.Denot). IsActing c.args.deployment.now a) (sym (c.member.ensures ∙ own)) c.requires
 
 pub happen-requires : goal.happen-requires
 happen-requires g c = rw c.in-Some.is at c.in_ok-occurrence-in-Member.ensures.can
 
 pub perform_heard-requires : goal.perform_heard-requires
 perform_heard-requires g c =
-    let own = ap (λ (k : Kept). ringmaster k) c.in-Ringmaster.ring-is ∙ sym (ap acting_of c.in-Ringmaster.is) ∙ c.self.view_is in
+    let own = sym (ap acting_of c.in-Ringmaster.is) ∙ c.self.view_is in
     subst (λ (a : Acting g.row.M.Denot). IsActing c.args.deployment.now a) (sym own) c.requires
 
 pub returns-in_ok-came-in-Ringmaster-clause-acting : goal.returns-in_ok-came-in-Ringmaster-clause-acting
 returns-in_ok-came-in-Ringmaster-clause-acting g c =
     let M = g.M.Module in
-    let own = ap (λ (k : Kept). ringmaster k) c.in-Ringmaster.ring-is ∙ sym (ap acting_of c.in-Ringmaster.is) ∙ c.self.view_is in
+    let own = sym (ap acting_of c.in-Ringmaster.is) ∙ c.self.view_is in
     c.ringmaster.ensures ∙ ap (λ (k : Kept). ringmaster k) c.in_ok-came-in-Ringmaster.ensures.ring
     ∙ ap (λ (a : Acting g.row.M.Denot). (arrives M.declared M.turn c.args.deployment.now c.args.at c.args.from c.args.heard a).acting) own
 
 pub returns-in_ok-came-in-Ringmaster-clause-came : goal.returns-in_ok-came-in-Ringmaster-clause-came
 returns-in_ok-came-in-Ringmaster-clause-came g c =
     let M = g.M.Module in
-    let own = ap (λ (k : Kept). ringmaster k) c.in-Ringmaster.ring-is ∙ sym (ap acting_of c.in-Ringmaster.is) ∙ c.self.view_is in
+    let own = sym (ap acting_of c.in-Ringmaster.is) ∙ c.self.view_is in
     c.in_ok-came-in-Ringmaster.ensures.came
     ∙ ap (λ (a : Acting g.row.M.Denot). (arrives M.declared M.turn c.args.deployment.now c.args.at c.args.from c.args.heard a).came) own
 

@@ -1,4 +1,4 @@
-use Rattle.std.proofs.Common.{◌≡◌, [], refl, sym, ap, subst, ◌∙◌}
+use Rattle.std.proofs.Common.{◌≡◌, [], sym, ap, subst, ◌∙◌}
 use Rattle.std.proofs.lemmas.Result.{err_from_is_err_and}
 use Rattle.circus_node.specs.declared.station.Station.{Station}
 use Rattle.circus_node.specs.Making.{Made}
@@ -32,9 +32,6 @@ pub returns-in_err-station : goal.returns-in_err-station
 returns-in_err-station g c =
     let p = err_from_is_err_and c.from_residual-in_err-station.result c.from_residual-in_err-station.ensures.1 in
     lost_memory c.from_residual-in_err-station.result (booted g.M.Module.declared g.M.Module.turn g.M.Module.first c.args.deployment.now c.args.module c.args.node) p.0 p.1 p.2
-
-pub same-acting : goal.same-acting
-same-acting g c = refl
 
 pub conclude-requires-clause-station : goal.conclude-requires-clause-station
 conclude-requires-clause-station g c = fresh_stands c.args.deployment.now c.args.node c.in_ok-station.station c.requires.deployment c.in_ok-station.ensures

@@ -1,4 +1,4 @@
-use Rattle.std.proofs.Common.{refl, sym, subst, Err}
+use Rattle.std.proofs.Common.{sym, subst, Err}
 use Rattle.std.proofs.lemmas.Result.{err_from_is_err_and}
 use Rattle.circus_node.specs.Step.{IsEnded, concluded}
 use Rattle.circus_node.specs.Seen.StationOf.{node_of}
@@ -16,9 +16,6 @@ returns-in_err-station g c =
     subst (λ r. IsEnded r (concluded (node_of c.args.station c.args.acting) c.args.gives c.args.came)) (sym p.1)
     (subst (λ f. IsEnded (Err f) (concluded (node_of c.args.station c.args.acting) c.args.gives c.args.came)) (sym p.2)
     (concluded_fault c.args.station c.args.acting c.args.gives c.args.came c.in_err-station.field-0.0 c.in_err-station.ensures))
-
-pub same-acting : goal.same-acting
-same-acting g c = refl
 
 pub invariant_of-result : goal.invariant_of-result
 invariant_of-result g c =

@@ -20,9 +20,6 @@ returns-in_err-gives g c =
     let p = err_from_is_err_and c.from_residual.result c.from_residual.ensures.1 in
     lost_memory c.from_residual.result (received g.M.Module.declared g.M.Module.turn c.args.at c.args.from (reading c.args.bytes.now) c.args.self) p.0 p.1 p.2
 
-pub same-acting : goal.same-acting
-same-acting g c = refl
-
 pub hear-requires : goal.hear-requires
 hear-requires g c =
     let got = c.in_ok-gives.ensures in

@@ -1,4 +1,4 @@
-use Rattle.std.proofs.Common.{◌≡◌, refl, sym, subst, Err, Ok}
+use Rattle.std.proofs.Common.{◌≡◌, sym, subst, Err, Ok}
 use Rattle.std.proofs.lemmas.Result.{err_from_is_err_and}
 use Rattle.circus_node.specs.Step.{IsEnded, ticked}
 use Rattle.circus_node.specs.Seen.StationOf.{node_of}
@@ -14,9 +14,6 @@ returns-in_err-station g c =
     (subst (λ r. IsEnded r (ticked (node_of c.self.inside.station c.self.inside.acting))) (sym p.1)
     (subst (λ f. IsEnded (Err f) (ticked (node_of c.self.inside.station c.self.inside.acting))) (sym p.2)
     (ticked_fault c.self.inside.station c.self.inside.acting c.in_err-station.field-0.0 c.in_err-station.ensures)))
-
-pub same-acting : goal.same-acting
-same-acting g c = refl
 
 pub invariant_of-result : goal.invariant_of-result
 invariant_of-result g c =

@@ -1,6 +1,6 @@
 use Rattle.std.proofs.Common.{◌≡◌, ◌+◌, ◌-◌, ℕ, Bool, cond, [], ◌∷◌, ◌++◌, Option, Some, min, length, vec_len, suc, true, false, refl, sym, ◌∙◌, ap, subst, arith}
 use mir.Val.{bool_byte}
-use Rattle.circus_place.specs.declared.choice.Chosen.{Chosen}
+use Rattle.circus_place.specs.declared.choice.Placement.{Placement}
 use Rattle.circus_value.specs.Among.{is_among}
 use Rattle.circus_place.specs.Seen.Search.{flagged, improves, in_turn, AreApart, best_from}
 use Rattle.circus_place.specs.Seen.Test.{known, is_known_false}
@@ -13,7 +13,7 @@ bool_byte_is true = refl
 bool_byte_is false = refl
 
 -- how much more can be kept, by the numbers that are counted
-counted_is : (most kept flags size len members : ℕ) (best : Option Chosen) (b : Bool) → kept ≡ flags → len ≡ members → b ≡ improves (min most (kept + (size - len))) best → improves (min most (flags + (size - members))) best ≡ b
+counted_is : (most kept flags size len members : ℕ) (best : Option Placement) (b : Bool) → kept ≡ flags → len ≡ members → b ≡ improves (min most (kept + (size - len))) best → improves (min most (flags + (size - members))) best ≡ b
 counted_is most kept flags size len members best b counted len_is is = (λ i. improves (min most (sym counted i + (size - sym len_is i))) best) ∙ sym is
 
 pub extend-returns-then-not-can_improve-clause-best : goal.extend-returns-then-not-can_improve-clause-best
@@ -35,7 +35,7 @@ extend-returns-then-len-self-clause-best t c =
     let ms = c.args.members.now.items in
     let len : length ms ≡ s.size = omega (arith, c.args.members.now.ok.0, c.len-2.ensures, c.if-len-self.true) in
     let chosen : c.in_ok-chosen.field-0 ≡ record { members = ms; kept = flagged s.present.now ms } = c.in_ok-chosen.ensures ∙ (λ i. record { members = c.deref-then-len-self.ensures.value i; kept = c.requires.counted i }) in
-    ap (λ (x : Chosen). Some x) chosen
+    ap (λ (x : Placement). Some x) chosen
     ∙ sym (taken s.test.now s.present.now (length s.present.now) (s.size - vec_len c.args.members.now) s.size s.most ms c.args.best.now c.requires.ready.test len (omega (arith, c.len-2.ensures, c.if-len-self.true))
     (ap (λ l. is_known_false (known s.test.now l)) (sym c.deref.ensures.value) ∙ sym c.fails.ensures ∙ c.if-fails.false)
     (counted_is s.most c.args.kept (flagged s.present.now ms) s.size c.len.result (vec_len c.args.members.now) c.args.best.now c.can_improve.result c.requires.counted c.len.ensures c.can_improve.ensures ∙ c.if-not-can_improve.false))

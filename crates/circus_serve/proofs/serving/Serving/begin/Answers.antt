@@ -1,4 +1,4 @@
-use Rattle.std.proofs.Common.{◌≡◌, ◌∙◌, [], true, false, ap, sym, subst, refl, Ok, Err}
+use Rattle.std.proofs.Common.{◌≡◌, ◌∙◌, [], true, false, ap, sym, subst, Ok, Err}
 use Rattle.std.proofs.lemmas.Result.{err_from_is_err_and}
 use Rattle.circus_node.specs.declared.event.Event.TheVariants.{Join}
 use Rattle.circus_log.specs.Outside.{Tells, tells_of}
@@ -30,9 +30,6 @@ returns-in_err-log g c =
       counts = subst (λ x. ServeCounts x (L.faults c.args.link.now) (L.faults c.begin.new.link)) (sym is)
           (count_at_fault (Serving g.row.M.Denot g.row.M-Paused.Denot) f (L.faults c.args.link.now) (L.faults c.begin.new.link) c.in_err-log.ensures.counts);
     }
-
-pub same-core : goal.same-core
-same-core g c = refl
 
 pub come-requires-clause-node : goal.come-requires-clause-node
 come-requires-clause-node g c = c.requires

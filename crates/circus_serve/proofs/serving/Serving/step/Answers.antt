@@ -97,11 +97,5 @@ returns g c =
       counts = c.in_ok-add_event.ensures.counts;
     }
 
-pub same-core : goal.same-core
-same-core g c = refl
-
-pub same-core-2 : goal.same-core-2
-same-core-2 g c = refl
-
 pub same-suspects : goal.same-suspects
 same-suspects g c = refl
