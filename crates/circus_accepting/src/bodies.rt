@@ -12,7 +12,7 @@ use circus_transfer::{TransferFault, read_values, restore};
 use circus_value::{NoMemory, Outcome, Parts, Shapes, State, Values, values_size};
 use std::alloc::Global;
 
-/// The most bytes of a message in parts.
+// The most bytes of a message in parts.
 const LONGEST_MESSAGE: usize = 16_777_216;
 
 /// One value for each shape, which the bytes from a place on spell. `None` where they don't, or are more than the most.

@@ -1,4 +1,4 @@
-//! A node whose module is replaced by its behaviour takes the same steps.
+// A node whose module is replaced by its behaviour takes the same steps.
 ghost use Rattle.std.specs.Prelude.{◌≡◌, ℕ, Option, option_map};
 ghost use Rattle.circus_collate.specs.declared.deployment.Deployment.{Deployment as Deployed};
 ghost use Rattle.circus_performing.specs.Record.{behaviour};

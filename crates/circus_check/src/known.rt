@@ -40,6 +40,7 @@ impl<'s> Known<'s> {
         }
     }
 
+    /// The types, errors and procedures of an interface by their names, or `NoMemory`.
     pub fn of(alloc: Global, interface: &'s Interface) -> Result<Self, NoMemory>
         ensures { IfOk result (λ known. TellsInterface known interface.now) }
     {

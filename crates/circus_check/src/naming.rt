@@ -37,6 +37,7 @@ pub struct Naming<'s> {
 }
 
 impl<'s> Naming<'s> {
+    /// The modules and interfaces of a program, with their names, or `NoMemory`.
     pub fn new(
         alloc: Global,
         interfaces: &'s [Interface],

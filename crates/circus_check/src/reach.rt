@@ -53,6 +53,7 @@ fn is_root(naming: &Naming<'_>, number: usize) -> bool
 }
 
 impl Reach {
+    /// No module reaches another one. It takes no memory.
     pub fn new(alloc: Global) -> Self
         ensures { result.rows ≡ [] }
     {

@@ -158,12 +158,14 @@ impl CheckedExpressions {
         }
     }
 
+    /// How many there are.
     pub fn len(&self) -> usize
         ensures { result ≡ length self.now }
     {
         self.items.len()
     }
 
+    /// Whether there are none.
     pub fn is_empty(&self) -> bool
         ensures { IsTrue result ↔ (self.now ≡ []) }
     {
@@ -177,6 +179,7 @@ impl CheckedExpressions {
         self.items.get(place)
     }
 
+    /// All of them, in order.
     pub fn as_slice(&self) -> &[CheckedExpression]
         ensures { map tree_of result.now ≡ self.now }
     {
@@ -203,12 +206,14 @@ impl CheckedSuffixes {
         }
     }
 
+    /// How many there are.
     pub fn len(&self) -> usize
         ensures { result ≡ length self.now }
     {
         self.items.len()
     }
 
+    /// Whether there are none.
     pub fn is_empty(&self) -> bool
         ensures { IsTrue result ↔ (self.now ≡ []) }
     {
@@ -222,6 +227,7 @@ impl CheckedSuffixes {
         self.items.get(place)
     }
 
+    /// All of them, in order.
     pub fn as_slice(&self) -> &[CheckedSuffix]
         ensures { map suffix_of result.now ≡ self.now }
     {
@@ -248,6 +254,7 @@ impl CheckedOperand {
         })
     }
 
+    /// The expression.
     pub fn expression(&self) -> &CheckedExpression
         ensures { tree_of result.now ≡ self.now }
     {

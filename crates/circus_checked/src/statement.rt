@@ -122,18 +122,21 @@ impl CheckedStatements {
         }
     }
 
+    /// How many there are.
     pub fn len(&self) -> usize
         ensures { result ≡ length self.now }
     {
         self.items.len()
     }
 
+    /// Whether there are none.
     pub fn is_empty(&self) -> bool
         ensures { IsTrue result ↔ (self.now ≡ []) }
     {
         self.items.is_empty()
     }
 
+    /// All of them, in order.
     pub fn as_slice(&self) -> &[CheckedStatement]
         ensures { map tree_of result.now ≡ self.now }
     {
@@ -160,18 +163,21 @@ impl CheckedHandlers {
         }
     }
 
+    /// How many there are.
     pub fn len(&self) -> usize
         ensures { result ≡ length self.now }
     {
         self.items.len()
     }
 
+    /// Whether there are none.
     pub fn is_empty(&self) -> bool
         ensures { IsTrue result ↔ (self.now ≡ []) }
     {
         self.items.is_empty()
     }
 
+    /// All of them, in order.
     pub fn as_slice(&self) -> &[CheckedHandler]
         ensures { map handler_of result.now ≡ self.now }
     {

@@ -25,7 +25,7 @@ impl<V> Expectation<V> for Expected<'_> {
 }
 
 impl Since {
-    /// Whether a member performs an index itself.
+    // Whether a member performs an index itself.
     fn performs(self, index: u32) -> bool
         ensures { result ≡ expecting.performs self index }
     {

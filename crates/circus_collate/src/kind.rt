@@ -1,3 +1,4 @@
+// The kinds of collators.
 use circus_value::{Duplicate, NoMemory};
 
 /// How one value is taken from what the members of a troupe said (docs/PROTOCOL.md, "Collators").

@@ -1,3 +1,4 @@
+// What the Ringmaster answers.
 use crate::View;
 use circus_value::{Duplicate, NoMemory};
 

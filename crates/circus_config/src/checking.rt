@@ -20,7 +20,7 @@ ghost use Rattle.circus_config.specs.Program.{format_number, IsAnswerTo, HaveThe
 
 use crate::least::refused;
 use crate::told::{of_deployment, of_modules};
-use crate::{Names, Plan, ProgramFault};
+use crate::{ModuleNames, Plan, ProgramFault};
 use circus_check::Interfaces;
 use circus_file::{Format, ProgramText};
 use circus_lang::ModuleText;
@@ -36,10 +36,10 @@ fn format_number(format: Format) -> u8
     }
 }
 
-fn names_of(alloc: Global, modules: &[ModuleText]) -> Result<Names, NoMemory>
+fn names_of(alloc: Global, modules: &[ModuleText]) -> Result<ModuleNames, NoMemory>
     ensures { IfOk result (λ names. names ≡ module_names (map module_of modules.now)) }
 {
-    let mut names = Names::new(alloc);
+    let mut names = ModuleNames::new(alloc);
     for text in modules {
         names.push(text.name.name.copy()?)?;
     }

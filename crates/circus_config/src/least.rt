@@ -27,6 +27,7 @@ pub struct Least {
 }
 
 impl Found {
+    /// The fault of this cause at a place.
     pub fn at(place: u64, cause: ProgramCause) -> Self
         ensures { fault_of result ≡ record { place = place; cause = cause } }
     {

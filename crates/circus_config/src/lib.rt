@@ -15,6 +15,6 @@ mod read;
 mod told;
 
 pub use laws::{answer_is_least, one_answer};
-pub use plan::{Names, Plan};
+pub use plan::{ModuleNames, Plan};
 pub use program_fault::{ProgramCause, ProgramFault};
 pub use read::read_program;

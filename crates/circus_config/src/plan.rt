@@ -8,13 +8,13 @@ use circus_limits::limit_of;
 use circus_value::{ListOf, Name};
 
 /// The names of modules, in their order.
-pub type Names = ListOf<Name>;
+pub type ModuleNames = ListOf<Name>;
 
 /// A program: its troupes and nodes, the names of its modules, and its interfaces and modules, which are well formed.
 #[derive(Debug, Drop)]
 pub struct Plan {
     pub deployment: Deployment,
-    pub names: Names,
+    pub names: ModuleNames,
     pub checked: Checked,
 }
 

@@ -1,3 +1,4 @@
+// Why program files are refused.
 ghost use Rattle.std.specs.Prelude.{◌≡◌};
 ghost use Rattle.circus_config.specs.Rank.{rank_of};
 

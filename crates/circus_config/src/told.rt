@@ -4,7 +4,7 @@ ghost use Rattle.circus_config.specs.Told.{name_at};
 ghost use Rattle.circus_config.specs.Seen.{fault_of, interface_answer, modules_answer, deployment_answer};
 
 use crate::least::Found;
-use crate::{Names, ProgramCause};
+use crate::{ModuleNames, ProgramCause};
 use circus_check::CheckFault;
 use circus_deployment::DeploymentFault;
 use circus_idl::IdlFault;
@@ -27,7 +27,7 @@ pub fn of_interface(fault: IdlFault) -> Result<Found, NoMemory>
 }
 
 // The name of the module of this number.
-fn name_at(alloc: Global, names: &Names, number: u16) -> Result<Name, NoMemory>
+fn name_at(alloc: Global, names: &ModuleNames, number: u16) -> Result<Name, NoMemory>
     ensures { IfOk result (λ name. name ≡ name_at names.now number) }
 {
     match names.get(usize::from(number)) {
@@ -37,7 +37,7 @@ fn name_at(alloc: Global, names: &Names, number: u16) -> Result<Name, NoMemory>
 }
 
 /// A fault of modules, whose names are these.
-pub fn of_modules(alloc: Global, names: &Names, fault: CheckFault) -> Result<Found, NoMemory>
+pub fn of_modules(alloc: Global, names: &ModuleNames, fault: CheckFault) -> Result<Found, NoMemory>
     ensures { IfOk result (λ found. modules_answer names.now fault ≡ Some (fault_of found)) }
 {
     match fault {

@@ -1,3 +1,4 @@
+// What is wrong with deployments.
 ghost use Rattle.std.specs.Prelude.{◌≡◌};
 
 use circus_value::{Name, NoMemory};

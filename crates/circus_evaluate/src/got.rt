@@ -75,13 +75,14 @@ impl<'a> Got<'a> {
         }
     }
 
+    /// A truth value.
     pub(crate) fn truth(truth: bool) -> Self
         ensures { got_as result ≡ evaluating.truth truth }
     {
         Got::Made(Value::Boolean(truth))
     }
 
-    /// The value that is no number.
+    // The value that is no number.
     fn value(&self) -> Option<&Value>
         ensures { value_as result ≡ got.value_of (got_as self.now) }
     {

@@ -1,4 +1,4 @@
-//! What holds of every expression.
+// What holds of every expression.
 ghost use Rattle.std.specs.Prelude.{ℕ, List, IfOk};
 ghost use Rattle.circus_value.specs.ShapeTree.{ShapeTree};
 ghost use Rattle.circus_value.specs.ValueTree.{ValueTree};

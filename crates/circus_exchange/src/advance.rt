@@ -1,4 +1,4 @@
-//! How far a segment brings its message.
+// How far a segment brings its message.
 ghost use Rattle.std.specs.Prelude.{◌≡◌, ◌&&◌, ◌==◌, IfOk};
 ghost use Rattle.circus_segment.specs.Seen.Pieces.{piece};
 ghost use Rattle.circus_exchange.specs.Inbox.{acknowledged};

@@ -1,4 +1,4 @@
-//! One end of an exchange of calls and returns with another node.
+// One end of an exchange of calls and returns with another node.
 ghost use Rattle.std.specs.Prelude.{◌≡◌, ◌≢◌, ◌+◌, ◌≤◌, ◌<◌, ◌++◌, length, not, true, false, if◌then◌else◌, IfOk, OnOk, OnErr};
 ghost use Rattle.std.specs.FinMap as map;
 ghost use Rattle.circus_segment.specs.Segment.{part_size, most_segments, is_acknowledgement, reading};
@@ -63,6 +63,8 @@ impl Drop for Exchange {
 impl Exchange {
     ghost use Rattle.circus_exchange.specs.Exchange.{start, called, datagrams_of_call, returned, datagrams_of_return, awaits_return, was_sent, takes, lets_go, let_go, datagrams_let_go, in_flight_after, call_reached, return_reached, total_of, ended, return_added, after_taken, after, datagrams_of_taken, datagrams_after, arrived_of_taken, arrived_after, ticked, is_suspect, datagrams_of_tick, stopped, sends_at_once};
 
+    /// An end without calls and returns, whose first call gets this number. It grows with this allocator, and sends in this
+    /// format, which is 1 or 2.
     pub fn new(alloc: Global, number: u32, format: u8) -> Self
         ensures { result ≡ start number format }
     {

@@ -1,4 +1,4 @@
-//! Parts of messages that have not arrived whole.
+// Parts of messages that have not arrived whole.
 ghost use Rattle.std.specs.Prelude.{◌≡◌, ◌≤◌, length, IfOk, OnOk, OnErr, option_copied};
 ghost use Rattle.std.specs.FinMap as map;
 ghost use Rattle.circus_segment.specs.Segment.{part_size};
@@ -32,6 +32,7 @@ impl Model for Part {
 }
 
 impl Part {
+    /// These bytes, as a part.
     pub fn of(bytes: Bytes) -> Part
         requires { length bytes ≤ part_size }
         ensures { result ≡ bytes }
@@ -68,6 +69,7 @@ impl Model for Held {
 }
 
 impl Held {
+    /// No parts. It takes no memory.
     pub fn new(alloc: Global) -> Self
         ensures { result ≡ map.empty }
     {

@@ -1,4 +1,4 @@
-//! Messages of one kind that come in, and their parts.
+// Messages of one kind that come in, and their parts.
 ghost use Rattle.std.specs.Prelude.{◌≡◌, ◌≤◌, not, ◌||◌, ◌&&◌, ◌==◌, length, [], option_copied, unwrap_or, if◌then◌else◌, IfOk, OnOk, OnErr};
 ghost use Rattle.std.specs.FinMap as map;
 ghost use Rattle.circus_segment.specs.Segment.{part_size, most_segments, has_data};

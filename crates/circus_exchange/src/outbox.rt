@@ -1,11 +1,11 @@
-//! Messages of one kind that are handed over and sent.
+// Messages of one kind that are handed over and sent.
 ghost use Rattle.std.specs.Prelude.{◌≡◌, ◌≤◌, ◌<◌, ◌++◌, option_map, ◌==◌, IfOk, OnOk, OnErr};
 ghost use Rattle.std.specs.FinMap as map;
 ghost use Rattle.circus_segment.specs.Seen.Pieces.{piece};
 
+use crate::by_call::ByCall;
 use crate::progress::Progress;
 use crate::series::Series;
-use crate::table::Table;
 use circus_segment::{CALL, Cut, Datagrams, PLEASE_ACKNOWLEDGE, Segment};
 use circus_value::{Message, NoMemory};
 use std::alloc::Global;
@@ -16,7 +16,7 @@ use std::marker::Model;
 #[derive(Drop)]
 pub struct Outbox {
     progress: Series<Progress>,
-    messages: Table<Message>,
+    messages: ByCall<Message>,
 }
 
 impl Model for Outbox {
@@ -49,7 +49,7 @@ impl Outbox {
     {
         Outbox {
             progress: Series::new(alloc, first),
-            messages: Table::new(alloc),
+            messages: ByCall::new(alloc),
         }
     }
 

@@ -1,4 +1,4 @@
-//! How far a message has come.
+// How far a message has come.
 ghost use Rattle.std.specs.Prelude.{◌≡◌, ◌+◌, ◌<◌};
 
 /// The segments of a message, and how many of them have come from the first on without a gap. Of a message

@@ -1,4 +1,4 @@
-//! What is known under numbers of which most follow each other.
+// What is known under numbers of which most follow each other.
 ghost use Rattle.std.specs.Prelude.{◌≡◌, ◌+◌, ◌<◌, true, None, Some, IsSome, IsOk, OnOk, OnErr, length, IfSome, MatchOption, option_copied};
 ghost use Rattle.std.specs.BTreeMap.{get, Updates, IsUnchanged};
 ghost use Rattle.std.specs.FinMap as map;
@@ -44,6 +44,7 @@ impl<V> Series<V> {
         }
     }
 
+    /// The value under a number.
     pub fn get(&self, number: u32) -> Option<&V>
         ensures { option_copied result ≡ map.get self.now number }
     {

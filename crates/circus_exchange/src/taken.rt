@@ -1,4 +1,4 @@
-//! What an end answers.
+// What an end answers.
 use circus_segment::Datagrams;
 use circus_value::Parts;
 

@@ -156,12 +156,14 @@ impl Expressions {
         }
     }
 
+    /// How many there are.
     pub fn len(&self) -> usize
         ensures { result ≡ length self.now }
     {
         self.items.len()
     }
 
+    /// Whether there are none.
     pub fn is_empty(&self) -> bool
         ensures { IsTrue result ↔ (self.now ≡ []) }
     {
@@ -175,6 +177,7 @@ impl Expressions {
         self.items.get(place)
     }
 
+    /// All of them, in order.
     pub fn as_slice(&self) -> &[Expression]
         ensures { map tree_of result.now ≡ self.now }
     {
@@ -201,12 +204,14 @@ impl Suffixes {
         }
     }
 
+    /// How many there are.
     pub fn len(&self) -> usize
         ensures { result ≡ length self.now }
     {
         self.items.len()
     }
 
+    /// Whether there are none.
     pub fn is_empty(&self) -> bool
         ensures { IsTrue result ↔ (self.now ≡ []) }
     {
@@ -220,6 +225,7 @@ impl Suffixes {
         self.items.get(place)
     }
 
+    /// All of them, in order.
     pub fn as_slice(&self) -> &[Suffix]
         ensures { map suffix_of result.now ≡ self.now }
     {
@@ -246,6 +252,7 @@ impl Operand {
         })
     }
 
+    /// The expression.
     pub fn expression(&self) -> &Expression
         ensures { tree_of result.now ≡ self.now }
     {

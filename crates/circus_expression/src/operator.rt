@@ -1,3 +1,5 @@
+// The operators of expressions.
+
 /// What joins two expressions to one (docs/LANGUAGE.md, "Expressions").
 #[derive(Clone, Copy, Debug, PartialEq, Eq)]
 pub enum Operator {

@@ -7,6 +7,7 @@ ghost use Rattle.circus_expression.specs.ExpressionReading.{start_of_primary, is
 use crate::{Chain, Operator, PrimaryStart};
 use circus_syntax::Reader;
 
+/// What the next token begins, of the forms of a primary.
 #[tactic(auto, unfolding(crate::specs::ExpressionReading::start_of_primary))]
 pub fn primary_start(reader: &Reader<'_>) -> PrimaryStart
     ensures { result ≡ start_of_primary (next reader.now) }
@@ -28,13 +29,14 @@ pub fn primary_start(reader: &Reader<'_>) -> PrimaryStart
     }
 }
 
+/// Whether the next token begins a suffix.
 pub fn sees_suffix(reader: &Reader<'_>) -> bool
     ensures { result ≡ sees is_suffix reader.now }
 {
     reader.sees_sign(b".") || reader.sees_sign(b"[")
 }
 
-// The operator of the chain that is the next token.
+/// The operator of the chain that is the next token.
 pub fn operator(reader: &Reader<'_>, of: Chain) -> Option<Operator>
     ensures { result ≡ next_operator (operators of) (next reader.now) }
 {
@@ -94,6 +96,7 @@ fn term_operator(reader: &Reader<'_>) -> Option<Operator>
     }
 }
 
+/// The comparison that is the next token.
 pub fn comparison(reader: &Reader<'_>) -> Option<Operator>
     ensures { result ≡ next_operator comparisons (next reader.now) }
 {

@@ -1,3 +1,5 @@
+// What primaries begin with.
+
 /// What a primary begins with.
 #[derive(Clone, Copy, Debug, PartialEq, Eq)]
 pub enum PrimaryStart {

@@ -1,3 +1,4 @@
+// Why bytes are read as no value.
 use circus_value::NoMemory;
 use thiserror::Error;
 

@@ -1,4 +1,4 @@
-//! What holds of every shape and every bytes.
+// What holds of every shape and every bytes.
 ghost use Rattle.std.specs.Prelude.{◌≡◌, ◌+◌, ◌++◌, ℕ, List, true, length};
 ghost use Rattle.circus_value.specs.ValueTree.{ValueTree};
 ghost use Rattle.circus_value.specs.ShapeTree.{ShapeTree, FieldTrees};

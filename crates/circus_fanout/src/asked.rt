@@ -25,7 +25,7 @@ pub struct Asked {
     pub sending: Sending,
 }
 
-// What became of the last sending to a node, where there was one.
+/// What became of the last sending to a node, where there was one.
 pub fn sending_to(asked: &[Asked], node: u16) -> Option<Sending>
     ensures { result ≡ asking.sending_to asked.now node }
 {
@@ -35,7 +35,7 @@ pub fn sending_to(asked: &[Asked], node: u16) -> Option<Sending>
         .map(|one| one.sending)
 }
 
-// Notes what became of the last sending to a node.
+/// Notes what became of the last sending to a node.
 #[tactic(auto, using(crate::proofs::Writing::written_all))]
 pub fn mark(asked: &mut [Asked], node: u16, sending: Sending)
     ensures { asked.new ≡ asking.marked asked.old node sending }
@@ -55,7 +55,7 @@ fn once_marked(one: Asked, node: u16, sending: Sending) -> Asked
     }
 }
 
-// Notes that the call was sent to a node.
+/// Notes that the call was sent to a node.
 pub fn note_sent(asked: &mut Vec<Asked>, node: u16) -> Result<(), NoMemory>
     ensures { OnOk result (asked.new.items ≡ asking.with_sent asked.old.items node) }
 {
@@ -76,7 +76,7 @@ fn was_sent(asked: &[Asked], node: u16) -> bool
     asked.iter().any(|one| one.node == node)
 }
 
-// Who was sent the call, once these sendings are made too.
+/// Who was sent the call, once these sendings are made too.
 #[tactic(auto, using(circus_collate::proofs::Going::fold_more, circus_collate::proofs::Going::fold_all), unfolding(crate::specs::Asking::with_calls))]
 pub fn with_calls(alloc: Global, asked: &[Asked], sends: &Sends) -> Result<Vec<Asked>, NoMemory>
     ensures { IfOk result (λ after. after.items ≡ asking.with_calls asked.now sends.now) }
@@ -118,7 +118,7 @@ fn send_to(view: &View, node: u16) -> Send
     }
 }
 
-// The calls that a view makes due, in its order.
+/// The calls that a view makes due, in its order.
 #[tactic(auto, using(circus_collate::proofs::Going::made_more, circus_collate::proofs::Going::passed_over, circus_collate::proofs::Going::made_all), unfolding(crate::specs::Asking::calls_for_a_view))]
 pub fn calls_for_a_view(
     alloc: Global,
@@ -137,7 +137,7 @@ pub fn calls_for_a_view(
     Ok(sends)
 }
 
-// What follows where a node answers that the call was of an older view.
+/// What follows where a node answers that the call was of an older view.
 #[tactic(auto, unfolding(crate::specs::Asking::next))]
 pub fn next(view: &View, down: &Nodes, node: u16, incarnation: u32) -> Next
     ensures { result ≡ asking.next view.now down.now node incarnation }
@@ -151,7 +151,7 @@ pub fn next(view: &View, down: &Nodes, node: u16, incarnation: u32) -> Next
     }
 }
 
-// What becomes of the last sending to a node that answered so.
+/// What becomes of the last sending to a node that answered so.
 pub fn after_stale(next: Next, incarnation: u32) -> Sending
     ensures { result ≡ asking.after_stale next incarnation }
 {
@@ -180,7 +180,7 @@ fn is_done(down: &Nodes, asked: &[Asked], entry: &Entry) -> bool
     }
 }
 
-// Whether each entry of a view is.
+/// Whether each entry of a view is.
 pub fn all_done(view: &View, down: &Nodes, asked: &[Asked]) -> bool
     ensures { result ≡ list_all (asking.is_done down.now asked.now) view.now.entries }
 {

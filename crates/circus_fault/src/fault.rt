@@ -9,6 +9,7 @@ use circus_syntax::{Numeral, Stop, StopCause};
 pub trait Cause: Copy {
     ghost rank: { Self → ℕ };
 
+    /// The rank.
     fn rank(self) -> u8
         ensures { result ≡ rank self };
 }

@@ -21,6 +21,7 @@ pub struct NumberSet {
 
 #[tactic(auto, unfolding(crate::specs::Seen::Tables::known_of))]
 impl<'a> Names<'a> {
+    /// No names. It takes no memory.
     pub fn new(alloc: Global) -> Self
         ensures { known_of result ≡ nobody }
     {
@@ -29,6 +30,7 @@ impl<'a> Names<'a> {
         }
     }
 
+    /// The number of a name.
     pub fn get(&self, name: &[u8]) -> Option<usize>
         ensures { result ≡ known_of self.now name.now }
     {
@@ -46,6 +48,7 @@ impl<'a> Names<'a> {
 
 #[tactic(auto, unfolding(crate::specs::Seen::Tables::holds_number))]
 impl NumberSet {
+    /// No numbers. It takes no memory.
     pub fn new(alloc: Global) -> Self
         ensures { holds_number result ≡ no_number }
     {

@@ -1,3 +1,4 @@
+// What calls get at once.
 use circus_header::Reply;
 
 /// What a call gets at once.

@@ -22,18 +22,21 @@ impl<'a> Model for CallValue<'a> {
 }
 
 impl<'a> CallValue<'a> {
+    /// A held call, by its value.
     pub fn of(call: &'a HeldCall) -> Self
         ensures { result ≡ call.now }
     {
         CallValue { call }
     }
 
+    /// The held call.
     pub fn call(&self) -> &'a HeldCall
         ensures { result.now ≡ self.now }
     {
         self.call
     }
 
+    /// Who made it.
     pub fn sender(&self) -> Caller
         ensures { result ≡ self.now.sender }
     {

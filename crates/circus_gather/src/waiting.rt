@@ -36,6 +36,7 @@ impl Model for Waiting {
 }
 
 impl Waiting {
+    /// No calls, for a member of this module. It takes no memory.
     pub fn new(alloc: Global, module: u16) -> Self
         ensures { result ≡ record { «module» = «module»; calls = [] } }
     {
@@ -47,6 +48,7 @@ impl Waiting {
         }
     }
 
+    /// The module of the member.
     pub fn module(&self) -> u16
         ensures { result ≡ self.now.«module» }
     {

@@ -1,3 +1,4 @@
+// Why bytes begin with no header.
 ghost use Rattle.std.specs.Prelude.{◌≡◌};
 
 use circus_value::{Duplicate, NoMemory};

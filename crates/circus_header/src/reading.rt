@@ -14,16 +14,16 @@ use circus_limits::{LONGEST_PATH, MOST_ASKS, MOST_MODULES, MOST_NODES};
 use circus_value::{Clock, ListOf, Parts, Path};
 use std::alloc::Global;
 
-/// The greatest number of a module or of a troupe.
+// The greatest number of a module or of a troupe.
 const LAST_MODULE: u16 = MOST_MODULES as u16 - 1;
 
-/// The greatest number of a node.
+// The greatest number of a node.
 const LAST_NODE: u16 = MOST_NODES as u16 - 1;
 
-/// The greatest number of an ask.
+// The greatest number of an ask.
 const LAST_ASK: u16 = MOST_ASKS - 1;
 
-/// How many counts a clock has at most.
+// How many counts a clock has at most.
 const LONGEST_CLOCK: u16 = MOST_MODULES as u16;
 
 /// The header that a call message begins with, and how many bytes it has (docs/FORMATS.md, "Headers").

@@ -20,6 +20,7 @@ pub struct ErrorsByNumber<'a> {
 }
 
 impl<'a> ErrorsByNumber<'a> {
+    /// The errors with the places of their numbers, or `NoMemory`.
     pub fn new(alloc: Global, errors: &'a [DeclaredError]) -> Result<Self, NoMemory>
         ensures { IfOk result (λ names. names.errors.now ≡ errors.now) }
     {

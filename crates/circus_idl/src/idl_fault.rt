@@ -1,3 +1,4 @@
+// What is wrong with the texts of interfaces.
 ghost use Rattle.std.specs.Prelude.{◌≡◌};
 
 use circus_value::NoMemory;

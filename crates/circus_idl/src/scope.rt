@@ -39,7 +39,7 @@ pub struct Scope<'a> {
     pub parts: u32,
 }
 
-/// Whether no fault stands inside of the types of fields and among their names.
+// Whether no fault stands inside of the types of fields and among their names.
 fn are_clean(alloc: Global, types: &Types, groups: &[GroupText]) -> Result<bool, NoMemory>
     ensures { IfOk result (λ clean. clean ≡ is_clean (faults.repeated_names no_name (group_names (group_trees (map group_of groups.now)))
         ++ faults.inside_groups (is_known types.now) (group_trees (map group_of groups.now)))) }

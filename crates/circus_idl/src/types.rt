@@ -28,6 +28,7 @@ pub struct Types<'a> {
 }
 
 impl<'a> Types<'a> {
+    /// No types. It takes no memory.
     pub fn new(alloc: Global) -> Self
         ensures known { is_known result ≡ no_name }
         ensures sized { type_measure result ≡ (λ _. measure_of boolean) }

@@ -41,6 +41,7 @@ impl Writer {
         })
     }
 
+    /// What was written.
     pub fn text(self) -> Octets
         ensures { result ≡ self }
     {

@@ -1,3 +1,4 @@
+// What is wrong with the texts of modules.
 ghost use Rattle.std.specs.Prelude.{◌≡◌};
 
 use circus_value::NoMemory;

@@ -8,7 +8,7 @@ ghost use Rattle.circus_load.specs.Loaded.{behaviours_in};
 
 use circus_check::Interfaces;
 use circus_collate::Deployment;
-use circus_config::{Names, Plan};
+use circus_config::{ModuleNames, Plan};
 use circus_machine::TextModule;
 use circus_modules::modules_of;
 use circus_value::NoMemory;
@@ -19,7 +19,7 @@ use std::alloc::Global;
 #[derive(Drop)]
 pub struct Loaded {
     pub deployment: Deployment,
-    pub names: Names,
+    pub names: ModuleNames,
     pub interfaces: Interfaces,
     pub modules: Vec<TextModule>,
 }

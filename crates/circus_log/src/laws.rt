@@ -1,4 +1,4 @@
-//! What holds of every node that is served.
+// What holds of every node that is served.
 ghost use Rattle.std.specs.Prelude.{◌≡◌, ℕ, true, false, slice_get, Option, None, Some, Ok, List};
 ghost use Rattle.circus_value.specs.Among.{is_among};
 ghost use Rattle.circus_collate.specs.declared.deployment.Deployment.{Deployment};

@@ -19,7 +19,7 @@ use circus_model::Turn;
 use circus_value::{NoMemory, Outcome, State, Values};
 use std::alloc::{AllocError, Global};
 
-/// The steps that an execution has.
+// The steps that an execution has.
 const MOST_STEPS: u32 = 1_000_000;
 
 /// What a procedure does (docs/LANGUAGE.md, "Statements").

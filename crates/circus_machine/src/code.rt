@@ -57,8 +57,10 @@ pub(crate) struct Catch {
     pub offset: u32,
 }
 
+/// Where errors of a call go, in the order in which they are tried.
 pub(crate) type Catches = ListOf<Catch>;
 
+/// Instructions, one behind another.
 pub(crate) type Code = ListOf<Instruction>;
 
 /// The code of a body, or `NoMemory`.

@@ -1,4 +1,4 @@
-//! What holds of every body.
+// What holds of every body.
 ghost use Rattle.std.specs.Prelude.{ℕ, List, IfOk};
 ghost use Rattle.circus_value.specs.ShapeTree.{ShapeTree, sequence};
 ghost use Rattle.circus_value.specs.ValueTree.{ValueTree};

@@ -101,7 +101,7 @@ fn resize(size: u64, grows: u64, shrinks: u64, limit: u32) -> Result<u64, Langua
     }
 }
 
-/// The size of a variable and that of the state, once the variable has changed.
+// The size of a variable and that of the state, once the variable has changed.
 #[derive(Clone, Copy, Drop)]
 struct Sizes {
     variable: u64,

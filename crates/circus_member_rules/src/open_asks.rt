@@ -38,6 +38,7 @@ impl Model for OpenAsks {
 }
 
 impl OpenAsks {
+    /// No asks. It takes no memory.
     pub fn new(alloc: Global) -> Self
         ensures { result ≡ [] }
     {

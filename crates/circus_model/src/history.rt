@@ -16,6 +16,7 @@ pub struct Ask {
     pub after: Clock,
 }
 
+/// The calls of a run, in the order in which it made them.
 pub type Asks = ListOf<Ask>;
 
 /// One execution of a procedure, from its entry to its end.
@@ -36,6 +37,7 @@ pub struct Run {
     pub end: Clock,
 }
 
+/// The runs of a module, in order.
 pub type Runs = ListOf<Run>;
 
 /// The runs of each module, in module order.

@@ -1,4 +1,4 @@
-//! What holds of every history, over all modules that agree and keep to the laws of `Module`.
+// What holds of every history, over all modules that agree and keep to the laws of `Module`.
 ghost use Rattle.std.specs.Prelude.{◌≡◌, ℕ, ◌+◌, ◌<◌, true, false, List, [], ◌∷◌, ◌++◌, length, Some, slice_get, slice_index};
 ghost use Rattle.circus_model.specs.declared.history.Ask.{Ask};
 ghost use Rattle.circus_model.specs.declared.history.Run.{Run};

@@ -28,6 +28,7 @@ pub trait Module: Sized + Drop {
     /// The paused execution stands for that state, procedure, arguments and replies.
     ghost stands: { Self → Self.Paused → List ValueTree → ℕ → List ValueTree → List Ended → Type 0 };
 
+    /// What it declares.
     fn signature(&self) -> &Signature
         ensures { result.now ≡ declared self.now };
 
@@ -39,6 +40,7 @@ pub trait Module: Sized + Drop {
         ensures stands { IfOk result (λ copy. (paused : Self.Paused) (state : List ValueTree) (procedure : ℕ) (arguments : List ValueTree) (replies : List Ended) →
             (stands copy paused state procedure arguments replies ↔ stands self.now paused state procedure arguments replies)) };
 
+    /// The state before the first execution, or `NoMemory`.
     fn first_state(&self) -> Result<State, NoMemory>
         ensures { IfOk result (λ state. state ≡ first self.now) };
 

@@ -22,6 +22,7 @@ pub struct Import {
     pub procedures: ProcedureShapes,
 }
 
+/// The imported modules, in the order in which they are named.
 pub type Imports = ListOf<Import>;
 
 /// A procedure, by its number, with the errors that it reports.
@@ -33,6 +34,7 @@ pub struct ProcedureShape {
     pub errors: ErrorShapes,
 }
 
+/// The procedures of a module.
 pub type ProcedureShapes = ListOf<ProcedureShape>;
 
 /// The first procedure with a number. It takes no memory.
@@ -52,6 +54,7 @@ pub struct ErrorShape {
     pub arguments: Shapes,
 }
 
+/// The errors of a procedure.
 pub type ErrorShapes = ListOf<ErrorShape>;
 
 impl Duplicate for ErrorShape {

@@ -1,4 +1,4 @@
-//! What holds of every node at boot, and of a member over every list of what happens to it.
+// What holds of every node at boot, and of a member over every list of what happens to it.
 ghost use Rattle.std.specs.Prelude.{◌≡◌, ◌<◌, ℕ, List, length};
 ghost use Rattle.circus_collate.specs.Deployment.{IsDeployment};
 ghost use Rattle.circus_collate.specs.declared.deployment.Deployment.{Deployment as Deployed};

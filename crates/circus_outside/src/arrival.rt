@@ -28,7 +28,7 @@ impl Duplicate for Arrival {
     }
 }
 
-// The place of the arrivals that a take looked at, or that it failed.
+/// The place of the arrivals that a take looked at, or that it failed.
 #[derive(Drop)]
 pub enum Look {
     At(usize),
@@ -47,7 +47,7 @@ fn cut(alloc: Global, arrival: &Arrival) -> Result<TakenFrom, NoMemory>
     Ok(TakenFrom::From(arrival.port, bytes))
 }
 
-// What a take that looks at this place answers, and the place that the next one looks at.
+/// What a take that looks at this place answers, and the place that the next one looks at.
 pub fn arrival_at(
     alloc: Global,
     arrivals: &Arrivals,

@@ -7,7 +7,7 @@ use circus_value::ListOf;
 /// The numbers of the calls that are to fail, counted from 0.
 pub type Failing = ListOf<u64>;
 
-// The calls of a form in memory. A call that finds no memory takes no number.
+/// The calls of a form in memory. A call that finds no memory takes no number.
 #[derive(Drop)]
 pub struct Calls {
     pub failing: Failing,
@@ -16,6 +16,7 @@ pub struct Calls {
 }
 
 impl Calls {
+    /// No call was made yet; these are to fail.
     pub fn new(failing: Failing) -> Self
         ensures { result ≡ record { failing = failing; number = 0; faults = 0 } }
     {
@@ -26,21 +27,21 @@ impl Calls {
         }
     }
 
-    // Whether the next call is to fail.
+    /// Whether the next call is to fail.
     pub fn is_failing(&self) -> bool
         ensures { IsTrue result ↔ Contains self.now.failing self.now.number }
     {
         self.failing.as_slice().contains(&self.number)
     }
 
-    // The next call was answered.
+    /// The next call was answered.
     pub fn answered(&mut self)
         ensures { self.new ≡ record self.old { number = one_more self.old.number } }
     {
         self.number = self.number.saturating_add(1);
     }
 
-    // The next call failed.
+    /// The next call failed.
     pub fn failed(&mut self)
         ensures failed { self.new ≡ record self.old { number = one_more self.old.number; faults = one_more self.old.faults } }
         ensures never_falls { self.old.faults ≤ self.new.faults }

@@ -26,7 +26,7 @@ impl Duplicate for File {
     }
 }
 
-// The contents of the first file of this name.
+/// The contents of the first file of this name.
 pub fn first_of<'a>(files: &'a Files, name: &str) -> Option<&'a Message>
     ensures { option_copied result ≡ contents_in files.now name.now }
 {

@@ -6,7 +6,7 @@ ghost use Rattle.circus_outside.specs.declared.link.LinkFault.TheVariants.{NoMem
 use circus_value::{Duplicate, Message, NoMemory};
 use thiserror::Error;
 
-// The longest datagram that a link answers, in bytes.
+/// The longest datagram that a link answers, in bytes.
 pub const LONGEST_DATAGRAM: usize = 2_048;
 
 /// What a link answers to a take.

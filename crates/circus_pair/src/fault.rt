@@ -1,4 +1,4 @@
-//! Why a call is not sent.
+// Why a call is not sent.
 use thiserror::Error;
 
 /// Why a call is not sent.

@@ -1,4 +1,4 @@
-//! What holds of an end after every list of acts.
+// What holds of an end after every list of acts.
 ghost use Rattle.std.specs.Prelude.{◌≡◌, ◌⊎◌, ℕ, ◌+◌, ◌≤◌, true, false, not, ◌&&◌, ◌==◌, List, [], Some, Ok, is_some, count_by, slice_get, if◌then◌else◌};
 ghost use Rattle.circus_exchange.specs.declared.taken.Arrived.TheVariants.{ArrivedCall};
 ghost use Rattle.circus_segment.specs.Segment.{Piece, IsSegment, is_acknowledgement, reading, spelling};

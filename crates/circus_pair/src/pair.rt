@@ -1,4 +1,4 @@
-//! A pair: one end of the paired messages between two nodes.
+// A pair: one end of the paired messages between two nodes.
 ghost use Rattle.std.specs.Prelude.{◌≡◌, ◌⊎◌, ℕ, ◌+◌, ◌<◌, not, ◌&&◌, is_some, true, false, IfOk, OnOk, OnErr, Ok, Err};
 ghost use Rattle.circus_segment.specs.Segment.{reading};
 ghost use Rattle.circus_segment.specs.Seen.Pieces.{piece};

@@ -1,4 +1,4 @@
-//! The datagrams that an end has sent.
+// The datagrams that an end has sent.
 ghost use Rattle.std.specs.Prelude.{◌≡◌, [], ◌++◌, length, nat_lt, IfOk, OnOk};
 
 use bytes::Bytes;
@@ -16,6 +16,7 @@ pub struct Sent {
 }
 
 impl Sent {
+    /// Nothing was sent. It takes no memory.
     pub fn new(alloc: Global) -> Self
         ensures shared { result.shared.items ≡ [] }
         ensures fresh { result.fresh ≡ [] }

@@ -1,4 +1,4 @@
-//! One of two ends that are put together.
+// One of two ends that are put together.
 ghost use Rattle.std.specs.Prelude.{◌≡◌, ◌⊎◌, [], length, nat_lt, slice_get, false, IfOk, OnOk, OnErr, Some, Err};
 ghost use Rattle.circus_pair.specs.declared.two_ends.TwoFault.TheVariants.{NoSuch, Spent};
 ghost use Rattle.circus_pair.specs.Acts.{Call, Return, Tick};

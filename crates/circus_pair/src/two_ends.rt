@@ -1,4 +1,4 @@
-//! Two ends of a pair that are put together, and what happens at them.
+// Two ends of a pair that are put together, and what happens at them.
 ghost use Rattle.std.specs.Prelude.{◌≡◌, ◌⊎◌, ℕ, true, false, length, slice_get, nat_lt, ◌++◌, IfOk, OnOk, OnErr, Err};
 ghost use Rattle.circus_pair.specs.declared.two_ends.TwoFault.TheVariants.{NoSuch, Spent};
 ghost use Rattle.circus_pair.specs.TwoEnds.{History, begun, then_came, both_after, acts_of, IsLawfulHistory, Agree, arrived_at, acting, noted, moved, delivered, arrived_by, stepped, arrives, CanBeSent, names_none, has_no_number};

@@ -1,4 +1,4 @@
-//! What holds of two ends after every lawful list of acts, in which datagrams are lost, repeated and reordered.
+// What holds of two ends after every lawful list of acts, in which datagrams are lost, repeated and reordered.
 ghost use Rattle.std.specs.Prelude.{◌≡◌, ◌⊎◌, ℕ, Bool, not, true, false, List, Some, Ok, ◌&&◌, ◌==◌, if◌then◌else◌, count_by, slice_get};
 ghost use Rattle.std.specs.FinMap.{get};
 ghost use Rattle.circus_exchange.specs.declared.progress.Progress.{Progress};

@@ -1,4 +1,4 @@
-//! What holds of a record after every list of acts.
+// What holds of a record after every list of acts.
 ghost use Rattle.std.specs.Prelude.{◌≡◌};
 ghost use Rattle.circus_model.specs.Behaviour.{Behaviour, IsModule};
 ghost use Rattle.circus_performing.specs.Acts.{Acts, AreLawful, performed_by};

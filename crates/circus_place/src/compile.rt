@@ -23,6 +23,7 @@ pub struct Compiler<'a> {
 }
 
 impl<'a> Compiler<'a> {
+    /// The machines of a placing and their attributes, or `NoMemory`.
     pub fn new(alloc: Global, placing: &'a Placing) -> Result<Self, NoMemory>
         requires { Obeys placing.now }
         ensures machines { IfOk result (λ made. AreTablesOf placing.now.machines made.machines.items) }

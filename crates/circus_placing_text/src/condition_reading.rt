@@ -124,6 +124,7 @@ fn and(
     Ok(ConditionText::And(Box::new(alloc, left)?, Box::new(alloc, right)?))
 }
 
+/// Reads a condition, or stops.
 #[cycle(conditions)]
 pub fn condition(reader: &mut Reader, levels: u8) -> Result<ConditionText, NoMemory>
     ensures { IfOk result (λ read. condition levels reader.old ≡ (written_of read, reader.new)) }

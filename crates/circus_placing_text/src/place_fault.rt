@@ -1,3 +1,4 @@
+// Why the texts of placings are refused.
 ghost use Rattle.std.specs.Prelude.{◌≡◌};
 
 use circus_fault::Cause;

@@ -25,6 +25,7 @@ pub enum AloneStart {
     Relation,
 }
 
+/// What the next token begins, of the forms of a value.
 #[tactic(auto, unfolding(crate::specs::Reading::value_start))]
 pub fn value_start(reader: &Reader) -> ValueStart
     ensures { result ≡ value_start (next reader.now) }
@@ -40,6 +41,7 @@ pub fn value_start(reader: &Reader) -> ValueStart
     }
 }
 
+/// What the next token begins, of the forms of a condition that stands by itself.
 #[tactic(auto, unfolding(crate::specs::Reading::alone_start))]
 pub fn alone_start(reader: &Reader) -> AloneStart
     ensures { result ≡ alone_start (next reader.now) }

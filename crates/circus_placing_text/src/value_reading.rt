@@ -12,7 +12,7 @@ use circus_syntax::{Named, Nameds, Reader, StopCause};
 use circus_text::TokenKind;
 use circus_value::{Name, NoMemory};
 
-// The next token's bytes, if it is a name of a placing.
+/// The next token's bytes, if it is a name of a placing.
 pub fn next_name<'a>(reader: &Reader<'a>) -> Option<&'a [u8]>
     ensures { MatchOption result (sees is_own_name reader.now ≡ false)
         (λ bytes. (t : Placed) × (next reader.now ≡ Some t) × (is_own_name t ≡ true) × (bytes.now ≡ t.bytes)) }
@@ -23,7 +23,7 @@ pub fn next_name<'a>(reader: &Reader<'a>) -> Option<&'a [u8]>
     }
 }
 
-// Reads a name, or stops and answers `x`.
+/// Reads a name, or stops and answers `x`.
 #[tactic(auto, unfolding(crate::specs::Reading::own_name))]
 pub fn own_name(reader: &mut Reader) -> Result<Named, NoMemory>
     ensures { IfOk result (λ read. own_name reader.old ≡ (read, reader.new)) }
@@ -43,6 +43,7 @@ pub fn own_name(reader: &mut Reader) -> Result<Named, NoMemory>
     Ok(Named { name, at })
 }
 
+/// Reads one name or more with commas between them, or stops.
 #[tactic(auto, unfolding(crate::specs::Reading::own_names))]
 pub fn names(reader: &mut Reader) -> Result<Nameds, NoMemory>
     ensures { IfOk result (λ read. own_names reader.old ≡ (read, reader.new)) }
@@ -76,6 +77,7 @@ fn constant_by(reader: &mut Reader, start: ValueStart) -> Result<ConstantText, N
     }
 }
 
+/// Reads a constant, or stops.
 #[tactic(auto, unfolding(crate::specs::Reading::a_constant))]
 pub fn constant(reader: &mut Reader) -> Result<ConstantText, NoMemory>
     ensures { IfOk result (λ read. a_constant reader.old ≡ (read, reader.new)) }
@@ -97,6 +99,7 @@ fn number_or_attribute(reader: &mut Reader) -> Result<OperandText, NoMemory>
     }
 }
 
+/// Reads an attribute of a member or a constant, or stops.
 #[tactic(auto, unfolding(crate::specs::Reading::an_operand))]
 pub fn operand(reader: &mut Reader) -> Result<OperandText, NoMemory>
     ensures { IfOk result (λ read. an_operand reader.old ≡ (read, reader.new)) }
@@ -129,7 +132,7 @@ fn comparison(reader: &Reader) -> Option<Comparison>
     }
 }
 
-// A comparison and its right side, if there is one.
+/// A comparison and its right side, if there is one.
 #[tactic(auto, unfolding(crate::specs::Reading::compared))]
 pub fn compared(reader: &mut Reader) -> Result<Option<(Comparison, OperandText)>, NoMemory>
     ensures { IfOk result (λ read. compared reader.old ≡ (read, reader.new)) }

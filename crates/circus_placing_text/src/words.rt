@@ -1,3 +1,4 @@
+// The words of placings.
 ghost use Rattle.std.specs.Prelude.{◌≡◌};
 ghost use Rattle.circus_placing_text.specs.Words.{is_placing_word};
 

@@ -24,21 +24,21 @@ pub enum Step<'a> {
     Serve(Plan, u16, u32),
 }
 
-/// What is done with a plan: a sample of so many lines is drawn from a seed, or a node is served for so many takes.
+// What is done with a plan: a sample of so many lines is drawn from a seed, or a node is served for so many takes.
 #[derive(Clone, Copy)]
 enum Task<'a> {
     Sample(u64, u32),
     Node(&'a str, u32),
 }
 
-/// A command that reads one file: it comes to an end, or to a plan with which something is done.
+// A command that reads one file: it comes to an end, or to a plan with which something is done.
 #[derive(Clone, Copy)]
 enum Command<'a> {
     End(OneFile),
     OfPlan(Task<'a>),
 }
 
-/// A form that is built, with its files.
+// A form that is built, with its files.
 enum Built<'a> {
     OneFile(Command<'a>, &'a str),
     Replay(&'a str, &'a str),
@@ -47,7 +47,7 @@ enum Built<'a> {
 ghost use Rattle.circus_program.specs.Seen.Step.{due_of, Stands, LacksNone, IsLackNoted, IsStepBehind, IsStepOfProgram, IsStepOfReplay, IsStepOfFile};
 ghost use Rattle.circus_program.specs.Seen.Built.{IsDueOfTask, IsDueOfCommand, built_form};
 
-/// What comes of a replay whose program is fetched and read.
+// What comes of a replay whose program is fetched and read.
 fn replay_plan<'a, S: Shelf>(
     alloc: Global,
     plan: Plan,
@@ -71,7 +71,7 @@ fn replay_plan<'a, S: Shelf>(
     }
 }
 
-/// What comes of a replay whose first file is fetched.
+// What comes of a replay whose first file is fetched.
 fn replay_program<'a, S: Shelf>(
     alloc: Global,
     program: &[u8],
@@ -89,7 +89,7 @@ fn replay_program<'a, S: Shelf>(
     }
 }
 
-/// What comes of a replay of two files.
+// What comes of a replay of two files.
 fn replay<'a, S: Shelf>(
     alloc: Global,
     program: &'a str,
@@ -110,7 +110,7 @@ fn replay<'a, S: Shelf>(
     Ok(step)
 }
 
-/// What comes of a plan.
+// What comes of a plan.
 fn of_plan<'a>(alloc: Global, plan: Plan, task: Task<'_>) -> Result<Step<'a>, NoMemory>
     requires { IsPlan plan }
     ensures due { IfOk result (λ step. IsDueOfTask task.entry plan (due_of step)) }
@@ -126,7 +126,7 @@ fn of_plan<'a>(alloc: Global, plan: Plan, task: Task<'_>) -> Result<Step<'a>, No
     }
 }
 
-/// What comes of the bytes of a file.
+// What comes of the bytes of a file.
 fn of_bytes<'a>(alloc: Global, command: Command<'_>, bytes: &[u8]) -> Result<Step<'a>, NoMemory>
     ensures due { IfOk result (λ step. IsDueOfCommand command.entry bytes.now (due_of step)) }
     ensures stands { IfOk result Stands }
@@ -141,7 +141,7 @@ fn of_bytes<'a>(alloc: Global, command: Command<'_>, bytes: &[u8]) -> Result<Ste
     }
 }
 
-/// What comes of a command of one file.
+// What comes of a command of one file.
 fn one_file<'a, S: Shelf>(
     alloc: Global,
     command: Command<'_>,
@@ -162,7 +162,7 @@ fn one_file<'a, S: Shelf>(
     Ok(step)
 }
 
-/// The form, where it is built.
+// The form, where it is built.
 fn built_of(form: CommandForm<'_>) -> Option<Built<'_>>
     ensures some { IfSome result (λ built. form_of form.entry ≡ built_form built) }
     ensures other { IfNone result (IsDueOfForm (form_of form.entry) [] not_built) }

@@ -74,7 +74,7 @@ pub fn circus<S: Shelf, K: Sink, L: Link>(
     status.code()
 }
 
-/// Does what the words ask for.
+// Does what the words ask for.
 fn answer<S: Shelf, K: Sink, L: Link>(
     alloc: Global,
     words: &[String],
@@ -96,7 +96,7 @@ fn answer<S: Shelf, K: Sink, L: Link>(
     finish(sink, status)
 }
 
-/// Writes what a step comes to, and answers its status where all of it was taken.
+// Writes what a step comes to, and answers its status where all of it was taken.
 fn write<K: Sink, L: Link>(alloc: Global, step: Step<'_>, sink: &mut K, link: &mut L) -> Status
     requires { Stands step }
     ensures put { IsPutStep (tells_of (L.bound link.old) (L.taken link.old) (L.given link.old)) (tells_of (L.bound link.new) (L.taken link.new) (L.given link.new))
@@ -114,7 +114,7 @@ fn write<K: Sink, L: Link>(alloc: Global, step: Step<'_>, sink: &mut K, link: &m
     }
 }
 
-/// The status of a call whose last line is put, once the sink has given on what it gathered.
+// The status of a call whose last line is put, once the sink has given on what it gathered.
 fn finish<K: Sink>(sink: &mut K, status: Status) -> Status
     ensures written { K.written sink.new ≡ K.written sink.old }
     ensures stopped { (status ≡ Status.SinkFault) ⊎ (status ≡ Status.NoMemory)
@@ -131,7 +131,7 @@ fn finish<K: Sink>(sink: &mut K, status: Status) -> Status
     }
 }
 
-/// The line of a file that the shelf doesn't give.
+// The line of a file that the shelf doesn't give.
 fn lack(alloc: Global, name: &str) -> Result<Ending, NoMemory>
     ensures { IfOk result (λ ending. ending_of ending ≡ record { status = Status.ShelfFault; text = shelf_fault name.now }) }
 {

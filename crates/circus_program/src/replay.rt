@@ -11,7 +11,7 @@ use crate::put::put_end;
 use crate::ready::Ready;
 use crate::schedule_refused::illegal;
 use circus_collate::Hosts;
-use circus_config::Names;
+use circus_config::ModuleNames;
 use circus_ending::{Status, spent};
 use circus_model::Module;
 use circus_outside::Sink;
@@ -42,7 +42,7 @@ fn follow<M: Module, K: Sink>(
     alloc: Global,
     mut running: Running<M>,
     hosts: &Hosts,
-    names: &Names,
+    names: &ModuleNames,
     lines: &[Line],
     sink: &mut K,
 ) -> Status

@@ -38,6 +38,7 @@ impl Drop for AskRecord {
     }
 }
 
+/// The calls of a run, in the order in which it made them.
 pub type AskRecords = ListOf<AskRecord>;
 
 /// One execution of a procedure. Its outcome, state, clock and step at the end are there exactly where it has ended.
@@ -81,6 +82,7 @@ impl Drop for RunRecord {
     }
 }
 
+/// The runs of a member, in order.
 pub type RunRecords = ListOf<RunRecord>;
 
 /// What a member performed, and its state now.

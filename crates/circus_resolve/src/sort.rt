@@ -58,6 +58,7 @@ impl<'s> Sort<'s> {
         }
     }
 
+    /// Whether it is that of numbers.
     pub fn is_number(self) -> bool
         ensures { result ≡ passing.is_number (sort_as self.entry) }
     {
@@ -68,6 +69,7 @@ impl<'s> Sort<'s> {
         }
     }
 
+    /// Whether it is that of truth values.
     pub fn is_truth(self) -> bool
         ensures { result ≡ passing.is_truth (sort_as self.entry) }
     {
@@ -78,6 +80,7 @@ impl<'s> Sort<'s> {
         }
     }
 
+    /// Whether it is that of strings.
     pub fn is_text(self) -> bool
         ensures { result ≡ passing.is_text (sort_as self.entry) }
     {

@@ -10,7 +10,7 @@ use circus_limits::MOST_MEMBERS;
 use circus_value::{Duplicate, ListOf, NoMemory, is_among};
 use std::alloc::Global;
 
-/// The incarnation after which none comes.
+// The incarnation after which none comes.
 const LAST_INCARNATION: u32 = u32::MAX;
 
 /// How a request about this troupe is taken, and the troupe's view afterwards.

@@ -15,10 +15,10 @@ use circus_limits::{MOST_MEMBERS, MOST_MODULES, MOST_NODES};
 use circus_value::{ListOf, Message, NoMemory};
 use std::alloc::Global;
 
-/// The greatest number of a troupe.
+// The greatest number of a troupe.
 const LAST_TROUPE: u16 = MOST_MODULES as u16 - 1;
 
-/// The greatest number of a node.
+// The greatest number of a node.
 const LAST_NODE: u16 = MOST_NODES as u16 - 1;
 
 /// Adds the bytes of a table at the end of `out` (docs/FORMATS.md, "Tables"). After `NoMemory`, the one fault, `out`

@@ -48,7 +48,7 @@ pub fn put_lines<K: Sink>(sink: &mut K, text: &[u8]) -> Result<(), PutFault>
     Ok(())
 }
 
-/// Where the line that begins at a place ends, behind its newline.
+// Where the line that begins at a place ends, behind its newline.
 fn line_end(text: &[u8], at: usize) -> usize
     requires { at < length text.now }
     ensures further { at < result }

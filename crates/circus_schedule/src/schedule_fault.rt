@@ -1,3 +1,4 @@
+// Why schedules are refused.
 use circus_value::{Name, NoMemory};
 use thiserror::Error;
 

@@ -1,4 +1,4 @@
-//! Messages cut into segments.
+// Messages cut into segments.
 ghost use Rattle.std.specs.Prelude.{◌≡◌, ◌≤◌, ◌++◌, [], ◌∷◌, length, IfOk, OnOk};
 ghost use Rattle.circus_segment.specs.Segment.{spelling};
 ghost use Rattle.circus_segment.specs.Cut.{segment_count, part_at, segment_of, first_datagrams, whole};

@@ -1,4 +1,4 @@
-//! Why a datagram is no segment.
+// Why a datagram is no segment.
 use thiserror::Error;
 
 /// What is wrong with the bytes of a datagram: the first of these that applies (docs/FORMATS.md, "Segments").

@@ -1,4 +1,4 @@
-//! What holds of the bytes of every segment.
+// What holds of the bytes of every segment.
 ghost use Rattle.std.specs.Prelude.{◌≡◌, Ok};
 ghost use Rattle.circus_segment.specs.Segment.{Piece, IsSegment, reading, spelling};
 

@@ -1,4 +1,4 @@
-//! Segments: what a datagram says of a message, and its bytes.
+// Segments: what a datagram says of a message, and its bytes.
 ghost use Rattle.std.specs.Prelude.{◌≡◌, ◌≤◌, ◌++◌, IfOk, OnOk, MatchResult, length, true, false};
 ghost use Rattle.circus_segment.specs.Segment.{Piece, is_second, header_refusal, field_refusal, fields_of, spelling, IsSegment, reading};
 ghost use Rattle.circus_segment.specs.Seen.Pieces.{piece, Reads};

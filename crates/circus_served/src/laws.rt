@@ -1,4 +1,4 @@
-//! What serving a node comes to depends on what its module does alone.
+// What serving a node comes to depends on what its module does alone.
 ghost use Rattle.std.specs.Prelude.{◌≡◌, ℕ, List};
 ghost use Rattle.circus_collate.specs.declared.deployment.Deployment.{Deployment};
 ghost use Rattle.circus_outside.specs.declared.link.TakenFrom.{TakenFrom};

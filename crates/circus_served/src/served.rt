@@ -12,7 +12,7 @@ ghost use Rattle.circus_served.specs.Seen.Ended.{EndsSo};
 ghost use Rattle.circus_log.specs.Outside.{tells_of};
 
 use circus_collate::Deployment;
-use circus_config::{Names, Plan};
+use circus_config::{ModuleNames, Plan};
 use circus_ending::{Ending, Status, spent};
 use circus_load::{Loaded, load};
 use circus_model::Module;
@@ -64,7 +64,7 @@ pub fn serve_node<L: Link>(
 fn serve_booted<M: Module, L: Link>(
     alloc: Global,
     deployment: &Deployment,
-    names: &Names,
+    names: &ModuleNames,
     core: NodeCore<M>,
     gives: Gives,
     node: u16,
@@ -90,7 +90,7 @@ fn serve_booted<M: Module, L: Link>(
 fn ended<M: Module>(
     alloc: Global,
     deployment: &Deployment,
-    names: &Names,
+    names: &ModuleNames,
     node: u16,
     served: Result<NodeRecord<M>, ServeFault>,
 ) -> Result<Ending, NoMemory>
@@ -112,7 +112,7 @@ fn ended<M: Module>(
 fn done<M: Module>(
     alloc: Global,
     deployment: &Deployment,
-    names: &Names,
+    names: &ModuleNames,
     node: u16,
     served: &NodeRecord<M>,
 ) -> Result<Ending, NoMemory>

@@ -7,7 +7,7 @@ ghost use Rattle.circus_simulated.specs.Booted.{booted, names_in};
 ghost use Rattle.circus_simulated.specs.Seen.Simulated.{world_of, IsOfPlan};
 
 use circus_collate::Hosts;
-use circus_config::{Names, Plan};
+use circus_config::{ModuleNames, Plan};
 use circus_ending::{Ending, Status, spent};
 use circus_load::{Loaded, load};
 use circus_machine::TextModule;
@@ -20,7 +20,7 @@ use std::alloc::{AllocError, Global};
 pub struct Simulated {
     pub world: World<TextModule>,
     pub hosts: Hosts,
-    pub names: Names,
+    pub names: ModuleNames,
 }
 
 /// The world of a plan that was read of a file, at boot, or the end where a node has no number left then. `NoMemory` is the

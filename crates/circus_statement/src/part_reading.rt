@@ -13,7 +13,7 @@ use circus_expression::{Expressions, list_text, place_text};
 use circus_syntax::{Named, Reader, StopCause};
 use circus_value::NoMemory;
 
-// A list of expressions, or a stop where its bracket is missing.
+/// A list of expressions, or a stop where its bracket is missing.
 pub fn required_list(reader: &mut Reader<'_>, levels: u8) -> Result<Expressions, NoMemory>
     ensures { IfOk result (λ read. shown (map expression.stands_for) (required_list levels reader.old) ≡ (read, reader.new)) }
 {
@@ -39,7 +39,7 @@ fn places_within(reader: &mut Reader<'_>, levels: u8) -> Result<PlaceTexts, NoMe
     Ok(places)
 }
 
-// Places in brackets.
+/// Places in brackets.
 pub fn places(reader: &mut Reader<'_>, levels: u8) -> Result<PlaceTexts, NoMemory>
     ensures { IfOk result (λ read. shown places_stand_for (places levels reader.old) ≡ (map place_of read, reader.new)) }
 {
@@ -58,6 +58,7 @@ fn into(reader: &mut Reader<'_>, levels: u8) -> Result<IntoText, NoMemory>
     Ok(IntoText { at, places })
 }
 
+/// Where results go, if the next token says so.
 pub fn into_if_any(reader: &mut Reader<'_>, levels: u8) -> Result<Option<IntoText>, NoMemory>
     ensures { IfOk result (λ read. shown (option_map into_stands_for) (into_if_any levels reader.old) ≡ (option_map into_of read, reader.new)) }
 {
@@ -68,6 +69,7 @@ pub fn into_if_any(reader: &mut Reader<'_>, levels: u8) -> Result<Option<IntoTex
     }
 }
 
+/// Where an error's values go, if a bracket is the next token.
 pub fn handled_places(reader: &mut Reader<'_>, levels: u8) -> Result<Option<PlaceTexts>, NoMemory>
     ensures { IfOk result (λ read. shown (option_map places_stand_for) (handled_places levels reader.old) ≡ (option_map (map place_of) read, reader.new)) }
 {
@@ -78,6 +80,7 @@ pub fn handled_places(reader: &mut Reader<'_>, levels: u8) -> Result<Option<Plac
     }
 }
 
+/// The end of a list of statements.
 pub fn ended(reader: &mut Reader<'_>)
     ensures { ended reader.old ≡ (tt, reader.new) }
 {

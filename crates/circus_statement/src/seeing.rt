@@ -6,6 +6,7 @@ ghost use Rattle.circus_statement.specs.StatementReading.{begins_statement, star
 use crate::StatementStart;
 use circus_syntax::Reader;
 
+/// Whether the next token begins a statement.
 pub fn sees_statement(reader: &Reader<'_>) -> bool
     ensures { result ≡ sees begins_statement reader.now }
 {
@@ -18,6 +19,7 @@ pub fn sees_statement(reader: &Reader<'_>) -> bool
         || reader.sees_word(b"RAISE")
 }
 
+/// What the next token begins, of the forms of a statement.
 #[tactic(auto, unfolding(crate::specs::StatementReading::start_of_statement))]
 pub fn statement_start(reader: &Reader<'_>) -> StatementStart
     ensures { result ≡ start_of_statement (next reader.now) }

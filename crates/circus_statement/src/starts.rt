@@ -1,3 +1,5 @@
+// What statements begin with.
+
 /// What a statement begins with.
 #[derive(Clone, Copy, Debug, PartialEq, Eq)]
 pub enum StatementStart {

@@ -64,7 +64,7 @@ fn error_stub(alloc: Global, error: &DeclaredError) -> Result<ErrorStub, NoMemor
     })
 }
 
-/// A list of its own for the operations of fields.
+// A list of its own for the operations of fields.
 fn operations_of(alloc: Global, fields: &Fields) -> Result<Operations, NoMemory>
     ensures { IfOk result (λ operations. operations ≡ flat_fields (field_trees fields.now) 0) }
 {
@@ -73,7 +73,7 @@ fn operations_of(alloc: Global, fields: &Fields) -> Result<Operations, NoMemory>
     Ok(operations)
 }
 
-/// Adds the operations of fields, in order.
+// Adds the operations of fields, in order.
 #[cycle(compiling)]
 fn add_fields(alloc: Global, operations: &mut Operations, fields: &Fields) -> Result<(), NoMemory>
     ensures { OnOk result (operations.new ≡ operations.old ++ flat_fields (field_trees fields.now) (length operations.old)) }
@@ -84,7 +84,7 @@ fn add_fields(alloc: Global, operations: &mut Operations, fields: &Fields) -> Re
     Ok(())
 }
 
-/// Adds the operations of arms, in order.
+// Adds the operations of arms, in order.
 #[cycle(compiling)]
 fn add_arms(alloc: Global, operations: &mut Operations, arms: &Arms) -> Result<(), NoMemory>
     ensures { OnOk result (operations.new ≡ operations.old ++ flat_arms (arm_trees arms.now) (length operations.old)) }
@@ -107,7 +107,7 @@ fn add_arms(alloc: Global, operations: &mut Operations, arms: &Arms) -> Result<(
     Ok(())
 }
 
-/// Adds the operations of a shape.
+// Adds the operations of a shape.
 #[cycle(compiling)]
 fn add_shape(alloc: Global, operations: &mut Operations, shape: &Shape) -> Result<(), NoMemory>
     ensures { OnOk result (operations.new ≡ operations.old ++ flat (tree_of shape.now) (length operations.old)) }
@@ -181,14 +181,14 @@ fn add_shape(alloc: Global, operations: &mut Operations, shape: &Shape) -> Resul
     }
 }
 
-/// Adds the operation of an enumeration with these labels.
+// Adds the operation of an enumeration with these labels.
 fn add_numbers(alloc: Global, operations: &mut Operations, labels: &[Label]) -> Result<(), NoMemory>
     ensures { OnOk result (operations.new ≡ operations.old ++ Operation.Enumeration (label_numbers labels.now) ∷ []) }
 {
     operations.push(Operation::Enumeration(numbers(alloc, labels)?))
 }
 
-/// The numbers of labels.
+// The numbers of labels.
 fn numbers(alloc: Global, labels: &[Label]) -> Result<Numbers, NoMemory>
     ensures { IfOk result (λ numbers. numbers ≡ label_numbers labels.now) }
 {

@@ -1,3 +1,4 @@
+// Why bytes are no arguments and no outcome.
 use circus_external::ExternalFault;
 use circus_value::NoMemory;
 use thiserror::Error;

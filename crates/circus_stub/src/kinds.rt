@@ -8,6 +8,7 @@ ghost use Rattle.circus_value.specs.declared.shape.Label.{Label};
 
 use circus_value::{Value, Values};
 
+/// The truth value.
 pub(crate) fn truth(value: &Value) -> bool
     requires { is_truth (tree_of value.now) ≡ true }
     ensures { tree_of value.now ≡ tree.boolean result }
@@ -18,6 +19,7 @@ pub(crate) fn truth(value: &Value) -> bool
     }
 }
 
+/// The number of a word, without a sign.
 pub(crate) fn cardinal(value: &Value) -> u16
     requires { is_cardinal (tree_of value.now) ≡ true }
     ensures { tree_of value.now ≡ tree.cardinal result }
@@ -28,6 +30,7 @@ pub(crate) fn cardinal(value: &Value) -> u16
     }
 }
 
+/// The number of two words, without a sign.
 pub(crate) fn long_cardinal(value: &Value) -> u32
     requires { is_long_cardinal (tree_of value.now) ≡ true }
     ensures { tree_of value.now ≡ tree.long_cardinal result }
@@ -38,6 +41,7 @@ pub(crate) fn long_cardinal(value: &Value) -> u32
     }
 }
 
+/// The number of a word, with a sign.
 pub(crate) fn integer(value: &Value) -> i16
     requires { is_integer (tree_of value.now) ≡ true }
     ensures { tree_of value.now ≡ tree.integer result }
@@ -48,6 +52,7 @@ pub(crate) fn integer(value: &Value) -> i16
     }
 }
 
+/// The number of two words, with a sign.
 pub(crate) fn long_integer(value: &Value) -> i32
     requires { is_long_integer (tree_of value.now) ≡ true }
     ensures { tree_of value.now ≡ tree.long_integer result }
@@ -58,6 +63,7 @@ pub(crate) fn long_integer(value: &Value) -> i32
     }
 }
 
+/// The string's bytes, fewer than 65,536.
 pub(crate) fn text(value: &Value) -> &[u8]
     requires { is_text (tree_of value.now) ≡ true }
     ensures is { tree_of value.now ≡ tree.text result.now }
@@ -69,6 +75,7 @@ pub(crate) fn text(value: &Value) -> &[u8]
     }
 }
 
+/// The label's number.
 pub(crate) fn label(value: &Value) -> u16
     requires { (labels : List Label) × (is_labelled labels (tree_of value.now) ≡ true) }
     ensures { tree_of value.now ≡ tree.enumeration result }
@@ -79,6 +86,7 @@ pub(crate) fn label(value: &Value) -> u16
     }
 }
 
+/// The items of an array.
 pub(crate) fn array(value: &Value) -> &Values
     requires { (len : ℕ) × (passes : ValueTree → Bool) × (is_array len passes (tree_of value.now) ≡ true) }
     ensures { tree_of value.now ≡ tree.array (value_trees result.now) }
@@ -89,6 +97,7 @@ pub(crate) fn array(value: &Value) -> &Values
     }
 }
 
+/// The items of a sequence.
 pub(crate) fn sequence(value: &Value) -> &Values
     requires { (bound : ℕ) × (passes : ValueTree → Bool) × (is_sequence bound passes (tree_of value.now) ≡ true) }
     ensures { tree_of value.now ≡ tree.sequence (value_trees result.now) }
@@ -99,6 +108,7 @@ pub(crate) fn sequence(value: &Value) -> &Values
     }
 }
 
+/// The values of the fields.
 pub(crate) fn parts(value: &Value) -> &Values
     requires { (pass : ValueTrees → Bool) × (is_record pass (tree_of value.now) ≡ true) }
     ensures { tree_of value.now ≡ tree.«record» (value_trees result.now) }

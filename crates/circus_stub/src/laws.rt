@@ -1,4 +1,4 @@
-//! What holds of all stubs.
+// What holds of all stubs.
 ghost use Rattle.std.specs.Prelude.{◌≡◌, ◌<◌, ◌≤◌, ℕ, List, Ok, Some, length, true};
 ghost use Rattle.circus_value.specs.ValueTree.{ValueTree};
 ghost use Rattle.circus_value.specs.declared.outcome.Outcome.{Outcome};

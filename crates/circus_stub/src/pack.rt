@@ -64,7 +64,7 @@ impl Stubs {
     }
 }
 
-/// Words, and behind them values, whose operations are these.
+// Words, and behind them values, whose operations are these.
 fn packed(
     alloc: Global,
     numbers: &[u16],

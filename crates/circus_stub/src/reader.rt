@@ -13,7 +13,7 @@ use circus_external::{ByteSource, ExternalFault, read_from, read_word};
 use circus_value::{Chosen, Shape, Value, Values, is_among};
 use std::alloc::Global;
 
-/// The value whose operations begin at `place`, of the bytes from `at` on, and the place behind its bytes.
+// The value whose operations begin at `place`, of the bytes from `at` on, and the place behind its bytes.
 #[cycle(reading)]
 fn read_value<S: ByteSource>(
     alloc: Global,

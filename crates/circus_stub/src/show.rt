@@ -119,7 +119,7 @@ fn add_procedure(
     Ok(())
 }
 
-/// Adds what something is, its name and its number.
+// Adds what something is, its name and its number.
 fn add_named(
     alloc: Global,
     text: &mut Octets,
@@ -144,7 +144,7 @@ fn add_number(alloc: Global, text: &mut Octets, number: u64) -> Result<(), NoMem
     Ok(())
 }
 
-/// Adds each number behind a space.
+// Adds each number behind a space.
 fn add_numbers(alloc: Global, text: &mut Octets, numbers: &[u16]) -> Result<(), NoMemory>
     ensures { OnOk result (text.new ≡ text.old ++ numbers_behind 32 numbers.now) }
 {
@@ -167,7 +167,7 @@ fn add_reports(alloc: Global, text: &mut Octets, reports: &[u16]) -> Result<(), 
     Ok(())
 }
 
-/// Adds a line of a word and the operations of fields.
+// Adds a line of a word and the operations of fields.
 fn add_line(
     alloc: Global,
     text: &mut Octets,
@@ -184,7 +184,7 @@ fn add_line(
     Ok(())
 }
 
-/// Adds the operations of fields.
+// Adds the operations of fields.
 fn add_all_values(
     alloc: Global,
     text: &mut Octets,
@@ -197,7 +197,7 @@ fn add_all_values(
     add_values(alloc, text, operations, 0, operations.len())
 }
 
-/// Adds the operations of the value whose first stands at a place.
+// Adds the operations of the value whose first stands at a place.
 #[cycle(showing)]
 fn add_value(
     alloc: Global,
@@ -250,7 +250,7 @@ fn add_enumeration(alloc: Global, text: &mut Octets, numbers: &[u16]) -> Result<
     Ok(())
 }
 
-/// Adds a number and an opening parenthesis.
+// Adds a number and an opening parenthesis.
 fn add_open(alloc: Global, text: &mut Octets, number: u64) -> Result<(), NoMemory>
     ensures { OnOk result (text.new ≡ text.old ++ (codes " " ++ decimal number ++ codes " (")) }
 {
@@ -260,7 +260,7 @@ fn add_open(alloc: Global, text: &mut Octets, number: u64) -> Result<(), NoMemor
     Ok(())
 }
 
-/// Adds a word, a number and the operations of one value.
+// Adds a word, a number and the operations of one value.
 #[cycle(showing)]
 fn add_part(
     alloc: Global,
@@ -321,7 +321,7 @@ fn add_choice(
     Ok(())
 }
 
-/// Adds the operations of values that stand from a place up to an end.
+// Adds the operations of values that stand from a place up to an end.
 #[cycle(showing)]
 fn add_values(
     alloc: Global,
@@ -342,7 +342,7 @@ fn add_values(
     Ok(())
 }
 
-/// Adds the arms that stand from a place up to an end.
+// Adds the arms that stand from a place up to an end.
 #[cycle(showing)]
 fn add_arms(
     alloc: Global,

@@ -222,7 +222,7 @@ impl Stubs {
     }
 }
 
-/// How many bytes stand from a place on, where there are more than the limit.
+// How many bytes stand from a place on, where there are more than the limit.
 fn length_above<S: ByteSource>(limit: u32, source: &S, at: usize) -> Option<u64>
     requires { at ≤ length (S.octets source.now) }
     ensures { result ≡ cond (nat_lt limit (length (drop at (S.octets source.now)))) (Some (length (drop at (S.octets source.now)))) None }
@@ -231,7 +231,7 @@ fn length_above<S: ByteSource>(limit: u32, source: &S, at: usize) -> Option<u64>
     (length > u64::from(limit)).then_some(length)
 }
 
-/// The values with these operations, of all bytes from a place on.
+// The values with these operations, of all bytes from a place on.
 fn values_from<S: ByteSource>(
     alloc: Global,
     limit: u32,
@@ -250,7 +250,7 @@ fn values_from<S: ByteSource>(
     }
 }
 
-/// The same, whatever the limit.
+// The same, whatever the limit.
 fn values_alone<S: ByteSource>(
     alloc: Global,
     operations: &[Operation],

@@ -264,6 +264,7 @@ impl Reader<'_> {
         Ok(TypeKind::Choice(arms))
     }
 
+    /// Reads groups of names with their types, or stops.
     #[cycle(reading)]
     pub(crate) fn groups(&mut self, levels: u8) -> Result<GroupTexts, NoMemory>
         ensures { IfOk result (λ read. groups levels self.old ≡ (read, self.new)) }

@@ -1,3 +1,5 @@
+// Where and why reading stops.
+
 /// What stopped a reader.
 #[derive(Clone, Copy, Debug, PartialEq, Eq)]
 pub enum StopCause {

@@ -214,7 +214,7 @@ impl<'a> Reader<'a> {
         }
     }
 
-    // Marks the stop, if there is one, with the place of a type.
+    /// Marks the stop, if there is one, with the place of a type.
     pub(crate) fn mark_type(&mut self, at: u32)
         ensures { self.new ≡ record { rest = self.old.rest; end = self.old.end; stop = option_map (stop_in_type at) self.old.stop } }
     {
@@ -223,7 +223,7 @@ impl<'a> Reader<'a> {
         }
     }
 
-    // Marks the stop, if there is one, with the place of a list.
+    /// Marks the stop, if there is one, with the place of a list.
     pub(crate) fn mark_list(&mut self, at: u32)
         ensures { self.new ≡ record { rest = self.old.rest; end = self.old.end; stop = option_map (stop_in_list at) self.old.stop } }
     {

@@ -151,12 +151,14 @@ impl GroupTexts {
         }
     }
 
+    /// How many there are.
     pub fn len(&self) -> usize
         ensures { result ≡ length self.now }
     {
         self.items.len()
     }
 
+    /// Whether there are none.
     pub fn is_empty(&self) -> bool
         ensures { IsTrue result ↔ (self.now ≡ []) }
     {
@@ -170,6 +172,7 @@ impl GroupTexts {
         self.items.get(place)
     }
 
+    /// All of them, in order.
     pub fn as_slice(&self) -> &[GroupText]
         ensures { map group_of result.now ≡ self.now }
     {
@@ -196,12 +199,14 @@ impl ArmTexts {
         }
     }
 
+    /// How many there are.
     pub fn len(&self) -> usize
         ensures { result ≡ length self.now }
     {
         self.items.len()
     }
 
+    /// Whether there are none.
     pub fn is_empty(&self) -> bool
         ensures { IsTrue result ↔ (self.now ≡ []) }
     {
@@ -215,6 +220,7 @@ impl ArmTexts {
         self.items.get(place)
     }
 
+    /// All of them, in order.
     pub fn as_slice(&self) -> &[ArmText]
         ensures { map arm_of result.now ≡ self.now }
     {
@@ -241,6 +247,7 @@ impl ElementText {
         })
     }
 
+    /// The shape.
     pub fn shape(&self) -> &TypeText
         ensures { tree_of result.now ≡ self.now }
     {

@@ -1,4 +1,4 @@
-//! What holds of every two nodes of a world that lines lead to.
+// What holds of every two nodes of a world that lines lead to.
 ghost use Rattle.std.specs.Prelude.{◌≡◌, ◌≢◌, ◌<◌, ℕ, Ok, Some, Option, List, length, map, slice_get};
 ghost use Rattle.circus_segment.specs.Segment.{reading};
 ghost use Rattle.circus_collate.specs.Deployment.{IsDeployment};

@@ -1,8 +1,11 @@
+// What bytes can begin.
 ghost use Rattle.std.specs.Prelude.{◌≡◌};
 ghost use Rattle.circus_text.specs.ByteClass.{class_of, is_word_class, is_digit_class, is_space_class, is_printable, is_space};
 
+/// What opens and closes a string.
 pub const QUOTE: u8 = b'"';
 
+/// What ends a line.
 pub const NEWLINE: u8 = b'\n';
 
 /// What a byte can begin.
@@ -17,6 +20,7 @@ pub enum ByteClass {
 }
 
 impl ByteClass {
+    /// What a byte can begin.
     pub fn of(byte: u8) -> Self
         ensures { result ≡ class_of byte }
     {
@@ -40,12 +44,14 @@ impl ByteClass {
         matches!(self, ByteClass::Letter | ByteClass::Digit)
     }
 
+    /// Whether a number goes on with it.
     pub fn is_digit(self) -> bool
         ensures { result ≡ is_digit_class self }
     {
         matches!(self, ByteClass::Digit)
     }
 
+    /// Whether spacing goes on with it.
     pub fn is_space(self) -> bool
         ensures { result ≡ is_space_class self }
     {

@@ -1,3 +1,4 @@
+// What stands at the front of a text.
 ghost use Rattle.std.specs.Prelude.{◌≡◌, ◌<◌, ◌↔◌, ◌==◌, ◌||◌, not, [], ◌∷◌, length, position, IsTrue, Contains};
 ghost use Rattle.std.specs.List.{prefix_len};
 ghost use Rattle.circus_text.specs.ByteClass.{newline, class_of, is_word_class, is_digit_class, is_space_class, is_printable, is_space};
@@ -8,7 +9,7 @@ use crate::byte_class::{ByteClass, NEWLINE, QUOTE, is_printable, is_space};
 use crate::number::number_of;
 use crate::token::TokenKind;
 
-/// The most bytes that a word may have.
+// The most bytes that a word may have.
 const LONGEST_WORD: usize = 32;
 
 /// What a piece of a text is.

@@ -1,3 +1,4 @@
+// What holds of the tokens of every text.
 ghost use Rattle.std.specs.Prelude.{◌≡◌, ℕ, ◌≤◌, List, Result, All, AllPairs};
 ghost use Rattle.std.specs.Fmt.{decimal};
 ghost use Rattle.circus_text.specs.declared.token.Token.{Token};

@@ -1,3 +1,4 @@
+// Why texts have no tokens.
 ghost use Rattle.std.specs.Prelude.{◌≡◌};
 
 use circus_value::NoMemory;

@@ -1,7 +1,8 @@
+// The values of digits.
 ghost use Rattle.std.specs.Prelude.{◌≡◌, ◌≤◌, SomeIff};
 ghost use Rattle.circus_text.specs.Form.{IsNumber, greatest_number, number_value};
 
-/// The greatest number that a text may have.
+// The greatest number that a text may have.
 const GREATEST_NUMBER: u64 = 9_223_372_036_854_775_807;
 
 /// The value of decimal digits, or `None` where it is above 9,223,372,036,854,775,807. Leading zeros

@@ -1,3 +1,4 @@
+// Texts divided into tokens.
 ghost use Rattle.std.specs.Prelude.{◌≡◌, ℕ, ◌≤◌, ◌⊎◌, length, List, Result, Ok, Err, ◌+◌, ◌++◌, IfOk, OnOk, All, AllPairs};
 ghost use Rattle.circus_text.specs.declared.token.Token.{Token};
 ghost use Rattle.circus_text.specs.declared.lex_fault.LexFault.{LexFault};

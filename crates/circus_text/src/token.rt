@@ -1,3 +1,4 @@
+// Tokens, and what they stand for.
 ghost use Rattle.std.specs.Prelude.{◌≡◌, ◌≤◌};
 ghost use Rattle.circus_text.specs.Form.{greatest_number, number_value};
 ghost use Rattle.circus_text.specs.Token.{bytes_of, content_of, LiesIn, IsTokenIn};

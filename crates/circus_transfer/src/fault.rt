@@ -1,3 +1,4 @@
+// Why bytes are no snapshot.
 ghost use Rattle.std.specs.Prelude.{◌≡◌};
 
 use circus_external::ExternalFault;

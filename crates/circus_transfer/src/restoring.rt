@@ -11,7 +11,7 @@ use circus_external::{read_long, read_word};
 use circus_value::{Shapes, State};
 use std::alloc::Global;
 
-/// The first word of a snapshot.
+// The first word of a snapshot.
 const SNAPSHOT: u16 = 3;
 
 /// The state that a snapshot hands over, and how many calls led to it (docs/FORMATS.md, "Snapshots").

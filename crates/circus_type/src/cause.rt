@@ -17,6 +17,7 @@ pub enum TypeCause {
 pub trait WithTypeCauses: Cause {
     ghost embed: { OfType → Self };
 
+    /// The cause of a type, among those of the text.
     fn of_type(cause: TypeCause) -> Self
         ensures { result ≡ embed cause };
 }

@@ -58,14 +58,14 @@ pub fn fits(value: &Value, shape: &Shape) -> bool
     }
 }
 
-/// Whether these bytes are few enough for a text.
+// Whether these bytes are few enough for a text.
 fn is_text(bytes: &[u8]) -> bool
     ensures { result ≡ (nat_lt (length bytes.now) 65536 && list_all (λ b. nat_lt b 256) bytes.now) }
 {
     bytes.len() <= 65_535
 }
 
-/// Whether each item fits one shape.
+// Whether each item fits one shape.
 #[cycle(fitting)]
 fn all_fit(items: &Values, shape: &Shape) -> bool
     ensures { result ≡ fit.every (fit.fits (shapes.tree_of shape.now)) (value_trees items.now) }
@@ -78,7 +78,7 @@ fn all_fit(items: &Values, shape: &Shape) -> bool
     true
 }
 
-/// Whether there is one value for each field, which fits it.
+// Whether there is one value for each field, which fits it.
 #[cycle(fitting)]
 fn fields_fit(items: &Values, fields: &Fields) -> bool
     ensures { result ≡ fit.fields_fit (field_trees fields.now) (value_trees items.now) }

@@ -55,6 +55,7 @@ impl Parts {
         self.ends.last().copied().unwrap_or(0)
     }
 
+    /// Whether there are none.
     pub fn is_empty(&self) -> bool
         ensures { IsTrue result ↔ (self.now ≡ []) }
     {
@@ -114,7 +115,7 @@ impl Parts {
         Ok(rest)
     }
 
-    /// Whether there are the same bytes in order, wherever the parts end.
+    // Whether there are the same bytes in order, wherever the parts end.
     fn has_bytes_of(&self, other: &Parts) -> bool
         ensures { result ≡ pointwise nat_eq self.now other.now }
     {
@@ -130,7 +131,7 @@ impl Parts {
         true
     }
 
-    /// Adds parts at the end, which are shared. After `NoMemory` some of them may stand there.
+    // Adds parts at the end, which are shared. After `NoMemory` some of them may stand there.
     fn add_all(&mut self, parts: &[Bytes]) -> Result<(), NoMemory>
         requires { length self.old + length (concat parts.now) ≤ most_bytes }
         ensures { OnOk result (self.new ≡ self.old ++ concat parts.now) }
@@ -173,7 +174,7 @@ impl Eq for Parts {
     ghost laws = { nat_list_eq_equiv };
 }
 
-/// Whether parts that are as long, one by one, have the same bytes.
+// Whether parts that are as long, one by one, have the same bytes.
 fn same_parts(parts: &[Bytes], others: &[Bytes]) -> bool
     requires { length parts.now ≡ length others.now }
     ensures { result ≡ pointwise (pointwise nat_eq) parts.now others.now }
@@ -186,7 +187,7 @@ fn same_parts(parts: &[Bytes], others: &[Bytes]) -> bool
     true
 }
 
-/// The part that a byte stands in, and its place in that part. `None` where there is no such byte.
+// The part that a byte stands in, and its place in that part. `None` where there is no such byte.
 fn find(parts: &[Bytes], ends: &[usize], at: usize) -> Option<(usize, usize)>
     requires { (ends.now ≡ ends_from 0 parts.now) × (length (concat parts.now) ≤ most_bytes) }
     ensures none { IfNone result (length (concat parts.now) ≤ at) }
@@ -199,8 +200,8 @@ fn find(parts: &[Bytes], ends: &[usize], at: usize) -> Option<(usize, usize)>
     Some((place, at + part.len() - ends[place]))
 }
 
-/// Of numbers that grow, the place of the first that is above this one, or how many there are. Where each is as
-/// far from the one before it as the first from 0, it is found at once.
+// Of numbers that grow, the place of the first that is above this one, or how many there are. Where each is as
+// far from the one before it as the first from 0, it is found at once.
 fn first_above(ends: &[usize], at: usize) -> usize
     ensures within { result ≤ length ends.now }
     ensures before { 0 < result → slice_index ends.now (result - 1) ≤ at }
@@ -212,7 +213,7 @@ fn first_above(ends: &[usize], at: usize) -> usize
     }
 }
 
-/// Whether a place has the first number above this one.
+// Whether a place has the first number above this one.
 fn is_first_above(ends: &[usize], place: usize, at: usize) -> bool
     ensures within { result ≡ true → place < length ends.now }
     ensures before { result ≡ true → 0 < place → slice_index ends.now (place - 1) ≤ at }
@@ -221,7 +222,7 @@ fn is_first_above(ends: &[usize], place: usize, at: usize) -> bool
     place < ends.len() && at < ends[place] && (place == 0 || ends[place - 1] <= at)
 }
 
-/// As `first_above`, by halves.
+// As `first_above`, by halves.
 fn searched(ends: &[usize], at: usize) -> usize
     ensures within { result ≤ length ends.now }
     ensures before { 0 < result → slice_index ends.now (result - 1) ≤ at }

@@ -148,12 +148,14 @@ impl Fields {
         }
     }
 
+    /// How many there are.
     pub fn len(&self) -> usize
         ensures { result ≡ length self.now }
     {
         self.items.len()
     }
 
+    /// Whether there are none.
     pub fn is_empty(&self) -> bool
         ensures { IsTrue result ↔ (self.now ≡ []) }
     {
@@ -167,6 +169,7 @@ impl Fields {
         self.items.get(place)
     }
 
+    /// All of them, in order.
     pub fn as_slice(&self) -> &[Field]
         ensures { map field_of result.now ≡ self.now }
     {
@@ -193,12 +196,14 @@ impl Arms {
         }
     }
 
+    /// How many there are.
     pub fn len(&self) -> usize
         ensures { result ≡ length self.now }
     {
         self.items.len()
     }
 
+    /// Whether there are none.
     pub fn is_empty(&self) -> bool
         ensures { IsTrue result ↔ (self.now ≡ []) }
     {
@@ -212,6 +217,7 @@ impl Arms {
         self.items.get(place)
     }
 
+    /// All of them, in order.
     pub fn as_slice(&self) -> &[Arm]
         ensures { map arm_of result.now ≡ self.now }
     {
@@ -250,6 +256,7 @@ impl Element {
         })
     }
 
+    /// The shape.
     pub fn shape(&self) -> &Shape
         ensures { tree_of result.now ≡ self.now }
     {

@@ -34,7 +34,7 @@ pub fn values_size(values: &Values) -> u64
     total
 }
 
-/// A word for the length and an even number of bytes.
+// A word for the length and an even number of bytes.
 fn text_size(bytes: &[u8]) -> u64
     ensures { result ≡ external.text_size bytes.now }
 {

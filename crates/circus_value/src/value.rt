@@ -92,12 +92,14 @@ impl Values {
         }
     }
 
+    /// How many there are.
     pub fn len(&self) -> usize
         ensures { result ≡ length self.now }
     {
         self.items.len()
     }
 
+    /// Whether there are none.
     pub fn is_empty(&self) -> bool
         ensures { IsTrue result ↔ (self.now ≡ []) }
     {
@@ -111,6 +113,7 @@ impl Values {
         self.items.get(place)
     }
 
+    /// All of them, in order.
     pub fn as_slice(&self) -> &[Value]
         ensures { map tree_of result.now ≡ self.now }
     {
@@ -153,6 +156,7 @@ impl Chosen {
         })
     }
 
+    /// The value.
     pub fn value(&self) -> &Value
         ensures { tree_of result.now ≡ self.now }
     {

@@ -1,4 +1,4 @@
-//! What the calls of a wire answer.
+// What the calls of a wire answer.
 use circus_pair::Datagrams;
 use circus_value::{Caller, ListOf, Parts};
 

@@ -1,4 +1,4 @@
-//! Why a call is not handed over.
+// Why a call is not handed over.
 use thiserror::Error;
 
 /// Why a call is not handed over.

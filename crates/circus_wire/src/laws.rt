@@ -1,4 +1,4 @@
-//! What holds of a wire after every list of acts.
+// What holds of a wire after every list of acts.
 ghost use Rattle.std.specs.Prelude.{◌≡◌, ◌≢◌, ℕ, ◌+◌, ◌≤◌, [], not, true, ◌&&◌, ◌==◌, List, None, Some, IsSome, count_by, slice_get};
 ghost use Rattle.circus_segment.specs.Segment.{Piece, IsSegment};
 ghost use Rattle.circus_exchange.specs.declared.taken.Arrived.TheVariants.{ArrivedReturn};

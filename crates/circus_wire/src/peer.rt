@@ -1,4 +1,4 @@
-//! The pair with one other node, and what its calls were made for.
+// The pair with one other node, and what its calls were made for.
 ghost use Rattle.std.specs.Prelude.{◌≡◌, ◌⊎◌, ◌<◌, ◌++◌, [], ◌∷◌, true, false, if◌then◌else◌, IfOk, OnOk, OnErr, Ok, Err};
 ghost use Rattle.std.specs.FinMap as map;
 ghost use Rattle.circus_segment.specs.Segment.{reading};
@@ -10,7 +10,7 @@ ghost use Rattle.circus_wire.specs.Wire.{fresh_peer, peer_called, peer_answered,
 
 use crate::delivery::{Batch, Batches, Delivery, Heard};
 use bytes::Bytes;
-use circus_exchange::{NEVER_USED, Table};
+use circus_exchange::{ByCall, NEVER_USED};
 use circus_pair::{Arrived, Datagrams, Pair, PairFault, Segment, Taken, Ticked};
 use circus_value::{Caller, Message, NoMemory, Nodes};
 use std::alloc::Global;
@@ -20,7 +20,7 @@ use std::marker::Model;
 #[derive(Drop)]
 pub(crate) struct Peer<P> {
     pair: Pair,
-    purposes: Table<P>,
+    purposes: ByCall<P>,
     /// Whether the other node was declared down.
     stopped: bool,
 }
@@ -47,7 +47,7 @@ impl<P> Peer<P> {
     {
         Peer {
             pair: Pair::starting_at(alloc, number, format),
-            purposes: Table::new(alloc),
+            purposes: ByCall::new(alloc),
             stopped: false,
         }
     }
@@ -187,7 +187,7 @@ fn note_tick(
 }
 
 // What came of a segment that was taken, by what arrived; the purpose of a call whose return arrived is handed out.
-fn hand_out<P: Drop>(purposes: &mut Table<P>, node: u16, arrived: Arrived) -> Heard<P>
+fn hand_out<P: Drop>(purposes: &mut ByCall<P>, node: u16, arrived: Arrived) -> Heard<P>
     ensures heard { result ≡ told (map.get purposes.old) node arrived }
     ensures purposes { purposes.new ≡ without arrived purposes.old }
 {

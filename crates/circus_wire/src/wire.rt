@@ -1,4 +1,4 @@
-//! The pairs of a node with all other ones.
+// The pairs of a node with all other ones.
 ghost use Rattle.std.specs.Prelude.{◌≡◌, ◌≢◌, ◌⊎◌, ℕ, ◌<◌, ◌≤◌, [], ◌++◌, length, true, IfOk, OnOk, OnErr, Ok, Err, slice_get, option_copied};
 ghost use Rattle.circus_limits.specs.Limits.{most_nodes};
 ghost use Rattle.circus_segment.specs.Segment.{Piece, reading};

@@ -1,4 +1,4 @@
-//! What holds of every world that lines lead to.
+// What holds of every world that lines lead to.
 ghost use Rattle.std.specs.Prelude.{◌≡◌, ◌≤◌, ◌++◌, Ok, List, Option, All, AllPairs, length, map, option_map};
 ghost use Rattle.circus_collate.specs.Deployment.{IsDeployment};
 ghost use Rattle.circus_collate.specs.declared.deployment.Deployment.{Deployment};

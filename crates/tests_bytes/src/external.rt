@@ -1,4 +1,4 @@
-//! Bytes that are a value's, and bytes that are none.
+// Bytes that are a value's, and bytes that are none.
 ghost use Rattle.std.specs.Prelude.{◌≤◌, length};
 
 use bytes::Bytes;

@@ -1,4 +1,4 @@
-//! Headers of messages, read from parts of one byte each, copied and written again, and headers that are none.
+// Headers of messages, read from parts of one byte each, copied and written again, and headers that are none.
 ghost use Rattle.std.specs.Prelude.{◌≤◌, length};
 
 mod malformed;

@@ -1,4 +1,4 @@
-//! Bytes in parts, shared and joined.
+// Bytes in parts, shared and joined.
 use bytes::Bytes;
 use circus_value::{Duplicate, ListOf, Parts};
 use std::test::Fail;

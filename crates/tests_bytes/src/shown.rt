@@ -1,4 +1,4 @@
-//! The texts of values and outcomes.
+// The texts of values and outcomes.
 use circus_value::{Chosen, Duplicate, ListOf, NoMemory, Outcome, Value, Values, show};
 use std::alloc::Global;
 use std::test::Fail;

@@ -1,4 +1,4 @@
-//! The texts of clocks and paths.
+// The texts of clocks and paths.
 use circus_value::{ClockText, ListOf, PathText, name_text};
 use std::test::Fail;
 

@@ -4,7 +4,7 @@ use std::alloc::Global;
 use std::test::Fail;
 use tests_sources::checked;
 
-/// How many interfaces stand in a text, the text, and how many modules are answered.
+// How many interfaces stand in a text, the text, and how many modules are answered.
 type Row = (usize, &'static [u8], usize);
 
 const PROGRAMS: [Row; 11] = [

@@ -5,10 +5,10 @@ use std::alloc::Global;
 use std::test::Fail;
 use tests_sources::checked;
 
-/// What stands in a text in front of the place of its fault.
+// What stands in a text in front of the place of its fault.
 const MARK: u8 = b'@';
 
-/// Why a module is refused.
+// Why a module is refused.
 #[derive(Clone, Copy)]
 enum Cause {
     Unknown,
@@ -23,7 +23,7 @@ enum Cause {
     TooMany,
 }
 
-/// A text, and why it is refused.
+// A text, and why it is refused.
 type Row = (&'static [u8], Cause);
 
 // The text of a row in its frame, without the mark, and the place of the mark, or the end where there is none.

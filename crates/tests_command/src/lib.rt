@@ -79,7 +79,7 @@ pub fn failing_at(alloc: Global, number: Option<u64>) -> Result<Failing, NoMemor
     Ok(failing)
 }
 
-/// A link at which nothing arrives.
+// A link at which nothing arrives.
 fn idle_link(alloc: Global) -> MemLink {
     MemLink::new(alloc, Arrivals::new(alloc), Failing::new(alloc))
 }

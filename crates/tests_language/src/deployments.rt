@@ -12,7 +12,7 @@ use circus_troupe::{
 use std::alloc::Global;
 use std::test::Fail;
 
-/// A text, and the place of the token with which no deployment goes on, or `None` where it is read.
+// A text, and the place of the token with which no deployment goes on, or `None` where it is read.
 type Row = (&'static [u8], Option<u32>);
 
 const DEPLOYMENTS: [Row; 47] = [

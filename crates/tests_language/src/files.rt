@@ -6,7 +6,7 @@ use circus_value::Octets;
 use std::alloc::Global;
 use std::test::Fail;
 
-/// A text, and the place of the token with which no program goes on, or `None` where it is read.
+// A text, and the place of the token with which no program goes on, or `None` where it is read.
 type Row = (&'static [u8], Option<u32>);
 
 const FILES: [Row; 19] = [

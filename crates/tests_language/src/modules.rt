@@ -9,7 +9,7 @@ use tests_parts::{
     STEPS_BOTH, VAULT_MODULES, WHEEL_MODULES, joined,
 };
 
-/// A text, and the place of the token with which no module goes on, or `None` where it is read.
+// A text, and the place of the token with which no module goes on, or `None` where it is read.
 type Row = (&'static [u8], Option<u64>);
 
 // Whole modules and roots.

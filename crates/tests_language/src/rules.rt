@@ -8,7 +8,7 @@ use circus_value::Octets;
 use std::alloc::Global;
 use std::test::Fail;
 
-/// What is told of a deployment. Places count from its front.
+// What is told of a deployment. Places count from its front.
 #[derive(Clone, Copy, Debug, PartialEq, Eq)]
 enum Told {
     Nothing,

@@ -1,11 +1,11 @@
-//! The last number of a call.
+// The last number of a call.
 ghost use Rattle.std.specs.Prelude.{◌≡◌, length, IfOk};
 
 use circus_pair::{Datagrams, Pair, PairFault};
 use circus_value::{Message, NoMemory};
 use std::alloc::Global;
 
-// A message of one byte.
+/// A message of one byte.
 pub(crate) fn message(alloc: Global) -> Result<Message, NoMemory>
     ensures { IfOk result (λ message. length message ≡ 1) }
 {

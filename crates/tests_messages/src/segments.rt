@@ -1,4 +1,4 @@
-//! Bytes that are no segment.
+// Bytes that are no segment.
 use circus_segment::{SegmentFault, read_segment};
 use circus_value::{Message, NoMemory};
 use std::alloc::Global;

@@ -1,4 +1,4 @@
-//! What two pairs say to each other, of which one calls. The test hands each datagram on.
+// What two pairs say to each other, of which one calls. The test hands each datagram on.
 ghost use Rattle.std.specs.Prelude.{◌≡◌, ◌⊎◌};
 
 use bytes::Bytes;

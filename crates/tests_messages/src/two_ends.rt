@@ -1,4 +1,4 @@
-//! A return to no call, and a call that comes twice.
+// A return to no call, and a call that comes twice.
 ghost use Rattle.std.specs.Prelude.{◌≡◌};
 
 use crate::numbers::message;

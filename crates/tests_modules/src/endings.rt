@@ -5,7 +5,7 @@ use circus_value::Outcome;
 use std::alloc::Global;
 use std::test::Fail;
 
-/// A program whose root stands last, and the error that ends it.
+// A program whose root stands last, and the error that ends it.
 type Row = (Program<'static>, LanguageError);
 
 const ERRORS: [Row; 9] = [

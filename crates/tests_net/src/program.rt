@@ -5,7 +5,7 @@ ghost use Rattle.circus_record.specs.MemberText.{IsHosted};
 
 use crate::node::Node;
 use circus_collate::Deployment;
-use circus_config::{Names, read_program};
+use circus_config::{ModuleNames, read_program};
 use circus_load::{Loaded, load};
 use circus_machine::TextModule;
 use circus_node::Outputs;
@@ -21,7 +21,7 @@ use std::test::Fail;
 #[derive(Drop)]
 pub(crate) struct Program {
     deployment: Deployment,
-    names: Names,
+    names: ModuleNames,
 }
 
 impl Model for Program {

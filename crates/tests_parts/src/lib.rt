@@ -14,10 +14,13 @@ pub fn joined(alloc: Global, texts: &[&str]) -> Result<String, AllocError> {
     Ok(all)
 }
 
+/// The first line.
 pub const FORMAT_1: &str = "CIRCUS 1;\n";
 
+/// The same, of the second format.
 pub const FORMAT_2: &str = "CIRCUS 2;\n";
 
+/// An interface of one procedure.
 pub const COUNT: &str = "\
 Count: PROGRAM 1 VERSION 1 =
 BEGIN
@@ -25,6 +28,7 @@ BEGIN
 END.
 ";
 
+/// A module that adds.
 pub const COUNTER: &str = "\
 MODULE Counter IMPLEMENTS Count;
 BEGIN
@@ -36,7 +40,7 @@ BEGIN
 END.
 ";
 
-// A root that adds once, and one that adds twice.
+/// A root that adds once.
 pub const ADDS_ONCE: &str = "\
 ROOT Main IMPORTS Counter;
 BEGIN
@@ -48,6 +52,7 @@ BEGIN
 END.
 ";
 
+/// One that adds twice.
 pub const ADDS_TWICE: &str = "\
 ROOT Main IMPORTS Counter;
 BEGIN
@@ -60,22 +65,26 @@ BEGIN
 END.
 ";
 
+/// The node of the Ringmaster.
 pub const RING: &str = "RINGMASTER ring PORT 9000;\n";
 
+/// The root, at one node.
 pub const MAIN_AT_M1: &str = "TROUPE Main CALLS FIRST REPLIES FIRST MEMBERS m1 PORT 9002;\n";
 
-// One member of each.
+/// One member of each.
 pub const ONE_OF_EACH: &str = "\
 RINGMASTER ring PORT 9000;
 TROUPE Counter CALLS FIRST REPLIES FIRST MEMBERS s1 PORT 9001;
 TROUPE Main CALLS FIRST REPLIES FIRST MEMBERS m1 PORT 9002;
 ";
 
+/// One call of one server.
 pub const ONE_CALL: &[&str] = &[FORMAT_1, COUNT, COUNTER, ADDS_ONCE, ONE_OF_EACH];
 
+/// The same, in the second format.
 pub const ONE_CALL_IN_FORMAT_2: &[&str] = &[FORMAT_2, COUNT, COUNTER, ADDS_ONCE, ONE_OF_EACH];
 
-// Modules between the counter and the root, each of which adds.
+/// The interface of modules between the counter and the root, each of which adds.
 pub const STEP: &str = "\
 Step: PROGRAM 2 VERSION 1 =
 BEGIN
@@ -83,6 +92,7 @@ BEGIN
 END.
 ";
 
+/// The first of them.
 pub const STEP_A: &str = "\
 MODULE A IMPLEMENTS Step IMPORTS Counter;
 BEGIN
@@ -93,6 +103,7 @@ BEGIN
 END.
 ";
 
+/// The second one.
 pub const STEP_B: &str = "\
 MODULE B IMPLEMENTS Step IMPORTS Counter;
 BEGIN
@@ -103,6 +114,7 @@ BEGIN
 END.
 ";
 
+/// A root that calls both.
 pub const STEPS_BOTH: &str = "\
 ROOT Main IMPORTS A, B;
 BEGIN
@@ -114,6 +126,7 @@ BEGIN
 END.
 ";
 
+/// A root that calls the first one.
 pub const STEPS_ONCE: &str = "\
 ROOT Main IMPORTS A;
 BEGIN
@@ -124,7 +137,7 @@ BEGIN
 END.
 ";
 
-// Two calls of a counter that has a spare.
+/// Two calls of a counter that has a spare.
 pub const TWO_CALLS_WITH_A_SPARE: &[&str] = &[
     FORMAT_1,
     COUNT,
@@ -139,7 +152,7 @@ RINGMASTER ring PORT 9000;
 TROUPE Counter CALLS FIRST REPLIES FIRST MEMBERS s1 PORT 9001 SPARES s2 PORT 9003;
 ";
 
-// A call of each module between, and two counters.
+/// A call of each module between, and two counters.
 pub const TWO_STEPS: &[&str] = &[
     FORMAT_1,
     COUNT,
@@ -159,7 +172,7 @@ TROUPE B CALLS FIRST REPLIES FIRST MEMBERS b1 PORT 9004;
 TROUPE Main CALLS FIRST REPLIES FIRST MEMBERS r1 PORT 9005;
 ";
 
-// A call of one module between, which has a spare.
+/// A call of one module between, which has a spare.
 pub const ONE_STEP_WITH_A_SPARE: &[&str] = &[
     FORMAT_1,
     COUNT,
@@ -177,7 +190,7 @@ TROUPE A CALLS FIRST REPLIES FIRST MEMBERS a1 PORT 9003 SPARES a2 PORT 9004;
 TROUPE Main CALLS FIRST REPLIES FIRST MEMBERS r1 PORT 9005;
 ";
 
-// A long argument, and ones that are too long in the first format.
+/// A long argument, as long as one may be in the first format.
 pub const ROOM_OF_32767: &[&str] = &[
     FORMAT_1,
     ROOM,
@@ -187,6 +200,7 @@ pub const ROOM_OF_32767: &[&str] = &[
     STORE_AND_MAIN,
 ];
 
+/// One that is too long.
 pub const ROOM_OF_32768: &[&str] = &[
     FORMAT_1,
     ROOM,
@@ -196,6 +210,7 @@ pub const ROOM_OF_32768: &[&str] = &[
     STORE_AND_MAIN,
 ];
 
+/// The same, in the second format, where it is not.
 pub const ROOM_OF_32768_IN_FORMAT_2: &[&str] = &[
     FORMAT_2,
     ROOM,
@@ -205,6 +220,7 @@ pub const ROOM_OF_32768_IN_FORMAT_2: &[&str] = &[
     STORE_AND_MAIN,
 ];
 
+/// Their interface.
 pub const ROOM: &str = "\
 Room: PROGRAM 1 VERSION 1 =
 BEGIN
@@ -212,7 +228,7 @@ BEGIN
 END.
 ";
 
-// Up to the number of its items.
+/// Up to the number of its items.
 pub const ROOM_MODULES: &str = "\
 MODULE Store IMPLEMENTS Room;
 BEGIN
@@ -225,7 +241,7 @@ BEGIN
   MAIN VAR q: SEQUENCE 40000 OF CARDINAL; BEGIN
     WHILE LENGTH(q) < ";
 
-// Behind that number.
+/// Behind that number.
 pub const ROOM_FILLED: &str = " DO APPEND 7 TO q; END;
     CALL Store.Put [q];
     RETURN [];
@@ -233,19 +249,20 @@ pub const ROOM_FILLED: &str = " DO APPEND 7 TO q; END;
 END.
 ";
 
+/// Where they run.
 pub const STORE_AND_MAIN: &str = "\
 RINGMASTER ring PORT 9000;
 TROUPE Store CALLS FIRST REPLIES FIRST MEMBERS s1 PORT 9001;
 TROUPE Main CALLS FIRST REPLIES FIRST MEMBERS m1 PORT 9002;
 ";
 
-// A long argument of sequences.
+/// A long argument of sequences.
 pub const BLOCK: &str = "\
 Room: PROGRAM 1 VERSION 1 =
 BEGIN
   Block: TYPE = ARRAY ";
 
-// Behind the number of its sequences.
+/// Behind the number of its sequences.
 pub const BLOCK_MODULES: &str = " OF SEQUENCE 65535 OF CARDINAL;
   Put: PROCEDURE [b: Block] = 1;
 END.
@@ -260,18 +277,18 @@ BEGIN
   MAIN VAR q: SEQUENCE 65535 OF CARDINAL; BEGIN
     WHILE LENGTH(q) < ";
 
-// Behind the number of the items of each.
+/// Behind the number of the items of each.
 pub const BLOCK_CALL: &str = " DO APPEND 7 TO q; END;
     CALL Store.Put [Store.Block#[";
 
-// Behind the sequences.
+/// Behind the sequences.
 pub const BLOCK_END: &str = "]];
     RETURN [];
   END;
 END.
 ";
 
-// As many steps as an execution may have, and one more.
+/// As many steps as an execution may have, and one more.
 pub const WHEEL: &[&str] = &[FORMAT_1, TURNS, WHEEL_MODULES, WHEEL_AND_MAIN];
 
 const TURNS: &str = "\
@@ -282,6 +299,7 @@ BEGIN
 END.
 ";
 
+/// Its modules.
 pub const WHEEL_MODULES: &str = "\
 MODULE Wheel IMPLEMENTS Turns;
 BEGIN
@@ -311,7 +329,7 @@ TROUPE Wheel CALLS FIRST REPLIES FIRST MEMBERS s1 PORT 9001;
 TROUPE Main CALLS FIRST REPLIES FIRST MEMBERS m1 PORT 9002;
 ";
 
-// A module that raises errors.
+/// A module that raises errors.
 pub const VAULT: &[&str] = &[FORMAT_1, KEEP, VAULT_MODULES, VAULT_AND_MAIN];
 
 const KEEP: &str = "\
@@ -322,6 +340,7 @@ BEGIN
 END.
 ";
 
+/// Its modules.
 pub const VAULT_MODULES: &str = "\
 MODULE Vault IMPLEMENTS Keep;
 BEGIN
@@ -351,7 +370,7 @@ TROUPE Vault CALLS FIRST REPLIES FIRST MEMBERS v1 PORT 9001;
 TROUPE Main CALLS FIRST REPLIES FIRST MEMBERS m1 PORT 9002;
 ";
 
-// examples/bank.circus.
+/// The program of `examples/bank.circus`.
 pub const BANK: &[&str] = &[FORMAT_1, BOOKS_AND_DESK, BANK_MODULES, BANK_TROUPES];
 
 const BOOKS_AND_DESK: &str = "\
@@ -367,6 +386,7 @@ BEGIN
 END.
 ";
 
+/// Its modules.
 pub const BANK_MODULES: &str = "\
 MODULE Ledger IMPLEMENTS Books;
 BEGIN

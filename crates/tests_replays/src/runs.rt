@@ -1,4 +1,4 @@
-//! Replays of a program and a schedule, and what they leave.
+// Replays of a program and a schedule, and what they leave.
 use circus_outside::Failing;
 use circus_value::NoMemory;
 use std::alloc::Global;

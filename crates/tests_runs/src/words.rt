@@ -1,4 +1,4 @@
-//! The words of command lines.
+// The words of command lines.
 use circus_program::{CommandForm, read_words};
 use std::alloc::{AllocError, Global};
 use std::test::Fail;

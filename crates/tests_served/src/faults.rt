@@ -3,7 +3,7 @@ use crate::links::served;
 use std::test::Fail;
 use tests_parts::ONE_CALL;
 
-/// The call that fails, of those of m1 with three takes at which nothing comes, and how many takes and gives there were then.
+// The call that fails, of those of m1 with three takes at which nothing comes, and how many takes and gives there were then.
 struct Fault {
     call: u64,
     takes: u64,

@@ -1,4 +1,4 @@
-//! A node served over a link in memory, and what it leaves.
+// A node served over a link in memory, and what it leaves.
 use circus_outside::{Arrival, Arrivals, Failing, MemLink};
 use circus_value::Message;
 use std::alloc::Global;

@@ -13,7 +13,7 @@ TROUPE Main CALLS FIRST REPLIES WATCHDOG MEMBERS m1 PORT 9002;
 
 const WATCHED: &[&str] = &[FORMAT_1, COUNT, COUNTER, ADDS_ONCE, TWO_SERVERS];
 
-/// A node of a program in parts, the datagrams that arrive, how many takes there are, and what is written.
+// A node of a program in parts, the datagrams that arrive, how many takes there are, and what is written.
 struct Row {
     program: &'static [&'static str],
     node: &'static str,

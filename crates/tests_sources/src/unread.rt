@@ -1,3 +1,4 @@
+// Why texts are not read.
 ghost use Rattle.std.specs.Prelude.{◌≡◌};
 
 use circus_idl::IdlFault;

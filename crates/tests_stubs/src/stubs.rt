@@ -1,4 +1,4 @@
-//! The stubs of two small interfaces.
+// The stubs of two small interfaces.
 ghost use Rattle.std.specs.Prelude.{◌≡◌, ◌+◌, ◌≤◌, length, IfOk};
 ghost use Rattle.circus_stub.specs.Compiled.{compiled};
 

@@ -1,3 +1,4 @@
+// The trees of interfaces.
 ghost use Rattle.std.specs.Prelude.{◌≤◌, length};
 ghost use Rattle.circus_text.specs.Form.{longest_text};
 

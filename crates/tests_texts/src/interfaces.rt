@@ -1,4 +1,4 @@
-//! Interfaces, and what reading each of them answers.
+// Interfaces, and what reading each of them answers.
 ghost use Rattle.std.specs.Prelude.{◌≡◌, IfOk, IfErr, IfSome};
 ghost use Rattle.circus_idl.specs.Obeys.{Obeys};
 
@@ -8,7 +8,7 @@ use circus_value::{NoMemory, Octets};
 use std::alloc::Global;
 use std::test::Fail;
 
-/// A text, and its fault, or `None` where it is read.
+// A text, and its fault, or `None` where it is read.
 type Row = (&'static [u8], Option<IdlFault>);
 
 // What an interface declares. It begins at place 31.

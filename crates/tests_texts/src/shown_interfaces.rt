@@ -1,3 +1,4 @@
+// The texts of interfaces that were made by hand.
 use circus_idl::{Declared, Errors, Interface, Procedure, Procedures, show_interface};
 use circus_value::{Duplicate, Field, Fields, ListOf, Name, NoMemory, Numbers, Octets, Shape};
 use std::alloc::Global;

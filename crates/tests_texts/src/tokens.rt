@@ -1,3 +1,4 @@
+// The tokens of texts, and faults.
 ghost use Rattle.std.specs.Prelude.{◌≤◌, length};
 ghost use Rattle.circus_text.specs.Form.{longest_text};
 

@@ -1,4 +1,4 @@
-//! A wire, and what it says at what happens to it.
+// A wire, and what it says at what happens to it.
 ghost use Rattle.std.specs.Prelude.{◌≡◌, ◌<◌, ◌≤◌, IfOk};
 
 use bytes::Bytes;

@@ -1,4 +1,4 @@
-//! What a wire says at what happens to it, row by row.
+// What a wire says at what happens to it, row by row.
 ghost use Rattle.std.specs.Prelude.{◌<◌, ◌≤◌};
 
 use crate::post::{Act, Post};

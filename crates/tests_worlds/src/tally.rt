@@ -6,7 +6,7 @@ ghost use Rattle.circus_node.specs.Booting.{AreOfTroupes, IsOfTroupe};
 
 use crate::Either;
 use circus_collate::Deployment;
-use circus_config::{Names, read_program};
+use circus_config::{ModuleNames, read_program};
 use circus_load::{Loaded, load};
 use circus_machine::{Tally, TextModule};
 use circus_model::Module;
@@ -65,7 +65,7 @@ end 0 step 3 clock 1,0 returned [] state [5]
 now idle state [5]
 ";
 
-/// A module that is a text or a tally.
+// A module that is a text or a tally.
 type Mixed = Either<TextModule, Tally>;
 
 // Texts, as modules of the first kind.
@@ -126,7 +126,7 @@ fn modules_of(
 fn replay<M: Module>(
     alloc: Global,
     deployment: Deployment,
-    names: &Names,
+    names: &ModuleNames,
     modules: Vec<M>,
     sink: &mut MemSink,
 ) -> Result<(), Fail>

@@ -6,7 +6,7 @@ use std::test::Fail;
 use tests_command::{Ended, perform, program_file};
 use tests_parts::{BANK, ONE_CALL, ONE_STEP_WITH_A_SPARE, TWO_CALLS_WITH_A_SPARE, TWO_STEPS};
 
-/// A program in parts, a seed and a number of steps, and what is written.
+// A program in parts, a seed and a number of steps, and what is written.
 struct Row {
     program: &'static [&'static str],
     seed: &'static str,

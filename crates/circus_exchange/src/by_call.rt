@@ -1,4 +1,4 @@
-//! What is known under a call's number.
+// What is known under a call's number.
 ghost use Rattle.std.specs.Prelude.{◌≡◌, ℕ, ◌==◌, IsSome, IsOk, OnOk, OnErr, option_copied};
 ghost use Rattle.std.specs.Ordering.{nat_cmp};
 ghost use Rattle.std.specs.FinMap as map;
@@ -12,11 +12,11 @@ use std::marker::Model;
 
 /// Values by number. Clauses see the finite map.
 #[derive(Debug, Drop)]
-pub struct Table<V> {
+pub struct ByCall<V> {
     values: BTreeMap<u32, V>,
 }
 
-impl<V> Model for Table<V> {
+impl<V> Model for ByCall<V> {
     ghost use Rattle.std.specs.Ordering.{nat_cmp};
     ghost use Rattle.std.specs.FinMap as map;
     ghost use Rattle.std.specs.Coded.{coded_ℕ};
@@ -28,15 +28,17 @@ impl<V> Model for Table<V> {
     ghost view = { λ a. map.from_entries a.values.entries };
 }
 
-impl<V> Table<V> {
+impl<V> ByCall<V> {
+    /// No values. It takes no memory.
     pub fn new(alloc: Global) -> Self
         ensures { result ≡ map.empty }
     {
-        Table {
+        ByCall {
             values: BTreeMap::new(alloc),
         }
     }
 
+    /// The value under a number.
     pub fn get(&self, number: u32) -> Option<&V>
         ensures { option_copied result ≡ map.get self.now number }
     {
@@ -44,7 +46,8 @@ impl<V> Table<V> {
     }
 }
 
-impl<V> Table<V> {
+impl<V> ByCall<V> {
+    /// Whether there are none.
     pub fn is_empty(&self) -> bool
         ensures { result ≡ (map.len self.now == 0) }
     {
@@ -60,7 +63,7 @@ impl<V> Table<V> {
     }
 }
 
-impl<V: Drop> Table<V> {
+impl<V: Drop> ByCall<V> {
     /// Puts a value under a number. After `NoMemory` the table is unchanged.
     pub fn insert(&mut self, number: u32, value: V) -> Result<(), NoMemory>
         ensures ok { OnOk result (self.new ≡ map.insert self.old number value) }

@@ -4,7 +4,7 @@ use Rattle.std.specs.Ordering.{nat_cmp}
 use Rattle.std.specs.FinMap as map
 use Rattle.std.specs.FinMap.{nat_cmp-IsAntisymmetric}
 use Rattle.circus_exchange.proofs.Finite.{get_entry, removed}
-use Rattle.circus_exchange.proofs.table.Table.take.Goals as goal
+use Rattle.circus_exchange.proofs.by_call.ByCall.take.Goals as goal
 
 pub returns-clause-value : goal.returns-clause-value
 returns-clause-value g c = c.remove.ensures.value ∙ sym (get_entry nat_cmp nat_cmp_total _ c.args.number) ∙ ap (λ m. map.get m c.args.number) c.self.view_is
