@@ -62,23 +62,47 @@ pub enum CheckedSuffix {
 
 /// Expressions in order. Clauses see the plain list of their trees.
 #[cycle(checked_expression)]
-#[derive(Debug, Drop)]
+#[derive(Debug)]
 pub struct CheckedExpressions {
     items: Vec<CheckedExpression>,
 }
 
+// Written out, so that dropping one is one step of a proof (docs/PROOFS.md, "Cost").
+impl Drop for CheckedExpressions {
+    #[cycle(expression_drop)]
+    fn drop(self) {
+        let CheckedExpressions { items: _ } = self;
+    }
+}
+
 /// Suffixes in order. Clauses see the plain list of their trees.
 #[cycle(checked_expression)]
-#[derive(Debug, Drop)]
+#[derive(Debug)]
 pub struct CheckedSuffixes {
     items: Vec<CheckedSuffix>,
 }
 
+// Written out, so that dropping one is one step of a proof (docs/PROOFS.md, "Cost").
+impl Drop for CheckedSuffixes {
+    #[cycle(expression_drop)]
+    fn drop(self) {
+        let CheckedSuffixes { items: _ } = self;
+    }
+}
+
 /// An expression in another one. Clauses see its tree.
 #[cycle(checked_expression)]
-#[derive(Debug, Drop)]
+#[derive(Debug)]
 pub struct CheckedOperand {
     expression: Box<CheckedExpression>,
+}
+
+// Written out, so that dropping one is one step of a proof (docs/PROOFS.md, "Cost").
+impl Drop for CheckedOperand {
+    #[cycle(expression_drop)]
+    fn drop(self) {
+        let CheckedOperand { expression: _ } = self;
+    }
 }
 
 impl Model for CheckedExpressions {

@@ -54,16 +54,32 @@ pub struct CheckedHandler {
 
 /// Statements in order. Clauses see the plain list of their trees.
 #[cycle(checked_statement)]
-#[derive(Debug, Drop)]
+#[derive(Debug)]
 pub struct CheckedStatements {
     items: Vec<CheckedStatement>,
 }
 
+// Written out, so that dropping one is one step of a proof (docs/PROOFS.md, "Cost").
+impl Drop for CheckedStatements {
+    #[cycle(statement_drop)]
+    fn drop(self) {
+        let CheckedStatements { items: _ } = self;
+    }
+}
+
 /// Handlers in order. Clauses see the plain list of their trees.
 #[cycle(checked_statement)]
-#[derive(Debug, Drop)]
+#[derive(Debug)]
 pub struct CheckedHandlers {
     items: Vec<CheckedHandler>,
+}
+
+// Written out, so that dropping one is one step of a proof (docs/PROOFS.md, "Cost").
+impl Drop for CheckedHandlers {
+    #[cycle(statement_drop)]
+    fn drop(self) {
+        let CheckedHandlers { items: _ } = self;
+    }
 }
 
 impl Model for CheckedStatements {

@@ -60,23 +60,47 @@ pub enum Suffix {
 
 /// Expressions in order. Clauses see the plain list of their trees.
 #[cycle(expression)]
-#[derive(Debug, Drop)]
+#[derive(Debug)]
 pub struct Expressions {
     items: Vec<Expression>,
 }
 
+// Written out, so that dropping one is one step of a proof (docs/PROOFS.md, "Cost").
+impl Drop for Expressions {
+    #[cycle(expression_drop)]
+    fn drop(self) {
+        let Expressions { items: _ } = self;
+    }
+}
+
 /// Suffixes in order. Clauses see the plain list of their trees.
 #[cycle(expression)]
-#[derive(Debug, Drop)]
+#[derive(Debug)]
 pub struct Suffixes {
     items: Vec<Suffix>,
 }
 
+// Written out, so that dropping one is one step of a proof (docs/PROOFS.md, "Cost").
+impl Drop for Suffixes {
+    #[cycle(expression_drop)]
+    fn drop(self) {
+        let Suffixes { items: _ } = self;
+    }
+}
+
 /// An expression in another one. Clauses see its tree.
 #[cycle(expression)]
-#[derive(Debug, Drop)]
+#[derive(Debug)]
 pub struct Operand {
     expression: Box<Expression>,
+}
+
+// Written out, so that dropping one is one step of a proof (docs/PROOFS.md, "Cost").
+impl Drop for Operand {
+    #[cycle(expression_drop)]
+    fn drop(self) {
+        let Operand { expression: _ } = self;
+    }
 }
 
 impl Model for Expressions {

@@ -4,11 +4,10 @@
 //! come now and then. Each tenth is a line, and so is the whole. Without a word nothing is printed.
 //!
 //! One execution asks at most 65,535 times, so the module that calls is itself called by a root, as often as it has to be.
-//! `node` has a node, and `net` the nodes and what is on its way.
+//! `net` has the nodes and what is on its way.
 #![tactic(auto)]
 
 mod net;
-mod node;
 
 use crate::net::Net;
 use anyhow::Error;

@@ -1,11 +1,12 @@
 // The nodes of a program, and what they have sent that hasn't come yet.
-use crate::node::Node;
 use anyhow::Error;
 use bytes::Bytes;
 use circus_config::read_program;
+use circus_guarded::GuardedNode;
 use circus_load::load;
 use circus_machine::TextModule;
 use circus_node::{Event, Outputs};
+use circus_value::ListOf;
 use std::alloc::Global;
 use std::collections::VecDeque;
 
@@ -21,24 +22,30 @@ struct Sent {
 }
 
 /// The nodes of a program, of which one may have crashed.
-#[derive(Drop)]
 pub struct Net {
-    nodes: Vec<Option<Node<TextModule>>>,
+    nodes: Vec<Option<GuardedNode<TextModule>>>,
     sent: VecDeque<Sent>,
     // What is sent to this node is lost.
     crashed: Option<u16>,
     events: u64,
 }
 
-// The nodes of a program at boot, and what they give.
-fn booted(alloc: Global, text: &str) -> Result<Vec<(Node<TextModule>, Outputs)>, Error> {
-    let program = load(alloc, read_program(alloc, text.as_bytes())?)?;
-    let mut nodes = Vec::new(alloc);
-    for number in 0..program.deployment.nodes.len() {
-        let own = u16::try_from(number)?;
-        let modules = program.modules.as_slice();
-        nodes.push(Node::boot(alloc, &program.deployment, modules, own)?)?;
+// Written out, so that dropping one is one step of a proof (docs/PROOFS.md, "Cost").
+impl Drop for Net {
+    fn drop(self) {
+        let Net {
+            nodes: _,
+            sent: _,
+            crashed: _,
+            events: _,
+        } = self;
     }
+}
+
+// The nodes of a program at boot, and what they give.
+fn booted(alloc: Global, text: &str) -> Result<ListOf<(GuardedNode<TextModule>, Outputs)>, Error> {
+    let program = load(alloc, read_program(alloc, text.as_bytes())?)?;
+    let nodes = GuardedNode::boot_all(alloc, &program.deployment, program.modules.as_slice())?;
     Ok(nodes)
 }
 
@@ -51,14 +58,14 @@ impl Net {
             crashed,
             events: 0,
         };
-        for (node, outputs) in booted(alloc, text)? {
+        for (node, outputs) in booted(alloc, text)?.into_items() {
             net.add(node, outputs)?;
         }
         Ok(net)
     }
 
     // The next node, and what it gives at boot.
-    fn add(&mut self, node: Node<TextModule>, outputs: Outputs) -> Result<(), Error> {
+    fn add(&mut self, node: GuardedNode<TextModule>, outputs: Outputs) -> Result<(), Error> {
         let own = node.number();
         self.nodes.push(Some(node))?;
         self.send(own, outputs)

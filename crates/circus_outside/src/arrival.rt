@@ -1,5 +1,6 @@
 // The datagrams of a link in memory.
 ghost use Rattle.std.specs.Prelude.{◌≡◌, take, drop, IfOk};
+ghost use Rattle.circus_outside.specs.Limits.{longest_datagram};
 ghost use Rattle.circus_outside.specs.Link.{IsCut, taken_of};
 ghost use Rattle.circus_outside.specs.MemLink.{TakesFirst, answer_to};
 
@@ -38,7 +39,7 @@ pub enum Look {
 // A datagram as a take answers it.
 #[tactic(auto, using(std::proofs::lemmas::List::take_min))]
 fn cut(alloc: Global, arrival: &Arrival) -> Result<TakenFrom, NoMemory>
-    ensures first { IfOk result (λ answer. answer ≡ TakenFrom.From arrival.now.port (take 2048 arrival.now.bytes)) }
+    ensures first { IfOk result (λ answer. answer ≡ TakenFrom.From arrival.now.port (take longest_datagram arrival.now.bytes)) }
     ensures cut { IfOk result IsCut }
 {
     let whole = arrival.bytes.as_slice();

@@ -68,16 +68,32 @@ pub struct Handler {
 
 /// Statements in order. Clauses see the plain list of their trees.
 #[cycle(statement)]
-#[derive(Debug, Drop)]
+#[derive(Debug)]
 pub struct Statements {
     items: Vec<Statement>,
 }
 
+// Written out, so that dropping one is one step of a proof (docs/PROOFS.md, "Cost").
+impl Drop for Statements {
+    #[cycle(statement_drop)]
+    fn drop(self) {
+        let Statements { items: _ } = self;
+    }
+}
+
 /// Handlers in order. Clauses see the plain list of their trees.
 #[cycle(statement)]
-#[derive(Debug, Drop)]
+#[derive(Debug)]
 pub struct Handlers {
     items: Vec<Handler>,
+}
+
+// Written out, so that dropping one is one step of a proof (docs/PROOFS.md, "Cost").
+impl Drop for Handlers {
+    #[cycle(statement_drop)]
+    fn drop(self) {
+        let Handlers { items: _ } = self;
+    }
 }
 
 impl Model for Statements {

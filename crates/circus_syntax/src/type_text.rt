@@ -55,23 +55,47 @@ pub struct ArmText {
 
 /// Groups of names in order. Clauses see the plain list of their trees.
 #[cycle(type_text)]
-#[derive(Debug, Drop)]
+#[derive(Debug)]
 pub struct GroupTexts {
     items: Vec<GroupText>,
 }
 
+// Written out, so that dropping one is one step of a proof (docs/PROOFS.md, "Cost").
+impl Drop for GroupTexts {
+    #[cycle(type_drop)]
+    fn drop(self) {
+        let GroupTexts { items: _ } = self;
+    }
+}
+
 /// Arms in order. Clauses see the plain list of their trees.
 #[cycle(type_text)]
-#[derive(Debug, Drop)]
+#[derive(Debug)]
 pub struct ArmTexts {
     items: Vec<ArmText>,
 }
 
+// Written out, so that dropping one is one step of a proof (docs/PROOFS.md, "Cost").
+impl Drop for ArmTexts {
+    #[cycle(type_drop)]
+    fn drop(self) {
+        let ArmTexts { items: _ } = self;
+    }
+}
+
 /// The type of the items of an array or a sequence. Clauses see its tree.
 #[cycle(type_text)]
-#[derive(Debug, Drop)]
+#[derive(Debug)]
 pub struct ElementText {
     shape: Box<TypeText>,
+}
+
+// Written out, so that dropping one is one step of a proof (docs/PROOFS.md, "Cost").
+impl Drop for ElementText {
+    #[cycle(type_drop)]
+    fn drop(self) {
+        let ElementText { shape: _ } = self;
+    }
 }
 
 impl Model for GroupTexts {

@@ -10,9 +10,16 @@ use std::alloc::Global;
 use std::marker::Model;
 
 /// Items in order. Clauses see it as a plain list.
-#[derive(Debug, Drop)]
+#[derive(Debug)]
 pub struct ListOf<T> {
     items: Vec<T>,
+}
+
+// Written out, so that dropping one is one step of a proof (docs/PROOFS.md, "Cost").
+impl<T: Drop> Drop for ListOf<T> {
+    fn drop(self) {
+        let ListOf { items: _ } = self;
+    }
 }
 
 impl<T> Model for ListOf<T> {
@@ -74,7 +81,8 @@ impl<T> ListOf<T> {
     pub fn into_items(self) -> Vec<T>
         ensures { result.items ≡ self }
     {
-        self.items
+        let ListOf { items } = self;
+        items
     }
 
     /// Takes the last item out. `None` exactly where there is none.
@@ -101,7 +109,8 @@ impl ListOf<u8> {
     pub fn shared(self) -> Result<Bytes, NoMemory>
         ensures { IfOk result (λ bytes. bytes ≡ self) }
     {
-        Ok(Bytes::from_vec(self.items)?)
+        let ListOf { items } = self;
+        Ok(Bytes::from_vec(items)?)
     }
 }
 

@@ -52,23 +52,47 @@ pub struct Arm {
 
 /// Fields in order. Clauses see the plain list of their trees.
 #[cycle(shape)]
-#[derive(Debug, Drop)]
+#[derive(Debug)]
 pub struct Fields {
     items: Vec<Field>,
 }
 
+// Written out, so that dropping one is one step of a proof (docs/PROOFS.md, "Cost").
+impl Drop for Fields {
+    #[cycle(shape_drop)]
+    fn drop(self) {
+        let Fields { items: _ } = self;
+    }
+}
+
 /// Arms in order. Clauses see the plain list of their trees.
 #[cycle(shape)]
-#[derive(Debug, Drop)]
+#[derive(Debug)]
 pub struct Arms {
     items: Vec<Arm>,
 }
 
+// Written out, so that dropping one is one step of a proof (docs/PROOFS.md, "Cost").
+impl Drop for Arms {
+    #[cycle(shape_drop)]
+    fn drop(self) {
+        let Arms { items: _ } = self;
+    }
+}
+
 /// The shape of the items of an array or a sequence. Clauses see its tree.
 #[cycle(shape)]
-#[derive(Debug, Drop)]
+#[derive(Debug)]
 pub struct Element {
     shape: Box<Shape>,
+}
+
+// Written out, so that dropping one is one step of a proof (docs/PROOFS.md, "Cost").
+impl Drop for Element {
+    #[cycle(shape_drop)]
+    fn drop(self) {
+        let Element { shape: _ } = self;
+    }
 }
 
 impl Model for Fields {

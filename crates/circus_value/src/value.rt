@@ -26,9 +26,17 @@ pub enum Value {
 
 /// Values in order. Clauses see the plain list of their trees.
 #[cycle(value)]
-#[derive(Debug, Drop)]
+#[derive(Debug)]
 pub struct Values {
     items: Vec<Value>,
+}
+
+// Written out, so that dropping one is one step of a proof (docs/PROOFS.md, "Cost").
+impl Drop for Values {
+    #[cycle(value_drop)]
+    fn drop(self) {
+        let Values { items: _ } = self;
+    }
 }
 
 impl Model for Values {
@@ -56,9 +64,17 @@ impl Model for Values {
 
 /// The value of the chosen arm. Clauses see its tree.
 #[cycle(value)]
-#[derive(Debug, Drop)]
+#[derive(Debug)]
 pub struct Chosen {
     value: Box<Value>,
+}
+
+// Written out, so that dropping one is one step of a proof (docs/PROOFS.md, "Cost").
+impl Drop for Chosen {
+    #[cycle(value_drop)]
+    fn drop(self) {
+        let Chosen { value: _ } = self;
+    }
 }
 
 impl Model for Chosen {

@@ -1,17 +1,15 @@
 //! The nodes of a program, driven by hand, for tests.
 //!
-//! `programs` has the programs as texts, `program` a program that was read, `node` a node, and `net` the nodes of a program
-//! with what they have sent, and the lines of what they give. A script is these lines, with those between them that say
+//! `programs` has the programs as texts, `program` a program that was read, and `net` the nodes of a program with what they
+//! have sent, and the lines of what they give. A script is these lines, with those between them that say
 //! what comes, which begin with a star.
 #![tactic(auto)]
 
 mod net;
-mod node;
 mod program;
 mod programs;
 
 pub use net::{FIRST_CALL, Net, message, performed, told_at_boot};
-pub use node::Node;
 pub use program::deployment;
 pub use programs::{
     COUNTER_ALONE, FOUR_COUNTERS, FOUR_ROOTS, FULL, MAIN_ALONE, MAIN_WITH_A_SPARE, THREE_COUNTERS,

@@ -1,7 +1,7 @@
 // The nodes of a program, and the lines of what they give.
-use crate::node::Node;
 use crate::program::{Program, booted};
 use circus_collate::{Entry, Since, View};
+use circus_guarded::GuardedNode;
 use circus_header::Reply;
 use circus_machine::TextModule;
 use circus_member_rules::Difference;
@@ -35,7 +35,7 @@ struct Sent {
 pub struct Net {
     alloc: Global,
     program: Program,
-    nodes: Vec<Option<Node<TextModule>>>,
+    nodes: Vec<Option<GuardedNode<TextModule>>>,
     // The nodes that have crashed, and the steps in which they did.
     crashed: Vec<(u16, u64)>,
     sent: Vec<Sent>,
@@ -71,14 +71,14 @@ impl Net {
             step: 0,
             told: String::new(alloc),
         };
-        for (node, outputs) in nodes {
+        for (node, outputs) in nodes.into_items() {
             net.add(node, outputs)?;
         }
         Ok(net)
     }
 
     // The next node, and what it gives at boot.
-    fn add(&mut self, node: Node<TextModule>, outputs: Outputs) -> Result<(), Fail> {
+    fn add(&mut self, node: GuardedNode<TextModule>, outputs: Outputs) -> Result<(), Fail> {
         let own = node.number();
         self.nodes.push(Some(node))?;
         self.take(own, outputs)
@@ -139,7 +139,7 @@ impl Net {
         Ok(format!(in self.alloc; "{name} clock {clock} {outcome}")?)
     }
 
-    fn node(&self, number: u16) -> Result<&Node<TextModule>, Fail> {
+    fn node(&self, number: u16) -> Result<&GuardedNode<TextModule>, Fail> {
         let node = self.nodes.get(usize::from(number)).ok_or("no node")?;
         Ok(node.as_ref().ok_or("no node")?)
     }

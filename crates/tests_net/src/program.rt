@@ -3,15 +3,15 @@ ghost use Rattle.std.specs.Prelude.{IsTrue, IfOk};
 ghost use Rattle.circus_collate.specs.Deployment.{IsDeployment};
 ghost use Rattle.circus_record.specs.MemberText.{IsHosted};
 
-use crate::node::Node;
 use circus_collate::Deployment;
 use circus_config::{ModuleNames, read_program};
+use circus_guarded::GuardedNode;
 use circus_load::{Loaded, load};
 use circus_machine::TextModule;
 use circus_node::Outputs;
 use circus_record::{MemberRecord, show_member};
 use circus_schedule::{Line, read_schedule};
-use circus_value::Octets;
+use circus_value::{ListOf, Octets};
 use std::alloc::Global;
 use std::marker::Model;
 use std::str;
@@ -36,7 +36,7 @@ impl Model for Program {
 }
 
 /// Nodes at boot, and what they give.
-pub(crate) type Booted = Vec<(Node<TextModule>, Outputs)>;
+pub(crate) type Booted = ListOf<(GuardedNode<TextModule>, Outputs)>;
 
 /// The program of a text, and its nodes at boot.
 pub(crate) fn booted(alloc: Global, text: &Octets) -> Result<(Program, Booted), Fail> {
@@ -46,11 +46,7 @@ pub(crate) fn booted(alloc: Global, text: &Octets) -> Result<(Program, Booted), 
         modules,
         ..
     } = load(alloc, read_program(alloc, text.as_slice())?)?;
-    let mut nodes = Vec::new(alloc);
-    for number in 0..deployment.nodes.len() {
-        let own = u16::try_from(number)?;
-        nodes.push(Node::boot_of(alloc, &deployment, modules.as_slice(), own)?)?;
-    }
+    let nodes = GuardedNode::boot_all(alloc, &deployment, modules.as_slice())?;
     Ok((Program { deployment, names }, nodes))
 }
 

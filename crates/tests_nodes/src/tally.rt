@@ -5,11 +5,12 @@ ghost use Rattle.circus_machine.specs.Tally.{tally_signature};
 ghost use Rattle.circus_node.specs.Booting.{CanBoot};
 
 use circus_collate::Deployment;
+use circus_guarded::GuardedNode;
 use circus_machine::Tally;
 use circus_node::{Event, Gives};
 use std::alloc::Global;
 use std::test::Fail;
-use tests_net::{COUNTER_ALONE, FIRST_CALL, MAIN_ALONE, Node, deployment, message, once};
+use tests_net::{COUNTER_ALONE, FIRST_CALL, MAIN_ALONE, deployment, message, once};
 
 // Whether node 1 hosts a module that is no root.
 fn hosts_no_root(deployment: &Deployment) -> bool
@@ -38,7 +39,7 @@ fn a_tally(rt: HostRuntime) -> Result<(), Fail> {
     let alloc = rt.alloc();
     let deployment = deployment(alloc, &once(alloc, COUNTER_ALONE, MAIN_ALONE)?)?;
     assert!(rt; hosts_no_root(&deployment));
-    let (node, outputs) = Node::boot(alloc, &deployment, Tally::new(alloc)?, 1)?;
+    let (node, outputs) = GuardedNode::boot(alloc, &deployment, Tally::new(alloc)?, 1)?;
     assert!(rt; outputs.gives.is_empty());
     let datagram = message(alloc, FIRST_CALL)?.shared()?;
     let (node, outputs) = node.step(1, Event::Datagram(2, datagram))?;

@@ -55,10 +55,10 @@ pub answer-returns : goal.answer-returns
 answer-returns g t c =
     let program = behaviours g.M.Module.declared g.M.Module.turn g.M.Module.first c.args.modules.now in
     elim c.if-is_spent.branch [
-      | answer-then-is_spent w ↦ refused_so program c.args.thread.now _ c.args.order c.args.state _ _ _ _ _ (sym c.is_spent.ensures ∙ w.if-is_spent.true) w.thread-is (ap (λ xs. get_or xs c.from.result 0) c.as_slice.ensures ∙ ap (λ k. get_or c.args.thread.now.clock k 0) c.from.ensures) (c.arguments.view_is ∙ c.in_ok-arguments.ensures) c.state.view_is (w.reply-is ∙ w.raised-reply.ensures) c.in_ok-copy.ensures
+      | answer-then-is_spent w ↦ refused_so program c.args.thread.now _ c.args.order c.args.state _ _ _ _ _ (sym c.is_spent.ensures ∙ w.if-is_spent.true) w.thread-is (ap (λ xs. get_or xs c.from.result 0) c.as_slice.ensures ∙ ap (λ k. get_or c.args.thread.now.clock k 0) c.from.ensures) c.in_ok-arguments.ensures refl (w.reply-is ∙ w.raised-reply.ensures) c.in_ok-copy.ensures
       | answer-else-is_spent+in_ok-reply w ↦
           let counts = counted_so program c.args.thread.now c.args.order.callee w.from-else-is_spent.result _ w.set.new.self w.set.ensures w.from-else-is_spent.ensures (ap (λ n. n + 1) (ap (λ xs. get_or xs c.from.result 0) c.as_slice.ensures ∙ ap (λ k. get_or c.args.thread.now.clock k 0) c.from.ensures)) in
-          performed_so program c.args.thread.now (record { states = c.args.thread.now.states; clock = w.set.new.self; runs = c.args.thread.now.runs }) _ _ c.args.order c.args.state _ _ _ _ _ _ (sym c.is_spent.ensures ∙ w.if-is_spent.false) counts w.in_ok-reply.ensures w.thread-is w.reply-is (ap (λ xs. get_or xs c.from.result 0) c.as_slice.ensures ∙ ap (λ k. get_or c.args.thread.now.clock k 0) c.from.ensures) (c.arguments.view_is ∙ c.in_ok-arguments.ensures) c.state.view_is c.in_ok-copy.ensures
+          performed_so program c.args.thread.now (record { states = c.args.thread.now.states; clock = w.set.new.self; runs = c.args.thread.now.runs }) _ _ c.args.order c.args.state _ _ _ _ _ _ (sym c.is_spent.ensures ∙ w.if-is_spent.false) counts w.in_ok-reply.ensures w.thread-is w.reply-is (ap (λ xs. get_or xs c.from.result 0) c.as_slice.ensures ∙ ap (λ k. get_or c.args.thread.now.clock k 0) c.from.ensures) c.in_ok-arguments.ensures refl c.in_ok-copy.ensures
     ]
 
 pub perform-loop-turn-init : goal.perform-loop-turn-init
@@ -75,7 +75,7 @@ perform-loop-turn-init g t c =
       on = subst (λ made. IsOn program (ordered c.args.order) b (seen program c.args.thread.now) made (seen program c.take_state.new.self)) (sym c.new-asks.ensures) (begins_on program c.requires.agree lawful (ordered c.args.order) b (seen program c.args.thread.now) (seen program c.take_state.new.self) c.requires.thread c.requires.order at taken);
       gives = subst (λ made. Gives (λ paused. g.M.Module.stands c.index-modules-from.result paused first c.args.order.procedure c.args.order.arguments (replies_of made)) (g.M.Module.turn c.index-modules-from.result first c.args.order.procedure c.args.order.arguments (replies_of made)) c.in_ok-turn.turn) (sym c.new-asks.ensures)
           (subst (λ s. Gives (λ paused. g.M.Module.stands c.index-modules-from.result paused s c.args.order.procedure c.args.order.arguments []) (g.M.Module.turn c.index-modules-from.result s c.args.order.procedure c.args.order.arguments []) c.in_ok-turn.turn) is c.in_ok-turn.ensures);
-      entry = c.entry.view_is ∙ c.in_ok-entry.ensures;
+      entry = c.in_ok-entry.ensures;
     }
 
 pub perform-returns-in-Ends : goal.perform-returns-in-Ends
@@ -88,7 +88,7 @@ perform-returns-in-Ends g t c = λ depth below.
     let on = c.loop-turn.invariant.on in
     let gives = gives_ends _ _ _ _ _ c.loop-turn.invariant.gives c.in-Ends.is in
     ends_on program c.requires.agree lawful (ordered c.args.order) b t0 u c.loop-turn.asks c.in-Ends.outcome c.in-Ends.state on gives depth below
-    ∙ noted_so program c.loop-turn.thread c.note.new.self c.args.order b t0 c.loop-turn.asks c.in-Ends.outcome c.in-Ends.state _ _ _ _ _ _ c.in_ok-reply-in-Ends.reply _ on.way.there on.way.thread c.in_ok-note-in-Ends.ensures.states c.in_ok-note-in-Ends.ensures.clock c.in_ok-note-in-Ends.ensures.runs refl refl c.asks-in-Ends.view_is (c.entry.view_is ∙ c.in_ok-entry.ensures) c.in_ok-copy-in-Ends.ensures refl c.state.view_is c.in_ok-reply-in-Ends.ensures
+    ∙ noted_so program c.loop-turn.thread c.note.new.self c.args.order b t0 c.loop-turn.asks c.in-Ends.outcome c.in-Ends.state _ _ _ _ _ _ c.in_ok-reply-in-Ends.reply _ on.way.there on.way.thread c.in_ok-note-in-Ends.ensures.states c.in_ok-note-in-Ends.ensures.clock c.in_ok-note-in-Ends.ensures.runs refl refl refl c.in_ok-entry.ensures c.in_ok-copy-in-Ends.ensures refl refl c.in_ok-reply-in-Ends.ensures
 
 pub perform-answer-requires : goal.perform-answer-requires
 perform-answer-requires g t c κs within =

@@ -20,7 +20,7 @@ invariant-perform-loop-turn g l =
     record {
       on : IsOn program (ordered l.order) (behaviour g.M.Module.declared g.M.Module.turn g.M.Module.first l.«module») (seen program l.fn.thread) l.asks (seen program l.thread);
       gives : Gives (λ paused. g.M.Module.stands l.«module» paused state l.order.procedure l.order.arguments (replies_of l.asks)) (g.M.Module.turn l.«module» state l.order.procedure l.order.arguments (replies_of l.asks)) l.turn;
-      entry : l.entry-inside.items.items ≡ l.fn.thread.clock;
+      entry : l.entry ≡ l.fn.thread.clock;
     }
 
 abbrev pub decreases-perform-loop-turn : goal.decreases-perform-loop-turn

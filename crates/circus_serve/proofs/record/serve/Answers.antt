@@ -1,4 +1,4 @@
-use Rattle.std.proofs.Common.{◌≡◌, ◌∙◌, [], ◌∷◌, ap, sym, subst, refl, arith, Err, Result}
+use Rattle.std.proofs.Common.{◌≡◌, ◌∙◌, [], ◌∷◌, ap, sym, subst, arith, Err, Result}
 use Rattle.std.proofs.lemmas.Result.{err_from_is_err_and}
 use Rattle.circus_outside.specs.Link.{LinkCounts}
 use Rattle.circus_outside.specs.Told.{told_more}
@@ -148,6 +148,3 @@ returns g c =
           (subst (λ count. HasServed M.declared M.turn d c.args.node c.args.core c.args.gives old new count c.loop-turn.serving) all c.loop-turn.invariant.served);
       rose = λ failed. absurd (not_failed (record { happened = c.loop-turn.serving.log.happened; node = c.loop-turn.serving.core }) failed);
     }
-
-pub same-gives : goal.same-gives
-same-gives g c = refl

@@ -17,9 +17,6 @@ use Rattle.circus_member.proofs.doing.Doing.restored.Goals as goal
 pub same-self : goal.same-self
 same-self g c = refl
 
-pub same-state : goal.same-state
-same-state g c = refl
-
 pub returns-then-not-is_fetching-clause-kept : goal.returns-then-not-is_fetching-clause-kept
 returns-then-not-is_fetching-clause-kept g c =
     let i = c.self.inside in

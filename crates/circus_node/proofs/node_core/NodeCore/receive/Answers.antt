@@ -1,4 +1,4 @@
-use Rattle.std.proofs.Common.{◌≡◌, refl, sym, ap, subst, ◌∙◌}
+use Rattle.std.proofs.Common.{◌≡◌, sym, ap, subst, ◌∙◌}
 use Rattle.std.proofs.lemmas.Result.{err_from_is_err_and}
 use Rattle.circus_segment.specs.Segment.{reading}
 use Rattle.circus_wire.specs.Wire.{IsOther, after_datagram, sent_by_datagram, heard_from}
@@ -29,9 +29,6 @@ pub returns-in_err-acting : goal.returns-in_err-acting
 returns-in_err-acting g c =
     let p = err_from_is_err_and c.from_residual-in_err-acting.result c.from_residual-in_err-acting.ensures.1 in
     lost_memory c.from_residual-in_err-acting.result (received g.M.Module.declared g.M.Module.turn c.args.at c.args.from (reading c.args.bytes.now) c.args.self) p.0 p.1 p.2
-
-pub same-gives : goal.same-gives
-same-gives g c = refl
 
 pub conclude-requires-clause-station : goal.conclude-requires-clause-station
 conclude-requires-clause-station g c =

@@ -12,16 +12,13 @@ use Rattle.circus_performing.proofs.Members.{answered_same, member_same, clock_i
 use Rattle.circus_performing.proofs.performer.Going.on.Goals as goal
 
 pub loop-turn-init : goal.loop-turn-init
-loop-turn-init g c = record { same = refl; going = record { next = c.requires.next; gives = c.requires.gives; comes_to = refl } }
+loop-turn-init g c = record { going = record { next = c.requires.next; gives = c.requires.gives; comes_to = refl } }
 
 pub ended_run-requires : goal.ended_run-requires
 ended_run-requires g c =
     let m = c.args.self in
     let b = behaviour g.M.Module.declared g.M.Module.turn g.M.Module.first m.hosted in
     clock_is_there b (state_after m.began m.kept.runs) c.loop-turn.run c.loop-turn.invariant.going.next.under_way.made
-
-pub same-began : goal.same-began
-same-began g c = refl
 
 pub rest-requires : goal.rest-requires
 rest-requires g c =
@@ -30,7 +27,6 @@ rest-requires g c =
     let b = behaviour g.M.Module.declared g.M.Module.turn g.M.Module.first m.hosted in
     let lawful : IsModule b = record { first_is_state = g.met.M.Module.first_is_state m.hosted; turns_are_lawful = g.met.M.Module.turns_are_lawful m.hosted } in
     let i = c.loop-turn.invariant in
-    subst (λ x. IsMember S b x (with_run m.kept c.in_ok-run-in-Ends.run') None) (sym i.same)
     (subst (λ r. IsMember S b m.began (with_run m.kept r) None) (sym c.in_ok-run-in-Ends.ensures)
     (ends_member S b m.began lawful m.kept c.args.step m.run c.loop-turn.run c.loop-turn.turn c.in-Ends.outcome c.in-Ends.state i.going c.in-Ends.is))
 
@@ -42,7 +38,7 @@ returns-in-Ends g c =
     let lawful : IsModule b = record { first_is_state = g.met.M.Module.first_is_state m.hosted; turns_are_lawful = g.met.M.Module.turns_are_lawful m.hosted } in
     let i = c.loop-turn.invariant in
     let kept = ap (with_run m.kept) c.in_ok-run-in-Ends.ensures ∙ ends_kept S b m.began lawful m.kept c.args.step m.run c.loop-turn.run c.loop-turn.turn c.in-Ends.outcome c.in-Ends.state i.going c.in-Ends.is in
-    answered_same c.rest.result _ _ (member_same m.hosted c.loop-turn.began m.began _ _ i.same kept) c.rest.ensures
+    answered_same c.rest.result _ _ (member_same m.hosted m.began m.began _ _ refl kept) c.rest.ensures
 
 pub current_clock-requires : goal.current_clock-requires
 current_clock-requires g c =
@@ -70,7 +66,6 @@ rest-requires-then-not-is_spent g c =
     let lawful : IsModule b = record { first_is_state = g.met.M.Module.first_is_state m.hosted; turns_are_lawful = g.met.M.Module.turns_are_lawful m.hosted } in
     let i = c.loop-turn.invariant in
     let unspent : is_spent (clock_after c.loop-turn.run.entry c.loop-turn.run.asks) ≡ false = sym (c.is_spent.ensures ∙ ap is_spent c.current_clock.ensures) ∙ c.if-not-is_spent.true in
-    subst (λ x. IsMember S b x (with_run m.kept c.in_ok-waiting_run-in-Asks.field-0) (Some c.in-Asks.paused)) (sym (c.began-in-Asks.view_is ∙ i.same))
     (subst (λ r. IsMember S b m.began (with_run m.kept r) (Some c.in-Asks.paused)) (sym c.in_ok-waiting_run-in-Asks.ensures)
     (waits_member S b m.began lawful m.kept c.args.step m.run c.loop-turn.run c.loop-turn.turn c.in-Asks.callee c.in-Asks.procedure c.in-Asks.arguments c.in-Asks.state c.in-Asks.paused i.going c.in-Asks.is unspent))
 
@@ -83,7 +78,7 @@ returns-then-not-is_spent g c =
     let i = c.loop-turn.invariant in
     let unspent : is_spent (clock_after c.loop-turn.run.entry c.loop-turn.run.asks) ≡ false = sym (c.is_spent.ensures ∙ ap is_spent c.current_clock.ensures) ∙ c.if-not-is_spent.true in
     let kept = ap (with_run m.kept) c.in_ok-waiting_run-in-Asks.ensures ∙ waits_kept S b m.began lawful m.kept c.args.step m.run c.loop-turn.run c.loop-turn.turn c.in-Asks.callee c.in-Asks.procedure c.in-Asks.arguments c.in-Asks.state c.in-Asks.paused i.going c.in-Asks.is unspent in
-    answered_same c.rest-then-not-is_spent.result _ _ (member_same m.hosted _ m.began _ _ (c.began-in-Asks.view_is ∙ i.same) kept) c.rest-then-not-is_spent.ensures
+    answered_same c.rest-then-not-is_spent.result _ _ (member_same m.hosted m.began m.began _ _ refl kept) c.rest-then-not-is_spent.ensures
 
 pub resume-requires : goal.resume-requires
 resume-requires g c =
@@ -113,7 +108,6 @@ loop-turn-preserved g c =
     let spent : is_spent (clock_after c.loop-turn.run.entry c.loop-turn.run.asks) ≡ true = sym (c.is_spent.ensures ∙ ap is_spent c.current_clock.ensures) ∙ c.if-not-is_spent.false in
     let resumed = subst (λ r. (state : List ValueTree) (p : ℕ) (a : List ValueTree) (replies : List Outcome) → S c.in-Asks.paused state p a replies → Gives (λ q. S q state p a (replies ++ r ∷ [])) (b.turn state p a (replies ++ r ∷ [])) c.in_ok-turn-in-Asks.turn) c.refusal.ensures c.in_ok-turn-in-Asks.ensures in
     record {
-      same = i.same;
       going = subst (λ r. IsGoing S b m.began m.kept c.args.step m.run r c.in_ok-turn-in-Asks.turn) (sym c.in_ok-run-in-Asks.ensures)
           (goes_on_refused S b m.began lawful m.kept c.args.step m.run c.loop-turn.run c.loop-turn.turn c.in_ok-turn-in-Asks.turn c.in-Asks.callee c.in-Asks.procedure c.in-Asks.arguments c.in-Asks.state c.in-Asks.paused i.going c.in-Asks.is spent resumed);
     }

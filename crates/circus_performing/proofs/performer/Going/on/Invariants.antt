@@ -10,7 +10,6 @@ abbrev pub invariant-loop-turn : goal.invariant-loop-turn
 invariant-loop-turn g l =
     let b = behaviour g.M.Module.declared g.M.Module.turn g.M.Module.first l.hosted in
     record {
-      same : l.began ≡ l.initial.began;
       going : IsGoing (g.M.Module.stands l.hosted) b l.initial.began l.kept l.step l.initial.run l.run l.turn;
     }
 

@@ -10,8 +10,5 @@ invariant_of-result g c =
     let b = behaviour g.M.Module.declared g.M.Module.turn g.M.Module.first m.hosted in
     subst (λ kept. IsMember (g.M.Module.stands m.hosted) b m.began kept c.args.paused) (sym c.in_ok-kept.ensures) c.requires
 
-pub same-began : goal.same-began
-same-began g c = refl
-
 pub returns : goal.returns
 returns g c = member_same c.args.self.hosted c.args.self.began c.args.self.began _ _ refl c.in_ok-kept.ensures

@@ -46,9 +46,6 @@ resume-requires g c =
     let a = answering S b i.began lawful i.kept c.in-Some.paused c.args.reply (subst (λ q. IsMember S b i.began i.kept q) c.in-Some.is c.self.invariant) can in
     resumes S b i.began lawful i.kept c.in-Some.paused c.args.reply a
 
-pub same-clock : goal.same-clock
-same-clock g c = refl
-
 pub on-requires-clause-next : goal.on-requires-clause-next
 on-requires-clause-next g c =
     let i = c.self.inside in
@@ -59,7 +56,6 @@ on-requires-clause-next g c =
     let a = answering S b i.began lawful i.kept c.in-Some.paused c.args.reply (subst (λ q. IsMember S b i.began i.kept q) c.in-Some.is c.self.invariant) can in
     let runs_are = c.pop.ensures.taken ∙ ap (λ o. c.pop.new.self ++ option_to_list o) c.in-Some-pop.is in
     let run = c.in_ok-replied_run.field-0 in
-    subst (λ x. IsNext b x (record i.kept { runs = c.pop.new.self }) c.args.step run) (sym c.began.view_is)
     (answers_next S b i.began lawful i.kept c.in-Some.paused c.args.reply a c.args.step c.args.clock c.pop.new.self c.in-Some-pop.run' run runs_are c.in_ok-replied_run.ensures)
 
 pub on-requires-clause-gives : goal.on-requires-clause-gives
@@ -72,7 +68,6 @@ on-requires-clause-gives g c =
     let a = answering S b i.began lawful i.kept c.in-Some.paused c.args.reply (subst (λ q. IsMember S b i.began i.kept q) c.in-Some.is c.self.invariant) can in
     let runs_are = c.pop.ensures.taken ∙ ap (λ o. c.pop.new.self ++ option_to_list o) c.in-Some-pop.is in
     let run = c.in_ok-replied_run.field-0 in
-    subst (λ x. Gives (λ q. S q (state_after x c.pop.new.self) run.procedure run.arguments (replies_of run.asks)) (b.turn (state_after x c.pop.new.self) run.procedure run.arguments (replies_of run.asks)) c.in_ok-turn.turn) (sym c.began.view_is)
     (answers_gives S b i.began lawful i.kept c.in-Some.paused c.args.reply a c.args.step c.args.clock c.pop.new.self c.in-Some-pop.run' run runs_are c.in_ok-replied_run.ensures c.in_ok-turn.turn c.in_ok-turn.ensures)
 
 pub returns : goal.returns
@@ -86,6 +81,5 @@ returns g c =
     let runs_are = c.pop.ensures.taken ∙ ap (λ o. c.pop.new.self ++ option_to_list o) c.in-Some-pop.is in
     let run = c.in_ok-replied_run.field-0 in
     let kept : MemberRecord = record i.kept { runs = c.pop.new.self } in
-    let on = subst (λ x. IfOk c.on.result (λ p. p ≡ record { hosted = i.hosted; began = x; kept = with_run kept (gone_on c.args.step (b.turn (state_after x c.pop.new.self) run.procedure run.arguments) most_turns run) })) c.began.view_is c.on.ensures in
     result_for (λ p. answered (g.M.Module.turn p.hosted) p.began c.args.step c.args.reply c.args.clock p.kept) c.on.result _ c.args.self _ c.self.view_is
-    (answers_kept S b i.began lawful i.kept c.in-Some.paused c.args.reply a c.args.step c.args.clock c.pop.new.self c.in-Some-pop.run' run runs_are c.in_ok-replied_run.ensures) on
+    (answers_kept S b i.began lawful i.kept c.in-Some.paused c.args.reply a c.args.step c.args.clock c.pop.new.self c.in-Some-pop.run' run runs_are c.in_ok-replied_run.ensures) c.on.ensures

@@ -50,6 +50,3 @@ returns g c =
     let way = enters (g.M.Module.stands i.hosted) b i.began lawful i.kept i.paused c.args.step c.args.start c.self.invariant can in
     result_for (λ p. entered (g.M.Module.turn p.hosted) c.args.step c.args.start p.kept) c.on.result _ c.args.self _ c.self.view_is
     (enters_kept (g.M.Module.stands i.hosted) b i.began lawful i.kept c.args.step c.args.start c.begun.result way.0.state c.begun.ensures) c.on.ensures
-
-pub same-began : goal.same-began
-same-began g c = refl

@@ -96,6 +96,3 @@ returns g c =
           c.in_ok-add_event.ensures.next c.in_ok-add_event.ensures.happened) c.in_ok-add_event.ensures.given;
       counts = c.in_ok-add_event.ensures.counts;
     }
-
-pub same-suspects : goal.same-suspects
-same-suspects g c = refl

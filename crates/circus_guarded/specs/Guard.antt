@@ -1,5 +1,5 @@
--- What is known of a node, and of what comes to it.
-use Rattle.std.specs.Prelude.{◌≡◌, ◌≢◌, ℕ, ◌<◌, List, length}
+-- What is known of a node, and of what may come to it.
+use Rattle.std.specs.Prelude.{◌≡◌, ◌≢◌, ℕ, ◌<◌, length}
 use Rattle.circus_node.specs.Node.{IsNodeOf}
 use Rattle.circus_node.specs.NodeState.{NodeState}
 use Rattle.circus_node.specs.declared.event.Event.{Event}
