@@ -30,9 +30,9 @@ use Rattle.circus_performing.proofs.Ends.{front_more, last_more, replies_more}
 pub answered_same : {A E : Type 0} (r : Result A E) (one other : A) → one ≡ other → IfOk r (λ p. p ≡ one) → IfOk r (λ p. p ≡ other)
 answered_same r one other e h = subst (λ x. IfOk r (λ p. p ≡ x)) e h
 
--- members with equal parts are
-pub member_same : {M : Type 0} (hosted : M) (began other : List ValueTree) (kept more : MemberRecord) → began ≡ other → kept ≡ more → let x : Performing M = record { hosted = hosted; began = began; kept = kept } in let y : Performing M = record { hosted = hosted; began = other; kept = more } in x ≡ y
-member_same hosted began other kept more e f = λ j. record { hosted = hosted; began = e j; kept = f j }
+-- members that have kept the same are equal
+pub member_same : {M : Type 0} (hosted : M) (began : List ValueTree) (kept other : MemberRecord) → kept ≡ other → let x : Performing M = record { hosted = hosted; began = began; kept = kept } in let y : Performing M = record { hosted = hosted; began = began; kept = other } in x ≡ y
+member_same hosted began kept other e = λ j. record { hosted = hosted; began = began; kept = e j }
 
 -- what is answered for a member, whose parts are these
 pub result_for : {M E : Type 0} (f : Performing M → MemberRecord) (r : Result (Performing M) E) (inside self : Performing M) (made : MemberRecord) → inside ≡ self → made ≡ f inside → IfOk r (λ p. p ≡ record inside { kept = made }) → IfOk r (λ p. p ≡ record self { kept = f self })

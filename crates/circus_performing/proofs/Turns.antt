@@ -9,7 +9,7 @@ use Rattle.circus_model.specs.declared.signature.Import.{Import}
 use Rattle.circus_model.specs.declared.signature.ProcedureShape.{ProcedureShape}
 use Rattle.circus_limits.specs.Limits.{most_asks}
 use Rattle.circus_model.specs.NextTurn.{NextTurn, asks, ends}
-use Rattle.circus_model.specs.Lawful.{IsLawful, RepliesFit, ReplyFits, import_of, procedure_numbered, import_takes, import_answers, is_reported}
+use Rattle.circus_model.specs.Lawful.{IsLawful, ReplyFits, import_of, procedure_numbered, import_takes, import_answers, is_reported}
 use Rattle.circus_model.specs.Behaviour.{Behaviour, IsModule}
 use Rattle.circus_model.specs.Execution.{is_spent}
 use Rattle.circus_model.proofs.Turning.{some_true, fits_more}

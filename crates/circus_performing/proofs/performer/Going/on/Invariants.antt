@@ -1,4 +1,4 @@
-use Rattle.std.proofs.Common.{◌≡◌, ◌+◌, ◌-◌, length}
+use Rattle.std.proofs.Common.{◌+◌, ◌-◌, length}
 use Rattle.circus_limits.specs.Limits.{most_asks}
 use Rattle.circus_performing.specs.Performing.{replies_of}
 use Rattle.circus_performing.specs.Record.{behaviour}
@@ -9,9 +9,7 @@ use Rattle.circus_performing.proofs.performer.Going.on.Given as goal
 abbrev pub invariant-loop-turn : goal.invariant-loop-turn
 invariant-loop-turn g l =
     let b = behaviour g.M.Module.declared g.M.Module.turn g.M.Module.first l.hosted in
-    record {
-      going : IsGoing (g.M.Module.stands l.hosted) b l.initial.began l.kept l.step l.initial.run l.run l.turn;
-    }
+    IsGoing (g.M.Module.stands l.hosted) b l.initial.began l.kept l.step l.initial.run l.run l.turn
 
 abbrev pub decreases-loop-turn : goal.decreases-loop-turn
 decreases-loop-turn g l = most_asks + 1 - length (replies_of l.run.asks)

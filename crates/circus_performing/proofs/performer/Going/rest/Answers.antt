@@ -1,4 +1,4 @@
-use Rattle.std.proofs.Common.{refl, sym, subst}
+use Rattle.std.proofs.Common.{sym, subst}
 use Rattle.circus_performing.specs.Record.{behaviour}
 use Rattle.circus_performing.specs.Seen.UnderWay.{IsMember}
 use Rattle.circus_performing.proofs.Members.{member_same}
@@ -11,4 +11,4 @@ invariant_of-result g c =
     subst (λ kept. IsMember (g.M.Module.stands m.hosted) b m.began kept c.args.paused) (sym c.in_ok-kept.ensures) c.requires
 
 pub returns : goal.returns
-returns g c = member_same c.args.self.hosted c.args.self.began c.args.self.began _ _ refl c.in_ok-kept.ensures
+returns g c = member_same c.args.self.hosted c.args.self.began _ _ c.in_ok-kept.ensures

@@ -1,12 +1,10 @@
-use Rattle.std.proofs.Common.{◌≡◌, refl, true≢false, ap, sym, subst, ◌∙◌, ◌++◌}
-use Rattle.std.specs.Prelude.{is_some, option_to_list, IfOk, IsSome}
+use Rattle.std.proofs.Common.{true≢false, ap, sym, subst, ◌∙◌, ◌++◌}
+use Rattle.std.specs.Prelude.{is_some, option_to_list, IsSome}
 use Rattle.circus_model.specs.Behaviour.{IsModule}
-use Rattle.circus_model.specs.Gives.{Gives}
-use Rattle.circus_performing.specs.Performing.{state_after, replies_of, gone_on, with_run, most_turns, answered}
-use Rattle.circus_record.specs.declared.record.MemberRecord.{MemberRecord}
+use Rattle.circus_performing.specs.Performing.{answered}
 use Rattle.circus_performing.specs.Acts.{CanAnswer}
 use Rattle.circus_performing.specs.Record.{behaviour}
-use Rattle.circus_performing.specs.Seen.UnderWay.{IsMember, IsNext}
+use Rattle.circus_performing.specs.Seen.UnderWay.{IsMember}
 use Rattle.circus_performing.proofs.Members.{answering, runs_wait, something_waits, resumes, answers_next, answers_gives, answers_kept, result_for}
 use Rattle.circus_performing.proofs.performer.Performer.answer.Goals as goal
 
@@ -56,7 +54,7 @@ on-requires-clause-next g c =
     let a = answering S b i.began lawful i.kept c.in-Some.paused c.args.reply (subst (λ q. IsMember S b i.began i.kept q) c.in-Some.is c.self.invariant) can in
     let runs_are = c.pop.ensures.taken ∙ ap (λ o. c.pop.new.self ++ option_to_list o) c.in-Some-pop.is in
     let run = c.in_ok-replied_run.field-0 in
-    (answers_next S b i.began lawful i.kept c.in-Some.paused c.args.reply a c.args.step c.args.clock c.pop.new.self c.in-Some-pop.run' run runs_are c.in_ok-replied_run.ensures)
+    answers_next S b i.began lawful i.kept c.in-Some.paused c.args.reply a c.args.step c.args.clock c.pop.new.self c.in-Some-pop.run' run runs_are c.in_ok-replied_run.ensures
 
 pub on-requires-clause-gives : goal.on-requires-clause-gives
 on-requires-clause-gives g c =
@@ -68,7 +66,7 @@ on-requires-clause-gives g c =
     let a = answering S b i.began lawful i.kept c.in-Some.paused c.args.reply (subst (λ q. IsMember S b i.began i.kept q) c.in-Some.is c.self.invariant) can in
     let runs_are = c.pop.ensures.taken ∙ ap (λ o. c.pop.new.self ++ option_to_list o) c.in-Some-pop.is in
     let run = c.in_ok-replied_run.field-0 in
-    (answers_gives S b i.began lawful i.kept c.in-Some.paused c.args.reply a c.args.step c.args.clock c.pop.new.self c.in-Some-pop.run' run runs_are c.in_ok-replied_run.ensures c.in_ok-turn.turn c.in_ok-turn.ensures)
+    answers_gives S b i.began lawful i.kept c.in-Some.paused c.args.reply a c.args.step c.args.clock c.pop.new.self c.in-Some-pop.run' run runs_are c.in_ok-replied_run.ensures c.in_ok-turn.turn c.in_ok-turn.ensures
 
 pub returns : goal.returns
 returns g c =
@@ -80,6 +78,5 @@ returns g c =
     let a = answering S b i.began lawful i.kept c.in-Some.paused c.args.reply (subst (λ q. IsMember S b i.began i.kept q) c.in-Some.is c.self.invariant) can in
     let runs_are = c.pop.ensures.taken ∙ ap (λ o. c.pop.new.self ++ option_to_list o) c.in-Some-pop.is in
     let run = c.in_ok-replied_run.field-0 in
-    let kept : MemberRecord = record i.kept { runs = c.pop.new.self } in
     result_for (λ p. answered (g.M.Module.turn p.hosted) p.began c.args.step c.args.reply c.args.clock p.kept) c.on.result _ c.args.self _ c.self.view_is
     (answers_kept S b i.began lawful i.kept c.in-Some.paused c.args.reply a c.args.step c.args.clock c.pop.new.self c.in-Some-pop.run' run runs_are c.in_ok-replied_run.ensures) c.on.ensures

@@ -1,4 +1,4 @@
-use Rattle.std.proofs.Common.{[], refl, sym, subst, ◌∙◌}
+use Rattle.std.proofs.Common.{[], sym, subst, ◌∙◌}
 use Rattle.circus_model.specs.Behaviour.{IsModule}
 use Rattle.circus_model.specs.Lawful.{CanStart}
 use Rattle.circus_model.specs.Gives.{Gives}
