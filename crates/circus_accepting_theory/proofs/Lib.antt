@@ -1,0 +1,17 @@
+pub mod Arguments
+pub mod Heads
+pub mod Calls
+pub mod Returns
+pub mod Outcomes
+pub mod States
+pub mod Options
+pub mod Octets
+pub mod Fitting
+pub mod Tables
+pub mod Taken
+pub mod TrueCalls
+pub mod TrueReturns
+pub mod Can
+pub mod True
+pub mod TrueCan
+pub mod Sendable

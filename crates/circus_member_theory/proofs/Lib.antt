@@ -1,0 +1,12 @@
+pub mod Counts
+pub mod Headers
+pub mod Ranges
+pub mod Entries
+pub mod Kept
+pub mod Alike
+pub mod Calling
+pub mod Handled
+pub mod Turned
+pub mod Going
+pub mod Resting
+pub mod Step

@@ -1,0 +1,10 @@
+pub mod Along
+pub mod Beginning
+pub mod Growing
+pub mod Handing
+pub mod Making
+pub mod Plain
+pub mod Saying
+pub mod Stepping
+pub mod Theorem
+pub mod True
