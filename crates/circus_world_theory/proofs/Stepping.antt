@@ -52,7 +52,7 @@ use Rattle.circus_world_theory.proofs.True.{CallSo, ReturnSo, EffectSo, ActsTrue
 -- ---- a deployment
 
 -- the troupe of a node has a module, where there is one for each troupe
-has_module : (program : List Behaviour) (d : Deployment) (node : ℕ) → IsDeployment d → length program ≡ length d.troupes → MayHaveModule program (troupe_at d node)
+pub has_module : (program : List Behaviour) (d : Deployment) (node : ℕ) → IsDeployment d → length program ≡ length d.troupes → MayHaveModule program (troupe_at d node)
 has_module program d node good all = by_host (slice_get d.nodes node) refl
   where
     by_troupe : (h : Host) (o : Option ℕ) → slice_get d.nodes node ≡ Some h → h.module ≡ o → MayHaveModule program o
@@ -100,7 +100,7 @@ module _ (program : List Behaviour) (d : Deployment) (acts : ℕ → WireActs Pu
   abbrev TheirReturn : Caller → List ℕ → Type 0
   TheirReturn = ReturnSo program (CalledAt d acts from) (troupe_at d from)
 
-  heard_so : (h : Heard Purpose) → HeardAt d acts node from h → HeardSo program (CalledAt d acts node) (CalledAt d acts from) (troupe_at d node) (troupe_at d from) h
+  pub heard_so : (h : Heard Purpose) → HeardAt d acts node from h → HeardSo program (CalledAt d acts node) (CalledAt d acts from) (troupe_at d node) (troupe_at d from) h
   heard_so heard.Dropped at = tt
   heard_so heard.Taken at = tt
   heard_so (heard.Called sender message) at =

@@ -70,7 +70,7 @@ module _ {M : Type 0} (d : Deployment) (acts : ℕ → WireActs Purpose) (w : Wo
   by_sent number None node event s there at is = no_event node event is
   by_sent number (Some sent) node event s there at is = by_live number sent node event s (is_live w sent.to) there at is
 
-  truly_comes : (line : Line) (node : ℕ) (event : Event) (s : Standing M) → comes_by line w ≡ Some (node, event) → slice_get w.nodes node ≡ Some s
+  pub truly_comes : (line : Line) (node : ℕ) (event : Event) (s : Standing M) → comes_by line w ≡ Some (node, event) → slice_get w.nodes node ≡ Some s
       → ComesTruly d acts node event s.node
   truly_comes (Deliver number) node event s is at = by_sent number (slice_get w.sent number) node event s refl at is
   truly_comes (Tick other) node event s is at = comes_so node other event comes.Tick s is at (λ _. tt)

@@ -1,0 +1,10 @@
+pub mod Firsts
+pub mod Runs
+pub mod Calls
+pub mod Replies
+pub mod Known
+pub mod Open
+pub mod Turned
+pub mod Going
+pub mod Rests
+pub mod Lived

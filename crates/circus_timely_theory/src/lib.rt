@@ -1,0 +1,12 @@
+//! Theory: nothing that a member does comes late or early.
+//!
+//! `laws` has this. `specs/Living.antt` says which pasts a member may live, and what it is behind one. In `proofs/`, `Firsts.antt`
+//! has what was given first along a past, `Calls.antt` and `Replies.antt` that what a member holds, and what was said to an ask
+//! that waits, gives what all that came gives, `Known.antt` that it knows and is what its past says, `Runs.antt`, `Open.antt`,
+//! `Turned.antt` and `Going.antt` what each act within a step keeps, `Rests.antt` what holds between two steps, and `Lived.antt`
+//! the sum.
+#![tactic(auto)]
+
+mod laws;
+
+pub use laws::nothing_comes_late_or_early;
