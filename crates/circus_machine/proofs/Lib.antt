@@ -1,15 +1,15 @@
-mod Abiding
-mod Appending
-mod Assigning
-mod Beginning
-mod Behaving
-mod Compiling
-mod CompilingSteps
-mod Emitting
-mod Flows
-mod Following
-mod Fulfilling
-mod Keeping
-mod Lawful
-mod Moving
-mod Turning
+pub mod Abiding
+pub mod Appending
+pub mod Assigning
+pub mod Beginning
+pub mod Behaving
+pub mod Compiling
+pub mod CompilingSteps
+pub mod Emitting
+pub mod Flows
+pub mod Following
+pub mod Fulfilling
+pub mod Keeping
+pub mod Lawful
+pub mod Moving
+pub mod Turning

@@ -1,12 +1,12 @@
-mod ZeroTrees
-mod ZeroFits
-mod Trees
-mod Found
-mod Offered
-mod States
-mod WholeBodies
-mod Agreeing
-mod Behaving
-mod Whole
-mod Making
-mod Modules
+pub mod ZeroTrees
+pub mod ZeroFits
+pub mod Trees
+pub mod Found
+pub mod Offered
+pub mod States
+pub mod WholeBodies
+pub mod Agreeing
+pub mod Behaving
+pub mod Whole
+pub mod Making
+pub mod Modules

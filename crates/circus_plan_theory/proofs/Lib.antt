@@ -1,0 +1,7 @@
+mod Places
+mod Bodies
+mod Abiding
+mod Proper
+pub mod Plan
+pub mod Troupes
+pub mod Hosted
