@@ -6,6 +6,7 @@ pub mod Outcomes
 pub mod States
 pub mod Options
 pub mod Octets
+pub mod Entries
 pub mod Fitting
 pub mod Tables
 pub mod Taken

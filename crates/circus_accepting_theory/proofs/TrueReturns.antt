@@ -1,15 +1,11 @@
 -- A true return that is accepted tells what is true.
-use Rattle.std.proofs.Common.{◌≡◌, ℕ, ◌<◌, ◌^◌, inl, inr, true, List, drop, All, Option, None, Some, refl, sym, ap, ◌∙◌, subst, arith}
-use Rattle.std.specs.Prelude.{nat_eq, ◌==◌, slice_get, Contains, IfSome, option_map, option_and_then}
-use Rattle.std.proofs.lemmas.Bool.{eqb-true}
-use Rattle.std.proofs.lemmas.List.Elements.{All-contains}
-use Rattle.std.proofs.lemmas.Map.Views.{Contains-from_lookup}
+use Rattle.std.proofs.Common.{◌≡◌, ℕ, ◌<◌, ◌^◌, inl, inr, true, List, drop, Option, None, Some, refl, sym, ap, ◌∙◌, subst, arith}
+use Rattle.std.specs.Prelude.{◌==◌, slice_get, Contains, IfSome, option_map, option_and_then}
 use Rattle.std.proofs.lemmas.Option.{same_Some}
 use Rattle.circus_value.specs.ValueTree.{ValueTree}
 use Rattle.circus_value.specs.Fits.{all_fit}
 use Rattle.circus_value.specs.declared.caller.Caller.{Caller}
 use Rattle.circus_value.specs.declared.outcome.Outcome.{Outcome}
-use Rattle.circus_external.proofs.ShapesAlike.{and_both}
 use Rattle.circus_header.specs.Reading.{IsOne, returns}
 use Rattle.circus_header.specs.declared.answer.Reply.{Reply}
 use Rattle.circus_header.specs.declared.answer.ReturnHeader.{ReturnHeader}
@@ -31,7 +27,7 @@ use Rattle.circus_model.specs.declared.signature.Signature.{Signature}
 use Rattle.circus_fanout.specs.Asking.{Asking}
 use Rattle.circus_performing.specs.Record.{behaviour}
 use Rattle.circus_member_rules.specs.Messages.{outcome_spelling, ask_message, fetch_message, reply_message}
-use Rattle.circus_member_rules.specs.OpenAsks.{is_name, asking_of}
+use Rattle.circus_member_rules.specs.OpenAsks.{asking_of}
 use Rattle.circus_member_rules.specs.declared.occurrence.AskName.{AskName}
 use Rattle.circus_member_rules.specs.declared.occurrence.Occurrence.{Occurrence}
 use Rattle.circus_member_rules.specs.declared.occurrence.Occurrence.TheVariants as comes
@@ -46,25 +42,13 @@ use Rattle.circus_accepting.specs.Bodies.{outcome_at, restored_in}
 use Rattle.circus_accepting.specs.Headers.{return_in}
 use Rattle.circus_accepting.specs.Accepting.{imported, called_by, outcome_of, taken_reply, taken_answer, accepted_answer, accepted_table, accepted_state, accepted_return}
 use Rattle.circus_accepting_theory.proofs.Calls.{ask_header, ask_no_fetch, fetch_troupe}
+use Rattle.circus_accepting_theory.proofs.Entries.{ask_found}
 use Rattle.circus_accepting_theory.proofs.Options.{before_some, seen_some}
 use Rattle.circus_accepting_theory.proofs.Outcomes.{outcome_is}
 use Rattle.circus_accepting_theory.proofs.Returns.{reply_length, reply_read, reply_outcome, stale_read, before_read, table_read}
 use Rattle.circus_accepting_theory.proofs.States.{state_is, stale_no_state, before_no_state, table_no_state}
 use Rattle.circus_accepting_theory.proofs.Tables.{table_incarnation}
 use Rattle.circus_accepting_theory.proofs.Taken.{IsTakenReply, reply_taken, imported_as, called_open, imported_answers, table_told}
-
--- ---- open asks
-
-same_names : (one other : AskName) → is_name one other ≡ true → one ≡ other
-same_names one other is =
-    let both = and_both (nat_eq one.run other.run) (nat_eq one.ask other.ask) is in
-    let runs : one.run ≡ other.run = eqb-true one.run other.run both.0 in
-    let asks : one.ask ≡ other.ask = eqb-true one.ask other.ask both.1 in
-    λ j. record { run = runs j; ask = asks j }
-
--- what holds of each open ask and its name holds of the one of a name
-open_holds : (P : AskName × Asking → Type 0) (asks : List (AskName × Asking)) (name : AskName) (a : Asking) → All P asks → asking_of asks name ≡ Some a → P (name, a)
-open_holds P asks name a all is = All-contains P asks (name, a) all (Contains-from_lookup same_names name a asks is)
 
 -- ---- imports
 
@@ -149,7 +133,7 @@ module _ {M : Type 0} (declared : M → Signature) (turn : M → List ValueTree 
           → (asking : Option Asking) → asking_of m.asks name ≡ asking → IfSome asking (λ a. Answers (history_of program) troupe (first m.performing.hosted) Called name given)
       by_open given r None none = tt
       by_open given r (Some a) some =
-          let asking = open_holds (λ (e : AskName × Asking). IsTrueAsking (history_of program) troupe (first m.performing.hosted) Called e.0 e.1) m.asks name a true_member.asks some in
+          let asking = ask_found (λ (e : AskName × Asking). IsTrueAsking (history_of program) troupe (first m.performing.hosted) Called e.0 e.1) m.asks name a true_member.asks some in
           let here : drop (reply_length reply.clock) (reply_message reply) ≡ outcome_spelling ask.reply = reply_outcome reply ∙ ap (λ (x : Reply). outcome_spelling x.outcome) reply_is in
           let outcomes : given.outcome ≡ ask.reply =
           outcome_true name a run ask (reply_length reply.clock) (reply_message reply) given.outcome there some asking.named here r.outcome_read in

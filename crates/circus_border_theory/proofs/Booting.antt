@@ -38,12 +38,16 @@ module _ {M : Type 0} (declared : M → Signature) (turn : M → List ValueTree 
       by_test : (t : Bool) → starts_at_boot declared turn beginning hosted ≡ t
           → I (if t then entered turn 0 (begun (before_all beginning)) first_run else begun (before_all beginning))
       by_test false is = holds
-      by_test true is = entered_keeps declared turn first lawful 0 I keeps (begun (before_all beginning)) first_run (before_sound beginning) (may_begin declared turn first lawful place views hosted home beginning is) holds
+      by_test true is =
+          entered_keeps declared turn first lawful 0 I keeps (begun (before_all beginning)) first_run (before_sound beginning)
+          (may_begin declared turn first lawful place views hosted home beginning is) holds
 
   -- so it is sound then
   pub booted_sound : (beginning : Beginning) → IsSoundNow declared turn first lawful (booted declared turn first place views beginning hosted).member
   booted_sound beginning = by_test (starts_at_boot declared turn beginning hosted) refl
     where
-      by_test : (t : Bool) → starts_at_boot declared turn beginning hosted ≡ t → let d : Doing M = if t then entered turn 0 (begun (before_all beginning)) first_run else begun (before_all beginning) in IsSoundNow declared turn first lawful d.member
+      by_test : (t : Bool) → starts_at_boot declared turn beginning hosted ≡ t → let d : Doing M =
+          if t then entered turn 0 (begun (before_all beginning)) first_run else begun (before_all beginning) in IsSoundNow declared turn first lawful d.member
       by_test false is = before_sound beginning
-      by_test true is = sound_entered declared turn first lawful 0 (begun (before_all beginning)) first_run (before_sound beginning) (may_begin declared turn first lawful place views hosted home beginning is)
+      by_test true is =
+          sound_entered declared turn first lawful 0 (begun (before_all beginning)) first_run (before_sound beginning) (may_begin declared turn first lawful place views hosted home beginning is)

@@ -72,7 +72,8 @@ module _ {M : Type 0} (declared : M → Signature) (turn : M → List ValueTree 
       let e = member_step.booted declared turn first home.place views home.beginning hosted in
       let at : home_of d own ≡ Some home = ap (λ o. option_and_then (λ n. option_map (home_in d own n) (slice_get d.troupes n)) o) hosts ∙ ap (option_map (home_in d own number)) there in
       let stands_ : IsHome (declared hosted) home.place views = is_home d own home (declared hosted) is at of in
-      let reaches = boot_reaches (Hosts d) (IsOtherOf d own) home.place (may_be_called d is own home.place refl hosts) declared turn first lawful views home.beginning hosted stands_ (boot_views_are d is) in
+      let reaches = boot_reaches (Hosts d) (IsOtherOf d own) home.place
+      (may_be_called d is own home.place refl hosts) declared turn first lawful views home.beginning hosted stands_ (boot_views_are d is) in
       let sized = boot_is_sized (limit_of d.format) declared turn first lawful home.place views home.beginning hosted stands_ of.limit in
       let down : e.member.known.down ≡ [] = ap (λ (k : Knowing). k.down) (booted_knows declared turn first home.place views home.beginning hosted) in
       let up : UpAs declared turn first lawful d is own fresh e.member.known.down = λ node other. fresh_up node other ∙ ap (λ l. not (is_among l node)) (sym down) in

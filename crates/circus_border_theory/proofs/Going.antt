@@ -60,15 +60,19 @@ module _ {M : Type 0} (declared : M → Signature) (turn : M → List ValueTree 
       turns_keep : (d : Doing M) → IsTurned (behaves d) d.member → I d → I (after_turns d)
       turns_keep d h holds = by_run (last_of d.member.performing.kept.runs) refl
         where
-          by_view : (run : RunRecord) (ask : AskRecord) → last_of d.member.performing.kept.runs ≡ Some run → open_ask d.member.performing.kept ≡ Some ask → (o : Option View) → slice_get d.member.known.views ask.callee ≡ o → let e : Doing M = option_map_or (opened_by_view d (name_of_last d.member.performing.kept) (asking_begun d.member.place d.member.performing.kept run ask)) o d in I e
+          by_view : (run : RunRecord) (ask : AskRecord) → last_of d.member.performing.kept.runs ≡ Some run → open_ask d.member.performing.kept ≡ Some ask → (o : Option View)
+              → slice_get d.member.known.views ask.callee ≡ o → let e : Doing M =
+              option_map_or (opened_by_view d (name_of_last d.member.performing.kept) (asking_begun d.member.place d.member.performing.kept run ask)) o d in I e
           by_view run ask at is None none = holds
           by_view run ask at is (Some view) some = keeps.opens d run ask view h at is some holds
 
-          by_ask : (run : RunRecord) → last_of d.member.performing.kept.runs ≡ Some run → (o : Option AskRecord) → open_ask d.member.performing.kept ≡ o → let e : Doing M = option_map_or (opened_ask d run) o (ended_run d run) in I e
+          by_ask : (run : RunRecord) → last_of d.member.performing.kept.runs ≡ Some run → (o : Option AskRecord) → open_ask d.member.performing.kept ≡ o → let e : Doing M =
+              option_map_or (opened_ask d run) o (ended_run d run) in I e
           by_ask run at None none = keeps.ends d run h at none holds
           by_ask run at (Some ask) is = by_view run ask at is (slice_get d.member.known.views ask.callee) refl
 
-          by_run : (o : Option RunRecord) → last_of d.member.performing.kept.runs ≡ o → let e : Doing M = option_map_or (λ (run : RunRecord). option_map_or (opened_ask d run) (open_ask d.member.performing.kept) (ended_run d run)) o d in I e
+          by_run : (o : Option RunRecord) → last_of d.member.performing.kept.runs ≡ o → let e : Doing M =
+              option_map_or (λ (run : RunRecord). option_map_or (opened_ask d run) (open_ask d.member.performing.kept) (ended_run d run)) o d in I e
           by_run None at = holds
           by_run (Some run) at = by_ask run at (open_ask d.member.performing.kept) refl
 

@@ -116,7 +116,8 @@ module _ (b : Beginning) (left : Caller → ℕ) where
           → answered_in c effects + left c ≤ one_if (awaits_in b (followed_by acts (AnswerTo caller message)) c)
       by_caller true is most = let few = one_at_most (awaits_in b acts c) in omega (arith, most, few)
       by_caller false is most =
-          let still = one_if_on (awaits_in b acts c) (awaits_in b (followed_by acts (AnswerTo caller message)) c) (awaits_on b acts (AnswerTo caller message) c (λ from t came. cc) (other_caller c caller message is)) in
+          let still = one_if_on (awaits_in b acts c) (awaits_in b (followed_by acts (AnswerTo caller message)) c)
+          (awaits_on b acts (AnswerTo caller message) c (λ from t came. cc) (other_caller c caller message is)) in
           omega (arith, most, still)
 
   -- what is answered is awaited, each as its turn comes

@@ -105,11 +105,13 @@ was_called b (followed_by acts (CallTo to m purpose)) other number message is = 
         record {
           purpose = purpose;
           among = inr (λ i. CallTo (same i) (says i) purpose);
-          is_for = ap (λ x. cond (x && eqb number (b.first + made here)) (Some purpose) (purpose_of (pair_of b) other acts number)) test ∙ ap (λ x. cond x (Some purpose) (purpose_of (pair_of b) other acts number)) one.0;
+          is_for = ap (λ x. cond (x && eqb number (b.first + made here)) (Some purpose) (purpose_of (pair_of b) other acts number)) test
+              ∙ ap (λ x. cond x (Some purpose) (purpose_of (pair_of b) other acts number)) one.0;
         }
     by_number rest test same (inr differs) is =
         called_on b acts (CallTo to m purpose) other number message
-        (ap (λ x. cond (x && eqb number (b.first + made here)) (Some purpose) (purpose_of (pair_of b) other acts number)) test ∙ ap (λ x. cond x (Some purpose) (purpose_of (pair_of b) other acts number)) differs.0)
+        (ap (λ x. cond (x && eqb number (b.first + made here)) (Some purpose) (purpose_of (pair_of b) other acts number)) test
+        ∙ ap (λ x. cond x (Some purpose) (purpose_of (pair_of b) other acts number)) differs.0)
         (rest (sym (ap (λ x. cond x (Some m) (call_at b.first here number)) differs.0) ∙ is))
 
     by_node : (call_at b.first here number ≡ Some message → WasCalled b acts other number message)
@@ -142,34 +144,42 @@ unanswered : (acts : Acts) (test : Bool) (a : Act) (number : ℕ) (message : Lis
 unanswered acts true a number message same is = sym same ∙ is
 unanswered acts false a number message same is = is
 
-pub was_answered : (b : Beginning) (acts : WireActs Purpose) (other number : ℕ) (message : List ℕ) → return_at (acts_at (pair_of b) other acts) number ≡ Some message → IsAmong acts (AnswerTo (record { node = other; number = number }) message)
+pub was_answered : (b : Beginning) (acts : WireActs Purpose) (other number : ℕ) (message : List ℕ) → return_at (acts_at (pair_of b) other acts) number ≡ Some message
+    → IsAmong acts (AnswerTo (record { node = other; number = number }) message)
 unfolding return_at
 was_answered b begun other number message is = absurd (let clash : ◌≡◌ {A = Option (List ℕ)} None (Some message) = is in cc)
-was_answered b (followed_by acts (CallTo to m purpose)) other number message is = inl (was_answered b acts other number message (unanswered (acts_at (pair_of b) other acts) (eqb to other) (Call m) number message refl is))
-was_answered b (followed_by acts (AnswerTo caller m)) other number message is = by_test (was_answered b acts other number message) (eqb caller.node other && awaits_after (pair_of b) here caller.number) refl is
+was_answered b (followed_by acts (CallTo to m purpose)) other number message is =
+    inl (was_answered b acts other number message (unanswered (acts_at (pair_of b) other acts) (eqb to other) (Call m) number message refl is))
+was_answered b (followed_by acts (AnswerTo caller m)) other number message is =
+    by_test (was_answered b acts other number message) (eqb caller.node other && awaits_after (pair_of b) here caller.number) refl is
   where
     here : Acts
     here = acts_at (pair_of b) other acts
 
-    by_number : (return_at here number ≡ Some message → IsAmong acts (AnswerTo (record { node = other; number = number }) message)) → caller.node ≡ other → ((eqb number caller.number ≡ true) × (number ≡ caller.number)) ⊎ ((eqb number caller.number ≡ false) × (number ≢ caller.number))
+    by_number : (return_at here number ≡ Some message → IsAmong acts (AnswerTo (record { node = other; number = number }) message)) → caller.node ≡ other
+        → ((eqb number caller.number ≡ true) × (number ≡ caller.number)) ⊎ ((eqb number caller.number ≡ false) × (number ≢ caller.number))
         → cond (eqb number caller.number) (Some m) (return_at here number) ≡ Some message → IsAmong (followed_by acts (AnswerTo caller m)) (AnswerTo (record { node = other; number = number }) message)
     by_number rest node (inl one) is =
         let says : m ≡ message = same_Some m message (sym (ap (λ x. cond x (Some m) (return_at here number)) one.0) ∙ is) in
         inr (λ i. AnswerTo (record { node = node i; number = sym one.1 i }) (says i))
     by_number rest node (inr differs) is = inl (rest (sym (ap (λ x. cond x (Some m) (return_at here number)) differs.0) ∙ is))
 
-    by_test : (return_at here number ≡ Some message → IsAmong acts (AnswerTo (record { node = other; number = number }) message)) → (t : Bool) → (eqb caller.node other && awaits_after (pair_of b) here caller.number) ≡ t
-        → return_at (with_act here (cond t (Some (Return caller.number m)) None)) number ≡ Some message → IsAmong (followed_by acts (AnswerTo caller m)) (AnswerTo (record { node = other; number = number }) message)
+    by_test : (return_at here number ≡ Some message → IsAmong acts (AnswerTo (record { node = other; number = number }) message)) → (t : Bool)
+        → (eqb caller.node other && awaits_after (pair_of b) here caller.number) ≡ t
+        → return_at (with_act here (cond t (Some (Return caller.number m)) None)) number ≡ Some message
+        → IsAmong (followed_by acts (AnswerTo caller m)) (AnswerTo (record { node = other; number = number }) message)
     by_test rest true test is = by_number rest (eqb-true caller.node other (and_parts (eqb caller.node other) (awaits_after (pair_of b) here caller.number) test).0) (eqb_tells number caller.number) is
     by_test rest false test is = inl (rest is)
-was_answered b (followed_by acts (CameFrom from s)) other number message is = inl (was_answered b acts other number message (unanswered (acts_at (pair_of b) other acts) (eqb from other) (Came s) number message refl is))
+was_answered b (followed_by acts (CameFrom from s)) other number message is =
+    inl (was_answered b acts other number message (unanswered (acts_at (pair_of b) other acts) (eqb from other) (Came s) number message refl is))
 was_answered b (followed_by acts TickAll) other number message is = inl (was_answered b acts other number message (by_test (is_stopped_after (acts_at (pair_of b) other acts)) is))
   where
     by_test : (t : Bool) → return_at (with_act (acts_at (pair_of b) other acts) (cond t None (Some Tick))) number ≡ Some message
         → return_at (acts_at (pair_of b) other acts) number ≡ Some message
     by_test true is = is
     by_test false is = is
-was_answered b (followed_by acts (StopOf node)) other number message is = inl (was_answered b acts other number message (unanswered (acts_at (pair_of b) other acts) (eqb node other) Stop number message refl is))
+was_answered b (followed_by acts (StopOf node)) other number message is =
+    inl (was_answered b acts other number message (unanswered (acts_at (pair_of b) other acts) (eqb node other) Stop number message refl is))
 
 -- ---- what a node hands over it has made
 
@@ -264,9 +274,11 @@ module _ {M : Type 0} (declared : M → Signature) (turn : M → List ValueTree 
           → IsAmong (if other == node then option_map_or (λ (s : Standing M). with_all acts (acts_in declared turn (w.steps + 1) event s.node)) (slice_get w.nodes node) acts else acts) (act_of e) → WasHanded node acts (line ∷ lines) w e
       by_node other event comes_it (inl same) at =
           by_standing event (comes_it ∙ ap (λ n. Some (n, event)) same.1) (slice_get w.nodes node) refl
-          (subst (λ b. IsAmong (if b then option_map_or (λ (s : Standing M). with_all acts (acts_in declared turn (w.steps + 1) event s.node)) (slice_get w.nodes node) acts else acts) (act_of e)) same.0 at)
+          (subst (λ b. IsAmong (if b then option_map_or (λ (s : Standing M). with_all acts (acts_in declared turn (w.steps + 1) event s.node))
+          (slice_get w.nodes node) acts else acts) (act_of e)) same.0 at)
       by_node other event comes_it (inr differs) at =
-          inl (subst (λ b. IsAmong (if b then option_map_or (λ (s : Standing M). with_all acts (acts_in declared turn (w.steps + 1) event s.node)) (slice_get w.nodes node) acts else acts) (act_of e)) differs.0 at)
+          inl (subst (λ b. IsAmong (if b then option_map_or (λ (s : Standing M). with_all acts (acts_in declared turn (w.steps + 1) event s.node))
+          (slice_get w.nodes node) acts else acts) (act_of e)) differs.0 at)
 
       by_event : (o : Option (ℕ × Event)) → comes_by line w ≡ o → IsAmong (option_map_or (with_step declared turn node acts w) o acts) (act_of e)
           → WasHanded node acts (line ∷ lines) w e

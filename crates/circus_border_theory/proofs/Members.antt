@@ -37,7 +37,8 @@ use Rattle.circus_member_step.proofs.Starting.{IsSoundNow, sound_executed}
 use Rattle.circus_node.proofs.ViewLemmas.{executed_knows}
 use Rattle.circus_talks.specs.NodeActs.{with_all}
 use Rattle.circus_talks.specs.Histories.{beginning_of}
-use Rattle.circus_member_theory.proofs.Resting.{InRange, sound_once_handled}
+use Rattle.circus_member_theory.specs.Ranges.{InRange}
+use Rattle.circus_member_theory.proofs.Resting.{sound_once_handled}
 use Rattle.circus_border_theory.proofs.Going.{begun, behaves}
 use Rattle.circus_border_theory.proofs.Reaching.{Reaches, TellsOf, IsReaching, step_reaches}
 use Rattle.circus_border_theory.proofs.Sizing.{AllBrief, IsSized, step_is_sized}
@@ -90,7 +91,8 @@ module _ {M : Type 0} where
       by_request false = by_newer m.known
   handled_down at (comes.Restored state count) m = by_test (is_fetching m.performing.kept.phase)
     where
-      by_test : (t : Bool) → let d : Doing M = if t then record { member = record m { performing = made_active at state count m.performing; gathered = with_first m.gathered count }; effects = active_call m.place m.known count ++ before_answers m.gathered count } else record { member = m; effects = [] } in d.member.known.down ≡ m.known.down
+      by_test : (t : Bool) → let d : Doing M =
+          if t then record { member = record m { performing = made_active at state count m.performing; gathered = with_first m.gathered count }; effects = active_call m.place m.known count ++ before_answers m.gathered count } else record { member = m; effects = [] } in d.member.known.down ≡ m.known.down
       by_test true = refl
       by_test false = refl
   handled_down at (comes.Declared node) m = refl
@@ -151,11 +153,13 @@ module _ {M : Type 0} (declared : M → Signature) (turn : M → List ValueTree 
     happens_sent w v before acts at o m h may =
         let e = stepped declared turn at o m in
         let b = beginning_of d own in
-        let reaches = step_reaches (Hosts d) (IsOtherOf d own) h.place (may_be_called d is own h.place h.at_own h.own_hosts) declared turn first lawful at o m may.can may.ranges may.tells h.sound h.reaching in
+        let reaches = step_reaches (Hosts d) (IsOtherOf d own) h.place
+        (may_be_called d is own h.place h.at_own h.own_hosts) declared turn first lawful at o m may.can may.ranges may.tells h.sound h.reaching in
         let sized = step_is_sized (limit_of d.format) declared turn first lawful at o m may.can may.ranges h.sound h.sized in
         let up : UpAs w e.member.known.down = subst (UpAs w) (sym (stepped_down at o m)) may.up in
         let left : Caller → ℕ = λ c. waiting_at c e.member in
-        let awaited : AreAwaited b left acts e.effects = λ c. (let same = step_answers c declared turn first lawful at o m may.can may.ranges h.sound in let most = may.waits c in omega (arith, same, most)) in
+        let awaited : AreAwaited b left acts e.effects =
+        λ c. (let same = step_answers c declared turn first lawful at o m may.can may.ranges h.sound in let most = may.waits c in omega (arith, same, most)) in
         record {
           up = All-weaker (Reaches e.member.known.down (IsOtherOf d own)) (GoesUp w) (goes_up w e.member.known.down up) e.effects reaches.effects;
           brief = sized.effects;

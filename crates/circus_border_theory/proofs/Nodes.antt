@@ -43,7 +43,7 @@ use Rattle.circus_node.specs.Seen.Kept.{IsRingOf}
 use Rattle.circus_node.proofs.RingLemmas.{is_table, still_ring}
 use Rattle.circus_talks.specs.NodeActs.{with_all}
 use Rattle.circus_talks.specs.Histories.{beginning_of}
-use Rattle.circus_member_theory.proofs.Resting.{InRange}
+use Rattle.circus_member_theory.specs.Ranges.{InRange}
 use Rattle.circus_border_theory.proofs.Brief.{IsBrief, fields_few}
 use Rattle.circus_border_theory.proofs.Sizing.{SaysBriefly, AllBrief}
 use Rattle.circus_border_theory.proofs.Waiting.{is_caller, one_if, waiting_at}
@@ -246,7 +246,8 @@ module _ {M : Type 0} (declared : M → Signature) (turn : M → List ValueTree 
     hears_made at from (Called sender message) (member m) h takes came = accepted_made at from (Called sender message) m h takes came
     hears_made at from (Called sender message) (ringmaster kept) h takes came = request_made sender message kept h came.1
     hears_made at from (Returned number purpose message) (member m) h takes came = accepted_made at from (Returned number purpose message) m h takes came
-    hears_made at from (Returned number purpose message) (ringmaster kept) h takes came = record { up = All-nil (GoesUp w); brief = All-nil (SaysBriefly (limit_of d.format)); returns = tt; acting = h }
+    hears_made at from (Returned number purpose message) (ringmaster kept) h takes came =
+        record { up = All-nil (GoesUp w); brief = All-nil (SaysBriefly (limit_of d.format)); returns = tt; acting = h }
 
     -- ---- it is told to join
 

@@ -88,7 +88,8 @@ module _ {P : Type 0} where
 
   pub up_ticked : (w : WireState P) (node : ℕ) → is_up (all_ticked w) node ≡ is_up w node
   unfolding peer_at
-  up_ticked w node = up_either (eqb node w.own) (slice_get (map peer_ticked w.peers) (place_of w.own node)) (slice_get w.peers (place_of w.own node)) (up_all peer_ticked ticked_same w.peers (place_of w.own node))
+  up_ticked w node = up_either (eqb node w.own) (slice_get (map peer_ticked w.peers) (place_of w.own node)) (slice_get w.peers (place_of w.own node))
+      (up_all peer_ticked ticked_same w.peers (place_of w.own node))
 
   -- ---- one that was declared down
 
@@ -249,14 +250,16 @@ unarrived first format acts s call message lawful segment arrived =
     elim (takes e s) as (λ b. takes e s ≡ b → has_arrived ts 0 call ≡ false) [
       | false ↦ λ h. absurd (let none : Nothing ≡ ArrivedCall call message = sym (dropped e s h) ∙ arrived in cc)
       | true ↦ λ h. (
-          let parts = came_call (arrives_by ts s) (eqb s.kind 0) s.call call (message_in (s ∷ ts) s.kind s.call s.total) message (sym (arrival_is ts e s (stands_lawful first format acts lawful) segment h) ∙ arrived) in
+          let parts = came_call (arrives_by ts s) (eqb s.kind 0) s.call call (message_in (s ∷ ts) s.kind s.call s.total) message
+          (sym (arrival_is ts e s (stands_lawful first format acts lawful) segment h) ∙ arrived) in
           let a = both_true (not (is_acknowledgement s)) _ parts.0 in
           let b = both_true (has_arrived (s ∷ ts) s.kind s.call) _ a.1 in
           subst (λ n. has_arrived ts 0 n ≡ false) parts.2 (subst (λ k. has_arrived ts k s.call ≡ false) (eqb-true s.kind 0 parts.1) (not_true _ b.1)))
     ] refl
 
 module _ {P : Type 0} where
-  called_return : (f : ℕ → Option P) (node : ℕ) (arrived : Arrived) (sender : Caller) (message : List ℕ) → ◌≡◌ {A = Heard P} (told f node arrived) (Called sender message) → (arrived ≡ ArrivedCall sender.number message) × (sender.node ≡ node)
+  called_return : (f : ℕ → Option P) (node : ℕ) (arrived : Arrived) (sender : Caller) (message : List ℕ) → ◌≡◌ {A = Heard P} (told f node arrived) (Called sender message)
+      → (arrived ≡ ArrivedCall sender.number message) × (sender.node ≡ node)
   called_return f node Nothing sender message is = absurd cc
   called_return f node (ArrivedCall number m) sender message is = called (record { node = node; number = number }) m is
     where
@@ -286,13 +289,15 @@ module _ {P : Type 0} where
       let c : Caller = record { node = from; number = sender.number } in
       let same : c ≡ sender = λ i. record { node = sym says.1 i; number = sender.number } in
       let lawful : AreLawful b.first b.format (more here (Came s)) = (stood_.pair.lawful, segment) in
-      let before : awaits_in b acts c ≡ false = ap (λ x. x && not (is_some (return_at here sender.number))) (unarrived b.first b.format here s sender.number message stood_.pair.lawful segment arrived) in
+      let before : awaits_in b acts c ≡ false =
+      ap (λ x. x && not (is_some (return_at here sender.number))) (unarrived b.first b.format here s sender.number message stood_.pair.lawful segment arrived) in
       let now : awaits_in b (followed_by acts (CameFrom from s)) c ≡ true =
       ap (λ x. awaits_after e (with_act here (cond x (Some (Came s)) None)) sender.number) (equal from)
       ∙ sym (following.awaits_as_owed (end_after e (more here (Came s))) b.first b.format (more here (Came s)) (record { lawful = lawful; is = refl }) sender.number)
       ∙ awaited b.first b.format here s sender.number message lawful arrived in
       record { before = subst (λ (x : Caller). awaits_in b acts x ≡ false) same before; now = subst (λ (x : Caller). awaits_in b (followed_by acts (CameFrom from s)) x ≡ true) same now }
     where
-      by_test : (p : PeerState P) (t : Bool) → ◌≡◌ {A = Heard P} (if t then told (get p.purposes) from (arrived_after p.exchange s) else Dropped) (Called sender message) → (arrived_after p.exchange s ≡ ArrivedCall sender.number message) × (sender.node ≡ from)
+      by_test : (p : PeerState P) (t : Bool) → ◌≡◌ {A = Heard P} (if t then told (get p.purposes) from (arrived_after p.exchange s) else Dropped) (Called sender message)
+          → (arrived_after p.exchange s ≡ ArrivedCall sender.number message) × (sender.node ≡ from)
       by_test p true is = called_return (get p.purposes) from (arrived_after p.exchange s) sender message is
       by_test p false is = absurd cc

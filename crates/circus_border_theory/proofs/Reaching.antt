@@ -53,7 +53,8 @@ use Rattle.circus_member_step.proofs.Held.{All-passed}
 use Rattle.circus_member_step.proofs.Homes.{ring_views, declared_views}
 use Rattle.circus_member_step.proofs.Starting.{IsSoundNow}
 use Rattle.circus_member_step.proofs.Turned.{IsTurned, asking_now}
-use Rattle.circus_member_theory.proofs.Resting.{InRange, sound_once_handled}
+use Rattle.circus_member_theory.specs.Ranges.{InRange}
+use Rattle.circus_member_theory.proofs.Resting.{sound_once_handled}
 use Rattle.circus_world.proofs.SlotLemmas.{get_set}
 use Rattle.circus_border_theory.proofs.Booting.{booted_keeps}
 use Rattle.circus_border_theory.proofs.Going.{begun, behaves, Keeps, executed_keeps}
@@ -176,7 +177,8 @@ module _ (P : ℕ → ℕ → Type 0) (Q : ℕ → Type 0) (place : Place) (may 
       by_known : (o : Option View) → slice_get k.views a.header.server ≡ o
           → AllReach k.down Q (option_map_or (λ view. call_for k name a (next view k.down from incarnation)) o [])
       by_known None none = All-nil (Reaches k.down Q)
-      by_known (Some view) some = by_test view (earlier_all a.header.server view.entries below (views a.header.server view some)) (nat_lt view.incarnation incarnation) (has_node view from) refl (is_among k.down from) refl
+      by_known (Some view) some =
+          by_test view (earlier_all a.header.server view.entries below (views a.header.server view some)) (nat_lt view.incarnation incarnation) (has_node view from) refl (is_among k.down from) refl
 
   ring_reaches : (k : Knowing) (request : Request) → AllReach k.down Q (request_to_ring k request)
   ring_reaches k request = by_test (is_among k.down ringmaster) refl
@@ -288,10 +290,21 @@ module _ (P : ℕ → ℕ → Type 0) (Q : ℕ → Type 0) (place : Place) (may 
     asked_reaching : (m : MemberState M) (header : CallHeader) (body : List ℕ) (sender : Caller) → IsReaching (begun m) → IsReaching (step.asked m header body sender)
     asked_reaching m header body sender h = by_added (answer_to m.gathered header)
       where
-        by_added : (a : Added) → let d : Doing M = record { member = record m { gathered = with_call m.gathered (record { header = header; body = body; sender = sender }); known = wanted_by_call a header m.known }; effects = answer_at_once a sender } in IsReaching d
-        by_added (added.Reply reply) = record { at = h.at; views = h.views; asks = h.asks; effects = All-cons (Reaches m.known.down Q) (answer (reply_message reply) sender) [] tt (All-nil (Reaches m.known.down Q)) }
-        by_added (added.Stale required) = record { at = h.at; views = h.views; asks = h.asks; effects = All-cons (Reaches m.known.down Q) (answer (stale_message required) sender) [] tt (All-nil (Reaches m.known.down Q)) }
-        by_added (added.Before start) = record { at = h.at; views = h.views; asks = h.asks; effects = All-cons (Reaches m.known.down Q) (answer (before_message start) sender) [] tt (All-nil (Reaches m.known.down Q)) }
+        by_added : (a : Added) → let d : Doing M =
+            record {
+              member = record m {
+                gathered = with_call m.gathered
+                    (record { header = header; body = body; sender = sender });
+                known = wanted_by_call a header m.known;
+              };
+              effects = answer_at_once a sender;
+            } in IsReaching d
+        by_added (added.Reply reply) =
+            record { at = h.at; views = h.views; asks = h.asks; effects = All-cons (Reaches m.known.down Q) (answer (reply_message reply) sender) [] tt (All-nil (Reaches m.known.down Q)) }
+        by_added (added.Stale required) =
+            record { at = h.at; views = h.views; asks = h.asks; effects = All-cons (Reaches m.known.down Q) (answer (stale_message required) sender) [] tt (All-nil (Reaches m.known.down Q)) }
+        by_added (added.Before start) =
+            record { at = h.at; views = h.views; asks = h.asks; effects = All-cons (Reaches m.known.down Q) (answer (before_message start) sender) [] tt (All-nil (Reaches m.known.down Q)) }
         by_added added.Held = record { at = h.at; views = h.views; asks = h.asks; effects = All-nil (Reaches m.known.down Q) }
 
     stale_reaching : (m : MemberState M) (name : AskName) (server from incarnation : ℕ) → IsReaching (begun m) → IsReaching (step.stale m name server from incarnation)
@@ -325,16 +338,20 @@ module _ (P : ℕ → ℕ → Type 0) (Q : ℕ → Type 0) (place : Place) (may 
           asks = by_newer (is_newer m.known view);
           effects = All-append (Reaches k.down Q) _ _
               (All-if (Reaches k.down Q) (is_newer m.known view) (calls_for_a_new_view k view m.asks) [] (new_reach k view m.asks are h.asks) (All-nil (Reaches k.down Q)))
-              (All-if (Reaches k.down Q) (is_taken_in m.performing.kept.phase _) (state_requests m.place k.down view) [] (subst (λ p. AllReach k.down Q (state_requests p k.down view)) (sym h.at) (states_reach k.down view are)) (All-nil (Reaches k.down Q)));
+              (All-if (Reaches k.down Q) (is_taken_in m.performing.kept.phase _) (state_requests m.place k.down view) []
+              (subst (λ p. AllReach k.down Q (state_requests p k.down view)) (sym h.at) (states_reach k.down view are)) (All-nil (Reaches k.down Q)));
         }
       where
         seen_below : (asks : List (AskName × Asking)) → All (λ (e : AskName × Asking). e.1.header.server < place.troupe) asks
             → All (λ (e : AskName × Asking). e.1.header.server < place.troupe) (with_new_view (known_by_table m.known request table.view) table.view asks)
         seen_below asks all =
             All-map (λ (e : AskName × Asking). e.1.header.server < place.troupe) (seen_by_ask (known_by_table m.known request table.view) table.view) asks
-            (All-weaker (λ (e : AskName × Asking). e.1.header.server < place.troupe) (λ (e : AskName × Asking). let x = seen_by_ask (known_by_table m.known request table.view) table.view e in x.1.header.server < place.troupe) (λ e low. by_to e low (is_to table.view.troupe e)) asks all)
+            (All-weaker (λ (e : AskName × Asking). e.1.header.server < place.troupe)
+            (λ (e : AskName × Asking). let x = seen_by_ask (known_by_table m.known request table.view) table.view e in x.1.header.server < place.troupe)
+            (λ e low. by_to e low (is_to table.view.troupe e)) asks all)
           where
-            by_to : (e : AskName × Asking) → e.1.header.server < place.troupe → (b : Bool) → let x : AskName × Asking = if b then (e.0, with_view table.view (known_by_table m.known request table.view).down e.1) else e in x.1.header.server < place.troupe
+            by_to : (e : AskName × Asking) → e.1.header.server < place.troupe → (b : Bool) → let x : AskName × Asking =
+                if b then (e.0, with_view table.view (known_by_table m.known request table.view).down e.1) else e in x.1.header.server < place.troupe
             by_to e low true = low
             by_to e low false = low
 
@@ -346,8 +363,16 @@ module _ (P : ℕ → ℕ → Type 0) (Q : ℕ → Type 0) (place : Place) (may 
     restored_reaching : (at : ℕ) (m : MemberState M) (state : List ValueTree) (count : ℕ) → IsReaching (begun m) → IsReaching (step.restored at m state count)
     restored_reaching at m state count h = by_test (is_fetching m.performing.kept.phase)
       where
-        by_test : (t : Bool) → let d : Doing M = if t then record { member = record m { performing = made_active at state count m.performing; gathered = with_first m.gathered count }; effects = active_call m.place m.known count ++ before_answers m.gathered count } else record { member = m; effects = [] } in IsReaching d
-        by_test true = record { at = h.at; views = h.views; asks = h.asks; effects = All-append (Reaches m.known.down Q) (active_call m.place m.known count) (before_answers m.gathered count) (ring_reaches m.known (Active m.place.troupe m.place.node count)) (answers_reach m.known.down (before_message count) (gathering.before_answers m.gathered count)) }
+        by_test : (t : Bool) → let d : Doing M =
+            if t then record { member = record m { performing = made_active at state count m.performing; gathered = with_first m.gathered count }; effects = active_call m.place m.known count ++ before_answers m.gathered count } else record { member = m; effects = [] } in IsReaching d
+        by_test true = record {
+          at = h.at;
+          views = h.views;
+          asks = h.asks;
+          effects = All-append (Reaches m.known.down Q) (active_call m.place m.known count)
+              (before_answers m.gathered count) (ring_reaches m.known (Active m.place.troupe m.place.node count))
+              (answers_reach m.known.down (before_message count) (gathering.before_answers m.gathered count));
+        }
         by_test false = h
 
     declared_reaching : (m : MemberState M) (node : ℕ) → IsReaching (begun m) → IsReaching (step.declared_down m node)
@@ -389,7 +414,8 @@ module _ (P : ℕ → ℕ → Type 0) (Q : ℕ → Type 0) (place : Place) (may 
         → IsReaching (begun m) → IsReaching (stepped declared turn at o m)
     step_reaches at o m can ranges tells sound h =
         ended_reaching (executed declared turn at (handled at o m))
-        (executed_keeps declared turn first lawful at IsReaching (reaching_keeps at) (handled at o m) (sound_once_handled declared turn first lawful at o m sound can ranges) (handled_reaching at o m tells h))
+        (executed_keeps declared turn first lawful at IsReaching (reaching_keeps at) (handled at o m) (sound_once_handled declared turn first lawful at o m sound can ranges)
+        (handled_reaching at o m tells h))
 
     -- and so at boot
     pub boot_reaches : (views : List View) (beginning : Beginning) (hosted : M) → IsHome (declared hosted) place views → AreOf P views

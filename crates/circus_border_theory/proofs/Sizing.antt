@@ -58,7 +58,8 @@ use Rattle.circus_member_step.proofs.Held.{called_same}
 use Rattle.circus_member_step.proofs.Starting.{IsSoundNow, and_right, none_from_test}
 use Rattle.circus_member_step.proofs.Turned.{IsTurned, asking_now}
 use Rattle.circus_member_step.proofs.Writing.{last_has_ended, one_is_performing, none_is_idle, ask_is_lawful, end_is_lawful}
-use Rattle.circus_member_theory.proofs.Resting.{InRange, sound_once_handled}
+use Rattle.circus_member_theory.specs.Ranges.{InRange}
+use Rattle.circus_member_theory.proofs.Resting.{sound_once_handled}
 use Rattle.circus_border_theory.proofs.Brief.{IsBrief, IsSmallCall, IsSmallReply, size_is, ask_brief, request_brief, fetch_brief, reply_brief, stale_brief, before_brief, snapshot_brief}
 use Rattle.circus_border_theory.proofs.Booting.{before_all, booted_keeps}
 use Rattle.circus_border_theory.proofs.Going.{begun, behaves, with_given, Keeps, executed_keeps}
@@ -103,17 +104,20 @@ module _ (most : ℕ) where
       by_view (Some view) = by_next (next view k.down from incarnation)
 
   ring_brief : (k : Knowing) (request : Request) → AllBrief most (request_to_ring k request)
-  ring_brief k request = All-if (SaysBriefly most) (is_among k.down ringmaster) [] (request_call request ∷ []) (All-nil (SaysBriefly most)) (one_brief (request_call request) (request_brief most request))
+  ring_brief k request =
+      All-if (SaysBriefly most) (is_among k.down ringmaster) [] (request_call request ∷ []) (All-nil (SaysBriefly most)) (one_brief (request_call request) (request_brief most request))
 
   lookups_brief : (k : Knowing) → AllBrief most (lookups k)
-  lookups_brief k = All-map (SaysBriefly most) lookup_call (knowing.lookups k ringmaster) (all_of (λ (troupe : ℕ). SaysBriefly most (lookup_call troupe)) (knowing.lookups k ringmaster) (λ troupe. request_brief most (Lookup troupe)))
+  lookups_brief k = All-map (SaysBriefly most) lookup_call (knowing.lookups k ringmaster)
+      (all_of (λ (troupe : ℕ). SaysBriefly most (lookup_call troupe)) (knowing.lookups k ringmaster) (λ troupe. request_brief most (Lookup troupe)))
 
   new_brief : (k : Knowing) (view : View) (asks : List (AskName × Asking)) → All (λ (e : AskName × Asking). IsSmallAsk most e.1) asks
       → AllBrief most (calls_for_a_new_view k view asks)
   new_brief k view asks small =
       All-flat_map (SaysBriefly most) (calls_for_view k view) (filter (is_to view.troupe) asks)
       (All-filter (is_to view.troupe) (λ (e : AskName × Asking). AllBrief most (calls_for_view k view e)) asks
-      (All-weaker (λ (e : AskName × Asking). IsSmallAsk most e.1) (λ (e : AskName × Asking). AllBrief most (calls_for_view k view e)) (λ e is. calls_brief k e.0 e.1 (calls_for_a_view view k.down e.1.asked) is) asks small))
+      (All-weaker (λ (e : AskName × Asking). IsSmallAsk most e.1) (λ (e : AskName × Asking). AllBrief most (calls_for_view k view e))
+      (λ e is. calls_brief k e.0 e.1 (calls_for_a_view view k.down e.1.asked) is) asks small))
 
   states_brief : (place : Place) (down : List ℕ) (view : View) → AllBrief most (state_requests place down view)
   states_brief place down view = All-map (SaysBriefly most) (state_request place.troupe view.incarnation) (givers place.node down view) (λ i d within. fetch_brief most place.troupe view.incarnation)
@@ -156,7 +160,8 @@ module _ (most : ℕ) where
           limit = h.limit;
           asks = h.asks;
           replies = h.replies;
-          effects = All-append (SaysBriefly most) d.effects (snapshots_owed kept m.requests) h.effects (answers_brief _ m.requests (snapshot_brief most kept.count kept.state (omega (arith, within, limit))));
+          effects = All-append (SaysBriefly most) d.effects (snapshots_owed kept m.requests) h.effects
+              (answers_brief _ m.requests (snapshot_brief most kept.count kept.state (omega (arith, within, limit))));
         }
 
     opened_sized : (d : Doing M) (run : RunRecord) (ask : AskRecord) (view : View) → IsTurned (behaves declared turn first lawful d) d.member
@@ -174,7 +179,8 @@ module _ (most : ℕ) where
         let asked = asking.ready.asked.asks in
         let p = one_is_performing b began kept turned.kept ask is in
         let same : p.waiting.ask ≡ ask = same_Some _ _ (sym (performing_has_one b began kept p) ∙ is) in
-        let within : size_of_values ask.arguments ≤ (declared m.performing.hosted).limit = subst (λ (x : AskRecord). size_of_values x.arguments ≤ (declared m.performing.hosted).limit) same (ask_is_lawful b began kept law p).within in
+        let within : size_of_values ask.arguments ≤ (declared m.performing.hosted).limit =
+        subst (λ (x : AskRecord). size_of_values x.arguments ≤ (declared m.performing.hosted).limit) same (ask_is_lawful b began kept law p).within in
         let limit = h.limit in
         let size = size_is ask.arguments in
         let a = asking_begun m.place kept run ask in
@@ -201,7 +207,8 @@ module _ (most : ℕ) where
         let long = ap length clock in
         let few = turned.home.few in
         let limit = h.limit in
-        let within : size_of_values (values_of (unwrap_or run.outcome refusal)) ≤ (declared m.performing.hosted).limit = subst (λ o. size_of_values (values_of o) ≤ (declared m.performing.hosted).limit) (sym outcome) law.within in
+        let within : size_of_values (values_of (unwrap_or run.outcome refusal)) ≤ (declared m.performing.hosted).limit =
+        subst (λ o. size_of_values (values_of o) ≤ (declared m.performing.hosted).limit) (sym outcome) law.within in
         let small : IsSmallReply most (reply_of_run run) = record { clock = omega (arith, long, now, few); outcome = omega (arith, within, limit) } in
         record {
           limit = h.limit;
@@ -232,7 +239,8 @@ module _ (most : ℕ) where
           limit = h.limit;
           asks = h.asks;
           replies = subst (All (λ (x : ℕ × Reply). IsSmallReply most x.1)) (sym (called_same m.gathered (record { header = header; body = body; sender = sender })).1) h.replies;
-          effects = by_tests (nat_lt header.server_incarnation m.gathered.required) (nat_lt (index_of m.gathered.module header) m.gathered.from) (reply_of m.gathered (index_of m.gathered.module header))
+          effects = by_tests (nat_lt header.server_incarnation m.gathered.required) (nat_lt (index_of m.gathered.module header) m.gathered.from)
+              (reply_of m.gathered (index_of m.gathered.module header))
               (All-lookup (IsSmallReply most) _ m.gathered.replies h.replies);
         }
       where
@@ -280,7 +288,8 @@ module _ (most : ℕ) where
             → All (λ (e : AskName × Asking). IsSmallAsk most e.1) (with_new_view k view asks)
         seen_small k view asks all =
             All-map (λ (e : AskName × Asking). IsSmallAsk most e.1) (seen_by_ask k view) asks
-            (All-weaker (λ (e : AskName × Asking). IsSmallAsk most e.1) (λ (e : AskName × Asking). let x = seen_by_ask k view e in IsSmallAsk most x.1) (λ e small. by_to e small (is_to view.troupe e)) asks all)
+            (All-weaker (λ (e : AskName × Asking). IsSmallAsk most e.1) (λ (e : AskName × Asking). let x = seen_by_ask k view e in IsSmallAsk most x.1)
+            (λ e small. by_to e small (is_to view.troupe e)) asks all)
           where
             by_to : (e : AskName × Asking) → IsSmallAsk most e.1 → (b : Bool) → let x : AskName × Asking = if b then (e.0, with_view view k.down e.1) else e in IsSmallAsk most x.1
             by_to e small true = small
@@ -289,19 +298,29 @@ module _ (most : ℕ) where
     restored_sized : (at : ℕ) (m : MemberState M) (state : List ValueTree) (count : ℕ) → IsSized (begun m) → IsSized (step.restored at m state count)
     restored_sized at m state count h = by_test (is_fetching m.performing.kept.phase)
       where
-        by_test : (t : Bool) → let d : Doing M = if t then record { member = record m { performing = made_active at state count m.performing; gathered = with_first m.gathered count }; effects = active_call m.place m.known count ++ before_answers m.gathered count } else record { member = m; effects = [] } in IsSized d
+        by_test : (t : Bool) → let d : Doing M =
+            if t then record { member = record m { performing = made_active at state count m.performing; gathered = with_first m.gathered count }; effects = active_call m.place m.known count ++ before_answers m.gathered count } else record { member = m; effects = [] } in IsSized d
         by_test true =
             record {
               limit = h.limit;
               asks = h.asks;
               replies = h.replies;
-              effects = All-append (SaysBriefly most) (active_call m.place m.known count) (before_answers m.gathered count) (ring_brief m.known (Active m.place.troupe m.place.node count)) (answers_brief (before_message count) (gathering.before_answers m.gathered count) (before_brief most count));
+              effects =
+                  All-append (SaysBriefly most) (active_call m.place m.known count) (before_answers m.gathered count)
+                  (ring_brief m.known (Active m.place.troupe m.place.node count)) (answers_brief (before_message count) (gathering.before_answers m.gathered count) (before_brief most count));
             }
         by_test false = h
 
     handled_sized : (at : ℕ) (o : Occurrence) (m : MemberState M) → IsSized (begun m) → IsSized (handled at o m)
     handled_sized at (comes.Asked header body sender) m h = asked_sized m header body sender h
-    handled_sized at (comes.Fetched incarnation sender) m h = record { limit = h.limit; asks = h.asks; replies = h.replies; effects = answers_brief _ (gathering.stale_answers m.gathered incarnation) (stale_brief most (gathering.with_required m.gathered incarnation).required) }
+    handled_sized at (comes.Fetched incarnation sender) m h =
+        record {
+          limit = h.limit;
+          asks = h.asks;
+          replies = h.replies;
+          effects = answers_brief _ (gathering.stale_answers m.gathered incarnation)
+              (stale_brief most (gathering.with_required m.gathered incarnation).required);
+        }
     handled_sized at (comes.Replied name from reply) m h =
         record { limit = h.limit; asks = changed_small name (with_reply from reply) m.asks (λ a small. small) h.asks; replies = h.replies; effects = All-nil (SaysBriefly most) }
     handled_sized at (comes.IsStale name server from incarnation) m h = stale_sized m name server from incarnation h
@@ -337,5 +356,12 @@ module _ (most : ℕ) where
         booted_keeps declared turn first lawful place views hosted home IsSized (sized_keeps 0) beginning (before beginning)
       where
         before : (b : Beginning) → IsSized (begun (before_all declared turn first lawful place views hosted home b))
-        before Founder = record { limit = limit; asks = All-nil (λ (e : AskName × Asking). IsSmallAsk most e.1); replies = All-nil (λ (x : ℕ × Reply). IsSmallReply most x.1); effects = All-nil (SaysBriefly most) }
-        before Spare = record { limit = limit; asks = All-nil (λ (e : AskName × Asking). IsSmallAsk most e.1); replies = All-nil (λ (x : ℕ × Reply). IsSmallReply most x.1); effects = All-nil (SaysBriefly most) }
+        before Founder =
+            record { limit = limit; asks = All-nil (λ (e : AskName × Asking). IsSmallAsk most e.1); replies = All-nil (λ (x : ℕ × Reply). IsSmallReply most x.1); effects = All-nil (SaysBriefly most) }
+        before Spare = record {
+          limit = limit;
+          asks = All-nil (λ (e : AskName × Asking). IsSmallAsk most e.1);
+          replies = All-nil
+              (λ (x : ℕ × Reply). IsSmallReply most x.1);
+          effects = All-nil (SaysBriefly most);
+        }

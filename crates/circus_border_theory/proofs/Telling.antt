@@ -88,22 +88,29 @@ module _ (d : Deployment) (is : IsDeployment d) where
   -- a table tells of nodes of its troupe
   table_tells : (request : Request) (table : Table) → may_tell d request table ≡ true → All (λ (e : Entry). Hosts d table.view.troupe e.node) table.view.entries
   table_tells request table may =
-      all_pass (λ (e : Entry). Hosts d table.view.troupe e.node) (λ (e : Entry). may_belong d table.view.troupe e.node) table.view.entries (λ e belongs. belongs_hosts d is table.view.troupe e.node belongs)
+      all_pass (λ (e : Entry). Hosts d table.view.troupe e.node) (λ (e : Entry). may_belong d table.view.troupe e.node) table.view.entries
+      (λ e belongs. belongs_hosts d is table.view.troupe e.node belongs)
       (and_parts ((table.view.troupe == troupe_of request) && are_distinct table.view.entries) _ may).1
 
   module _ {M : Type 0} (declared : Signature) (m : MemberState M) (from : ℕ) where
     call_taken : (sender : Caller) (message : List ℕ) (call : Call) (body : List ℕ)
         → Gives (IsTakenOf d (Called sender message)) (taken_call d declared m.place.troupe sender call body)
-    call_taken sender message (Ask h) body = gives_if (IsTakenOf d (Called sender message)) (may_ask d declared m.place.troupe sender.node h body) (comes.Asked h body sender) (λ may. record { tells = tt; calls = λ c. refl; knows = λ k. refl })
+    call_taken sender message (Ask h) body =
+        gives_if (IsTakenOf d (Called sender message)) (may_ask d declared m.place.troupe sender.node h body) (comes.Asked h body sender)
+        (λ may. record { tells = tt; calls = λ c. refl; knows = λ k. refl })
     call_taken sender message (Ring request) body = gives_none (IsTakenOf d (Called sender message))
-    call_taken sender message (Fetch troupe incarnation) body = gives_if (IsTakenOf d (Called sender message)) (troupe == m.place.troupe) (comes.Fetched incarnation sender) (λ own. record { tells = tt; calls = λ c. refl; knows = λ k. refl })
+    call_taken sender message (Fetch troupe incarnation) body =
+        gives_if (IsTakenOf d (Called sender message)) (troupe == m.place.troupe) (comes.Fetched incarnation sender) (λ own. record { tells = tt; calls = λ c. refl; knows = λ k. refl })
 
     answer_taken : (number : ℕ) (purpose : Purpose) (message : List ℕ) (name : AskName) (server : ℕ) (header : ReturnHeader) (at : ℕ)
         → Gives (IsTakenOf d (Returned number purpose message)) (taken_answer d declared m name server from header at message)
     answer_taken number purpose message name server (says.Reply clock) at =
-        gives_map (IsTakenOf d (Returned number purpose message)) (λ reply. comes.Replied name from reply) (taken_reply d declared m name clock at message) (λ reply. record { tells = tt; calls = λ c. refl; knows = λ k. refl })
-    answer_taken number purpose message name server (says.Stale incarnation) at = gives_some (IsTakenOf d (Returned number purpose message)) (comes.IsStale name server from incarnation) (record { tells = tt; calls = λ c. refl; knows = λ k. refl })
-    answer_taken number purpose message name server (says.Before start) at = gives_some (IsTakenOf d (Returned number purpose message)) (comes.IsBefore name from) (record { tells = tt; calls = λ c. refl; knows = λ k. refl })
+        gives_map (IsTakenOf d (Returned number purpose message)) (λ reply. comes.Replied name from reply) (taken_reply d declared m name clock at message)
+        (λ reply. record { tells = tt; calls = λ c. refl; knows = λ k. refl })
+    answer_taken number purpose message name server (says.Stale incarnation) at =
+        gives_some (IsTakenOf d (Returned number purpose message)) (comes.IsStale name server from incarnation) (record { tells = tt; calls = λ c. refl; knows = λ k. refl })
+    answer_taken number purpose message name server (says.Before start) at =
+        gives_some (IsTakenOf d (Returned number purpose message)) (comes.IsBefore name from) (record { tells = tt; calls = λ c. refl; knows = λ k. refl })
     answer_taken number purpose message name server (says.Snapshot count) at = gives_none (IsTakenOf d (Returned number purpose message))
     answer_taken number purpose message name server says.Table at = gives_none (IsTakenOf d (Returned number purpose message))
 
@@ -111,7 +118,8 @@ module _ (d : Deployment) (is : IsDeployment d) where
         → Gives (IsTakenOf d (Returned number purpose message)) (taken_table d request header at message)
     table_taken number purpose message request says.Table at =
         gives_then (IsTakenOf d (Returned number purpose message)) (λ table. if may_tell d request table then Some (comes.Told request table) else None) (table_at at message)
-        (λ table there. gives_if (IsTakenOf d (Returned number purpose message)) (may_tell d request table) (comes.Told request table) (λ may. record { tells = table_tells request table may; calls = λ c. refl; knows = λ k. refl }))
+        (λ table there. gives_if (IsTakenOf d (Returned number purpose message)) (may_tell d request table) (comes.Told request table)
+        (λ may. record { tells = table_tells request table may; calls = λ c. refl; knows = λ k. refl }))
     table_taken number purpose message request (says.Reply clock) at = gives_none (IsTakenOf d (Returned number purpose message))
     table_taken number purpose message request (says.Stale incarnation) at = gives_none (IsTakenOf d (Returned number purpose message))
     table_taken number purpose message request (says.Before start) at = gives_none (IsTakenOf d (Returned number purpose message))
@@ -121,10 +129,15 @@ module _ (d : Deployment) (is : IsDeployment d) where
     accepted_is Dropped = gives_none (IsTakenOf d Dropped)
     accepted_is Taken = gives_none (IsTakenOf d Taken)
     accepted_is (Called sender message) =
-        gives_then (IsTakenOf d (Called sender message)) (λ (read : Call × ℕ). taken_call d declared m.place.troupe sender read.0 (drop read.1 message)) (call_in message) (λ read there. call_taken sender message read.0 (drop read.1 message))
+        gives_then (IsTakenOf d (Called sender message)) (λ (read : Call × ℕ). taken_call d declared m.place.troupe sender read.0 (drop read.1 message)) (call_in message)
+        (λ read there. call_taken sender message read.0 (drop read.1 message))
     accepted_is (Returned number (for.Ask name server) message) =
-        gives_then (IsTakenOf d (Returned number (for.Ask name server) message)) (λ (read : ReturnHeader × ℕ). taken_answer d declared m name server from read.0 read.1 message) (return_in message) (λ read there. answer_taken number (for.Ask name server) message name server read.0 read.1)
+        gives_then (IsTakenOf d (Returned number (for.Ask name server) message))
+        (λ (read : ReturnHeader × ℕ). taken_answer d declared m name server from read.0 read.1 message) (return_in message)
+        (λ read there. answer_taken number (for.Ask name server) message name server read.0 read.1)
     accepted_is (Returned number (for.Ring request) message) =
-        gives_then (IsTakenOf d (Returned number (for.Ring request) message)) (λ (read : ReturnHeader × ℕ). taken_table d request read.0 read.1 message) (return_in message) (λ read there. table_taken number (for.Ring request) message request read.0 read.1)
+        gives_then (IsTakenOf d (Returned number (for.Ring request) message)) (λ (read : ReturnHeader × ℕ). taken_table d request read.0 read.1 message) (return_in message)
+        (λ read there. table_taken number (for.Ring request) message request read.0 read.1)
     accepted_is (Returned number for.Fetch message) =
-        gives_map (IsTakenOf d (Returned number for.Fetch message)) (λ (restored : List ValueTree × ℕ). comes.Restored restored.0 restored.1) (restored_in declared.variables declared.limit message) (λ restored. record { tells = tt; calls = λ c. refl; knows = λ k. refl })
+        gives_map (IsTakenOf d (Returned number for.Fetch message)) (λ (restored : List ValueTree × ℕ). comes.Restored restored.0 restored.1)
+        (restored_in declared.variables declared.limit message) (λ restored. record { tells = tt; calls = λ c. refl; knows = λ k. refl })

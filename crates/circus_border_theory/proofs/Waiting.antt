@@ -50,7 +50,8 @@ use Rattle.circus_member_step.specs.Step.{name_of_last, asking_begun, known_by_t
 use Rattle.circus_member_step.proofs.Concerned.{all_of}
 use Rattle.circus_member_step.proofs.Starting.{IsSoundNow}
 use Rattle.circus_member_step.proofs.Turned.{IsTurned}
-use Rattle.circus_member_theory.proofs.Resting.{InRange, sound_once_handled}
+use Rattle.circus_member_theory.specs.Ranges.{InRange}
+use Rattle.circus_member_theory.proofs.Resting.{sound_once_handled}
 use Rattle.circus_border_theory.proofs.Booting.{booted_keeps}
 use Rattle.circus_border_theory.proofs.Going.{behaves, with_given, Keeps, executed_keeps}
 use Rattle.circus_border_theory.proofs.Reaching.{All-flat_map, All-if}
@@ -158,7 +159,9 @@ module _ (c : Caller) where
       (all_of (λ (e : AskName × Asking). All IsACall (calls_for_view k view e)) (filter (is_to view.troupe) asks) (λ e. calls_ask k e.0 e.1 (calls_for_a_view view k.down e.1.asked)))
 
   calls_states : (place : Place) (down : List ℕ) (view : View) → All IsACall (state_requests place down view)
-  calls_states place down view = All-map IsACall (state_request place.troupe view.incarnation) (givers place.node down view) (all_of (λ (n : ℕ). IsACall (state_request place.troupe view.incarnation n)) (givers place.node down view) (λ n. tt))
+  calls_states place down view =
+      All-map IsACall (state_request place.troupe view.incarnation) (givers place.node down view)
+      (all_of (λ (n : ℕ). IsACall (state_request place.troupe view.incarnation n)) (givers place.node down view) (λ n. tt))
 
   calls_gone : (place : Place) (k : Knowing) (node : ℕ) → All IsACall (gone_call place k node)
   calls_gone place k node = by_host (slice_get place.troupes node)
@@ -238,7 +241,9 @@ module _ (c : Caller) where
         call : HeldCall
         call = record { header = header; body = body; sender = sender }
 
-        by_added : (a : Added) → let g : Gathered = if is_held a then record m.gathered { held = m.gathered.held ++ call ∷ [] } else m.gathered in answered_in c (answer_at_once a sender) + (times_in c (callers g.held) + times_in c m.requests) ≡ waiting_at c m + one_if (is_caller c sender)
+        by_added : (a : Added) → let g : Gathered =
+            if is_held a then record m.gathered { held = m.gathered.held ++ call ∷ [] } else m.gathered in answered_in c (answer_at_once a sender) +
+            (times_in c (callers g.held) + times_in c m.requests) ≡ waiting_at c m + one_if (is_caller c sender)
         by_added (added.Reply reply) = omega arith
         by_added (added.Stale required) = omega arith
         by_added (added.Before start) = omega arith
@@ -258,7 +263,8 @@ module _ (c : Caller) where
     restored_known : (at : ℕ) (state : List ValueTree) (count : ℕ) → known_in c (step.restored at m state count) ≡ waiting_at c m + 0
     restored_known at state count = by_test (is_fetching m.performing.kept.phase)
       where
-        by_test : (t : Bool) → let d : Doing M = if t then record { member = record m { performing = made_active at state count m.performing; gathered = with_first m.gathered count }; effects = active_call m.place m.known count ++ before_answers m.gathered count } else record { member = m; effects = [] } in known_in c d ≡ waiting_at c m + 0
+        by_test : (t : Bool) → let d : Doing M =
+            if t then record { member = record m { performing = made_active at state count m.performing; gathered = with_first m.gathered count }; effects = active_call m.place m.known count ++ before_answers m.gathered count } else record { member = m; effects = [] } in known_in c d ≡ waiting_at c m + 0
         by_test true =
             let left = parted (is_before m.gathered count) m.gathered.held in
             let both = answered-append (active_call m.place m.known count) (before_answers m.gathered count) in
@@ -303,7 +309,8 @@ module _ (c : Caller) where
         let d = executed declared turn at (handled at o m) in
         let n = known_in c (handled at o m) in
         ap (λ n. n + waiting_at c d.member) (more_calls declared turn first lawful n (closed d) (lookups d.member.known) (calls_lookups d.member.known))
-        ∙ executed_keeps declared turn first lawful at (IsKnown declared turn first lawful n) (known_keeps declared turn first lawful n at) (handled at o m) (sound_once_handled declared turn first lawful at o m sound can ranges) refl
+        ∙ executed_keeps declared turn first lawful at (IsKnown declared turn first lawful n) (known_keeps declared turn first lawful n at) (handled at o m)
+        (sound_once_handled declared turn first lawful at o m sound can ranges) refl
         ∙ handled_known m at o
 
     -- at boot none waits, and none is answered

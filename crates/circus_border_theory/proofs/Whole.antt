@@ -1,9 +1,7 @@
 -- In each world of modules that agree nothing that a node makes is dropped at its border.
-use Rattle.std.proofs.Common.{◌≡◌, ℕ, ◌<◌, inr, List, [], ◌∷◌, ◌++◌, ◌+◌, length, Option, Some, None, refl, sym, ap, subst, ◌∙◌}
+use Rattle.std.proofs.Common.{◌≡◌, ℕ, ◌<◌, List, [], ◌∷◌, ◌++◌, ◌+◌, length, Option, Some, None, refl, sym, subst, ◌∙◌}
 use Rattle.std.specs.Prelude.{slice_get}
-use Rattle.std.specs.Option.{option_map_or}
 use Rattle.std.proofs.lemmas.List.{length-map}
-use Rattle.std.proofs.lemmas.Option.{none-some}
 use Rattle.circus_value.specs.ValueTree.{ValueTree}
 use Rattle.circus_value.specs.declared.caller.Caller.{Caller}
 use Rattle.circus_value.specs.declared.outcome.Outcome.{Outcome}
@@ -13,44 +11,36 @@ use Rattle.circus_collate.specs.declared.deployment.Deployment.{Deployment}
 use Rattle.circus_model.specs.NextTurn.{NextTurn}
 use Rattle.circus_model.specs.Behaviour.{Behaviour, IsModule, behaviours}
 use Rattle.circus_model.specs.Agree.{AreModules, Agree}
-use Rattle.circus_model.specs.Execution.{history_of}
 use Rattle.circus_model.specs.declared.signature.Signature.{Signature}
 use Rattle.circus_model.proofs.Threads.{are_modules}
 use Rattle.circus_performing.specs.Record.{behaviour}
 use Rattle.circus_wire.specs.declared.delivery.Heard.{Heard}
-use Rattle.circus_wire.specs.declared.delivery.Heard.TheVariants as heard
 use Rattle.circus_wire.specs.Wire.{heard_from}
 use Rattle.circus_wire.specs.WireActs.{WireActs}
 use Rattle.circus_member_rules.specs.declared.occurrence.Purpose.{Purpose}
-use Rattle.circus_member_rules.specs.declared.occurrence.Occurrence.{Occurrence}
-use Rattle.circus_member_step.specs.Happening.{CanHappen}
 use Rattle.circus_member_step.specs.MemberState.{MemberState}
-use Rattle.circus_accepting.specs.Accepting.{troupe_at, accepted}
+use Rattle.circus_accepting.specs.Accepting.{troupe_at}
 use Rattle.circus_node.specs.declared.event.Event.{Event}
 use Rattle.circus_node.specs.declared.event.Event.TheVariants as comes
 use Rattle.circus_node.specs.NodeState.{Acting, member, ringmaster}
 use Rattle.circus_schedule.specs.declared.line.Line.{Line}
 use Rattle.circus_world.specs.WorldState.{WorldState, Standing}
-use Rattle.circus_world.specs.Lines.{Leads, Lead}
-use Rattle.circus_talks.specs.Histories.{acts_of, comes_by, with_line, with_lines, with_others}
+use Rattle.circus_world.specs.Lines.{Lead}
+use Rattle.circus_talks.specs.Histories.{acts_of, comes_by, with_line}
 use Rattle.circus_talks.proofs.Boots.{world_stands}
 use Rattle.circus_talks.proofs.Worlds.{Stands}
 use Rattle.circus_truth.specs.Proper.{AreProper}
-use Rattle.circus_truth.specs.Truth.{IsTrueOccurrence, IsTrueCallFor, IsTrueReturn}
-use Rattle.circus_accepting_theory.proofs.True.{call_is_true, return_is_true}
-use Rattle.circus_accepting_theory.proofs.TrueCan.{call_can, return_can}
-use Rattle.circus_member_theory.proofs.Resting.{InRange}
 use Rattle.circus_member_theory.proofs.Step.{in_range}
 use Rattle.circus_world_theory.specs.Worlds.{IsWorldOf}
-use Rattle.circus_world_theory.proofs.Along.{lead_true}
+use Rattle.circus_world_theory.proofs.Along.{line_talks, line_true}
 use Rattle.circus_world_theory.proofs.Beginning.{boot_true}
-use Rattle.circus_world_theory.proofs.Making.{MayHaveModule, HeardSo}
-use Rattle.circus_world_theory.proofs.Stepping.{CalledAt, ComesTruly, NodesTrue, has_module, heard_so}
+use Rattle.circus_world_theory.proofs.Making.{MayHaveModule, HeardSo, heard_accepts}
+use Rattle.circus_world_theory.proofs.Stepping.{CalledAt, ComesTruly, NodesTrue, has_module, heard_so, same_world}
 use Rattle.circus_world_theory.proofs.Theorem.{truly_comes}
-use Rattle.circus_world_theory.proofs.True.{first_at, CallSo, ReturnSo, IsTrueAt, ActsTrue}
+use Rattle.circus_world_theory.proofs.True.{IsTrueAt, ActsTrue}
 use Rattle.circus_border_theory.proofs.Nodes.{TakesRightly}
 use Rattle.circus_border_theory.proofs.Steps.{MayTake, IsHandedWhole}
-use Rattle.circus_border_theory.proofs.Worlds.{TakesLine, TakesLines, HandsLines, LinesAtBorder, same_world, line_stands, hands_at}
+use Rattle.circus_border_theory.proofs.Worlds.{TakesLine, TakesLines, HandsLines, LinesAtBorder, hands_at}
 use Rattle.circus_border_theory.proofs.BootWorlds.{at_boot, boots_hand, world_at_border}
 use Rattle.circus_border_theory.proofs.Boots.{BootHands}
 
@@ -61,49 +51,12 @@ module _ {M : Type 0} (declared : M → Signature) (turn : M → List ValueTree 
   -- ---- what a member accepts of what truly comes can happen to it
 
   module _ (node from : ℕ) (Called Theirs : Caller → List ℕ → Type 0) where
-    module _ (troupe : ℕ) (m : MemberState M) (so_far : IsTrueAt declared turn first program d Called troupe m) where
-      same_first : first m.performing.hosted ≡ first_at program troupe
-      same_first = ap (λ (o : Option Behaviour). option_map_or (λ (b : Behaviour). b.first) o []) (sym so_far.at)
-
-      abbrev MayBe : Occurrence → Type 0
-      MayBe o = CanHappen (declared m.performing.hosted) m o × InRange o
-
-      may_be : (o : Occurrence) → CanHappen (declared m.performing.hosted) m o → IsTrueOccurrence (history_of program) troupe (first m.performing.hosted) Called m o → MayBe o
-      may_be o can so = (can, (in_range program agree are troupe (first m.performing.hosted) Called m o so))
-
-      called_may : (server : Option ℕ) (sender : Caller) (message : List ℕ) (purpose : Purpose) → MayHaveModule program server → Called sender message
-          → CallSo program Theirs server purpose message
-          → (o : Occurrence) → accepted d (declared m.performing.hosted) m from (heard.Called sender message) ≡ Some o → MayBe o
-      called_may (Some client) sender message purpose has called so o is =
-          may_be o
-          (call_can declared turn first program agree are proper d troupe Called m from client has.behaves (first_at program client) Theirs sender message purpose o so_far.of has.there so is)
-          (call_is_true declared turn first program agree are proper d troupe Called m from client (first_at program client) Theirs sender message purpose o so_far.is.own so called is)
-      called_may None sender message purpose has called so o is = absurd so
-
-      returned_by : (server number : ℕ) (firsts : List ValueTree) (caller : Caller) (purpose : Purpose) (call message : List ℕ) → troupe < 32 → server < 32
-          → (server ≡ troupe → firsts ≡ first m.performing.hosted)
-          → CallSo program Called (Some troupe) purpose call → IsTrueReturn (history_of program) server firsts (λ _ other. other ≡ call) caller message
-          → (o : Occurrence) → accepted d (declared m.performing.hosted) m from (heard.Returned number purpose message) ≡ Some o → MayBe o
-      returned_by server number firsts caller purpose call message own few same made_so so o is =
-          let own_call = subst (λ f. IsTrueCallFor (history_of program) troupe f Called purpose call) (sym same_first) made_so in
-          may_be o
-          (return_can declared turn first program agree are proper d troupe Called m from number server firsts caller purpose call message o so_far.of so_far.at own_call so same few own is)
-          (return_is_true declared turn first program agree are proper d troupe Called m from number server firsts caller purpose call message o so_far.at so_far.is own_call so same few own is)
-
-      returned_may : (number : ℕ) (server : Option ℕ) (caller : Caller) (purpose : Purpose) (call message : List ℕ) → troupe < 32 → MayHaveModule program server
-          → CallSo program Called (Some troupe) purpose call → ReturnSo program (λ _ other. other ≡ call) server caller message
-          → (o : Occurrence) → accepted d (declared m.performing.hosted) m from (heard.Returned number purpose message) ≡ Some o → MayBe o
-      returned_may number (Some server) caller purpose call message own has made_so so =
-          returned_by server number (first_at program server) caller purpose call message own has.few (λ same. ap (first_at program) same ∙ sym same_first) made_so so
-      returned_may number None caller purpose call message own has made_so so =
-          returned_by troupe number (first m.performing.hosted) caller purpose call message own own (λ same. refl) made_so (inr (inr so))
-
-      member_takes : (server : Option ℕ) (h : Heard Purpose) → troupe < 32 → MayHaveModule program server → HeardSo program Called Theirs (Some troupe) server h
-          → TakesRightly declared turn first lawful d good node from h (member m)
-      member_takes server heard.Dropped own has so = λ o is. absurd (none-some o is)
-      member_takes server heard.Taken own has so = λ o is. absurd (none-some o is)
-      member_takes server (heard.Called sender message) own has so = called_may server sender message so.1.0 has so.0 so.1.1
-      member_takes server (heard.Returned number purpose message) own has so = returned_may number server so.1 purpose so.0 message own has so.2 so.3
+    member_takes : (troupe : ℕ) (m : MemberState M) → IsTrueAt declared turn first program d Called troupe m → (server : Option ℕ) (h : Heard Purpose) → troupe < 32
+        → MayHaveModule program server → HeardSo program Called Theirs (Some troupe) server h
+        → TakesRightly declared turn first lawful d good node from h (member m)
+    member_takes troupe m so_far server h own has so = λ o is.
+        let happens = heard_accepts declared turn first program d Called troupe m so_far agree are proper from server Theirs h own has so o is in
+        (happens.0, in_range program agree are troupe (first m.performing.hosted) Called m o happens.1)
 
     node_takes : (own server : Option ℕ) (h : Heard Purpose) (a : Acting M) → MayHaveModule program own → MayHaveModule program server
         → HeardSo program Called Theirs own server h
@@ -120,20 +73,14 @@ module _ {M : Type 0} (declared : M → Signature) (turn : M → List ValueTree 
         → MayTake declared turn first lawful d good node event s.node
     event_takes node (comes.Datagram from bytes) s at truly =
         node_takes node from (CalledAt d acts node) (CalledAt d acts from) (troupe_at d node) (troupe_at d from) (heard_from s.node.wire from (reading bytes)) s.node.acting
-        (has_module program d node good all) (has_module program d from good all) (heard_so program d acts so_far.said node from (heard_from s.node.wire from (reading bytes)) truly) (so_far.nodes node s at)
+        (has_module program d node good all) (has_module program d from good all)
+        (heard_so program d acts so_far.said node from (heard_from s.node.wire from (reading bytes)) truly) (so_far.nodes node s at)
     event_takes node comes.Tick s at truly = tt
     event_takes node (comes.Down other) s at truly = tt
     event_takes node comes.Join s at truly = tt
 
     line_takes : (line : Line) → TakesLine declared turn first lawful d good line w
     line_takes line = λ node event s comes_it at. event_takes node event s at (truly_comes d acts w stands line node event s comes_it at)
-
-    line_true : (line : Line) (next : WorldState M) → Leads declared turn line w next
-        → NodesTrue declared turn first program d (λ node. with_line declared turn node (acts node) line w) next
-    line_true line next leads =
-        subst (λ (f : ℕ → WireActs Purpose). NodesTrue declared turn first program d f next)
-        (λ i node. with_others (with_lines declared turn node (with_line declared turn node (acts node) line w) []) (acts node) (leads.stepped_is i))
-        (lead_true declared turn first lawful program agree are proper d good all acts (line ∷ []) w next stands so_far (next, leads, refl))
 
   lines_take : (acts : ℕ → WireActs Purpose) (lines : List Line) (w last : WorldState M) → Stands d acts w → NodesTrue declared turn first program d acts w
       → Lead declared turn lines w last
@@ -142,8 +89,9 @@ module _ {M : Type 0} (declared : M → Signature) (turn : M → List ValueTree 
   lines_take acts (line ∷ lines) w last stands so_far lead =
       let next : WorldState M = lead.0 in
       let rest = lines_take (λ node. with_line declared turn node (acts node) line w) lines next last
-      (line_stands declared turn first lawful d good acts line w next stands lead.1) (line_true acts w stands so_far line next lead.1) lead.2 in
-      (line_takes acts w stands so_far line, λ other goes. subst (TakesLines declared turn first lawful d good lines) (same_world declared turn first lawful d good next other (sym lead.1.stepped_is ∙ goes)) rest)
+      (line_talks declared turn d acts line w next stands lead.1)
+      (line_true declared turn first lawful program agree are proper d good all acts w next stands so_far line lead.1) lead.2 in
+      (line_takes acts w stands so_far line, λ other goes. subst (TakesLines declared turn first lawful d good lines) (same_world next other (sym lead.1.stepped_is ∙ goes)) rest)
 
 -- ---- a world
 
@@ -170,7 +118,8 @@ module _ {M : Type 0} (declared : M → Signature) (turn : M → List ValueTree 
       → IsHandedWhole declared turn first lawful d world.deployment node (acts_of declared turn first d hosted before booted node) (v.steps + 1) event s.node
   steps_hand_all before line behind v split lead =
       let acts = at_boot declared turn first lawful d world.deployment modules hosted world.troupes world.hosts in
-      hands_at declared turn first lawful d world.deployment acts before line behind booted v (subst (λ ls. HandsLines declared turn first lawful d world.deployment acts ls booted) split nothing_is_dropped.hands) lead
+      hands_at declared turn first lawful d world.deployment acts before line behind booted v
+      (subst (λ ls. HandsLines declared turn first lawful d world.deployment acts ls booted) split nothing_is_dropped.hands) lead
 
   -- and likewise at boot
   pub boots_hand_all : (node : ℕ) (within : node < length d.nodes) (own : Option M) → slice_get hosted node ≡ Some own

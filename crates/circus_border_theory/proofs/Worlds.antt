@@ -1,8 +1,7 @@
 -- In a world nothing that a node makes is dropped at its border, whichever lines lead to it.
-use Rattle.std.proofs.Common.{◌≡◌, ◌≢◌, ℕ, ◌+◌, ◌<◌, ◌⊎◌, Bool, true, false, inl, inr, if◌then◌else◌, List, [], ◌∷◌, ◌++◌, length, map, set, Option, Some, None, Ok, Err, refl, sym, ap, subst, ◌∙◌, ltb-true, eq-eqb, eqb}
-use Rattle.std.specs.Prelude.{slice_get, is_none, nat_lt, option_and_then}
+use Rattle.std.proofs.Common.{◌≡◌, ◌≢◌, ℕ, ◌+◌, ◌<◌, ◌⊎◌, Bool, true, false, inl, inr, if◌then◌else◌, List, [], ◌∷◌, ◌++◌, length, map, set, Option, Some, None, Ok, Err, refl, sym, ap, subst, ◌∙◌, ltb-true, eqb}
+use Rattle.std.specs.Prelude.{slice_get, nat_lt, option_and_then}
 use Rattle.std.specs.Option.{option_map_or}
-use Rattle.std.proofs.lemmas.Bool.{ne_eqb}
 use Rattle.std.proofs.lemmas.Bool.Decides.{eqb_tells}
 use Rattle.std.proofs.lemmas.Option.{same_Some, slice_get_within}
 use Rattle.circus_value.specs.ValueTree.{ValueTree}
@@ -24,19 +23,18 @@ use Rattle.circus_node.specs.Step as node_step
 use Rattle.circus_schedule.specs.declared.line.Line.{Line}
 use Rattle.circus_schedule.specs.declared.line.Line.TheVariants.{Deliver, Tick, Crash, Down, Join}
 use Rattle.circus_world.specs.declared.sent.Sent.{Sent}
-use Rattle.circus_world.specs.declared.cause.LineCause.{LineCause}
-use Rattle.circus_world.specs.declared.cause.LineCause.TheVariants.{NoDatagram}
 use Rattle.circus_world.specs.WorldState.{WorldState, Standing, is_live}
 use Rattle.circus_world.specs.Course as course
 use Rattle.circus_world.specs.Course.{Stepped, noted, passed, crashed, told_to_join, concluded, comes_to, stepped}
 use Rattle.circus_world.specs.Lines.{Leads, Lead}
 use Rattle.circus_world.proofs.ComeLemmas.{datagram_may_come, delivered_at, down_differs}
 use Rattle.circus_world.proofs.SlotLemmas.{get_set, get_there, all_at}
-use Rattle.circus_talks.specs.Histories.{beginning_of, delivery, comes_by, with_step, with_line, with_lines, with_others}
+use Rattle.circus_talks.specs.Histories.{beginning_of, delivery, comes_by, with_line, with_lines, with_others}
 use Rattle.circus_talks.specs.NodeActs.{with_all, acts_in}
-use Rattle.circus_talks.proofs.Lines.{lead_stands}
 use Rattle.circus_talks.proofs.Steps.{IsRead}
 use Rattle.circus_talks.proofs.Worlds.{Stands, IsGiven, IsReal, is_other, came_sent, get_same}
+use Rattle.circus_world_theory.proofs.Along.{noted_at, live_there, below_sent, nothing_by, here_by, elsewhere_by, line_talks}
+use Rattle.circus_world_theory.proofs.Stepping.{same_world, comes_is}
 use Rattle.circus_border_theory.proofs.Steps.{IsAtBorder, MayTake, IsHandedWhole, step_at_border}
 
 module _ {M : Type 0} (declared : M → Signature) (turn : M → List ValueTree → ℕ → List ValueTree → List Outcome → NextTurn) (first : M → List ValueTree)
@@ -54,9 +52,6 @@ module _ {M : Type 0} (declared : M → Signature) (turn : M → List ValueTree 
   HandsLine acts line w = (node : ℕ) (event : Event) (s : Standing M) → comes_by line w ≡ Some (node, event) → slice_get w.nodes node ≡ Some s
       → IsHandedWhole declared turn first lawful d is node (acts node) (w.steps + 1) event s.node
 
-  pub same_world : (a b : WorldState M) → ◌≡◌ {A = Stepped M} (Ok a) (Ok b) → a ≡ b
-  same_world a b same = cc
-
   -- ---- something comes to a node
 
   module _ (acts : ℕ → WireActs Purpose) (w : WorldState M) (node : ℕ) (event : Event) (s : Standing M) (at : slice_get w.nodes node ≡ Some s)
@@ -69,9 +64,6 @@ module _ {M : Type 0} (declared : M → Signature) (turn : M → List ValueTree 
         → IsHandedWhole declared turn first lawful d is node (acts node) (w.steps + 1) event s.node × AreAtBorder new next
     comes_at_border new here elsewhere = by_end (node_step.stepped declared turn (w.steps + 1) event s.node) refl
       where
-        comes_is : comes_to declared turn node event w ≡ concluded node s w (node_step.stepped declared turn (w.steps + 1) event s.node)
-        comes_is = ap (λ (o : Option (Standing M)). option_map_or (λ (t : Standing M). concluded node t w (node_step.stepped declared turn (w.steps + 1) event t.node)) o (Ok w)) at
-
         by_end : (e : node_step.Ended M) → node_step.stepped declared turn (w.steps + 1) event s.node ≡ e
             → IsHandedWhole declared turn first lawful d is node (acts node) (w.steps + 1) event s.node × AreAtBorder new next
         by_end (Ok ended) ends =
@@ -81,21 +73,23 @@ module _ {M : Type 0} (declared : M → Signature) (turn : M → List ValueTree 
               sent = w.sent ++ map (course.sent_by (w.steps + 1) node) ended.1.gives;
               steps = w.steps + 1;
             } in
-            let same : after ≡ next = same_world after next (sym (comes_is ∙ ap (concluded node s w) ends) ∙ goes) in
+            let same : after ≡ next = same_world after next (sym (comes_is declared turn w node event s at ∙ ap (concluded node s w) ends) ∙ goes) in
             (steps.handed, subst (AreAtBorder new) same (λ x t found. by_node ended steps.behind x t found (eqb_tells x node)))
           where
             by_node : (ended : NodeState M × Outputs)
                 → IsAtBorder declared turn first lawful d is node (with_all (acts node) (acts_in declared turn (w.steps + 1) event s.node)) ended.0
-                → (x : ℕ) (t : Standing M) → slice_get (set w.nodes node (record s { node = ended.0 })) x ≡ Some t → ((eqb x node ≡ true) × (x ≡ node)) ⊎ ((eqb x node ≡ false) × (x ≢ node)) → IsAtBorder declared turn first lawful d is x (new x) t.node
+                → (x : ℕ) (t : Standing M) → slice_get (set w.nodes node (record s { node = ended.0 })) x ≡ Some t
+                → ((eqb x node ≡ true) × (x ≡ node)) ⊎ ((eqb x node ≡ false) × (x ≢ node)) → IsAtBorder declared turn first lawful d is x (new x) t.node
             by_node ended behind x t found (inl same) =
-                let is_ : record s { node = ended.0 } ≡ t = same_Some _ t (sym (get_same w.nodes node (record s { node = ended.0 }) s at) ∙ ap (slice_get (set w.nodes node (record s { node = ended.0 }))) (sym same.1) ∙ found) in
+                let is_ : record s { node = ended.0 } ≡ t =
+                same_Some _ t (sym (get_same w.nodes node (record s { node = ended.0 }) s at) ∙ ap (slice_get (set w.nodes node (record s { node = ended.0 }))) (sym same.1) ∙ found) in
                 subst (λ k. IsAtBorder declared turn first lawful d is k (new k) t.node) (sym same.1)
                 (subst (λ (v : Standing M). IsAtBorder declared turn first lawful d is node (new node) v.node) is_
                 (subst (λ a. IsAtBorder declared turn first lawful d is node a ended.0) (sym here) behind))
             by_node ended behind x t found (inr differs) =
                 subst (λ a. IsAtBorder declared turn first lawful d is x a t.node) (sym (elsewhere x differs.1))
                 (borders x t (elim (get_set w.nodes node x (record s { node = ended.0 }) t found) [ inl same ↦ absurd (differs.1 same.0) | inr there ↦ there ]))
-        by_end (Err peer) ends = absurd (let clash : ◌≡◌ {A = Stepped M} (Err (node, peer)) (Ok next) = sym (comes_is ∙ ap (concluded node s w) ends) ∙ goes in cc)
+        by_end (Err peer) ends = absurd (let clash : ◌≡◌ {A = Stepped M} (Err (node, peer)) (Ok next) = sym (comes_is declared turn w node event s at ∙ ap (concluded node s w) ends) ∙ goes in cc)
 
   -- ---- something is noted of a node
 
@@ -113,11 +107,6 @@ module _ {M : Type 0} (declared : M → Signature) (turn : M → List ValueTree 
             (subst (IsAtBorder declared turn first lawful d is node (acts node)) (sym (same s)) (borders node s at)))
         | inr there ↦ borders x t there
       ]
-
-  noted_at : (note : Standing M → Standing M) (node : ℕ) (w : WorldState M) (s : Standing M) → slice_get w.nodes node ≡ Some s
-      → slice_get (noted note node w).nodes node ≡ Some (note s)
-  noted_at note node w s at =
-      ap (λ (o : Option (Standing M)). slice_get (option_map_or (λ t. set w.nodes node (note t)) o w.nodes) node) at ∙ get_same w.nodes node (note s) s at
 
   -- ---- a line
 
@@ -147,7 +136,7 @@ module _ {M : Type 0} (declared : M → Signature) (turn : M → List ValueTree 
     unmoved line none border =
         record {
           hands = λ node event s comes_it at. absurd (none_comes (sym none ∙ comes_it));
-          behind = subst (λ (f : ℕ → WireActs Purpose). AreAtBorder f next) (λ i node. sym (ap (λ o. option_map_or (with_step declared turn node (acts node) w) o (acts node)) none) i) border;
+          behind = subst (λ (f : ℕ → WireActs Purpose). AreAtBorder f next) (λ i node. nothing_by declared turn line w none node (acts node) i) border;
         }
       where
         none_comes : {node : ℕ} {event : Event} → ◌≡◌ {A = Option (ℕ × Event)} None (Some (node, event)) → ⊥
@@ -155,20 +144,6 @@ module _ {M : Type 0} (declared : M → Signature) (turn : M → List ValueTree 
 
     -- something comes to one, which stands so there, or did before something was noted of it
     module _ (line : Line) (node : ℕ) (event : Event) (comes_it : comes_by line w ≡ Some (node, event)) where
-      here_by : (s : Standing M) → slice_get w.nodes node ≡ Some s
-          → with_line declared turn node (acts node) line w ≡ with_all (acts node) (acts_in declared turn (w.steps + 1) event s.node)
-      here_by s at =
-          let all : Standing M → WireActs Purpose = λ t. with_all (acts node) (acts_in declared turn (w.steps + 1) event t.node) in
-          ap (λ o. option_map_or (with_step declared turn node (acts node) w) o (acts node)) comes_it
-          ∙ ap (λ b. if b then option_map_or all (slice_get w.nodes node) (acts node) else acts node) (eq-eqb node node refl)
-          ∙ ap (λ (o : Option (Standing M)). option_map_or all o (acts node)) at
-
-      elsewhere_by : (other : ℕ) → other ≢ node → with_line declared turn other (acts other) line w ≡ acts other
-      elsewhere_by other differs =
-          ap (λ o. option_map_or (with_step declared turn other (acts other) w) o (acts other)) comes_it
-          ∙ ap (λ b. if b then option_map_or (λ (s : Standing M). with_all (acts other) (acts_in declared turn (w.steps + 1) event s.node)) (slice_get w.nodes other) (acts other) else acts other)
-          (ne_eqb node other (λ same. differs (sym same)))
-
       -- the one that comes is this
       handed_line : (s : Standing M) → slice_get w.nodes node ≡ Some s → IsHandedWhole declared turn first lawful d is node (acts node) (w.steps + 1) event s.node
           → HandsLine acts line w
@@ -177,7 +152,8 @@ module _ {M : Type 0} (declared : M → Signature) (turn : M → List ValueTree 
           let same : ◌≡◌ {A = ℕ × Event} (node, event) (other, happens) = same_Some (node, event) (other, happens) one in
           by_same other happens same t at_other
         where
-          by_same : (other : ℕ) (happens : Event) → ◌≡◌ {A = ℕ × Event} (node, event) (other, happens) → (t : Standing M) → slice_get w.nodes other ≡ Some t → IsHandedWhole declared turn first lawful d is other (acts other) (w.steps + 1) happens t.node
+          by_same : (other : ℕ) (happens : Event) → ◌≡◌ {A = ℕ × Event} (node, event) (other, happens) → (t : Standing M) → slice_get w.nodes other ≡ Some t
+              → IsHandedWhole declared turn first lawful d is other (acts other) (w.steps + 1) happens t.node
           by_same other happens same =
               subst (λ (x : ℕ × Event). (t : Standing M) → slice_get w.nodes x.0 ≡ Some t → IsHandedWhole declared turn first lawful d is x.0 (acts x.0) (w.steps + 1) x.1 t.node) same
               (λ t at_t. subst (λ (v : Standing M). IsHandedWhole declared turn first lawful d is node (acts node) (w.steps + 1) event v.node) (same_Some s t (sym at ∙ at_t)) handed)
@@ -187,12 +163,9 @@ module _ {M : Type 0} (declared : M → Signature) (turn : M → List ValueTree 
       moved s at real takes goes =
           let below = subst (λ k. node < k) so_far.all (slice_get_within w.nodes node s at) in
           let both = comes_at_border acts w node event s at (so_far.stands node s at) (can_come node event s at real) (is_read node event below real) (takes node event s comes_it at) borders next goes
-          (λ x. with_line declared turn x (acts x) line w) (here_by s at) elsewhere_by in
+          (λ x. with_line declared turn x (acts x) line w) (here_by declared turn line w node event comes_it s at (acts node))
+          (λ other differs. elsewhere_by declared turn line w node event comes_it other differs (acts other)) in
           record { hands = handed_line s at both.0; behind = both.1 }
-
-    live_there : (o : Option (Standing M)) → option_map_or (λ (s : Standing M). is_none s.crashed) o false ≡ true → (s : Standing M) × (o ≡ Some s)
-    live_there None live = absurd (let clash : false ≡ true = live in cc)
-    live_there (Some s) live = (s, refl)
 
     still_border : (v : WorldState M) → ◌≡◌ {A = Stepped M} (Ok v) (Ok next) → AreAtBorder acts v → AreAtBorder acts next
     still_border v same border = subst (AreAtBorder acts) (same_world v next same) border
@@ -210,10 +183,6 @@ module _ {M : Type 0} (declared : M → Signature) (turn : M → List ValueTree 
         unmoved (Deliver number) (ap (option_and_then (delivery w)) there ∙ ap (λ b. if b then Some (sent.to, comes.Datagram sent.from sent.bytes) else None) live)
         (still_border (passed w) (sym (delivered_at declared turn w number sent false there live) ∙ goes) borders)
 
-    below_sent : (below : Bool) (number most : ℕ) → (if below then None else Some (NoDatagram number most)) ≡ None → below ≡ true
-    below_sent true number most legal = refl
-    below_sent false number most legal = absurd (let clash : ◌≡◌ {A = Option LineCause} (Some (NoDatagram number most)) None = legal in cc)
-
     pub line_at_border : (line : Line) → TakesLine line w → Leads declared turn line w next → LineAtBorder acts line w next
     line_at_border (Deliver number) takes leads =
         let below : number < length w.sent = ltb-true number (length w.sent) (below_sent (nat_lt number (length w.sent)) number (length w.sent) leads.legal) in
@@ -230,8 +199,10 @@ module _ {M : Type 0} (declared : M → Signature) (turn : M → List ValueTree 
     line_at_border (Join node) takes leads =
         let s = get_there w.nodes node leads.named in
         let note : Standing M → Standing M = λ t. record t { joins = true } in
-        let both = comes_at_border acts (told_to_join node w) node comes.Join (note s.0) (noted_at note node w s.0 s.1) (so_far.stands node s.0 s.1) tt tt tt (noted_border acts note node w (λ t. refl) borders) next leads.stepped_is
-        (λ x. with_line declared turn x (acts x) (Join node) w) (here_by (Join node) node comes.Join refl s.0 s.1) (elsewhere_by (Join node) node comes.Join refl) in
+        let both = comes_at_border acts (told_to_join node w) node comes.Join (note s.0) (noted_at note node w s.0 s.1) (so_far.stands node s.0 s.1) tt tt tt
+        (noted_border acts note node w (λ t. refl) borders) next leads.stepped_is
+        (λ x. with_line declared turn x (acts x) (Join node) w) (here_by declared turn (Join node) w node comes.Join refl s.0 s.1 (acts node))
+        (λ other differs. elsewhere_by declared turn (Join node) w node comes.Join refl other differs (acts other)) in
         record { hands = handed_line (Join node) node comes.Join refl s.0 s.1 both.0; behind = both.1 }
 
   -- ---- lines
@@ -244,19 +215,12 @@ module _ {M : Type 0} (declared : M → Signature) (turn : M → List ValueTree 
   -- nothing that a node makes by any of them is dropped
   abbrev pub HandsLines : (ℕ → WireActs Purpose) → List Line → WorldState M → Type 0
   HandsLines acts [] w = Unit {0}
-  HandsLines acts (line ∷ lines) w = HandsLine acts line w × ((next : WorldState M) → stepped declared turn line w ≡ Ok next → HandsLines (λ node. with_line declared turn node (acts node) line w) lines next)
+  HandsLines acts (line ∷ lines) w =
+      HandsLine acts line w × ((next : WorldState M) → stepped declared turn line w ≡ Ok next → HandsLines (λ node. with_line declared turn node (acts node) line w) lines next)
 
   pub record LinesAtBorder (acts : ℕ → WireActs Purpose) (lines : List Line) (w last : WorldState M) : Type 0 where
     pub hands : HandsLines acts lines w
     pub behind : AreAtBorder (λ node. with_lines declared turn node (acts node) lines w) last
-
-  -- the pairs stand for what has happened behind a line
-  pub line_stands : (acts : ℕ → WireActs Purpose) (line : Line) (w next : WorldState M) → Stands d acts w → Leads declared turn line w next
-      → Stands d (λ node. with_line declared turn node (acts node) line w) next
-  line_stands acts line w next so_far leads =
-      subst (λ (f : ℕ → WireActs Purpose). Stands d f next)
-      (λ i node. with_others (with_lines declared turn node (with_line declared turn node (acts node) line w) []) (acts node) (leads.stepped_is i))
-      (lead_stands declared turn d acts (line ∷ []) w next so_far (next, leads, refl))
 
   pub lines_at_border : (acts : ℕ → WireActs Purpose) (lines : List Line) (w last : WorldState M) → Stands d acts w → AreAtBorder acts w → TakesLines lines w
       → Lead declared turn lines w last → LinesAtBorder acts lines w last
@@ -265,7 +229,7 @@ module _ {M : Type 0} (declared : M → Signature) (turn : M → List ValueTree 
       let next : WorldState M = lead.0 in
       let one = line_at_border acts w next so_far borders line takes.0 lead.1 in
       let behind_it : ℕ → WireActs Purpose = λ node. with_line declared turn node (acts node) line w in
-      let rest = lines_at_border behind_it lines next last (line_stands acts line w next so_far lead.1) one.behind (takes.1 next lead.1.stepped_is) lead.2 in
+      let rest = lines_at_border behind_it lines next last (line_talks declared turn d acts line w next so_far lead.1) one.behind (takes.1 next lead.1.stepped_is) lead.2 in
       record {
         hands = (one.hands, λ other goes. subst (HandsLines behind_it lines) (same_world next other (sym lead.1.stepped_is ∙ goes)) rest.hands);
         behind = subst (λ (f : ℕ → WireActs Purpose). AreAtBorder f last)

@@ -15,7 +15,7 @@ ghost use Rattle.circus_border_theory.specs.Made.{HandsAll, WasMadeAtAll, CallWa
 use circus_model::Module;
 
 /// Nothing that a node makes is dropped at its border: in the step that a line brings to it, each call is to a node that is up,
-/// each return is to a call that awaits one, and each message has a length that can be sent, so all of them are handed over.
+/// and each message has a length that can be sent, so all of them are handed over.
 pub fn nothing_is_dropped<M: Module>()
     ensures { (d : Deployment) (modules : List M) (hosted : List (Option M)) (lines : List Line) (booted last : WorldState M)
         → IsWorldOf M.declared M.turn M.first d modules hosted lines booted last

@@ -24,6 +24,8 @@ pub enum Status {
     Spent = 8,
     /// What was asked for is not built.
     NotBuilt = 9,
+    /// All deliveries were made, and datagrams are left.
+    Unsettled = 10,
     /// The text of a placing is refused.
     BadPlacing = 11,
     /// No choice of machines satisfies a placing.

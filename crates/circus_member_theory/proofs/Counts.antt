@@ -1,9 +1,8 @@
 -- A clock of the history of a program never counts more calls than a thread makes.
 use Rattle.std.proofs.Common.{◌≡◌, ℕ, zero, suc, ◌+◌, ◌<◌, ◌≤◌, Bool, true, false, List, [], ◌∷◌, ◌++◌, length, take, get_or, length-set, ◌⊎◌, Some, inl, inr, refl, sym, ap, subst, ◌∙◌, arith}
-use Rattle.std.specs.Prelude.{sum, slice_get, slice_index, slice_set}
-use Rattle.std.proofs.lemmas.Bool.{cases_eq, cases_lt, leb-false}
-use Rattle.std.proofs.lemmas.List.{get_or-set_same, get_or-set_other, take_all}
-use Rattle.std.proofs.lemmas.List.Sums.{get_or-le-sum_by}
+use Rattle.std.specs.Prelude.{slice_get, slice_index, slice_set}
+use Rattle.std.proofs.lemmas.Bool.{cases_eq, cases_lt}
+use Rattle.std.proofs.lemmas.List.{get_or-set_same, get_or-set_other, get_or_past, take_all}
 use Rattle.std.proofs.lemmas.Option.{same_Some, get_or_from_slice_get}
 use Rattle.std.proofs.Math.Seq.{take-suc}
 use Rattle.circus_limits.specs.Limits.{most_calls}
@@ -17,29 +16,11 @@ use Rattle.circus_model.proofs.Lookups.{within}
 use Rattle.circus_model.proofs.Counting.{clock_after_more}
 use Rattle.circus_model.proofs.Logging.{some_and}
 use Rattle.circus_model.proofs.Histories.{in_history, maker_of, root_runs_once}
+use Rattle.circus_performing_theory.proofs.Histories.{counts_are_few}
 
 -- no entry counts more
 abbrev pub IsFew : List ℕ → Type 0
 IsFew clock = (entry : ℕ) → slice_index clock entry ≤ most_calls
-
-past_none : (clock : List ℕ) (entry : ℕ) → length clock ≤ entry → slice_index clock entry ≡ 0
-past_none [] entry past = refl
-past_none (n ∷ clock) zero past = absurd (omega arith)
-past_none (n ∷ clock) (suc entry) past = past_none clock entry (omega arith)
-
-below_sum : (clock : List ℕ) (entry : ℕ) → slice_index clock entry ≤ sum clock
-below_sum clock entry =
-    elim (cases_lt entry (length clock)) [
-      | inl within ↦ get_or-le-sum_by (λ n. n) clock entry 0 within
-      | inr past ↦ let none = past_none clock entry past in omega (arith, none)
-    ]
-
--- the clock of a thread that has calls left counts less
-unspent_few : (clock : List ℕ) → is_spent clock ≡ false → (entry : ℕ) → slice_index clock entry < most_calls
-unspent_few clock left entry =
-    let less = leb-false most_calls (sum clock) left in
-    let part = below_sum clock entry in
-    omega (arith, less, part)
 
 -- one call more is counted
 counted_few : (clock : List ℕ) (callee : ℕ) → is_spent clock ≡ false → IsFew (slice_set clock callee (slice_index clock callee + 1))
@@ -49,17 +30,17 @@ counted_few clock callee left entry =
         | inl within ↦
             let now : slice_index (slice_set clock callee (slice_index clock callee + 1)) callee ≡ slice_index clock callee + 1 =
             get_or-set_same clock callee (slice_index clock callee + 1) 0 within in
-            let less = unspent_few clock left callee in
+            let less = counts_are_few clock left callee in
             subst (λ e. slice_index (slice_set clock callee (slice_index clock callee + 1)) e ≤ most_calls) (sym same) (omega (arith, now, less))
         | inr past ↦
-            let none = past_none (slice_set clock callee (slice_index clock callee + 1)) entry
+            let none = get_or_past (slice_set clock callee (slice_index clock callee + 1)) entry 0
             (omega (arith, same, past, length-set clock callee (slice_index clock callee + 1))) in
             omega (arith, none)
       ]
       | inr other ↦
           let now : slice_index (slice_set clock callee (slice_index clock callee + 1)) entry ≡ slice_index clock entry =
           get_or-set_other clock callee entry (slice_index clock callee + 1) 0 other in
-          let less = unspent_few clock left entry in
+          let less = counts_are_few clock left entry in
           omega (arith, now, less)
     ]
 

@@ -54,7 +54,7 @@ use Rattle.circus_performing_theory.proofs.Standing.{open_is, entered_stands, an
 use Rattle.circus_accepting_theory.proofs.Arguments.{arguments_read}
 use Rattle.circus_truth.specs.Proper.{AreProper}
 use Rattle.circus_truth.specs.Truth.{reply_to, Answers, IsTrueAsking, IsCalled, IsFetch}
-use Rattle.circus_member_theory.proofs.Entries.{ask_found}
+use Rattle.circus_accepting_theory.proofs.Entries.{ask_found}
 use Rattle.circus_member_theory.proofs.Ranges.{module_of, taken_is}
 use Rattle.circus_member_theory.proofs.Kept.{KeepsTrue}
 use Rattle.circus_member_theory.proofs.Handled.{IsNow, IsMade, Keeps}

@@ -1,7 +1,6 @@
 pub mod Counts
 pub mod Headers
 pub mod Ranges
-pub mod Entries
 pub mod Kept
 pub mod Alike
 pub mod Calling

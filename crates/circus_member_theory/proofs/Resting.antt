@@ -1,5 +1,5 @@
 -- A step of a member comes to rest, and so does its boot.
-use Rattle.std.proofs.Common.{◌≡◌, ℕ, zero, suc, ◌<◌, ◌≤◌, Bool, true, false, if◌then◌else◌, List, [], ◌++◌, length, Option, Some, None, refl, sym, ap, subst, ◌∙◌, arith}
+use Rattle.std.proofs.Common.{◌≡◌, ℕ, zero, suc, ◌<◌, Bool, true, false, if◌then◌else◌, List, [], ◌++◌, length, Option, Some, None, refl, sym, ap, subst, ◌∙◌, arith}
 use Rattle.std.specs.Prelude.{slice_get}
 use Rattle.std.specs.List.{IsDistinct}
 use Rattle.std.specs.Option.{option_map_or}
@@ -21,7 +21,7 @@ use Rattle.circus_gather.specs.Gathering.{answer_to, with_start, with_first}
 use Rattle.circus_gather.specs.Gathering as gathering
 use Rattle.circus_fanout.specs.Asking.{Asking}
 use Rattle.circus_performing.specs.declared.start.RunStart.{RunStart}
-use Rattle.circus_performing.specs.Performing.{Performing, open_ask, last_of, is_fetching, made_active, last_count}
+use Rattle.circus_performing.specs.Performing.{Performing, open_ask, last_of, is_fetching, made_active}
 use Rattle.circus_performing.specs.Performing as performing
 use Rattle.circus_performing.specs.Acts.{as_founder, as_spare}
 use Rattle.circus_performing.specs.Record.{behaviour, IsRecord}
@@ -45,18 +45,7 @@ use Rattle.circus_member_step.proofs.Starting.{IsSoundNow, sound_entered, sound_
 use Rattle.circus_member_step.proofs.Resting.{rested}
 use Rattle.circus_member_step.proofs.Unsettled.{entered_left}
 use Rattle.circus_member_step.proofs.Done.{executed_done, still_done}
-
--- a count that comes has room in a record
-abbrev pub InRange : Occurrence → Type 0
-InRange (comes.Asked header body sender) = Unit {0}
-InRange (comes.Fetched incarnation sender) = Unit {0}
-InRange (comes.Replied name from reply) = Unit {0}
-InRange (comes.IsStale name server from incarnation) = Unit {0}
-InRange (comes.IsBefore name from) = Unit {0}
-InRange (comes.Told request table) = Unit {0}
-InRange (comes.Restored state count) = count ≤ last_count
-InRange (comes.Declared node) = Unit {0}
-InRange comes.Joins = Unit {0}
+use Rattle.circus_member_theory.specs.Ranges.{InRange}
 
 -- ---- what stays in a step
 

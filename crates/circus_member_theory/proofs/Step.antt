@@ -35,7 +35,8 @@ use Rattle.circus_truth.specs.Truth.{IsLong, IsTrueAsking, IsCalled, IsTrueKept,
 use Rattle.circus_member_theory.proofs.Kept.{KeepsTrue}
 use Rattle.circus_member_theory.proofs.Handled.{true_handled}
 use Rattle.circus_member_theory.proofs.Going.{IsNext, GoesTrue, goes_entered, goes_executed}
-use Rattle.circus_member_theory.proofs.Resting.{InRange, same_handled, same_stepped, sound_once_handled, stays_entered, at_boot, sound_at_boot, may_begin}
+use Rattle.circus_member_theory.specs.Ranges.{InRange}
+use Rattle.circus_member_theory.proofs.Resting.{same_handled, same_stepped, sound_once_handled, stays_entered, at_boot, sound_at_boot, may_begin}
 
 -- ---- the end of a step
 

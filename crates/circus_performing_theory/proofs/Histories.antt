@@ -36,7 +36,7 @@ count_within clock k = elim (cases_lt k (length clock)) [
 ]
 
 -- each count of a thread that has calls left
-counts_are_few : (clock : List ℕ) → is_spent clock ≡ false → (k : ℕ) → slice_index clock k < most_calls
+pub counts_are_few : (clock : List ℕ) → is_spent clock ≡ false → (k : ℕ) → slice_index clock k < most_calls
 counts_are_few clock unspent k = omega (arith, leb-false most_calls (sum clock) unspent, count_within clock k)
 
 -- what stands in a front stands in the whole
@@ -57,14 +57,16 @@ all_zero (x ∷ xs) (n ∷ clock) same zeros =
     rw (first, ← rest) refl
 
 -- the length of a clock after asks
-clock_is_long : (n : ℕ) (entry : List ℕ) (made : List Ask) → length entry ≡ n → ((number : ℕ) (ask : Ask) → slice_get made number ≡ Some ask → length ask.after ≡ n) → length (current_clock entry made) ≡ n
+clock_is_long : (n : ℕ) (entry : List ℕ) (made : List Ask) → length entry ≡ n → ((number : ℕ) (ask : Ask) → slice_get made number ≡ Some ask → length ask.after ≡ n)
+    → length (current_clock entry made) ≡ n
 clock_is_long n entry [] is each = is
 clock_is_long n entry (ask ∷ made) is each = clock_is_long n ask.after made (each 0 ask refl) (λ number a at. each (suc number) a at)
 
 -- ---- replies
 
 -- a reply among those that fit, and the ones before it
-fits_to : (imports : List Import) (turn : List Outcome → NextTurn) (before replies : List Outcome) (number : ℕ) (reply : Outcome) → slice_get replies number ≡ Some reply → RepliesFit imports turn before replies → RepliesFit imports turn before (take number replies) × ReplyFits imports (turn (before ++ take number replies)) reply
+fits_to : (imports : List Import) (turn : List Outcome → NextTurn) (before replies : List Outcome) (number : ℕ) (reply : Outcome) → slice_get replies number ≡ Some reply
+    → RepliesFit imports turn before replies → RepliesFit imports turn before (take number replies) × ReplyFits imports (turn (before ++ take number replies)) reply
 fits_to imports turn before [] number reply is h = cc
 fits_to imports turn before (r ∷ replies) zero reply is h =
     (tt, rw (append-nil before) (subst (ReplyFits imports (turn before)) (same_Some r reply is) h.0))
@@ -134,11 +136,13 @@ module _ (program : List Behaviour) (agree : Agree program) (are : AreModules pr
       asking = (run_follows index run run_is).asks_so number ask ask_is
 
       -- the replies before it, and its own
-      fits : RepliesFit b.declared.imports (b.turn (state_after (history_of program) place b.first index) run.procedure run.arguments) [] (replies_of (take number run.asks)) × ReplyFits b.declared.imports (b.turn (state_after (history_of program) place b.first index) run.procedure run.arguments (replies_of (take number run.asks))) ask.reply
+      fits : RepliesFit b.declared.imports (b.turn (state_after (history_of program) place b.first index) run.procedure run.arguments) [] (replies_of (take number run.asks))
+          × ReplyFits b.declared.imports (b.turn (state_after (history_of program) place b.first index) run.procedure run.arguments (replies_of (take number run.asks))) ask.reply
       fits =
           let f = run_follows index run run_is in
           let reply : slice_get (replies_of run.asks) number ≡ Some ask.reply = slice_get-map (λ (a : Ask). a.reply) run.asks number ∙ ap (option_map (λ (a : Ask). a.reply)) ask_is in
-          let to = fits_to b.declared.imports (b.turn (state_after (history_of program) place b.first index) run.procedure run.arguments) [] (replies_of run.asks) number ask.reply reply f.replies_fit in
+          let to = fits_to b.declared.imports (b.turn (state_after (history_of program) place b.first index) run.procedure run.arguments) []
+          (replies_of run.asks) number ask.reply reply f.replies_fit in
           rw (← take-map (λ (a : Ask). a.reply) number run.asks) to
 
       reply_fits : import_answers b.declared.imports ask.callee ask.procedure ask.reply ≡ true
@@ -259,7 +263,8 @@ module _ (program : List Behaviour) (agree : Agree program) (are : AreModules pr
     pub outcome : run.outcome ≡ call.ask.reply
     pub end : run.end ≡ call.ask.after
 
-  pub asked_run : (header : CallHeader) (body : List ℕ) (call : IsTrueCall (history_of program) header body) (b : Behaviour) → IsAt program header.client b → (run : Run) × IsAskedRun header body call run
+  pub asked_run : (header : CallHeader) (body : List ℕ) (call : IsTrueCall (history_of program) header body) (b : Behaviour) → IsAt program header.client b
+      → (run : Run) × IsAskedRun header body call run
   asked_run header body call b at =
       let made = some_and (run_at (history_of program) call.ask.callee call.ask.index) _ (makes header.client b at header.client_index call.number call.run call.ask call.there) in
       let m = made.1.1 in
@@ -280,7 +285,8 @@ module _ (program : List Behaviour) (agree : Agree program) (are : AreModules pr
       )
 
   -- a reply that is true of a true call is the reply of that ask
-  pub true_reply_is : (header : CallHeader) (body : List ℕ) (call : IsTrueCall (history_of program) header body) (reply : Reply) (b : Behaviour) → IsAt program header.client b → IsTrueReply (history_of program) header reply → reply ≡ (let is : Reply = record { clock = call.ask.after; outcome = call.ask.reply } in is)
+  pub true_reply_is : (header : CallHeader) (body : List ℕ) (call : IsTrueCall (history_of program) header body) (reply : Reply) (b : Behaviour) → IsAt program header.client b
+      → IsTrueReply (history_of program) header reply → reply ≡ (let is : Reply = record { clock = call.ask.after; outcome = call.ask.reply } in is)
   true_reply_is header body call reply b at true_reply =
       let asked = asked_run header body call b at in
       let replied = some_and (run_at (history_of program) header.server (slice_index header.clock header.server)) (λ run. IsReplyOf run reply) true_reply in
@@ -292,7 +298,8 @@ module _ (program : List Behaviour) (agree : Agree program) (are : AreModules pr
   -- ---- roots
 
   -- the one run of a root is its MAIN
-  pub main_run : (root : ℕ) → IsRoot program root → (run : Run) × (runs_of (history_of program) root ≡ run ∷ []) × (run.root ≡ root) × (run.path ≡ []) × (run.procedure ≡ 0) × (run.arguments ≡ []) × (run.entry ≡ map (λ (_ : Behaviour). 0) program)
+  pub main_run : (root : ℕ) → IsRoot program root → (run : Run) × (runs_of (history_of program) root ≡ run ∷ []) × (run.root ≡ root) × (run.path ≡ []) × (run.procedure ≡ 0)
+      × (run.arguments ≡ []) × (run.entry ≡ map (λ (_ : Behaviour). 0) program)
   main_run root is =
       let once = root_runs_once program agree are root is.behaviour is.there is.root in
       let m = once.1.1 in

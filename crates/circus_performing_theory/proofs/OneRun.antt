@@ -88,7 +88,8 @@ entered_with run kept made h =
     record { root = h.root; path = h.path; procedure = h.procedure; arguments = h.arguments; entry = h.entry }
 
 -- with one ask more that was answered
-pub so_far_with : (run : Run) (kept : RunRecord) (made : List AskRecord) (ask : Ask) (a : AskRecord) → IsEnteredSo run kept → AreAnsweredSo (take (length made) run.asks) made → slice_get run.asks (length made) ≡ Some ask → IsAnsweredSo ask a → kept.outcome ≡ None → kept.state ≡ None → kept.end ≡ None → IsSoFar run (record kept { asks = made ++ a ∷ [] })
+pub so_far_with : (run : Run) (kept : RunRecord) (made : List AskRecord) (ask : Ask) (a : AskRecord) → IsEnteredSo run kept → AreAnsweredSo (take (length made) run.asks) made
+    → slice_get run.asks (length made) ≡ Some ask → IsAnsweredSo ask a → kept.outcome ≡ None → kept.state ≡ None → kept.end ≡ None → IsSoFar run (record kept { asks = made ++ a ∷ [] })
 so_far_with run kept made ask a entered answered ask_is is no_outcome no_state no_end =
     let longer : length (made ++ a ∷ []) ≡ suc (length made) = omega (arith, length-append made (a ∷ [])) in
     let front : take (length (made ++ a ∷ [])) run.asks ≡ take (length made) run.asks ++ ask ∷ [] = ap (λ n. take n run.asks) longer ∙ front_with run.asks (length made) ask ask_is in
@@ -102,17 +103,20 @@ so_far_with run kept made ask a entered answered ask_is is no_outcome no_state n
     }
 
 -- its clock is that of the run
-pub clock_is : (run : Run) (kept : RunRecord) (made : List AskRecord) → IsEnteredSo run kept → AreAnsweredSo (take (length made) run.asks) made → clock_after kept.entry made ≡ clock_before run (length made)
+pub clock_is : (run : Run) (kept : RunRecord) (made : List AskRecord) → IsEnteredSo run kept → AreAnsweredSo (take (length made) run.asks) made
+    → clock_after kept.entry made ≡ clock_before run (length made)
 clock_is run kept made entered answered =
     clock_same kept.entry (take (length made) run.asks) made answered ∙ ap (λ entry. current_clock entry (take (length made) run.asks)) entered.entry
 
-module _ (program : List Behaviour) (agree : Agree program) (are : AreModules program) (place : ℕ) (b : Behaviour) (at : IsAt program place b) (index : ℕ) (run : Run) (run_is : run_at (history_of program) place index ≡ Some run) (step : ℕ) where
+module _ (program : List Behaviour) (agree : Agree program) (are : AreModules program) (place : ℕ) (b : Behaviour) (at : IsAt program place b) (index : ℕ) (run : Run)
+    (run_is : run_at (history_of program) place index ≡ Some run) (step : ℕ) where
   -- the turns of the run
   abbrev turn : List Outcome → NextTurn
   turn = b.turn (state_after (history_of program) place b.first index) run.procedure run.arguments
 
   -- with all its asks it ends
-  ends_so : (kept : RunRecord) → IsSoFar run kept → length kept.asks ≡ length run.asks → turn (P.replies_of kept.asks) ≡ ends run.outcome run.state × IsPerformed run (ended_run step run.outcome run.state kept)
+  ends_so : (kept : RunRecord) → IsSoFar run kept → length kept.asks ≡ length run.asks
+      → turn (P.replies_of kept.asks) ≡ ends run.outcome run.state × IsPerformed run (ended_run step run.outcome run.state kept)
   ends_so kept so all =
       let front : take (length kept.asks) run.asks ≡ run.asks = ap (λ n. take n run.asks) all ∙ take-length run.asks in
       let answered : AreAnsweredSo run.asks kept.asks = subst (λ (xs : List Ask). AreAnsweredSo xs kept.asks) front so.answered in
@@ -189,7 +193,8 @@ module _ (program : List Behaviour) (agree : Agree program) (are : AreModules pr
       Rest : Type 0
       Rest = (later : RunRecord) → IsSoFar run later → length run.asks < length later.asks + left → IsGone run (gone_on step turn left later)
 
-      by_clock : Rest → (ask : Ask) → slice_get run.asks (length kept.asks) ≡ Some ask → (s : Bool) → is_spent (clock_after kept.entry kept.asks) ≡ s → IsGone run (cond s (gone_on step turn left (with_refusal step ask.callee ask.procedure ask.arguments ask.state kept)) (with_ask kept (made_ask step (clock_after kept.entry kept.asks) ask.callee ask.procedure ask.arguments ask.state)))
+      by_clock : Rest → (ask : Ask) → slice_get run.asks (length kept.asks) ≡ Some ask → (s : Bool) → is_spent (clock_after kept.entry kept.asks) ≡ s
+          → IsGone run (cond s (gone_on step turn left (with_refusal step ask.callee ask.procedure ask.arguments ask.state kept)) (with_ask kept (made_ask step (clock_after kept.entry kept.asks) ask.callee ask.procedure ask.arguments ask.state)))
       by_clock rest ask ask_is true spent =
           let more = answered_ask step refusal (clock_after kept.entry kept.asks) (made_ask step (clock_after kept.entry kept.asks) ask.callee ask.procedure ask.arguments ask.state) in
           rest (with_refusal step ask.callee ask.procedure ask.arguments ask.state kept) (refused_so kept so ask ask_is spent) (omega (arith, length-append kept.asks (more ∷ []), enough))
@@ -198,7 +203,8 @@ module _ (program : List Behaviour) (agree : Agree program) (are : AreModules pr
       by_place : Rest → (length kept.asks < length run.asks) ⊎ (length run.asks ≤ length kept.asks) → IsGone run (turned step (gone_on step turn left) kept (turn (P.replies_of kept.asks)))
       by_place rest (inl more) =
           let ask = within run.asks (length kept.asks) more in
-          subst (λ (next : NextTurn). IsGone run (turned step (gone_on step turn left) kept next)) (sym (asks_so kept so ask.0 ask.1)) (by_clock rest ask.0 ask.1 (is_spent (clock_after kept.entry kept.asks)) refl)
+          subst (λ (next : NextTurn). IsGone run (turned step (gone_on step turn left) kept next)) (sym (asks_so kept so ask.0 ask.1))
+          (by_clock rest ask.0 ask.1 (is_spent (clock_after kept.entry kept.asks)) refl)
       by_place rest (inr all) =
           let end = ends_so kept so (omega (arith, all, so.few)) in
           subst (λ (next : NextTurn). IsGone run (turned step (gone_on step turn left) kept next)) (sym end.0) (inl end.1)

@@ -39,7 +39,8 @@ use Rattle.circus_machine.proofs.Lawful.{Goes, does_all_safe}
 
 -- ---- an execution of a body
 
-module _ (signature : Signature) (procedure : ℕ) (p : ProcedureShape) (found : procedure_numbered procedure signature.procedures ≡ Some p) (more : List ShapeTree) (states : ℕ) (same : states ≡ length signature.variables) where
+module _ (signature : Signature) (procedure : ℕ) (p : ProcedureShape) (found : procedure_numbered procedure signature.procedures ≡ Some p) (more : List ShapeTree) (states : ℕ)
+    (same : states ≡ length signature.variables) where
   abbrev Kept : List ValueTree → Type 0
   Kept variables = Well signature p (trees signature.variables ++ more) states variables
 
@@ -53,18 +54,21 @@ module _ (signature : Signature) (procedure : ℕ) (p : ProcedureShape) (found :
     within = well.within;
   }
 
-  ends_lawfully : (replies : ℕ) (outcome : Outcome) (variables : List ValueTree) → Ending signature p (trees signature.variables ++ more) states outcome variables → IsLawful signature procedure replies (turn (ends outcome variables))
+  ends_lawfully : (replies : ℕ) (outcome : Outcome) (variables : List ValueTree) → Ending signature p (trees signature.variables ++ more) states outcome variables
+      → IsLawful signature procedure replies (turn (ends outcome variables))
   ends_lawfully replies outcome variables ending = (
     record { fits = ap (λ o. option_map_or (λ q. outcome_fits q outcome) o false) found ∙ ending.fits; within = ending.within },
     state_kept variables ending.well,
   )
 
   -- what a reply fits
-  asked_fits : (flow : Flow Going) (callee asked : ℕ) (arguments : List ValueTree) (c : Going) (reply : Outcome) → flow ≡ asks callee asked arguments c → ReplyFits signature.imports (turn flow) reply → ReplyFits signature.imports (next.asks callee asked arguments (take states c.variables)) reply
+  asked_fits : (flow : Flow Going) (callee asked : ℕ) (arguments : List ValueTree) (c : Going) (reply : Outcome) → flow ≡ asks callee asked arguments c
+      → ReplyFits signature.imports (turn flow) reply → ReplyFits signature.imports (next.asks callee asked arguments (take states c.variables)) reply
   asked_fits flow callee asked arguments c reply is fits = subst (λ f. ReplyFits signature.imports (turn f) reply) is fits
 
   module _ (whole : List Outcome → Flow Going) where
-    lawful_turns : (n : ℕ) (f : List Outcome → Flow Going) → Goes signature p (trees signature.variables ++ more) states n f → (before : List Outcome) → ((replies : List Outcome) → whole (before ++ replies) ≡ f replies) → (replies : List Outcome)
+    lawful_turns : (n : ℕ) (f : List Outcome → Flow Going) → Goes signature p (trees signature.variables ++ more) states n f → (before : List Outcome)
+        → ((replies : List Outcome) → whole (before ++ replies) ≡ f replies) → (replies : List Outcome)
         → RepliesFit signature.imports (λ rs. turn (whole rs)) before replies → IsLawful signature procedure (n + length replies) (turn (whole (before ++ replies)))
     lawful_turns _ _ (on n f a variables steps q well is) before same replies fit =
         subst (λ flow. IsLawful signature procedure (n + length replies) (turn flow)) (sym (same replies ∙ is replies))
@@ -94,7 +98,8 @@ module _ (signature : Signature) (number : ℕ) (p : ProcedureShape) where
     pub is : slice_get bodies (position_or_len (numbered number) procedures) ≡ Some body
     pub of : IsBodyOf signature p body
 
-  found_by : (here : Bool) (q : ProcedureShape) (procedures : List ProcedureShape) (body : BodyMeant) (bodies : List BodyMeant) → numbered number q ≡ here → IsBodyOf signature q body → cond here (Some q) (find (numbered number) procedures) ≡ Some p
+  found_by : (here : Bool) (q : ProcedureShape) (procedures : List ProcedureShape) (body : BodyMeant) (bodies : List BodyMeant) → numbered number q ≡ here
+      → IsBodyOf signature q body → cond here (Some q) (find (numbered number) procedures) ≡ Some p
       → (find (numbered number) procedures ≡ Some p → Found procedures bodies) → Found (q ∷ procedures) (body ∷ bodies)
   found_by true q procedures body bodies here of is rest =
       let place : position_or_len (numbered number) (q ∷ procedures) ≡ 0 = ap (λ b. cond (not b) (1 + position_or_len (numbered number) procedures) 0) here in
@@ -126,13 +131,15 @@ module _ (signature : Signature) (number : ℕ) (p : ProcedureShape) where
       ap (λ b. body_in bodies (cond b (Some place) None)) (lt-ltb place (length procedures) found.there) ∙ found.is
 
 -- the procedure that is started
-started : (o : Option ProcedureShape) (arguments : List ValueTree) → IsTrue (option_map_or (λ p. all_fit p.arguments arguments) o false) → (p : ProcedureShape) × (o ≡ Some p) × IsTrue (all_fit p.arguments arguments)
+started : (o : Option ProcedureShape) (arguments : List ValueTree) → IsTrue (option_map_or (λ p. all_fit p.arguments arguments) o false)
+    → (p : ProcedureShape) × (o ≡ Some p) × IsTrue (all_fit p.arguments arguments)
 started None arguments fit = cc
 started (Some p) arguments fit = (p, refl, fit)
 
 -- ---- the module
 
-body_abides : (signature : Signature) (procedure : ℕ) (p : ProcedureShape) (body : BodyMeant) (state arguments : List ValueTree) (replies : List Outcome) → procedure_numbered procedure signature.procedures ≡ Some p → IsTrue (all_fit p.arguments arguments) → IsBodyOf signature p body
+body_abides : (signature : Signature) (procedure : ℕ) (p : ProcedureShape) (body : BodyMeant) (state arguments : List ValueTree) (replies : List Outcome)
+    → procedure_numbered procedure signature.procedures ≡ Some p → IsTrue (all_fit p.arguments arguments) → IsBodyOf signature p body
     → CanStart signature state procedure arguments → RepliesFit signature.imports (next_turn signature.limit body.statements (zeros body.locals) state arguments) [] replies
     → IsLawful signature procedure (length replies) (next_turn signature.limit body.statements (zeros body.locals) state arguments replies)
 body_abides signature procedure p body state arguments replies found fit of start answered =
@@ -146,7 +153,8 @@ body_abides signature procedure p body state arguments replies found fit of star
     record { hold = hold; within = subst (λ ts. size_of_values ts ≤ signature.limit) (sym (take-append_seam state (arguments ++ locals))) start.from_state.within } in
     subst (λ n. IsLawful signature procedure n (next_turn signature.limit body.statements locals state arguments replies)) (omega arith)
     (lawful_turns signature procedure p found more (length state) (hold_length signature.variables state start.from_state.fits) whole 0 whole
-    (does_all_safe signature p (trees signature.variables ++ more) (length state) (statement_trees body.statements) of.typed 0 (state ++ (arguments ++ locals)) most_steps well) [] (λ rs. refl) replies answered)
+    (does_all_safe signature p (trees signature.variables ++ more) (length state) (statement_trees body.statements) of.typed 0
+    (state ++ (arguments ++ locals)) most_steps well) [] (λ rs. refl) replies answered)
 
 -- with a first state and bodies for its procedures
 pub abides : (limit : ℕ) (interfaces : List Interface) (numbers : List (Option ℕ)) (m : ModuleMeant) → IsState (signature_of limit interfaces numbers m) (zeros m.variables)
@@ -159,5 +167,6 @@ abides limit interfaces numbers m is are = record {
       let body = body_found signature procedure p signature.procedures m.bodies are found in
       let there = found_at signature procedure p signature.procedures m.bodies body in
       subst (λ o. IsLawful signature procedure (length replies) (turn_of limit o state arguments replies)) (sym there)
-      (body_abides signature procedure p body.body state arguments replies found fit body.of start (subst (λ o. RepliesFit signature.imports (turn_of limit o state arguments) [] replies) there answered));
+      (body_abides signature procedure p body.body state arguments replies found fit body.of start
+      (subst (λ o. RepliesFit signature.imports (turn_of limit o state arguments) [] replies) there answered));
 }

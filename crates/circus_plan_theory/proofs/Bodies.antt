@@ -59,10 +59,12 @@ module _ (limit : ℕ) (interfaces : List Interface) (modules : List ModuleMeant
     typed =
         let imports = map (import_of interfaces (implemented modules)) m.imports in
         let own : AreTyped (shapes_of (m.variables ++ arguments ++ b.locals)) (machine.Takes imports) (machine.Reports imports) results (machine.Raises p.errors) (statement_trees b.statements) =
-        all_typed_more (shapes_of (m.variables ++ arguments ++ b.locals)) (checked.Takes interfaces modules m.imports) (machine.Takes imports) (checked.Reports interfaces modules m.imports) (machine.Reports imports) results raises (machine.Raises p.errors)
+        all_typed_more (shapes_of (m.variables ++ arguments ++ b.locals)) (checked.Takes interfaces modules m.imports) (machine.Takes imports)
+        (checked.Reports interfaces modules m.imports) (machine.Reports imports) results raises (machine.Raises p.errors)
         (takes_here interfaces modules obey m.imports) (reports_here interfaces modules obey m.imports) raised (statement_trees b.statements) is.typed in
         let shaped = together m.variables arguments b.locals ∙ ap (λ xs. trees (shapes_in m.variables) ++ (trees xs ++ shapes_of b.locals)) (sym taken) in
-        subst (λ gs. AreTyped (trees (shapes_in m.variables) ++ (trees p.arguments ++ shapes_of b.locals)) (machine.Takes imports) (machine.Reports imports) gs (machine.Raises p.errors) (statement_trees b.statements)) (sym given)
+        subst (λ gs. AreTyped (trees (shapes_in m.variables) ++ (trees p.arguments ++ shapes_of b.locals)) (machine.Takes imports) (machine.Reports imports) gs
+        (machine.Raises p.errors) (statement_trees b.statements)) (sym given)
         (subst (λ vs. AreTyped vs (machine.Takes imports) (machine.Reports imports) results (machine.Raises p.errors) (statement_trees b.statements)) shaped own);
   }
 
@@ -73,7 +75,8 @@ module _ (limit : ℕ) (interfaces : List Interface) (modules : List ModuleMeant
   bodies_here i [] (_ ∷ _) obeys are = absurd are
   bodies_here i (_ ∷ _) [] obeys are = absurd are
   bodies_here i (p ∷ ps) (b ∷ bs) obeys are = (
-    body_here (procedure_of i.errors p) p.arguments (shapes_of p.results) (Raised interfaces modules i p) b refl (shapes_forth p.results) (λ number values. raised_here interfaces modules i p number values obeys) are.0,
+    body_here (procedure_of i.errors p) p.arguments (shapes_of p.results) (Raised interfaces modules i p) b refl (shapes_forth p.results)
+        (λ number values. raised_here interfaces modules i p number values obeys) are.0,
     bodies_here i ps bs obeys are.1,
   )
 

@@ -100,7 +100,8 @@ errors_proper declared (n ∷ numbers) obey = error_before declared n (errors_nu
 reported_proper : (declared : List DeclaredError) (numbers : List ℕ) (e : ErrorShape) → AllByRecursion ErrorObeys declared → Contains (errors_numbered declared numbers) e → IsProperError e
 reported_proper declared numbers e obey among = of_each IsProperError (errors_numbered declared numbers) e (errors_proper declared numbers obey) among
 
-procedures_proper : (declared : List DeclaredError) (ps : List Procedure) → AllByRecursion ErrorObeys declared → AllByRecursion (ProcedureObeys declared) ps → AllByRecursion IsProperProcedure (map (procedure_of declared) ps)
+procedures_proper : (declared : List DeclaredError) (ps : List Procedure) → AllByRecursion ErrorObeys declared → AllByRecursion (ProcedureObeys declared) ps
+    → AllByRecursion IsProperProcedure (map (procedure_of declared) ps)
 procedures_proper declared [] errors obey = tt
 procedures_proper declared (p ∷ ps) errors obey = (
   record {

@@ -6,8 +6,8 @@ use Rattle.circus_ending.specs.declared.one_file.OneFile.{OneFile}
 use Rattle.circus_ending.specs.declared.one_file.OneFile.TheVariants.{Stubs, Run, Place}
 use Rattle.circus_ending.specs.Ending.{Ending}
 use Rattle.circus_program.specs.Form.{CommandForm, stubs, run, replay, node, sample, settle, place, audit, IsOfForm}
-use Rattle.circus_program.specs.Answer.{Due, fetch, finish, serve, IsDueOfRefused, IsDueOfSchedule, IsDueOfReplay, IsDueOfFile, IsDueOfEnd, IsDueOfProgram, IsDueOfSample, IsDueOfNode, IsDueUnbuilt, IsDueOfForm, IsDue, AsksForNode}
-use Rattle.circus_program.proofs.Why.{never_ends, never_replays, never_drawn, ends_as}
+use Rattle.circus_program.specs.Answer.{Due, fetch, finish, serve, IsDueOfRefused, IsDueOfSchedule, IsDueOfReplay, IsDueOfFile, IsDueOfEnd, IsDueOfProgram, IsDueOfSample, IsDueOfSettle, IsDueOfNode, IsDueUnbuilt, IsDueOfForm, IsDue, AsksForNode}
+use Rattle.circus_program.proofs.Why.{never_ends, never_replays, never_drawn, never_settles, ends_as}
 
 abbrev IsNode : CommandForm → Type 0
 IsNode (node _ _ _) = Unit {0}
@@ -60,6 +60,9 @@ module _ (form : CommandForm) where
   of_sample : (seed steps : ℕ) (plan : Plan) (due : Due) → IsDueOfSample seed steps plan due → Kind form due
   of_sample seed steps plan due is = finishes _ is (never_drawn LinkFault plan seed steps (λ same. cc) (λ same. cc))
 
+  of_settle : (deliveries : ℕ) (plan : Plan) (due : Due) → IsDueOfSettle deliveries plan due → Kind form due
+  of_settle deliveries plan due is = finishes _ is (never_settles LinkFault plan deliveries (λ same. cc) (λ same. cc) (λ same. cc))
+
   of_node : (name : List ℕ) (turns : ℕ) (plan : Plan) (due : Due) → IsNode form → IsDueOfNode name turns plan due → Kind form due
   of_node name turns plan due own (inl (number, named, is)) = serves plan number turns is own
   of_node name turns plan due own (inr (none, is)) = finishes _ is (λ same. let clash : BadProgram ≡ LinkFault = same in cc)
@@ -77,7 +80,8 @@ kind_of (node program name turns) files due is =
     of_program (node program name turns) program (IsDueOfNode name turns) files due (λ plan next. of_node (node program name turns) name turns plan due tt next) is
 kind_of (sample program seed steps) files due is =
     of_program (sample program seed steps) program (IsDueOfSample seed steps) files due (λ plan next. of_sample (sample program seed steps) seed steps plan due next) is
-kind_of (settle program deliveries) files due is = of_unbuilt (settle program deliveries) files due is
+kind_of (settle program deliveries) files due is =
+    of_program (settle program deliveries) program (IsDueOfSettle deliveries) files due (λ plan next. of_settle (settle program deliveries) deliveries plan due next) is
 kind_of (audit program «record») files due is = of_unbuilt (audit program «record») files due is
 
 -- an end is none of a node that is served

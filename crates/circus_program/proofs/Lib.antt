@@ -8,10 +8,15 @@ pub mod AnswerLemmas
 pub mod Decided
 pub mod DecidedWords
 pub mod SampleEnds
+pub mod SettleEnds
 pub mod PlanOne
 pub mod NamedOnce
 pub mod OneDue
 pub mod SomeDue
 pub mod Why
 pub mod DueKinds
+pub mod Reports
+pub mod Simulated
+pub mod Agreed
+pub mod Planned
 pub mod PutLemmas

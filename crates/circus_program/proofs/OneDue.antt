@@ -17,7 +17,7 @@ use Rattle.circus_ending.proofs.OneProgram.{refused_one, good_or_refused}
 use Rattle.circus_ending.proofs.OneEnding.{end_one}
 use Rattle.circus_program.specs.Form.{CommandForm, stubs, run, replay, node, sample, settle, place, audit, words_of, files_of, IsInRange, IsOfForm}
 use Rattle.circus_program.specs.Replay.{IsReplayOf, IsEndOfReplay}
-use Rattle.circus_program.specs.Answer.{Due, fetch, finish, serve, not_built, IsDueOfSchedule, IsDueOfReplay, IsDueOfFile, IsDueOfEnd, IsDueOfProgram, IsDueOfSample, IsDueOfNode, IsDueUnbuilt, IsDueOfForm, AreContents, IsDue}
+use Rattle.circus_program.specs.Answer.{Due, fetch, finish, serve, not_built, IsDueOfSchedule, IsDueOfReplay, IsDueOfFile, IsDueOfEnd, IsDueOfProgram, IsDueOfSample, IsDueOfSettle, IsDueOfNode, IsDueUnbuilt, IsDueOfForm, AreContents, IsDue}
 use Rattle.circus_program.specs.Last.{IsLast, IsDueLast}
 use Rattle.circus_program.proofs.PlanOne.{plan_is_one}
 use Rattle.circus_program.proofs.NamedOnce.{named_once}
@@ -52,6 +52,8 @@ data Asked : Type 0 where
   serving : List ℕ → List ℕ → List ℕ → Asked
   -- program, seed and steps as they are written
   sampling : List ℕ → List ℕ → List ℕ → Asked
+  -- program, deliveries as they are written
+  settling : List ℕ → List ℕ → Asked
   unbuilt : Asked
 
 abbrev asked_by : CommandForm → Asked
@@ -61,14 +63,15 @@ asked_by (stubs program) = reading Stubs program
 asked_by (run program) = reading Run program
 asked_by (node program name turns) = serving program name (decimal turns)
 asked_by (sample program seed steps) = sampling program (decimal seed) (decimal steps)
-asked_by (settle _ _) = unbuilt
+asked_by (settle program deliveries) = settling program (decimal deliveries)
 asked_by (audit _ _) = unbuilt
 
 abbrev asked_of : List (List ℕ) → Asked
 asked_of (command ∷ file ∷ []) =
     cond (bytes_eq command (codes "place")) (reading Place file)
     (cond (bytes_eq command (codes "stubs")) (reading Stubs file) (cond (bytes_eq command (codes "run")) (reading Run file) unbuilt))
-asked_of (command ∷ program ∷ schedule ∷ []) = cond (bytes_eq command (codes "replay")) (replaying program schedule) unbuilt
+asked_of (command ∷ program ∷ second ∷ []) =
+    cond (bytes_eq command (codes "replay")) (replaying program second) (cond (bytes_eq command (codes "settle")) (settling program second) unbuilt)
 asked_of (command ∷ program ∷ first ∷ second ∷ []) =
     cond (bytes_eq command (codes "node")) (serving program first second) (cond (bytes_eq command (codes "sample")) (sampling program first second) unbuilt)
 asked_of _ = unbuilt
@@ -119,7 +122,7 @@ module _ (contents : List ℕ → Option (List ℕ)) where
   OfWords (run program) due = OfFile program (IsDueOfEnd Run) due
   OfWords (node program name turns) due = OfProgram program (IsDueOfNode name turns) due
   OfWords (sample program seed steps) due = OfProgram program (IsDueOfSample seed steps) due
-  OfWords (settle _ _) due = due ≡ not_built
+  OfWords (settle program deliveries) due = OfProgram program (IsDueOfSettle deliveries) due
   OfWords (audit _ _) due = due ≡ not_built
 
   abbrev OfAsked : Asked → Due → Type 0
@@ -127,6 +130,7 @@ module _ (contents : List ℕ → Option (List ℕ)) where
   OfAsked (reading command file) due = OfFile file (IsDueOfEnd command) due
   OfAsked (serving program name word) due = (turns : ℕ) × Spells word turns × OfProgram program (IsDueOfNode name turns) due
   OfAsked (sampling program first second) due = (seed : ℕ) × (steps : ℕ) × Spells first seed × Spells second steps × OfProgram program (IsDueOfSample seed steps) due
+  OfAsked (settling program word) due = (deliveries : ℕ) × Spells word deliveries × OfProgram program (IsDueOfSettle deliveries) due
   OfAsked unbuilt due = due ≡ not_built
 
   -- a file that is due at last is not there
@@ -158,7 +162,7 @@ module _ (contents : List ℕ → Option (List ℕ)) where
   of_form (run file) files due fetched is last = of_file file (IsDueOfEnd Run) files due fetched is last
   of_form (node program name turns) files due fetched is last = of_file program (IsDueOfProgram (IsDueOfNode name turns)) files due fetched is last
   of_form (sample program seed steps) files due fetched is last = of_file program (IsDueOfProgram (IsDueOfSample seed steps)) files due fetched is last
-  of_form (settle _ _) files due fetched is last = of_unbuilt files due is
+  of_form (settle program deliveries) files due fetched is last = of_file program (IsDueOfProgram (IsDueOfSettle deliveries)) files due fetched is last
   of_form (audit _ _) files due fetched is last = of_unbuilt files due is
 
   of_asked : (form : CommandForm) (due : Due) → IsInRange form → OfWords form due → OfAsked (asked_by form) due
@@ -168,7 +172,7 @@ module _ (contents : List ℕ → Option (List ℕ)) where
   of_asked (run file) due range of = of
   of_asked (node program name turns) due range of = (turns, (refl, omega (arith, range.1)), of)
   of_asked (sample program seed steps) due range of = (seed, steps, (refl, range.1), (refl, omega (arith, range.2)), of)
-  of_asked (settle _ _) due range of = of
+  of_asked (settle program deliveries) due range of = (deliveries, (refl, omega (arith, range.1)), of)
   of_asked (audit _ _) due range of = of
 
   -- It is one thing.
@@ -211,6 +215,9 @@ module _ (contents : List ℕ → Option (List ℕ)) where
   one_of_sample : (program : List ℕ) (seed steps : ℕ) (one other : Due) → OfProgram program (IsDueOfSample seed steps) one → OfProgram program (IsDueOfSample seed steps) other → one ≡ other
   one_of_sample program seed steps one other is also = one_of_program program (IsDueOfSample seed steps) (λ bytes plan first second means so too. so ∙ sym too) one other is also
 
+  one_of_settle : (program : List ℕ) (deliveries : ℕ) (one other : Due) → OfProgram program (IsDueOfSettle deliveries) one → OfProgram program (IsDueOfSettle deliveries) other → one ≡ other
+  one_of_settle program deliveries one other is also = one_of_program program (IsDueOfSettle deliveries) (λ bytes plan first second means so too. so ∙ sym too) one other is also
+
   one_of_asked : (asked : Asked) (one other : Due) → OfAsked asked one → OfAsked asked other → one ≡ other
   one_of_asked (replaying program schedule) one other is also =
       one_of_program program (OfSchedule schedule) (λ bytes plan first second means. one_of_file schedule (IsDueOfSchedule plan) (one_of_replay plan) first second) one other is also
@@ -220,6 +227,8 @@ module _ (contents : List ℕ → Option (List ℕ)) where
   one_of_asked (sampling program first second) one other (seed, steps, seeds, counts, is) (seed', steps', seeds', counts', also) =
       one_of_sample program seed' steps' one other
       (subst (λ n. OfProgram program (IsDueOfSample n steps') one) (spelled_once first seed seed' seeds seeds') (subst (λ n. OfProgram program (IsDueOfSample seed n) one) (spelled_once second steps steps' counts counts') is)) also
+  one_of_asked (settling program word) one other (deliveries, spelled, is) (others, again, also) =
+      one_of_settle program others one other (subst (λ n. OfProgram program (IsDueOfSettle n) one) (spelled_once word deliveries others spelled again) is) also
   one_of_asked unbuilt one other is also = is ∙ sym also
 
   one_of_words : (words : List (List ℕ)) (one other : Due) → IsDue (Some contents) words one → IsDue (Some contents) words other → IsLast contents one → IsLast contents other → one ≡ other
@@ -233,3 +242,13 @@ module _ (contents : List ℕ → Option (List ℕ)) where
 
   pub one_due : (words : List (List ℕ)) (one other : Due) → IsDueLast contents words one → IsDueLast contents words other → one ≡ other
   one_due words one other is also = one_of_words words one other is.is_due also.is_due is.last also.last
+
+  -- what comes at last of a replay
+  pub of_replaying : (words : List (List ℕ)) (program name : List ℕ) (due : Due) → IsOfForm words (replay program name) → IsDueLast contents words due → OfProgram program (OfSchedule name) due
+  of_replaying words program name due of is = by_due is.is_due
+    where
+      by_due : IsDue (Some contents) words due → OfProgram program (OfSchedule name) due
+      by_due (inl some) =
+          subst (λ a. OfAsked a due) (asked_one words some.form (replay program name) some.of_form of)
+          (of_asked some.form due some.of_form.in_range (of_form some.form some.files due some.fetched some.is_due is.last))
+      by_due (inr (none, so)) = absurd (none (replay program name) of)

@@ -2,7 +2,7 @@
 use Rattle.std.proofs.Common.{◌≡◌, ℕ, ◌⊎◌, ◌==◌, false, if◌then◌else◌, Option, List, sym, subst, ap, ◌∙◌, inl, inr, refl}
 use Rattle.std.specs.Prelude.{IsTrue}
 use Rattle.circus_ending.specs.declared.status.Status.{Status}
-use Rattle.circus_ending.specs.declared.status.Status.TheVariants.{Done, BadCommandLine, BadProgram, BadSchedule, ShelfFault, SinkFault, LinkFault, NoMemory, Spent, NotBuilt, BadPlacing, NoPlacement}
+use Rattle.circus_ending.specs.declared.status.Status.TheVariants.{Done, BadCommandLine, BadProgram, BadSchedule, ShelfFault, SinkFault, LinkFault, NoMemory, Spent, NotBuilt, Unsettled, BadPlacing, NoPlacement}
 use Rattle.circus_ending.specs.Status.{code_of, is_end}
 use Rattle.circus_outside.specs.Faults.{Rose}
 use Rattle.circus_running.specs.Writing.{Writes, WritesPart}
@@ -36,8 +36,9 @@ status_of n =
     else (if n == 7 then NoMemory
     else (if n == 8 then Spent
     else (if n == 9 then NotBuilt
+    else (if n == 10 then Unsettled
     else (if n == 11 then BadPlacing
-    else NoPlacement))))))))))
+    else NoPlacement)))))))))))
 
 status_of-code_of : (s : Status) → status_of (code_of s) ≡ s
 unfolding status_of
@@ -51,6 +52,7 @@ status_of-code_of LinkFault = refl
 status_of-code_of NoMemory = refl
 status_of-code_of Spent = refl
 status_of-code_of NotBuilt = refl
+status_of-code_of Unsettled = refl
 status_of-code_of BadPlacing = refl
 status_of-code_of NoPlacement = refl
 

@@ -4,7 +4,7 @@ use Rattle.circus_schedule.specs.declared.line.Line.{Line}
 use Rattle.circus_schedule.specs.Meaning.{numbers_of}
 use Rattle.circus_schedule.specs.Answer.{IsAnswer}
 use Rattle.circus_ending.specs.declared.status.Status.{Status}
-use Rattle.circus_ending.specs.declared.status.Status.TheVariants.{Done, BadCommandLine, BadProgram, BadSchedule, Spent, NotBuilt, BadPlacing, NoPlacement}
+use Rattle.circus_ending.specs.declared.status.Status.TheVariants.{Done, BadCommandLine, BadProgram, BadSchedule, Spent, NotBuilt, Unsettled, BadPlacing, NoPlacement}
 use Rattle.circus_program.specs.Form.{CommandForm, stubs, run, replay, node, sample, settle, place, audit, files_of, IsOfForm, IsOfNoForm}
 use Rattle.circus_ending.specs.Ending.{Ending}
 use Rattle.circus_config.specs.declared.plan.Plan.{Plan}
@@ -18,12 +18,14 @@ use Rattle.circus_ending.specs.Placed.{IsEndOfPlacing}
 use Rattle.circus_ending.specs.OneFile.{IsEndOf}
 use Rattle.circus_program.specs.Replay.{IsEndOfReplay}
 use Rattle.circus_simulated.specs.Sample.{sample_of}
+use Rattle.circus_simulated.specs.Settle.{settle_of}
 use Rattle.circus_served.specs.Named.{no_node}
-use Rattle.circus_program.specs.Answer.{Due, fetch, finish, serve, not_built, bad_command_line, IsDueOfEnd, IsDueOfSample, IsDueOfNode, IsDueOfForm, AreContents, IsDue}
+use Rattle.circus_program.specs.Answer.{Due, fetch, finish, serve, not_built, bad_command_line, IsDueOfEnd, IsDueOfSample, IsDueOfSettle, IsDueOfNode, IsDueOfForm, AreContents, IsDue}
 use Rattle.circus_program.specs.Seen.Built.{end_form}
-use Rattle.circus_program.specs.Last.{IsLast, IsDueLast, EndsWith, program_read, IsRefusedProgram, IsNameless, IsReplay, IsRefusedReplay, IsSpentReplay, IsSample, IsSpentSample, IsUnbuilt, IsNotBuilt}
+use Rattle.circus_program.specs.Last.{IsLast, IsDueLast, EndsWith, program_read, IsRefusedProgram, IsNameless, IsReplay, IsRefusedReplay, IsSpentReplay, IsSample, IsSpentSample, IsSettle, IsSpentSettle, IsUnsettled, IsUnbuilt, IsNotBuilt}
 use Rattle.circus_program.proofs.ReplayEnds.{Refuses, Spends, IsStatusOfReplay, replay_status, Ends, ends_refused, ends_spent}
 use Rattle.circus_program.proofs.SampleEnds.{sample_status, sample_spent}
+use Rattle.circus_program.proofs.SettleEnds.{settle_status, settle_spent, settle_left}
 use Rattle.circus_program.proofs.OneDue.{of_form, OfProgram, OfFile, OfSchedule, OfWords, one_due}
 
 -- ---- the ends that there are
@@ -83,6 +85,14 @@ never_drawn status plan seed steps no_done no_spent same = elim (sample_status p
   | inr (spent, why) ↦ no_spent (sym spent ∙ same)
 ]
 
+-- a status that no program ends with whose datagrams are delivered
+pub never_settles : (status : Status) (plan : Plan) (deliveries : ℕ) → (Done ≡ status → ⊥) → (Unsettled ≡ status → ⊥) → (Spent ≡ status → ⊥) → (settle_of plan deliveries).status ≡ status → ⊥
+never_settles status plan deliveries no_done no_left no_spent same = elim (settle_status plan deliveries) [
+  | inl done ↦ no_done (sym done ∙ same)
+  | inr (inl (left, why)) ↦ no_left (sym left ∙ same)
+  | inr (inr (spent, why)) ↦ no_spent (sym spent ∙ same)
+]
+
 -- a program is refused where the end says so
 refused_end : (command : OneFile) (bytes : List ℕ) (ending : Ending) → IsEndOf command bytes ending → ending.status ≡ BadProgram → IsEndOfRefused bytes ending
 refused_end Place bytes ending end same = elim (placing_status bytes ending end) [
@@ -137,6 +147,7 @@ data Comes (contents : List ℕ → Option (List ℕ)) (words : List (List ℕ))
   unbuilt : IsNotBuilt words → due ≡ not_built → Comes contents words due
   replayed : (plan : Plan) (schedule : List ℕ) (ending : Ending) → IsReplay contents words plan schedule → IsEndOfReplay plan schedule ending → due ≡ finish ending → Comes contents words due
   drawn : (plan : Plan) (seed steps : ℕ) → IsSample contents words plan seed steps → due ≡ finish (sample_of plan seed steps) → Comes contents words due
+  settles : (plan : Plan) (deliveries : ℕ) → IsSettle contents words plan deliveries → due ≡ finish (settle_of plan deliveries) → Comes contents words due
   served : (plan : Plan) (number turns : ℕ) → due ≡ serve plan number turns → Comes contents words due
   nameless : (name : List ℕ) → IsNameless contents words → due ≡ finish (no_node name) → Comes contents words due
   refused : (form : CommandForm) (program bytes : List ℕ) (ending : Ending) → IsOfForm words form → program_read form ≡ Some program → contents program ≡ Some bytes → IsEndOfRefused bytes ending → due ≡ finish ending → Comes contents words due
@@ -175,7 +186,9 @@ module _ (contents : List ℕ → Option (List ℕ)) (words : List (List ℕ)) w
   comes_form (sample program seed steps) due form of =
       comes_program (sample program seed steps) program (IsDueOfSample seed steps) due form refl
       (λ bytes plan there good next. drawn plan seed steps (record { program = program; of_form = form; bytes = bytes; program_is = there; good = good }) next) of
-  comes_form (settle program deliveries) due form of = unbuilt (settle program deliveries, form, tt) of
+  comes_form (settle program deliveries) due form of =
+      comes_program (settle program deliveries) program (IsDueOfSettle deliveries) due form refl
+      (λ bytes plan there good next. settles plan deliveries (record { program = program; of_form = form; bytes = bytes; program_is = there; good = good }) next) of
   comes_form (audit program «record») due form of = unbuilt (audit program «record», form, tt) of
 
   comes_to : (due : Due) → IsDueLast contents words due → Comes contents words due
@@ -194,6 +207,7 @@ module _ (contents : List ℕ → Option (List ℕ)) (words : List (List ℕ)) w
   why_words due (replayed plan schedule ending of end is) ends =
       absurd (never_replays BadCommandLine plan schedule ending end (λ same. cc) (λ same. cc) (λ same. cc) (ends_as BadCommandLine due ending is ends))
   why_words due (drawn plan seed steps of is) ends = absurd (never_drawn BadCommandLine plan seed steps (λ same. cc) (λ same. cc) (ends_as BadCommandLine due _ is ends))
+  why_words due (settles plan deliveries of is) ends = absurd (never_settles BadCommandLine plan deliveries (λ same. cc) (λ same. cc) (λ same. cc) (ends_as BadCommandLine due _ is ends))
   why_words due (served plan number turns is) ends = never_serves BadCommandLine due plan number turns is ends
   why_words due (nameless name of is) ends = absurd (let clash : BadProgram ≡ BadCommandLine = ends_as BadCommandLine due _ is ends in cc)
   why_words due (refused form program bytes ending of first there (number, cause, refusal, means) is) ends =
@@ -221,6 +235,7 @@ module _ (contents : List ℕ → Option (List ℕ)) (words : List (List ℕ)) w
   why_program due (replayed plan schedule ending of end is) ends =
       absurd (never_replays BadProgram plan schedule ending end (λ same. cc) (λ same. cc) (λ same. cc) (ends_as BadProgram due ending is ends))
   why_program due (drawn plan seed steps of is) ends = absurd (never_drawn BadProgram plan seed steps (λ same. cc) (λ same. cc) (ends_as BadProgram due _ is ends))
+  why_program due (settles plan deliveries of is) ends = absurd (never_settles BadProgram plan deliveries (λ same. cc) (λ same. cc) (λ same. cc) (ends_as BadProgram due _ is ends))
   why_program due (served plan number turns is) ends = never_serves BadProgram due plan number turns is ends
   why_program due (nameless name of is) ends = inr of
   why_program due (refused form program bytes ending of first there refusal is) ends = inl (refused_program form program bytes ending of first there refusal)
@@ -233,6 +248,7 @@ module _ (contents : List ℕ → Option (List ℕ)) (words : List (List ℕ)) w
   why_schedule due (replayed plan schedule ending of end is) ends =
       record { plan = plan; schedule = schedule; replayed = of; refused = replay_refused plan schedule ending end (ends_as BadSchedule due ending is ends) }
   why_schedule due (drawn plan seed steps of is) ends = absurd (never_drawn BadSchedule plan seed steps (λ same. cc) (λ same. cc) (ends_as BadSchedule due _ is ends))
+  why_schedule due (settles plan deliveries of is) ends = absurd (never_settles BadSchedule plan deliveries (λ same. cc) (λ same. cc) (λ same. cc) (ends_as BadSchedule due _ is ends))
   why_schedule due (served plan number turns is) ends = never_serves BadSchedule due plan number turns is ends
   why_schedule due (nameless name of is) ends = absurd (let clash : BadProgram ≡ BadSchedule = ends_as BadSchedule due _ is ends in cc)
   why_schedule due (refused form program bytes ending of first there (number, cause, refusal, means) is) ends =
@@ -240,7 +256,7 @@ module _ (contents : List ℕ → Option (List ℕ)) (words : List (List ℕ)) w
   why_schedule due (ended command file bytes ending form there end is) ends =
       absurd (never_ends BadSchedule command bytes ending end (λ same. cc) (λ same. cc) (λ same. cc) (λ same. cc) (ends_as BadSchedule due ending is ends))
 
-  why_spent : (due : Due) → Comes contents words due → EndsWith Spent due → IsSpentReplay contents words ⊎ IsSpentSample contents words
+  why_spent : (due : Due) → Comes contents words due → EndsWith Spent due → IsSpentReplay contents words ⊎ (IsSpentSample contents words ⊎ IsSpentSettle contents words)
   why_spent due (nothing none is) ends = absurd (let clash : BadCommandLine ≡ Spent = ends_as Spent due _ is ends in cc)
   why_spent due (lacking name is) ends = never_fetch Spent due name is ends
   why_spent due (unbuilt why is) ends = absurd (let clash : NotBuilt ≡ Spent = ends_as Spent due _ is ends in cc)
@@ -249,7 +265,12 @@ module _ (contents : List ℕ → Option (List ℕ)) (words : List (List ℕ)) w
       inl (record { plan = plan; schedule = schedule; replayed = of; lines = spent.0; read = spent.1; spent = spent.2 })
   why_spent due (drawn plan seed steps of is) ends = elim (sample_status plan seed steps) [
     | inl done ↦ absurd (let clash : Done ≡ Spent = sym done ∙ ends_as Spent due _ is ends in cc)
-    | inr (spent, why) ↦ inr (record { plan = plan; seed = seed; steps = steps; drawn = of; spent = why })
+    | inr (spent, why) ↦ inr (inl (record { plan = plan; seed = seed; steps = steps; drawn = of; spent = why }))
+  ]
+  why_spent due (settles plan deliveries of is) ends = elim (settle_status plan deliveries) [
+    | inl done ↦ absurd (let clash : Done ≡ Spent = sym done ∙ ends_as Spent due _ is ends in cc)
+    | inr (inl (left, why)) ↦ absurd (let clash : Unsettled ≡ Spent = sym left ∙ ends_as Spent due _ is ends in cc)
+    | inr (inr (spent, why)) ↦ inr (inr (record { plan = plan; deliveries = deliveries; settles = of; spent = why }))
   ]
   why_spent due (served plan number turns is) ends = never_serves Spent due plan number turns is ends
   why_spent due (nameless name of is) ends = absurd (let clash : BadProgram ≡ Spent = ends_as Spent due _ is ends in cc)
@@ -265,12 +286,32 @@ module _ (contents : List ℕ → Option (List ℕ)) (words : List (List ℕ)) w
   why_unbuilt due (replayed plan schedule ending of end is) ends =
       absurd (never_replays NotBuilt plan schedule ending end (λ same. cc) (λ same. cc) (λ same. cc) (ends_as NotBuilt due ending is ends))
   why_unbuilt due (drawn plan seed steps of is) ends = absurd (never_drawn NotBuilt plan seed steps (λ same. cc) (λ same. cc) (ends_as NotBuilt due _ is ends))
+  why_unbuilt due (settles plan deliveries of is) ends = absurd (never_settles NotBuilt plan deliveries (λ same. cc) (λ same. cc) (λ same. cc) (ends_as NotBuilt due _ is ends))
   why_unbuilt due (served plan number turns is) ends = never_serves NotBuilt due plan number turns is ends
   why_unbuilt due (nameless name of is) ends = absurd (let clash : BadProgram ≡ NotBuilt = ends_as NotBuilt due _ is ends in cc)
   why_unbuilt due (refused form program bytes ending of first there (number, cause, refusal, means) is) ends =
       absurd (let clash : BadProgram ≡ NotBuilt = sym (ap (λ (e : Ending). e.status) means) ∙ ends_as NotBuilt due ending is ends in cc)
   why_unbuilt due (ended command file bytes ending form there end is) ends =
       absurd (never_ends NotBuilt command bytes ending end (λ same. cc) (λ same. cc) (λ same. cc) (λ same. cc) (ends_as NotBuilt due ending is ends))
+
+  why_unsettled : (due : Due) → Comes contents words due → EndsWith Unsettled due → IsUnsettled contents words
+  why_unsettled due (nothing none is) ends = absurd (let clash : BadCommandLine ≡ Unsettled = ends_as Unsettled due _ is ends in cc)
+  why_unsettled due (lacking name is) ends = never_fetch Unsettled due name is ends
+  why_unsettled due (unbuilt why is) ends = absurd (let clash : NotBuilt ≡ Unsettled = ends_as Unsettled due _ is ends in cc)
+  why_unsettled due (replayed plan schedule ending of end is) ends =
+      absurd (never_replays Unsettled plan schedule ending end (λ same. cc) (λ same. cc) (λ same. cc) (ends_as Unsettled due ending is ends))
+  why_unsettled due (drawn plan seed steps of is) ends = absurd (never_drawn Unsettled plan seed steps (λ same. cc) (λ same. cc) (ends_as Unsettled due _ is ends))
+  why_unsettled due (settles plan deliveries of is) ends = elim (settle_status plan deliveries) [
+    | inl done ↦ absurd (let clash : Done ≡ Unsettled = sym done ∙ ends_as Unsettled due _ is ends in cc)
+    | inr (inl (left, why)) ↦ record { plan = plan; deliveries = deliveries; settles = of; left = why }
+    | inr (inr (spent, why)) ↦ absurd (let clash : Spent ≡ Unsettled = sym spent ∙ ends_as Unsettled due _ is ends in cc)
+  ]
+  why_unsettled due (served plan number turns is) ends = never_serves Unsettled due plan number turns is ends
+  why_unsettled due (nameless name of is) ends = absurd (let clash : BadProgram ≡ Unsettled = ends_as Unsettled due _ is ends in cc)
+  why_unsettled due (refused form program bytes ending of first there (number, cause, refusal, means) is) ends =
+      absurd (let clash : BadProgram ≡ Unsettled = sym (ap (λ (e : Ending). e.status) means) ∙ ends_as Unsettled due ending is ends in cc)
+  why_unsettled due (ended command file bytes ending form there end is) ends =
+      absurd (never_ends Unsettled command bytes ending end (λ same. cc) (λ same. cc) (λ same. cc) (λ same. cc) (ends_as Unsettled due ending is ends))
 
   -- ---- and where the reason holds the end is that one
 
@@ -302,7 +343,7 @@ module _ (contents : List ℕ → Option (List ℕ)) (words : List (List ℕ)) w
       by_form (place _) of is = absurd cc
       by_form (node program name turns) of is = due_of_form (node program name turns) (has.bytes ∷ []) (finish (refused_with has.number has.cause)) of (found program is, tt) (inr (refused_with has.number has.cause, refusal, refl)) tt
       by_form (sample program seed steps) of is = due_of_form (sample program seed steps) (has.bytes ∷ []) (finish (refused_with has.number has.cause)) of (found program is, tt) (inr (refused_with has.number has.cause, refusal, refl)) tt
-      by_form (settle _ _) of is = absurd cc
+      by_form (settle program deliveries) of is = due_of_form (settle program deliveries) (has.bytes ∷ []) (finish (refused_with has.number has.cause)) of (found program is, tt) (inr (refused_with has.number has.cause, refusal, refl)) tt
       by_form (audit _ _) of is = absurd cc
 
   bad_program : (due : Due) → IsDueLast contents words due → IsRefusedProgram contents words ⊎ IsNameless contents words → EndsWith BadProgram due
@@ -320,8 +361,19 @@ module _ (contents : List ℕ → Option (List ℕ)) (words : List (List ℕ)) w
   bad_schedule : (due : Due) → IsDueLast contents words due → IsRefusedReplay contents words → EndsWith BadSchedule due
   bad_schedule due is has = replay_due BadSchedule has.plan has.schedule due is has.replayed (ends_refused has.plan has.schedule has.refused)
 
-  spent : (due : Due) → IsDueLast contents words due → IsSpentReplay contents words ⊎ IsSpentSample contents words → EndsWith Spent due
-  spent due is (inr has) =
+  -- deliveries that end so
+  settle_due : (status : Status) (plan : Plan) (deliveries : ℕ) (due : Due) → IsDueLast contents words due → IsSettle contents words plan deliveries → (settle_of plan deliveries).status ≡ status → EndsWith status due
+  settle_due status plan deliveries due is s ends =
+      let end = settle_of plan deliveries in
+      let other = due_of_form (settle s.program deliveries) (s.bytes ∷ []) (finish end) s.of_form (s.program_is, tt) (inl (plan, s.good, refl)) tt in
+      same_status status due (finish end) is other ends
+
+  unsettled : (due : Due) → IsDueLast contents words due → IsUnsettled contents words → EndsWith Unsettled due
+  unsettled due is has = settle_due Unsettled has.plan has.deliveries due is has.settles (settle_left has.plan has.deliveries has.left)
+
+  spent : (due : Due) → IsDueLast contents words due → IsSpentReplay contents words ⊎ (IsSpentSample contents words ⊎ IsSpentSettle contents words) → EndsWith Spent due
+  spent due is (inr (inr has)) = settle_due Spent has.plan has.deliveries due is has.settles (settle_spent has.plan has.deliveries has.spent)
+  spent due is (inr (inl has)) =
       let d = has.drawn in
       let end = sample_of has.plan has.seed has.steps in
       let other = due_of_form (sample d.program has.seed has.steps) (d.bytes ∷ []) (finish end) d.of_form (d.program_is, tt) (inl (has.plan, d.good, refl)) tt in
@@ -335,7 +387,7 @@ module _ (contents : List ℕ → Option (List ℕ)) (words : List (List ℕ)) w
   unbuilt_form (run _) un = absurd un
   unbuilt_form (node _ _ _) un = absurd un
   unbuilt_form (sample _ _ _) un = absurd un
-  unbuilt_form (settle _ _) un = refl
+  unbuilt_form (settle _ _) un = absurd un
   unbuilt_form (audit _ _) un = refl
 
   unbuilt_due : IsNotBuilt words → IsDueLast contents words not_built
@@ -353,8 +405,11 @@ module _ (contents : List ℕ → Option (List ℕ)) (words : List (List ℕ)) w
   pub schedule_why : (due : Due) → IsDueLast contents words due → (EndsWith BadSchedule due ↔ IsRefusedReplay contents words)
   schedule_why due is = (why_schedule due (comes_to due is), bad_schedule due is)
 
-  pub spent_why : (due : Due) → IsDueLast contents words due → (EndsWith Spent due ↔ (IsSpentReplay contents words ⊎ IsSpentSample contents words))
+  pub spent_why : (due : Due) → IsDueLast contents words due → (EndsWith Spent due ↔ (IsSpentReplay contents words ⊎ (IsSpentSample contents words ⊎ IsSpentSettle contents words)))
   spent_why due is = (why_spent due (comes_to due is), spent due is)
 
   pub unbuilt_why : (due : Due) → IsDueLast contents words due → (EndsWith NotBuilt due ↔ IsNotBuilt words)
   unbuilt_why due is = (why_unbuilt due (comes_to due is), not_built_why due is)
+
+  pub unsettled_why : (due : Due) → IsDueLast contents words due → (EndsWith Unsettled due ↔ IsUnsettled contents words)
+  unsettled_why due is = (why_unsettled due (comes_to due is), unsettled due is)

@@ -1,5 +1,5 @@
 -- What words come to over a shelf that tells its contents, and why.
-use Rattle.std.specs.Prelude.{ℕ, ◌≡◌, ◌⊎◌, Option, Some, None, List, [], ◌∷◌, Ok, Err}
+use Rattle.std.specs.Prelude.{ℕ, ◌≡◌, ◌<◌, ◌⊎◌, Option, Some, None, List, [], ◌∷◌, length, Ok, Err}
 use Rattle.circus_model.specs.Behaviour.{Behaviour}
 use Rattle.circus_schedule.specs.declared.line.Line.{Line}
 use Rattle.circus_schedule.specs.declared.schedule_fault.ScheduleFault.{ScheduleFault}
@@ -12,7 +12,9 @@ use Rattle.circus_world.specs.Course.{stepped}
 use Rattle.circus_ending.specs.declared.status.Status.{Status}
 use Rattle.circus_program.specs.Form.{CommandForm, stubs, run, replay, node, sample, settle, place, audit, IsOfForm}
 use Rattle.circus_program.specs.Replay.{IsEndOfReplay}
+use Rattle.circus_world.specs.Lines.{Lead}
 use Rattle.circus_sample.specs.Sampled.{sampled}
+use Rattle.circus_settle.specs.Settled.{first_deliveries, settled}
 use Rattle.circus_simulated.specs.Booted.{booted}
 use Rattle.circus_served.specs.Named.{IsNamed}
 use Rattle.circus_ending.specs.declared.one_file.OneFile.TheVariants.{Stubs, Run, Place}
@@ -67,7 +69,7 @@ file_read (replay program _) = Some program
 file_read (place placing) = Some placing
 file_read (node program _ _) = Some program
 file_read (sample program _ _) = Some program
-file_read (settle _ _) = None
+file_read (settle program _) = Some program
 file_read (audit _ _) = None
 
 -- it is there, and reading it is to answer
@@ -94,7 +96,7 @@ IsAnswered contents (run _) bytes = (ending : Ending) × IsEndOf Run bytes endin
 IsAnswered contents (place _) bytes = (ending : Ending) × IsEndOf Place bytes ending
 IsAnswered contents (node _ _ _) bytes = IsGood bytes ⊎ ((ending : Ending) × IsEndOfRefused bytes ending)
 IsAnswered contents (sample _ _ _) bytes = IsGood bytes ⊎ ((ending : Ending) × IsEndOfRefused bytes ending)
-IsAnswered contents (settle _ _) bytes = ⊥
+IsAnswered contents (settle _ _) bytes = IsGood bytes ⊎ ((ending : Ending) × IsEndOfRefused bytes ending)
 IsAnswered contents (audit _ _) bytes = ⊥
 
 -- that file where it is a program
@@ -105,7 +107,7 @@ program_read (replay program _) = Some program
 program_read (place _) = None
 program_read (node program _ _) = Some program
 program_read (sample program _ _) = Some program
-program_read (settle _ _) = None
+program_read (settle program _) = Some program
 program_read (audit _ _) = None
 
 -- a program that is refused
@@ -181,6 +183,40 @@ pub record IsSpentSample (contents : List ℕ → Option (List ℕ)) (words : Li
   pub drawn : IsSample contents words plan seed steps
   pub spent : HasSpentSample plan seed steps
 
+-- the words are to settle a program that means this plan, with so many deliveries at most
+pub record IsSettle (contents : List ℕ → Option (List ℕ)) (words : List (List ℕ)) (plan : Plan) (deliveries : ℕ) : Type 0 where
+  pub program : List ℕ
+  pub of_form : IsOfForm words (settle program deliveries)
+  pub bytes : List ℕ
+  pub program_is : contents program ≡ Some bytes
+  pub good : IsProgramOf bytes plan
+
+-- a node has no number left for another one, at boot or in one of so many deliveries
+abbrev pub HasSpentSettle : Plan → ℕ → Type 0
+HasSpentSettle plan deliveries =
+    ((nodes : ℕ × ℕ) × (booted plan ≡ Err nodes))
+    ⊎ ((w : WorldState Behaviour) × (booted plan ≡ Ok w) × ((nodes : ℕ × ℕ) × (settled (λ b. b.declared) (λ b. b.turn) deliveries 0 w ≡ Err nodes)))
+
+-- the deliveries in which a node has no number left for another one
+pub record IsSpentSettle (contents : List ℕ → Option (List ℕ)) (words : List (List ℕ)) : Type 0 where
+  pub plan : Plan
+  pub deliveries : ℕ
+  pub settles : IsSettle contents words plan deliveries
+  pub spent : HasSpentSettle plan deliveries
+
+-- so many deliveries lead from boot to a world in which datagrams are left
+abbrev pub HasLeft : Plan → ℕ → Type 0
+HasLeft plan deliveries =
+    (w last : WorldState Behaviour) × (booted plan ≡ Ok w) × Lead (λ b. b.declared) (λ b. b.turn) (first_deliveries deliveries) w last
+    × (deliveries < length last.sent)
+
+-- all deliveries are made, and datagrams are left
+pub record IsUnsettled (contents : List ℕ → Option (List ℕ)) (words : List (List ℕ)) : Type 0 where
+  pub plan : Plan
+  pub deliveries : ℕ
+  pub settles : IsSettle contents words plan deliveries
+  pub left : HasLeft plan deliveries
+
 -- another form than those that are built
 abbrev pub IsUnbuilt : CommandForm → Type 0
 IsUnbuilt (replay _ _) = ⊥
@@ -189,7 +225,7 @@ IsUnbuilt (stubs _) = ⊥
 IsUnbuilt (run _) = ⊥
 IsUnbuilt (node _ _ _) = ⊥
 IsUnbuilt (sample _ _ _) = ⊥
-IsUnbuilt (settle _ _) = Unit {0}
+IsUnbuilt (settle _ _) = ⊥
 IsUnbuilt (audit _ _) = Unit {0}
 
 -- the words are of a form that is not built

@@ -3,5 +3,6 @@ pub mod Words
 pub mod Step
 pub mod Put
 pub mod Built
+pub mod Planned
 pub mod Ready
 pub mod Ended

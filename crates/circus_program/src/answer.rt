@@ -10,7 +10,7 @@ use circus_config::Plan;
 use circus_ending::{Ending, OneFile, Status, end_of, plan_of};
 use circus_outside::{Shelf, ShelfFault};
 use circus_served::{no_node, node_named};
-use circus_simulated::sample_plan;
+use circus_simulated::{sample_plan, settle_plan};
 use circus_value::NoMemory;
 use std::alloc::{AllocError, Global};
 
@@ -24,10 +24,12 @@ pub enum Step<'a> {
     Serve(Plan, u16, u32),
 }
 
-// What is done with a plan: a sample of so many lines is drawn from a seed, or a node is served for so many takes.
+// What is done with a plan: a sample of so many lines is drawn from a seed, so many datagrams at most are delivered, or a node
+// is served for so many takes.
 #[derive(Clone, Copy)]
 enum Task<'a> {
     Sample(u64, u32),
+    Settle(u32),
     Node(&'a str, u32),
 }
 
@@ -46,6 +48,7 @@ enum Built<'a> {
 
 ghost use Rattle.circus_program.specs.Seen.Step.{due_of, Stands, LacksNone, IsLackNoted, IsStepBehind, IsStepOfProgram, IsStepOfReplay, IsStepOfFile};
 ghost use Rattle.circus_program.specs.Seen.Built.{IsDueOfTask, IsDueOfCommand, built_form};
+ghost use Rattle.circus_program.specs.Seen.Planned.{MeanPlans, ReadsPlans, OfContents, PlansOf};
 
 // What comes of a replay whose program is fetched and read.
 fn replay_plan<'a, S: Shelf>(
@@ -82,6 +85,7 @@ fn replay_program<'a, S: Shelf>(
     ensures stands { IfOk result Stands }
     ensures lack { IfOk result (IsLackNoted (S.fetched shelf.new) (S.faults shelf.old) (S.faults shelf.new)) }
     ensures asked { AsksFirstOf (S.fetched shelf.old) (S.fetched shelf.new) (schedule.now ∷ []) }
+    ensures planned { IfOk result (λ _. MeanPlans program.now) }
 {
     match plan_of(alloc, program)? {
         Ok(plan) => replay_plan(alloc, plan, schedule, shelf),
@@ -100,6 +104,7 @@ fn replay<'a, S: Shelf>(
     ensures stands { IfOk result Stands }
     ensures lack { IfOk result (IsLackNoted (S.fetched shelf.new) (S.faults shelf.old) (S.faults shelf.new)) }
     ensures asked { AsksFirstOf (S.fetched shelf.old) (S.fetched shelf.new) (program.now ∷ schedule.now ∷ []) }
+    ensures planned { IfOk result (λ step. LacksNone step → OfContents (S.contents shelf.old) MeanPlans program.now) }
 {
     let bytes = match shelf.fetch(program) {
         Ok(bytes) => bytes,
@@ -119,6 +124,7 @@ fn of_plan<'a>(alloc: Global, plan: Plan, task: Task<'_>) -> Result<Step<'a>, No
 {
     match task {
         Task::Sample(seed, steps) => Ok(Step::Finish(sample_plan(alloc, plan, seed, steps)?)),
+        Task::Settle(deliveries) => Ok(Step::Finish(settle_plan(alloc, plan, deliveries)?)),
         Task::Node(name, turns) => match node_named(&plan.deployment, name) {
             Some(node) => Ok(Step::Serve(plan, node, turns)),
             None => Ok(Step::Finish(no_node(alloc, name)?)),
@@ -131,6 +137,7 @@ fn of_bytes<'a>(alloc: Global, command: Command<'_>, bytes: &[u8]) -> Result<Ste
     ensures due { IfOk result (λ step. IsDueOfCommand command.entry bytes.now (due_of step)) }
     ensures stands { IfOk result Stands }
     ensures whole { IfOk result LacksNone }
+    ensures planned { IfOk result (λ _. ReadsPlans command.entry bytes.now) }
 {
     match command {
         Command::End(command) => Ok(Step::Finish(end_of(alloc, command, bytes)?)),
@@ -152,6 +159,7 @@ fn one_file<'a, S: Shelf>(
     ensures stands { IfOk result Stands }
     ensures lack { IfOk result (IsLackNoted (S.fetched shelf.new) (S.faults shelf.old) (S.faults shelf.new)) }
     ensures asked { AsksFirstOf (S.fetched shelf.old) (S.fetched shelf.new) (name.now ∷ []) }
+    ensures planned { IfOk result (λ step. LacksNone step → OfContents (S.contents shelf.old) (ReadsPlans command.entry) name.now) }
 {
     let bytes = match shelf.fetch(name) {
         Ok(bytes) => bytes,
@@ -176,13 +184,17 @@ fn built_of(form: CommandForm<'_>) -> Option<Built<'_>>
             seed,
             steps,
         } => (Command::OfPlan(Task::Sample(seed, steps)), program),
+        CommandForm::Settle {
+            program,
+            deliveries,
+        } => (Command::OfPlan(Task::Settle(deliveries)), program),
         CommandForm::Node {
             program,
             name,
             turns,
         } => (Command::OfPlan(Task::Node(name, turns)), program),
         CommandForm::Replay { program, schedule } => return Some(Built::Replay(program, schedule)),
-        CommandForm::Settle { .. } | CommandForm::Audit { .. } => return None,
+        CommandForm::Audit { .. } => return None,
     };
     Some(Built::OneFile(command, file))
 }
@@ -197,6 +209,7 @@ pub fn follow<'a, S: Shelf>(
     ensures stands { IfOk result Stands }
     ensures lack { IfOk result (IsLackNoted (S.fetched shelf.new) (S.faults shelf.old) (S.faults shelf.new)) }
     ensures asked { AsksOnly (S.fetched shelf.old) (S.fetched shelf.new) (map string_bytes words.now) }
+    ensures planned { IfOk result (λ step. LacksNone step → PlansOf (S.contents shelf.old) (map string_bytes words.now)) }
 {
     let Some(form) = read_words(words) else {
         let refused = Ending::of_line(alloc, Status::BadCommandLine, "circus: bad command line\n")?;

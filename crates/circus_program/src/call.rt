@@ -1,12 +1,14 @@
 // The top call.
-ghost use Rattle.std.specs.Prelude.{◌≡◌, ◌⊎◌, map, string_bytes, IfOk};
+ghost use Rattle.std.specs.Prelude.{◌≡◌, ◌⊎◌, map, string_bytes, IfOk, IsTrue};
 ghost use Rattle.circus_outside.specs.Faults.{Rose};
 ghost use Rattle.circus_program.specs.Answer.{AsksForNode, AsksOnly, WritesEnd, WritesLack, WritesPartOfText, shelf_fault};
 ghost use Rattle.circus_ending.specs.declared.status.Status.{Status as Ended};
-ghost use Rattle.circus_ending.specs.declared.status.Status.TheVariants.{Done, BadCommandLine, BadProgram, BadSchedule, ShelfFault, LinkFault, NoMemory, Spent, NotBuilt, BadPlacing, NoPlacement};
-ghost use Rattle.circus_ending.specs.Status.{code_of};
+ghost use Rattle.circus_ending.specs.declared.status.Status.TheVariants.{Done, BadCommandLine, BadProgram, BadSchedule, ShelfFault, LinkFault, NoMemory, Spent, NotBuilt, Unsettled, BadPlacing, NoPlacement};
+ghost use Rattle.circus_ending.specs.Status.{code_of, is_end};
 ghost use Rattle.circus_ending.specs.Seen.Ending.{ending_of};
 ghost use Rattle.circus_log.specs.Outside.{tells_of};
+ghost use Rattle.circus_program.specs.Agreeing.{WritesAgreed, WritesAgreedSoFar};
+ghost use Rattle.circus_program.specs.Seen.Planned.{PlansOf};
 ghost use Rattle.circus_program.specs.Seen.Put.{IsAnswer, IsFinished};
 ghost use Rattle.circus_program.specs.Seen.Step.{IsPutStep, IsServing, Stands};
 
@@ -20,11 +22,10 @@ use circus_value::NoMemory;
 use std::alloc::Global;
 
 /// Does what the words ask for: fetches files from the shelf, writes to the sink line by line, and answers
-/// the status (docs/GUIDE.md, "Statuses"). So far all forms but `settle` and `audit` are built; the link is used by `node`
-/// alone. The report of a replay is written as its lines are stepped.
+/// the status (docs/GUIDE.md, "Statuses"). So far all forms but `audit` are built; the link is used by `node` alone. The report of a replay is written as its lines are stepped.
 ///
-/// - 0: the stubs or the history of a program, the report of a replay, the record of a node, the summary of a sample, or the
-///   best choice of a placing is written.
+/// - 0: the stubs or the history of a program, the report of a replay, the record of a node, the summary of a sample, what a
+///   program has settled to, or the best choice of a placing is written.
 /// - 1: exactly where the words are of no form.
 /// - 2: exactly where the file of another form than `place` is no program, whose line and cause are written, or `node` names
 ///   no node of it.
@@ -37,8 +38,14 @@ use std::alloc::Global;
 /// - 8: exactly where a node has no number left for a call to another one; the two are written, in a replay behind the lines
 ///   of what was sent before.
 /// - 9: exactly where the words are of another form than these.
+/// - 10: exactly where `settle` made all deliveries and datagrams are left; how many deliveries, and how many datagrams were
+///   sent, are written.
 /// - 11: exactly where the text of a placing is refused, whose line and cause are written.
 /// - 12: exactly where no choice of machines satisfies a placing.
+///
+/// The copies of a simulated program agree: what is written with status 0 is told of records in which each active member
+/// performed exactly the next runs of its module in the history that `run` writes. With status 3 or 8 at a line it is the
+/// datagrams in such a report, that of the lines before, and one line more.
 pub fn circus<S: Shelf, K: Sink, L: Link>(
     alloc: Global,
     words: &[String],
@@ -56,6 +63,7 @@ pub fn circus<S: Shelf, K: Sink, L: Link>(
     ensures bad_schedule { result ≡ code_of BadSchedule → WritesEnd (S.contents shelf.old) (map string_bytes words.now) (tells_of (L.bound link.old) (L.taken link.old) (L.given link.old)) (tells_of (L.bound link.new) (L.taken link.new) (L.given link.new)) (K.written sink.old) (K.written sink.new) BadSchedule }
     ensures spent { result ≡ code_of Spent → WritesEnd (S.contents shelf.old) (map string_bytes words.now) (tells_of (L.bound link.old) (L.taken link.old) (L.given link.old)) (tells_of (L.bound link.new) (L.taken link.new) (L.given link.new)) (K.written sink.old) (K.written sink.new) Spent }
     ensures not_built { result ≡ code_of NotBuilt → WritesEnd (S.contents shelf.old) (map string_bytes words.now) (tells_of (L.bound link.old) (L.taken link.old) (L.given link.old)) (tells_of (L.bound link.new) (L.taken link.new) (L.given link.new)) (K.written sink.old) (K.written sink.new) NotBuilt }
+    ensures unsettled { result ≡ code_of Unsettled → WritesEnd (S.contents shelf.old) (map string_bytes words.now) (tells_of (L.bound link.old) (L.taken link.old) (L.given link.old)) (tells_of (L.bound link.new) (L.taken link.new) (L.given link.new)) (K.written sink.old) (K.written sink.new) Unsettled }
     ensures bad_placing { result ≡ code_of BadPlacing → WritesEnd (S.contents shelf.old) (map string_bytes words.now) (tells_of (L.bound link.old) (L.taken link.old) (L.given link.old)) (tells_of (L.bound link.new) (L.taken link.new) (L.given link.new)) (K.written sink.old) (K.written sink.new) BadPlacing }
     ensures no_placement { result ≡ code_of NoPlacement → WritesEnd (S.contents shelf.old) (map string_bytes words.now) (tells_of (L.bound link.old) (L.taken link.old) (L.given link.old)) (tells_of (L.bound link.new) (L.taken link.new) (L.given link.new)) (K.written sink.old) (K.written sink.new) NoPlacement }
 
@@ -69,6 +77,14 @@ pub fn circus<S: Shelf, K: Sink, L: Link>(
     ensures sink_rose { result ≡ code_of Status.SinkFault → Rose (K.faults sink.old) (K.faults sink.new) }
 
     ensures no_memory { result ≡ code_of NoMemory → WritesPartOfText (S.contents shelf.old) (map string_bytes words.now) (tells_of (L.bound link.old) (L.taken link.old) (L.given link.old)) (tells_of (L.bound link.new) (L.taken link.new) (L.given link.new)) (S.fetched shelf.new) (Rose (S.faults shelf.old) (S.faults shelf.new)) (K.written sink.old) (K.written sink.new) }
+
+    // The copies agree in what is written.
+    ensures agree { result ≡ code_of Done
+        → WritesAgreed (S.contents shelf.old) (map string_bytes words.now)
+        (K.written sink.old) (K.written sink.new) }
+    ensures agree_so_far { (result ≡ code_of BadSchedule) ⊎ (result ≡ code_of Spent)
+        → WritesAgreedSoFar (S.contents shelf.old) (map string_bytes words.now)
+        (K.written sink.old) (K.written sink.new) }
 {
     let status = answer(alloc, words, shelf, sink, link);
     status.code()
@@ -87,6 +103,7 @@ fn answer<S: Shelf, K: Sink, L: Link>(
     ensures answer { IsAnswer (S.contents shelf.old) (map string_bytes words.now) (S.fetched shelf.new) (Rose (S.faults shelf.old) (S.faults shelf.new))
         (tells_of (L.bound link.old) (L.taken link.old) (L.given link.old)) (tells_of (L.bound link.new) (L.taken link.new) (L.given link.new)) (Rose (L.faults link.old) (L.faults link.new))
         (K.written sink.old) (K.written sink.new) (Rose (K.faults sink.old) (K.faults sink.new)) result }
+    ensures planned { IsTrue (is_end result) → PlansOf (S.contents shelf.old) (map string_bytes words.now) }
 {
     let step = match follow(alloc, words, shelf) {
         Ok(step) => step,

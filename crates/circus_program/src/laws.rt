@@ -1,9 +1,18 @@
 // What holds of all words and all contents of the files.
 ghost use Rattle.std.specs.Prelude.{◌≡◌, ◌⊎◌, ◌↔◌, ℕ, Option, List};
 ghost use Rattle.circus_program.specs.Form.{IsOfNoForm};
-ghost use Rattle.circus_program.specs.Answer.{Due};
-ghost use Rattle.circus_ending.specs.declared.status.Status.TheVariants.{BadCommandLine, BadProgram, BadSchedule, Spent, NotBuilt};
-ghost use Rattle.circus_program.specs.Last.{IsDueLast, EndsWith, IsToBeRead, IsAnswered, IsRefusedProgram, IsNameless, IsRefusedReplay, IsSpentReplay, IsSpentSample, IsNotBuilt};
+ghost use Rattle.circus_model.specs.Behaviour.{Behaviour};
+ghost use Rattle.circus_schedule.specs.declared.line.Line.{Line};
+ghost use Rattle.circus_world.specs.WorldState.{WorldState};
+ghost use Rattle.circus_config.specs.declared.plan.Plan.{Plan};
+ghost use Rattle.circus_program.specs.Answer.{Due, finish};
+ghost use Rattle.circus_program.specs.Replay.{replay_of};
+ghost use Rattle.circus_program.specs.Agreeing.{IsAgreed, IsAgreedSoFar, ArePlans};
+ghost use Rattle.circus_config.specs.Program.{IsPlan};
+ghost use Rattle.circus_program.specs.Worlds.{IsReported, IsCutByRefusal, IsCutBySpending, IsSpentAtBoot, AskToSimulate, IsOfWorld};
+ghost use Rattle.circus_ending.specs.Ending.{Ending};
+ghost use Rattle.circus_ending.specs.declared.status.Status.TheVariants.{Done, BadCommandLine, BadProgram, BadSchedule, Spent, NotBuilt, Unsettled};
+ghost use Rattle.circus_program.specs.Last.{IsDueLast, EndsWith, IsToBeRead, IsAnswered, IsRefusedProgram, IsNameless, IsRefusedReplay, IsSpentReplay, IsSpentSample, IsSpentSettle, IsNotBuilt, IsUnsettled};
 
 /// Of words one thing is due at last, whatever the files contain: an end, with its status and its text, a node that is to be
 /// served, or the fetch of a file that is not there. Something is due, but where the first file of a form that is built is
@@ -19,8 +28,9 @@ pub fn one_thing_is_due()
 
 /// What is due at last is an end with status 1 exactly where the words are of no form, with status 2 exactly where the file
 /// of another form than `place` is no program or has no node of the name, with status 3 exactly where a line of a schedule is
-/// refused, with status 8 exactly where a node has no number left in a replay or a sample, and with status 9 exactly where a
-/// form is asked for that is not built. What a node that is served comes to is said by the contract of the call.
+/// refused, with status 8 exactly where a node has no number left in a replay, a sample or the deliveries that settle a
+/// program, with status 9 exactly where a form is asked for that is not built, and with status 10 exactly where all deliveries
+/// are made and datagrams are left. What a node that is served comes to is said by the contract of the call.
 pub fn ends_tell_why()
     ensures bad_words { (contents : List ℕ → Option (List ℕ)) (words : List (List ℕ)) (due : Due)
         → IsDueLast contents words due → (EndsWith BadCommandLine due ↔ IsOfNoForm words) }
@@ -29,7 +39,47 @@ pub fn ends_tell_why()
     ensures bad_schedule { (contents : List ℕ → Option (List ℕ)) (words : List (List ℕ)) (due : Due)
         → IsDueLast contents words due → (EndsWith BadSchedule due ↔ IsRefusedReplay contents words) }
     ensures spent { (contents : List ℕ → Option (List ℕ)) (words : List (List ℕ)) (due : Due)
-        → IsDueLast contents words due → (EndsWith Spent due ↔ (IsSpentReplay contents words ⊎ IsSpentSample contents words)) }
+        → IsDueLast contents words due → (EndsWith Spent due ↔ (IsSpentReplay contents words ⊎ (IsSpentSample contents words ⊎ IsSpentSettle contents words))) }
     ensures not_built { (contents : List ℕ → Option (List ℕ)) (words : List (List ℕ)) (due : Due)
         → IsDueLast contents words due → (EndsWith NotBuilt due ↔ IsNotBuilt words) }
+    ensures unsettled { (contents : List ℕ → Option (List ℕ)) (words : List (List ℕ)) (due : Due)
+        → IsDueLast contents words due → (EndsWith Unsettled due ↔ IsUnsettled contents words) }
+{}
+
+/// What a replay writes is written of a world to which lines lead from boot, each of which may be stepped: the report of that
+/// to which all lines lead. Where a line may not be stepped, or a node has no number left in its step, the lines before it lead
+/// to a world, and of this it is the first line of the report, the lines of what was sent, and the line that says why.
+pub fn reports_are_of_worlds()
+    ensures done { (plan : Plan) (lines : List Line) → (replay_of plan lines).status ≡ Done
+        → IsReported plan lines (replay_of plan lines).text }
+    ensures refused { (plan : Plan) (lines : List Line) → (replay_of plan lines).status ≡ BadSchedule
+        → IsCutByRefusal plan lines (replay_of plan lines).text }
+    ensures spent { (plan : Plan) (lines : List Line) → (replay_of plan lines).status ≡ Spent
+        → IsSpentAtBoot plan (replay_of plan lines).text ⊎ IsCutBySpending plan lines (replay_of plan lines).text }
+{}
+
+/// Where words ask to simulate a program and what is due at last is an end with status 0, there is a plan, which the program
+/// means, with lines that lead from its boot to a world: those of the schedule, those that were drawn, or a delivery of each
+/// datagram. What is written is the report of that world, its summary, or what is written of a world that has settled.
+pub fn ends_are_of_worlds()
+    ensures { (contents : List ℕ → Option (List ℕ)) (words : List (List ℕ)) (ending : Ending)
+        → IsDueLast contents words (finish ending) → ending.status ≡ Done → AskToSimulate words
+        → (plan : Plan) × (lines : List Line) × (last : WorldState Behaviour) × IsOfWorld contents words plan lines last ending.text }
+{}
+
+/// The copies agree in what is written of a program that is simulated, where it is a plan, as each program that is read is:
+/// what each active member performed are the next runs of its module in the history of the program, which the unreplicated
+/// execution of the program gives. What a replay writes that ends too early is the beginning of the report of the lines before
+/// and one line more.
+pub fn copies_agree()
+    ensures done { (contents : List ℕ → Option (List ℕ)) (words : List (List ℕ)) (ending : Ending)
+        → IsDueLast contents words (finish ending) → ending.status ≡ Done → AskToSimulate words
+        → ArePlans contents words → IsAgreed contents words ending.text }
+    ensures refused { (plan : Plan) (lines : List Line)
+        → IsPlan plan → (replay_of plan lines).status ≡ BadSchedule
+        → IsAgreedSoFar plan lines (replay_of plan lines).text }
+    ensures spent { (plan : Plan) (lines : List Line)
+        → IsPlan plan → (replay_of plan lines).status ≡ Spent
+        → IsSpentAtBoot plan (replay_of plan lines).text
+        ⊎ IsAgreedSoFar plan lines (replay_of plan lines).text }
 {}

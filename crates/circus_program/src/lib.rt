@@ -16,5 +16,7 @@ mod words;
 
 pub use call::circus;
 pub use circus_ending::Status;
-pub use laws::{ends_tell_why, one_thing_is_due};
+pub use laws::{
+    copies_agree, ends_are_of_worlds, ends_tell_why, one_thing_is_due, reports_are_of_worlds,
+};
 pub use words::{CommandForm, read_words};

@@ -1,3 +1,4 @@
 pub mod Stepping
 pub mod Booted
 pub mod Sampling
+pub mod Settling

@@ -1,3 +1,4 @@
 pub mod Booted
 pub mod Sample
+pub mod Settle
 pub mod Seen

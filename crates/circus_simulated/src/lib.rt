@@ -1,10 +1,12 @@
-//! A program whose nodes are simulated: its world at boot, and what comes of a sample.
+//! A program whose nodes are simulated: its world at boot, and what comes of a sample and of a settling.
 //!
-//! `simulated` boots a plan, and `sampled` draws a sample of it.
+//! `simulated` boots a plan. `sampled` draws a sample of it, and `settled` delivers its datagrams in the order of sending.
 #![tactic(auto)]
 
 mod sampled;
+mod settled;
 mod simulated;
 
 pub use sampled::sample_plan;
+pub use settled::settle_plan;
 pub use simulated::{Simulated, boot_plan};

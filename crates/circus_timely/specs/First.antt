@@ -1,6 +1,5 @@
 -- What was given first, as a past grew.
 use Rattle.std.specs.Prelude.{ℕ, Option, None, Some}
-use Rattle.std.specs.Option.{option_map_or}
 use Rattle.circus_timely.specs.Past.{Past, booted, followed, now}
 
 module _ {A : Type 0} where

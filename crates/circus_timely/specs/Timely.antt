@@ -1,6 +1,6 @@
 -- A member's record is timely for what happened: each start, answer and activation came in the first step that allows it, and
 -- nothing that is allowed is left open.
-use Rattle.std.specs.Prelude.{ℕ, zero, suc, ◌≡◌, ◌≢◌, ◌+◌, ◌≤◌, ◌&&◌, nat_le, Bool, true, false, if◌then◌else◌, List, [], ◌∷◌, length, map, filter, take, Option, None, Some, IsSomeAnd, slice_get, option_map, option_and_then}
+use Rattle.std.specs.Prelude.{ℕ, zero, suc, ◌≡◌, ◌+◌, ◌<◌, ◌≤◌, ◌&&◌, nat_le, Bool, true, false, if◌then◌else◌, List, [], length, map, filter, take, Option, None, Some, IsSomeAnd, slice_get, option_map, option_and_then}
 use Rattle.std.specs.Option.{option_map_or}
 use Rattle.circus_value.specs.ValueTree.{ValueTree}
 use Rattle.circus_header.specs.declared.answer.Reply.{Reply}
@@ -38,6 +38,12 @@ abbrev pub ShowsAnswer : AskRecord → Option (ℕ × Reply) → Type 0
 ShowsAnswer ask None = (ask.answered ≡ None) × (ask.reply ≡ None) × (ask.after ≡ None)
 ShowsAnswer ask (Some given) =
     (ask.answered ≡ Some given.0) × (ask.reply ≡ Some given.1.outcome) × (ask.after ≡ Some given.1.clock)
+
+-- the MAIN of this troupe, entered in step 0: at the top of its thread, as procedure 0, without arguments, by a clock that is 0 for
+-- each of these views
+abbrev pub IsMain : ℕ → List View → RunRecord → Type 0
+IsMain troupe boot run =
+    (run.started ≡ 0) × (start_of run ≡ record { root = troupe; path = []; procedure = 0; arguments = []; clock = map (λ _. 0) boot })
 
 -- of a member that stands here, with these views and in this phase at boot
 module _ (place : Place) (boot : List View) (begins : Joiner) where
@@ -96,6 +102,8 @@ module _ (place : Place) (boot : List View) (begins : Joiner) where
     IsAnsweredInTime name ask = ShowsAnswer ask (first_given (may_answer name ask) p)
 
     pub record IsTimely : Type 0 where
+      -- each run that is entered at boot is there
+      pub boots : (number : ℕ) → number < at_boot → IsSomeAnd (slice_get kept.runs number) (IsMain place.troupe boot)
       pub starts : (number : ℕ) (run : RunRecord) → at_boot ≤ number → slice_get kept.runs number ≡ Some run → IsStartedInTime number run
       -- no further run may start
       pub no_more : at_boot ≤ length kept.runs → first_given (may_start kept (length kept.runs)) p ≡ None

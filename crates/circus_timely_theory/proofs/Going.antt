@@ -26,7 +26,7 @@ use Rattle.circus_member_rules.specs.declared.place.Place.{Place}
 use Rattle.circus_member_rules.specs.OpenAsks.{asking_of}
 use Rattle.circus_member_rules.specs.Rules.{index_of_last, value_of_ask, snapshots_owed}
 use Rattle.circus_member_step.specs.MemberState.{MemberState, Doing, adding}
-use Rattle.circus_member_step.specs.Step.{name_of_last, is_idle, start_by_call, next_start, value_of_open, given_states, answered_by, answered_open, entered, starting, executed}
+use Rattle.circus_member_step.specs.Step.{name_of_last, is_idle, start_by_call, main_start, next_start, value_of_open, given_states, answered_by, answered_open, entered, starting, executed}
 use Rattle.circus_member_step.specs.Seen.Sound.{MayStart}
 use Rattle.circus_member_step.proofs.Writing.{one_is_performing, none_is_idle}
 use Rattle.circus_member_step.proofs.Entering.{with_entered, turned_by_start, has_value, with_answered, turned_by_reply}
@@ -89,6 +89,7 @@ module _ {M : Type 0} (declared : M → Signature) (turn : M → List ValueTree 
       let entry : run.entry ≡ gone.entry = ap (λ (s : RunStart). s.clock) (sym g.start) in
       let now_so : RunNow from before.runs number gone =
       record {
+        boots = λ below. let main = so.boots below in (g.started ∙ main.0, g.start ∙ main.1);
         starts = λ is.
             and_more (λ (given : ℕ × HeldCall). (run.started ≡ given.0) × (start_of run ≡ start_by_call place.troupe (declared hosted).procedures given.1))
             (λ (given : ℕ × HeldCall). (gone.started ≡ given.0) × (start_of gone ≡ start_by_call place.troupe (declared hosted).procedures given.1))
@@ -106,13 +107,17 @@ module _ {M : Type 0} (declared : M → Signature) (turn : M → List ValueTree 
 
   -- ---- a run is entered
 
-  pub goes_entered : (d : Doing M) (start : RunStart) → IsSoundNow declared turn first lawful d.member → MayStart (declared d.member.performing.hosted) d.member start
-      → GoesNow d.member
+  -- by a member that had `before` runs to enter at boot so far
+  pub goes_entered : (d : Doing M) (start : RunStart) (before : ℕ) → IsSoundNow declared turn first lawful d.member → MayStart (declared d.member.performing.hosted) d.member start
+      → Goes declared turn first lawful place boot begins hosted before p d.member
+      → RunsSo place boot begins (declared hosted).procedures at_boot p d.member.performing.kept.from d.member.performing.kept.runs
+      → at_boot ≤ length d.member.performing.kept.runs + 1
+      → (length d.member.performing.kept.runs < at_boot → (now p ≡ 0) × (start ≡ main_start place.troupe boot))
       → (at_boot ≤ length d.member.performing.kept.runs
       → IsSomeAnd (first_given (may d.member.performing.kept.from d.member.performing.kept.runs (length d.member.performing.kept.runs)) p)
       (λ given. (now p ≡ given.0) × (start ≡ start_by_call place.troupe (declared hosted).procedures given.1)))
       → d.member.performing.kept.from + length d.member.performing.kept.runs ≤ last_count → GoesNow (entered turn (now p) d start).member
-  goes_entered d start sound may_so h starts few =
+  goes_entered d start before sound may_so h runs_so enough main starts few =
       let m = d.member in
       let kept = m.performing.kept in
       let b = behaviour declared turn first m.performing.hosted in
@@ -123,7 +128,7 @@ module _ {M : Type 0} (declared : M → Signature) (turn : M → List ValueTree 
       let gone = gone_on (now p) on most_turns (begun (now p) start) in
       let none : AsksSo (InTime kept.from (length kept.runs)) start.clock [] = λ n ask there left. absurd (none_is_some there) in
       let asked : AsksSo AskedNow start.clock [] = λ n ask there left. absurd (none_is_some there) in
-      let g = gone_well b m.performing.began kept on (begun (now p) start) t.kept refl (record { starts = starts; answers = none }) asked h.well.runs in
+      let g = gone_well b m.performing.began kept on (begun (now p) start) t.kept refl (record { boots = main; starts = starts; answers = none }) asked runs_so in
       let long : length (kept.runs ++ gone ∷ []) ≡ length kept.runs + 1 = length-append kept.runs (gone ∷ []) in
       let w = h.well in
       goes_after_turns declared turn first lawful place boot begins hosted at_boot p rises e t g.new
@@ -136,6 +141,7 @@ module _ {M : Type 0} (declared : M → Signature) (turn : M → List ValueTree 
         from_is = w.from_is;
         unreplied = λ i below. w.unreplied i (omega (arith, below, long));
         way = record { phase_is = w.way.phase_is; outside = w.way.outside; active = w.way.active; few = w.way.few };
+        enough = omega (arith, enough, long);
         runs = g.runs;
         next = g.next;
         few = omega (arith, few, long);
@@ -209,7 +215,7 @@ module _ {M : Type 0} (declared : M → Signature) (turn : M → List ValueTree 
       let now_given = open_now_given m b q reply is h (split.1 w.waits.calls_left) in
       let shown : InTime from number (length w.before) done = inl (subst (ShowsAnswer done) (sym now_given.given) (refl, refl, refl)) in
       let so : RunNow from q.before number run =
-      record { starts = less.1.starts; answers = asks_more (InTime from number) q.run.entry w.before done split.0 (λ _. shown) } in
+      record { boots = less.1.boots; starts = less.1.starts; answers = asks_more (InTime from number) q.run.entry w.before done split.0 (λ _. shown) } in
       let asked : AsksSo AskedNow run.entry run.asks =
       asks_more AskedNow q.run.entry w.before done (λ n ask there left none. absurd (none_is_some (sym none ∙ (w.made.asks_so n ask there).1.reply_is)))
       (λ _ none. absurd (none_is_some (sym none))) in
@@ -218,6 +224,7 @@ module _ {M : Type 0} (declared : M → Signature) (turn : M → List ValueTree 
       let was : length kept.runs ≡ length q.before + 1 = ap length q.runs_are ∙ length-append q.before (q.run ∷ []) in
       let x = h.well in
       let few = x.few in
+      let enough = x.enough in
       goes_after_turns declared turn first lawful place boot begins hosted at_boot p rises e t
       (subst (λ (k : MemberRecord). IfSome (open_ask k) (λ ask. ask.asked ≡ now p)) (sym kept_is) g.new)
       (subst (λ (k : MemberRecord). WellSoFar declared turn first lawful place boot begins hosted at_boot p m.place m.performing.hosted m.known.views m.known.down m.gathered k) (sym kept_is)
@@ -230,6 +237,7 @@ module _ {M : Type 0} (declared : M → Signature) (turn : M → List ValueTree 
         from_is = x.from_is;
         unreplied = λ i below. x.unreplied i (omega (arith, below, long, was));
         way = record { phase_is = x.way.phase_is; outside = x.way.outside; active = x.way.active; few = x.way.few };
+        enough = omega (arith, enough, long, was);
         runs = g.runs;
         next = g.next;
         few = omega (arith, few, long, was);
@@ -331,7 +339,8 @@ module _ {M : Type 0} (declared : M → Signature) (turn : M → List ValueTree 
       let first_now_is = first_now (may kept.from kept.runs (length kept.runs)) p call h.well.next (may_now m call sound h next) in
       let same : start ≡ start_by_call place.troupe (declared hosted).procedures call = λ j. start_by_call (h.well.place_is j).troupe
       (declared (h.well.hosted_is j)).procedures call in
-      goes_entered d start sound may_so h
+      let enough = h.well.enough in
+      goes_entered d start at_boot sound may_so h h.well.runs (omega (arith, enough)) (λ below. absurd (omega (arith, enough, below)))
       (λ _. subst (λ o. IsSomeAnd o (λ given. (now p ≡ given.0) × (start ≡ start_by_call place.troupe (declared hosted).procedures given.1))) (sym first_now_is) (refl, same))
       (few_now m call sound h next)
 

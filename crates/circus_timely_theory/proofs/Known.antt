@@ -23,7 +23,7 @@ use Rattle.circus_member_rules.specs.Rules.{wanted_by_call, active_call, before_
 use Rattle.circus_member_step.specs.MemberState.{MemberState, Doing}
 use Rattle.circus_member_step.specs.Step.{is_join, answered_by_ring, handled}
 use Rattle.circus_member_step.proofs.Homes.{ring_views, ring_down, called_views, declared_views, told_down}
-use Rattle.circus_member_theory.proofs.Resting.{InRange}
+use Rattle.circus_member_theory.specs.Ranges.{InRange}
 use Rattle.circus_timely.specs.Past.{Past, booted, followed, with_view, known, down, required, arrived, phase, fetched}
 use Rattle.circus_timely.specs.First.{first_given}
 use Rattle.circus_timely_theory.proofs.Firsts.{first_now, none_yet, none_now, given_before}

@@ -8,3 +8,5 @@ pub mod Turned
 pub mod Going
 pub mod Rests
 pub mod Lived
+pub mod Unanimity
+pub mod Counted

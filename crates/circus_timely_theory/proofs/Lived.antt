@@ -24,32 +24,21 @@ use Rattle.circus_member_rules.specs.declared.place.Beginning.{Beginning}
 use Rattle.circus_member_rules.specs.declared.place.Beginning.TheVariants.{Founder, Spare}
 use Rattle.circus_member_rules.specs.declared.occurrence.AskName.{AskName}
 use Rattle.circus_member_rules.specs.declared.occurrence.Occurrence.{Occurrence}
-use Rattle.circus_member_rules.specs.declared.occurrence.Occurrence.TheVariants as comes
 use Rattle.circus_member_step.specs.MemberState.{MemberState, Doing}
 use Rattle.circus_member_step.specs.Step.{before_any, main_start, handled, entered, executed, stepped, starts_at_boot}
 use Rattle.circus_member_step.specs.Happening.{IsHome, CanHappen}
 use Rattle.circus_member_step.specs.Seen.Sound.{IsRested}
 use Rattle.circus_member_step.proofs.Enough.{none_given}
-use Rattle.circus_member_theory.proofs.Resting.{InRange, sound_once_handled, step_rests, boot_rests, at_boot, sound_at_boot, may_begin}
+use Rattle.circus_member_theory.specs.Ranges.{InRange}
+use Rattle.circus_member_theory.proofs.Resting.{sound_once_handled, step_rests, boot_rests, at_boot, sound_at_boot, may_begin}
 use Rattle.circus_timely.specs.Past.{Past, booted, followed, now, Rises, fetched}
 use Rattle.circus_timely.specs.Timely.{given_value, collated_call, collated_reply, is_free_for, may_answer, IsTimely}
-use Rattle.circus_timely_theory.specs.Living.{HasRoom, phase_at_boot, runs_at_boot, after, MayLive}
+use Rattle.circus_timely_theory.specs.Living.{phase_at_boot, runs_at_boot, after, MayLive}
 use Rattle.circus_timely_theory.proofs.Firsts.{first_is}
 use Rattle.circus_timely_theory.proofs.Known.{ActiveSo}
 use Rattle.circus_timely_theory.proofs.Runs.{may_by, kept_of, named}
 use Rattle.circus_timely_theory.proofs.Going.{goes_entered, goes_executed}
 use Rattle.circus_timely_theory.proofs.Rests.{GoesBy, IsAtRest, timely_at_rest, rest_by_going, goes_closed, goes_handled}
-
-has_range : (o : Occurrence) → HasRoom o → InRange o
-has_range (comes.Asked header body sender) is = tt
-has_range (comes.Fetched incarnation sender) is = tt
-has_range (comes.Replied name from reply) is = tt
-has_range (comes.IsStale name server from incarnation) is = tt
-has_range (comes.IsBefore name from) is = tt
-has_range (comes.Told request table) is = tt
-has_range (comes.Restored state count) is = is
-has_range (comes.Declared node) is = tt
-has_range comes.Joins is = tt
 
 -- ---- nothing is given where nothing has come
 
@@ -93,17 +82,17 @@ module _ {M : Type 0} (declared : M → Signature) (turn : M → List ValueTree 
   record HasLived (beginning : Beginning) (p : Past) (m : MemberState M) : Type 0 where
     pub rises : Rises p
     pub rested : IsRested (now_of m.performing.hosted) m
-    pub rest : IsAtRest declared turn first lawful place views (phase_at_boot beginning) hosted (runs_at_boot declared turn beginning hosted) p m
+    pub rest : IsAtRest declared turn first lawful place views (phase_at_boot beginning) hosted (runs_at_boot declared beginning hosted) p m
 
   -- ---- boot
 
   abbrev Begins : Beginning → MemberState M → Type 0
-  Begins beginning m = GoesBy declared turn first lawful place views (phase_at_boot beginning) hosted (runs_at_boot declared turn beginning hosted) booted m
+  Begins beginning m = GoesBy declared turn first lawful place views (phase_at_boot beginning) hosted (runs_at_boot declared beginning hosted) booted m
 
   -- one that has performed nothing
-  goes_none : (phase : Joiner) (many : ℕ) → let performer : Performing M = record { hosted = hosted; began = first hosted; kept = performing.before_any phase (first hosted) } in
+  goes_none : (phase : Joiner) (many : ℕ) → many ≤ 0 → let performer : Performing M = record { hosted = hosted; began = first hosted; kept = performing.before_any phase (first hosted) } in
       GoesBy declared turn first lawful place views phase hosted many booted (before_any declared turn place views performer)
-  goes_none phase many =
+  goes_none phase many none =
       record {
         well = record {
           place_is = refl;
@@ -119,6 +108,7 @@ module _ {M : Type 0} (declared : M → Signature) (turn : M → List ValueTree 
             active = subst (ActiveSo (performing.before_any phase (first hosted))) (sym (first_is (fetched phase) booted)) tt;
             few = omega arith;
           };
+          enough = none;
           runs = λ number run there. absurd (none_is_some there);
           next = refl;
           few = omega arith;
@@ -128,18 +118,20 @@ module _ {M : Type 0} (declared : M → Signature) (turn : M → List ValueTree 
         waiting = tt;
       }
 
-  goes_before : (beginning : Beginning) → Begins beginning (at_boot declared turn first lawful place views hosted home beginning)
-  goes_before Founder = goes_none (phase_at_boot Founder) (runs_at_boot declared turn Founder hosted)
-  goes_before Spare = goes_none (phase_at_boot Spare) (runs_at_boot declared turn Spare hosted)
+  goes_before : (beginning : Beginning) → starts_at_boot declared turn beginning hosted ≡ false → Begins beginning (at_boot declared turn first lawful place views hosted home beginning)
+  goes_before Founder is = goes_none (phase_at_boot Founder) (runs_at_boot declared Founder hosted) (rw is (omega arith))
+  goes_before Spare is = goes_none (phase_at_boot Spare) 0 (omega arith)
 
   goes_main : (beginning : Beginning) → starts_at_boot declared turn beginning hosted ≡ true → let d : Doing M =
       record { member = at_boot declared turn first lawful place views hosted home beginning; effects = [] } in
       let e = entered turn 0 d (main_start place.troupe views) in Begins beginning e.member
   goes_main Founder is =
       let d : Doing M = record { member = at_boot declared turn first lawful place views hosted home Founder; effects = [] } in
-      goes_entered declared turn first lawful place views (phase_at_boot Founder) hosted (runs_at_boot declared turn Founder hosted) booted tt d (main_start place.troupe views)
-      (sound_at_boot declared turn first lawful place views hosted home Founder) (may_begin declared turn first lawful place views hosted home Founder is) (goes_before Founder)
-      (λ below. let none : 1 ≤ 0 = subst (λ (t : Bool). (if t then 1 else 0) ≤ 0) is below in absurd (omega (arith, none))) (omega arith)
+      let many : runs_at_boot declared Founder hosted ≡ 1 = rw is refl in
+      goes_entered declared turn first lawful place views (phase_at_boot Founder) hosted (runs_at_boot declared Founder hosted) booted tt d (main_start place.troupe views) 0
+      (sound_at_boot declared turn first lawful place views hosted home Founder) (may_begin declared turn first lawful place views hosted home Founder is)
+      (goes_none (phase_at_boot Founder) 0 (omega arith)) (λ number run there. absurd (none_is_some there)) (omega (arith, many)) (λ _. (refl, refl))
+      (λ below. absurd (omega (arith, many, below))) (omega arith)
   goes_main Spare is = cc
 
   goes_at_boot : (beginning : Beginning) → Begins beginning (after declared turn first place views beginning hosted booted)
@@ -148,7 +140,7 @@ module _ {M : Type 0} (declared : M → Signature) (turn : M → List ValueTree 
       by_test : (t : Bool) → starts_at_boot declared turn beginning hosted ≡ t → let d : Doing M =
           record { member = at_boot declared turn first lawful place views hosted home beginning; effects = [] } in
           let e = if t then entered turn 0 d (main_start place.troupe views) else d in Begins beginning e.member
-      by_test false is = goes_before beginning
+      by_test false is = goes_before beginning is
       by_test true is = goes_main beginning is
 
   lived_at_boot : (beginning : Beginning) → HasLived beginning booted (after declared turn first place views beginning hosted booted)
@@ -171,7 +163,7 @@ module _ {M : Type 0} (declared : M → Signature) (turn : M → List ValueTree 
       → HasLived beginning (followed p at o) (stepped declared turn at o m).member
   lived_step beginning p m at o h later can within =
       let begins = phase_at_boot beginning in
-      let many = runs_at_boot declared turn beginning hosted in
+      let many = runs_at_boot declared beginning hosted in
       let may : CanHappen (declared m.performing.hosted) m o = subst (λ x. CanHappen (declared x) m o) (sym h.rest.goes.well.hosted_is) can in
       let q = followed p at o in
       let rises : Rises q = (h.rises, later) in
@@ -189,13 +181,13 @@ module _ {M : Type 0} (declared : M → Signature) (turn : M → List ValueTree 
       → HasLived beginning p (after declared turn first place views beginning hosted p)
   lived beginning booted may = lived_at_boot beginning
   lived beginning (followed p at o) may = lived_step beginning p (after declared turn first place views beginning hosted p) at o (lived beginning p may.0) may.1 may.2
-      (has_range o may.3)
+      may.3
 
   -- nothing came late or early
   pub timely : (beginning : Beginning) (p : Past) → MayLive declared turn first place views beginning hosted p
-      → IsTimely place views (phase_at_boot beginning) (declared hosted).procedures (runs_at_boot declared turn beginning hosted)
+      → IsTimely place views (phase_at_boot beginning) (declared hosted).procedures (runs_at_boot declared beginning hosted)
       (after declared turn first place views beginning hosted p).performing.kept p
   timely beginning p may =
-      timely_at_rest declared turn first lawful place views (phase_at_boot beginning) hosted (runs_at_boot declared turn beginning hosted) p
+      timely_at_rest declared turn first lawful place views (phase_at_boot beginning) hosted (runs_at_boot declared beginning hosted) p
       (after declared turn first place views beginning hosted p)
       (lived beginning p may).rest

@@ -11,6 +11,7 @@ use Rattle.circus_transfer.specs.declared.joiner.Joiner.{Joiner}
 use Rattle.circus_model.specs.declared.signature.Signature.{Signature}
 use Rattle.circus_model.specs.NextTurn.{NextTurn}
 use Rattle.circus_model.specs.Behaviour.{IsModule}
+use Rattle.circus_model.proofs.Lookups.{within}
 use Rattle.circus_record.specs.declared.record.AskRecord.{AskRecord}
 use Rattle.circus_record.specs.declared.record.RunRecord.{RunRecord}
 use Rattle.circus_record.specs.declared.record.MemberRecord.{MemberRecord}
@@ -33,7 +34,8 @@ use Rattle.circus_member_step.specs.GoneOn.{HasGoneOn}
 use Rattle.circus_member_step.proofs.Held.{called_same}
 use Rattle.circus_member_step.proofs.Resting.{waiting_stays}
 use Rattle.circus_member_step.proofs.Starting.{IsSoundNow}
-use Rattle.circus_member_theory.proofs.Resting.{InRange, same_handled}
+use Rattle.circus_member_theory.specs.Ranges.{InRange}
+use Rattle.circus_member_theory.proofs.Resting.{same_handled}
 use Rattle.circus_timely.specs.Past.{Past, followed, now, Rises, phase}
 use Rattle.circus_timely.specs.First.{first_given}
 use Rattle.circus_timely.specs.Timely.{ShowsAnswer, may_answer, IsTimely}
@@ -72,6 +74,10 @@ module _ {M : Type 0} (declared : M → Signature) (turn : M → List ValueTree 
   timely_at_rest p m h =
       let kept = m.performing.kept in
       record {
+        boots = λ number below.
+            let enough = h.goes.well.enough in
+            let here = within kept.runs number (omega (arith, enough, below)) in
+            rw here.1 ((h.goes.well.runs number here.0 here.1).boots below);
         starts = λ number run is there. (h.goes.well.runs number run there).starts is;
         no_more = λ _. none_yet (may_by place boot begins kept.from kept.runs (length kept.runs)) p h.goes.well.next h.no_more;
         answers = λ number n run ask there at left. by_sum number n run ask there at ((h.goes.well.runs number run there).answers n ask at left);
@@ -137,6 +143,7 @@ module _ {M : Type 0} (declared : M → Signature) (turn : M → List ValueTree 
   -- what is true of runs and replies
   record AreSo (p : Past) (from : ℕ) (runs : List RunRecord) (replies : List (ℕ × Reply)) : Type 0 where
     pub unreplied : (index : ℕ) → from + length runs ≤ index → lookup (nat_eq index) replies ≡ None
+    pub enough : at_boot ≤ length runs
     pub runs_so : RunsSo place boot begins (declared hosted).procedures at_boot p from runs
     pub next : earlier (may_by place boot begins from runs (length runs)) p ≡ None
     pub few : from + length runs ≤ last_count + 1
@@ -155,6 +162,7 @@ module _ {M : Type 0} (declared : M → Signature) (turn : M → List ValueTree 
         → RunSo place boot begins (declared hosted).procedures at_boot later from runs number run
     run_still from runs number run none h =
         record {
+          boots = h.boots;
           starts = λ is.
               some_more (λ (given : ℕ × HeldCall). (run.started ≡ given.0) × (start_of run ≡ start_by_call place.troupe (declared hosted).procedures given.1))
               (first_given (may_by place boot begins from runs number) p) (first_given (may_by place boot begins from runs number) later)
@@ -184,6 +192,7 @@ module _ {M : Type 0} (declared : M → Signature) (turn : M → List ValueTree 
         let w = h.goes.well in
         record {
           unreplied = w.unreplied;
+          enough = w.enough;
           runs_so = λ number run there. run_still kept.from kept.runs number run (λ n ask at. h.no_answer number n run ask there at) (w.runs number run there);
           next = none_yet (may_by place boot begins kept.from kept.runs (length kept.runs)) p w.next h.no_more;
           few = w.few;
@@ -199,9 +208,11 @@ module _ {M : Type 0} (declared : M → Signature) (turn : M → List ValueTree 
         let w = h.goes.well in
         let outside_so : is_active (phase begins p) ≡ false = ap is_active (sym w.way.phase_is) ∙ outside in
         let from : kept.from ≡ 0 = w.way.outside outside in
+        let enough = w.enough in
         let no_runs : length kept.runs ≡ 0 = ap (λ (rs : List RunRecord). length rs) none in
         record {
           unreplied = λ index below. w.unreplied index (omega (arith, from, no_runs));
+          enough = omega (arith, enough, no_runs);
           runs_so = λ number run there. absurd (none_is_some there);
           next = inactive_none begins (may_by place boot begins count [] 0) (λ q out. rw out refl) p outside_so;
           few = omega (arith, few);
@@ -367,6 +378,7 @@ module _ {M : Type 0} (declared : M → Signature) (turn : M → List ValueTree 
           from_is = from_handled step o m w.from_is;
           unreplied = so.unreplied;
           way = way_handled boot begins p step o m within w.way;
+          enough = so.enough;
           runs = so.runs_so;
           next = so.next;
           few = so.few;

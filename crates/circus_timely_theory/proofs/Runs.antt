@@ -26,7 +26,7 @@ use Rattle.circus_member_rules.specs.declared.occurrence.AskName.{AskName}
 use Rattle.circus_member_step.specs.Step.{start_by_call}
 use Rattle.circus_timely.specs.Past.{Past, now, Rises, phase}
 use Rattle.circus_timely.specs.First.{first_given}
-use Rattle.circus_timely.specs.Timely.{ShowsAnswer, collated_call, is_free_for, may_start, may_answer, IsStartedInTime}
+use Rattle.circus_timely.specs.Timely.{ShowsAnswer, IsMain, collated_call, is_free_for, may_start, may_answer, IsStartedInTime}
 use Rattle.circus_timely_theory.proofs.Firsts.{earlier, same_first, none_earlier}
 
 same_there : {X : Type 0} (xs : List X) (x : X) (n : ℕ) → n < length xs → slice_get (xs ++ x ∷ []) n ≡ slice_get xs n
@@ -177,6 +177,7 @@ module _ (place : Place) (boot : List View) (begins : Joiner) where
 
   module _ (procedures : List ProcedureShape) (at_boot : ℕ) (p : Past) where
     pub record RunSo (from : ℕ) (runs : List RunRecord) (number : ℕ) (run : RunRecord) : Type 0 where
+      pub boots : number < at_boot → IsMain place.troupe boot run
       pub starts : at_boot ≤ number → IsStartedInTime place boot begins procedures at_boot (kept_of from runs) p number run
       pub answers : AsksSo (λ n. IsInTime p (named from number n)) run.entry run.asks
 
@@ -192,10 +193,10 @@ module _ (place : Place) (boot : List View) (begins : Joiner) where
           (λ q _. may_more from runs run number q below)
 
       so_more : (number : ℕ) (r : RunRecord) → number ≤ length runs → RunSo from runs number r → RunSo from (runs ++ run ∷ []) number r
-      so_more number r below h = record { starts = λ is. subst (GivenSo r) (sym (same_more number below)) (h.starts is); answers = h.answers }
+      so_more number r below h = record { boots = h.boots; starts = λ is. subst (GivenSo r) (sym (same_more number below)) (h.starts is); answers = h.answers }
 
       so_less : (number : ℕ) (r : RunRecord) → number ≤ length runs → RunSo from (runs ++ run ∷ []) number r → RunSo from runs number r
-      so_less number r below h = record { starts = λ is. subst (GivenSo r) (same_more number below) (h.starts is); answers = h.answers }
+      so_less number r below h = record { boots = h.boots; starts = λ is. subst (GivenSo r) (same_more number below) (h.starts is); answers = h.answers }
 
       pub runs_more : RunsSo from runs → RunSo from runs (length runs) run → RunsSo from (runs ++ run ∷ [])
       runs_more so new number r there =

@@ -92,6 +92,7 @@ module _ {M : Type 0} (declared : M → Signature) (turn : M → List ValueTree 
     pub from_is : g.from ≡ kept.from
     pub unreplied : (index : ℕ) → kept.from + length kept.runs ≤ index → reply_of g index ≡ None
     pub way : IsOnItsWay begins p kept
+    pub enough : at_boot ≤ length kept.runs
     pub runs : RunsSo place boot begins (declared hosted).procedures at_boot p kept.from kept.runs
     pub next : earlier (may_by place boot begins kept.from kept.runs (length kept.runs)) p ≡ None
     pub few : kept.from + length kept.runs ≤ last_count + 1
@@ -136,6 +137,7 @@ module _ {M : Type 0} (declared : M → Signature) (turn : M → List ValueTree 
               let other : nat_eq i index ≡ false = ne_eqb i index (λ same. omega (arith, same, below, some)) in
               lookup-push (nat_eq i) m.gathered.replies (index, reply) ∙ rw (h.unreplied i below, other) refl;
           way = h.way;
+          enough = h.enough;
           runs = h.runs;
           next = h.next;
           few = h.few;

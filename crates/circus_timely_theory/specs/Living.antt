@@ -1,5 +1,5 @@
 -- A member as it is behind a past, and which pasts it may live.
-use Rattle.std.specs.Prelude.{ℕ, ◌<◌, ◌≤◌, if◌then◌else◌, List}
+use Rattle.std.specs.Prelude.{ℕ, ◌<◌, if◌then◌else◌, List}
 use Rattle.circus_value.specs.ValueTree.{ValueTree}
 use Rattle.circus_value.specs.declared.outcome.Outcome.{Outcome}
 use Rattle.circus_collate.specs.declared.view.View.{View}
@@ -7,40 +7,26 @@ use Rattle.circus_transfer.specs.declared.joiner.Joiner.{Joiner}
 use Rattle.circus_transfer.specs.declared.joiner.Joiner.TheVariants.{Outside, Active}
 use Rattle.circus_model.specs.declared.signature.Signature.{Signature}
 use Rattle.circus_model.specs.NextTurn.{NextTurn}
-use Rattle.circus_performing.specs.Performing.{last_count}
 use Rattle.circus_member_rules.specs.declared.place.Place.{Place}
 use Rattle.circus_member_rules.specs.declared.place.Beginning.{Beginning}
 use Rattle.circus_member_rules.specs.declared.place.Beginning.TheVariants.{Founder, Spare}
-use Rattle.circus_member_rules.specs.declared.occurrence.Occurrence.{Occurrence}
-use Rattle.circus_member_rules.specs.declared.occurrence.Occurrence.TheVariants as comes
 use Rattle.circus_member_step.specs.MemberState.{MemberState}
 use Rattle.circus_member_step.specs.Step as step
-use Rattle.circus_member_step.specs.Step.{starts_at_boot}
 use Rattle.circus_member_step.specs.Happening.{CanHappen}
+use Rattle.circus_member_theory.specs.Ranges.{InRange}
 use Rattle.circus_timely.specs.Past.{Past, booted, followed, now}
-
--- a count that comes has room in a record
-abbrev pub HasRoom : Occurrence → Type 0
-HasRoom (comes.Asked header body sender) = Unit {0}
-HasRoom (comes.Fetched incarnation sender) = Unit {0}
-HasRoom (comes.Replied name from reply) = Unit {0}
-HasRoom (comes.IsStale name server from incarnation) = Unit {0}
-HasRoom (comes.IsBefore name from) = Unit {0}
-HasRoom (comes.Told request table) = Unit {0}
-HasRoom (comes.Restored state count) = count ≤ last_count
-HasRoom (comes.Declared node) = Unit {0}
-HasRoom comes.Joins = Unit {0}
 
 -- the phase at boot
 abbrev pub phase_at_boot : Beginning → Joiner
 phase_at_boot Founder = Active 0
 phase_at_boot Spare = Outside
 
-module _ {M : Type 0} (declared : M → Signature) (turn : M → List ValueTree → ℕ → List ValueTree → List Outcome → NextTurn) where
-  -- how many runs are entered at boot: that of a root's founder
-  abbrev pub runs_at_boot : Beginning → M → ℕ
-  runs_at_boot beginning hosted = if starts_at_boot declared turn beginning hosted then 1 else 0
+-- how many runs are entered at boot: the MAIN of a root's founder
+abbrev pub runs_at_boot : {M : Type 0} → (M → Signature) → Beginning → M → ℕ
+runs_at_boot declared Founder hosted = if (declared hosted).root then 1 else 0
+runs_at_boot declared Spare hosted = 0
 
+module _ {M : Type 0} (declared : M → Signature) (turn : M → List ValueTree → ℕ → List ValueTree → List Outcome → NextTurn) where
   module _ (first : M → List ValueTree) (place : Place) (views : List View) (beginning : Beginning) (hosted : M) where
     -- the member behind what happened to it
     abbrev pub after : Past → MemberState M
@@ -50,4 +36,4 @@ module _ {M : Type 0} (declared : M → Signature) (turn : M → List ValueTree 
     -- each occurrence can happen to the member as it was then, and comes in a later step
     abbrev pub MayLive : Past → Type 0
     MayLive booted = Unit {0}
-    MayLive (followed p at o) = MayLive p × (now p < at) × CanHappen (declared hosted) (after p) o × HasRoom o
+    MayLive (followed p at o) = MayLive p × (now p < at) × CanHappen (declared hosted) (after p) o × InRange o

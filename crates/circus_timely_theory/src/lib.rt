@@ -4,9 +4,13 @@
 //! has what was given first along a past, `Calls.antt` and `Replies.antt` that what a member holds, and what was said to an ask
 //! that waits, gives what all that came gives, `Known.antt` that it knows and is what its past says, `Runs.antt`, `Open.antt`,
 //! `Turned.antt` and `Going.antt` what each act within a step keeps, `Rests.antt` what holds between two steps, and `Lived.antt`
-//! the sum.
+//! the sum. `Unanimity.antt` and `Counted.antt` have what is meant by a value that all have said, by those that are expected to say
+//! one, and by a call that counts.
 #![tactic(auto)]
 
 mod laws;
 
-pub use laws::nothing_comes_late_or_early;
+pub use laws::{
+    calls_of_known_views_count, nothing_comes_late_or_early, those_that_perform_are_expected,
+    unanimous_values_are_said_by_all,
+};

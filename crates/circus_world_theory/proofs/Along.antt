@@ -38,22 +38,22 @@ use Rattle.circus_talks.proofs.Lines.{lead_stands}
 use Rattle.circus_talks.proofs.Messages.{call_handed, return_handed}
 use Rattle.circus_talks.proofs.Worlds.{Stands, get_same}
 use Rattle.circus_truth.specs.Proper.{AreProper}
-use Rattle.circus_world_theory.proofs.Stepping.{CalledAt, HeardAt, ComesTruly, NodesTrue, comes_true}
+use Rattle.circus_world_theory.proofs.Stepping.{CalledAt, HeardAt, ComesTruly, NodesTrue, same_world, comes_true}
 use Rattle.circus_world_theory.proofs.True.{ActsTrue}
 
 -- ---- lines that may be stepped
 
 module _ {M : Type 0} where
-  noted_at : (note : Standing M → Standing M) (node : ℕ) (w : WorldState M) (s : Standing M) → slice_get w.nodes node ≡ Some s
+  pub noted_at : (note : Standing M → Standing M) (node : ℕ) (w : WorldState M) (s : Standing M) → slice_get w.nodes node ≡ Some s
       → slice_get (noted note node w).nodes node ≡ Some (note s)
   noted_at note node w s at =
       ap (λ (o : Option (Standing M)). slice_get (option_map_or (λ t. set w.nodes node (note t)) o w.nodes) node) at ∙ get_same w.nodes node (note s) s at
 
-  live_there : (o : Option (Standing M)) → option_map_or (λ (s : Standing M). is_none s.crashed) o false ≡ true → (s : Standing M) × (o ≡ Some s)
+  pub live_there : (o : Option (Standing M)) → option_map_or (λ (s : Standing M). is_none s.crashed) o false ≡ true → (s : Standing M) × (o ≡ Some s)
   live_there None live = absurd (let clash : false ≡ true = live in cc)
   live_there (Some s) live = (s, refl)
 
-below_sent : (below : Bool) (number most : ℕ) → (if below then None else Some (NoDatagram number most)) ≡ None → below ≡ true
+pub below_sent : (below : Bool) (number most : ℕ) → (if below then None else Some (NoDatagram number most)) ≡ None → below ≡ true
 below_sent true number most legal = refl
 below_sent false number most legal = absurd (let clash : ◌≡◌ {A = Option LineCause} (Some (NoDatagram number most)) None = legal in cc)
 
@@ -74,11 +74,11 @@ module _ {M : Type 0} (declared : M → Signature) (turn : M → List ValueTree 
   -- ---- what a line adds at the pairs of a node
 
   module _ (line : Line) (w : WorldState M) where
-    nothing_by : comes_by line w ≡ None → (node : ℕ) (acts : WireActs Purpose) → acts ≡ with_line declared turn node acts line w
+    pub nothing_by : comes_by line w ≡ None → (node : ℕ) (acts : WireActs Purpose) → acts ≡ with_line declared turn node acts line w
     nothing_by none node acts = sym (ap (λ o. option_map_or (with_step declared turn node acts w) o acts) none)
 
     module _ (node : ℕ) (event : Event) (comes_it : comes_by line w ≡ Some (node, event)) where
-      here_by : (s : Standing M) → slice_get w.nodes node ≡ Some s → (acts : WireActs Purpose)
+      pub here_by : (s : Standing M) → slice_get w.nodes node ≡ Some s → (acts : WireActs Purpose)
           → with_line declared turn node acts line w ≡ with_all acts (acts_in declared turn (w.steps + 1) event s.node)
       here_by s at acts =
           let all : Standing M → WireActs Purpose = λ t. with_all acts (acts_in declared turn (w.steps + 1) event t.node) in
@@ -86,7 +86,7 @@ module _ {M : Type 0} (declared : M → Signature) (turn : M → List ValueTree 
           ∙ ap (λ b. if b then option_map_or all (slice_get w.nodes node) acts else acts) (eq-eqb node node refl)
           ∙ ap (λ (o : Option (Standing M)). option_map_or all o acts) at
 
-      elsewhere_by : (other : ℕ) → other ≢ node → (acts : WireActs Purpose) → with_line declared turn other acts line w ≡ acts
+      pub elsewhere_by : (other : ℕ) → other ≢ node → (acts : WireActs Purpose) → with_line declared turn other acts line w ≡ acts
       elsewhere_by other differs acts =
           ap (λ o. option_map_or (with_step declared turn other acts w) o acts) comes_it
           ∙ ap (λ b. if b then option_map_or (λ (s : Standing M). with_all acts (acts_in declared turn (w.steps + 1) event s.node)) (slice_get w.nodes other) acts else acts)
@@ -95,7 +95,7 @@ module _ {M : Type 0} (declared : M → Signature) (turn : M → List ValueTree 
   -- ---- one line
 
   -- after a line each two nodes talk
-  line_talks : (d : Deployment) (acts : ℕ → WireActs Purpose) (line : Line) (w next : WorldState M) → Stands d acts w → Leads declared turn line w next
+  pub line_talks : (d : Deployment) (acts : ℕ → WireActs Purpose) (line : Line) (w next : WorldState M) → Stands d acts w → Leads declared turn line w next
       → Stands d (λ node. with_line declared turn node (acts node) line w) next
   line_talks d acts line w next stands leads =
       subst (λ (f : ℕ → WireActs Purpose). Stands d f next)
@@ -130,7 +130,7 @@ module _ {M : Type 0} (declared : M → Signature) (turn : M → List ValueTree 
 
   true_so : (acts : ℕ → WireActs Purpose) (a b : WorldState M) → ◌≡◌ {A = Stepped M} (Ok a) (Ok b) → NodesTrue declared turn first program d acts a
       → NodesTrue declared turn first program d acts b
-  true_so acts a b is so_far = (let same : a ≡ b = cc in subst (λ (w : WorldState M). NodesTrue declared turn first program d acts w) same so_far)
+  true_so acts a b is so_far = subst (λ (w : WorldState M). NodesTrue declared turn first program d acts w) (same_world a b is) so_far
 
 module _ {M : Type 0} (declared : M → Signature) (turn : M → List ValueTree → ℕ → List ValueTree → List Outcome → NextTurn) (first : M → List ValueTree)
     (lawful : (hosted : M) → IsModule (behaviour declared turn first hosted))
@@ -170,7 +170,7 @@ module _ {M : Type 0} (declared : M → Signature) (turn : M → List ValueTree 
         unmoved (Deliver number) (ap (option_and_then (delivery w)) there ∙ ap (λ b. if b then Some (sent.to, comes.Datagram sent.from sent.bytes) else None) live)
         (true_so declared turn first program d acts (passed w) next (sym (delivered_at declared turn w number sent false there live) ∙ is) (passed_true declared turn first program d acts w so_far))
 
-    line_true : (line : Line) → Leads declared turn line w next → IsTrue (behind line)
+    pub line_true : (line : Line) → Leads declared turn line w next → IsTrue (behind line)
     line_true (Deliver number) leads =
         let below : number < length w.sent = ltb-true number (length w.sent) (below_sent (nat_lt number (length w.sent)) number (length w.sent) leads.legal) in
         let found = get_there w.sent number below in

@@ -1,8 +1,8 @@
 -- What is true of the nodes of a world that has booted.
-use Rattle.std.proofs.Common.{◌≡◌, ℕ, suc, ◌+◌, ◌<◌, ◌⊎◌, inl, inr, false, List, [], ◌∷◌, ◌++◌, length, map, All, Option, None, Some, Ok, Err, refl, sym, ap, subst, ◌∙◌, arith, add-zero, zero-add}
+use Rattle.std.proofs.Common.{◌≡◌, ℕ, ◌+◌, ◌<◌, List, [], ◌∷◌, length, map, All, Option, None, Some, Ok, refl, sym, ap, subst, ◌∙◌, arith}
 use Rattle.std.specs.Prelude.{slice_get, option_map, option_and_then}
 use Rattle.std.specs.Option.{option_map_or}
-use Rattle.std.proofs.lemmas.List.{length-append, length-map}
+use Rattle.std.proofs.lemmas.List.{length-map}
 use Rattle.std.proofs.lemmas.List.Elements.{All-nil, All-cons, All-weaker}
 use Rattle.std.proofs.lemmas.Option.{none-some, same_Some, slice_get-map}
 use Rattle.circus_value.specs.ValueTree.{ValueTree}
@@ -32,18 +32,16 @@ use Rattle.circus_node.specs.declared.event.Outputs.{Outputs}
 use Rattle.circus_node.specs.Booting.{AreOfTroupes, IsHosted, home_in, home_of, made_at_boot, member_at_boot, booted, fresh_wire}
 use Rattle.circus_node.specs.NodeState.{NodeState}
 use Rattle.circus_node.specs.Making.{Made}
-use Rattle.circus_node.specs.Step as node_step
 use Rattle.circus_node.proofs.BootLemmas.{is_home}
-use Rattle.circus_world.specs.WorldState.{WorldState, Standing}
-use Rattle.circus_world.specs.Course as course
-use Rattle.circus_world.specs.Course.{Stepped}
-use Rattle.circus_world.specs.Boot.{before_any, joined_by, then_others, all_booted, AreHosted}
-use Rattle.circus_world.proofs.SlotLemmas.{get_push, get_there}
+use Rattle.circus_world.specs.WorldState.{WorldState}
+use Rattle.circus_world.specs.Boot.{before_any, all_booted, AreHosted}
+use Rattle.circus_world.proofs.SlotLemmas.{get_there}
 use Rattle.circus_talks.specs.NodeActs.{with_all, acts_at_boot}
 use Rattle.circus_truth.specs.Proper.{AreProper}
 use Rattle.circus_truth.specs.Truth.{IsLong, IsTrueMember, IsTrueEffect, IsTrueCallFor, IsTrueReturn}
 use Rattle.circus_member_theory.proofs.Resting.{boot_rests}
 use Rattle.circus_member_theory.proofs.Step.{boot_keeps_true}
+use Rattle.circus_world_theory.proofs.Booted.{all_have_booted}
 use Rattle.circus_world_theory.proofs.Handing.{IsMade, boot_said}
 use Rattle.circus_world_theory.proofs.Saying.{AllSaid}
 use Rattle.circus_world_theory.proofs.Stepping.{CalledAt, SaysTrue, NodesTrue, EndsTrue, concluded_ends}
@@ -157,65 +155,6 @@ module _ {M : Type 0} (declared : M → Signature) (turn : M → List ValueTree 
   -- ---- all of them
 
   module _ (hosted : List (Option M)) (hosts : AreHosted declared turn first d modules hosted) where
-    -- a node has booted
-    record HasBooted (node : ℕ) (n : NodeState M) : Type 0 where
-      own : Option M
-      own_is : slice_get hosted node ≡ Some own
-      outputs : Outputs
-      booted_is : booted declared turn first d own node ≡ Ok (n, outputs)
-
-    record SoFar (w : WorldState M) : Type 0 where
-      deployment : w.deployment ≡ d
-      nodes : (node : ℕ) (s : Standing M) → slice_get w.nodes node ≡ Some s → HasBooted node s.node
-
-    one_more : (w : WorldState M) (own : Option M) (ended : NodeState M × Outputs) → SoFar w → slice_get hosted (length w.nodes) ≡ Some own
-        → booted declared turn first w.deployment own (length w.nodes) ≡ Ok ended
-        → SoFar (record w {
-          nodes = w.nodes ++ record { node = ended.0; crashed = None; joins = false } ∷ [];
-          sent = w.sent ++ map (course.sent_by 0 (length w.nodes)) ended.1.gives;
-        })
-    one_more w own ended so_far at ends =
-        record {
-          deployment = so_far.deployment;
-          nodes = λ node s found. by_place node s (get_push w.nodes node (record { node = ended.0; crashed = None; joins = false }) s found);
-        }
-      where
-        last : HasBooted (length w.nodes) ended.0
-        last = record { own = own; own_is = at; outputs = ended.1; booted_is = ap (λ x. booted declared turn first x own (length w.nodes)) (sym so_far.deployment) ∙ ends }
-
-        by_place : (node : ℕ) (s : Standing M) → ((node ≡ length w.nodes) × (s ≡ record { node = ended.0; crashed = None; joins = false })) ⊎ (slice_get w.nodes node ≡ Some s)
-            → HasBooted node s.node
-        by_place node s (inl here) =
-            subst (λ k. HasBooted k s.node) (sym here.0) (subst (λ (v : Standing M). HasBooted (length w.nodes) v.node) (sym here.1) last)
-        by_place node s (inr there) = so_far.nodes node s there
-
-    abbrev LeaveSoFar : List (Option M) → Type 0
-    LeaveSoFar others = (w last : WorldState M) → SoFar w
-        → ((place : ℕ) (own : Option M) → slice_get others place ≡ Some own → slice_get hosted (length w.nodes + place) ≡ Some own)
-        → all_booted declared turn first others w ≡ Ok last → SoFar last
-
-    next_so_far : (own : Option M) (others : List (Option M)) → LeaveSoFar others → LeaveSoFar (own ∷ others)
-    next_so_far own others leave w last so_far are_there is = by_end (booted declared turn first w.deployment own (length w.nodes)) refl is
-      where
-        by_end : (e : node_step.Ended M) → booted declared turn first w.deployment own (length w.nodes) ≡ e
-            → then_others (all_booted declared turn first others) (joined_by w e) ≡ Ok last → SoFar last
-        by_end (Err peer) ends is = absurd (let clash : ◌≡◌ {A = Stepped M} (Err (length w.nodes, peer)) (Ok last) = is in cc)
-        by_end (Ok ended) ends is =
-            let s : Standing M = record { node = ended.0; crashed = None; joins = false } in
-            let longer : length (w.nodes ++ s ∷ []) ≡ length w.nodes + 1 = length-append w.nodes (s ∷ []) in
-            leave _ last
-            (one_more w own ended so_far (ap (slice_get hosted) (sym (add-zero (length w.nodes))) ∙ are_there 0 own refl) ends)
-            (λ place other found.
-            let same : length (w.nodes ++ s ∷ []) + place ≡ length w.nodes + suc place = omega (arith, longer) in
-            ap (slice_get hosted) same ∙ are_there (suc place) other found)
-            is
-
-    all_so_far : (others : List (Option M)) → LeaveSoFar others
-    all_so_far [] = λ w last so_far are_there is. let same : w ≡ last = cc in subst (λ (v : WorldState M). SoFar v) same so_far
-    all_so_far (own ∷ others) = next_so_far own others (all_so_far others)
-
-    -- ---- a world
-
     abbrev own_of : ℕ → Option M
     own_of node = option_and_then (λ own. own) (slice_get hosted node)
 
@@ -259,9 +198,7 @@ module _ {M : Type 0} (declared : M → Signature) (turn : M → List ValueTree 
 
     pub boot_true : (w : WorldState M) → all_booted declared turn first hosted (before_any d modules) ≡ Ok w → NodesTrue declared turn first program d at_boot w
     boot_true w is =
-        let so_far = all_so_far hosted (before_any d modules) w
-        (record { deployment = refl; nodes = λ node s at. absurd (none-some s at) })
-        (λ place own found. ap (slice_get hosted) (zero-add place) ∙ found) is in
+        let so_far = all_have_booted declared turn first d hosted modules w is in
         record {
           deployment = so_far.deployment;
           nodes = λ node s at.

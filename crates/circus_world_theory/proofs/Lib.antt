@@ -1,7 +1,9 @@
 pub mod Along
 pub mod Beginning
+pub mod Booted
 pub mod Growing
 pub mod Handing
+pub mod Lawful
 pub mod Making
 pub mod Plain
 pub mod Saying

@@ -3,6 +3,7 @@ use Rattle.std.proofs.Common.{◌≡◌, ℕ, ◌<◌, inr, List, [], ◌∷◌,
 use Rattle.std.specs.Prelude.{IfSome}
 use Rattle.std.specs.Option.{option_map_or, option_to_list}
 use Rattle.std.proofs.lemmas.List.Elements.{All-nil, All-cons, All-weaker}
+use Rattle.std.proofs.lemmas.Option.{none-some}
 use Rattle.circus_value.specs.ValueTree.{ValueTree}
 use Rattle.circus_value.specs.declared.caller.Caller.{Caller}
 use Rattle.circus_value.specs.declared.outcome.Outcome.{Outcome}
@@ -32,7 +33,7 @@ use Rattle.circus_member_step.specs.Happening.{CanHappen}
 use Rattle.circus_member_step.specs.Seen.Sound.{IsRested}
 use Rattle.circus_accepting.specs.Accepting.{accepted, accepted_request}
 use Rattle.circus_node.specs.NodeState.{Acting, member, ringmaster}
-use Rattle.circus_node.specs.Making.{Made, happens, unchanged, refused, arrives_at_member, arrives_at_ring, by_ring, hears, learns_down, is_told_to_join, performs, table_message, a_drop}
+use Rattle.circus_node.specs.Making.{Made, happens, unchanged, refused, arrives_at_ring, by_ring, hears, learns_down, is_told_to_join, performs, table_message, a_drop}
 use Rattle.circus_truth.specs.Proper.{AreProper}
 use Rattle.circus_truth.specs.Truth.{IsTrueMember, IsTrueOccurrence, IsTrueEffect, IsTrueCallFor, IsTrueReturn}
 use Rattle.circus_accepting_theory.proofs.True.{call_is_true, return_is_true}
@@ -91,27 +92,85 @@ module _ (program : List Behaviour) (Called Theirs : Caller → List ℕ → Typ
   HeardSo own server (heard.Returned number purpose message) =
       (call : List ℕ) × (caller : Caller) × CallSo program Called own purpose call × ReturnSo program (λ _ other. other ≡ call) server caller message
 
+-- ---- what is accepted
+
+-- what can happen to a member of a troupe, and truly does
+module _ {M : Type 0} (declared : M → Signature) (first : M → List ValueTree) (program : List Behaviour) (Called : Caller → List ℕ → Type 0) (troupe : ℕ) (m : MemberState M) where
+  abbrev pub Happens : Occurrence → Type 0
+  Happens o = CanHappen (declared m.performing.hosted) m o × IsTrueOccurrence (history_of program) troupe (first m.performing.hosted) Called m o
+
+-- it does so where it is accepted of what is heard
+abbrev pub Accepts : {M : Type 0} → (M → Signature) → (M → List ValueTree) → List Behaviour → Deployment → (Caller → List ℕ → Type 0) → ℕ → MemberState M → ℕ → Heard Purpose → Type 0
+Accepts declared first program d Called troupe m from h =
+    (x : Occurrence) → accepted d (declared m.performing.hosted) m from h ≡ Some x → Happens declared first program Called troupe m x
+
+module _ {M : Type 0} (declared : M → Signature) (turn : M → List ValueTree → ℕ → List ValueTree → List Outcome → NextTurn) (first : M → List ValueTree)
+    (program : List Behaviour) (d : Deployment) (Called : Caller → List ℕ → Type 0) (troupe : ℕ) (m : MemberState M)
+    (so_far : IsTrueAt declared turn first program d Called troupe m) where
+  same_first : first m.performing.hosted ≡ first_at program troupe
+  same_first = ap (λ (o : Option Behaviour). option_map_or (λ (b : Behaviour). b.first) o []) (sym so_far.at)
+
+  module _ (agree : Agree program) (are : AreModules program) (proper : AreProper program) (from : ℕ) where
+    abbrev AcceptsOf : Heard Purpose → Type 0
+    AcceptsOf h = Accepts declared first program d Called troupe m from h
+
+    called_accepts : (server : Option ℕ) (Theirs : Caller → List ℕ → Type 0) (sender : Caller) (message : List ℕ) (purpose : Purpose) → MayHaveModule program server
+        → Called sender message → CallSo program Theirs server purpose message → AcceptsOf (heard.Called sender message)
+    called_accepts (Some client) Theirs sender message purpose has called so x is = (
+      call_can declared turn first program agree are proper d troupe Called m from client has.behaves (first_at program client) Theirs sender message purpose x
+          so_far.of has.there so is,
+      call_is_true declared turn first program agree are proper d troupe Called m from client (first_at program client) Theirs sender message purpose x
+          so_far.is.own so called is,
+    )
+    called_accepts None Theirs sender message purpose has called so x is = absurd so
+
+    returned_by : (server number : ℕ) (firsts : List ValueTree) (caller : Caller) (purpose : Purpose) (call message : List ℕ) → troupe < 32 → server < 32
+        → (server ≡ troupe → firsts ≡ first m.performing.hosted)
+        → CallSo program Called (Some troupe) purpose call → IsTrueReturn (history_of program) server firsts (λ _ other. other ≡ call) caller message
+        → AcceptsOf (heard.Returned number purpose message)
+    returned_by server number firsts caller purpose call message own few same made_so so x is =
+        let own_call = subst (λ f. IsTrueCallFor (history_of program) troupe f Called purpose call) (sym same_first) made_so in (
+          return_can declared turn first program agree are proper d troupe Called m from number server firsts caller purpose call message x
+              so_far.of so_far.at own_call so same few own is,
+          return_is_true declared turn first program agree are proper d troupe Called m from number server firsts caller purpose call message x
+              so_far.at so_far.is own_call so same few own is,
+        )
+
+    returned_accepts : (number : ℕ) (server : Option ℕ) (caller : Caller) (purpose : Purpose) (call message : List ℕ) → troupe < 32 → MayHaveModule program server
+        → CallSo program Called (Some troupe) purpose call → ReturnSo program (λ _ other. other ≡ call) server caller message
+        → AcceptsOf (heard.Returned number purpose message)
+    returned_accepts number (Some server) caller purpose call message own has made_so so =
+        returned_by server number (first_at program server) caller purpose call message own has.few (λ same. ap (first_at program) same ∙ sym same_first) made_so so
+    returned_accepts number None caller purpose call message own has made_so so =
+        returned_by troupe number (first m.performing.hosted) caller purpose call message own own (λ same. refl) made_so (inr (inr so))
+
+    -- so it is with all that is heard
+    pub heard_accepts : (server : Option ℕ) (Theirs : Caller → List ℕ → Type 0) (h : Heard Purpose) → troupe < 32 → MayHaveModule program server
+        → HeardSo program Called Theirs (Some troupe) server h → AcceptsOf h
+    heard_accepts server Theirs heard.Dropped own has so = λ x is. absurd (none-some x is)
+    heard_accepts server Theirs heard.Taken own has so = λ x is. absurd (none-some x is)
+    heard_accepts server Theirs (heard.Called sender message) own has so = called_accepts server Theirs sender message so.1.0 has so.0 so.1.1
+    heard_accepts server Theirs (heard.Returned number purpose message) own has so = returned_accepts number server so.1 purpose so.0 message own has so.2 so.3
+
+-- ---- what is made
+
 module _ {M : Type 0} (declared : M → Signature) (turn : M → List ValueTree → ℕ → List ValueTree → List Outcome → NextTurn) (first : M → List ValueTree)
     (lawful : (hosted : M) → IsModule (behaviour declared turn first hosted))
     (program : List Behaviour) (agree : Agree program) (are : AreModules program) (proper : AreProper program) (d : Deployment) (Called : Caller → List ℕ → Type 0) where
   -- ---- a member
 
   module _ (troupe : ℕ) (m : MemberState M) (so_far : IsTrueAt declared turn first program d Called troupe m) where
-    same_first : first m.performing.hosted ≡ first_at program troupe
-    same_first = ap (λ (o : Option Behaviour). option_map_or (λ (b : Behaviour). b.first) o []) (sym so_far.at)
-
     abbrev Makes : Made M → Type 0
     Makes made = MakesTrue declared turn first program d Called (Some troupe) made
 
-    abbrev HappensSo : Occurrence → Type 0
-    HappensSo o = IsTrueOccurrence (history_of program) troupe (first m.performing.hosted) Called m o
-
     effect_so : (e : Effect) → IsTrueEffect (history_of program) troupe (first m.performing.hosted) Called e → EffectSo program Called (Some troupe) e
-    effect_so (made.Call to message purpose) is = subst (λ f. IsTrueCallFor (history_of program) troupe f Called purpose message) same_first is
-    effect_so (made.Answer caller message) is = subst (λ f. IsTrueReturn (history_of program) troupe f Called caller message) same_first is
+    effect_so (made.Call to message purpose) is =
+        subst (λ f. IsTrueCallFor (history_of program) troupe f Called purpose message) (same_first declared turn first program d Called troupe m so_far) is
+    effect_so (made.Answer caller message) is =
+        subst (λ f. IsTrueReturn (history_of program) troupe f Called caller message) (same_first declared turn first program d Called troupe m so_far) is
 
-    happens_true : (at : ℕ) (o : Occurrence) → CanHappen (declared m.performing.hosted) m o → HappensSo o → Makes (happens declared turn at m o)
-    happens_true at o can so =
+    happens_true : (at : ℕ) (o : Occurrence) → Happens declared first program Called troupe m o → Makes (happens declared turn at m o)
+    happens_true at o (can, so) =
         let n = stepped declared turn at o m in
         let rests = step_rests declared turn first lawful at o m so_far.rested can (in_range program agree are troupe (first m.performing.hosted) Called m o so) in
         let keeps = step_keeps_true declared turn first lawful program agree are proper troupe Called at o m so_far.at so_far.rested can so_far.is so in
@@ -132,47 +191,17 @@ module _ {M : Type 0} (declared : M → Signature) (turn : M → List ValueTree 
     nothing_accepted : Makes (refused (member m))
     nothing_accepted = record { acting = so_far; effects = All-nil (EffectSo program Called (Some troupe)); differences = refl }
 
-    by_accepted : (at : ℕ) (o : Option Occurrence) → ((x : Occurrence) → o ≡ Some x → CanHappen (declared m.performing.hosted) m x) → ((x : Occurrence) → o ≡ Some x → HappensSo x)
+    by_accepted : (at : ℕ) (o : Option Occurrence) → ((x : Occurrence) → o ≡ Some x → Happens declared first program Called troupe m x)
         → Makes (option_map_or (happens declared turn at m) o (refused (member m)))
-    by_accepted at None can so = nothing_accepted
-    by_accepted at (Some o) can so = happens_true at o (can o refl) (so o refl)
+    by_accepted at None so = nothing_accepted
+    by_accepted at (Some o) so = happens_true at o (so o refl)
 
-    called_true : (at from : ℕ) (server : Option ℕ) (Theirs : Caller → List ℕ → Type 0) (sender : Caller) (message : List ℕ) (purpose : Purpose) → MayHaveModule program server
-        → Called sender message → CallSo program Theirs server purpose message → Makes (arrives_at_member declared turn d at from (heard.Called sender message) m)
-    called_true at from (Some client) Theirs sender message purpose has called so =
-        by_accepted at (accepted d (declared m.performing.hosted) m from (heard.Called sender message))
-        (λ x is. call_can declared turn first program agree are proper d troupe Called m from client has.behaves (first_at program client) Theirs sender message purpose x
-        so_far.of has.there so is)
-        (λ x is. call_is_true declared turn first program agree are proper d troupe Called m from client (first_at program client) Theirs sender message purpose x
-        so_far.is.own so called is)
-    called_true at from None Theirs sender message purpose has called so = absurd so
-
-    returned_by : (at from server number : ℕ) (firsts : List ValueTree) (caller : Caller) (purpose : Purpose) (call message : List ℕ) → troupe < 32 → server < 32
-        → (server ≡ troupe → firsts ≡ first m.performing.hosted)
-        → CallSo program Called (Some troupe) purpose call → IsTrueReturn (history_of program) server firsts (λ _ other. other ≡ call) caller message
-        → Makes (arrives_at_member declared turn d at from (heard.Returned number purpose message) m)
-    returned_by at from server number firsts caller purpose call message own few same made_so so =
-        let own_call = subst (λ f. IsTrueCallFor (history_of program) troupe f Called purpose call) (sym same_first) made_so in
-        by_accepted at (accepted d (declared m.performing.hosted) m from (heard.Returned number purpose message))
-        (λ x is. return_can declared turn first program agree are proper d troupe Called m from number server firsts caller purpose call message x
-        so_far.of so_far.at own_call so same few own is)
-        (λ x is. return_is_true declared turn first program agree are proper d troupe Called m from number server firsts caller purpose call message x
-        so_far.at so_far.is own_call so same few own is)
-
-    returned_true : (at from number : ℕ) (server : Option ℕ) (caller : Caller) (purpose : Purpose) (call message : List ℕ) → troupe < 32 → MayHaveModule program server
-        → CallSo program Called (Some troupe) purpose call → ReturnSo program (λ _ other. other ≡ call) server caller message
-        → Makes (arrives_at_member declared turn d at from (heard.Returned number purpose message) m)
-    returned_true at from number (Some server) caller purpose call message own has made_so so =
-        returned_by at from server number (first_at program server) caller purpose call message own has.few (λ same. ap (first_at program) same ∙ sym same_first) made_so so
-    returned_true at from number None caller purpose call message own has made_so so =
-        returned_by at from troupe number (first m.performing.hosted) caller purpose call message own own (λ same. refl) made_so (inr (inr so))
-
-    heard_true : (at from : ℕ) (server : Option ℕ) (Theirs : Caller → List ℕ → Type 0) (h : Heard Purpose) → troupe < 32 → MayHaveModule program server
-        → HeardSo program Called Theirs (Some troupe) server h → Makes (hears declared turn d at from h (member m))
-    heard_true at from server Theirs heard.Dropped own has so = nothing_accepted
-    heard_true at from server Theirs heard.Taken own has so = nothing_made
-    heard_true at from server Theirs (heard.Called sender message) own has so = called_true at from server Theirs sender message so.1.0 has so.0 so.1.1
-    heard_true at from server Theirs (heard.Returned number purpose message) own has so = returned_true at from number server so.1 purpose so.0 message own has so.2 so.3
+    heard_true : (at from : ℕ) (h : Heard Purpose) → Accepts declared first program d Called troupe m from h → Makes (hears declared turn d at from h (member m))
+    heard_true at from heard.Dropped so = nothing_accepted
+    heard_true at from heard.Taken so = nothing_made
+    heard_true at from (heard.Called sender message) so = by_accepted at (accepted d (declared m.performing.hosted) m from (heard.Called sender message)) so
+    heard_true at from (heard.Returned number purpose message) so =
+        by_accepted at (accepted d (declared m.performing.hosted) m from (heard.Returned number purpose message)) so
 
   -- ---- either
 
@@ -185,21 +214,22 @@ module _ {M : Type 0} (declared : M → Signature) (turn : M → List ValueTree 
   pub hears_true : (at from : ℕ) (own server : Option ℕ) (Theirs : Caller → List ℕ → Type 0) (h : Heard Purpose) (a : Acting M) → MayHaveModule program own
       → MayHaveModule program server → HeardSo program Called Theirs own server h
       → ActsTrue declared turn first program d Called own a → MakesTrue declared turn first program d Called own (hears declared turn d at from h a)
-  hears_true at from (Some troupe) server Theirs h (member m) own has so acts = heard_true troupe m acts at from server Theirs h own.few has so
+  hears_true at from (Some troupe) server Theirs h (member m) own has so acts = heard_true troupe m acts at from h
+      (heard_accepts declared turn first program d Called troupe m acts agree are proper from server Theirs h own.few has so)
   hears_true at from (Some troupe) server Theirs h (ringmaster kept) own has so acts = absurd acts
   hears_true at from None server Theirs h (member m) own has so acts = absurd acts
   hears_true at from None server Theirs h (ringmaster kept) own has so acts = ring_hears at from h kept
 
   pub learns_true : (at node : ℕ) (own : Option ℕ) (a : Acting M) → ActsTrue declared turn first program d Called own a
       → MakesTrue declared turn first program d Called own (learns_down declared turn at node a)
-  learns_true at node (Some troupe) (member m) acts = happens_true troupe m acts at (comes.Declared node) tt tt
+  learns_true at node (Some troupe) (member m) acts = happens_true troupe m acts at (comes.Declared node) (tt, tt)
   learns_true at node (Some troupe) (ringmaster kept) acts = absurd acts
   learns_true at node None (member m) acts = absurd acts
   learns_true at node None (ringmaster kept) acts = record { acting = tt; effects = All-nil (EffectSo program Called None); differences = refl }
 
   pub joins_true : (at : ℕ) (own : Option ℕ) (a : Acting M) → ActsTrue declared turn first program d Called own a
       → MakesTrue declared turn first program d Called own (is_told_to_join declared turn at a)
-  joins_true at (Some troupe) (member m) acts = happens_true troupe m acts at comes.Joins tt tt
+  joins_true at (Some troupe) (member m) acts = happens_true troupe m acts at comes.Joins (tt, tt)
   joins_true at (Some troupe) (ringmaster kept) acts = absurd acts
   joins_true at None (member m) acts = absurd acts
   joins_true at None (ringmaster kept) acts = record { acting = tt; effects = All-nil (EffectSo program Called None); differences = refl }

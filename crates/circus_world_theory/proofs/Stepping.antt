@@ -120,8 +120,18 @@ module _ (program : List Behaviour) (d : Deployment) (acts : ℕ → WireActs Pu
 
 -- ---- a world
 
-same_ended : {M : Type 0} (a b : NodeState M × Outputs) → ◌≡◌ {A = node_step.Ended M} (Ok a) (Ok b) → a ≡ b
+pub same_ended : {M : Type 0} (a b : NodeState M × Outputs) → ◌≡◌ {A = node_step.Ended M} (Ok a) (Ok b) → a ≡ b
 same_ended a b is = cc
+
+pub same_world : {M : Type 0} (a b : WorldState M) → ◌≡◌ {A = Stepped M} (Ok a) (Ok b) → a ≡ b
+same_world a b is = cc
+
+-- what comes to a node that stands in a world is a step of this node
+pub comes_is : {M : Type 0} (declared : M → Signature) (turn : M → List ValueTree → ℕ → List ValueTree → List Outcome → NextTurn)
+    (w : WorldState M) (node : ℕ) (event : Event) (s : Standing M) → slice_get w.nodes node ≡ Some s
+    → comes_to declared turn node event w ≡ concluded node s w (node_step.stepped declared turn (w.steps + 1) event s.node)
+comes_is {M} declared turn w node event s at =
+    ap (λ (o : Option (Standing M)). option_map_or (λ (t : Standing M). concluded node t w (node_step.stepped declared turn (w.steps + 1) event t.node)) o (Ok w)) at
 
 module _ {M : Type 0} (declared : M → Signature) (turn : M → List ValueTree → ℕ → List ValueTree → List Outcome → NextTurn) (first : M → List ValueTree)
     (program : List Behaviour) (d : Deployment) where
@@ -272,17 +282,12 @@ module _ {M : Type 0} (declared : M → Signature) (turn : M → List ValueTree 
       after_true : NodesTrue declared turn first program d new after
       after_true = record { deployment = so_far.deployment; nodes = still_true; said = still_said }
 
-    comes_is : comes_to declared turn node event w ≡ concluded node s w (node_step.stepped declared turn (w.steps + 1) event s.node)
-    comes_is = ap (λ (o : Option (Standing M)). option_map_or (λ (t : Standing M). concluded node t w (node_step.stepped declared turn (w.steps + 1) event t.node)) o (Ok w)) at
-
-    same_world : (a b : WorldState M) → ◌≡◌ {A = Stepped M} (Ok a) (Ok b) → a ≡ b
-    same_world a b is = cc
-
     pub comes_true : (next : WorldState M) → comes_to declared turn node event w ≡ Ok next → NodesTrue declared turn first program d new next
     comes_true next is = by_end (node_step.stepped declared turn (w.steps + 1) event s.node) refl
       where
         by_end : (e : node_step.Ended M) → node_step.stepped declared turn (w.steps + 1) event s.node ≡ e → NodesTrue declared turn first program d new next
         by_end (Ok ended) ends =
             subst (λ (v : WorldState M). NodesTrue declared turn first program d new v)
-            (same_world (after ended ends) next (sym (comes_is ∙ ap (concluded node s w) ends) ∙ is)) (after_true ended ends)
-        by_end (Err peer) ends = absurd (let clash : ◌≡◌ {A = Stepped M} (Err (node, peer)) (Ok next) = sym (comes_is ∙ ap (concluded node s w) ends) ∙ is in cc)
+            (same_world (after ended ends) next (sym (comes_is declared turn w node event s at ∙ ap (concluded node s w) ends) ∙ is)) (after_true ended ends)
+        by_end (Err peer) ends = absurd (let clash : ◌≡◌ {A = Stepped M} (Err (node, peer)) (Ok next) =
+            sym (comes_is declared turn w node event s at ∙ ap (concluded node s w) ends) ∙ is in cc)

@@ -3,7 +3,8 @@
 //!
 //! `laws` says it, over `specs/Worlds.antt` and `specs/Agreeing.antt`. In `proofs/`, `True.antt` has what is true
 //! of a node, and `Making.antt` that what it makes is true; `Stepping.antt`, `Along.antt` and `Beginning.antt`
-//! say that this holds behind each step, along lines and at boot.
+//! say that this holds behind each step, along lines and at boot. `Booted.antt` has what a world that has
+//! booted consists of, and `Lawful.antt` a world of behaviours as one of lawful modules.
 #![tactic(auto)]
 
 mod laws;

@@ -1,6 +1,9 @@
-//! Tests of bytes and of the texts of values: external data and headers, read, refused and written.
+//! Tests of bytes and of texts: external data, headers and stubs, read, refused and written; the texts of values and of
+//! interfaces; and the texts of deployments.
 #![tactic(auto)]
 
+#[cfg(test)]
+mod deployments;
 #[cfg(test)]
 mod external;
 #[cfg(test)]
@@ -9,5 +12,11 @@ mod headers;
 mod parts;
 #[cfg(test)]
 mod shown;
+#[cfg(test)]
+mod shown_again;
+#[cfg(test)]
+mod shown_interfaces;
+#[cfg(test)]
+mod stubs;
 #[cfg(test)]
 mod thread_text;

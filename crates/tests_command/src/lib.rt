@@ -1,9 +1,31 @@
-//! A run of the command over a shelf, a sink and a link in memory, for tests.
+//! Tests of the command where a call fails in its midst: over sinks, shelves and links in memory; of the records of nodes that
+//! are served over such a link; and of a replay with a module that is no text.
+//!
+//! This file has a run of the command over a shelf, a sink and a link in memory. `sinks` has replays, and `written` the
+//! other forms, over a sink that fails; `links` has a served node, whose records stand in `records` and whose failures in
+//! `faults`. `either` has modules of two kinds as one kind, and `tally` a world in which a tally stands for a text.
 #![tactic(auto)]
+
+mod either;
+#[cfg(test)]
+mod faults;
+#[cfg(test)]
+mod links;
+#[cfg(test)]
+mod records;
+#[cfg(test)]
+mod reports;
+#[cfg(test)]
+mod sinks;
+#[cfg(test)]
+mod tally;
+#[cfg(test)]
+mod written;
 
 use circus_outside::{Arrivals, Failing, File, Files, MemLink, MemShelf, MemSink, Shelf, Sink};
 use circus_program::circus;
 use circus_value::{Duplicate, NoMemory, Octets};
+pub use either::Either;
 use std::alloc::Global;
 use tests_parts::joined;
 

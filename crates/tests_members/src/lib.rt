@@ -1,4 +1,4 @@
-//! Tests of members: what they perform, and what they make of what happens to them.
+//! Tests of members: what they perform, and what they make of what happens to them. `sources` reads the programs of the tests.
 #![tactic(auto)]
 
 #[cfg(test)]
@@ -14,8 +14,14 @@ mod serving;
 #[cfg(test)]
 mod shown;
 #[cfg(test)]
+mod sources;
+#[cfg(test)]
 mod stepping;
+#[cfg(test)]
+mod sums;
 #[cfg(test)]
 mod taker;
 #[cfg(test)]
 mod tallies;
+#[cfg(test)]
+mod unread;

@@ -4,6 +4,7 @@ ghost use Rattle.circus_value.specs.declared.shape.Shape.TheVariants.{Cardinal};
 ghost use Rattle.circus_value.specs.ValueTree.{cardinal};
 ghost use Rattle.tests_members.specs.Taker.{AreOfVault, OffersTake, ImportsVault, HasMain, IsTaker, AnswersTake};
 
+use crate::sources::checked;
 use circus_limits::FIRST_LIMIT;
 use circus_machine::TextModule;
 use circus_model::{ErrorShapes, Imports, Module, ProcedureShapes, Signature};
@@ -11,7 +12,6 @@ use circus_modules::modules_of;
 use circus_value::{NoMemory, Outcome, Shape, Shapes, Value, Values};
 use std::alloc::Global;
 use std::test::Fail;
-use tests_sources::checked;
 
 const VAULT: &[u8] = b"Keep: PROGRAM 4 VERSION 1 = BEGIN
     Empty: ERROR [short: CARDINAL] = 1;

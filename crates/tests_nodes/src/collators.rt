@@ -1,9 +1,9 @@
 // What collators give.
 use crate::performing::{Row, all_perform, performs};
-use std::test::Fail;
-use tests_net::{
+use crate::programs::{
     COUNTER_ALONE, FOUR_COUNTERS, FOUR_ROOTS, THREE_COUNTERS, THREE_ROOTS, TWO_COUNTERS, shared,
 };
+use std::test::Fail;
 
 const OF_ALL: &str = "CALLS FIRST REPLIES UNANIMOUS MEMBERS m1 PORT 9002";
 

@@ -1,9 +1,9 @@
 // Spares that come in.
 use crate::performing::{Row, all_perform, performs};
-use std::test::Fail;
-use tests_net::{
+use crate::programs::{
     COUNTER_ALONE, MAIN_ALONE, MAIN_WITH_A_SPARE, WITH_A_SPARE, WITH_TWO_SPARES, between, twice,
 };
+use std::test::Fail;
 
 const A_WITH_A_SPARE: &str = "CALLS FIRST REPLIES FIRST MEMBERS a1 PORT 9002 SPARES a2 PORT 9003";
 

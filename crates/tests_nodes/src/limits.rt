@@ -1,10 +1,11 @@
 // Long messages, the second format, and calls that wait.
+use crate::net::{Net, message};
 use crate::performing::performs;
+use crate::programs::{block, keeping, once_in_format_2, room, seventy_times};
 use circus_value::{Message, Octets};
 use std::alloc::Global;
 use std::process::Abort;
 use std::test::Fail;
-use tests_net::{Net, block, keeping, message, once_in_format_2, room, seventy_times};
 
 // The header of the first call of a root.
 const CALL: &str = "000000010001000000010000000100000000000000000001000100020000000000000000";

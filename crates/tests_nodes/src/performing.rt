@@ -1,9 +1,10 @@
 // Scripts, performed by the nodes of their programs.
+use crate::net::performed;
+use crate::programs::once;
 use circus_value::Octets;
 use std::alloc::Global;
 use std::process::Abort;
 use std::test::Fail;
-use tests_net::{once, performed};
 
 /// The nodes of a program tell from boot on what a script has.
 pub fn performs(

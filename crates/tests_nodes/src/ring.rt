@@ -1,7 +1,8 @@
 // What the Ringmaster answers.
+use crate::net::Net;
 use crate::performing::{Row, all_perform};
+use crate::programs::{FULL, MAIN_ALONE, WITH_A_SPARE, WITH_TWO_SPARES, once};
 use std::test::Fail;
-use tests_net::{FULL, MAIN_ALONE, Net, WITH_A_SPARE, WITH_TWO_SPARES, once};
 
 // Lookups; joins of a spare, of one that has joined, of a root, and of nodes that are no spares; nodes that become active,
 // that are so, and that the view doesn't have; and nodes that go, and that have gone.

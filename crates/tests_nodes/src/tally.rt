@@ -4,13 +4,15 @@ ghost use Rattle.circus_collate.specs.Deployment.{IsDeployment};
 ghost use Rattle.circus_machine.specs.Tally.{tally_signature};
 ghost use Rattle.circus_node.specs.Booting.{CanBoot};
 
+use crate::net::{FIRST_CALL, message};
+use crate::program::deployment;
+use crate::programs::{COUNTER_ALONE, MAIN_ALONE, once};
 use circus_collate::Deployment;
 use circus_guarded::GuardedNode;
 use circus_machine::Tally;
 use circus_node::{Event, Gives};
 use std::alloc::Global;
 use std::test::Fail;
-use tests_net::{COUNTER_ALONE, FIRST_CALL, MAIN_ALONE, deployment, message, once};
 
 // Whether node 1 hosts a module that is no root.
 fn hosts_no_root(deployment: &Deployment) -> bool

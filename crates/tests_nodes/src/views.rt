@@ -1,7 +1,7 @@
 // Nodes that are declared down, and views that change.
 use crate::performing::{Row, all_perform};
+use crate::programs::{COUNTER_ALONE, MAIN_ALONE, TWO_COUNTERS, TWO_WITH_A_SPARE};
 use std::test::Fail;
-use tests_net::{COUNTER_ALONE, MAIN_ALONE, TWO_COUNTERS, TWO_WITH_A_SPARE};
 
 const OF_ALL: &str = "CALLS FIRST REPLIES UNANIMOUS MEMBERS m1 PORT 9002";
 

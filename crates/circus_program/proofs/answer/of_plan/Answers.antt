@@ -11,6 +11,11 @@ returns-in-Sample-clause-due c =
     let sample = c.in_ok-sample_plan-in-Sample in
     subst (λ (task : Task). IsDueOfTask task c.args.plan (finish (ending_of sample.field-0))) (sym c.in-Sample.is) (ap finish sample.ensures.ending)
 
+pub returns-in-Settle-clause-due : goal.returns-in-Settle-clause-due
+returns-in-Settle-clause-due c =
+    let settle = c.in_ok-settle_plan-in-Settle in
+    subst (λ (task : Task). IsDueOfTask task c.args.plan (finish (ending_of settle.field-0))) (sym c.in-Settle.is) (ap finish settle.ensures.ending)
+
 pub returns-in-Some-clause-stands : goal.returns-in-Some-clause-stands
 returns-in-Some-clause-stands c =
     record {

@@ -1,6 +1,9 @@
-use Rattle.std.proofs.Common.{refl}
-use Rattle.circus_ending.specs.declared.status.Status.TheVariants.{Done, BadCommandLine, BadProgram, BadSchedule, ShelfFault, SinkFault, LinkFault, NoMemory, Spent, NotBuilt, BadPlacing, NoPlacement}
+use Rattle.std.proofs.Common.{refl, sym, subst, inl, inr}
+use Rattle.std.specs.Prelude.{IsTrue}
+use Rattle.circus_ending.specs.Status.{is_end}
+use Rattle.circus_ending.specs.declared.status.Status.TheVariants.{Done, BadCommandLine, BadProgram, BadSchedule, ShelfFault, SinkFault, LinkFault, NoMemory, Spent, NotBuilt, Unsettled, BadPlacing, NoPlacement}
 use Rattle.circus_program.proofs.PutLemmas.{ended_as, one_status}
+use Rattle.circus_program.proofs.Planned.{writes_agreed, writes_so_far}
 use Rattle.circus_program.proofs.call.circus.Goals as goal
 
 pub returns-clause-known : goal.returns-clause-known
@@ -23,6 +26,9 @@ returns-clause-spent g c = λ is. ended_as _ _ _ _ _ _ _ _ _ _ c.answer-status.r
 
 pub returns-clause-not_built : goal.returns-clause-not_built
 returns-clause-not_built g c = λ is. ended_as _ _ _ _ _ _ _ _ _ _ c.answer-status.result NotBuilt c.code.result c.answer-status.ensures.answer c.code.ensures refl is
+
+pub returns-clause-unsettled : goal.returns-clause-unsettled
+returns-clause-unsettled g c = λ is. ended_as _ _ _ _ _ _ _ _ _ _ c.answer-status.result Unsettled c.code.result c.answer-status.ensures.answer c.code.ensures refl is
 
 pub returns-clause-bad_placing : goal.returns-clause-bad_placing
 returns-clause-bad_placing g c = λ is. ended_as _ _ _ _ _ _ _ _ _ _ c.answer-status.result BadPlacing c.code.result c.answer-status.ensures.answer c.code.ensures refl is
@@ -50,3 +56,18 @@ returns-clause-link_fault g c = λ is. ended_as _ _ _ _ _ _ _ _ _ _ c.answer-sta
 
 pub returns-clause-link_rose : goal.returns-clause-link_rose
 returns-clause-link_rose g c = λ is. c.answer-status.ensures.answer.link_rose (one_status c.answer-status.result LinkFault c.code.result c.code.ensures is)
+
+pub returns-clause-agree : goal.returns-clause-agree
+returns-clause-agree g c = λ is.
+    let same = one_status c.answer-status.result Done c.code.result c.code.ensures is in
+    writes_agreed _ _ _ _ _ _ (c.answer-status.ensures.planned (subst (λ s. IsTrue (is_end s)) (sym same) refl)) (returns-clause-done g c is)
+
+pub returns-clause-agree_so_far : goal.returns-clause-agree_so_far
+returns-clause-agree_so_far g c = λ which. elim which [
+  | inl is ↦
+      let same = one_status c.answer-status.result BadSchedule c.code.result c.code.ensures is in
+      writes_so_far _ _ _ _ _ _ BadSchedule (inl refl) (c.answer-status.ensures.planned (subst (λ s. IsTrue (is_end s)) (sym same) refl)) (returns-clause-bad_schedule g c is)
+  | inr is ↦
+      let same = one_status c.answer-status.result Spent c.code.result c.code.ensures is in
+      writes_so_far _ _ _ _ _ _ Spent (inr refl) (c.answer-status.ensures.planned (subst (λ s. IsTrue (is_end s)) (sym same) refl)) (returns-clause-spent g c is)
+]

@@ -1,4 +1,4 @@
-use Rattle.circus_program.proofs.Why.{words_why, program_why, schedule_why, spent_why, unbuilt_why}
+use Rattle.circus_program.proofs.Why.{words_why, program_why, schedule_why, spent_why, unbuilt_why, unsettled_why}
 use Rattle.circus_program.proofs.laws.ends_tell_why.Goals as goal
 
 pub returns-clause-bad_words : goal.returns-clause-bad_words
@@ -15,3 +15,6 @@ returns-clause-spent c = spent_why
 
 pub returns-clause-not_built : goal.returns-clause-not_built
 returns-clause-not_built c = unbuilt_why
+
+pub returns-clause-unsettled : goal.returns-clause-unsettled
+returns-clause-unsettled c = unsettled_why

@@ -1,0 +1,6 @@
+pub mod Made
+pub mod Returns
+pub mod Snapshots
+pub mod Requests
+pub mod Asks
+pub mod Owed

@@ -1,0 +1,79 @@
+-- What it means that the copies agree in what is written of a program: what each active member performed are the next runs of
+-- its module in the history of the program.
+use Rattle.std.specs.Prelude.{ℕ, ◌≡◌, ◌⊎◌, Option, Some, List, ◌∷◌, ◌++◌, length, Ok, Err, IfSome}
+use Rattle.circus_schedule.specs.declared.line.Line.{Line}
+use Rattle.circus_schedule.specs.declared.schedule_fault.ScheduleFault.{ScheduleFault}
+use Rattle.circus_schedule.specs.Meaning.{numbers_of}
+use Rattle.circus_schedule.specs.Answer.{IsAnswer}
+use Rattle.circus_config.specs.declared.plan.Plan.{Plan}
+use Rattle.circus_config.specs.Program.{IsProgramOf, IsPlan}
+use Rattle.circus_load.specs.Loaded.{behaviours_in}
+use Rattle.circus_running.specs.Writing.{Writes}
+use Rattle.circus_facts.specs.Facts.{Facts, AllStand, sent_text, report_of, summary_of, settled_of}
+use Rattle.circus_ending.specs.declared.status.Status.TheVariants.{Done}
+use Rattle.circus_simulated.specs.Booted.{names_in}
+use Rattle.circus_program.specs.Form.{CommandForm, IsOfForm}
+use Rattle.circus_program.specs.Replay.{replay_of}
+use Rattle.circus_program.specs.Last.{program_read, IsReplay, IsSample, IsSettle}
+use Rattle.circus_program.specs.Worlds.{IsSpentAtBoot, IsSimulation, AskToSimulate}
+
+-- the report of facts
+abbrev pub reported : Plan → Facts → List ℕ
+reported plan facts = report_of (names_in plan) plan.deployment.nodes facts
+
+-- ---- what is written in full
+
+abbrev pub IsReportOf : (List ℕ → Option (List ℕ)) → List (List ℕ) → Plan → Facts → List ℕ → Type 0
+IsReportOf contents words plan facts text = (schedule : List ℕ) × IsReplay contents words plan schedule × (text ≡ reported plan facts)
+
+abbrev pub IsSummaryOf : (List ℕ → Option (List ℕ)) → List (List ℕ) → Plan → Facts → List ℕ → Type 0
+IsSummaryOf contents words plan facts text = (seed steps : ℕ) × IsSample contents words plan seed steps × (text ≡ summary_of (names_in plan) steps facts)
+
+abbrev pub IsSettledOf : (List ℕ → Option (List ℕ)) → List (List ℕ) → Plan → Facts → List ℕ → Type 0
+IsSettledOf contents words plan facts text =
+    (deliveries : ℕ) × IsSettle contents words plan deliveries × (text ≡ settled_of (names_in plan) plan.deployment.nodes (length facts.sent) facts)
+
+-- of facts in which the copies agree it is the report, the summary, or what is written of a program that has settled
+pub record IsAgreed (contents : List ℕ → Option (List ℕ)) (words : List (List ℕ)) (text : List ℕ) : Type 0 where
+  pub plan : Plan
+  pub facts : Facts
+  pub agree : AllStand plan.deployment (behaviours_in plan) facts
+  pub written : IsReportOf contents words plan facts text ⊎ (IsSummaryOf contents words plan facts text ⊎ IsSettledOf contents words plan facts text)
+
+-- ---- what is written of lines up to one that isn't stepped
+
+-- a replay of the lines before it reports facts in which the copies agree; written are their datagrams, and one line more
+pub record IsAgreedSoFar (plan : Plan) (lines : List Line) (text : List ℕ) : Type 0 where
+  pub before : List Line
+  pub line : Line
+  pub others : List Line
+  pub lines_are : lines ≡ before ++ line ∷ others
+  pub facts : Facts
+  pub agree : AllStand plan.deployment (behaviours_in plan) facts
+  pub reported_is : replay_of plan before ≡ record { status = Done; text = reported plan facts }
+  pub last : List ℕ
+  pub written : text ≡ sent_text (names_in plan) facts ++ last
+
+-- the schedule is read as none of lines, nothing was booted, or its lines are written so far
+abbrev pub IsCutSoFar : Plan → List ℕ → List ℕ → Type 0
+IsCutSoFar plan schedule text =
+    ((fault : ScheduleFault) × IsAnswer (numbers_of plan.deployment.nodes) schedule (Err fault))
+    ⊎ (IsSpentAtBoot plan text ⊎ ((lines : List Line) × IsAnswer (numbers_of plan.deployment.nodes) schedule (Ok lines) × IsAgreedSoFar plan lines text))
+
+-- ---- of a call
+
+-- what words ask to simulate is a plan where it is a program, as is each program that was read
+abbrev pub ArePlans : (List ℕ → Option (List ℕ)) → List (List ℕ) → Type 0
+ArePlans contents words =
+    (form : CommandForm) (program bytes : List ℕ) (plan : Plan) → IsOfForm words form → IsSimulation form → program_read form ≡ Some program
+    → contents program ≡ Some bytes → IsProgramOf bytes plan → IsPlan plan
+
+-- where the shelf tells its contents, and the words ask to simulate a program, what was written is agreed
+abbrev pub WritesAgreed : Option (List ℕ → Option (List ℕ)) → List (List ℕ) → Option (List ℕ) → Option (List ℕ) → Type 0
+WritesAgreed shelf words old new =
+    IfSome shelf (λ contents. AskToSimulate words → (text : List ℕ) × Writes old new text × IsAgreed contents words text)
+
+-- the same of a replay of lines that end too early
+abbrev pub WritesAgreedSoFar : Option (List ℕ → Option (List ℕ)) → List (List ℕ) → Option (List ℕ) → Option (List ℕ) → Type 0
+WritesAgreedSoFar shelf words old new =
+    IfSome shelf (λ contents. (plan : Plan) (schedule : List ℕ) → IsReplay contents words plan schedule → (text : List ℕ) × Writes old new text × IsCutSoFar plan schedule text)

@@ -1,0 +1,113 @@
+-- The worlds of which texts are written: lines lead to them from boot.
+use Rattle.std.specs.Prelude.{ℕ, ◌≡◌, ◌+◌, ◌≤◌, ◌⊎◌, Option, Some, None, List, ◌∷◌, ◌++◌, length, Ok, Err}
+use Rattle.circus_model.specs.Behaviour.{Behaviour}
+use Rattle.circus_record.specs.Naming.{Names}
+use Rattle.circus_schedule.specs.declared.line.Line.{Line}
+use Rattle.circus_schedule.specs.Meaning.{numbers_of}
+use Rattle.circus_schedule.specs.Answer.{IsAnswer}
+use Rattle.circus_world.specs.declared.cause.LineCause.{LineCause}
+use Rattle.circus_world.specs.WorldState.{WorldState}
+use Rattle.circus_world.specs.Legal.{refusal}
+use Rattle.circus_world.specs.Course.{stepped}
+use Rattle.circus_world.specs.Lines.{Lead}
+use Rattle.circus_report.specs.Report.{first_line, sent_lines, report_text}
+use Rattle.circus_sample.specs.Sampled.{sampled}
+use Rattle.circus_sample.specs.Summary.{summary}
+use Rattle.circus_settle.specs.Settled.{first_deliveries}
+use Rattle.circus_settle.specs.Summary.{settled_text}
+use Rattle.circus_config.specs.declared.plan.Plan.{Plan}
+use Rattle.circus_ending.specs.Spent.{spent}
+use Rattle.circus_simulated.specs.Booted.{booted, names_in}
+use Rattle.circus_program.specs.Form.{CommandForm, stubs, run, replay, node, sample, settle, place, audit, IsOfForm}
+use Rattle.circus_program.specs.Replay.{cause_text, refused}
+use Rattle.circus_program.specs.Last.{IsReplay, IsSample, IsSettle}
+
+-- lines lead from boot to a world
+pub record AreLed (plan : Plan) (lines : List Line) (last : WorldState Behaviour) : Type 0 where
+  pub begun : WorldState Behaviour
+  pub booted_is : booted plan ≡ Ok begun
+  pub lead : Lead (λ b. b.declared) (λ b. b.turn) lines begun last
+
+-- ---- replays
+
+-- the report of a world as far as its datagrams
+abbrev pub sent_text : {M : Type 0} → Names → WorldState M → List ℕ
+sent_text names w = first_line ++ sent_lines names 0 w.sent
+
+-- the report of the world to which all lines lead
+pub record IsReported (plan : Plan) (lines : List Line) (text : List ℕ) : Type 0 where
+  pub last : WorldState Behaviour
+  pub led : AreLed plan lines last
+  pub written : text ≡ report_text (names_in plan) last
+
+-- a line may not be stepped in the world to which those before it lead: what was sent so far, and why
+pub record IsCutByRefusal (plan : Plan) (lines : List Line) (text : List ℕ) : Type 0 where
+  pub before : List Line
+  pub line : Line
+  pub others : List Line
+  pub lines_are : lines ≡ before ++ line ∷ others
+  pub last : WorldState Behaviour
+  pub led : AreLed plan before last
+  pub cause : LineCause
+  pub refusal_is : refusal last line ≡ Some cause
+  pub written : text ≡ sent_text (names_in plan) last ++ (refused (1 + length before) (cause_text (names_in plan) cause)).text
+
+-- a node has no number left in the step of a line in the world to which those before it lead: what was sent so far, and the two
+-- nodes
+pub record IsCutBySpending (plan : Plan) (lines : List Line) (text : List ℕ) : Type 0 where
+  pub before : List Line
+  pub line : Line
+  pub others : List Line
+  pub lines_are : lines ≡ before ++ line ∷ others
+  pub last : WorldState Behaviour
+  pub led : AreLed plan before last
+  pub legal : refusal last line ≡ None
+  pub nodes : ℕ × ℕ
+  pub stepped_is : stepped (λ b. b.declared) (λ b. b.turn) line last ≡ Err nodes
+  pub written : text ≡ sent_text (names_in plan) last ++ (spent (names_in plan) nodes).text
+
+-- or at boot, where nothing else is written
+abbrev pub IsSpentAtBoot : Plan → List ℕ → Type 0
+IsSpentAtBoot plan text = (nodes : ℕ × ℕ) × (booted plan ≡ Err nodes) × (text ≡ (spent (names_in plan) nodes).text)
+
+-- ---- of words
+
+-- the form is that of a program whose nodes are simulated
+abbrev pub IsSimulation : CommandForm → Type 0
+IsSimulation (replay _ _) = Unit {0}
+IsSimulation (sample _ _ _) = Unit {0}
+IsSimulation (settle _ _) = Unit {0}
+IsSimulation (stubs _) = ⊥
+IsSimulation (run _) = ⊥
+IsSimulation (node _ _ _) = ⊥
+IsSimulation (place _) = ⊥
+IsSimulation (audit _ _) = ⊥
+
+-- the words are of such a form
+abbrev pub AskToSimulate : List (List ℕ) → Type 0
+AskToSimulate words = (form : CommandForm) × IsOfForm words form × IsSimulation form
+
+-- the lines of the schedule, and the report of the world to which they lead
+abbrev pub IsWrittenByReplay : (List ℕ → Option (List ℕ)) → List (List ℕ) → Plan → List Line → WorldState Behaviour → List ℕ → Type 0
+IsWrittenByReplay contents words plan lines last text =
+    (schedule : List ℕ) × IsReplay contents words plan schedule × IsAnswer (numbers_of plan.deployment.nodes) schedule (Ok lines)
+    × (text ≡ report_text (names_in plan) last)
+
+-- as many lines as were drawn, and the summary of the world to which they lead, which is the one that the seed gives
+abbrev pub IsWrittenBySample : (List ℕ → Option (List ℕ)) → List (List ℕ) → Plan → List Line → WorldState Behaviour → List ℕ → Type 0
+IsWrittenBySample contents words plan lines last text =
+    (seed steps : ℕ) × (begun : WorldState Behaviour) × IsSample contents words plan seed steps × (length lines ≡ steps) × (booted plan ≡ Ok begun)
+    × (sampled (λ b. b.declared) (λ b. b.turn) steps seed begun ≡ Ok last) × (text ≡ summary (names_in plan) steps last)
+
+-- as many deliveries as datagrams were sent, and what is written of the world to which they lead
+abbrev pub IsWrittenBySettle : (List ℕ → Option (List ℕ)) → List (List ℕ) → Plan → List Line → WorldState Behaviour → List ℕ → Type 0
+IsWrittenBySettle contents words plan lines last text =
+    (deliveries : ℕ) × IsSettle contents words plan deliveries × (length last.sent ≤ deliveries) × (lines ≡ first_deliveries (length last.sent))
+    × (text ≡ settled_text (names_in plan) (length last.sent) last)
+
+-- over a shelf with these contents the words ask for a program that means this plan, these lines lead from its boot to this
+-- world, and the text is written of it
+pub record IsOfWorld (contents : List ℕ → Option (List ℕ)) (words : List (List ℕ)) (plan : Plan) (lines : List Line) (last : WorldState Behaviour) (text : List ℕ) : Type 0 where
+  pub led : AreLed plan lines last
+  pub written : IsWrittenByReplay contents words plan lines last text
+      ⊎ (IsWrittenBySample contents words plan lines last text ⊎ IsWrittenBySettle contents words plan lines last text)

@@ -1,0 +1,4 @@
+pub mod Coming
+pub mod Lossless
+pub mod Still
+pub mod Told

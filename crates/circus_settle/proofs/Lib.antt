@@ -1,0 +1,4 @@
+pub mod Alike
+pub mod Delivering
+pub mod Leading
+pub mod AllDelivered

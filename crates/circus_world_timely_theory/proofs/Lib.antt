@@ -1,0 +1,10 @@
+pub mod Octets
+pub mod Wires
+pub mod Ranges
+pub mod Lives
+pub mod Nodes
+pub mod Heard
+pub mod Lines
+pub mod Worlds
+pub mod PastsAlike
+pub mod Plain

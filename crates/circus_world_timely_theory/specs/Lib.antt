@@ -1,0 +1,3 @@
+pub mod Happened
+pub mod NodeLives
+pub mod InTime
