@@ -45,3 +45,14 @@ A program that is refused, and a file that is not there.
   $ circus settle absent 1000000
   shelf fault: absent
   [4]
+
+A client that wants more equal replies than its server has members waits for ever, though nothing is left to deliver.
+
+  $ sed 's/AT LEAST 2/AT LEAST 4/' "$TESTDIR"/programs/two_of_4.circus >all; circus settle all 16 | tail -n 3
+  reply 0 step 12 clock 1,0 returned [5]
+  end 0 step 12 clock 1,0 returned [] state [5]
+  now idle state [5]
+  $ sed 's/AT LEAST 2/AT LEAST 5/' "$TESTDIR"/programs/two_of_4.circus >more; circus settle more 16 | tail -n 3
+  run 0 step 0 path Main procedure 0 clock 0,0 arguments []
+  ask 0 step 0 to Counter index 0 procedure 1 arguments [5] state [0]
+  now waiting ask 0 state [0]

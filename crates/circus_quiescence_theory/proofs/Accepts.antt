@@ -1,6 +1,6 @@
 -- A true ask is accepted by a member of the troupe that it asks, and a true reply by one that waits for it.
-use Rattle.std.proofs.Common.{◌≡◌, ℕ, suc, ◌+◌, ◌-◌, ◌<◌, ◌≤◌, Bool, true, false, not, ◌&&◌, List, [], ◌∷◌, ◌++◌, length, drop, Option, None, Some, refl, sym, ap, subst, ◌∙◌, arith, eq-eqb, lt-ltb, le-leb, append-nil, length-append, length-drop}
-use Rattle.std.specs.Prelude.{slice_get, slice_index, nat_lt, nat_le, ◌==◌, is_some, option_map, option_and_then, if◌then◌else◌}
+use Rattle.std.proofs.Common.{◌≡◌, ℕ, ◌+◌, ◌-◌, ◌≤◌, Bool, true, false, not, ◌&&◌, List, [], ◌∷◌, ◌++◌, length, drop, None, Some, sym, ap, subst, ◌∙◌, arith, eq-eqb, lt-ltb, le-leb, length-append, length-drop}
+use Rattle.std.specs.Prelude.{nat_le, ◌==◌, is_some, option_map, option_and_then, if◌then◌else◌}
 use Rattle.std.specs.Option.{option_map_or}
 use Rattle.std.proofs.lemmas.List.{drop-drop}
 use Rattle.std.proofs.lemmas.Nat.{from_be_bytes-to_be_bytes_2}
@@ -25,25 +25,23 @@ use Rattle.circus_header.specs.declared.answer.Reply.{Reply}
 use Rattle.circus_header.specs.declared.answer.ReturnHeader.{ReturnHeader}
 use Rattle.circus_header.specs.declared.answer.ReturnHeader.TheVariants as says
 use Rattle.circus_collate.specs.declared.deployment.Deployment.{Deployment}
-use Rattle.circus_limits.specs.Limits.{limit_of, most_bytes}
+use Rattle.circus_limits.specs.Limits.{limit_of}
 use Rattle.circus_model.proofs.Histories.{in_history, root_of}
 use Rattle.circus_model.proofs.Lookups.{found as found_by}
 use Rattle.circus_model.proofs.Logging.{some_and}
 use Rattle.circus_model.specs.Agree.{IsAt, AreModules, Agree}
 use Rattle.circus_model.specs.Behaviour.{Behaviour}
 use Rattle.circus_model.specs.Execution.{history_of, replies_of}
-use Rattle.circus_model.specs.History.{run_at, state_after, clock_before}
-use Rattle.circus_model.specs.Lawful.{procedure_numbered, import_of, import_takes, arguments_fit, outcome_fits, values_of, IsLawful}
+use Rattle.circus_model.specs.History.{run_at, state_after}
+use Rattle.circus_model.specs.Lawful.{procedure_numbered, import_of, arguments_fit, outcome_fits, values_of, IsLawful}
 use Rattle.circus_model.specs.declared.history.Ask.{Ask}
 use Rattle.circus_model.specs.declared.history.Run.{Run}
 use Rattle.circus_model.specs.declared.signature.Import.{Import}
 use Rattle.circus_model.specs.declared.signature.ProcedureShape.{ProcedureShape}
-use Rattle.circus_model.specs.declared.signature.Signature.{Signature}
 use Rattle.circus_fanout.specs.Asking.{Asking}
-use Rattle.circus_member_rules.specs.Messages.{ask_message, reply_message, outcome_spelling}
+use Rattle.circus_member_rules.specs.Messages.{reply_message, outcome_spelling}
 use Rattle.circus_member_rules.specs.OpenAsks.{asking_of}
 use Rattle.circus_member_rules.specs.declared.occurrence.AskName.{AskName}
-use Rattle.circus_member_rules.specs.declared.occurrence.Occurrence.{Occurrence}
 use Rattle.circus_member_rules.specs.declared.occurrence.Occurrence.TheVariants as comes
 use Rattle.circus_member_step.specs.MemberState.{MemberState}
 use Rattle.circus_node.specs.Booting.{IsOfTroupe}
@@ -53,16 +51,16 @@ use Rattle.circus_truth.specs.Proper.{IsProperProcedure, AreProper}
 use Rattle.circus_truth.specs.Truth.{reply_to, IsNamed, IsAskMessage}
 use Rattle.circus_accepting.specs.Bodies.{found_whole, values_at, raised_values, outcome_by, outcome_at}
 use Rattle.circus_accepting.specs.Headers.{call_in, return_in}
-use Rattle.circus_accepting.specs.Accepting.{troupe_at, is_root, is_host_of, is_in_order, unpacks, may_ask, imported, called_by, outcome_of, taken_ask, taken_call, taken_answer, taken_reply, accepted_call, accepted_answer}
+use Rattle.circus_accepting.specs.Accepting.{troupe_at, is_root, is_in_order, unpacks, imported, called_by, outcome_of, taken_ask, taken_call, taken_answer, accepted_call, accepted_answer}
 use Rattle.circus_accepting_theory.proofs.Arguments.{values_read}
 use Rattle.circus_accepting_theory.proofs.Calls.{ask_length, ask_read, ask_body}
 use Rattle.circus_accepting_theory.proofs.Options.{passes_some}
 use Rattle.circus_accepting_theory.proofs.Outcomes.{raised}
 use Rattle.circus_accepting_theory.proofs.Returns.{reply_length, reply_read, reply_outcome}
-use Rattle.circus_accepting_theory.proofs.Taken.{imported_as, called_open, imported_answers}
+use Rattle.circus_accepting_theory.proofs.Taken.{imported_as, called_open}
 use Rattle.circus_accepting_theory.proofs.TrueReturns.{imported_proper}
 
-both_so : {a b : Bool} → a ≡ true → b ≡ true → (a && b) ≡ true
+pub both_so : {a b : Bool} → a ≡ true → b ≡ true → (a && b) ≡ true
 both_so {a} {b} one two = ap (λ x. x && b) one ∙ two
 
 -- ---- values

@@ -1,39 +1,33 @@
 -- What a node's step adds at its pairs: purposes, returns, and what arrives.
-use Rattle.std.proofs.Common.{◌≡◌, ◌≢◌, ◌⊎◌, inl, inr, ℕ, zero, suc, ◌+◌, ◌<◌, ◌≤◌, Bool, true, false, cond, not, ◌&&◌, ◌||◌, eqb, List, [], ◌∷◌, ◌++◌, map, Option, None, Some, IsSome, Result, Ok, Err, refl, sym, ap, subst, ◌∙◌, arith, eq-eqb}
+use Rattle.std.proofs.Common.{◌≡◌, ◌≢◌, ◌⊎◌, inl, inr, ℕ, zero, suc, ◌+◌, ◌≤◌, Bool, true, false, cond, ◌&&◌, eqb, List, [], ◌∷◌, map, Option, None, Some, IsSome, Ok, refl, sym, ap, subst, ◌∙◌, arith, eq-eqb}
 use Rattle.std.specs.Prelude.{slice_get, is_some, if◌then◌else◌}
 use Rattle.std.proofs.lemmas.Bool.{eqb-true, ne_eqb}
-use Rattle.std.proofs.lemmas.Bool.Decides.{eqb_tells}
 use Rattle.std.proofs.lemmas.Option.{same_Some}
 use Rattle.circus_value.specs.declared.caller.Caller.{Caller}
 use Rattle.circus_segment.specs.Segment.{Piece, IsSegment}
-use Rattle.circus_segment.specs.declared.fault.SegmentFault.{SegmentFault}
 use Rattle.circus_exchange.specs.Exchange.{start}
 use Rattle.circus_exchange.specs.declared.taken.Arrived.{Arrived}
 use Rattle.circus_exchange.specs.declared.taken.Arrived.TheVariants.{Nothing, ArrivedCall, ArrivedReturn}
 use Rattle.circus_pair.specs.Taken.{has_arrived, message_in}
-use Rattle.circus_pair.specs.Acts.{Act, Call, Return, Came, Tick, Stop, Acts, none_yet, more, taken_by, arrival_by}
+use Rattle.circus_pair.specs.Acts.{Act, Call, Return, Came, Tick, Stop, Acts, more, taken_by, arrival_by}
 use Rattle.circus_pair.specs.Handed.{made as made_, return_at}
-use Rattle.circus_pair.specs.Lawful.{AreLawful, is_stopped_after}
+use Rattle.circus_pair.specs.Lawful.{AreLawful}
 use Rattle.circus_pair.specs.Sending.{takes_after}
 use Rattle.circus_pair.specs.TwoEnds.{with_act}
-use Rattle.circus_wire.specs.declared.delivery.Heard.{Heard}
 use Rattle.circus_wire.specs.declared.delivery.Heard.TheVariants as heard
 use Rattle.circus_wire.specs.Wire.{WireState, Beginning, IsOther, told, told_return, heard_from}
-use Rattle.circus_wire.specs.WireActs.{WireAct, WireActs, begun, followed_by, CallTo, AnswerTo, CameFrom, TickAll, StopOf, act_at, acts_at, awaits_after, made_to, purpose_of}
+use Rattle.circus_wire.specs.WireActs.{WireAct, WireActs, followed_by, CallTo, AnswerTo, CameFrom, act_at, acts_at, awaits_after, made_to, purpose_of}
 use Rattle.circus_wire.specs.WireStanding.{WireStands, pair_of}
 use Rattle.circus_wire.proofs.Histories.{purpose_at, purpose_stays, return_finds}
 use Rattle.circus_wire.proofs.Performing.{came_tells}
-use Rattle.circus_member_rules.specs.declared.occurrence.AskName.{AskName}
 use Rattle.circus_member_rules.specs.declared.occurrence.Purpose.{Purpose}
-use Rattle.circus_member_rules.specs.declared.occurrence.Purpose.TheVariants as for
 use Rattle.circus_member_rules.specs.declared.occurrence.Effect.{Effect}
 use Rattle.circus_member_rules.specs.declared.occurrence.Effect.TheVariants as made
-use Rattle.circus_talks.specs.NodeActs.{with_all, coming}
+use Rattle.circus_talks.specs.NodeActs.{with_all}
 use Rattle.circus_border_theory.specs.Made.{act_of}
 use Rattle.circus_border_theory.proofs.Handing.{AreReturns, is_same}
 use Rattle.circus_border_theory.proofs.Waiting.{is_caller, one_if, answered_in}
 use Rattle.circus_quiescence_theory.proofs.Hearing.{brings}
-use Rattle.circus_quiescence_theory.proofs.Staying.{IsCallIn}
 
 module _ (b : Beginning) where
   -- ---- purposes

@@ -1,5 +1,5 @@
 -- A member that has booted is quiet.
-use Rattle.std.proofs.Common.{◌≡◌, ◌⊎◌, inl, inr, ℕ, ◌+◌, ◌<◌, ◌≤◌, Bool, true, false, List, [], ◌∷◌, ◌++◌, length, map, All, Option, None, Some, IsSome, refl, sym, ap, subst, ◌∙◌, arith, length-append, if◌then◌else◌}
+use Rattle.std.proofs.Common.{◌≡◌, ◌⊎◌, inl, inr, ℕ, ◌+◌, ◌<◌, ◌≤◌, Bool, true, false, List, [], ◌∷◌, length, map, All, Option, None, Some, refl, sym, ap, subst, ◌∙◌, arith, length-append, if◌then◌else◌}
 use Rattle.std.specs.Prelude.{slice_get}
 use Rattle.std.specs.Option.{option_map_or}
 use Rattle.std.proofs.lemmas.List.Elements.{All-nil, All-cons}
@@ -17,40 +17,34 @@ use Rattle.circus_model.specs.NextTurn.{NextTurn}
 use Rattle.circus_model.specs.Behaviour.{Behaviour, IsModule}
 use Rattle.circus_model.specs.Agree.{AreModules, Agree}
 use Rattle.circus_model.specs.Execution.{history_of}
-use Rattle.circus_model.specs.History.{runs_of, run_at}
+use Rattle.circus_model.specs.History.{runs_of}
 use Rattle.circus_model.specs.declared.signature.Signature.{Signature}
 use Rattle.circus_record.specs.declared.record.MemberRecord.{MemberRecord}
 use Rattle.circus_record.specs.declared.record.RunRecord.{RunRecord}
 use Rattle.circus_known.specs.Knowing as knowing
 use Rattle.circus_known.specs.Knowing.{Knowing, unwanted}
 use Rattle.circus_known.specs.declared.known.Want.{Want}
-use Rattle.circus_gather.specs.Gathering.{Gathered, reply_of}
 use Rattle.circus_gather.specs.declared.held.HeldCall.{HeldCall}
 use Rattle.circus_performing.specs.Performing.{Performing, is_active, last_count, last_of, open_ask}
 use Rattle.circus_fanout.specs.Asking.{Asking}
 use Rattle.circus_member_rules.specs.OpenAsks.{asking_of}
-use Rattle.circus_member_rules.specs.declared.occurrence.AskName.{AskName}
 use Rattle.circus_record.specs.declared.record.AskRecord.{AskRecord}
 use Rattle.circus_member_step.proofs.Entering.{with_entered}
 use Rattle.circus_performing.specs.Performing as performing
 use Rattle.circus_performing.specs.Record.{behaviour}
 use Rattle.circus_performing_theory.proofs.Histories.{runs_are_few}
-use Rattle.circus_member_rules.specs.declared.occurrence.Effect.{Effect}
 use Rattle.circus_member_rules.specs.declared.place.Beginning.{Beginning}
 use Rattle.circus_member_rules.specs.declared.place.Beginning.TheVariants.{Founder, Spare}
 use Rattle.circus_member_rules.specs.declared.place.Place.{Place}
 use Rattle.circus_member_step.specs.Happening.{IsHome}
 use Rattle.circus_member_step.specs.MemberState.{MemberState, Doing}
 use Rattle.circus_member_step.specs.Step.{main_start, before_any, performer_at_boot, starts_at_boot, entered, booted, after_turns, opened_ask, ended_run, opened_by_view, name_of_last, asking_begun}
-use Rattle.circus_member_step.specs.Seen.Sound.{MayStart}
-use Rattle.circus_member_step.proofs.Starting.{IsSoundNow}
 use Rattle.circus_member_theory.proofs.Resting.{at_boot, sound_at_boot, may_begin}
 use Rattle.circus_node.proofs.ViewLemmas.{booted_knows}
 use Rattle.circus_standing.specs.Stands.{Stands, IsIdle, IsBusy}
 use Rattle.circus_quiescence_theory.specs.Still.{phase_of}
 use Rattle.circus_quiescence_theory.proofs.Phases.{entered_keeps}
 use Rattle.circus_quiescence_theory.specs.Told.{Recorded, IsOpenAt}
-use Rattle.circus_quiescence_theory.proofs.Evolving.{Named}
 use Rattle.circus_quiescence_theory.proofs.Staying as staying
 use Rattle.circus_quiescence_theory.proofs.Staying.{EffectSo, IsCallIn, is_entry, Body, keeps}
 use Rattle.circus_quiescence_theory.proofs.Stepping.{AreFirst, AreLow, IsQuiet, ones_of}
@@ -226,7 +220,7 @@ module _ {M : Type 0} (declared : M → Signature) (turn : M → List ValueTree 
               held = s.held;
               replies = s.replies;
               replied = body.replied;
-              opened = λ index number callee o. (let x = body.opened index number callee o in record { asking = x.asking; there = x.there; server = x.server });
+              opened = λ index number callee o. (let x = body.opened index number callee o in record { asking = x.asking; there = x.there; server = x.server; kind = x.kind });
             };
             effects = s.effects;
             recorded = λ index number callee r view node at entry. elim (body.recorded index number callee r view node at entry) [ inl old ↦ absurd old | inr new ↦ new ];

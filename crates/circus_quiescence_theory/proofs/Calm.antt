@@ -1,7 +1,7 @@
 -- What a quiet member knows of its calls and of those that came to it: its asks are called at each entry of their views, each call that came
 -- waits or is returned, and each return that came was said to its ask.
-use Rattle.std.proofs.Common.{◌≡◌, ◌≢◌, ◌⊎◌, inl, inr, ℕ, zero, suc, ◌+◌, ◌-◌, ◌<◌, ◌≤◌, Bool, true, false, cond, not, ◌&&◌, ◌||◌, eqb, List, [], ◌∷◌, ◌++◌, length, map, All, Option, None, Some, refl, sym, ap, subst, ◌∙◌, arith, eq-eqb}
-use Rattle.std.specs.Prelude.{slice_get, slice_index, is_some}
+use Rattle.std.proofs.Common.{◌≡◌, ◌⊎◌, inl, inr, ℕ, suc, ◌+◌, ◌-◌, ◌<◌, ◌≤◌, Bool, true, false, ◌||◌, eqb, List, [], ◌∷◌, length, map, Option, None, Some, refl, sym, ap, subst, ◌∙◌, arith, eq-eqb}
+use Rattle.std.specs.Prelude.{slice_get, is_some}
 use Rattle.std.specs.List.{list_any}
 use Rattle.std.proofs.lemmas.Bool.{cases_lt}
 use Rattle.std.proofs.lemmas.List.Folds.{list_any-append}
@@ -13,7 +13,6 @@ use Rattle.circus_header.specs.declared.call.CallHeader.{CallHeader}
 use Rattle.circus_header.specs.declared.answer.Reply.{Reply}
 use Rattle.circus_collate.specs.Giving.{is_from}
 use Rattle.circus_collate.specs.declared.view.View.{View}
-use Rattle.circus_collate.specs.declared.giving.Said.{Said}
 use Rattle.circus_transfer.specs.declared.joiner.Joiner.{Joiner}
 use Rattle.circus_model.specs.NextTurn.{NextTurn}
 use Rattle.circus_model.specs.Behaviour.{Behaviour, IsModule}
@@ -21,7 +20,6 @@ use Rattle.circus_model.specs.declared.signature.Signature.{Signature}
 use Rattle.circus_record.specs.declared.record.AskRecord.{AskRecord}
 use Rattle.circus_record.specs.declared.record.MemberRecord.{MemberRecord}
 use Rattle.circus_record.specs.declared.record.RunRecord.{RunRecord}
-use Rattle.circus_gather.specs.declared.held.HeldCall.{HeldCall}
 use Rattle.circus_fanout.specs.Asking.{Asking, with_reply}
 use Rattle.circus_performing.specs.Performing.{last_of, open_ask, last_count}
 use Rattle.circus_performing.specs.Record.{behaviour, IsRecord}
@@ -31,7 +29,7 @@ use Rattle.circus_pair.specs.Taken.{has_arrived}
 use Rattle.circus_wire.specs.Wire.{Beginning}
 use Rattle.circus_wire.specs.WireActs.{WireAct, WireActs, acts_at, purpose_of}
 use Rattle.circus_wire.specs.WireStanding.{pair_of}
-use Rattle.circus_member_rules.specs.OpenAsks.{asking_of, with_asking}
+use Rattle.circus_member_rules.specs.OpenAsks.{asking_of}
 use Rattle.circus_member_rules.specs.declared.occurrence.AskName.{AskName}
 use Rattle.circus_member_rules.specs.declared.occurrence.Effect.{Effect}
 use Rattle.circus_member_rules.specs.declared.occurrence.Effect.TheVariants as made
@@ -50,11 +48,11 @@ use Rattle.circus_talks.specs.NodeActs.{with_all}
 use Rattle.circus_world.proofs.SlotLemmas.{all_at}
 use Rattle.circus_border_theory.specs.Made.{act_of}
 use Rattle.circus_border_theory.proofs.Handing.{AreReturns, itself}
-use Rattle.circus_border_theory.proofs.Waiting.{waiting_at, known_in, answered_in, calls_in, one_if, is_caller, step_answers}
+use Rattle.circus_border_theory.proofs.Waiting.{waiting_at, answered_in, calls_in, one_if, step_answers}
 use Rattle.circus_quiescence_theory.proofs.Acts.{purposes_stay, made_purpose, purpose_from, returns_stay, answered_returned, handed_arrived}
 use Rattle.circus_quiescence_theory.specs.Told.{Recorded, IsOpenAt, IsSilent}
 use Rattle.circus_quiescence_theory.proofs.Evolving.{Named}
-use Rattle.circus_quiescence_theory.proofs.Staying.{IsEntryOf, EffectSo, IsCallIn, is_entry, idle_count, busy_count}
+use Rattle.circus_quiescence_theory.proofs.Staying.{IsEntryOf, EffectSo, is_entry, idle_count, busy_count}
 use Rattle.circus_quiescence_theory.proofs.Stepping.{AreFirst, IsQuiet, IsQuietOccurrence, StepsQuiet, step_quiet, changed_there, changed_here}
 
 -- ---- an ask that was made is not opened again
@@ -119,6 +117,18 @@ other_true : (x y : Bool) → y ≡ true → (x || y) ≡ true
 other_true true y is = refl
 other_true false y is = is
 
+-- what comes to a quiet member is in range
+pub quiet_in_range : (bv : List View) (own : ℕ) (phase : Joiner) (P : Caller → CallHeader → List ℕ → Type 0) (y : Occurrence) → IsQuietOccurrence bv own phase P y → InRange y
+quiet_in_range bv own phase P (comes.Asked header body sender) is = tt
+quiet_in_range bv own phase P (comes.Replied name from reply) is = tt
+quiet_in_range bv own phase P (comes.Fetched incarnation sender) is = absurd is
+quiet_in_range bv own phase P (comes.IsStale name server from incarnation) is = absurd is
+quiet_in_range bv own phase P (comes.IsBefore name from) is = absurd is
+quiet_in_range bv own phase P (comes.Told request table) is = absurd is
+quiet_in_range bv own phase P (comes.Restored state count) is = absurd is
+quiet_in_range bv own phase P (comes.Declared node) is = absurd is
+quiet_in_range bv own phase P comes.Joins is = absurd is
+
 -- ---- a step
 
 module _ (b : Beginning) (bv : List View) (IsPeer : ℕ → Type 0) (own : ℕ) (phase : Joiner) (P : Caller → CallHeader → List ℕ → Type 0) {M : Type 0} (declared : M → Signature) (turn : M → List ValueTree → ℕ → List ValueTree → List Outcome → NextTurn)
@@ -174,18 +184,7 @@ module _ (b : Beginning) (bv : List View) (IsPeer : ℕ → Type 0) (own : ℕ) 
     steps = step_quiet bv own phase P declared turn first lawful firsts Old at m rested.sound q (λ index number callee r view node there entry. calm.made index number callee r view node there entry) x can quiet_x few
 
     in_range : InRange x
-    in_range = by_kind x quiet_x
-      where
-        by_kind : (y : Occurrence) → IsQuietOccurrence bv own phase P y → InRange y
-        by_kind (comes.Asked header body sender) is = tt
-        by_kind (comes.Replied name from reply) is = tt
-        by_kind (comes.Fetched incarnation sender) is = absurd is
-        by_kind (comes.IsStale name server from incarnation) is = absurd is
-        by_kind (comes.IsBefore name from) is = absurd is
-        by_kind (comes.Told request table) is = absurd is
-        by_kind (comes.Restored state count) is = absurd is
-        by_kind (comes.Declared node) is = absurd is
-        by_kind comes.Joins is = absurd is
+    in_range = quiet_in_range bv own phase P x quiet_x
 
     abbrev behind : WireActs Purpose
     behind = with_all now (map act_of effects)

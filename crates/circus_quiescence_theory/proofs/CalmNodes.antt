@@ -1,12 +1,12 @@
 -- What comes to a quiet node is accepted by its member, so it stays calm.
-use Rattle.std.proofs.Common.{◌≡◌, ◌≢◌, ◌⊎◌, inl, inr, ℕ, ◌+◌, ◌<◌, ◌≤◌, Bool, true, false, cond, List, [], ◌∷◌, ◌++◌, length, map, drop, All, Option, None, Some, Result, Ok, Err, refl, sym, ap, subst, ◌∙◌, arith}
-use Rattle.std.specs.Prelude.{slice_get, nat_eq, option_and_then}
+use Rattle.std.proofs.Common.{◌≡◌, ◌≢◌, ◌⊎◌, inl, inr, ℕ, ◌<◌, Bool, true, false, cond, List, [], length, All, Option, None, Some, Result, Ok, Err, refl, sym, ap, subst, ◌∙◌}
+use Rattle.std.specs.Prelude.{slice_get, nat_eq}
 use Rattle.std.specs.Option.{option_map_or}
 use Rattle.std.proofs.lemmas.Bool.{eqb-true}
 use Rattle.std.proofs.lemmas.Bool.Decides.{eqb_tells}
 use Rattle.std.proofs.lemmas.List.Elements.{All-contains}
 use Rattle.std.proofs.lemmas.Map.Views.{Contains-from_lookup}
-use Rattle.std.proofs.lemmas.Option.{none-some, same_Some}
+use Rattle.std.proofs.lemmas.Option.{same_Some}
 use Rattle.circus_value.specs.ValueTree.{ValueTree}
 use Rattle.circus_value.specs.declared.caller.Caller.{Caller}
 use Rattle.circus_value.specs.declared.outcome.Outcome.{Outcome}
@@ -24,24 +24,21 @@ use Rattle.circus_model.specs.NextTurn.{NextTurn}
 use Rattle.circus_model.specs.Behaviour.{Behaviour, IsModule}
 use Rattle.circus_model.specs.Agree.{IsAt, AreModules, Agree}
 use Rattle.circus_model.specs.Execution.{history_of}
-use Rattle.circus_model.specs.History.{run_at}
-use Rattle.circus_model.specs.declared.history.Ask.{Ask}
 use Rattle.circus_model.specs.declared.history.Run.{Run}
 use Rattle.circus_model.specs.declared.signature.Signature.{Signature}
 use Rattle.circus_fanout.specs.Asking.{Asking}
 use Rattle.circus_performing.specs.Record.{behaviour}
-use Rattle.circus_pair.specs.Acts.{Acts, Came, more, taken_by}
-use Rattle.circus_pair.specs.Handed.{call_at, return_at}
+use Rattle.circus_pair.specs.Acts.{Came, taken_by}
+use Rattle.circus_pair.specs.Handed.{call_at}
 use Rattle.circus_pair.specs.Lawful.{AreLawful}
 use Rattle.circus_pair.specs.Taken.{has_arrived}
 use Rattle.circus_pair.specs.TwoEnds.{with_act}
 use Rattle.circus_wire.specs.declared.delivery.Heard.{Heard}
 use Rattle.circus_wire.specs.declared.delivery.Heard.TheVariants as heard
 use Rattle.circus_wire.specs.Wire.{WireState, IsOther, heard_from}
-use Rattle.circus_wire.specs.WireActs.{WireActs, followed_by, CameFrom, acts_at, purpose_of}
-use Rattle.circus_wire.specs.WireStanding.{WireStands, pair_of}
+use Rattle.circus_wire.specs.WireActs.{WireActs, followed_by, CameFrom, acts_at}
+use Rattle.circus_wire.specs.WireStanding.{WireStands}
 use Rattle.circus_wire.proofs.Hearing.{unmade_unreturned}
-use Rattle.circus_member_rules.specs.Messages.{ask_message, reply_message}
 use Rattle.circus_member_rules.specs.OpenAsks.{is_name, asking_of}
 use Rattle.circus_member_rules.specs.declared.occurrence.AskName.{AskName}
 use Rattle.circus_member_rules.specs.declared.occurrence.Occurrence.{Occurrence}
@@ -53,25 +50,22 @@ use Rattle.circus_accepting.specs.Accepting.{troupe_at, accepted, accepted_answe
 use Rattle.circus_accepting_theory.proofs.Calls.{ask_no_fetch}
 use Rattle.circus_accepting_theory.proofs.TrueReturns.{answers_ask}
 use Rattle.circus_node.specs.Booting.{IsOfTroupe}
-use Rattle.circus_node.specs.NodeState.{Acting, member, ringmaster}
-use Rattle.circus_standing.specs.Messages.{IsAskAt}
 use Rattle.circus_truth.specs.Proper.{AreProper}
 use Rattle.circus_truth.specs.Truth.{reply_to, IsNamed, IsTrueCallFor, IsTrueReturn, IsTrueAsking, IsAskMessage}
 use Rattle.circus_talks.specs.Histories.{beginning_of}
 use Rattle.circus_talks.specs.NodeActs.{with_all, coming}
-use Rattle.circus_talks.proofs.Worlds.{at_pair, is_other, lawful_at}
-use Rattle.circus_world.specs.WorldState.{WorldState, Standing}
+use Rattle.circus_talks.proofs.Worlds.{is_other, lawful_at}
+use Rattle.circus_world.specs.WorldState.{WorldState}
 use Rattle.circus_world.proofs.SlotLemmas.{all_at}
 use Rattle.circus_world_theory.proofs.Making.{MayHaveModule}
 use Rattle.circus_world_theory.proofs.Saying.{AllSaid, IsSaidCall, call_said, purpose_said, return_said}
 use Rattle.circus_world_theory.proofs.Stepping.{has_module, CalledAt, HeardAt, NodesTrue}
-use Rattle.circus_world_theory.proofs.True.{first_at, CallSo, ReturnSo, IsTrueAt, ActsTrue, return_so_grows}
+use Rattle.circus_world_theory.proofs.True.{first_at, CallSo, ReturnSo, IsTrueAt, return_so_grows}
 use Rattle.circus_border_theory.proofs.Hosting.{Hosts, IsOtherOf, boot_views_are}
 use Rattle.circus_quiescence_theory.proofs.Accepts.{ask_accepted, reply_accepted}
 use Rattle.circus_quiescence_theory.proofs.Acts.{call_heard, return_heard, arrives_from}
-use Rattle.circus_quiescence_theory.proofs.Calm.{Purposed, Arrived, Returned, IsCalm, Brings}
-use Rattle.circus_quiescence_theory.specs.Told.{IsOpenAt}
-use Rattle.circus_quiescence_theory.proofs.Quietly.{QuietCall, QuietReturn, true_reply, MemberQuiet, HasCame, first_views}
+use Rattle.circus_quiescence_theory.proofs.Calm.{Purposed, Arrived, IsCalm, Brings}
+use Rattle.circus_quiescence_theory.proofs.Quietly.{QuietCall, QuietReturn, true_reply}
 use Rattle.circus_quiescence_theory.proofs.QuietNodes.{NodesQuiet}
 use Rattle.circus_quiescence_theory.proofs.Staying.{IsEntryOf, entry_there}
 use Rattle.circus_quiescence_theory.proofs.Stepping.{AreFirst, IsQuiet}

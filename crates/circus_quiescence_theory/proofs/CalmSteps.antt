@@ -1,14 +1,16 @@
 -- Deliveries keep the members of a world calm.
-use Rattle.std.proofs.Common.{◌≡◌, ◌≢◌, ◌⊎◌, inl, inr, ℕ, suc, ◌+◌, ◌<◌, ◌≤◌, Bool, true, false, List, [], ◌∷◌, ◌++◌, length, map, set, All, Option, None, Some, Result, Ok, Err, refl, sym, ap, subst, ◌∙◌, arith}
-use Rattle.std.specs.Prelude.{slice_get, slice_index, flat_map, option_and_then}
+use Rattle.std.proofs.Common.{◌≡◌, ◌≢◌, ◌⊎◌, inl, inr, ℕ, ◌+◌, ◌<◌, ◌≤◌, true, List, [], ◌∷◌, ◌++◌, length, map, set, All, Option, None, Some, Result, Ok, refl, sym, ap, subst, ◌∙◌, arith}
+use Rattle.std.specs.Prelude.{slice_get, slice_index}
 use Rattle.std.specs.Option.{option_map_or}
 use Rattle.std.proofs.lemmas.Bool.Decides.{eqb_tells}
 use Rattle.std.proofs.lemmas.List.Elements.{All-nil, All-weaker}
-use Rattle.std.proofs.lemmas.Option.{none-some, same_Some}
+use Rattle.std.proofs.lemmas.Option.{same_Some}
 use Rattle.circus_value.specs.ValueTree.{ValueTree}
 use Rattle.circus_value.specs.declared.caller.Caller.{Caller}
 use Rattle.circus_value.specs.declared.outcome.Outcome.{Outcome}
 use Rattle.circus_value.specs.Among.{is_among}
+use Rattle.circus_header.specs.Reading.{IsOne, calls}
+use Rattle.circus_header.specs.declared.call.Call.TheVariants.{Ask as AskOf}
 use Rattle.circus_header.specs.declared.call.CallHeader.{CallHeader}
 use Rattle.circus_segment.specs.Segment.{Piece, IsSegment, reading}
 use Rattle.circus_segment.specs.declared.fault.SegmentFault.{SegmentFault}
@@ -22,19 +24,18 @@ use Rattle.circus_model.specs.Behaviour.{Behaviour, IsModule}
 use Rattle.circus_model.specs.Agree.{IsAt, AreModules, Agree}
 use Rattle.circus_model.specs.declared.signature.Signature.{Signature}
 use Rattle.circus_record.specs.declared.record.MemberRecord.{MemberRecord}
-use Rattle.circus_performing.specs.Performing.{last_count}
 use Rattle.circus_performing.specs.Record.{behaviour}
-use Rattle.circus_pair.specs.Handed.{call_at}
 use Rattle.circus_wire.specs.declared.delivery.Heard.{Heard}
 use Rattle.circus_wire.specs.declared.delivery.Heard.TheVariants as heard
-use Rattle.circus_wire.specs.Wire.{WireState, heard_from, after_datagram}
-use Rattle.circus_wire.specs.WireActs.{WireAct, WireActs, acts_at}
-use Rattle.circus_wire.specs.WireStanding.{WireStands, pair_of}
+use Rattle.circus_wire.specs.Wire.{WireState, heard_from}
+use Rattle.circus_wire.specs.WireActs.{WireActs}
+use Rattle.circus_wire.specs.WireStanding.{WireStands}
 use Rattle.circus_member_rules.specs.Messages.{ask_message}
-use Rattle.circus_member_rules.specs.declared.occurrence.AskName.{AskName}
 use Rattle.circus_member_rules.specs.declared.occurrence.Effect.{Effect}
 use Rattle.circus_member_rules.specs.declared.occurrence.Effect.TheVariants as made
 use Rattle.circus_member_rules.specs.declared.occurrence.Occurrence.{Occurrence}
+use Rattle.circus_member_rules.specs.declared.place.Place.{Place}
+use Rattle.circus_member_theory.proofs.Resting.{step_rests}
 use Rattle.circus_member_rules.specs.declared.occurrence.Purpose.{Purpose}
 use Rattle.circus_member_rules.specs.declared.occurrence.Purpose.TheVariants as for
 use Rattle.circus_member_step.specs.MemberState.{MemberState}
@@ -43,7 +44,7 @@ use Rattle.circus_accepting.specs.Accepting.{troupe_at, is_root, accepted}
 use Rattle.circus_node.specs.Booting.{IsOfTroupe}
 use Rattle.circus_node.specs.declared.event.Event.{Event}
 use Rattle.circus_node.specs.declared.event.Event.TheVariants as comes
-use Rattle.circus_node.specs.NodeState.{NodeState, Acting, member, ringmaster}
+use Rattle.circus_node.specs.NodeState.{Acting, member, ringmaster}
 use Rattle.circus_node.specs.Making.{Made, happens, refused, hears}
 use Rattle.circus_schedule.specs.declared.line.Line.{Line}
 use Rattle.circus_schedule.specs.declared.line.Line.TheVariants.{Deliver, Tick, Crash, Down, Join}
@@ -51,11 +52,11 @@ use Rattle.circus_world.specs.WorldState.{WorldState, Standing}
 use Rattle.circus_world.specs.Lines.{Lead}
 use Rattle.circus_world.proofs.SlotLemmas.{get_set, get_there, all_at}
 use Rattle.circus_talks.specs.Histories.{beginning_of, with_line, with_lines, with_others}
-use Rattle.circus_talks.specs.NodeActs.{with_all, coming, came_by, handed_by, wire_behind, effects_in, acts_in}
+use Rattle.circus_talks.specs.NodeActs.{with_all, coming, came_by, wire_behind, effects_in}
 use Rattle.circus_talks.proofs.Given.{with_both}
 use Rattle.circus_talks.proofs.Worlds.{Stands, IsGiven, get_same, came_sent}
 use Rattle.circus_truth.specs.Proper.{AreProper}
-use Rattle.circus_world_theory.proofs.Handing.{IsMade, calls_stay, step_said}
+use Rattle.circus_world_theory.proofs.Handing.{IsMade, step_said}
 use Rattle.circus_world_theory.proofs.Saying.{AllSaid, IsSaidCall, all_said_weaker, purpose_said}
 use Rattle.circus_world_theory.proofs.Stepping.{CalledAt, HeardAt, NodesTrue, ends_true}
 use Rattle.circus_world_theory.proofs.True.{CallSo, ReturnSo, IsTrueAt, ActsTrue}
@@ -67,11 +68,11 @@ use Rattle.circus_border_theory.proofs.Worlds.{HandsLines}
 use Rattle.circus_quiescence_theory.specs.Lossless.{AreDeliveries}
 use Rattle.circus_quiescence_theory.specs.Still.{phase_at}
 use Rattle.circus_quiescence_theory.proofs.Booting.{few_runs}
-use Rattle.circus_quiescence_theory.proofs.Calm.{Purposed, IsCalm, Brings, calm_still, calm_now, steps}
+use Rattle.circus_quiescence_theory.proofs.Calm.{IsCalm, Brings, quiet_in_range, calm_still, calm_now, steps}
 use Rattle.circus_quiescence_theory.proofs.CalmNodes.{GoesRight, entry_hosts, brings_so}
 use Rattle.circus_quiescence_theory.proofs.Course.{AllLive, Delivers, line_delivers, line_stands, still_live}
 use Rattle.circus_quiescence_theory.proofs.Quietly.{HasCame, MemberQuiet, HappensQuietly, first_views}
-use Rattle.circus_quiescence_theory.proofs.QuietNodes.{NodesQuiet, NodeQuiet, happens_so, few_of, delivered_true, delivered_quiet, becomes, deployed, truly, still_called}
+use Rattle.circus_quiescence_theory.proofs.QuietNodes.{NodesQuiet, NodeQuiet, happens_so, few_of, becomes, deployed, truly, still_called}
 use Rattle.circus_quiescence_theory.proofs.Staying.{EffectSo}
 
 -- a call, of any kind
@@ -82,6 +83,7 @@ AnyCall purpose message = Unit {0}
 pub record EarlyReturn (Called : Caller → List ℕ → Type 0) (troupe count : ℕ) (caller : Caller) (message : List ℕ) : Type 0 where
   pub header : CallHeader
   pub body : List ℕ
+  pub header_is : IsOne calls (AskOf header)
   pub called : Called caller (ask_message header body)
   pub early : slice_index header.clock troupe < count
 
@@ -90,14 +92,15 @@ pub early_grows : (Called Other : Caller → List ℕ → Type 0) → ((caller :
 early_grows Called Other grows troupe count more le caller message e = record {
   header = e.header;
   body = e.body;
+  header_is = e.header_is;
   called = grows caller (ask_message e.header e.body) e.called;
   early = (let less = e.early in omega (arith, less, le));
 }
 
-pub made_early : (views : List View) (Called : Caller → List ℕ → Type 0) (troupe : ℕ) (kept : MemberRecord) (e : Effect) → EffectSo views troupe (λ caller header body. Called caller (ask_message header body)) kept e
+pub made_early : (views : List View) (Called : Caller → List ℕ → Type 0) (troupe : ℕ) (kept : MemberRecord) (e : Effect) → EffectSo views troupe (λ caller header body. IsOne calls (AskOf header) × Called caller (ask_message header body)) kept e
     → IsMade AnyCall (EarlyReturn Called troupe kept.count) e
 made_early views Called troupe kept (made.Call to message purpose) so = tt
-made_early views Called troupe kept (made.Answer caller message) so = record { header = so.header; body = so.body; called = so.is; early = so.index }
+made_early views Called troupe kept (made.Answer caller message) so = record { header = so.header; body = so.body; header_is = so.is.0; called = so.is.1; early = so.index }
 
 module _ {M : Type 0} (declared : M → Signature) (turn : M → List ValueTree → ℕ → List ValueTree → List Outcome → NextTurn) (first : M → List ValueTree)
     (lawful : (hosted : M) → IsModule (behaviour declared turn first hosted))
@@ -114,6 +117,9 @@ module _ {M : Type 0} (declared : M → Signature) (turn : M → List ValueTree 
     -- a founder of a root has begun
     pub begun : (node troupe : ℕ) (t : Troupe) (s : Standing M) (m : MemberState M) → slice_get w.nodes node ≡ Some s → s.node.acting ≡ member m → troupe_at d node ≡ Some troupe → slice_get d.troupes troupe ≡ Some t
         → is_among t.founders node ≡ true → is_root d troupe ≡ true → 0 < length m.performing.kept.runs
+    -- each has the collators of its troupe
+    pub placed : (node troupe : ℕ) (t : Troupe) (s : Standing M) (m : MemberState M) → slice_get w.nodes node ≡ Some s → s.node.acting ≡ member m → troupe_at d node ≡ Some troupe → slice_get d.troupes troupe ≡ Some t
+        → (m.place.calls ≡ t.calls) × (m.place.replies ≡ t.replies)
 
   -- ---- a member
 
@@ -140,6 +146,7 @@ module _ {M : Type 0} (declared : M → Signature) (turn : M → List ValueTree 
       pub early_ : All (IsMade AnyCall (EarlyReturn Called troupe member_.performing.kept.count)) x.came.effects
       pub counts : m.performing.kept.count ≤ member_.performing.kept.count
       pub longer : length m.performing.kept.runs ≤ length member_.performing.kept.runs
+      pub placed_ : member_.place ≡ m.place
 
     module _ (truly_heard : HeardAt d acts node from (heard_from wire from segment)) where
       brings : Brings (beginning_of d node) (boot_views d.troupes) (λ other. IsOtherOf d node other) troupe (phase_at d node) P declared turn first lawful (first_views 0 d.troupes) (acts node) (coming from segment) m truly.rested still calm
@@ -157,6 +164,7 @@ module _ {M : Type 0} (declared : M → Signature) (turn : M → List ValueTree 
         early_ = subst (λ es. All (IsMade AnyCall (EarlyReturn Called troupe m.performing.kept.count)) es) (sym none) (All-nil (IsMade AnyCall (EarlyReturn Called troupe m.performing.kept.count)));
         counts = omega arith;
         longer = omega arith;
+        placed_ = refl;
       }
 
       by_accepted : (at : ℕ) (h : Heard Purpose) → heard_from wire from segment ≡ h → (o : Option Occurrence) → accepted d (declared m.performing.hosted) m from h ≡ o
@@ -185,6 +193,7 @@ module _ {M : Type 0} (declared : M → Signature) (turn : M → List ValueTree 
                 (stepped declared turn at x m).effects s.effects;
             counts = s.counts;
             longer = s.longer;
+            placed_ = (step_rests declared turn first lawful at x m truly.rested so.0 (quiet_in_range (boot_views d.troupes) troupe (phase_at d node) P x so.1)).place;
           }
 
       pub member_steps : (at : ℕ) (h : Heard Purpose) → heard_from wire from segment ≡ h → ActsTrue declared turn first program d Called (Some troupe) (hears declared turn d at from h (member m)).acting
@@ -270,6 +279,7 @@ module _ {M : Type 0} (declared : M → Signature) (turn : M → List ValueTree 
       early_ : (troupe : ℕ) → troupe_at d at_node ≡ Some troupe → All (IsMade AnyCall (EarlyReturn (CalledAt d acts at_node) troupe m_.performing.kept.count)) (effects_in declared turn (w.steps + 1) event s.node)
       counts : old.performing.kept.count ≤ m_.performing.kept.count
       longer : length old.performing.kept.runs ≤ length m_.performing.kept.runs
+      placed_ : m_.place ≡ old.place
 
     truth : ActsTrue declared turn first program d (CalledAt d acts at_node) (troupe_at d at_node) (by s.node.deployment s.node.acting).acting
     truth = subst (λ a. ActsTrue declared turn first program d (CalledAt d acts at_node) (troupe_at d at_node) a) is_now
@@ -303,6 +313,7 @@ module _ {M : Type 0} (declared : M → Signature) (turn : M → List ValueTree 
               (subst (λ (x : Made M). All (IsMade AnyCall (EarlyReturn (CalledAt d acts at_node) troupe r.member_.performing.kept.count)) x.came.effects) (sym same) r.early_));
           counts = subst (λ (y : MemberState M). m.performing.kept.count ≤ y.performing.kept.count) becomes_ r.counts;
           longer = subst (λ (y : MemberState M). length m.performing.kept.runs ≤ length y.performing.kept.runs) becomes_ r.longer;
+          placed_ = subst (λ (y : MemberState M). y.place ≡ m.place) becomes_ r.placed_;
         }
 
     here_by : (m_ : MemberState M) → delivers.ended.0.acting ≡ member m_ → (own : Option ℕ) → troupe_at d at_node ≡ own → (a : Acting M) → s.node.acting ≡ a → ActsTrue declared turn first program d (CalledAt d acts at_node) own a
@@ -368,6 +379,13 @@ module _ {M : Type 0} (declared : M → Signature) (turn : M → List ValueTree 
             let longer = r.longer in
             omega (arith, before, longer)
         | inr there ↦ calm.begun x troupe one t m_ there.1 acting hosts there_one founder root
+      ];
+      placed = λ x troupe one t m_ found acting hosts there_one. elim (by_place x t found) [
+        | inl here_ ↦
+            let r = here m_ (acting_now t m_ here_.1 acting) in
+            let before = calm.placed at_node troupe one s r.old delivers.at r.old_is (subst (λ k. troupe_at d k ≡ Some troupe) here_.0 hosts) there_one in
+            (ap (λ (y : Place). y.calls) r.placed_ ∙ before.0, ap (λ (y : Place). y.replies) r.placed_ ∙ before.1)
+        | inr there ↦ calm.placed x troupe one t m_ there.1 acting hosts there_one
       ];
     }
       where

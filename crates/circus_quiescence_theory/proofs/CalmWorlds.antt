@@ -1,7 +1,7 @@
 -- Where lines deliver datagrams alone, each member of the last world is calm.
-use Rattle.std.proofs.Common.{◌≡◌, ◌⊎◌, inl, inr, ℕ, ◌+◌, ◌<◌, ◌≤◌, Bool, true, false, List, [], ◌∷◌, length, map, All, Option, None, Some, refl, sym, ap, subst, ◌∙◌, arith}
+use Rattle.std.proofs.Common.{◌≡◌, inl, inr, ℕ, ◌<◌, ◌≤◌, true, List, [], ◌∷◌, length, map, All, Option, None, Some, refl, sym, ap, subst, ◌∙◌}
 use Rattle.std.specs.Prelude.{slice_get, flat_map, option_map, option_and_then, if◌then◌else◌}
-use Rattle.std.proofs.lemmas.List.Elements.{All-nil, All-head, All-weaker}
+use Rattle.std.proofs.lemmas.List.Elements.{All-head, All-weaker}
 use Rattle.std.proofs.lemmas.Option.{none-some, same_Some, slice_get-map, slice_get_within}
 use Rattle.circus_value.specs.ValueTree.{ValueTree}
 use Rattle.circus_value.specs.declared.caller.Caller.{Caller}
@@ -10,7 +10,6 @@ use Rattle.circus_value.specs.Among.{is_among}
 use Rattle.circus_header.specs.declared.call.CallHeader.{CallHeader}
 use Rattle.circus_collate.specs.declared.deployment.Deployment.{Deployment}
 use Rattle.circus_collate.specs.declared.deployment.Troupe.{Troupe}
-use Rattle.circus_collate.specs.declared.view.View.{View}
 use Rattle.circus_ring.specs.RingTable.{Kept, boot_views}
 use Rattle.circus_model.specs.NextTurn.{NextTurn}
 use Rattle.circus_model.specs.Agree.{IsAt}
@@ -21,30 +20,28 @@ use Rattle.circus_gather.specs.declared.held.HeldCall.{HeldCall}
 use Rattle.circus_performing.specs.Performing.{last_count}
 use Rattle.circus_performing.specs.Record.{behaviour}
 use Rattle.circus_pair.specs.Taken.{total_in, has_arrived}
-use Rattle.circus_wire.specs.WireActs.{WireActs, begun, acts_at, purpose_of}
-use Rattle.circus_wire.specs.WireStanding.{pair_of}
-use Rattle.circus_member_rules.specs.declared.occurrence.AskName.{AskName}
+use Rattle.circus_wire.specs.WireActs.{WireActs, begun}
 use Rattle.circus_member_rules.specs.declared.occurrence.Effect.{Effect}
 use Rattle.circus_member_rules.specs.declared.occurrence.Effect.TheVariants as made
 use Rattle.circus_member_rules.specs.declared.occurrence.Purpose.{Purpose}
 use Rattle.circus_member_rules.specs.declared.occurrence.Purpose.TheVariants as for
-use Rattle.circus_member_rules.specs.declared.place.Beginning.{Beginning}
 use Rattle.circus_member_rules.specs.declared.place.Beginning.TheVariants.{Founder, Spare}
+use Rattle.circus_member_rules.specs.declared.place.Place.{Place}
+use Rattle.circus_member_theory.proofs.Resting.{boot_rests}
 use Rattle.circus_member_step.specs.Happening.{IsHome}
 use Rattle.circus_member_step.specs.MemberState.{MemberState, Doing}
 use Rattle.circus_member_step.specs.Step as member_step
 use Rattle.circus_accepting.specs.Accepting.{troupe_at, is_root}
-use Rattle.circus_node.specs.NodeState.{NodeState, Acting, member, ringmaster}
+use Rattle.circus_node.specs.NodeState.{Acting, member, ringmaster}
 use Rattle.circus_node.specs.Making.{Made}
-use Rattle.circus_node.specs.Booting.{CanBoot, IsOfTroupe, beginning_in, home_in, home_of, member_at_boot, made_at_boot, fresh_wire}
+use Rattle.circus_node.specs.Booting.{CanBoot, IsOfTroupe, home_in, home_of, member_at_boot, made_at_boot, fresh_wire}
 use Rattle.circus_node.proofs.BootLemmas.{is_home}
 use Rattle.circus_node.proofs.TroupeLemmas.{hosted_can_boot}
 use Rattle.circus_schedule.specs.declared.line.Line.{Line}
 use Rattle.circus_world.specs.WorldState.{WorldState, Standing}
 use Rattle.circus_world.proofs.SlotLemmas.{get_there, all_at}
 use Rattle.circus_talks.specs.Histories.{beginning_of, acts_of}
-use Rattle.circus_talks.specs.NodeActs.{with_all, handed_by, acts_at_boot}
-use Rattle.circus_talks.proofs.Worlds.{Stands}
+use Rattle.circus_talks.specs.NodeActs.{with_all, handed_by}
 use Rattle.circus_world_theory.specs.Worlds.{IsWorldOf}
 use Rattle.circus_world_theory.proofs.Handing.{IsMade, boot_said}
 use Rattle.circus_world_theory.proofs.Saying.{AllSaid}
@@ -56,13 +53,13 @@ use Rattle.circus_border_theory.proofs.Whole.{nothing_is_dropped, boots_hand_all
 use Rattle.circus_quiescence_theory.specs.Lossless.{AreDeliveries}
 use Rattle.circus_quiescence_theory.proofs.Acts.{made_purpose, purpose_from, handed_arrived}
 use Rattle.circus_quiescence_theory.proofs.Booting.{few_runs, BootsQuietly, boots_quietly}
-use Rattle.circus_quiescence_theory.proofs.Calm.{Purposed, Arrived, IsCalm}
-use Rattle.circus_quiescence_theory.proofs.CalmSteps.{AnyCall, EarlyReturn, CalmAt, NodesCalm, delivered_calm, lead_hands}
+use Rattle.circus_quiescence_theory.proofs.Calm.{Arrived, IsCalm}
+use Rattle.circus_quiescence_theory.proofs.CalmSteps.{AnyCall, EarlyReturn, NodesCalm, delivered_calm, lead_hands}
 use Rattle.circus_quiescence_theory.proofs.Course.{own_of, at_boot, boot_live}
 use Rattle.circus_quiescence_theory.proofs.Quietly.{first_views}
 use Rattle.circus_quiescence_theory.proofs.QuietNodes.{NodesQuiet, delivered_true, delivered_quiet}
 use Rattle.circus_quiescence_theory.proofs.QuietWorlds.{one_each, true_at_boot, quiet_at_boot, began, boots_at}
-use Rattle.circus_quiescence_theory.proofs.Staying.{EffectSo, IsCallIn, is_entry}
+use Rattle.circus_quiescence_theory.proofs.Staying.{EffectSo}
 
 nothing_arrived : (kind k : ℕ) → has_arrived [] kind k ≡ true → ⊥
 unfolding has_arrived total_in
@@ -252,11 +249,20 @@ module _ {M : Type 0} (declared : M → Signature) (turn : M → List ValueTree 
         let starts : member_step.starts_at_boot declared turn (home_in d node as_.number as_.one).beginning as_.module_ ≡ true = ap (λ x. member_step.starts_at_boot declared turn x as_.module_) begins_so ∙ rooted in
         subst (λ (x : MemberState M). 0 < length x.performing.kept.runs) member_is (boots.begun starts)
 
+    placed_there : (troupe : ℕ) (t : Troupe) → troupe_at d node ≡ Some troupe → slice_get d.troupes troupe ≡ Some t → (m.place.calls ≡ t.calls) × (m.place.replies ≡ t.replies)
+    placed_there troupe t hosts there =
+        let one : troupe ≡ as_.number = same_Some troupe as_.number (sym hosts ∙ as_.hosts) in
+        let same : t ≡ as_.one = same_Some t as_.one (sym there ∙ ap (slice_get d.troupes) one ∙ as_.there) in
+        let is : m.place ≡ (home_in d node as_.number as_.one).place = ap (λ (x : MemberState M). x.place) (sym member_is)
+        ∙ (boot_rests declared turn first lawful (home_in d node as_.number as_.one).place (boot_views d.troupes) (home_in d node as_.number as_.one).beginning as_.module_ home).place in
+        (ap (λ (y : Place). y.calls) is ∙ ap (λ (x : Troupe). x.calls) (sym same), ap (λ (y : Place). y.replies) is ∙ ap (λ (x : Troupe). x.replies) (sym same))
+
   calm_at_boot : Calm begins booted
   calm_at_boot = record {
     calm = λ node s m at acting. calm_there node s m at acting;
     early = λ node troupe s m at acting hosts. early_there node s m at acting troupe;
     begun = λ node troupe t s m at acting hosts there founder root. begun_there node s m at acting troupe t hosts there founder root;
+    placed = λ node troupe t s m at acting hosts there. placed_there node s m at acting troupe t hosts there;
   }
 
   -- ---- at last

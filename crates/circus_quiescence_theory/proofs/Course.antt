@@ -1,19 +1,17 @@
 -- Worlds that deliveries lead to from boot: what holds there, where each delivery keeps it.
-use Rattle.std.proofs.Common.{◌≡◌, ◌≢◌, ◌⊎◌, ℕ, zero, suc, ◌+◌, ◌-◌, ◌<◌, ◌≤◌, inl, inr, Bool, true, false, List, [], ◌∷◌, ◌++◌, length, map, set, Option, None, Some, Ok, Err, refl, sym, ap, subst, ◌∙◌, arith, ltb-true, eq-eqb, zero-add, add-zero}
+use Rattle.std.proofs.Common.{◌≡◌, ◌≢◌, ◌⊎◌, ℕ, zero, suc, ◌+◌, ◌<◌, inl, inr, Bool, true, false, List, [], ◌∷◌, ◌++◌, length, map, set, Option, None, Some, Ok, Err, refl, sym, ap, subst, ◌∙◌, arith, ltb-true, eq-eqb, zero-add, add-zero}
 use Rattle.std.specs.Prelude.{slice_get, is_none, nat_lt, option_map, option_and_then, if◌then◌else◌}
 use Rattle.std.specs.Option.{option_map_or}
 use Rattle.std.proofs.lemmas.Bool.{ne_eqb}
-use Rattle.std.proofs.lemmas.Bool.Decides.{eqb_tells}
-use Rattle.std.proofs.lemmas.List.{length-append, length-set}
-use Rattle.std.proofs.lemmas.Option.{none-some, same_Some, slice_get_within, slice_get-map}
+use Rattle.std.proofs.lemmas.List.{length-append}
+use Rattle.std.proofs.lemmas.Option.{none-some, same_Some, slice_get-map}
 use Rattle.circus_value.specs.ValueTree.{ValueTree}
 use Rattle.circus_value.specs.declared.outcome.Outcome.{Outcome}
-use Rattle.circus_segment.specs.Segment.{Piece, IsSegment, reading}
 use Rattle.circus_collate.specs.Deployment.{IsDeployment}
 use Rattle.circus_collate.specs.declared.deployment.Deployment.{Deployment}
 use Rattle.circus_model.specs.NextTurn.{NextTurn}
 use Rattle.circus_model.specs.declared.signature.Signature.{Signature}
-use Rattle.circus_wire.specs.WireActs.{WireAct, WireActs, begun}
+use Rattle.circus_wire.specs.WireActs.{WireActs, begun}
 use Rattle.circus_member_rules.specs.declared.occurrence.Purpose.{Purpose}
 use Rattle.circus_node.specs.declared.event.Event.{Event}
 use Rattle.circus_node.specs.declared.event.Event.TheVariants as comes
@@ -34,12 +32,12 @@ use Rattle.circus_world.specs.Course.{Stepped, comes_to, concluded, stepped}
 use Rattle.circus_world.specs.Boot.{before_any, joined_by, then_others, all_booted, AreHosted}
 use Rattle.circus_world.specs.Lines.{Leads, Lead}
 use Rattle.circus_world.proofs.ComeLemmas.{datagram_may_come, goes_there, delivered_at}
-use Rattle.circus_world.proofs.SlotLemmas.{get_set, get_push, get_there, all_at}
-use Rattle.circus_talks.specs.Histories.{beginning_of, delivery, comes_by, with_step, with_line, with_lines, with_others, acts_of}
+use Rattle.circus_world.proofs.SlotLemmas.{get_set, get_push, get_there}
+use Rattle.circus_talks.specs.Histories.{delivery, comes_by, with_step, with_line, with_lines, with_others}
 use Rattle.circus_talks.specs.NodeActs.{with_all, acts_in, acts_at_boot}
 use Rattle.circus_talks.proofs.Boots.{world_stands}
 use Rattle.circus_talks.proofs.Lines.{lead_stands}
-use Rattle.circus_talks.proofs.Worlds.{Stands, IsGiven, get_same}
+use Rattle.circus_talks.proofs.Worlds.{Stands}
 use Rattle.circus_quiescence_theory.specs.Lossless.{AreDeliveries}
 use Rattle.circus_quiescence_theory.proofs.Giving.{IsGive}
 

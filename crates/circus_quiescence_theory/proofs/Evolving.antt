@@ -1,11 +1,9 @@
 -- How a record goes on as a run is entered or its open ask is answered: which asks are new, and which of them are open.
 use Rattle.std.proofs.Common.{◌≡◌, ◌⊎◌, inl, inr, ℕ, zero, suc, ◌+◌, ◌-◌, ◌<◌, ◌≤◌, Bool, true, false, cond, List, [], ◌∷◌, ◌++◌, length, take, Option, None, Some, refl, sym, ap, subst, ◌∙◌, arith, length-append, append_assoc}
-use Rattle.std.specs.Prelude.{slice_get, min, is_none, option_and_then}
-use Rattle.std.specs.Option.{option_map_or}
+use Rattle.std.specs.Prelude.{slice_get, is_none, option_and_then}
 use Rattle.std.proofs.lemmas.Bool.{cases_lt}
 use Rattle.std.proofs.lemmas.List.{append-nil, take-append-le}
 use Rattle.std.proofs.lemmas.Option.{same_Some, slice_get_within}
-use Rattle.std.proofs.Math.Seq.{take-append_seam}
 use Rattle.circus_value.specs.ValueTree.{ValueTree}
 use Rattle.circus_value.specs.declared.outcome.Outcome.{Outcome}
 use Rattle.circus_model.specs.NextTurn.{NextTurn, asks, ends}
@@ -16,11 +14,10 @@ use Rattle.circus_record.specs.declared.record.AskRecord.{AskRecord}
 use Rattle.circus_record.specs.declared.record.RunRecord.{RunRecord}
 use Rattle.circus_record.specs.declared.record.MemberRecord.{MemberRecord}
 use Rattle.circus_performing.specs.declared.start.RunStart.{RunStart}
-use Rattle.circus_performing.specs.Performing.{clock_after, open_ask, last_of, unanswered, begun, made_ask, answered_ask, refusal, with_refusal, turned, gone_on, with_run, most_turns, next_count, last_count, entered, answered, is_active, state_after}
-use Rattle.circus_performing.specs.Record.{start_of, turns, IsIdle, IsPerforming, IsRecord, count_after}
+use Rattle.circus_performing.specs.Performing.{clock_after, open_ask, last_of, unanswered, begun, made_ask, answered_ask, with_refusal, turned, gone_on, with_run, most_turns, answered, state_after}
+use Rattle.circus_performing.specs.Record.{start_of, turns, IsPerforming}
 use Rattle.circus_performing.proofs.Ends.{last_more}
-use Rattle.circus_performing.proofs.Records.{with_answer, answered_is, idle_has_none, performing_has_one}
-use Rattle.circus_member_step.proofs.Writing.{one_is_performing, none_is_idle}
+use Rattle.circus_performing.proofs.Records.{with_answer, answered_is}
 use Rattle.circus_quiescence_theory.specs.Told.{Recorded, IsOpenAt}
 
 -- ---- the asks of a run that goes on

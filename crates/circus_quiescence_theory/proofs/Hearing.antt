@@ -1,17 +1,14 @@
 -- What is heard by a segment by which a message arrives.
-use Rattle.std.proofs.Common.{◌≡◌, ◌≢◌, ◌⊎◌, inl, inr, ℕ, Bool, true, false, cond, not, ◌&&◌, eqb, List, ◌∷◌, Option, None, Some, Ok, refl, sym, ap, subst, ◌∙◌, if◌then◌else◌}
-use Rattle.std.proofs.lemmas.Bool.{eqb-true}
-use Rattle.circus_segment.specs.Segment.{Piece, IsSegment, is_acknowledgement}
+use Rattle.std.proofs.Common.{◌≡◌, ℕ, Bool, true, false, cond, eqb, List, ◌∷◌, refl, sym, subst, ◌∙◌, if◌then◌else◌}
+use Rattle.circus_segment.specs.Segment.{Piece}
 use Rattle.circus_exchange.specs.Exchange.{start, takes}
-use Rattle.circus_exchange.specs.declared.taken.Arrived.{Arrived}
 use Rattle.circus_exchange.specs.declared.taken.Arrived.TheVariants.{Nothing, ArrivedCall, ArrivedReturn}
 use Rattle.circus_pair.specs.Taken.{has_arrived, is_of, message_in}
 use Rattle.circus_pair.specs.Acts.{Came, Acts, more, end_after, taken_by, arrives_by, arrival_by}
 use Rattle.circus_pair.specs.Lawful.{AreLawful}
 use Rattle.circus_pair.specs.Sending.{takes_after}
-use Rattle.circus_pair.specs.Standing.{arrival_after}
 use Rattle.circus_pair.proofs.Arrivals.{arrived_other}
-use Rattle.circus_pair.proofs.Dialogue.{both_true, not_true, no_arrival, is_part}
+use Rattle.circus_pair.proofs.Dialogue.{no_arrival, is_part}
 use Rattle.circus_pair.proofs.OneEnd.{arrived_stays}
 use Rattle.circus_pair.proofs.Outputs.{taken_is}
 

@@ -1,26 +1,24 @@
 -- Along a talk of two quiet ends all that comes is taken.
-use Rattle.std.proofs.Common.{◌≡◌, ◌⊎◌, ℕ, ◌+◌, ◌^◌, ◌<◌, ◌≤◌, inl, inr, Bool, true, false, cond, not, ◌&&◌, eqb, List, [], ◌∷◌, ◌++◌, Option, None, Some, Result, Ok, refl, sym, ap, subst, ◌∙◌, arith, eq-eqb}
-use Rattle.std.specs.Prelude.{is_some}
+use Rattle.std.proofs.Common.{◌≡◌, ◌⊎◌, ℕ, ◌^◌, ◌<◌, inl, inr, Bool, true, false, cond, ◌&&◌, eqb, List, [], ◌∷◌, Option, None, Some, Result, Ok, refl, sym, ap, subst, ◌∙◌, arith, eq-eqb}
 use Rattle.circus_segment.specs.declared.fault.SegmentFault.{SegmentFault}
 use Rattle.circus_segment.specs.Segment.{Piece, IsSegment, is_acknowledgement, reading, spelling}
 use Rattle.circus_segment.specs.Cut.{segment_count}
 use Rattle.circus_segment.proofs.Spellings.{read_again}
 use Rattle.circus_exchange.specs.Exchange.{start, takes}
-use Rattle.circus_pair.specs.Taken.{is_of, first_of, total_in, count_in, is_reached, has_arrived, IsOf, AreOf}
+use Rattle.circus_pair.specs.Taken.{is_of, first_of, total_in, has_arrived, AreOf}
 use Rattle.circus_pair.specs.Acts.{Act, Call, Return, Came, Tick, Stop, Acts, none_yet, more, end_after, taken_by}
 use Rattle.circus_pair.specs.Handed.{call_at, return_at, agrees_with, fits_with}
 use Rattle.circus_pair.specs.Lawful.{MayFollow}
 use Rattle.circus_pair.specs.Saying.{IsSaid, IsOfSome}
 use Rattle.circus_pair.specs.Sending.{is_sent}
-use Rattle.circus_pair.specs.TwoEnds.{sent_by, datagrams_by, handed_over, Talk, silent, at_first, at_second, acts_at_first, acts_at_second, WasSent, IsTalk}
-use Rattle.circus_pair.proofs.Dialogue.{Good, Sound, turned, sound_act, sound_start, are_of, found, IsPart, is_part, Found}
+use Rattle.circus_pair.specs.TwoEnds.{sent_by, handed_over, Talk, silent, at_first, at_second, acts_at_first, acts_at_second, WasSent, IsTalk}
+use Rattle.circus_pair.proofs.Dialogue.{Sound, turned, sound_act, sound_start, are_of, found, is_part, Found}
 use Rattle.circus_pair.proofs.Each.{Each, each_append, each_map, each_at}
 use Rattle.circus_pair.proofs.OneEnd.{sent_stays}
 use Rattle.circus_pair.proofs.Outputs.{taken_is}
-use Rattle.circus_pair.proofs.Sayings.{Tells}
 use Rattle.circus_pair.proofs.Taking.{return_is}
 use Rattle.circus_quiescence_theory.specs.Coming.{came_in, IsQuiet}
-use Rattle.circus_quiescence_theory.proofs.Speaking.{OfSent, Speaks, speaks_act, read_is}
+use Rattle.circus_quiescence_theory.proofs.Speaking.{OfSent, Speaks, speaks_act}
 
 -- ---- an act keeps two ends sound
 

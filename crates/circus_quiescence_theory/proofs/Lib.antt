@@ -4,6 +4,8 @@ pub mod Sending
 pub mod Arriving
 pub mod Acknowledging
 pub mod Pairs
+pub mod Ordered
+pub mod Collating
 pub mod Giving
 pub mod Course
 pub mod Lossless
@@ -24,3 +26,6 @@ pub mod CalmNodes
 pub mod CalmSteps
 pub mod CalmWorlds
 pub mod Told
+pub mod Recording
+pub mod Starting
+pub mod Finally

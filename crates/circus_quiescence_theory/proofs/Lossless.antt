@@ -1,12 +1,12 @@
 -- In a world where nothing is lost all that was handed over has arrived.
-use Rattle.std.proofs.Common.{◌≡◌, ◌≢◌, ◌⊎◌, ℕ, zero, suc, ◌+◌, ◌-◌, ◌<◌, ◌≤◌, inl, inr, Bool, true, false, cond, ◌&&◌, eqb, List, [], ◌∷◌, ◌++◌, length, map, Option, None, Some, Result, Ok, Err, refl, sym, ap, subst, ◌∙◌, arith, eq-eqb}
+use Rattle.std.proofs.Common.{◌≡◌, ◌≢◌, ℕ, suc, ◌+◌, ◌<◌, inl, inr, Bool, true, false, cond, ◌&&◌, eqb, List, [], ◌∷◌, ◌++◌, length, map, Option, None, Some, Result, Ok, Err, refl, sym, ap, subst, ◌∙◌, arith, eq-eqb}
 use Rattle.std.specs.Prelude.{slice_get, if◌then◌else◌}
 use Rattle.std.specs.List.{flat_map}
 use Rattle.std.proofs.lemmas.Bool.Decides.{eqb_tells}
 use Rattle.std.proofs.lemmas.Option.{same_Some, slice_get_within}
 use Rattle.circus_value.specs.ValueTree.{ValueTree}
 use Rattle.circus_value.specs.declared.outcome.Outcome.{Outcome}
-use Rattle.circus_segment.specs.Segment.{Piece, IsSegment, reading, spelling}
+use Rattle.circus_segment.specs.Segment.{Piece, IsSegment, reading}
 use Rattle.circus_segment.specs.declared.fault.SegmentFault.{SegmentFault}
 use Rattle.circus_segment.proofs.Spellings.{read_again}
 use Rattle.circus_collate.specs.Deployment.{IsDeployment}
@@ -15,15 +15,13 @@ use Rattle.circus_model.specs.NextTurn.{NextTurn}
 use Rattle.circus_model.specs.declared.signature.Signature.{Signature}
 use Rattle.circus_exchange.specs.declared.exchange.Exchange.{Exchange}
 use Rattle.circus_exchange.specs.Exchange.{start}
-use Rattle.circus_exchange.specs.Limits.{never_used}
-use Rattle.circus_pair.specs.Acts.{Act, Call, Return, Came, Tick, Stop, Acts, none_yet, more}
+use Rattle.circus_pair.specs.Acts.{Act, Call, Return, Came, Tick, Stop, Acts, more}
 use Rattle.circus_pair.specs.TwoEnds.{with_act, sent_by, acts_at_first, acts_at_second}
-use Rattle.circus_pair.specs.Lawful.{is_stopped_after}
 use Rattle.circus_pair.proofs.Each.{each_at}
 use Rattle.circus_pair.proofs.Sayings.{Tells}
 use Rattle.circus_wire.specs.Wire.{WireState, is_up}
 use Rattle.circus_wire.specs.WireActs.{WireAct, WireActs, begun, followed_by, CallTo, AnswerTo, CameFrom, TickAll, StopOf, act_at, acts_at, awaits_after}
-use Rattle.circus_wire.specs.WireStanding.{sent_in, pair_of}
+use Rattle.circus_wire.specs.WireStanding.{sent_in}
 use Rattle.circus_wire.proofs.Histories.{sent_is}
 use Rattle.circus_member_rules.specs.declared.occurrence.Purpose.{Purpose}
 use Rattle.circus_member_rules.specs.declared.occurrence.Effect.{Effect}
@@ -33,9 +31,8 @@ use Rattle.circus_node.specs.declared.event.Event.TheVariants as comes
 use Rattle.circus_node.specs.Booting.{AreOfTroupes, fresh_wire, home_of, made_at_boot}
 use Rattle.circus_node.specs.Sending.{is_sendable}
 use Rattle.circus_schedule.specs.declared.line.Line.{Line}
-use Rattle.circus_schedule.specs.declared.line.Line.TheVariants.{Deliver}
 use Rattle.circus_world.specs.declared.sent.Sent.{Sent}
-use Rattle.circus_world.specs.WorldState.{WorldState, Standing}
+use Rattle.circus_world.specs.WorldState.{WorldState}
 use Rattle.circus_world.specs.Course as course
 use Rattle.circus_world.specs.Boot.{before_any, all_booted, AreHosted}
 use Rattle.circus_world.specs.Lines.{Lead}
@@ -44,12 +41,12 @@ use Rattle.circus_talks.specs.Histories.{beginning_of, acts_of}
 use Rattle.circus_talks.specs.NodeActs.{with_all, coming, handed_by, wire_behind, effects_in, acts_in, acts_at_boot}
 use Rattle.circus_talks.proofs.Given.{WasGiven}
 use Rattle.circus_talks.proofs.Worlds.{Stands, IsGiven, at_pair, is_other, lawful_at, came_sent}
-use Rattle.circus_quiescence_theory.specs.Coming.{came_in, IsQuiet, HasCome, AllCame, AllArrived}
+use Rattle.circus_quiescence_theory.specs.Coming.{IsQuiet, HasCome, AllCame, AllArrived}
 use Rattle.circus_quiescence_theory.specs.Lossless.{LoseNothing}
 use Rattle.circus_quiescence_theory.proofs.Joint.{joint_talk}
 use Rattle.circus_quiescence_theory.proofs.Pairs.{all_arrive}
-use Rattle.circus_quiescence_theory.proofs.Giving.{IsGive, came_gives, boot_gives}
-use Rattle.circus_quiescence_theory.proofs.Course.{AllLive, after_step, Delivers, IsKept, lead_keeps, lead_makes, Posted, get_front, given_posted, posted_later, own_of, at_boot, world_boots, boot_live, boot_stands}
+use Rattle.circus_quiescence_theory.proofs.Giving.{came_gives, boot_gives}
+use Rattle.circus_quiescence_theory.proofs.Course.{AllLive, Delivers, IsKept, lead_keeps, lead_makes, Posted, get_front, given_posted, posted_later, own_of, at_boot, world_boots, boot_live, boot_stands}
 
 -- ---- quiet pairs
 

@@ -1,11 +1,10 @@
 -- The client's incarnation in an ask, and which kind of return a message is.
-use Rattle.std.proofs.Common.{◌≡◌, ℕ, zero, suc, ◌<◌, ◌≤◌, List, [], ◌∷◌, ◌++◌, length, map, drop, All, Option, Some, refl, sym, ap, subst, ◌∙◌, arith}
+use Rattle.std.proofs.Common.{◌≡◌, ℕ, zero, suc, ◌<◌, ◌≤◌, List, [], ◌∷◌, ◌++◌, length, map, drop, All, Option, Some, refl, sym, ap, ◌∙◌, arith}
 use Rattle.std.proofs.lemmas.List.Elements.{All-head, All-tail}
 use Rattle.std.proofs.lemmas.Nat.{from_be_bytes-to_be_bytes_2, from_be_bytes-to_be_bytes_4}
 use Rattle.std.proofs.lemmas.Option.{same_Some}
 use Rattle.circus_external.specs.Octets.{first_word, first_long}
 use Rattle.circus_header.specs.Field.{Field, word, long, HasRoom, bytes_of}
-use Rattle.circus_header.specs.CallFields.{call_fields}
 use Rattle.circus_header.specs.Reading.{IsOne, calls}
 use Rattle.circus_header.specs.declared.call.Call.TheVariants.{Ask}
 use Rattle.circus_header.specs.declared.call.CallHeader.{CallHeader}

@@ -1,28 +1,26 @@
 -- Where all that two ends have sent has come, all that was handed over has arrived.
-use Rattle.std.proofs.Common.{◌≡◌, ◌⊎◌, ℕ, zero, suc, ◌+◌, ◌<◌, ◌≤◌, inl, inr, Bool, true, false, cond, not, ◌&&◌, eqb, List, [], ◌∷◌, length, Option, None, Some, Ok, refl, sym, ap, subst, ◌∙◌, arith, eq-eqb}
+use Rattle.std.proofs.Common.{◌≡◌, ◌⊎◌, ℕ, zero, suc, ◌<◌, ◌≤◌, true, false, not, ◌&&◌, List, length, Option, None, Some, refl, sym, ap, subst, ◌∙◌, arith, eq-eqb}
 use Rattle.std.specs.Prelude.{is_some, slice_get}
-use Rattle.std.proofs.lemmas.Bool.Decides.{eqb_tells}
 use Rattle.circus_segment.specs.Segment.{Piece, IsSegment, spelling}
 use Rattle.circus_segment.specs.Cut.{segment_count, segment_of}
 use Rattle.circus_exchange.specs.Exchange.{start, message_out}
-use Rattle.circus_exchange.specs.Limits.{window}
 use Rattle.circus_pair.specs.Taken.{has_arrived}
 use Rattle.circus_pair.specs.Acts.{Acts, taken_by}
 use Rattle.circus_pair.specs.Handed.{call_at, return_at, reached_in}
 use Rattle.circus_pair.specs.Sending.{is_sent}
-use Rattle.circus_pair.specs.Window.{is_all, call_is_whole, is_open, count_below}
-use Rattle.circus_pair.specs.TwoEnds.{sent_by, handed_over, Talk, acts_at_first, acts_at_second, IsTalk}
+use Rattle.circus_pair.specs.Window.{is_all, call_is_whole, is_open}
+use Rattle.circus_pair.specs.TwoEnds.{sent_by, Talk, acts_at_first, acts_at_second, IsTalk}
 use Rattle.circus_pair.proofs.Counting.{count_none}
 use Rattle.circus_pair.proofs.Dialogue.{are_of}
 use Rattle.circus_pair.proofs.Keeping.{IsWithin, kept_after}
 use Rattle.circus_pair.proofs.OneEnd.{unsent_waits}
 use Rattle.circus_pair.proofs.Sayings.{MaySay, says_part, count_bounds}
-use Rattle.circus_quiescence_theory.specs.Coming.{IsQuiet, HasCome, AllCame, AllArrived}
+use Rattle.circus_quiescence_theory.specs.Coming.{IsQuiet, AllCame, AllArrived}
 use Rattle.circus_quiescence_theory.proofs.Speaking.{read_is, may_call, may_return}
 use Rattle.circus_quiescence_theory.proofs.Joint.{Joint, joint_turned, joint_talk, total_of_sent}
 use Rattle.circus_quiescence_theory.proofs.Sending.{Among, quiet_up, by_sent, call_among, return_among}
-use Rattle.circus_quiescence_theory.proofs.Arriving.{HasPart, all_arrived}
-use Rattle.circus_quiescence_theory.proofs.Acknowledging.{Acknowledged, acknowledged, reached_by, says_number}
+use Rattle.circus_quiescence_theory.proofs.Arriving.{all_arrived}
+use Rattle.circus_quiescence_theory.proofs.Acknowledging.{acknowledged, reached_by, says_number}
 
 -- a segment that was sent was taken at the other end
 record IsTaken (format : ℕ) (acts : Acts) (p : Piece) : Type 0 where

@@ -1,6 +1,6 @@
 -- What holds of a step so far holds once the execution has gone on, where each of the few things that it does keeps it; before the turns of a run
 -- another thing may hold than behind them.
-use Rattle.std.proofs.Common.{◌≡◌, ℕ, zero, suc, ◌≤◌, Bool, true, false, if◌then◌else◌, List, [], ◌++◌, length, Option, Some, None, refl, subst, arith}
+use Rattle.std.proofs.Common.{◌≡◌, ℕ, zero, suc, Bool, true, false, if◌then◌else◌, List, [], length, Option, Some, None, refl, subst, arith}
 use Rattle.std.specs.Prelude.{slice_get, IfSome}
 use Rattle.std.specs.Option.{option_map_or}
 use Rattle.circus_value.specs.ValueTree.{ValueTree}
@@ -12,20 +12,15 @@ use Rattle.circus_model.specs.NextTurn.{NextTurn}
 use Rattle.circus_model.specs.Behaviour.{Behaviour, IsModule}
 use Rattle.circus_record.specs.declared.record.AskRecord.{AskRecord}
 use Rattle.circus_record.specs.declared.record.RunRecord.{RunRecord}
-use Rattle.circus_gather.specs.Gathering.{with_first}
 use Rattle.circus_gather.specs.declared.held.HeldCall.{HeldCall}
 use Rattle.circus_performing.specs.declared.start.RunStart.{RunStart}
-use Rattle.circus_performing.specs.Performing.{open_ask, last_of, last_count, is_fetching, made_active}
+use Rattle.circus_performing.specs.Performing.{open_ask, last_of}
 use Rattle.circus_performing.specs.Record.{behaviour}
-use Rattle.circus_member_rules.specs.declared.occurrence.Occurrence.{Occurrence}
-use Rattle.circus_member_rules.specs.declared.occurrence.Occurrence.TheVariants as comes
-use Rattle.circus_member_rules.specs.Rules.{snapshots_owed, active_call, before_answers}
-use Rattle.circus_member_step.specs.Happening.{CanHappen}
-use Rattle.circus_member_step.specs.MemberState.{MemberState, Doing, adding}
-use Rattle.circus_member_step.specs.Step.{name_of_last, asking_begun, opened_by_view, opened_ask, ended_run, after_turns, is_idle, value_of_open, next_start, given_states, start_of_call, answered_by, answered_open, entered, starting, executed, handled}
+use Rattle.circus_member_rules.specs.Rules.{snapshots_owed}
+use Rattle.circus_member_step.specs.MemberState.{Doing, adding}
+use Rattle.circus_member_step.specs.Step.{name_of_last, asking_begun, opened_by_view, opened_ask, ended_run, after_turns, is_idle, value_of_open, next_start, given_states, start_of_call, answered_by, answered_open, entered, starting, executed}
 use Rattle.circus_member_step.specs.Seen.Sound.{MayStart}
 use Rattle.circus_member_step.proofs.Entering.{HasValue, has_value, with_entered, with_answered, turned_by_start, turned_by_reply}
-use Rattle.circus_member_step.proofs.Handled.{sound_asked, sound_fetched, sound_replied, sound_before, sound_stale, sound_told, sound_declared, sound_joins, sound_active}
 use Rattle.circus_member_step.proofs.Starting.{IsSoundNow, next_is_ready, may_start, sound_given, sound_entered, sound_answered}
 use Rattle.circus_member_step.proofs.Turned.{IsTurned, asking_now}
 use Rattle.circus_member_step.proofs.Homes.{slice_get_none}

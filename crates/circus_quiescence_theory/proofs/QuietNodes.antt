@@ -1,6 +1,6 @@
 -- The nodes of a world to which deliveries lead stay quiet.
-use Rattle.std.proofs.Common.{◌≡◌, ◌≢◌, ◌⊎◌, inl, inr, ℕ, ◌+◌, ◌<◌, ◌≤◌, Bool, true, false, List, [], ◌∷◌, ◌++◌, length, map, set, All, Option, None, Some, Result, Ok, Err, refl, sym, ap, subst, ◌∙◌, arith}
-use Rattle.std.specs.Prelude.{slice_get, option_and_then, IfSome}
+use Rattle.std.proofs.Common.{◌≡◌, inl, inr, ℕ, ◌+◌, ◌<◌, ◌≤◌, List, [], length, Option, None, Some, Ok, Err, refl, sym, ap, subst, ◌∙◌}
+use Rattle.std.specs.Prelude.{slice_get, option_and_then}
 use Rattle.std.specs.Option.{option_map_or}
 use Rattle.std.proofs.lemmas.Bool.Decides.{eqb_tells}
 use Rattle.std.proofs.lemmas.List.Elements.{All-nil, All-weaker}
@@ -8,15 +8,13 @@ use Rattle.std.proofs.lemmas.Option.{none-some, same_Some}
 use Rattle.circus_value.specs.ValueTree.{ValueTree}
 use Rattle.circus_value.specs.declared.caller.Caller.{Caller}
 use Rattle.circus_value.specs.declared.outcome.Outcome.{Outcome}
+use Rattle.circus_header.specs.Reading.{IsOne, calls}
 use Rattle.circus_header.specs.declared.call.Call.{Call}
 use Rattle.circus_header.specs.declared.call.Call.TheVariants.{Ask}
-use Rattle.circus_header.specs.declared.call.CallHeader.{CallHeader}
-use Rattle.circus_header.specs.declared.call.Request.{Request}
 use Rattle.circus_segment.specs.Segment.{reading}
 use Rattle.circus_collate.specs.Deployment.{IsDeployment}
 use Rattle.circus_collate.specs.declared.deployment.Deployment.{Deployment}
-use Rattle.circus_collate.specs.declared.deployment.Host.{Host}
-use Rattle.circus_ring.specs.RingTable.{Kept, boot_views}
+use Rattle.circus_ring.specs.RingTable.{Kept}
 use Rattle.circus_model.specs.NextTurn.{NextTurn}
 use Rattle.circus_model.specs.Behaviour.{Behaviour, IsModule}
 use Rattle.circus_model.specs.Agree.{AreModules, Agree}
@@ -33,7 +31,6 @@ use Rattle.circus_wire.specs.Wire.{heard_from, after_datagram, sent_by_datagram}
 use Rattle.circus_wire.specs.WireActs.{WireActs, acts_at}
 use Rattle.circus_wire.specs.WireStanding.{pair_of}
 use Rattle.circus_member_rules.specs.Messages.{ask_message}
-use Rattle.circus_member_rules.specs.declared.occurrence.Effect.{Effect}
 use Rattle.circus_member_rules.specs.declared.occurrence.Occurrence.{Occurrence}
 use Rattle.circus_member_rules.specs.declared.occurrence.Purpose.{Purpose}
 use Rattle.circus_member_rules.specs.declared.occurrence.Purpose.TheVariants as for
@@ -41,7 +38,7 @@ use Rattle.circus_member_step.specs.MemberState.{MemberState}
 use Rattle.circus_member_step.specs.Step.{stepped}
 use Rattle.circus_accepting.specs.Headers.{call_in}
 use Rattle.circus_accepting.specs.Accepting.{troupe_at, accepted, accepted_request, taken_request}
-use Rattle.circus_accepting_theory.proofs.Calls.{ask_length, ask_read}
+use Rattle.circus_accepting_theory.proofs.Calls.{ask_read}
 use Rattle.circus_node.specs.declared.event.Event.{Event}
 use Rattle.circus_node.specs.declared.event.Event.TheVariants as comes
 use Rattle.circus_node.specs.declared.event.Outputs.{Outputs}
@@ -51,9 +48,9 @@ use Rattle.circus_node.specs.Sending.{Sending, sent, spent, gives_of, all_handed
 use Rattle.circus_node.specs.Step as node_step
 use Rattle.circus_world.specs.WorldState.{WorldState, Standing}
 use Rattle.circus_world.specs.Course.{Stepped, comes_to, concluded}
-use Rattle.circus_world.proofs.SlotLemmas.{get_set, get_there}
+use Rattle.circus_world.proofs.SlotLemmas.{get_set}
 use Rattle.circus_talks.specs.Histories.{beginning_of}
-use Rattle.circus_talks.specs.NodeActs.{with_all, wire_behind, effects_in, acts_in}
+use Rattle.circus_talks.specs.NodeActs.{wire_behind, effects_in, acts_in}
 use Rattle.circus_talks.proofs.Worlds.{Stands, at_pair}
 use Rattle.circus_truth.specs.Proper.{AreProper}
 use Rattle.circus_truth.specs.Truth.{IsTrueCallFor}
@@ -61,29 +58,12 @@ use Rattle.circus_world_theory.proofs.Along.{heard_at}
 use Rattle.circus_world_theory.proofs.Handing.{IsMade, calls_stay, step_said}
 use Rattle.circus_world_theory.proofs.Making.{MayHaveModule}
 use Rattle.circus_world_theory.proofs.Saying.{AllSaid, IsSaidCall, call_said, purpose_said, return_said}
-use Rattle.circus_world_theory.proofs.Stepping.{CalledAt, HeardAt, NodesTrue, ends_true, comes_true}
+use Rattle.circus_world_theory.proofs.Stepping.{has_module, CalledAt, HeardAt, NodesTrue, ends_true, comes_true}
 use Rattle.circus_world_theory.proofs.True.{first_at, CallSo, ReturnSo, IsTrueAt, ActsTrue, return_so_grows}
 use Rattle.circus_quiescence_theory.specs.Still.{phase_at}
 use Rattle.circus_quiescence_theory.proofs.Booting.{few_runs}
-use Rattle.circus_quiescence_theory.proofs.Course.{Delivers, after_step}
-use Rattle.circus_quiescence_theory.proofs.Quietly.{QuietCall, QuietReturn, IsLowAsk, low_ask, HasCame, MemberQuiet, ActsQuiet, MakesQuiet, HappensQuietly, by_accepted, asked_so, replied_so}
-use Rattle.circus_quiescence_theory.proofs.Stepping.{IsQuiet}
-
--- the troupe of a node has a module
-pub module_there : (program : List Behaviour) (d : Deployment) (node : ℕ) → IsDeployment d → length program ≡ length d.troupes → MayHaveModule program (troupe_at d node)
-module_there program d node good all = by_host (slice_get d.nodes node) refl
-  where
-    by_troupe : (h : Host) (o : Option ℕ) → slice_get d.nodes node ≡ Some h → h.module ≡ o → MayHaveModule program o
-    by_troupe h None at is = tt
-    by_troupe h (Some troupe) at is =
-        let below : troupe < length d.troupes = (good.nodes node h at).hosted troupe is in
-        let few : length d.troupes ≤ 32 = good.few_troupes in
-        let found = get_there program troupe (omega (arith, below, all)) in
-        record { few = omega (arith, below, few); behaves = found.0; there = found.1 }
-
-    by_host : (o : Option Host) → slice_get d.nodes node ≡ o → MayHaveModule program (option_and_then (λ (h : Host). h.module) o)
-    by_host None at = tt
-    by_host (Some h) at = by_troupe h h.module at refl
+use Rattle.circus_quiescence_theory.proofs.Course.{Delivers}
+use Rattle.circus_quiescence_theory.proofs.Quietly.{QuietCall, QuietReturn, IsLowAsk, low_ask, MemberQuiet, ActsQuiet, MakesQuiet, HappensQuietly, by_accepted, asked_so, replied_so}
 
 module _ {M : Type 0} (declared : M → Signature) (turn : M → List ValueTree → ℕ → List ValueTree → List Outcome → NextTurn) (first : M → List ValueTree)
     (lawful : (hosted : M) → IsModule (behaviour declared turn first hosted))
@@ -153,7 +133,7 @@ module _ {M : Type 0} (declared : M → Signature) (turn : M → List ValueTree 
 
       called_so : (sender : Caller) (message : List ℕ) → HeardAt d acts node from (heard.Called sender message) → (x : Occurrence)
           → accepted d (declared m.performing.hosted) m from (heard.Called sender message) ≡ Some x → Quietly x
-      called_so sender message at x is = (let c = came_low sender message at in by_client c (troupe_at d from) (module_there program d from good all) c.so)
+      called_so sender message at x is = (let c = came_low sender message at in by_client c (troupe_at d from) (has_module program d from good all) c.so)
         where
           by_client : CameLow sender message → (o : Option ℕ) → MayHaveModule program o → (CallSo program Theirs o (came_low sender message at).purpose message) → Quietly x
           by_client c None has so = absurd so
@@ -163,7 +143,7 @@ module _ {M : Type 0} (declared : M → Signature) (turn : M → List ValueTree 
 
       returned_so : (number : ℕ) (purpose : Purpose) (message : List ℕ) → HeardAt d acts node from (heard.Returned number purpose message) → (x : Occurrence)
           → accepted d (declared m.performing.hosted) m from (heard.Returned number purpose message) ≡ Some x → Quietly x
-      returned_so number purpose message at x is = by_purpose c.purpose purposes own_so (subst (λ p. QuietCall p q.message) also q.so) (troupe_at d from) (module_there program d from good all) r
+      returned_so number purpose message at x is = by_purpose c.purpose purposes own_so (subst (λ p. QuietCall p q.message) also q.so) (troupe_at d from) (has_module program d from good all) r
         where
           c : IsSaidCall OwnCall OwnReturn (beginning_of d node) (acts node) from number
           c = purpose_said OwnCall OwnReturn (beginning_of d node) (acts node) from number purpose (so_far.said node) at.1
@@ -191,7 +171,7 @@ module _ {M : Type 0} (declared : M → Signature) (turn : M → List ValueTree 
           own_so = subst (λ (o : Option ℕ). CallSo program Called o c.purpose c.message) hosts c.so
 
           own_few : troupe < 32
-          own_few = (subst (λ o. MayHaveModule program o) hosts (module_there program d node good all)).few
+          own_few = (subst (λ o. MayHaveModule program o) hosts (has_module program d node good all)).few
 
           by_purpose : (p : Purpose) → p ≡ purpose → CallSo program Called (Some troupe) p c.message → QuietCall p q.message → (o : Option ℕ) → MayHaveModule program o
               → ReturnSo program (λ _ other. other ≡ c.message) o caller message → Quietly x
@@ -286,10 +266,11 @@ module _ {M : Type 0} (declared : M → Signature) (turn : M → List ValueTree 
     own_is = q.own_is;
     from = q.from;
     phase_is = q.phase_is;
-    held = All-weaker (λ (c : HeldCall). Called c.sender (ask_message c.header c.body)) (λ (c : HeldCall). Other c.sender (ask_message c.header c.body)) (λ c. grows c.sender (ask_message c.header c.body)) m.gathered.held q.held;
+    held = All-weaker (λ (c : HeldCall). IsOne calls (Ask c.header) × Called c.sender (ask_message c.header c.body)) (λ (c : HeldCall). IsOne calls (Ask c.header) × Other c.sender (ask_message c.header c.body))
+        (λ c p. (p.0, grows c.sender (ask_message c.header c.body) p.1)) m.gathered.held q.held;
     replies = q.replies;
     replied = q.replied;
-    opened = λ index number callee o. (let x = q.opened index number callee o in record { asking = x.asking; there = x.there; server = x.server });
+    opened = λ index number callee o. (let x = q.opened index number callee o in record { asking = x.asking; there = x.there; server = x.server; kind = x.kind });
   }
 
   acting_grows : (Called Other : Caller → List ℕ → Type 0) → ((caller : Caller) (message : List ℕ) → Called caller message → Other caller message) → (node : ℕ) (own : Option ℕ) (a : Acting M)

@@ -1,5 +1,5 @@
 -- Worlds to which deliveries lead from boot: members stay as they booted, and make asks and replies alone.
-use Rattle.std.proofs.Common.{◌≡◌, ◌⊎◌, inl, inr, ℕ, ◌+◌, ◌<◌, ◌≤◌, Bool, true, false, List, [], ◌∷◌, length, map, All, Option, None, Some, Result, Ok, Err, refl, sym, ap, subst, ◌∙◌, arith}
+use Rattle.std.proofs.Common.{◌≡◌, inr, ℕ, ◌<◌, ◌≤◌, List, [], length, All, Option, None, Some, refl, sym, ap, subst, ◌∙◌}
 use Rattle.std.specs.Prelude.{slice_get, option_map, option_and_then}
 use Rattle.std.specs.Option.{option_map_or}
 use Rattle.std.proofs.lemmas.List.{length-map}
@@ -23,15 +23,13 @@ use Rattle.circus_performing.specs.Record.{behaviour}
 use Rattle.circus_wire.specs.WireActs.{WireActs, begun}
 use Rattle.circus_member_rules.specs.Messages.{fetch_message}
 use Rattle.circus_member_rules.specs.declared.occurrence.AskName.{AskName}
-use Rattle.circus_member_rules.specs.declared.occurrence.Effect.{Effect}
 use Rattle.circus_member_rules.specs.declared.occurrence.Purpose.{Purpose}
 use Rattle.circus_member_rules.specs.declared.occurrence.Purpose.TheVariants as for
 use Rattle.circus_member_step.specs.Happening.{IsHome}
-use Rattle.circus_member_step.specs.MemberState.{MemberState}
 use Rattle.circus_member_step.specs.Step as member_step
 use Rattle.circus_accepting.specs.Accepting.{troupe_at}
 use Rattle.circus_accepting_theory.proofs.Calls.{ask_no_fetch}
-use Rattle.circus_node.specs.NodeState.{NodeState, Acting, member, ringmaster}
+use Rattle.circus_node.specs.NodeState.{NodeState, Acting, member}
 use Rattle.circus_node.specs.Making.{Made}
 use Rattle.circus_node.specs.Sending.{sent, all_handed}
 use Rattle.circus_node.specs.Booting.{CanBoot, beginning_in, home_in, home_of, member_at_boot, ring_at_boot, made_at_boot, fresh_wire}
@@ -41,7 +39,6 @@ use Rattle.circus_schedule.specs.declared.line.Line.{Line}
 use Rattle.circus_world.specs.WorldState.{WorldState, Standing}
 use Rattle.circus_world.proofs.SlotLemmas.{get_there}
 use Rattle.circus_talks.specs.Histories.{beginning_of, acts_of}
-use Rattle.circus_talks.specs.NodeActs.{with_all, acts_at_boot}
 use Rattle.circus_talks.proofs.Worlds.{Stands}
 use Rattle.circus_truth.specs.Truth.{IsReplyMessage}
 use Rattle.circus_world_theory.specs.Agreeing.{IsTrueReplyTo, HasCalled}
@@ -50,7 +47,7 @@ use Rattle.circus_world_theory.proofs.Beginning.{boot_true}
 use Rattle.circus_world_theory.proofs.Handing.{IsMade, boot_said}
 use Rattle.circus_world_theory.proofs.Saying.{AllSaid, call_said, purpose_said, return_said}
 use Rattle.circus_world_theory.proofs.Stepping.{CalledAt, NodesTrue}
-use Rattle.circus_world_theory.proofs.True.{CallSo, ReturnSo, IsTrueAt, ActsTrue}
+use Rattle.circus_world_theory.proofs.True.{CallSo, ReturnSo, ActsTrue}
 use Rattle.circus_quiescence_theory.specs.Lossless.{AreDeliveries}
 use Rattle.circus_quiescence_theory.specs.Still.{phase_of, phase_at, IsStill, AllStill, CallsAreAsks, ReturnsAreReplies}
 use Rattle.circus_quiescence_theory.proofs.Booting.{few_runs, boots_quietly}

@@ -1,14 +1,13 @@
 -- A node to which an ask or a reply comes, and which is quiet, stays so.
-use Rattle.std.proofs.Common.{◌≡◌, ◌⊎◌, inl, inr, ℕ, ◌+◌, ◌<◌, ◌≤◌, Bool, true, false, List, [], ◌∷◌, ◌++◌, length, map, drop, All, Option, None, Some, Result, Ok, Err, refl, sym, ap, subst, ◌∙◌, arith}
-use Rattle.std.specs.Prelude.{slice_get, option_map, option_and_then}
+use Rattle.std.proofs.Common.{◌≡◌, inl, inr, ℕ, ◌+◌, ◌<◌, ◌≤◌, List, [], ◌∷◌, length, drop, All, Option, None, Some, refl, sym, ap, subst, ◌∙◌}
+use Rattle.std.specs.Prelude.{option_map, option_and_then}
 use Rattle.std.specs.Option.{option_map_or}
 use Rattle.std.proofs.lemmas.List.Elements.{All-nil, All-cons, All-weaker}
-use Rattle.std.proofs.lemmas.Option.{none-some, same_Some}
 use Rattle.circus_value.specs.ValueTree.{ValueTree}
 use Rattle.circus_value.specs.declared.caller.Caller.{Caller}
 use Rattle.circus_value.specs.declared.outcome.Outcome.{Outcome}
 use Rattle.circus_external.specs.Octets.{first_word}
-use Rattle.circus_header.specs.Reading.{IsOne, calls, returns}
+use Rattle.circus_header.specs.Reading.{IsOne, calls}
 use Rattle.circus_header.specs.declared.call.Call.{Call}
 use Rattle.circus_header.specs.declared.call.Call.TheVariants.{Ask}
 use Rattle.circus_header.specs.declared.call.CallHeader.{CallHeader}
@@ -18,24 +17,21 @@ use Rattle.circus_header.specs.declared.answer.ReturnHeader.TheVariants as says
 use Rattle.circus_collate.specs.declared.deployment.Deployment.{Deployment}
 use Rattle.circus_collate.specs.declared.view.View.{View}
 use Rattle.circus_collate.specs.declared.deployment.Troupe.{Troupe}
-use Rattle.circus_ring.specs.RingTable.{Kept, boot_views, boot_views_from}
+use Rattle.circus_ring.specs.RingTable.{boot_views, boot_views_from}
 use Rattle.circus_model.specs.NextTurn.{NextTurn}
 use Rattle.circus_model.specs.Behaviour.{Behaviour, IsModule}
 use Rattle.circus_model.specs.Agree.{IsAt, AreModules, Agree}
 use Rattle.circus_model.specs.Execution.{history_of}
 use Rattle.circus_model.specs.declared.signature.Signature.{Signature}
-use Rattle.circus_gather.specs.declared.held.HeldCall.{HeldCall}
 use Rattle.circus_record.specs.declared.record.MemberRecord.{MemberRecord}
 use Rattle.circus_performing.specs.Performing.{last_count}
 use Rattle.circus_performing.specs.Record.{behaviour}
 use Rattle.circus_transfer.specs.declared.joiner.Joiner.{Joiner}
-use Rattle.circus_wire.specs.declared.delivery.Heard.{Heard}
 use Rattle.circus_wire.specs.declared.delivery.Heard.TheVariants as heard
 use Rattle.circus_member_rules.specs.Messages.{ask_message, reply_message, fetch_message}
 use Rattle.circus_member_rules.specs.declared.occurrence.AskName.{AskName}
 use Rattle.circus_member_rules.specs.declared.occurrence.Purpose.{Purpose}
 use Rattle.circus_member_rules.specs.declared.occurrence.Purpose.TheVariants as for
-use Rattle.circus_member_rules.specs.declared.occurrence.Difference.{Difference}
 use Rattle.circus_member_rules.specs.declared.occurrence.Effect.{Effect}
 use Rattle.circus_member_rules.specs.declared.occurrence.Effect.TheVariants as made
 use Rattle.circus_member_rules.specs.declared.occurrence.Occurrence.{Occurrence}
@@ -44,19 +40,18 @@ use Rattle.circus_member_step.specs.Happening.{CanHappen}
 use Rattle.circus_member_step.specs.MemberState.{MemberState}
 use Rattle.circus_member_step.specs.Step.{stepped}
 use Rattle.circus_accepting.specs.Headers.{call_in, return_in}
-use Rattle.circus_accepting.specs.Accepting.{accepted, accepted_request, accepted_answer, taken_ask, taken_call, taken_answer, taken_reply, taken_request}
+use Rattle.circus_accepting.specs.Accepting.{accepted, taken_ask, taken_call, taken_answer, taken_reply}
 use Rattle.circus_accepting_theory.proofs.Calls.{ask_length, ask_read, ask_body, ask_no_fetch}
 use Rattle.circus_accepting_theory.proofs.Options.{seen_some}
 use Rattle.circus_accepting_theory.proofs.Returns.{reply_length, reply_read}
 use Rattle.circus_accepting_theory.proofs.Taken.{ask_taken}
 use Rattle.circus_accepting_theory.proofs.TrueCan.{call_can, return_can}
 use Rattle.circus_node.specs.NodeState.{Acting, member, ringmaster}
-use Rattle.circus_node.specs.Making.{Made, happens, refused, arrives_at_ring, performs, by_ring, hears, a_drop}
+use Rattle.circus_node.specs.Making.{Made, happens, refused}
 use Rattle.circus_truth.specs.Proper.{AreProper}
-use Rattle.circus_truth.specs.Truth.{IsTrueCallFor, IsTrueReturn, IsAskMessage, IsReplyMessage}
+use Rattle.circus_truth.specs.Truth.{IsTrueCallFor, IsTrueReturn, IsReplyMessage}
 use Rattle.circus_world_theory.proofs.Handing.{IsMade}
-use Rattle.circus_world_theory.proofs.Making.{HasModule, MayHaveModule}
-use Rattle.circus_world_theory.proofs.True.{first_at, CallSo, ReturnSo, IsTrueAt, ActsTrue}
+use Rattle.circus_world_theory.proofs.True.{CallSo, IsTrueAt}
 use Rattle.circus_quiescence_theory.proofs.Low.{same_client}
 use Rattle.circus_quiescence_theory.proofs.Staying.{IsQuietCall, EffectSo}
 use Rattle.circus_quiescence_theory.proofs.Stepping.{AreFirst, IsQuiet, IsQuietOccurrence, step_quiet}
@@ -129,7 +124,7 @@ module _ {M : Type 0} (declared : M → Signature) (turn : M → List ValueTree 
     (lawful : (hosted : M) → IsModule (behaviour declared turn first hosted))
     (program : List Behaviour) (agree : Agree program) (are : AreModules program) (proper : AreProper program) (d : Deployment) where
   abbrev pub HasCame : (Caller → List ℕ → Type 0) → Caller → CallHeader → List ℕ → Type 0
-  HasCame Called caller header body = Called caller (ask_message header body)
+  HasCame Called caller header body = IsOne calls (Ask header) × Called caller (ask_message header body)
 
   module _ (Called : Caller → List ℕ → Type 0) (phase : Joiner) where
     abbrev pub MemberQuiet : ℕ → MemberState M → Type 0
@@ -179,7 +174,7 @@ module _ {M : Type 0} (declared : M → Signature) (turn : M → List ValueTree 
           ∙ ap (option_and_then (λ (r : Call × ℕ). taken_call d (declared m.performing.hosted) own sender r.0 (drop r.1 message))) (sym read) ∙ is in
           let t = ask_taken d (declared m.performing.hosted) own sender h a.body x taken in
           let can = call_can declared turn first program agree are proper d troupe Called m from client b firsts Other sender message purpose x truly.of at so is in
-          (can, subst (IsQuietOccurrence (boot_views d.troupes) troupe phase (HasCame Called)) (sym t.is) (subst (Called sender) a.message_is called, a.low))
+          (can, subst (IsQuietOccurrence (boot_views d.troupes) troupe phase (HasCame Called)) (sym t.is) ((a.header_is, subst (Called sender) a.message_is called), a.low))
 
       -- a reply to an own ask
       pub replied_so : (from server number : ℕ) (firsts : List ValueTree) (caller : Caller) (name : AskName) (to : ℕ) (call message : List ℕ) → troupe < 32 → server < 32

@@ -1,18 +1,17 @@
 -- A quiet end has sent each segment of a call that the window let go, and of a return.
-use Rattle.std.proofs.Common.{◌≡◌, ◌⊎◌, ℕ, zero, suc, ◌+◌, ◌<◌, ◌≤◌, inl, inr, Bool, true, false, cond, not, ◌&&◌, ◌||◌, eqb, ltb, List, [], ◌∷◌, ◌++◌, Option, None, Some, refl, sym, ap, subst, ◌∙◌, arith, eq-eqb}
+use Rattle.std.proofs.Common.{◌≡◌, ℕ, zero, suc, ◌<◌, ◌≤◌, inl, inr, Bool, true, false, cond, not, ◌&&◌, ◌||◌, ltb, List, [], ◌∷◌, ◌++◌, Option, None, Some, refl, sym, ap, subst, ◌∙◌, arith}
 use Rattle.std.specs.Prelude.{is_some, slice_get}
 use Rattle.std.proofs.lemmas.Bool.{ltb-true}
 use Rattle.std.proofs.lemmas.Bool.Decides.{eqb_tells}
-use Rattle.circus_segment.specs.Segment.{Piece, is_acknowledgement, spelling}
+use Rattle.circus_segment.specs.Segment.{is_acknowledgement, spelling}
 use Rattle.circus_segment.specs.Cut.{Outgoing, segment_count, segment_of, first_datagrams, whole}
 use Rattle.circus_exchange.specs.Exchange.{start, message_out}
-use Rattle.circus_exchange.specs.Limits.{window}
 use Rattle.circus_pair.specs.Acts.{Act, Call, Return, Came, Tick, Stop, Acts, none_yet, more, end_after, taken_by, acknowledged_by}
 use Rattle.circus_pair.specs.Handed.{made, call_at, return_at}
 use Rattle.circus_pair.specs.Lawful.{is_stopped_after, AreLawful}
-use Rattle.circus_pair.specs.Window.{is_open, call_is_whole, count_below}
+use Rattle.circus_pair.specs.Window.{is_open, call_is_whole}
 use Rattle.circus_pair.specs.Sending.{is_sent, takes_after, in_order, whole_call, let_go_by, outputs}
-use Rattle.circus_pair.specs.TwoEnds.{sent_by, datagrams_by}
+use Rattle.circus_pair.specs.TwoEnds.{sent_by}
 use Rattle.circus_pair.proofs.Dialogue.{both_true}
 use Rattle.circus_pair.proofs.Flowing.{made_call, sent_after}
 use Rattle.circus_pair.proofs.OneEnd.{call_stays, unsent_waits}

@@ -1,16 +1,16 @@
 -- The segments of calls that a quiet end sends are of calls that it has sent.
-use Rattle.std.proofs.Common.{◌≡◌, ◌⊎◌, ℕ, zero, suc, ◌+◌, ◌<◌, ◌≤◌, Bool, true, false, cond, not, ◌&&◌, eqb, List, [], ◌∷◌, ◌++◌, Option, None, Some, Result, Ok, Err, refl, sym, ap, subst, ◌∙◌, arith, eq-eqb}
+use Rattle.std.proofs.Common.{◌≡◌, ◌⊎◌, ℕ, zero, suc, ◌≤◌, Bool, true, false, cond, not, ◌&&◌, eqb, List, [], ◌∷◌, ◌++◌, Option, None, Some, Result, Ok, Err, refl, sym, ap, subst, ◌∙◌, arith, eq-eqb}
 use Rattle.std.specs.Prelude.{slice_index}
 use Rattle.circus_segment.specs.declared.fault.SegmentFault.{SegmentFault}
 use Rattle.circus_segment.specs.Segment.{Piece, IsSegment, is_acknowledgement, is_second, header, spelling, fields_of, refusal, or_refused, reading}
-use Rattle.circus_segment.specs.Cut.{segment_count, segment_of, first_datagrams, whole}
+use Rattle.circus_segment.specs.Cut.{segment_count, segment_of, first_datagrams}
 use Rattle.circus_segment.proofs.Spellings.{read_again}
-use Rattle.circus_exchange.specs.Exchange.{start, message_out}
-use Rattle.circus_pair.specs.Acts.{Act, Call, Return, Came, Tick, Stop, Acts, none_yet, more, end_after, taken_by, acknowledged_by}
-use Rattle.circus_pair.specs.Handed.{made, call_at, return_at}
+use Rattle.circus_exchange.specs.Exchange.{start}
+use Rattle.circus_pair.specs.Acts.{Act, Call, Return, Came, Tick, Stop, Acts, more, end_after, taken_by, acknowledged_by}
+use Rattle.circus_pair.specs.Handed.{call_at, return_at}
 use Rattle.circus_pair.specs.Lawful.{is_stopped_after}
 use Rattle.circus_pair.specs.Sending.{is_sent, takes_after, in_order, whole_call, let_go_by, outputs}
-use Rattle.circus_pair.specs.TwoEnds.{sent_by, datagrams_by}
+use Rattle.circus_pair.specs.TwoEnds.{datagrams_by}
 use Rattle.circus_pair.proofs.Dialogue.{Good, both_true}
 use Rattle.circus_pair.proofs.Each.{Each, each_append, each_cond}
 use Rattle.circus_pair.proofs.Outputs.{call_sends, return_sends, came_sends}

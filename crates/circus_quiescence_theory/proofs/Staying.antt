@@ -1,13 +1,13 @@
 -- What stays true of a member in a step by which it is asked something or has a reply, where no view changes and no node is down.
-use Rattle.std.proofs.Common.{◌≡◌, ◌⊎◌, inl, inr, ℕ, zero, suc, ◌+◌, ◌-◌, ◌<◌, ◌≤◌, Bool, true, false, cond, not, ◌&&◌, ◌||◌, eqb, List, [], ◌∷◌, ◌++◌, length, map, filter, All, Option, None, Some, IsSome, IsTrue, refl, sym, ap, subst, ◌∙◌, arith, append_assoc, length-append, eq-eqb, if◌then◌else◌}
-use Rattle.std.specs.Prelude.{slice_get, slice_index, min, nat_eq, option_map, option_and_then, IfSome}
+use Rattle.std.proofs.Common.{◌≡◌, ◌⊎◌, inl, inr, ℕ, zero, suc, ◌+◌, ◌-◌, ◌<◌, ◌≤◌, Bool, true, false, cond, not, ◌||◌, eqb, List, [], ◌∷◌, ◌++◌, length, map, filter, All, Option, None, Some, IsSome, refl, sym, ap, subst, ◌∙◌, arith, length-append, eq-eqb}
+use Rattle.std.specs.Prelude.{slice_get, slice_index, nat_eq, option_map, option_and_then, IfSome}
 use Rattle.std.specs.List.{list_any}
 use Rattle.std.specs.Map.{lookup}
 use Rattle.std.specs.Option.{option_map_or}
 use Rattle.std.proofs.lemmas.Bool.{cases_lt, eqb-true}
 use Rattle.std.proofs.lemmas.List.{append-nil}
-use Rattle.std.proofs.lemmas.List.Elements.{All-nil, All-cons, All-head, All-tail, All-append, All-map, All-weaker, All-filter, All-push}
-use Rattle.std.proofs.lemmas.Option.{same_Some, slice_get-map, slice_get_within}
+use Rattle.std.proofs.lemmas.List.Elements.{All-nil, All-cons, All-append, All-map, All-weaker, All-filter}
+use Rattle.std.proofs.lemmas.Option.{same_Some, slice_get-map}
 use Rattle.circus_value.specs.ValueTree.{ValueTree}
 use Rattle.circus_value.specs.declared.caller.Caller.{Caller}
 use Rattle.circus_value.specs.declared.outcome.Outcome.{Outcome}
@@ -17,7 +17,6 @@ use Rattle.circus_collate.specs.declared.view.View.{View}
 use Rattle.circus_collate.specs.declared.view.Entry.{Entry}
 use Rattle.circus_collate.specs.declared.giving.Said.{Said}
 use Rattle.circus_transfer.specs.declared.joiner.Joiner.{Joiner}
-use Rattle.circus_transfer.specs.Snapshot.{snapshot_bytes}
 use Rattle.circus_model.specs.declared.signature.Signature.{Signature}
 use Rattle.circus_model.specs.NextTurn.{NextTurn}
 use Rattle.circus_model.specs.Behaviour.{Behaviour, IsModule}
@@ -25,24 +24,23 @@ use Rattle.circus_record.specs.declared.record.AskRecord.{AskRecord}
 use Rattle.circus_record.specs.declared.record.RunRecord.{RunRecord}
 use Rattle.circus_record.specs.declared.record.MemberRecord.{MemberRecord}
 use Rattle.circus_known.specs.Knowing.{Knowing}
-use Rattle.circus_gather.specs.Gathering.{Gathered, callers, is_of_index, reply_of, answered_by_end, with_end}
+use Rattle.circus_gather.specs.Gathering.{Gathered, is_of_index, reply_of, answered_by_end}
 use Rattle.circus_gather.specs.declared.held.HeldCall.{HeldCall}
 use Rattle.circus_fanout.specs.Asking.{Asking, with_view, calls_for_a_view, send_to, is_due}
 use Rattle.circus_fanout.specs.declared.send.Send.{Send}
 use Rattle.circus_performing.specs.declared.start.RunStart.{RunStart}
-use Rattle.circus_performing.specs.Performing.{open_ask, unanswered, last_of, last_count, is_active, clock_after, entered, answered, with_run, begun, gone_on, most_turns}
-use Rattle.circus_performing.specs.Record.{behaviour, IsRecord, IsIdle, IsPerforming, turns, start_of}
+use Rattle.circus_performing.specs.Performing.{open_ask, unanswered, last_of, last_count, begun, gone_on, most_turns}
+use Rattle.circus_performing.specs.Record.{behaviour, IsRecord}
 use Rattle.circus_performing.proofs.Records.{answered_is}
 use Rattle.circus_member_rules.specs.declared.occurrence.AskName.{AskName}
-use Rattle.circus_member_rules.specs.declared.occurrence.Purpose.{Purpose}
 use Rattle.circus_member_rules.specs.declared.occurrence.Purpose.TheVariants as for
 use Rattle.circus_member_rules.specs.declared.occurrence.Effect.{Effect}
 use Rattle.circus_member_rules.specs.declared.occurrence.Effect.TheVariants as made
 use Rattle.circus_member_rules.specs.Callable.{IsReply}
 use Rattle.circus_member_rules.specs.OpenAsks.{asking_of, with_ask}
 use Rattle.circus_member_rules.specs.Messages.{ask_message, reply_message}
-use Rattle.circus_member_rules.specs.Rules.{answers, answers_of_run, calls_of_ask, call_of_ask, header_now, incarnation_of, index_of_last, snapshots_owed}
-use Rattle.circus_member_step.specs.MemberState.{MemberState, Doing, adding}
+use Rattle.circus_member_rules.specs.Rules.{answers_of_run, calls_of_ask, call_of_ask, header_now, index_of_last, snapshots_owed}
+use Rattle.circus_member_step.specs.MemberState.{MemberState, Doing}
 use Rattle.circus_member_step.specs.Step.{name_of_last, asking_begun, is_idle, reply_of_run, opened_by_view, ended_run, executed}
 use Rattle.circus_member_step.specs.Seen.Sound.{IsRunOf, MayStart}
 use Rattle.circus_member_step.proofs.Entering.{HasValue, with_entered, with_answered, turned_by_start, turned_by_reply}
@@ -202,6 +200,7 @@ module _ (z : Beginning) (ones : (t : ℕ) (v : View) → slice_get z.views t �
       pub asking : Asking
       pub there : asking_of m.asks (record { run = index; ask = number }) ≡ Some asking
       pub server : asking.header.server ≡ callee
+      pub kind : asking.kind ≡ m.place.replies
       pub said : OldSaid index number asking.said ⊎ ((Named z.kept index number → ⊥) × (asking.said ≡ []))
 
     -- what holds before the turns of a run and behind them
@@ -461,6 +460,7 @@ module _ (z : Beginning) (ones : (t : ℕ) (v : View) → slice_get z.views t �
             asking = with_view view m.known.down a;
             there = subst (λ n. asking_of (with_ask m.asks name (with_view view m.known.down a)) n ≡ Some (with_view view m.known.down a)) (name_is kept index number callee s.from few o) (opened_there m.asks name (with_view view m.known.down a));
             server = same_callee index number callee o;
+            kind = refl;
             said = inr (t.fresh index number callee o, refl);
           };
           replied = λ index less. elim (t.replied index less) [
@@ -585,7 +585,7 @@ module _ (z : Beginning) (ones : (t : ℕ) (v : View) → slice_get z.views t �
             replies = s.replies;
           };
           recorded = λ index number callee r. more_made d.effects (snapshots_owed kept d.member.requests) index number callee (t.recorded index number callee r);
-          opened = λ index number callee o. (let old = t.opened index number callee o in record { asking = old.asking; there = old.there; server = old.server; said = old.said });
+          opened = λ index number callee o. (let old = t.opened index number callee o in record { asking = old.asking; there = old.there; server = old.server; kind = old.kind; said = old.said });
           replied = t.replied;
         }
 

@@ -1,5 +1,5 @@
 -- A step of a member by which it is asked something or has a reply, where no view changes and no node is down.
-use Rattle.std.proofs.Common.{◌≡◌, ◌⊎◌, inl, inr, ℕ, zero, suc, ◌+◌, ◌<◌, ◌≤◌, Bool, true, false, cond, not, ◌&&◌, ◌||◌, List, [], ◌∷◌, ◌++◌, length, map, filter, set, All, Option, None, Some, IsSome, refl, sym, ap, subst, ◌∙◌, arith, if◌then◌else◌, le-ltb}
+use Rattle.std.proofs.Common.{◌≡◌, ◌⊎◌, inl, inr, ℕ, ◌+◌, ◌<◌, ◌≤◌, Bool, true, false, cond, not, ◌&&◌, ◌||◌, List, [], ◌∷◌, ◌++◌, length, map, filter, set, All, Option, None, Some, IsSome, refl, sym, ap, subst, ◌∙◌, arith, if◌then◌else◌, le-ltb}
 use Rattle.std.specs.Prelude.{slice_get, slice_index, max, nat_eq, nat_lt, IfSome}
 use Rattle.std.specs.Map.{lookup, set_value}
 use Rattle.std.specs.Option.{option_map_or}
@@ -23,34 +23,33 @@ use Rattle.circus_model.specs.Behaviour.{IsModule}
 use Rattle.circus_known.specs.declared.known.Want.{Want}
 use Rattle.circus_known.specs.Knowing as knowing
 use Rattle.circus_known.specs.Knowing.{Knowing}
-use Rattle.circus_gather.specs.Gathering.{Gathered, index_of, reply_of, answer_to, is_held}
+use Rattle.circus_gather.specs.Gathering.{index_of, reply_of, answer_to, is_held}
 use Rattle.circus_gather.specs.declared.added.Added.{Added}
 use Rattle.circus_gather.specs.declared.added.Added.TheVariants as A
 use Rattle.circus_gather.specs.declared.held.HeldCall.{HeldCall}
 use Rattle.circus_fanout.specs.Asking.{Asking, with_reply}
-use Rattle.circus_performing.specs.Performing.{Performing, open_ask, last_count}
+use Rattle.circus_performing.specs.Performing.{Performing, last_count}
 use Rattle.circus_performing.specs.Record.{behaviour}
 use Rattle.circus_member_rules.specs.declared.occurrence.AskName.{AskName}
-use Rattle.circus_member_rules.specs.declared.occurrence.Effect.{Effect}
+use Rattle.circus_member_rules.specs.declared.place.Place.{Place}
 use Rattle.circus_member_rules.specs.declared.occurrence.Occurrence.{Occurrence}
 use Rattle.circus_member_rules.specs.declared.occurrence.Occurrence.TheVariants as comes
-use Rattle.circus_member_rules.specs.Callable.{IsReply, AreReplies}
+use Rattle.circus_member_rules.specs.Callable.{IsReply}
 use Rattle.circus_member_rules.specs.OpenAsks.{is_name, asking_of, with_asking}
 use Rattle.circus_member_rules.specs.Messages.{reply_message}
 use Rattle.circus_member_rules.specs.Rules as rules
 use Rattle.circus_member_rules.specs.Rules.{ringmaster, answer_at_once, wanted_by_call, lookups, lookup_call, stays_open}
 use Rattle.circus_member_step.specs.Happening.{CanHappen}
 use Rattle.circus_member_step.specs.MemberState.{MemberState, Doing}
-use Rattle.circus_member_step.specs.Step as step
-use Rattle.circus_member_step.specs.Step.{name_of_last, waits, closed, looked_up, executed, handled, stepped}
+use Rattle.circus_member_step.specs.Step.{waits, executed, handled, stepped}
 use Rattle.circus_member_step.proofs.Handled.{sound_asked, sound_replied}
-use Rattle.circus_member_step.proofs.Named.{lookup-kept, names_are}
+use Rattle.circus_member_step.proofs.Named.{lookup-kept}
 use Rattle.circus_member_step.proofs.Resting.{waiting_stays}
 use Rattle.circus_member_step.proofs.Starting.{IsSoundNow}
 use Rattle.circus_node.proofs.ViewLemmas.{executed_knows}
 use Rattle.circus_quiescence_theory.specs.Told.{Recorded, IsOpenAt}
 use Rattle.circus_quiescence_theory.proofs.Evolving.{Named}
-use Rattle.circus_quiescence_theory.proofs.Staying.{IsAnswered, EffectSo, IsCallIn, Beginning, is_entry, IsMade, IsOpened, Stays, Body, IsFew, name_is, body_executed}
+use Rattle.circus_quiescence_theory.proofs.Staying.{IsAnswered, EffectSo, IsCallIn, Beginning, is_entry, IsMade, IsOpened, Body, name_is, body_executed}
 
 -- ---- asks by name
 
@@ -135,6 +134,7 @@ module _ (bv : List View) (own : ℕ) (phase : Joiner) (P : Caller → CallHeade
     pub asking : Asking
     pub there : asking_of m.asks (record { run = index; ask = number }) ≡ Some asking
     pub server : asking.header.server ≡ callee
+    pub kind : asking.kind ≡ m.place.replies
 
   pub record IsQuiet {M : Type 0} (m : MemberState M) : Type 0 where
     pub views : m.known.views ≡ bv
@@ -218,14 +218,15 @@ module _ (bv : List View) (own : ℕ) (phase : Joiner) (P : Caller → CallHeade
           kept_same : (Q : MemberRecord → Type 0) → Q m.performing.kept → Q d.member.performing.kept
           kept_same Q h = subst (λ (p : Performing M). Q p.kept) (sym same) h
 
-      still_open : (index number callee : ℕ) → IsOpenAt m.performing.kept index number callee → (d : Doing M) → d.member.asks ≡ m.asks → (handled at o m).member.asks ≡ m.asks → IsOpened z ones P Old OldSaid d.member index number callee
-      still_open index number callee o_ d asks handled_asks =
+      still_open : (index number callee : ℕ) → IsOpenAt m.performing.kept index number callee → (d : Doing M) → d.member.place ≡ m.place → d.member.asks ≡ m.asks → (handled at o m).member.asks ≡ m.asks → IsOpened z ones P Old OldSaid d.member index number callee
+      still_open index number callee o_ d placed asks handled_asks =
           let h = q.opened index number callee o_ in
           let name : AskName = record { run = index; ask = number } in
           record {
             asking = h.asking;
             there = ap (λ l. asking_of l name) asks ∙ h.there;
             server = h.server;
+            kind = h.kind ∙ ap (λ (x : Place). x.replies) (sym placed);
             said = inl (h.asking, ap (λ l. asking_of l name) handled_asks ∙ h.there, refl);
           }
 
@@ -289,7 +290,7 @@ module _ (bv : List View) (own : ℕ) (phase : Joiner) (P : Caller → CallHeade
     by_added (A.Reply reply) is = (
       start_body bv own phase P declared turn first lawful firsts Old at o m sound can (p, low) q old (asked_by (A.Reply reply)) q.views q.down q.requests q.required q.first q.own_is refl refl q.held
           (All-cons (EffectSo bv own P m.performing.kept) _ [] answered (All-nil (EffectSo bv own P m.performing.kept)))
-          (λ index number callee o_. still_open bv own phase P declared turn first lawful firsts Old at o m sound can (p, low) q old index number callee o_ (asked_by (A.Reply reply)) refl refl),
+          (λ index number callee o_. still_open bv own phase P declared turn first lawful firsts Old at o m sound can (p, low) q old index number callee o_ (asked_by (A.Reply reply)) refl refl refl),
       q.wants,
     )
       where
@@ -315,7 +316,7 @@ module _ (bv : List View) (own : ℕ) (phase : Joiner) (P : Caller → CallHeade
       start_body bv own phase P declared turn first lawful firsts Old at o m sound can (p, low) q old (asked_by A.Held) q.views q.down q.requests q.required q.first q.own_is refl refl
           (All-push (λ (c : HeldCall). P c.sender c.header c.body) m.gathered.held call q.held p)
           (All-nil (EffectSo bv own P m.performing.kept))
-          (λ index number callee o_. still_open bv own phase P declared turn first lawful firsts Old at o m sound can (p, low) q old index number callee o_ (asked_by A.Held) refl refl),
+          (λ index number callee o_. still_open bv own phase P declared turn first lawful firsts Old at o m sound can (p, low) q old index number callee o_ (asked_by A.Held) refl refl refl),
       low_wanted m.known header.client header.client_incarnation low q.wants,
     )
 
@@ -337,6 +338,7 @@ module _ (bv : List View) (own : ℕ) (phase : Joiner) (P : Caller → CallHeade
             asking = r.0;
             there = r.1;
             server = elim r.2 [ inl same ↦ ap (λ (a : Asking). a.header.server) same ∙ h.server | inr new ↦ ap (λ (a : Asking). a.header.server) new ∙ h.server ];
+            kind = elim r.2 [ inl same ↦ ap (λ (a : Asking). a.kind) same ∙ h.kind | inr new ↦ ap (λ (a : Asking). a.kind) new ∙ h.kind ];
             said = inl (r.0, r.1, refl);
           })),
       q.wants,
@@ -399,14 +401,14 @@ module _ (bv : List View) (own : ℕ) (phase : Joiner) (P : Caller → CallHeade
             held = s.held;
             replies = s.replies;
             replied = body.replied;
-            opened = λ index number callee o_. (let x = body.opened index number callee o_ in record { asking = x.asking; there = opened index number callee o_ x.asking x.there; server = x.server });
+            opened = λ index number callee o_. (let x = body.opened index number callee o_ in record { asking = x.asking; there = opened index number callee o_ x.asking x.there; server = x.server; kind = x.kind });
           };
           effects = subst (All (EffectSo bv own P kept)) (sym effects) s.effects;
           recorded = λ index number callee r view node there entry. elim (body.recorded index number callee r view node there entry) [
             | inl before ↦ inl before
             | inr new ↦ inr (subst (λ l. IsCallIn l index number callee node) (sym effects) new)
           ];
-          opened = λ index number callee o_. (let x = body.opened index number callee o_ in record { asking = x.asking; there = opened index number callee o_ x.asking x.there; server = x.server; said = x.said });
+          opened = λ index number callee o_. (let x = body.opened index number callee o_ in record { asking = x.asking; there = opened index number callee o_ x.asking x.there; server = x.server; kind = x.kind; said = x.said });
           named = s.named;
           longer = s.longer;
           counts = s.counts;

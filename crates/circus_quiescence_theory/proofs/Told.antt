@@ -1,5 +1,5 @@
 -- Where nothing is lost, all that was handed over has been told to the members.
-use Rattle.std.proofs.Common.{◌≡◌, ◌≢◌, ◌⊎◌, inl, inr, ℕ, zero, suc, ◌+◌, ◌<◌, ◌≤◌, Bool, true, false, ◌||◌, eqb, List, [], ◌∷◌, length, map, Option, None, Some, refl, sym, ap, subst, ◌∙◌, arith}
+use Rattle.std.proofs.Common.{◌≡◌, ◌≢◌, inl, inr, ℕ, zero, suc, ◌+◌, ◌<◌, ◌≤◌, Bool, true, false, ◌||◌, eqb, List, [], ◌∷◌, length, map, Option, None, Some, refl, sym, ap, subst, arith}
 use Rattle.std.specs.Prelude.{slice_get, is_some}
 use Rattle.std.specs.List.{list_any}
 use Rattle.std.proofs.lemmas.Option.{none-some, same_Some, slice_get_within}
@@ -10,18 +10,15 @@ use Rattle.circus_value.specs.declared.outcome.Outcome.{Outcome}
 use Rattle.circus_collate.specs.declared.deployment.Deployment.{Deployment}
 use Rattle.circus_collate.specs.declared.deployment.Troupe.{Troupe}
 use Rattle.circus_collate.specs.declared.view.Entry.{Entry}
-use Rattle.circus_collate.specs.declared.view.View.{View}
-use Rattle.circus_ring.specs.RingTable.{boot_entry, boot_view, boot_views, boot_views_from}
+use Rattle.circus_ring.specs.RingTable.{boot_entry, boot_view, boot_views_from}
 use Rattle.circus_model.specs.NextTurn.{NextTurn}
 use Rattle.circus_model.specs.Behaviour.{IsModule}
 use Rattle.circus_model.specs.declared.signature.Signature.{Signature}
 use Rattle.circus_gather.specs.Gathering.{callers}
 use Rattle.circus_gather.specs.declared.held.HeldCall.{HeldCall}
 use Rattle.circus_performing.specs.Record.{behaviour}
-use Rattle.circus_pair.specs.Handed.{return_at}
 use Rattle.circus_member_step.specs.MemberState.{MemberState}
-use Rattle.circus_node.specs.NodeState.{Acting, member, ringmaster}
-use Rattle.circus_accepting.specs.Accepting.{troupe_at}
+use Rattle.circus_node.specs.NodeState.{member}
 use Rattle.circus_schedule.specs.declared.line.Line.{Line}
 use Rattle.circus_world.specs.WorldState.{WorldState, Standing}
 use Rattle.circus_talks.proofs.Worlds.{at_pair}
@@ -39,11 +36,10 @@ use Rattle.circus_quiescence_theory.proofs.CalmSteps.{CalmAt}
 use Rattle.circus_quiescence_theory.proofs.CalmWorlds.{program, many, fits, acts, holds_at_last}
 use Rattle.circus_quiescence_theory.proofs.Lossless.{all_between}
 use Rattle.circus_quiescence_theory.proofs.QuietWorlds.{all_still}
-use Rattle.circus_quiescence_theory.proofs.Staying.{IsEntryOf, is_entry}
 
 -- ---- the views at boot
 
-boot_there : (t k : ℕ) (troupes : List Troupe) (one : Troupe) → slice_get troupes k ≡ Some one → (n : ℕ) × (slice_get (boot_views_from t troupes) k ≡ Some (boot_view n one))
+pub boot_there : (t k : ℕ) (troupes : List Troupe) (one : Troupe) → slice_get troupes k ≡ Some one → (n : ℕ) × (slice_get (boot_views_from t troupes) k ≡ Some (boot_view n one))
 boot_there t k [] one at = absurd (none-some one at)
 boot_there t zero (troupe ∷ troupes) one at = (t, ap (λ x. Some (boot_view t x)) (same_Some troupe one at))
 boot_there t (suc k) (troupe ∷ troupes) one at = boot_there (t + 1) k troupes one at
@@ -97,7 +93,7 @@ module _ {M : Type 0} (declared : M → Signature) (turn : M → List ValueTree 
         let h = held_there caller m.gathered.held (omega (arith, waiting, none)) in
         record { place = h.0; call = h.1; there = h.2; is_of = h.3 }
 
-    told : IsTold d happened node m
+    pub told : IsTold d happened node m
     told = record {
       called = λ index number callee other t r there founder.
           let v = boot_there 0 callee d.troupes t there in

@@ -15,7 +15,6 @@ use Rattle.circus_fanout.specs.Asking.{Asking}
 use Rattle.circus_performing.specs.Performing.{last_of, open_ask, clock_after}
 use Rattle.circus_wire.specs.WireActs.{WireActs}
 use Rattle.circus_member_rules.specs.OpenAsks.{asking_of}
-use Rattle.circus_member_rules.specs.declared.occurrence.AskName.{AskName}
 use Rattle.circus_member_rules.specs.declared.occurrence.Purpose.{Purpose}
 use Rattle.circus_member_rules.specs.declared.occurrence.Purpose.TheVariants as for
 use Rattle.circus_member_step.specs.GoneOn.{HasGoneOn}

@@ -15,6 +15,7 @@ ghost use Rattle.circus_quiescence_theory.specs.Coming.{IsQuiet, AllCame, AllArr
 ghost use Rattle.circus_quiescence_theory.specs.Lossless.{AreDeliveries, LoseNothing};
 ghost use Rattle.circus_quiescence_theory.specs.Still.{AllStill, CallsAreAsks, ReturnsAreReplies};
 ghost use Rattle.circus_quiescence_theory.specs.Told.{AllTold};
+ghost use Rattle.circus_quiescence_theory.specs.Done.{AskEnough, RootsAreDone};
 
 use circus_model::Module;
 
@@ -66,4 +67,13 @@ pub fn where_nothing_is_lost_all_is_told<M: Module>()
     ensures { (d : Deployment) (modules : List M) (hosted : List (Option M)) (lines : List Line) (booted last : WorldState M)
         → IsWorldOf M.declared M.turn M.first d modules hosted lines booted last → LoseNothing lines last
         → AllTold d (acts_of M.declared M.turn M.first d hosted lines booted) last }
+{}
+
+/// Where nothing is lost, every root ends. Of a world that deliveries alone lead to, where each datagram that was sent is delivered
+/// by some line and no AT LEAST asks for more equal messages than there are founders, each founder of each root has performed its
+/// one run to the end.
+pub fn where_nothing_is_lost_every_root_ends<M: Module>()
+    ensures { (d : Deployment) (modules : List M) (hosted : List (Option M)) (lines : List Line) (booted last : WorldState M)
+        → IsWorldOf M.declared M.turn M.first d modules hosted lines booted last → LoseNothing lines last
+        → AskEnough d (map M.declared modules) → RootsAreDone d last }
 {}
