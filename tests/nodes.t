@@ -159,3 +159,14 @@ A standard output that takes nothing.
   [5]
   $ circus node first m1 0 >/dev/full
   [5]
+
+A standard output that is closed: before the first line, or by a reader that has had enough of a report of some
+megabytes. Nothing is said on standard error.
+
+  $ circus run first >&-
+  [5]
+  $ yes "tick m1" | head -n 20000 >s
+  $ { circus replay first s; echo $? >status; } | head -n 1
+  circus report 1
+  $ sleep 1; cat status
+  5

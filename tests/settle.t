@@ -23,6 +23,19 @@ Datagrams that are delivered in the order of sending, until none is left.
   budget 3, 4 sent
   [10]
 
+Twice the segments of the calls and returns of the history suffice, between each two founders. Above, one ask is made by one founder
+to one, in one segment there and one back: 4 deliveries do, and 3 leave one. Here one founder makes two asks to three: 24 do, and 23
+leave one.
+
+  $ circus run majority.circus | grep -c '^ask'
+  2
+  $ circus settle majority.circus 24 | head -n 2
+  circus settle 1
+  deliveries 24
+  $ circus settle majority.circus 23
+  budget 23, 24 sent
+  [10]
+
 The bank needs 1,440.
 
   $ circus settle bank.circus 1440 >settled

@@ -38,21 +38,21 @@ use Rattle.circus_border_theory.specs.Made.{WasMade, WasMadeAtAll, CallWasMade}
 
 -- ---- lists
 
-abbrev IsIn : {X : Type 0} → List X → X → Type 0
+abbrev pub IsIn : {X : Type 0} → List X → X → Type 0
 IsIn [] x = ⊥
 IsIn (y ∷ ys) x = (y ≡ x) ⊎ IsIn ys x
 
-in_both : {X : Type 0} (xs ys : List X) (x : X) → IsIn (xs ++ ys) x → IsIn xs x ⊎ IsIn ys x
+pub in_both : {X : Type 0} (xs ys : List X) (x : X) → IsIn (xs ++ ys) x → IsIn xs x ⊎ IsIn ys x
 in_both [] ys x at = inr at
 in_both (y ∷ xs) ys x (inl same) = inl (inl same)
 in_both (y ∷ xs) ys x (inr at) = elim (in_both xs ys x at) [ inl first ↦ inl (inr first) | inr second ↦ inr second ]
 
-contains : {X : Type 0} (xs : List X) (x : X) → IsIn xs x → Contains xs x
+pub contains : {X : Type 0} (xs : List X) (x : X) → IsIn xs x → Contains xs x
 contains [] x at = absurd at
 contains (y ∷ xs) x (inl same) = (0, omega arith, same)
 contains (y ∷ xs) x (inr at) = let rest = contains xs x at in let within = rest.1 in (suc rest.0, omega (arith, within), rest.2)
 
-in_flat_map : {X Y : Type 0} (f : X → List Y) (xs : List X) (y : Y) → IsIn (flat_map f xs) y → (x : X) × IsIn xs x × IsIn (f x) y
+pub in_flat_map : {X Y : Type 0} (f : X → List Y) (xs : List X) (y : Y) → IsIn (flat_map f xs) y → (x : X) × IsIn xs x × IsIn (f x) y
 in_flat_map f [] y at = absurd at
 in_flat_map f (x ∷ xs) y at = elim (in_both (f x) (flat_map f xs) y at) [
   | inl here ↦ (x, inl refl, here)
@@ -65,7 +65,7 @@ abbrev pub IsAmong : WireActs Purpose → WireAct Purpose → Type 0
 IsAmong begun act = ⊥
 IsAmong (followed_by acts last) act = IsAmong acts act ⊎ (last ≡ act)
 
-among_all : (acts : WireActs Purpose) (later : List (WireAct Purpose)) (act : WireAct Purpose) → IsAmong (with_all acts later) act → IsAmong acts act ⊎ IsIn later act
+pub among_all : (acts : WireActs Purpose) (later : List (WireAct Purpose)) (act : WireAct Purpose) → IsAmong (with_all acts later) act → IsAmong acts act ⊎ IsIn later act
 among_all acts [] act at = inl at
 among_all acts (next ∷ later) act at = elim (among_all (followed_by acts next) later act at) [
   | inl before ↦ elim before [ inl there ↦ inl there | inr same ↦ inr (inl same) ]
@@ -198,7 +198,7 @@ handed_act w (makes.Answer caller message) act at = by_test (is_sendable w.forma
     by_test false none = absurd none
 
 -- nothing that comes is handed over
-no_event : (event : Event) (e : Effect) → IsIn (came_by event) (act_of e) → ⊥
+pub no_event : (event : Event) (e : Effect) → IsIn (came_by event) (act_of e) → ⊥
 no_event (comes.Datagram from bytes) e at = by_segment (reading bytes) e at
   where
     by_segment : (segment : Result Piece SegmentFault) (e : Effect) → IsIn (coming from segment) (act_of e) → ⊥
@@ -226,10 +226,14 @@ same_effect (makes.Answer caller message) (makes.Answer other message_) same = r
     returns : (a b : Caller) (m n : List ℕ) → ◌≡◌ {A = WireAct Purpose} (AnswerTo a m) (AnswerTo b n) → ◌≡◌ {A = Effect} (makes.Answer a m) (makes.Answer b n)
     returns a b m n same = let one : a ≡ b = cc in let two : m ≡ n = cc in λ i. makes.Answer (one i) (two i)
 
-made_effect : (w : WireState Purpose) (effects : List Effect) (e : Effect) → IsIn (flat_map (handed_by w) effects) (act_of e) → Contains effects e
-made_effect w effects e at =
+-- what is handed over is among what was made
+pub in_effects : (w : WireState Purpose) (effects : List Effect) (e : Effect) → IsIn (flat_map (handed_by w) effects) (act_of e) → IsIn effects e
+in_effects w effects e at =
     let found = in_flat_map (handed_by w) effects (act_of e) at in
-    contains effects e (subst (IsIn effects) (same_effect found.0 e (handed_act w found.0 (act_of e) found.2)) found.1)
+    subst (IsIn effects) (same_effect found.0 e (handed_act w found.0 (act_of e) found.2)) found.1
+
+made_effect : (w : WireState Purpose) (effects : List Effect) (e : Effect) → IsIn (flat_map (handed_by w) effects) (act_of e) → Contains effects e
+made_effect w effects e at = contains effects e (in_effects w effects e at)
 
 -- ---- by a line
 
@@ -248,16 +252,7 @@ module _ {M : Type 0} (declared : M → Signature) (turn : M → List ValueTree 
           elim (in_both (came_by event) (flat_map (handed_by (wire_behind event s.node)) (effects_in declared turn (w.steps + 1) event s.node)) (act_of e) at) [
             | inl came ↦ absurd (no_event event e came)
             | inr handed ↦ record {
-              before = [];
-              line = line;
-              behind = lines;
-              lines_are = refl;
-              world = w;
-              lead = refl;
-              event = event;
-              standing = s;
-              comes_it = comes_it;
-              there = there;
+              step = record { before = []; line = line; behind = lines; lines_are = refl; world = w; lead = refl; event = event; standing = s; comes_it = comes_it; there = there };
               made_it = made_effect (wire_behind event s.node) (effects_in declared turn (w.steps + 1) event s.node) e handed;
             }
           ]
@@ -296,16 +291,18 @@ module _ {M : Type 0} (declared : M → Signature) (turn : M → List ValueTree 
       elim (made_by_lines node behind_it lines next last e lead.2 at_) [
         | inl first ↦ first_line node acts line lines w e first
         | inr later ↦ inr (record {
-          before = line ∷ later.before;
-          line = later.line;
-          behind = later.behind;
-          lines_are = ap (λ ls. line ∷ ls) later.lines_are;
-          world = later.world;
-          lead = (next, lead.1, later.lead);
-          event = later.event;
-          standing = later.standing;
-          comes_it = later.comes_it;
-          there = later.there;
+          step = record {
+            before = line ∷ later.step.before;
+            line = later.step.line;
+            behind = later.step.behind;
+            lines_are = ap (λ ls. line ∷ ls) later.step.lines_are;
+            world = later.step.world;
+            lead = (next, lead.1, later.step.lead);
+            event = later.step.event;
+            standing = later.step.standing;
+            comes_it = later.step.comes_it;
+            there = later.step.there;
+          };
           made_it = later.made_it;
         })
       ]

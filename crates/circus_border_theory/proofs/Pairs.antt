@@ -272,13 +272,15 @@ module _ {P : Type 0} where
       by_purpose (Some purpose) is = cc
 
   -- a call that is heard awaits its return then, and did not before
-  pub record Arrives (b : Beginning) (acts : WireActs P) (act : WireAct P) (sender : Caller) : Type 0 where
+  pub record Arrives (b : Beginning) (acts : WireActs P) (act : WireAct P) (from : ℕ) (sender : Caller) : Type 0 where
+    pub of : sender.node ≡ from
+    pub new : has_arrived (taken_by (pair_of b) (acts_at (pair_of b) sender.node acts)) 0 sender.number ≡ false
     pub before : awaits_in b acts sender ≡ false
     pub now : awaits_in b (followed_by acts act) sender ≡ true
 
   pub call_arrives : (b : Beginning) (acts : WireActs P) (w : WireState P) (from : ℕ) (s : Piece) (sender : Caller) (message : List ℕ) → IsOther w from → IsSegment s
       → WireStands w b acts
-      → heard_from w from (Ok s) ≡ Called sender message → Arrives b acts (CameFrom from s) sender
+      → heard_from w from (Ok s) ≡ Called sender message → Arrives b acts (CameFrom from s) from sender
   call_arrives b acts w from s sender message other segment stands heard =
       let e = pair_of b in
       let here = acts_at e from acts in
@@ -289,13 +291,13 @@ module _ {P : Type 0} where
       let c : Caller = record { node = from; number = sender.number } in
       let same : c ≡ sender = λ i. record { node = sym says.1 i; number = sender.number } in
       let lawful : AreLawful b.first b.format (more here (Came s)) = (stood_.pair.lawful, segment) in
-      let before : awaits_in b acts c ≡ false =
-      ap (λ x. x && not (is_some (return_at here sender.number))) (unarrived b.first b.format here s sender.number message stood_.pair.lawful segment arrived) in
+      let new : has_arrived (taken_by e here) 0 sender.number ≡ false = unarrived b.first b.format here s sender.number message stood_.pair.lawful segment arrived in
+      let before : awaits_in b acts c ≡ false = ap (λ x. x && not (is_some (return_at here sender.number))) new in
       let now : awaits_in b (followed_by acts (CameFrom from s)) c ≡ true =
       ap (λ x. awaits_after e (with_act here (cond x (Some (Came s)) None)) sender.number) (equal from)
       ∙ sym (following.awaits_as_owed (end_after e (more here (Came s))) b.first b.format (more here (Came s)) (record { lawful = lawful; is = refl }) sender.number)
       ∙ awaited b.first b.format here s sender.number message lawful arrived in
-      record { before = subst (λ (x : Caller). awaits_in b acts x ≡ false) same before; now = subst (λ (x : Caller). awaits_in b (followed_by acts (CameFrom from s)) x ≡ true) same now }
+      record { of = says.1; new = subst (λ (x : Caller). has_arrived (taken_by e (acts_at e x.node acts)) 0 x.number ≡ false) same new; before = subst (λ (x : Caller). awaits_in b acts x ≡ false) same before; now = subst (λ (x : Caller). awaits_in b (followed_by acts (CameFrom from s)) x ≡ true) same now }
     where
       by_test : (p : PeerState P) (t : Bool) → ◌≡◌ {A = Heard P} (if t then told (get p.purposes) from (arrived_after p.exchange s) else Dropped) (Called sender message)
           → (arrived_after p.exchange s ≡ ArrivedCall sender.number message) × (sender.node ≡ from)

@@ -25,13 +25,16 @@ abbrev pub act_of : Effect → WireAct Purpose
 act_of (makes.Call to message purpose) = CallTo to message purpose
 act_of (makes.Answer caller message) = AnswerTo caller message
 
-module _ {M : Type 0} (declared : M → Signature) (turn : M → List ValueTree → ℕ → List ValueTree → List Outcome → NextTurn) where
+module _ {M : Type 0} (declared : M → Signature)
+    (turn : M → List ValueTree → ℕ → List ValueTree → List Outcome → NextTurn) where
   -- each call and each return that a node makes in a step is handed to a pair, in their order
   abbrev pub HandsAll : ℕ → Event → NodeState M → Type 0
-  HandsAll at event n = flat_map (handed_by (wire_behind event n)) (effects_in declared turn at event n) ≡ map act_of (effects_in declared turn at event n)
+  HandsAll at event n =
+      flat_map (handed_by (wire_behind event n)) (effects_in declared turn at event n)
+      ≡ map act_of (effects_in declared turn at event n)
 
-  -- a node has made this by one of the lines, which lead to a world in which it steps
-  pub record WasMade (node : ℕ) (lines : List Line) (w : WorldState M) (e : Effect) : Type 0 where
+  -- a node steps by one of the lines, in the world to which those before it lead
+  pub record StepOf (node : ℕ) (lines : List Line) (w : WorldState M) : Type 0 where
     pub before : List Line
     pub line : Line
     pub behind : List Line
@@ -42,20 +45,31 @@ module _ {M : Type 0} (declared : M → Signature) (turn : M → List ValueTree 
     pub standing : Standing M
     pub comes_it : comes_by line world ≡ Some (node, event)
     pub there : slice_get world.nodes node ≡ Some standing
-    pub made_it : Contains (effects_in declared turn (world.steps + 1) event standing.node) e
 
-module _ {M : Type 0} (declared : M → Signature) (turn : M → List ValueTree → ℕ → List ValueTree → List Outcome → NextTurn) (first : M → List ValueTree) (d : Deployment)
-    (hosted : List (Option M)) where
+  -- it has made this in such a step
+  pub record WasMade (node : ℕ) (lines : List Line) (w : WorldState M) (e : Effect) : Type 0 where
+    pub step : StepOf node lines w
+    pub made_it : Contains
+        (effects_in declared turn (step.world.steps + 1) step.event step.standing.node) e
+
+module _ {M : Type 0} (declared : M → Signature)
+    (turn : M → List ValueTree → ℕ → List ValueTree → List Outcome → NextTurn)
+    (first : M → List ValueTree) (d : Deployment) (hosted : List (Option M)) where
   -- a node has made this at boot
   abbrev pub WasMadeAtBoot : ℕ → Effect → Type 0
-  WasMadeAtBoot node e = Contains (made_at_boot declared turn first d (home_of d node) (option_and_then (λ own. own) (slice_get hosted node))).came.effects e
+  WasMadeAtBoot node e =
+      let own = option_and_then (λ own. own) (slice_get hosted node) in
+      Contains (made_at_boot declared turn first d (home_of d node) own).came.effects e
 
   -- or since then
   abbrev pub WasMadeAtAll : ℕ → List Line → WorldState M → Effect → Type 0
-  WasMadeAtAll node lines booted e = WasMadeAtBoot node e ⊎ WasMade declared turn node lines booted e
+  WasMadeAtAll node lines booted e =
+      WasMadeAtBoot node e ⊎ WasMade declared turn node lines booted e
 
   -- a call that was handed over was made by its node, for the purpose that its number has there
-  pub record CallWasMade (node other number : ℕ) (message : List ℕ) (lines : List Line) (booted : WorldState M) : Type 0 where
+  pub record CallWasMade (node other number : ℕ) (message : List ℕ) (lines : List Line)
+      (booted : WorldState M) : Type 0 where
     pub purpose : Purpose
-    pub is_for : purpose_of (pair_of (beginning_of d node)) other (acts_of declared turn first d hosted lines booted node) number ≡ Some purpose
+    pub is_for : purpose_of (pair_of (beginning_of d node)) other
+        (acts_of declared turn first d hosted lines booted node) number ≡ Some purpose
     pub made_it : WasMadeAtAll node lines booted (makes.Call other message purpose)

@@ -1,4 +1,5 @@
-//! Theory: nothing that a node makes is dropped at its border, and what was handed over was made in one of its steps.
+//! Theory: nothing that a node makes is dropped at its border, and what was handed over was made in
+//! one of its steps.
 //!
 //! `laws` says it; the proofs are in `proofs/`.
 #![tactic(auto)]

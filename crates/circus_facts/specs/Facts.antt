@@ -5,6 +5,7 @@ use Rattle.std.specs.Fmt.{decimal}
 use Rattle.circus_collate.specs.declared.view.View.{View}
 use Rattle.circus_collate.specs.declared.deployment.Host.{Host}
 use Rattle.circus_collate.specs.declared.deployment.Deployment.{Deployment}
+use Rattle.circus_collate.specs.declared.deployment.Troupe.{Troupe}
 use Rattle.circus_model.specs.Behaviour.{Behaviour}
 use Rattle.circus_model.specs.Agree.{IsAt}
 use Rattle.circus_model.specs.Execution.{history_of}
@@ -13,7 +14,9 @@ use Rattle.circus_record.specs.Line.{line}
 use Rattle.circus_record.specs.Naming.{Names}
 use Rattle.circus_record.specs.MemberText.{member_lines}
 use Rattle.circus_performing.specs.Performing.{is_active}
-use Rattle.circus_accepting.specs.Accepting.{troupe_at}
+use Rattle.circus_value.specs.Among.{is_among}
+use Rattle.circus_accepting.specs.Accepting.{troupe_at, is_root}
+use Rattle.circus_quiescence_theory.specs.Done.{IsDone}
 use Rattle.circus_node.specs.NodeState.{member_record, ring_views}
 use Rattle.circus_world.specs.declared.sent.Sent.{Sent}
 use Rattle.circus_world.specs.WorldState.{WorldState, Standing}
@@ -43,6 +46,15 @@ AllStand d program facts =
     (node troupe : ℕ) (n : NodeFacts) (b : Behaviour) (kept : MemberRecord)
     → slice_get facts.nodes node ≡ Some n → n.member ≡ Some kept → troupe_at d node ≡ Some troupe → IsAt program troupe b
     → is_active kept.phase ≡ true → Stands (history_of program) troupe b.first kept
+
+-- ---- the roots have ended
+
+-- each founder of each root has performed its one run to the end
+abbrev pub RootsEnd : Deployment → Facts → Type 0
+RootsEnd d facts =
+    (node troupe : ℕ) (t : Troupe) (n : NodeFacts) (kept : MemberRecord)
+    → is_root d troupe ≡ true → slice_get d.troupes troupe ≡ Some t → is_among t.founders node ≡ true
+    → slice_get facts.nodes node ≡ Some n → n.member ≡ Some kept → IsDone kept
 
 -- ---- the report
 

@@ -1,6 +1,7 @@
 pub mod Limits
 pub mod Shelf
 pub mod Sink
+pub mod StdSink
 pub mod Link
 pub mod Faults
 pub mod Told

@@ -1,7 +1,7 @@
 // A sink in memory, some of whose calls fail.
 ghost use Rattle.std.specs.Prelude.{◌≡◌, ◌<◌, ◌≤◌, ◌++◌, [], Option, Some, Ok, List, ℕ, length, take, IfOk, OnOk, OnErr, IsErrOf};
 ghost use Rattle.circus_outside.specs.Faults.{one_more};
-ghost use Rattle.circus_outside.specs.Sink.{SinkCounts};
+ghost use Rattle.circus_outside.specs.Sink.{SinkCounts, HasGivenOn};
 ghost use Rattle.circus_outside.specs.Told.{told_more};
 ghost use Rattle.circus_outside.specs.MemSink.{PutFails};
 
@@ -54,6 +54,8 @@ impl MemSink {
 impl Sink for MemSink {
     ghost written = { λ sink. Some sink.written };
 
+    ghost gathered = { λ _. Some [] };
+
     ghost faults = { λ sink. sink.faults };
 
     fn put(&mut self, bytes: &[u8]) -> Result<usize, SinkFault>
@@ -97,6 +99,7 @@ impl Sink for MemSink {
     /// It has nothing to give on, and never fails.
     fn finish(&mut self) -> Result<(), SinkFault>
         ensures written { Some self.new.written ≡ Some self.old.written }
+        ensures given_on { OnOk result (HasGivenOn (Some [])) }
         ensures counts { SinkCounts result self.old.faults self.new.faults }
         ensures never_falls { self.old.faults ≤ self.new.faults }
         ensures sure { result ≡ Ok tt }

@@ -1,6 +1,6 @@
 // What takes the bytes that are written.
-ghost use Rattle.std.specs.Prelude.{◌≡◌, ◌<◌, ◌≤◌, Option, Ok, List, ℕ, length, take, IfOk, OnErr};
-ghost use Rattle.circus_outside.specs.Sink.{SinkCounts};
+ghost use Rattle.std.specs.Prelude.{◌≡◌, ◌<◌, ◌≤◌, Option, Ok, List, ℕ, length, take, IfOk, OnOk, OnErr};
+ghost use Rattle.circus_outside.specs.Sink.{SinkCounts, HasGivenOn};
 ghost use Rattle.circus_outside.specs.Told.{told_more};
 ghost use Rattle.circus_outside.specs.declared.sink.SinkFault.TheVariants.{NoMemory};
 
@@ -32,6 +32,9 @@ pub trait Sink {
     /// Where the sink tells it, the bytes written so far.
     ghost written: { Self → Option (List ℕ) };
 
+    /// Where the sink tells it, the bytes that it has taken and not given on.
+    ghost gathered: { Self → Option (List ℕ) };
+
     /// How many calls have failed, as `faults` answers.
     ghost faults: { Self → ℕ };
 
@@ -47,9 +50,11 @@ pub trait Sink {
         ensures counts { SinkCounts result (faults self.old) (faults self.new) }
         ensures never_falls { faults self.old ≤ faults self.new };
 
-    /// Gives on what it has gathered, behind the last piece. `Failed` only where the count of faults then rises, as in `put`.
+    /// Gives on all that it has gathered, behind the last piece. `Failed` only where the count of faults then rises, as
+    /// in `put`.
     fn finish(&mut self) -> Result<(), SinkFault>
         ensures written { written self.new ≡ written self.old }
+        ensures given_on { OnOk result (HasGivenOn (gathered self.new)) }
         ensures counts { SinkCounts result (faults self.old) (faults self.new) }
         ensures never_falls { faults self.old ≤ faults self.new };
 

@@ -1,6 +1,7 @@
 // A sink that writes to the standard output.
-ghost use Rattle.std.specs.Prelude.{◌≡◌, ◌≤◌, None};
+ghost use Rattle.std.specs.Prelude.{◌≡◌, ◌≤◌, [], None, Some};
 ghost use Rattle.circus_outside.specs.Sink.{SinkCounts};
+ghost use Rattle.circus_outside.specs.StdSink.{StandardOutput};
 
 use crate::{Sink, SinkFault, write_piece};
 use std::alloc::Global;
@@ -11,7 +12,7 @@ use std::marker::Model;
 const MOST_GATHERED: usize = 65_536;
 
 /// The standard output. Pieces are gathered to 65,536 bytes, and what is gathered is written when there is no room for the
-/// next piece, and in `finish`. It tells nothing of what was written. Clauses see it as its count of faults.
+/// next piece, and in `finish`. It tells what it has gathered, and nothing of what was written.
 #[derive(Drop)]
 pub struct StdSink<R: Print> {
     output: R,
@@ -20,17 +21,17 @@ pub struct StdSink<R: Print> {
 }
 
 impl<R: Print> Model for StdSink<R> {
-    ghost use Rattle.std.specs.Prelude.{ℕ};
+    ghost use Rattle.circus_outside.specs.StdSink.{StandardOutput};
 
-    ghost Value = { ℕ };
+    ghost Value = { StandardOutput };
 
-    ghost view = { λ sink. sink.faults };
+    ghost view = { λ sink. record { gathered = sink.gathered.items; faults = sink.faults } };
 }
 
 impl<R: Print> StdSink<R> {
     /// A sink over the standard output of a runtime. It takes no memory.
     pub fn new(alloc: Global, output: R) -> Self
-        ensures { result ≡ 0 }
+        ensures { result ≡ record { gathered = []; faults = 0 } }
     {
         StdSink {
             output,
@@ -41,8 +42,9 @@ impl<R: Print> StdSink<R> {
 
     // Writes what is gathered. Where that fails, it is gone.
     fn give(&mut self) -> Result<(), SinkFault>
-        ensures counts { SinkCounts result self.old self.new }
-        ensures never_falls { self.old ≤ self.new }
+        ensures given_on { self.new.gathered ≡ [] }
+        ensures counts { SinkCounts result self.old.faults self.new.faults }
+        ensures never_falls { self.old.faults ≤ self.new.faults }
     {
         let mut writer = io::writer(&self.output);
         let answer = writer
@@ -55,8 +57,9 @@ impl<R: Print> StdSink<R> {
     // What a write answered, which is counted where it failed.
     fn counted<A: Drop>(&mut self, answer: Result<A, SinkFault>) -> Result<A, SinkFault>
         ensures same { result ≡ answer }
-        ensures counts { SinkCounts result self.old self.new }
-        ensures never_falls { self.old ≤ self.new }
+        ensures gathered { self.new.gathered ≡ self.old.gathered }
+        ensures counts { SinkCounts result self.old.faults self.new.faults }
+        ensures never_falls { self.old.faults ≤ self.new.faults }
     {
         if let Err(SinkFault::Failed) = &answer {
             self.faults = self.faults.saturating_add(1);
@@ -68,7 +71,9 @@ impl<R: Print> StdSink<R> {
 impl<R: Print> Sink for StdSink<R> {
     ghost written = { λ _. None };
 
-    ghost faults = { λ sink. sink };
+    ghost gathered = { λ sink. Some sink.gathered };
+
+    ghost faults = { λ sink. sink.faults };
 
     fn put(&mut self, bytes: &[u8]) -> Result<usize, SinkFault> {
         if bytes.len() > MOST_GATHERED.saturating_sub(self.gathered.len()) {

@@ -1,6 +1,6 @@
 // A sink in memory that never fails.
 ghost use Rattle.std.specs.Prelude.{◌≡◌, ◌<◌, ◌≤◌, ◌++◌, [], Option, Some, Ok, List, ℕ, length, take, IfOk, OnOk, OnErr, IsOkUnless};
-ghost use Rattle.circus_outside.specs.Sink.{SinkCounts};
+ghost use Rattle.circus_outside.specs.Sink.{SinkCounts, HasGivenOn};
 ghost use Rattle.circus_outside.specs.Told.{told_more};
 
 use crate::{Sink, SinkFault};
@@ -41,6 +41,8 @@ impl SureSink {
 impl Sink for SureSink {
     ghost written = { λ sink. Some sink };
 
+    ghost gathered = { λ _. Some [] };
+
     ghost faults = { λ _. 0 };
 
     fn put(&mut self, bytes: &[u8]) -> Result<usize, SinkFault>
@@ -68,6 +70,7 @@ impl Sink for SureSink {
     /// It has nothing to give on.
     fn finish(&mut self) -> Result<(), SinkFault>
         ensures written { Some self.new ≡ Some self.old }
+        ensures given_on { OnOk result (HasGivenOn (Some [])) }
         ensures counts { SinkCounts result 0 0 }
         ensures never_falls { 0 ≤ 0 }
         ensures sure { result ≡ Ok tt }

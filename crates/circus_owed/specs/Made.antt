@@ -28,7 +28,9 @@ at_most_one o = option_map_or (λ x. x ∷ []) o []
 -- the asks, each with its step, in order of arrival
 abbrev pub asks : Past → List (ℕ × HeldCall)
 asks booted = []
-asks (followed p step (comes.Asked header body sender)) = asks p ++ (step, (let call : HeldCall = record { header = header; body = body; sender = sender } in call)) ∷ []
+asks (followed p step (comes.Asked header body sender)) =
+    let call : HeldCall = record { header = header; body = body; sender = sender } in
+    asks p ++ (step, call) ∷ []
 asks (followed p step _) = asks p
 
 -- the state requests likewise
@@ -47,6 +49,8 @@ callers (followed p step _) = callers p
 -- no two of them were made by the same caller
 abbrev pub AreDistinct : Past → Type 0
 AreDistinct booted = Unit {0}
-AreDistinct (followed p step (comes.Asked header body sender)) = AreDistinct p × All (λ (other : Caller). is_caller other sender ≡ false) (callers p)
-AreDistinct (followed p step (comes.Fetched incarnation sender)) = AreDistinct p × All (λ (other : Caller). is_caller other sender ≡ false) (callers p)
+AreDistinct (followed p step (comes.Asked header body sender)) =
+    AreDistinct p × All (λ (other : Caller). is_caller other sender ≡ false) (callers p)
+AreDistinct (followed p step (comes.Fetched incarnation sender)) =
+    AreDistinct p × All (λ (other : Caller). is_caller other sender ≡ false) (callers p)
 AreDistinct (followed p step _) = AreDistinct p

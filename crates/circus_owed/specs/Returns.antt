@@ -1,4 +1,5 @@
--- The return that a call gets: one, by the first case that applies, in the first step in which one does.
+-- The return that a call gets: one, by the first case that applies, in the first step in which one
+-- does.
 use Rattle.std.specs.Prelude.{ℕ, ◌-◌, Bool, false, not, ◌&&◌, ◌||◌, nat_eq, nat_lt, nat_le, if◌then◌else◌, List, Option, None, Some, slice_get, option_and_then}
 use Rattle.std.specs.Option.{option_map_or}
 use Rattle.circus_transfer.specs.declared.joiner.Joiner.{Joiner}
@@ -25,7 +26,8 @@ run_of kept index = if nat_lt index kept.from then None else slice_get kept.runs
 
 -- it was started before a step
 abbrev pub was_started : MemberRecord → ℕ → ℕ → Bool
-was_started kept index step = option_map_or (λ (run : RunRecord). nat_lt run.started step) (run_of kept index) false
+was_started kept index step =
+    option_map_or (λ (run : RunRecord). nat_lt run.started step) (run_of kept index) false
 
 -- a run has ended by the end of a past
 abbrev pub has_ended : RunRecord → Past → Bool
@@ -33,7 +35,8 @@ has_ended run p = option_map_or (λ step. nat_le step (now p)) run.ended false
 
 -- of a member of a troupe, in this phase at boot, with this record in the end
 module _ (troupe : ℕ) (begins : Joiner) (kept : MemberRecord) where
-  -- a call that came in a step is of an older view than required, and no run of its index was started before, unless it comes now
+  -- a call that came in a step is of an older view than required, and no run of its index was
+  -- started before, unless it comes now
   abbrev pub is_stale : ℕ → HeldCall → Past → Bool
   is_stale step call p =
       nat_lt call.header.server_incarnation (required p)
@@ -46,7 +49,9 @@ module _ (troupe : ℕ) (begins : Joiner) (kept : MemberRecord) where
   -- the reply of the run of its index, where that has ended
   abbrev pub reply_by : HeldCall → Past → Option (List ℕ)
   reply_by call p =
-      option_and_then (λ (run : RunRecord). if has_ended run p then Some (reply_message (reply_of_run run)) else None)
+      option_and_then
+      (λ (run : RunRecord).
+      if has_ended run p then Some (reply_message (reply_of_run run)) else None)
       (run_of kept (index_of troupe call.header))
 
   -- what applies at the end of a past, from the call's arrival on: the first of the three

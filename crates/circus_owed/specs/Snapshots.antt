@@ -1,4 +1,5 @@
--- The snapshot that a state request gets: one, at the first moment from its arrival at which the member is active and performs no run.
+-- The snapshot that a state request gets: one, at the first moment from its arrival at which the
+-- member is active and performs no run.
 use Rattle.std.specs.Prelude.{ℕ, ◌&&◌, nat_lt, if◌then◌else◌, List, length, filter, Option, None, Some}
 use Rattle.std.specs.List.{list_all}
 use Rattle.std.specs.Option.{option_map_or}
@@ -23,12 +24,15 @@ module _ (begins : Joiner) (first : List ValueTree) where
   abbrev pub began : Past → List ValueTree
   began p = option_map_or (λ (s : List ValueTree × ℕ). s.0) (fetched begins p) first
 
-  -- by its record in the end: in a step the first moment is that at which the member is active and the runs before have ended
+  -- by its record in the end: in a step the first moment is that at which the member is active and
+  -- the runs before have ended
   abbrev pub snapshot_at : MemberRecord → ℕ → Past → Option (List ℕ)
   snapshot_at kept step p =
       if nat_lt (now p) step then None
       else if is_active (phase begins p) && list_all (λ run. has_ended run p) (runs_before kept p)
-      then Some (snapshot_bytes (count_after (first_of (phase begins p)) (length (runs_before kept p))) (state_after (began p) (runs_before kept p)))
+      then Some (snapshot_bytes
+      (count_after (first_of (phase begins p)) (length (runs_before kept p)))
+      (state_after (began p) (runs_before kept p)))
       else None
 
   -- the snapshot for a request that came in a step, with the step in which it is made

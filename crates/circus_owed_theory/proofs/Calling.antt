@@ -47,13 +47,14 @@ use Rattle.circus_member_step.specs.MemberState.{MemberState, Doing}
 use Rattle.circus_member_step.specs.Step as step
 use Rattle.circus_member_step.specs.Step.{name_of_last, known_by_table, is_taken_in, kept_by_table, handled, waits}
 use Rattle.circus_member_step.proofs.Writing.{one_is_performing, none_is_idle}
+use Rattle.circus_member_theory.proofs.Resting.{at_boot}
 use Rattle.circus_border_theory.proofs.Going.{begun}
 use Rattle.circus_timely.specs.Past as past
 use Rattle.circus_timely.specs.Past.{Past, booted, followed, now, known, down}
 use Rattle.circus_owed.specs.Asks.{is_of_ask, is_new, is_waiting, as_made, asks_of, knows, opened_one, first_calls, asks_behind, calls_behind, new_asks, waits_then, open_asks, calls_owed}
 use Rattle.circus_owed_theory.specs.Living.{boots, made_in, made_by}
 use Rattle.circus_timely_theory.specs.Living.{after, MayLive}
-use Rattle.circus_owed_theory.proofs.Booting.{at_boot, booted_keeps}
+use Rattle.circus_owed_theory.proofs.Booting.{booted_keeps}
 use Rattle.circus_owed_theory.proofs.CallsOwing.{open_same, calls_same}
 use Rattle.circus_owed_theory.proofs.Distinct.{All-without_last, All-last}
 use Rattle.circus_owed_theory.proofs.Entries.{none_of, of-append, last_by}
@@ -336,10 +337,10 @@ module _ {M : Type 0} (declared : M → Signature) (turn : M → List ValueTree 
           let old = asks_of place test m.performing.kept.from m.performing.kept.runs in
           sym (executed_keeps declared turn first lawful at (AreOld declared turn first lawful at place test fresh still old) (AreOld declared turn first lawful at place test fresh still old) (old_keeps declared turn first lawful at place test fresh still old) d s.sound (same_passing test))
 
-      made_same : (x : Past) → now x < at → new_asks place views m.performing.kept x ≡ new_asks place views new_kept x
+      pub made_same : (x : Past) → now x < at → new_asks place views m.performing.kept x ≡ new_asks place views new_kept x
       made_same x below = old_passing (is_new x) (λ clock callee procedure arguments state. ne_eqb at (now x) (λ eq. absurd (omega (arith, below, eq)))) (λ ask reply clock none. refl)
 
-      waiting_same : (x : Past) → now x < at → asks_of place (is_waiting x) m.performing.kept.from m.performing.kept.runs ≡ asks_of place (is_waiting x) new_kept.from new_kept.runs
+      pub waiting_same : (x : Past) → now x < at → asks_of place (is_waiting x) m.performing.kept.from m.performing.kept.runs ≡ asks_of place (is_waiting x) new_kept.from new_kept.runs
       waiting_same x below =
           old_passing (is_waiting x) (λ clock callee procedure arguments state. ap (λ b. b && true) (lt-leb at (now x) below))
           (λ ask reply clock none. (λ j. nat_le ask.asked (now x) && not (lt-leb at (now x) below j)) ∙ sym (ap (λ o. nat_le ask.asked (now x) && not (option_map_or (λ y. nat_le y (now x)) o false)) none))
@@ -363,7 +364,7 @@ module _ {M : Type 0} (declared : M → Signature) (turn : M → List ValueTree 
           (executed_keeps declared turn first lawful at (IsOpened declared turn first lawful at d.member views (is_new q) fresh still old) (Turns declared turn first lawful at d.member views (is_new q) fresh still old) (opened_keeps declared turn first lawful at d.member views (is_new q) fresh still old) d s.sound
           (s.carried.linked, is_same d.member, subst (λ new. HasOpened declared turn first lawful at d.member views (is_new q) fresh still old new d) (sym none_new) (record { asks_are = refl; calls = sym (append-nil old) }))).2
 
-      asks_then : m.asks ≡ open_asks place views new_kept p
+      pub asks_then : m.asks ≡ open_asks place views new_kept p
       asks_then = c.asks_are ∙ open_same place views m.performing.kept new_kept at made_same waiting_same p (rises declared turn first lawful place views beginning hosted p may.0) may.1
 
       e_views : e.member.known.views ≡ known views q
@@ -375,6 +376,17 @@ module _ {M : Type 0} (declared : M → Signature) (turn : M → List ValueTree 
       waits_now : (name : AskName) → waits new_kept name ≡ waits_then place views new_kept q name
       waits_now name = waits_is (behaviour declared turn first e.member.performing.hosted) e.member.performing.began e.member.gathered new_kept k.sound.kept k.linked q new_by place views name
 
+      -- the calls of asks that were made by then: for what came, and of the new asks
+      pub calls_then : of_asks e.effects
+          ≡ calls_behind place views q (open_asks place views new_kept p) ++ flat_map (first_calls place views (knows place views q)) (asks_of place (is_new q) new_kept.from new_kept.runs)
+      calls_then =
+          let wants = d.member.known.wants in
+          opened.calls
+          ∙ (λ j. (handled_so.calls ∙ ap (calls_behind place views q) asks_then) j ++ flat_map (first_calls place views (let x : Knowing = record { views = d_views j; down = d_down j; wants = wants } in x)) (asks_of (same_place j) (is_new q) new_kept.from new_kept.runs))
+
+      pub calls_of_what_came : of_asks d.effects ≡ calls_behind place views q (open_asks place views new_kept p)
+      calls_of_what_came = handled_so.calls ∙ ap (calls_behind place views q) asks_then
+
       called_then : AreCalled q
       called_then =
           let wants = d.member.known.wants in
@@ -383,9 +395,6 @@ module _ {M : Type 0} (declared : M → Signature) (turn : M → List ValueTree 
           let e_asks : e.member.asks ≡ fold (opened_one place views (knows place views q)) behind_asks new =
           opened.asks_are
           ∙ (λ j. fold (opened_one place views (let x : Knowing = record { views = d_views j; down = d_down j; wants = wants } in x)) ((handled_so.asks_are ∙ ap (asks_behind place views q) asks_then) j) (asks_of (same_place j) (is_new q) new_kept.from new_kept.runs)) in
-          let e_calls : of_asks e.effects ≡ calls_behind place views q (open_asks place views new_kept p) ++ flat_map (first_calls place views (knows place views q)) new =
-          opened.calls
-          ∙ (λ j. (handled_so.calls ∙ ap (calls_behind place views q) asks_then) j ++ flat_map (first_calls place views (let x : Knowing = record { views = d_views j; down = d_down j; wants = wants } in x)) (asks_of (same_place j) (is_new q) new_kept.from new_kept.runs)) in
           let effects = (step.stepped declared turn at o m).effects in
           let made : of_asks effects ≡ of_asks e.effects =
           filter-append is_of_ask e.effects (rules.lookups e.member.known)
@@ -395,19 +404,19 @@ module _ {M : Type 0} (declared : M → Signature) (turn : M → List ValueTree 
             asks_are = λ j. filter (stays_open (let x : Knowing = record { views = e_views j; down = e_down j; wants = e.member.known.wants } in x) (λ name. waits_now name j)) (e_asks j);
             calls = filter-append (λ (x : ℕ × Effect). is_of_ask x.1) (makes p) (made_in at effects)
                 ∙ (λ j. (c.calls ∙ calls_same place views m.performing.kept new_kept at made_same waiting_same p (rises declared turn first lawful place views beginning hosted p may.0) may.1) j
-                ++ (calls_in at effects ∙ ap (made_in at) (made ∙ e_calls)) j);
+                ++ (calls_in at effects ∙ ap (made_in at) (made ∙ calls_then)) j);
             by = new_by;
           }
 
     -- ---- over a past
 
-    before_any : (b : Beginning) → let x = at_boot declared turn first lawful place views hosted b in (x.place ≡ place) × (x.known ≡ knowing.at_boot views) × (x.asks ≡ []) × (x.performing.kept.runs ≡ []) × IsLinked x.gathered x.performing.kept
+    before_any : (b : Beginning) → let x = at_boot declared turn first lawful place views hosted home b in (x.place ≡ place) × (x.known ≡ knowing.at_boot views) × (x.asks ≡ []) × (x.performing.kept.runs ≡ []) × IsLinked x.gathered x.performing.kept
     before_any Founder = (refl, refl, refl, refl, inl (record { no_ask = refl; rests = record { start = omega arith; few = omega arith; none_open = refl; replies = refl } }))
     before_any Spare = (refl, refl, refl, refl, inl (record { no_ask = refl; rests = record { start = omega arith; few = omega arith; none_open = refl; replies = refl } }))
 
     pub called_all : (p : Past) → MayLive declared turn first place views beginning hosted p → AreCalled p
     called_all booted may =
-        let x = at_boot declared turn first lawful place views hosted beginning in
+        let x = at_boot declared turn first lawful place views hosted home beginning in
         let is = before_any beginning in
         let fresh : (clock : List ℕ) (callee procedure : ℕ) (arguments state : List ValueTree) → is_new booted (made_ask 0 clock callee procedure arguments state) ≡ true = λ clock callee procedure arguments state. eq-eqb 0 0 refl in
         let still : (ask : AskRecord) (reply : Outcome) (clock : List ℕ) → ask.answered ≡ None → is_new booted (answered_ask 0 reply clock ask) ≡ is_new booted ask = λ ask reply clock none. refl in

@@ -1,5 +1,5 @@
 -- What happens to a member leaves what it knows that of its past, and its replies those of its runs.
-use Rattle.std.proofs.Common.{◌≡◌, ℕ, ◌+◌, ◌≤◌, Bool, true, false, ◌⊎◌, inl, inr, if◌then◌else◌, List, [], ◌∷◌, ◌++◌, length, Some, refl, sym, ap, ◌∙◌, arith, length-append}
+use Rattle.std.proofs.Common.{◌≡◌, ℕ, ◌+◌, ◌≤◌, Bool, true, false, ◌&&◌, ◌⊎◌, inl, inr, if◌then◌else◌, List, [], ◌∷◌, ◌++◌, length, Some, refl, sym, ap, ◌∙◌, arith, length-append}
 use Rattle.std.specs.Prelude.{max, option_and_then}
 use Rattle.std.specs.Option.{option_map_or}
 use Rattle.circus_value.specs.ValueTree.{ValueTree}
@@ -11,7 +11,7 @@ use Rattle.circus_collate.specs.declared.table.RingResult.{RingResult}
 use Rattle.circus_collate.specs.declared.table.RingResult.TheVariants.{Done, RootTroupe, NotSpare, Full}
 use Rattle.circus_transfer.specs.declared.joiner.Joiner.{Joiner}
 use Rattle.circus_transfer.specs.declared.joiner.Joiner.TheVariants.{Outside, Asking, Fetching, Active}
-use Rattle.circus_transfer.specs.Joining.{after_join, after_table, after_state, taken_in as result_taken}
+use Rattle.circus_transfer.specs.Joining.{after_join, after_table, taken_in as result_taken}
 use Rattle.circus_model.specs.Behaviour.{Behaviour}
 use Rattle.circus_record.specs.declared.record.MemberRecord.{MemberRecord}
 use Rattle.circus_record.specs.declared.record.RunRecord.{RunRecord}
@@ -25,7 +25,8 @@ use Rattle.circus_member_step.specs.MemberState.{MemberState, Doing}
 use Rattle.circus_member_step.specs.Step.{is_join, kept_by_table, handled}
 use Rattle.circus_member_step.specs.Seen.Sound.{IsSound}
 use Rattle.circus_member_theory.specs.Ranges.{InRange}
-use Rattle.circus_timely.specs.Past.{Past, followed, required, phase, fetched}
+use Rattle.circus_timely.specs.Past.{Past, followed, required, is_asking, taken_in as way_in, phase, fetched}
+use Rattle.circus_timely_theory.proofs.Phases.{once_told, once_tabled}
 use Rattle.circus_owed.specs.Returns.{first_of}
 use Rattle.circus_owed.specs.Snapshots.{began}
 use Rattle.circus_owed_theory.proofs.Links.{numbered, IsLinked}
@@ -50,18 +51,6 @@ first_tabled table Asking = by_result table.result
     by_result Full = refl
 first_tabled table (Fetching incarnation) = refl
 first_tabled table (Active first) = refl
-
-state_fetched : (count : ℕ) (j : Joiner) → is_fetching j ≡ true → after_state count j ≡ Active count
-state_fetched count Outside is = cc
-state_fetched count Asking is = cc
-state_fetched count (Fetching incarnation) is = refl
-state_fetched count (Active first) is = cc
-
-state_dropped : (count : ℕ) (j : Joiner) → is_fetching j ≡ false → after_state count j ≡ j
-state_dropped count Outside is = refl
-state_dropped count Asking is = refl
-state_dropped count (Fetching incarnation) is = cc
-state_dropped count (Active first) is = refl
 
 -- ---- what a member knows
 
@@ -106,8 +95,8 @@ module _ {M : Type 0} (begins : Joiner) (state : List ValueTree) where
       where
         -- with this record behind it
         by_test : (b : Bool) → let kept : MemberRecord = if b then taken_in table m.performing.kept else m.performing.kept in
-            (kept.phase ≡ (if b then after_table table (phase begins p) else phase begins p)) × (m.gathered.from ≡ first_of kept.phase) × (kept.from ≡ first_of kept.phase)
-        by_test true = (ap (after_table table) h.phase_is, h.from ∙ sym (first_tabled table m.performing.kept.phase), h.start ∙ sym (first_tabled table m.performing.kept.phase))
+            (kept.phase ≡ (if b && is_asking (phase begins p) then way_in table else phase begins p)) × (m.gathered.from ≡ first_of kept.phase) × (kept.from ≡ first_of kept.phase)
+        by_test true = (ap (after_table table) h.phase_is ∙ once_tabled table (phase begins p), h.from ∙ sym (first_tabled table m.performing.kept.phase), h.start ∙ sym (first_tabled table m.performing.kept.phase))
         by_test false = (h.phase_is, h.from, h.start)
 
     knew_restored : (given : List ValueTree) (count : ℕ) → Knew (comes.Restored given count)
@@ -122,7 +111,7 @@ module _ {M : Type 0} (begins : Joiner) (state : List ValueTree) where
         by_test true is =
             record {
               requires = h.requires;
-              phase_is = sym (state_fetched count (phase begins p) (fetches true is));
+              phase_is = sym (ap (λ b. if b then Active count else phase begins p) (fetches true is));
               from = refl;
               start = refl;
               state_is = sym (ap (λ b. option_map_or (λ (s : List ValueTree × ℕ). s.0) (if b then Some (given, count) else fetched begins p) state) (fetches true is));
@@ -130,7 +119,7 @@ module _ {M : Type 0} (begins : Joiner) (state : List ValueTree) where
         by_test false is =
             record {
               requires = h.requires;
-              phase_is = h.phase_is ∙ sym (state_dropped count (phase begins p) (fetches false is));
+              phase_is = h.phase_is ∙ sym (ap (λ b. if b then Active count else phase begins p) (fetches false is));
               from = h.from;
               start = h.start;
               state_is = h.state_is ∙ sym (ap (λ b. option_map_or (λ (s : List ValueTree × ℕ). s.0) (if b then Some (given, count) else fetched begins p) state) (fetches false is));
@@ -148,7 +137,7 @@ module _ {M : Type 0} (begins : Joiner) (state : List ValueTree) where
     knew comes.Joins =
         record {
           requires = h.requires;
-          phase_is = ap after_join h.phase_is;
+          phase_is = ap after_join h.phase_is ∙ once_told (phase begins p);
           from = h.from ∙ sym (first_joining m.performing.kept.phase);
           start = h.start ∙ sym (first_joining m.performing.kept.phase);
           state_is = h.state_is;

@@ -9,7 +9,6 @@ pub mod Coming
 pub mod Status
 pub mod Booting
 pub mod Lives
-pub mod Firsts
 pub mod Distinct
 pub mod Returned
 pub mod Moments
@@ -21,3 +20,6 @@ pub mod Entries
 pub mod Opening
 pub mod CallsOwing
 pub mod Calling
+pub mod Differing
+pub mod Telling
+pub mod Ordering

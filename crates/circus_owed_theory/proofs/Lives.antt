@@ -11,15 +11,14 @@ use Rattle.circus_member_rules.specs.declared.place.Place.{Place}
 use Rattle.circus_member_rules.specs.declared.place.Beginning.{Beginning}
 use Rattle.circus_member_rules.specs.declared.place.Beginning.TheVariants.{Founder, Spare}
 use Rattle.circus_member_rules.specs.declared.occurrence.Occurrence.{Occurrence}
-use Rattle.circus_member_rules.specs.declared.occurrence.Occurrence.TheVariants as comes
 use Rattle.circus_member_step.specs.Happening.{IsHome, CanHappen}
 use Rattle.circus_member_step.specs.MemberState.{MemberState, Doing}
 use Rattle.circus_member_step.specs.Step.{is_idle, handled, executed}
 use Rattle.circus_member_step.proofs.Resting.{rested}
 use Rattle.circus_member_step.proofs.Starting.{IsSoundNow, sound_executed}
-use Rattle.circus_member_theory.proofs.Resting.{sound_once_handled}
+use Rattle.circus_member_theory.proofs.Resting.{sound_once_handled, at_boot}
 use Rattle.circus_timely.specs.Past.{Past, booted, followed, now, Rises}
-use Rattle.circus_owed_theory.proofs.Booting.{at_boot, sound_booted, booted_keeps}
+use Rattle.circus_owed_theory.proofs.Booting.{sound_booted, booted_keeps}
 use Rattle.circus_owed_theory.specs.Living.{boots}
 use Rattle.circus_timely_theory.specs.Living.{phase_at_boot, after, MayLive}
 use Rattle.circus_owed_theory.proofs.Coming.{Knows, knows_same, knew, Carries, carries}
@@ -71,15 +70,15 @@ module _ {M : Type 0} (declared : M → Signature) (turn : M → List ValueTree 
     pub grown : AreGrown at (life p).performing.kept.runs (executes p at o).member.performing.kept.runs
 
   module _ (home : IsHome (declared hosted) place views) where
-    known_before : (b : Beginning) → Knows (phase_at_boot b) (first hosted) booted (at_boot declared turn first lawful place views hosted b)
+    known_before : (b : Beginning) → Knows (phase_at_boot b) (first hosted) booted (at_boot declared turn first lawful place views hosted home b)
     known_before Founder = record { requires = refl; phase_is = refl; from = refl; start = refl; state_is = refl }
     known_before Spare = record { requires = refl; phase_is = refl; from = refl; start = refl; state_is = refl }
 
-    linked_before : (b : Beginning) → let m = at_boot declared turn first lawful place views hosted b in IsLinked m.gathered m.performing.kept
+    linked_before : (b : Beginning) → let m = at_boot declared turn first lawful place views hosted home b in IsLinked m.gathered m.performing.kept
     linked_before Founder = inl (record { no_ask = refl; rests = record { start = omega arith; few = omega arith; none_open = refl; replies = refl } })
     linked_before Spare = inl (record { no_ask = refl; rests = record { start = omega arith; few = omega arith; none_open = refl; replies = refl } })
 
-    before_is : (b : Beginning) → let m = at_boot declared turn first lawful place views hosted b in (m.performing.hosted ≡ hosted) × (m.place ≡ place) × (m.performing.kept.runs ≡ [])
+    before_is : (b : Beginning) → let m = at_boot declared turn first lawful place views hosted home b in (m.performing.hosted ≡ hosted) × (m.place ≡ place) × (m.performing.kept.runs ≡ [])
     before_is Founder = (refl, refl, refl)
     before_is Spare = (refl, refl, refl)
 
@@ -95,7 +94,7 @@ module _ {M : Type 0} (declared : M → Signature) (turn : M → List ValueTree 
 
     known_at_boot : IsKnown booted boot.member
     known_at_boot =
-        let m = at_boot declared turn first lawful place views hosted beginning in
+        let m = at_boot declared turn first lawful place views hosted home beginning in
         let same = booted_keeps declared turn first lawful place views hosted home (Stays declared turn first lawful 0 m) (Stays declared turn first lawful 0 m) (stays_keeps declared turn first lawful 0 m) beginning (is_same m) in
         let is = before_is beginning in
         let grown = booted_keeps declared turn first lawful place views hosted home (IsGrown declared turn first lawful 0 []) (IsGrown declared turn first lawful 0 []) (grown_keeps declared turn first lawful 0 []) beginning
@@ -110,7 +109,7 @@ module _ {M : Type 0} (declared : M → Signature) (turn : M → List ValueTree 
           given = λ idle. booted_keeps declared turn first lawful place views hosted home (λ d. d.member.requests ≡ []) (λ d. d.member.requests ≡ []) none_keeps beginning (none_before beginning);
         }
       where
-        none_before : (b : Beginning) → (at_boot declared turn first lawful place views hosted b).requests ≡ []
+        none_before : (b : Beginning) → (at_boot declared turn first lawful place views hosted home b).requests ≡ []
         none_before Founder = refl
         none_before Spare = refl
 

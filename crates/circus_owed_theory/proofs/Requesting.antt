@@ -1,5 +1,5 @@
 -- The calls of a member to the Ringmaster, and for a state, are those that it owes, in their order.
-use Rattle.std.proofs.Common.{◌≡◌, ℕ, ◌+◌, ◌<◌, Bool, true, false, ◌&&◌, not, cond, inl, inr, if◌then◌else◌, List, [], ◌∷◌, ◌++◌, map, filter, length, Option, Some, None, refl, sym, ap, ◌∙◌, arith, append-nil, length-set}
+use Rattle.std.proofs.Common.{◌≡◌, ℕ, ◌+◌, ◌<◌, Bool, true, false, ◌&&◌, not, cond, inl, inr, if◌then◌else◌, List, [], ◌∷◌, ◌++◌, map, filter, length, Option, Some, None, refl, sym, ap, ◌∙◌, arith, append-nil}
 use Rattle.std.specs.Prelude.{slice_get, slice_set, nat_eq, nat_lt, max, is_none, option_map}
 use Rattle.std.specs.List.{flat_map}
 use Rattle.std.specs.Option.{option_map_or}
@@ -16,7 +16,6 @@ use Rattle.circus_collate.specs.Expecting.{has_node}
 use Rattle.circus_collate.specs.declared.table.Table.{Table}
 use Rattle.circus_collate.specs.declared.view.View.{View}
 use Rattle.circus_transfer.specs.declared.joiner.Joiner.{Joiner}
-use Rattle.circus_transfer.specs.Joining.{after_table}
 use Rattle.circus_model.specs.declared.signature.Signature.{Signature}
 use Rattle.circus_model.specs.NextTurn.{NextTurn}
 use Rattle.circus_model.specs.Behaviour.{IsModule}
@@ -24,7 +23,6 @@ use Rattle.circus_known.specs.Knowing as knowing
 use Rattle.circus_known.specs.Knowing.{Knowing, with_want}
 use Rattle.circus_known.specs.declared.known.Want.{Want}
 use Rattle.circus_gather.specs.Gathering.{index_of, reply_of, answer_to, with_first, stale_answers as stale_callers, before_answers as callers_before}
-use Rattle.circus_gather.specs.declared.added.Added.{Added}
 use Rattle.circus_gather.specs.declared.added.Added.TheVariants as added
 use Rattle.circus_gather.specs.declared.held.HeldCall.{HeldCall}
 use Rattle.circus_fanout.specs.Asking.{Asking, calls_for_a_view, next}
@@ -49,6 +47,7 @@ use Rattle.circus_member_step.specs.MemberState.{MemberState, Doing}
 use Rattle.circus_member_step.specs.Step as step
 use Rattle.circus_member_step.specs.Step.{is_lookup, is_join, known_by_table, answered_by_ring, is_taken_in, kept_by_table, handled, reply_of_run, name_of_last, asking_begun, opened_by_view, ended_run, is_idle}
 use Rattle.circus_member_step.proofs.Homes.{told_down, ring_down, ring_views, called_views, declared_views}
+use Rattle.circus_member_theory.proofs.Resting.{at_boot}
 use Rattle.circus_border_theory.proofs.Going.{begun}
 use Rattle.circus_timely.specs.Past as past
 use Rattle.circus_timely.specs.Past.{Past, booted, followed, now, known, down, required, phase}
@@ -56,7 +55,9 @@ use Rattle.circus_owed.specs.Requests.{is_request, to_ring, answers_lookup, for_
 use Rattle.circus_owed.specs.Returns.{first_of, reply_by}
 use Rattle.circus_owed_theory.specs.Living.{boots, made_in, made_by}
 use Rattle.circus_timely_theory.specs.Living.{phase_at_boot, after, MayLive}
-use Rattle.circus_owed_theory.proofs.Booting.{at_boot, booted_keeps}
+use Rattle.circus_timely_theory.proofs.Known.{told_views, called_down, declared_down, known_long}
+use Rattle.circus_timely_theory.proofs.Phases.{once_tabled}
+use Rattle.circus_owed_theory.proofs.Booting.{booted_keeps}
 use Rattle.circus_owed_theory.proofs.Going.{Keeps, executed_keeps}
 use Rattle.circus_owed_theory.proofs.Lives.{rises, IsKnown, handles, executes, IsStepped, step_is, known as known_after}
 use Rattle.circus_owed_theory.proofs.Owing.{wanted_same, unanswered_same, requests_same}
@@ -197,24 +198,10 @@ gone_asked views gone_nodes place node = by_host (slice_get place.troupes node)
 
 -- ---- what is known
 
-told_views : (k : Knowing) (view : View) → (knowing.told k view).views ≡ past.with_view k.views view
-told_views k view = by_test (knowing.is_newer k view)
-  where
-    by_test : (b : Bool) → let x : Knowing = if b then record k { views = slice_set k.views view.troupe view } else k in x.views ≡ (if b then slice_set k.views view.troupe view else k.views)
-    by_test true = refl
-    by_test false = refl
-
 told_wants : (k : Knowing) (view : View) → (knowing.told k view).wants ≡ k.wants
 told_wants k view = by_test (knowing.is_newer k view)
   where
     by_test : (b : Bool) → let x : Knowing = if b then record k { views = slice_set k.views view.troupe view } else k in x.wants ≡ k.wants
-    by_test true = refl
-    by_test false = refl
-
-declared_down : (k : Knowing) (node : ℕ) → (knowing.declared k node).down ≡ (if is_among k.down node then k.down else k.down ++ node ∷ [])
-declared_down k node = by_test (is_among k.down node)
-  where
-    by_test : (b : Bool) → let x : Knowing = if b then k else record k { down = k.down ++ node ∷ [] } in x.down ≡ (if b then k.down else k.down ++ node ∷ [])
     by_test true = refl
     by_test false = refl
 
@@ -224,31 +211,6 @@ declared_wants k node = by_test (is_among k.down node)
     by_test : (b : Bool) → let x : Knowing = if b then k else record k { down = k.down ++ node ∷ [] } in x.wants ≡ k.wants
     by_test true = refl
     by_test false = refl
-
-called_down : (a : Added) (header : CallHeader) (k : Knowing) → (wanted_by_call a header k).down ≡ k.down
-called_down (added.Reply reply) header k = refl
-called_down (added.Stale incarnation) header k = refl
-called_down (added.Before first) header k = refl
-called_down added.Held header k = refl
-
-with_view_long : (views : List View) (view : View) → length (past.with_view views view) ≡ length views
-with_view_long views view = by_test (past.is_newer views view)
-  where
-    by_test : (b : Bool) → length (if b then slice_set views view.troupe view else views) ≡ length views
-    by_test true = length-set views view.troupe view
-    by_test false = refl
-
-known_long : (boot : List View) (p : Past) → length (known boot p) ≡ length boot
-known_long boot booted = refl
-known_long boot (followed p at (comes.Told request table)) = with_view_long (known boot p) table.view ∙ known_long boot p
-known_long boot (followed p at (comes.Asked header body sender)) = known_long boot p
-known_long boot (followed p at (comes.Fetched incarnation sender)) = known_long boot p
-known_long boot (followed p at (comes.Replied name from reply)) = known_long boot p
-known_long boot (followed p at (comes.IsStale name server from incarnation)) = known_long boot p
-known_long boot (followed p at (comes.IsBefore name from)) = known_long boot p
-known_long boot (followed p at (comes.Restored state count)) = known_long boot p
-known_long boot (followed p at (comes.Declared node)) = known_long boot p
-known_long boot (followed p at comes.Joins) = known_long boot p
 
 -- ---- tests
 
@@ -263,10 +225,6 @@ and_false false = refl
 -- what is wanted of a troupe
 abbrev want : ℕ → Bool → Want
 want incarnation is_asked = record { incarnation = incarnation; asked = is_asked }
-
-not_both : (b : Bool) → (not b && b) ≡ false
-not_both true = refl
-not_both false = refl
 
 none_either : {A B : Type 0} (f : A → B) (o : Option A) → is_none (option_map f o) ≡ is_none o
 none_either f None = refl
@@ -411,12 +369,16 @@ module _ {M : Type 0} (declared : M → Signature) (turn : M → List ValueTree 
                 each t false = ap (want (wanted place views start new t p)) (sym (and_true (is_unanswered place views start new p t)))
 
             by_join : (b : Bool) (j : Joiner) → let kept : MemberRecord = if b then taken_in table (record m.performing.kept { phase = j }) else record m.performing.kept { phase = j } in
-                is_taken_in j kept.phase ≡ (b && not (is_fetching j) && is_fetching (after_table table j))
-            by_join true j = refl
-            by_join false j = not_both (is_fetching j)
+                kept.phase ≡ (if b && past.is_asking j then past.taken_in table else j)
+            by_join true j = once_tabled table j
+            by_join false j = refl
 
-            taken : is_taken_in m.performing.kept.phase (kept_by_table m.performing.kept request table).phase ≡ (is_join request && not (is_fetching (phase start p)) && is_fetching (after_table table (phase start p)))
-            taken = by_join (is_join request) m.performing.kept.phase ∙ ap (λ j. is_join request && not (is_fetching j) && is_fetching (after_table table j)) h.knows.phase_is
+            phase_then : (kept_by_table m.performing.kept request table).phase ≡ phase start (followed p at (comes.Told request table))
+            phase_then = by_join (is_join request) m.performing.kept.phase ∙ ap (λ j. if is_join request && past.is_asking j then past.taken_in table else j) h.knows.phase_is
+
+            taken : is_taken_in m.performing.kept.phase (kept_by_table m.performing.kept request table).phase
+                ≡ (not (is_fetching (phase start p)) && is_fetching (phase start (followed p at (comes.Told request table))))
+            taken = λ j. not (is_fetching (h.knows.phase_is j)) && is_fetching (phase_then j)
 
         handles_restored : (state : List ValueTree) (count : ℕ) → Handles (comes.Restored state count)
         handles_restored state count =
@@ -515,7 +477,7 @@ module _ {M : Type 0} (declared : M → Signature) (turn : M → List ValueTree 
           sym (replies_then call p may.1)
           ∙ reply_is (behaviour declared turn first m.performing.hosted) m.performing.began m.gathered m.performing.kept known_p.sound.kept known_p.linked p known_p.within place.troupe start call
 
-      handled_so : Handles p at may.0 r now_kept o
+      pub handled_so : Handles p at may.0 r now_kept o
       handled_so = handles_all p at may.0 r now_kept wants_then reply_then o
 
       -- the Lookups
@@ -525,7 +487,7 @@ module _ {M : Type 0} (declared : M → Signature) (turn : M → List ValueTree 
       due_is n (v ∷ vs) (b ∷ bs) long =
           ap (λ l. (if is_due place views start now_kept (left p at may.0 r now_kept o) q n v then n ∷ [] else []) ++ l) (due_is (n + 1) vs bs (omega (arith, long)))
 
-      lookups_are : knowing.lookups e.member.known ringmaster ≡ due place views start now_kept (left p at may.0 r now_kept o) q
+      pub lookups_are : knowing.lookups e.member.known ringmaster ≡ due place views start now_kept (left p at may.0 r now_kept o) q
       lookups_are =
           (λ j. knowing.lookups (s.same.known j) ringmaster)
           ∙ (λ j. if is_among (handled_so.downs j) ringmaster then [] else knowing.due_from 0 (handled_so.views_are j) (handled_so.wants j))
@@ -551,7 +513,7 @@ module _ {M : Type 0} (declared : M → Signature) (turn : M → List ValueTree 
 
     -- ---- over a past
 
-    asked_before : (b : Beginning) → AreAsked declared turn first lawful 0 [] (begun (at_boot declared turn first lawful place views hosted b))
+    asked_before : (b : Beginning) → AreAsked declared turn first lawful 0 [] (begun (at_boot declared turn first lawful place views hosted home b))
     asked_before Founder = refl
     asked_before Spare = refl
 
@@ -559,13 +521,13 @@ module _ {M : Type 0} (declared : M → Signature) (turn : M → List ValueTree 
     wants_before [] n = refl
     wants_before (v ∷ vs) n = ap (λ ws. want 0 false ∷ ws) (wants_before vs (n + 1))
 
-    known_before : (b : Beginning) → (at_boot declared turn first lawful place views hosted b).known ≡ knowing.at_boot views
+    known_before : (b : Beginning) → (at_boot declared turn first lawful place views hosted home b).known ≡ knowing.at_boot views
     known_before Founder = refl
     known_before Spare = refl
 
     pub asked_all : (p : Past) → MayLive declared turn first place views beginning hosted p → Requests p
     asked_all booted may =
-        let m = at_boot declared turn first lawful place views hosted beginning in
+        let m = at_boot declared turn first lawful place views hosted home beginning in
         let none = booted_keeps declared turn first lawful place views hosted home (AreAsked declared turn first lawful 0 []) (AreAsked declared turn first lawful 0 []) (asked_keeps declared turn first lawful 0 []) beginning (asked_before beginning) in
         let same = booted_keeps declared turn first lawful place views hosted home (Stays declared turn first lawful 0 m) (Stays declared turn first lawful 0 m) (stays_keeps declared turn first lawful 0 m) beginning (is_same m) in
         let is = same.known ∙ known_before beginning in

@@ -33,13 +33,14 @@ use Rattle.circus_timely.specs.First.{at_end, or_else}
 use Rattle.circus_owed.specs.Made.{is_caller, returns_to, at_most_one, asks, AreDistinct}
 use Rattle.circus_owed.specs.Owed.{IsReturned}
 use Rattle.circus_owed.specs.Returns.{first_of, was_started, run_of, reply_by, return_at, return_owed}
+use Rattle.circus_member_theory.proofs.Resting.{at_boot}
 use Rattle.circus_border_theory.proofs.Going.{begun}
 use Rattle.circus_owed_theory.specs.Living.{boots, made_in, made_by}
 use Rattle.circus_timely_theory.specs.Living.{phase_at_boot, after, MayLive}
-use Rattle.circus_owed_theory.proofs.Booting.{at_boot, booted_keeps}
+use Rattle.circus_owed_theory.proofs.Booting.{booted_keeps}
 use Rattle.circus_owed_theory.proofs.Callers.{returned, is_from, returned-append, returns-append, returns_in}
 use Rattle.circus_owed_theory.proofs.Distinct.{All-zip, IsNew, is_caller-refl, new_caller, new_before, new_now, other_asks}
-use Rattle.circus_owed_theory.proofs.Firsts.{first_followed, same_before, none_before}
+use Rattle.circus_timely_theory.proofs.Firsts.{first_is, same_first, none_first}
 use Rattle.circus_owed_theory.proofs.Going.{executed_keeps}
 use Rattle.circus_owed_theory.proofs.Grown.{AreGrown, grown_same}
 use Rattle.circus_owed_theory.proofs.Handling.{is_by, due, due_now, no_lookup, quiet_handled, neither, IsTold, WaitsOn, waits_handled, told_fresh, IsRefused, IsTaken, asked_handled}
@@ -210,14 +211,15 @@ module _ {M : Type 0} (declared : M → Signature) (turn : M → List ValueTree 
 
       earlier_same : (came : ℕ) (call : HeldCall) → return_owed place.troupe start (kept_after q) came call p ≡ return_owed place.troupe start (kept_after p) came call p
       earlier_same came call =
-          sym (same_before (return_at place.troupe start (kept_after p) came call) (return_at place.troupe start (kept_after q) came call) at p (rises declared turn first lawful place views beginning hosted p may.0) may.1
-          (λ r below. return_same at m.performing.kept e.member.performing.kept s.grown started_kept place.troupe start came call r below))
+          let later = may.1 in
+          sym (same_first (return_at place.troupe start (kept_after p) came call) (return_at place.troupe start (kept_after q) came call) (now p) p (rises declared turn first lawful place views beginning hosted p may.0) (omega arith)
+          (λ r below. return_same at m.performing.kept e.member.performing.kept s.grown started_kept place.troupe start came call r (omega (arith, below, later))))
 
       -- what is owed once the step is over
       owed_then : (came : ℕ) (call : HeldCall) (before : Option (ℕ × List ℕ)) (last : Option (List ℕ)) → return_owed place.troupe start (kept_after q) came call p ≡ before → return_at place.troupe start (kept_after q) came call q ≡ last
           → return_owed place.troupe start (kept_after q) came call q ≡ or_else before (at_end q last)
       owed_then came call before last was is =
-          first_followed (return_at place.troupe start (kept_after q) came call) p at o ∙ ap (λ x. or_else x (at_end q (return_at place.troupe start (kept_after q) came call q))) was ∙ ap (λ x. or_else before (at_end q x)) is
+          first_is (return_at place.troupe start (kept_after q) came call) q ∙ ap (λ x. or_else x (at_end q (return_at place.troupe start (kept_after q) came call q))) was ∙ ap (λ x. or_else before (at_end q x)) is
 
       pub quiet_executed : (c : Caller) (old : List (List ℕ)) → IsQuiet c old d → IsQuiet c old e
       quiet_executed c old quiet = executed_keeps declared turn first lawful at (IsQuiet c old) (IsQuiet c old) (quiet_keeps c declared turn first lawful at old) d s.sound quiet
@@ -346,8 +348,9 @@ module _ {M : Type 0} (declared : M → Signature) (turn : M → List ValueTree 
 
           none_owed : return_owed place.troupe start (kept_after (followed p at comes_now)) at call p ≡ None
           none_owed =
-              none_before (return_at place.troupe start (kept_after (followed p at comes_now)) at call) at p (rises declared turn first lawful place views beginning hosted p may.0) may.1
-              (λ r below. ap (λ b. shape call.header.server_incarnation (index_of place.troupe call.header) b (required r) (nat_eq at (now r)) (was_started (kept_after (followed p at comes_now)) (index_of place.troupe call.header) (now r)) (first_of (phase start r)) (reply_by place.troupe start (kept_after (followed p at comes_now)) call r)) (lt-ltb (now r) at below))
+              let later = may.1 in
+              none_first (return_at place.troupe start (kept_after (followed p at comes_now)) at call) (now p) p (rises declared turn first lawful place views beginning hosted p may.0) (omega arith)
+              (λ r below. ap (λ b. shape call.header.server_incarnation (index_of place.troupe call.header) b (required r) (nat_eq at (now r)) (was_started (kept_after (followed p at comes_now)) (index_of place.troupe call.header) (now r)) (first_of (phase start r)) (reply_by place.troupe start (kept_after (followed p at comes_now)) call r)) (lt-ltb (now r) at (omega (arith, below, later))))
 
           owed_new : return_at place.troupe start (kept_after (followed p at comes_now)) at call (followed p at comes_now)
               ≡ or_that (due_now (life p).gathered call) (option_map reply_message (reply_of (e p at comes_now may).member.gathered (index_of (e p at comes_now may).member.gathered.module call.header)))
@@ -380,7 +383,7 @@ module _ {M : Type 0} (declared : M → Signature) (turn : M → List ValueTree 
 
     -- ---- over a past
 
-    quiet_before : (c : Caller) (b : Beginning) → IsQuiet c [] (begun (at_boot declared turn first lawful place views hosted b))
+    quiet_before : (c : Caller) (b : Beginning) → IsQuiet c [] (begun (at_boot declared turn first lawful place views hosted home b))
     quiet_before c Founder = record { returns = refl; held = refl; requests = refl }
     quiet_before c Spare = record { returns = refl; held = refl; requests = refl }
 

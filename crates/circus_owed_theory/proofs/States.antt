@@ -41,7 +41,7 @@ use Rattle.circus_owed_theory.specs.Living.{made_by}
 use Rattle.circus_timely_theory.specs.Living.{phase_at_boot, after, MayLive}
 use Rattle.circus_owed_theory.proofs.Callers.{is_from, filter_twice, returned_passed}
 use Rattle.circus_owed_theory.proofs.Distinct.{All-zip, All-last, is_caller-refl, new_caller, other_requests}
-use Rattle.circus_owed_theory.proofs.Firsts.{first_followed, same_before, none_before}
+use Rattle.circus_timely_theory.proofs.Firsts.{first_is, same_first, none_first}
 use Rattle.circus_owed_theory.proofs.Going.{executed_keeps}
 use Rattle.circus_owed_theory.proofs.Handling.{is_by, tells, quiet_handled}
 use Rattle.circus_owed_theory.proofs.Lives.{rises, IsKnown, handles, executes, IsStepped, step_is, known}
@@ -160,11 +160,13 @@ module _ {M : Type 0} (declared : M → Signature) (turn : M → List ValueTree 
 
       earlier_same : (came : ℕ) → owes (kept_after q) came p ≡ owes (kept_after p) came p
       earlier_same came =
-          sym (same_before (snapshot_at start (first hosted) (kept_after p) came) (snapshot_at start (first hosted) (kept_after q) came) at p (rises declared turn first lawful place views beginning hosted p may.0) may.1 (same_at came))
+          let later = may.1 in
+          sym (same_first (snapshot_at start (first hosted) (kept_after p) came) (snapshot_at start (first hosted) (kept_after q) came) (now p) p (rises declared turn first lawful place views beginning hosted p may.0) (omega arith)
+          (λ r below. same_at came r (omega (arith, below, later))))
 
       owed_then : (came : ℕ) (before : Option (ℕ × List ℕ)) (last : Option (List ℕ)) → owes (kept_after q) came p ≡ before → snapshot_at start (first hosted) (kept_after q) came q ≡ last → owes (kept_after q) came q ≡ or_else before (at_end q last)
       owed_then came before last was is =
-          first_followed (snapshot_at start (first hosted) (kept_after q) came) p at o ∙ ap (λ x. or_else x (at_end q (snapshot_at start (first hosted) (kept_after q) came q))) was ∙ ap (λ x. or_else before (at_end q x)) is
+          first_is (snapshot_at start (first hosted) (kept_after q) came) q ∙ ap (λ x. or_else x (at_end q (snapshot_at start (first hosted) (kept_after q) came q))) was ∙ ap (λ x. or_else before (at_end q x)) is
 
       -- where the state was given in this step
       owed_given : (c x : Caller) (came : ℕ) → came ≤ at → IsGiven c x declared turn first lawful at d.member e
@@ -278,8 +280,9 @@ module _ {M : Type 0} (declared : M → Signature) (turn : M → List ValueTree 
           let required = max g.required incarnation in
           let passes : HeldCall → Bool = is_stale g required in
           let none_owed : owes (kept_after (followed p at comes_now)) at p ≡ None =
-          none_before (snapshot_at start (first hosted) (kept_after (followed p at comes_now)) at) at p (rises declared turn first lawful place views beginning hosted p may.0) may.1
-          (λ r below. ap (λ b. shape b (is_active (phase start r)) (list_all (λ run. has_ended run r) (runs_before (kept_after (followed p at comes_now)) r)) (first_of (phase start r)) (began start (first hosted) r) (runs_before (kept_after (followed p at comes_now)) r)) (lt-ltb (now r) at below)) in (
+          let later = may.1 in
+          none_first (snapshot_at start (first hosted) (kept_after (followed p at comes_now)) at) (now p) p (rises declared turn first lawful place views beginning hosted p may.0) (omega arith)
+          (λ r below. ap (λ b. shape b (is_active (phase start r)) (list_all (λ run. has_ended run r) (runs_before (kept_after (followed p at comes_now)) r)) (first_of (phase start r)) (began start (first hosted) r) (runs_before (kept_after (followed p at comes_now)) r)) (lt-ltb (now r) at (omega (arith, below, later)))) in (
             omega arith,
             fate p at comes_now may c c at (omega arith) silent.returns none_owed
                 (record {

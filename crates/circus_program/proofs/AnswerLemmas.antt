@@ -7,10 +7,10 @@ use Rattle.circus_config.specs.declared.plan.Plan.{Plan}
 use Rattle.circus_config.specs.Program.{IsProgramOf}
 use Rattle.circus_program.specs.declared.answer.Step.TheVariants.{Finish, Lack, Replay, Serve}
 use Rattle.circus_ending.specs.declared.one_file.OneFile.TheVariants.{Stubs, Run, Place}
-use Rattle.circus_program.specs.Form.{CommandForm, stubs, run, node, sample, settle, place, IsOfForm}
+use Rattle.circus_program.specs.Form.{CommandForm, stubs, run, node, sample, draw, settle, place, IsOfForm}
 use Rattle.circus_program.specs.declared.answer.Command.{Command}
 use Rattle.circus_program.specs.declared.answer.Command.TheVariants.{End, OfPlan}
-use Rattle.circus_program.specs.declared.answer.Task.TheVariants.{Sample, Settle, Node}
+use Rattle.circus_program.specs.declared.answer.Task.TheVariants.{Sample, Lines, Settle, Node}
 use Rattle.circus_program.specs.Answer.{Due, IsDueOfReplay, IsDueOfProgram, IsDue, AreFetchedOf, AsksFirstOf, AsksOnly}
 use Rattle.circus_program.specs.Seen.Built.{IsDueOfCommand, file_form}
 use Rattle.circus_program.specs.Seen.Step.{due_of, LacksNone, IsLackNoted, IsDueBehind, IsStepBehind, IsStepOfProgram, IsStepOfReplay, IsStepOfFile}
@@ -76,6 +76,8 @@ due-of_command shelf words (End Run) file due of h = inl (record { form = run fi
 due-of_command shelf words (End Place) file due of h = inl (record { form = place file; of_form = of; files = h.files; fetched = h.fetched; is_due = h.is_due })
 due-of_command shelf words (OfPlan (Sample seed steps)) file due of h =
     inl (record { form = sample file seed steps; of_form = of; files = h.files; fetched = h.fetched; is_due = h.is_due })
+due-of_command shelf words (OfPlan (Lines seed steps)) file due of h =
+    inl (record { form = draw file seed steps; of_form = of; files = h.files; fetched = h.fetched; is_due = h.is_due })
 due-of_command shelf words (OfPlan (Settle deliveries)) file due of h =
     inl (record { form = settle file deliveries; of_form = of; files = h.files; fetched = h.fetched; is_due = h.is_due })
 due-of_command shelf words (OfPlan (Node name turns)) file due of h =
@@ -93,6 +95,7 @@ asks-of_file old new words (End Stubs) file of h = inl (record { form = stubs fi
 asks-of_file old new words (End Run) file of h = inl (record { form = run file; of_form = of; asks = h })
 asks-of_file old new words (End Place) file of h = inl (record { form = place file; of_form = of; asks = h })
 asks-of_file old new words (OfPlan (Sample seed steps)) file of h = inl (record { form = sample file seed steps; of_form = of; asks = h })
+asks-of_file old new words (OfPlan (Lines seed steps)) file of h = inl (record { form = draw file seed steps; of_form = of; asks = h })
 asks-of_file old new words (OfPlan (Settle deliveries)) file of h = inl (record { form = settle file deliveries; of_form = of; asks = h })
 asks-of_file old new words (OfPlan (Node name turns)) file of h = inl (record { form = node file name.now turns; of_form = of; asks = h })
 

@@ -1,7 +1,7 @@
 -- Whether words are of a form can be told.
 use Rattle.std.proofs.Common.{◌≡◌, ◌≢◌, ℕ, ◌^◌, ◌⊎◌, ◌∙◌, inl, inr, List, [], ◌∷◌, subst, ap, refl, arith, codes}
 use Rattle.std.specs.Fmt.{decimal}
-use Rattle.circus_program.specs.Form.{CommandForm, stubs, run, replay, node, sample, settle, place, audit, IsOfForm, IsOfNoForm}
+use Rattle.circus_program.specs.Form.{CommandForm, stubs, run, replay, node, sample, draw, settle, place, audit, IsOfForm, IsOfNoForm}
 use Rattle.circus_program.proofs.Decided.{IsDecided, decided_as, decided_both, same_bytes, Some_below, decided_number}
 
 -- ---- so many words behind a command
@@ -83,9 +83,13 @@ module _ (words : List (List ℕ)) where
   sampled (program, seed, steps, spelled, (some, ((n, low, is), (m, few, are)))) =
       (sample program n m, record { spelled = spelled ∙ ap (λ w. codes "sample" ∷ program ∷ w ∷ steps ∷ []) is ∙ ap (λ w. codes "sample" ∷ program ∷ decimal n ∷ w ∷ []) are; in_range = (some, low, omega (arith, few)) })
 
+  drawn : Four IsSampled (codes "lines") words → (form : CommandForm) × IsOfForm words form
+  drawn (program, seed, steps, spelled, (some, ((n, low, is), (m, few, are)))) =
+      (draw program n m, record { spelled = spelled ∙ ap (λ w. codes "lines" ∷ program ∷ w ∷ steps ∷ []) is ∙ ap (λ w. codes "lines" ∷ program ∷ decimal n ∷ w ∷ []) are; in_range = (some, low, omega (arith, few)) })
+
   -- words that are of none of the forms
-  of_none : (Two IsFile (codes "stubs") words → ⊥) → (Two IsFile (codes "run") words → ⊥) → (Three AreFiles (codes "replay") words → ⊥) → (Four IsNode (codes "node") words → ⊥) → (Four IsSampled (codes "sample") words → ⊥) → (Three IsSettled (codes "settle") words → ⊥) → (Two IsFile (codes "place") words → ⊥) → (Three AreFiles (codes "audit") words → ⊥) → IsOfNoForm words
-  of_none no_stubs no_run no_replay no_node no_sample no_settle no_place no_audit = each
+  of_none : (Two IsFile (codes "stubs") words → ⊥) → (Two IsFile (codes "run") words → ⊥) → (Three AreFiles (codes "replay") words → ⊥) → (Four IsNode (codes "node") words → ⊥) → (Four IsSampled (codes "sample") words → ⊥) → (Four IsSampled (codes "lines") words → ⊥) → (Three IsSettled (codes "settle") words → ⊥) → (Two IsFile (codes "place") words → ⊥) → (Three AreFiles (codes "audit") words → ⊥) → IsOfNoForm words
+  of_none no_stubs no_run no_replay no_node no_sample no_lines no_settle no_place no_audit = each
     where
       each : (form : CommandForm) → IsOfForm words form → ⊥
       each (stubs program) is = no_stubs (program, is.spelled, is.in_range)
@@ -93,6 +97,7 @@ module _ (words : List (List ℕ)) where
       each (replay program schedule) is = no_replay (program, schedule, is.spelled, is.in_range)
       each (node program name turns) is = no_node (program, name, decimal turns, is.spelled, (is.in_range.0, (turns, omega (arith, is.in_range.1), refl)))
       each (sample program seed steps) is = no_sample (program, decimal seed, decimal steps, is.spelled, (is.in_range.0, ((seed, is.in_range.1, refl), (steps, omega (arith, is.in_range.2), refl))))
+      each (draw program seed steps) is = no_lines (program, decimal seed, decimal steps, is.spelled, (is.in_range.0, ((seed, is.in_range.1, refl), (steps, omega (arith, is.in_range.2), refl))))
       each (settle program deliveries) is = no_settle (program, decimal deliveries, is.spelled, (is.in_range.0, (deliveries, omega (arith, is.in_range.1), refl)))
       each (place placing) is = no_place (placing, is.spelled, is.in_range)
       each (audit program «record») is = no_audit (program, «record», is.spelled, is.in_range)
@@ -108,13 +113,16 @@ module _ (words : List (List ℕ)) where
           | inl is ↦ inl (noded is)
           | inr no_node ↦ elim (decided_four IsSampled (λ a b c. decided_both _ _ (file a) (decided_both _ _ (decided_number b (2 ^ 64)) (decided_number c 200001))) (codes "sample") words) [
             | inl is ↦ inl (sampled is)
-            | inr no_sample ↦ elim (decided_three IsSettled (λ a b. decided_both _ _ (file a) (decided_number b 1000001)) (codes "settle") words) [
-              | inl is ↦ inl (settled is)
-              | inr no_settle ↦ elim (decided_two IsFile file (codes "place") words) [
-                | inl (placing, spelled, some) ↦ inl (place placing, record { spelled = spelled; in_range = some })
-                | inr no_place ↦ elim (decided_three AreFiles (λ a b. decided_both _ _ (file a) (file b)) (codes "audit") words) [
-                  | inl (program, «record», spelled, some) ↦ inl (audit program «record», record { spelled = spelled; in_range = some })
-                  | inr no_audit ↦ inr (of_none no_stubs no_run no_replay no_node no_sample no_settle no_place no_audit)
+            | inr no_sample ↦ elim (decided_four IsSampled (λ a b c. decided_both _ _ (file a) (decided_both _ _ (decided_number b (2 ^ 64)) (decided_number c 200001))) (codes "lines") words) [
+              | inl is ↦ inl (drawn is)
+              | inr no_lines ↦ elim (decided_three IsSettled (λ a b. decided_both _ _ (file a) (decided_number b 1000001)) (codes "settle") words) [
+                | inl is ↦ inl (settled is)
+                | inr no_settle ↦ elim (decided_two IsFile file (codes "place") words) [
+                  | inl (placing, spelled, some) ↦ inl (place placing, record { spelled = spelled; in_range = some })
+                  | inr no_place ↦ elim (decided_three AreFiles (λ a b. decided_both _ _ (file a) (file b)) (codes "audit") words) [
+                    | inl (program, «record», spelled, some) ↦ inl (audit program «record», record { spelled = spelled; in_range = some })
+                    | inr no_audit ↦ inr (of_none no_stubs no_run no_replay no_node no_sample no_lines no_settle no_place no_audit)
+                  ]
                 ]
               ]
             ]

@@ -5,9 +5,9 @@ use Rattle.circus_ending.specs.declared.status.Status.TheVariants.{BadCommandLin
 use Rattle.circus_ending.specs.declared.one_file.OneFile.{OneFile}
 use Rattle.circus_ending.specs.declared.one_file.OneFile.TheVariants.{Stubs, Run, Place}
 use Rattle.circus_ending.specs.Ending.{Ending}
-use Rattle.circus_program.specs.Form.{CommandForm, stubs, run, replay, node, sample, settle, place, audit, IsOfForm}
-use Rattle.circus_program.specs.Answer.{Due, fetch, finish, serve, IsDueOfRefused, IsDueOfSchedule, IsDueOfReplay, IsDueOfFile, IsDueOfEnd, IsDueOfProgram, IsDueOfSample, IsDueOfSettle, IsDueOfNode, IsDueUnbuilt, IsDueOfForm, IsDue, AsksForNode}
-use Rattle.circus_program.proofs.Why.{never_ends, never_replays, never_drawn, never_settles, ends_as}
+use Rattle.circus_program.specs.Form.{CommandForm, stubs, run, replay, node, sample, draw, settle, place, audit, IsOfForm}
+use Rattle.circus_program.specs.Answer.{Due, fetch, finish, serve, IsDueOfRefused, IsDueOfSchedule, IsDueOfReplay, IsDueOfFile, IsDueOfEnd, IsDueOfProgram, IsDueOfSample, IsDueOfLines, IsDueOfSettle, IsDueOfNode, IsDueUnbuilt, IsDueOfForm, IsDue, AsksForNode}
+use Rattle.circus_program.proofs.Why.{never_ends, never_replays, never_drawn, never_listed, never_settles, ends_as}
 
 abbrev IsNode : CommandForm → Type 0
 IsNode (node _ _ _) = Unit {0}
@@ -15,6 +15,7 @@ IsNode (stubs _) = ⊥
 IsNode (run _) = ⊥
 IsNode (replay _ _) = ⊥
 IsNode (sample _ _ _) = ⊥
+IsNode (draw _ _ _) = ⊥
 IsNode (settle _ _) = ⊥
 IsNode (place _) = ⊥
 IsNode (audit _ _) = ⊥
@@ -60,6 +61,9 @@ module _ (form : CommandForm) where
   of_sample : (seed steps : ℕ) (plan : Plan) (due : Due) → IsDueOfSample seed steps plan due → Kind form due
   of_sample seed steps plan due is = finishes _ is (never_drawn LinkFault plan seed steps (λ same. cc) (λ same. cc))
 
+  of_lines : (seed steps : ℕ) (plan : Plan) (due : Due) → IsDueOfLines seed steps plan due → Kind form due
+  of_lines seed steps plan due is = finishes _ is (never_listed LinkFault plan seed steps (λ same. cc) (λ same. cc))
+
   of_settle : (deliveries : ℕ) (plan : Plan) (due : Due) → IsDueOfSettle deliveries plan due → Kind form due
   of_settle deliveries plan due is = finishes _ is (never_settles LinkFault plan deliveries (λ same. cc) (λ same. cc) (λ same. cc))
 
@@ -80,6 +84,8 @@ kind_of (node program name turns) files due is =
     of_program (node program name turns) program (IsDueOfNode name turns) files due (λ plan next. of_node (node program name turns) name turns plan due tt next) is
 kind_of (sample program seed steps) files due is =
     of_program (sample program seed steps) program (IsDueOfSample seed steps) files due (λ plan next. of_sample (sample program seed steps) seed steps plan due next) is
+kind_of (draw program seed steps) files due is =
+    of_program (draw program seed steps) program (IsDueOfLines seed steps) files due (λ plan next. of_lines (draw program seed steps) seed steps plan due next) is
 kind_of (settle program deliveries) files due is =
     of_program (settle program deliveries) program (IsDueOfSettle deliveries) files due (λ plan next. of_settle (settle program deliveries) deliveries plan due next) is
 kind_of (audit program «record») files due is = of_unbuilt (audit program «record») files due is
@@ -100,6 +106,7 @@ asks words (stubs _) of own = absurd own
 asks words (run _) of own = absurd own
 asks words (replay _ _) of own = absurd own
 asks words (sample _ _ _) of own = absurd own
+asks words (draw _ _ _) of own = absurd own
 asks words (settle _ _) of own = absurd own
 asks words (place _) of own = absurd own
 asks words (audit _ _) of own = absurd own

@@ -17,6 +17,9 @@ pub mod Why
 pub mod DueKinds
 pub mod Reports
 pub mod Simulated
+pub mod Replayed
+pub mod Telling
+pub mod Promised
 pub mod Agreed
 pub mod Planned
 pub mod PutLemmas

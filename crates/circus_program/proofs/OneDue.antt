@@ -15,9 +15,9 @@ use Rattle.circus_ending.specs.declared.one_file.OneFile.TheVariants.{Stubs, Run
 use Rattle.circus_ending.specs.Ending.{Ending}
 use Rattle.circus_ending.proofs.OneProgram.{refused_one, good_or_refused}
 use Rattle.circus_ending.proofs.OneEnding.{end_one}
-use Rattle.circus_program.specs.Form.{CommandForm, stubs, run, replay, node, sample, settle, place, audit, words_of, files_of, IsInRange, IsOfForm}
+use Rattle.circus_program.specs.Form.{CommandForm, stubs, run, replay, node, sample, draw, settle, place, audit, words_of, files_of, IsInRange, IsOfForm}
 use Rattle.circus_program.specs.Replay.{IsReplayOf, IsEndOfReplay}
-use Rattle.circus_program.specs.Answer.{Due, fetch, finish, serve, not_built, IsDueOfSchedule, IsDueOfReplay, IsDueOfFile, IsDueOfEnd, IsDueOfProgram, IsDueOfSample, IsDueOfSettle, IsDueOfNode, IsDueUnbuilt, IsDueOfForm, AreContents, IsDue}
+use Rattle.circus_program.specs.Answer.{Due, fetch, finish, serve, not_built, IsDueOfSchedule, IsDueOfReplay, IsDueOfFile, IsDueOfEnd, IsDueOfProgram, IsDueOfSample, IsDueOfLines, IsDueOfSettle, IsDueOfNode, IsDueUnbuilt, IsDueOfForm, AreContents, IsDue}
 use Rattle.circus_program.specs.Last.{IsLast, IsDueLast}
 use Rattle.circus_program.proofs.PlanOne.{plan_is_one}
 use Rattle.circus_program.proofs.NamedOnce.{named_once}
@@ -50,8 +50,9 @@ data Asked : Type 0 where
   reading : OneFile → List ℕ → Asked
   -- program, node's name, takes as they are written
   serving : List ℕ → List ℕ → List ℕ → Asked
-  -- program, seed and steps as they are written
+  -- program, seed and steps as they are written: of a sample, and of its lines
   sampling : List ℕ → List ℕ → List ℕ → Asked
+  drawing : List ℕ → List ℕ → List ℕ → Asked
   -- program, deliveries as they are written
   settling : List ℕ → List ℕ → Asked
   unbuilt : Asked
@@ -63,6 +64,7 @@ asked_by (stubs program) = reading Stubs program
 asked_by (run program) = reading Run program
 asked_by (node program name turns) = serving program name (decimal turns)
 asked_by (sample program seed steps) = sampling program (decimal seed) (decimal steps)
+asked_by (draw program seed steps) = drawing program (decimal seed) (decimal steps)
 asked_by (settle program deliveries) = settling program (decimal deliveries)
 asked_by (audit _ _) = unbuilt
 
@@ -73,7 +75,8 @@ asked_of (command ∷ file ∷ []) =
 asked_of (command ∷ program ∷ second ∷ []) =
     cond (bytes_eq command (codes "replay")) (replaying program second) (cond (bytes_eq command (codes "settle")) (settling program second) unbuilt)
 asked_of (command ∷ program ∷ first ∷ second ∷ []) =
-    cond (bytes_eq command (codes "node")) (serving program first second) (cond (bytes_eq command (codes "sample")) (sampling program first second) unbuilt)
+    cond (bytes_eq command (codes "node")) (serving program first second)
+    (cond (bytes_eq command (codes "sample")) (sampling program first second) (cond (bytes_eq command (codes "lines")) (drawing program first second) unbuilt))
 asked_of _ = unbuilt
 
 asked_is : (form : CommandForm) → asked_of (words_of form) ≡ asked_by form
@@ -83,6 +86,7 @@ asked_is (stubs _) = refl
 asked_is (run _) = refl
 asked_is (node _ _ _) = refl
 asked_is (sample _ _ _) = refl
+asked_is (draw _ _ _) = refl
 asked_is (settle _ _) = refl
 asked_is (audit _ _) = refl
 
@@ -122,6 +126,7 @@ module _ (contents : List ℕ → Option (List ℕ)) where
   OfWords (run program) due = OfFile program (IsDueOfEnd Run) due
   OfWords (node program name turns) due = OfProgram program (IsDueOfNode name turns) due
   OfWords (sample program seed steps) due = OfProgram program (IsDueOfSample seed steps) due
+  OfWords (draw program seed steps) due = OfProgram program (IsDueOfLines seed steps) due
   OfWords (settle program deliveries) due = OfProgram program (IsDueOfSettle deliveries) due
   OfWords (audit _ _) due = due ≡ not_built
 
@@ -130,6 +135,7 @@ module _ (contents : List ℕ → Option (List ℕ)) where
   OfAsked (reading command file) due = OfFile file (IsDueOfEnd command) due
   OfAsked (serving program name word) due = (turns : ℕ) × Spells word turns × OfProgram program (IsDueOfNode name turns) due
   OfAsked (sampling program first second) due = (seed : ℕ) × (steps : ℕ) × Spells first seed × Spells second steps × OfProgram program (IsDueOfSample seed steps) due
+  OfAsked (drawing program first second) due = (seed : ℕ) × (steps : ℕ) × Spells first seed × Spells second steps × OfProgram program (IsDueOfLines seed steps) due
   OfAsked (settling program word) due = (deliveries : ℕ) × Spells word deliveries × OfProgram program (IsDueOfSettle deliveries) due
   OfAsked unbuilt due = due ≡ not_built
 
@@ -162,6 +168,7 @@ module _ (contents : List ℕ → Option (List ℕ)) where
   of_form (run file) files due fetched is last = of_file file (IsDueOfEnd Run) files due fetched is last
   of_form (node program name turns) files due fetched is last = of_file program (IsDueOfProgram (IsDueOfNode name turns)) files due fetched is last
   of_form (sample program seed steps) files due fetched is last = of_file program (IsDueOfProgram (IsDueOfSample seed steps)) files due fetched is last
+  of_form (draw program seed steps) files due fetched is last = of_file program (IsDueOfProgram (IsDueOfLines seed steps)) files due fetched is last
   of_form (settle program deliveries) files due fetched is last = of_file program (IsDueOfProgram (IsDueOfSettle deliveries)) files due fetched is last
   of_form (audit _ _) files due fetched is last = of_unbuilt files due is
 
@@ -172,6 +179,7 @@ module _ (contents : List ℕ → Option (List ℕ)) where
   of_asked (run file) due range of = of
   of_asked (node program name turns) due range of = (turns, (refl, omega (arith, range.1)), of)
   of_asked (sample program seed steps) due range of = (seed, steps, (refl, range.1), (refl, omega (arith, range.2)), of)
+  of_asked (draw program seed steps) due range of = (seed, steps, (refl, range.1), (refl, omega (arith, range.2)), of)
   of_asked (settle program deliveries) due range of = (deliveries, (refl, omega (arith, range.1)), of)
   of_asked (audit _ _) due range of = of
 
@@ -215,6 +223,9 @@ module _ (contents : List ℕ → Option (List ℕ)) where
   one_of_sample : (program : List ℕ) (seed steps : ℕ) (one other : Due) → OfProgram program (IsDueOfSample seed steps) one → OfProgram program (IsDueOfSample seed steps) other → one ≡ other
   one_of_sample program seed steps one other is also = one_of_program program (IsDueOfSample seed steps) (λ bytes plan first second means so too. so ∙ sym too) one other is also
 
+  one_of_lines : (program : List ℕ) (seed steps : ℕ) (one other : Due) → OfProgram program (IsDueOfLines seed steps) one → OfProgram program (IsDueOfLines seed steps) other → one ≡ other
+  one_of_lines program seed steps one other is also = one_of_program program (IsDueOfLines seed steps) (λ bytes plan first second means so too. so ∙ sym too) one other is also
+
   one_of_settle : (program : List ℕ) (deliveries : ℕ) (one other : Due) → OfProgram program (IsDueOfSettle deliveries) one → OfProgram program (IsDueOfSettle deliveries) other → one ≡ other
   one_of_settle program deliveries one other is also = one_of_program program (IsDueOfSettle deliveries) (λ bytes plan first second means so too. so ∙ sym too) one other is also
 
@@ -227,6 +238,9 @@ module _ (contents : List ℕ → Option (List ℕ)) where
   one_of_asked (sampling program first second) one other (seed, steps, seeds, counts, is) (seed', steps', seeds', counts', also) =
       one_of_sample program seed' steps' one other
       (subst (λ n. OfProgram program (IsDueOfSample n steps') one) (spelled_once first seed seed' seeds seeds') (subst (λ n. OfProgram program (IsDueOfSample seed n) one) (spelled_once second steps steps' counts counts') is)) also
+  one_of_asked (drawing program first second) one other (seed, steps, seeds, counts, is) (seed', steps', seeds', counts', also) =
+      one_of_lines program seed' steps' one other
+      (subst (λ n. OfProgram program (IsDueOfLines n steps') one) (spelled_once first seed seed' seeds seeds') (subst (λ n. OfProgram program (IsDueOfLines seed n) one) (spelled_once second steps steps' counts counts') is)) also
   one_of_asked (settling program word) one other (deliveries, spelled, is) (others, again, also) =
       one_of_settle program others one other (subst (λ n. OfProgram program (IsDueOfSettle n) one) (spelled_once word deliveries others spelled again) is) also
   one_of_asked unbuilt one other is also = is ∙ sym also

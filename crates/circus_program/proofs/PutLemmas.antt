@@ -14,7 +14,7 @@ use Rattle.circus_config.specs.declared.plan.Plan.{Plan}
 use Rattle.circus_log.specs.Outside.{Tells}
 use Rattle.circus_simulated.specs.Seen.Simulated.{world_of}
 use Rattle.circus_served.specs.NodeEnds.{IsEndOfServing}
-use Rattle.circus_program.specs.Answer.{AsksForNode, finish, Finishes, Lacks, IsText, IsDue, WasLast, WritesEnd, shelf_fault}
+use Rattle.circus_program.specs.Answer.{AsksForNode, finish, Finishes, Lacks, IsText, IsDue, WasLast, shelf_fault}
 use Rattle.circus_program.specs.Seen.Put.{IsPut, IsFinished, IsAnswer}
 use Rattle.circus_record.specs.Naming.{names_of}
 use Rattle.circus_program.specs.Seen.Ready.{end_of_ready}
@@ -55,10 +55,6 @@ status_of-code_of NotBuilt = refl
 status_of-code_of Unsettled = refl
 status_of-code_of BadPlacing = refl
 status_of-code_of NoPlacement = refl
-
--- a number is that of one status
-pub one_status : (s t : Status) (code : ℕ) → code ≡ code_of s → code ≡ code_of t → s ≡ t
-one_status s t code is also = sym (status_of-code_of s) ∙ ap status_of (sym is ∙ also) ∙ status_of-code_of t
 
 -- what is no end
 no_end : (s : Status) → is_end s ≡ false → IsTrue (is_end s) → ⊥
@@ -216,12 +212,6 @@ module _ (shelf : Option (List ℕ → Option (List ℕ))) (words : List (List �
       answer-lack result name.now due noted.1 (rose noted.0) (subst (λ (e : Ending). IsGiven e.status e.text old new SinkRose result) written.0 given)
   answer-step (Serve plan number turns) ending before after result due stands noted rose linked written given =
       answer-finish ending.status result ending.text (serving_is_end plan number turns told tells ending written) (λ failed same. linked failed tt) (inr (plan, number, turns, due, written)) given
-
-  -- the end with a number was written
-  pub ended_as : (result s : Status) (code : ℕ) → Answers result → code ≡ code_of result → IsTrue (is_end s) → code ≡ code_of s → WritesEnd shelf words told tells old new s
-  ended_as result s code answer coded is_one is =
-      let same : result ≡ s = one_status result s code coded is in
-      subst (λ (t : Status). WritesEnd shelf words told tells old new t) same (answer.ended (subst (λ (t : Status). IsTrue (is_end t)) (sym same) is_one))
 
 pub answered : (shelf : Option (List ℕ → Option (List ℕ))) (words : List (List ℕ)) (fetched : Option (List (List ℕ))) (step : Step) (asked asks : ℕ) (told tells : Tells) (LinkRose : Type 0) (old middle new : Option (List ℕ)) (before between after : ℕ) (status result : Status)
     → IsDue shelf words (due_of step) → Stands step → IsLackNoted fetched asked asks step

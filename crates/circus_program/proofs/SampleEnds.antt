@@ -1,4 +1,4 @@
--- How samples end.
+-- How samples end, and their lines.
 use Rattle.std.proofs.Common.{◌≡◌, ℕ, ◌⊎◌, inl, inr, refl, ap, ◌∙◌, Ok, Err}
 use Rattle.circus_model.specs.Behaviour.{Behaviour}
 use Rattle.circus_alike.specs.Alike.{declared_of, turn_of}
@@ -10,6 +10,7 @@ use Rattle.circus_ending.specs.declared.status.Status.{Status}
 use Rattle.circus_ending.specs.declared.status.Status.TheVariants.{Done, Spent}
 use Rattle.circus_simulated.specs.Booted.{booted, names_in, after_step}
 use Rattle.circus_simulated.specs.Sample.{summed, sample_in, sample_of}
+use Rattle.circus_simulated.specs.Schedule.{lines_in, drawn, schedule_in, schedule_of}
 use Rattle.circus_program.specs.Last.{HasSpentSample}
 
 -- what it comes to behind boot, and behind its last line
@@ -40,3 +41,16 @@ sample_status plan seed steps =
 pub sample_spent : (plan : Plan) (seed steps : ℕ) → HasSpentSample plan seed steps → (sample_of plan seed steps).status ≡ Spent
 sample_spent plan seed steps (inl (nodes, is)) = ap (from_boot plan seed steps) is
 sample_spent plan seed steps (inr (w, is, (nodes, spent))) = ap (from_boot plan seed steps) is ∙ ap (from_last plan steps) spent
+
+-- the lines end as the sample does
+pub lines_end_alike : (plan : Plan) (seed steps : ℕ) → (schedule_of plan seed steps).status ≡ (sample_of plan seed steps).status
+lines_end_alike plan seed steps =
+    elim (booted plan) as (λ s. (after_step (names_in plan) (schedule_in (names_in plan) seed steps) s).status ≡ from_boot plan seed steps s) [
+      | Ok w ↦ behind_boot w (sampled declared_of turn_of steps seed w)
+      | Err nodes ↦ refl
+    ]
+  where
+    behind_boot : (w : WorldState Behaviour) (s : Stepped Behaviour)
+        → (after_step (names_in plan) (λ last. drawn (names_in plan) (lines_in seed steps w)) s).status ≡ from_last plan steps s
+    behind_boot w (Ok last) = refl
+    behind_boot w (Err nodes) = refl

@@ -14,7 +14,7 @@ use Rattle.circus_schedule.specs.declared.schedule_fault.ScheduleFault.TheVarian
 use Rattle.circus_world.specs.WorldState.{WorldState}
 use Rattle.circus_world.specs.Course.{Stepped}
 use Rattle.circus_world.specs.Lines.{Lead}
-use Rattle.circus_sample.specs.Sampled.{sampled}
+use Rattle.circus_sample.specs.Sampled.{lines_behind, sampled}
 use Rattle.circus_sample.specs.Summary.{summary}
 use Rattle.circus_sample.specs.Seen.Stepping.{NoneCrashed}
 use Rattle.circus_sample.proofs.Stepping.{samples_lead}
@@ -30,15 +30,17 @@ use Rattle.circus_ending.specs.Ending.{Ending}
 use Rattle.circus_load.specs.Loaded.{behaviours_in, hosted_by}
 use Rattle.circus_simulated.specs.Booted.{booted, names_in, after_step}
 use Rattle.circus_simulated.specs.Sample.{summed, sample_in, sample_of}
+use Rattle.circus_simulated.specs.Schedule.{lines_in, lines_of_sample, drawn, schedule_in, schedule_of}
 use Rattle.circus_simulated.specs.Settle.{budget, settled_end, after_settling, settle_in, settle_of}
 use Rattle.circus_simulated.proofs.Stepping.{booted_joins}
-use Rattle.circus_program.specs.Form.{CommandForm, stubs, run, replay, node, sample, settle, place, audit, words_of, IsOfForm}
+use Rattle.circus_program.specs.Form.{CommandForm, stubs, run, replay, node, sample, draw, settle, place, audit, words_of, IsOfForm}
 use Rattle.circus_program.specs.Replay.{IsEndOfReplay, replay_of}
 use Rattle.circus_program.specs.Answer.{Due, fetch, finish, IsDue}
 use Rattle.circus_program.specs.Last.{IsDueLast}
 use Rattle.circus_program.specs.Worlds.{IsSimulation, AskToSimulate, IsOfWorld}
 use Rattle.circus_program.proofs.OneDue.{of_form, OfProgram, OfSchedule, OfWords}
 use Rattle.circus_program.proofs.Reports.{is_reported}
+use Rattle.circus_program.proofs.SampleEnds.{lines_end_alike}
 
 -- ---- what a seed draws
 
@@ -66,7 +68,7 @@ boots_live plan w is =
     ) in
     none_crashed w new.untouched
 
-boots_nodes : (plan : Plan) (w : WorldState Behaviour) → booted plan ≡ Ok w → length w.nodes ≡ length plan.deployment.nodes
+pub boots_nodes : (plan : Plan) (w : WorldState Behaviour) → booted plan ≡ Ok w → length w.nodes ≡ length plan.deployment.nodes
 boots_nodes plan w is =
     let modules = behaviours_in plan in
     let joined = booted_joins declared_of turn_of first_of (map (hosted_by modules) plan.deployment.nodes) plan.deployment modules w is in
@@ -76,19 +78,20 @@ boots_nodes plan w is =
 has_node : (text : List ℕ) (plan : Plan) → IsProgramOf text plan → 1 ≤ length plan.deployment.nodes
 has_node text plan means = subst (λ (d : Deployment). 1 ≤ length d.nodes) (sym means.deployment) (omega arith)
 
-record IsDrawn (plan : Plan) (seed steps : ℕ) (text : List ℕ) : Type 0 where
-  lines : List Line
-  begun : WorldState Behaviour
-  last : WorldState Behaviour
-  booted_is : booted plan ≡ Ok begun
-  sampled_is : sampled declared_of turn_of steps seed begun ≡ Ok last
-  count : length lines ≡ steps
-  lead : Lead declared_of turn_of lines begun last
-  written : text ≡ summary (names_in plan) steps last
+-- the lines of a sample, where all are stepped, what is written of it, and of them
+pub record IsDrawn (plan : Plan) (seed steps : ℕ) : Type 0 where
+  pub begun : WorldState Behaviour
+  pub last : WorldState Behaviour
+  pub booted_is : booted plan ≡ Ok begun
+  pub sampled_is : sampled declared_of turn_of steps seed begun ≡ Ok last
+  pub count : length (lines_of_sample plan seed steps) ≡ steps
+  pub lead : Lead declared_of turn_of (lines_of_sample plan seed steps) begun last
+  pub summed_is : sample_of plan seed steps ≡ record { status = Done; text = summary (names_in plan) steps last }
+  pub listed_is : schedule_of plan seed steps ≡ drawn (names_in plan) (lines_of_sample plan seed steps)
 
-drawn : (plan : Plan) (seed steps : ℕ) → 1 ≤ length plan.deployment.nodes → (sample_of plan seed steps).status ≡ Done → IsDrawn plan seed steps (sample_of plan seed steps).text
-drawn plan seed steps some done =
-    elim (booted plan) as (λ s. booted plan ≡ s → (end s).status ≡ Done → IsDrawn plan seed steps (end s).text) [
+pub is_drawn : (plan : Plan) (seed steps : ℕ) → 1 ≤ length plan.deployment.nodes → (sample_of plan seed steps).status ≡ Done → IsDrawn plan seed steps
+is_drawn plan seed steps some done =
+    elim (booted plan) as (λ s. booted plan ≡ s → (end s).status ≡ Done → IsDrawn plan seed steps) [
       | Err nodes ↦ λ is same. absurd (let clash : Spent ≡ Done = same in cc)
       | Ok w ↦ λ is same. behind_boot w is same
     ] refl done
@@ -96,14 +99,27 @@ drawn plan seed steps some done =
     end : Stepped Behaviour → Ending
     end s = after_step (names_in plan) (sample_in (names_in plan) seed steps) s
 
-    behind_boot : (w : WorldState Behaviour) → booted plan ≡ Ok w → (sample_in (names_in plan) seed steps w).status ≡ Done → IsDrawn plan seed steps (sample_in (names_in plan) seed steps w).text
+    behind_boot : (w : WorldState Behaviour) → booted plan ≡ Ok w → (sample_in (names_in plan) seed steps w).status ≡ Done → IsDrawn plan seed steps
     behind_boot w is same =
         elim (sampled declared_of turn_of steps seed w) as (λ s. sampled declared_of turn_of steps seed w ≡ s → (after_step (names_in plan) (summed (names_in plan) steps) s).status ≡ Done
-        → IsDrawn plan seed steps (after_step (names_in plan) (summed (names_in plan) steps) s).text) [
+        → IsDrawn plan seed steps) [
           | Err nodes ↦ λ whole out. absurd (let clash : Spent ≡ Done = out in cc)
           | Ok last ↦ λ whole all.
               let lines = samples_lead declared_of turn_of steps seed w last (boots_live plan w is) (omega (arith, some, boots_nodes plan w is)) whole in
-              record { lines = lines.0; begun = w; last = last; booted_is = is; sampled_is = whole; count = lines.1; lead = lines.2; written = refl }
+              let same : lines_in seed steps w ≡ lines_of_sample plan seed steps = ap (lines_behind (lines_in seed steps)) (sym is) in
+              record {
+                begun = w;
+                last = last;
+                booted_is = is;
+                sampled_is = whole;
+                count = subst (λ (l : List Line). length l ≡ steps) same lines.0;
+                lead = subst (λ (l : List Line). Lead declared_of turn_of l w last) same lines.1;
+                summed_is = ap end is ∙ ap (after_step (names_in plan) (summed (names_in plan) steps)) whole;
+                listed_is =
+                    ap (after_step (names_in plan) (schedule_in (names_in plan) seed steps)) is
+                    ∙ ap (after_step (names_in plan) (λ (after : WorldState Behaviour). drawn (names_in plan) (lines_in seed steps w))) whole
+                    ∙ ap (drawn (names_in plan)) same;
+              }
         ] refl same
 
 -- ---- what is delivered
@@ -159,7 +175,7 @@ module _ (plan : Plan) (deliveries : ℕ) where
 
 -- ---- of a form
 
-same_end : (one other : Ending) → finish one ≡ finish other → one ≡ other
+pub same_end : (one other : Ending) → finish one ≡ finish other → one ≡ other
 same_end one other is = cc
 
 -- it is done, so its status is no other one
@@ -216,9 +232,9 @@ module _ (contents : List ℕ → Option (List ℕ)) (words : List (List ℕ)) (
   sample_written : (program : List ℕ) (seed steps : ℕ) → IsOfForm words (sample program seed steps) → IsFound program (λ plan due. due ≡ finish (sample_of plan seed steps)) → Written
   sample_written program seed steps of f =
       let whole : ending ≡ sample_of f.plan seed steps = same_end ending (sample_of f.plan seed steps) f.next in
-      let d = drawn f.plan seed steps (has_node f.bytes f.plan f.good) (sym (ap (λ (e : Ending). e.status) whole) ∙ done) in (
+      let d = is_drawn f.plan seed steps (has_node f.bytes f.plan f.good) (sym (ap (λ (e : Ending). e.status) whole) ∙ done) in (
         f.plan,
-        d.lines,
+        lines_of_sample f.plan seed steps,
         d.last,
         record {
           led = record { begun = d.begun; booted_is = d.booted_is; lead = d.lead };
@@ -227,11 +243,36 @@ module _ (contents : List ℕ → Option (List ℕ)) (words : List (List ℕ)) (
             steps,
             d.begun,
             record { program = program; of_form = of; bytes = f.bytes; program_is = f.there; good = f.good },
+            refl,
             d.count,
             d.booted_is,
             d.sampled_is,
-            ap (λ (e : Ending). e.text) whole ∙ d.written,
+            ap (λ (e : Ending). e.text) (whole ∙ d.summed_is),
           ));
+        },
+      )
+
+  lines_written : (program : List ℕ) (seed steps : ℕ) → IsOfForm words (draw program seed steps) → IsFound program (λ plan due. due ≡ finish (schedule_of plan seed steps)) → Written
+  lines_written program seed steps of f =
+      let whole : ending ≡ schedule_of f.plan seed steps = same_end ending (schedule_of f.plan seed steps) f.next in
+      let ends = sym (lines_end_alike f.plan seed steps) ∙ sym (ap (λ (e : Ending). e.status) whole) ∙ done in
+      let d = is_drawn f.plan seed steps (has_node f.bytes f.plan f.good) ends in (
+        f.plan,
+        lines_of_sample f.plan seed steps,
+        d.last,
+        record {
+          led = record { begun = d.begun; booted_is = d.booted_is; lead = d.lead };
+          written = inr (inr (inr (
+            seed,
+            steps,
+            d.begun,
+            record { program = program; of_form = of; bytes = f.bytes; program_is = f.there; good = f.good },
+            refl,
+            d.count,
+            d.booted_is,
+            d.sampled_is,
+            ap (λ (e : Ending). e.text) (whole ∙ d.listed_is),
+          )));
         },
       )
 
@@ -244,19 +285,20 @@ module _ (contents : List ℕ → Option (List ℕ)) (words : List (List ℕ)) (
         m.last,
         record {
           led = record { begun = m.begun; booted_is = m.booted_is; lead = m.lead };
-          written = inr (inr (
+          written = inr (inr (inl (
             deliveries,
             record { program = program; of_form = of; bytes = f.bytes; program_is = f.there; good = f.good },
             m.few,
             refl,
             ap (λ (e : Ending). e.text) whole ∙ m.written,
-          ));
+          )));
         },
       )
 
   form_written : (form : CommandForm) → IsOfForm words form → IsSimulation form → OfWords contents form (finish ending) → Written
   form_written (replay program name) of simulates is = replay_written program name of (found program (OfSchedule contents name) is)
   form_written (sample program seed steps) of simulates is = sample_written program seed steps of (found program (λ plan due. due ≡ finish (sample_of plan seed steps)) is)
+  form_written (draw program seed steps) of simulates is = lines_written program seed steps of (found program (λ plan due. due ≡ finish (schedule_of plan seed steps)) is)
   form_written (settle program deliveries) of simulates is = settle_written program deliveries of (found program (λ plan due. due ≡ finish (settle_of plan deliveries)) is)
   form_written (stubs _) of simulates is = absurd simulates
   form_written (run _) of simulates is = absurd simulates
@@ -269,12 +311,14 @@ module _ (contents : List ℕ → Option (List ℕ)) (words : List (List ℕ)) (
 -- the first of them tells
 pub asks : List (List ℕ) → Bool
 asks [] = false
-asks (command ∷ _) = bytes_eq command (codes "replay") || (bytes_eq command (codes "sample") || bytes_eq command (codes "settle"))
+asks (command ∷ _) =
+    bytes_eq command (codes "replay") || (bytes_eq command (codes "sample") || (bytes_eq command (codes "settle") || bytes_eq command (codes "lines")))
 
 pub asking : (form : CommandForm) → IsSimulation form → asks (words_of form) ≡ true
 unfolding asks
 asking (replay _ _) simulates = refl
 asking (sample _ _ _) simulates = refl
+asking (draw _ _ _) simulates = refl
 asking (settle _ _) simulates = refl
 asking (stubs _) simulates = absurd simulates
 asking (run _) simulates = absurd simulates
@@ -286,6 +330,7 @@ pub asked : (form : CommandForm) → asks (words_of form) ≡ true → IsSimulat
 unfolding asks
 asked (replay _ _) is = tt
 asked (sample _ _ _) is = tt
+asked (draw _ _ _) is = tt
 asked (settle _ _) is = tt
 asked (stubs _) is = absurd (let clash : false ≡ true = is in cc)
 asked (run _) is = absurd (let clash : false ≡ true = is in cc)

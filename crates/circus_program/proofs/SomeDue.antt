@@ -3,9 +3,10 @@ use Rattle.std.proofs.Common.{◌≡◌, ℕ, ◌⊎◌, inl, inr, Option, Some,
 use Rattle.circus_config.specs.declared.plan.Plan.{Plan}
 use Rattle.circus_config.specs.Program.{IsProgramOf}
 use Rattle.circus_simulated.specs.Sample.{sample_of}
+use Rattle.circus_simulated.specs.Schedule.{schedule_of}
 use Rattle.circus_simulated.specs.Settle.{settle_of}
 use Rattle.circus_served.specs.Named.{no_node}
-use Rattle.circus_program.specs.Form.{CommandForm, stubs, run, replay, node, sample, settle, place, audit, files_of, IsOfForm}
+use Rattle.circus_program.specs.Form.{CommandForm, stubs, run, replay, node, sample, draw, settle, place, audit, files_of, IsOfForm}
 use Rattle.circus_program.specs.Answer.{Due, fetch, finish, serve, not_built, bad_command_line, IsDueOfForm, AreContents}
 use Rattle.circus_program.specs.Last.{IsLast, IsDueLast, file_read, IsToBeRead, IsScheduleAnswered, IsAnswered}
 use Rattle.circus_program.proofs.DecidedWords.{decided_form}
@@ -42,6 +43,7 @@ module _ (contents : List ℕ → Option (List ℕ)) where
   comes_to (run program) = first_file (run program) program refl (λ none. record { due = fetch program; files = []; fetched = tt; is_due = refl; last = none })
   comes_to (node program name turns) = first_file (node program name turns) program refl (λ none. record { due = fetch program; files = []; fetched = tt; is_due = refl; last = none })
   comes_to (sample program seed steps) = first_file (sample program seed steps) program refl (λ none. record { due = fetch program; files = []; fetched = tt; is_due = refl; last = none })
+  comes_to (draw program seed steps) = first_file (draw program seed steps) program refl (λ none. record { due = fetch program; files = []; fetched = tt; is_due = refl; last = none })
   comes_to (settle program deliveries) = first_file (settle program deliveries) program refl (λ none. record { due = fetch program; files = []; fetched = tt; is_due = refl; last = none })
   comes_to (audit _ _) = inl (record { due = not_built; files = []; fetched = tt; is_due = refl; last = tt })
 
@@ -101,6 +103,10 @@ module _ (contents : List ℕ → Option (List ℕ)) where
   comes_read (sample program seed steps) name bytes first there (inl (plan, means)) =
       record { due = finish (sample_of plan seed steps); files = bytes ∷ []; fetched = (same_name name program bytes first there, tt); is_due = inl (plan, means, refl); last = tt }
   comes_read (sample program seed steps) name bytes first there (inr (ending, refused)) =
+      record { due = finish ending; files = bytes ∷ []; fetched = (same_name name program bytes first there, tt); is_due = inr (ending, refused, refl); last = tt }
+  comes_read (draw program seed steps) name bytes first there (inl (plan, means)) =
+      record { due = finish (schedule_of plan seed steps); files = bytes ∷ []; fetched = (same_name name program bytes first there, tt); is_due = inl (plan, means, refl); last = tt }
+  comes_read (draw program seed steps) name bytes first there (inr (ending, refused)) =
       record { due = finish ending; files = bytes ∷ []; fetched = (same_name name program bytes first there, tt); is_due = inr (ending, refused, refl); last = tt }
   comes_read (settle program deliveries) name bytes first there (inl (plan, means)) =
       record { due = finish (settle_of plan deliveries); files = bytes ∷ []; fetched = (same_name name program bytes first there, tt); is_due = inl (plan, means, refl); last = tt }

@@ -5,7 +5,7 @@ use Rattle.circus_schedule.specs.Meaning.{numbers_of}
 use Rattle.circus_schedule.specs.Answer.{IsAnswer}
 use Rattle.circus_ending.specs.declared.status.Status.{Status}
 use Rattle.circus_ending.specs.declared.status.Status.TheVariants.{Done, BadCommandLine, BadProgram, BadSchedule, Spent, NotBuilt, Unsettled, BadPlacing, NoPlacement}
-use Rattle.circus_program.specs.Form.{CommandForm, stubs, run, replay, node, sample, settle, place, audit, files_of, IsOfForm, IsOfNoForm}
+use Rattle.circus_program.specs.Form.{CommandForm, stubs, run, replay, node, sample, draw, settle, place, audit, files_of, IsOfForm, IsOfNoForm}
 use Rattle.circus_ending.specs.Ending.{Ending}
 use Rattle.circus_config.specs.declared.plan.Plan.{Plan}
 use Rattle.circus_config.specs.declared.program_fault.ProgramCause.{ProgramCause}
@@ -18,13 +18,14 @@ use Rattle.circus_ending.specs.Placed.{IsEndOfPlacing}
 use Rattle.circus_ending.specs.OneFile.{IsEndOf}
 use Rattle.circus_program.specs.Replay.{IsEndOfReplay}
 use Rattle.circus_simulated.specs.Sample.{sample_of}
+use Rattle.circus_simulated.specs.Schedule.{schedule_of}
 use Rattle.circus_simulated.specs.Settle.{settle_of}
 use Rattle.circus_served.specs.Named.{no_node}
-use Rattle.circus_program.specs.Answer.{Due, fetch, finish, serve, not_built, bad_command_line, IsDueOfEnd, IsDueOfSample, IsDueOfSettle, IsDueOfNode, IsDueOfForm, AreContents, IsDue}
+use Rattle.circus_program.specs.Answer.{Due, fetch, finish, serve, not_built, bad_command_line, IsDueOfEnd, IsDueOfSample, IsDueOfLines, IsDueOfSettle, IsDueOfNode, IsDueOfForm, AreContents, IsDue}
 use Rattle.circus_program.specs.Seen.Built.{end_form}
-use Rattle.circus_program.specs.Last.{IsLast, IsDueLast, EndsWith, program_read, IsRefusedProgram, IsNameless, IsReplay, IsRefusedReplay, IsSpentReplay, IsSample, IsSpentSample, IsSettle, IsSpentSettle, IsUnsettled, IsUnbuilt, IsNotBuilt}
+use Rattle.circus_program.specs.Last.{IsLast, IsDueLast, EndsWith, program_read, IsRefusedProgram, IsNameless, IsReplay, IsRefusedReplay, IsSample, IsLines, IsSettle, IsSpent, IsUnsettled, IsUnbuilt, IsNotBuilt}
 use Rattle.circus_program.proofs.ReplayEnds.{Refuses, Spends, IsStatusOfReplay, replay_status, Ends, ends_refused, ends_spent}
-use Rattle.circus_program.proofs.SampleEnds.{sample_status, sample_spent}
+use Rattle.circus_program.proofs.SampleEnds.{sample_status, sample_spent, lines_end_alike}
 use Rattle.circus_program.proofs.SettleEnds.{settle_status, settle_spent, settle_left}
 use Rattle.circus_program.proofs.OneDue.{of_form, OfProgram, OfFile, OfSchedule, OfWords, one_due}
 
@@ -84,6 +85,10 @@ never_drawn status plan seed steps no_done no_spent same = elim (sample_status p
   | inl done ↦ no_done (sym done ∙ same)
   | inr (spent, why) ↦ no_spent (sym spent ∙ same)
 ]
+
+-- nor with its lines
+pub never_listed : (status : Status) (plan : Plan) (seed steps : ℕ) → (Done ≡ status → ⊥) → (Spent ≡ status → ⊥) → (schedule_of plan seed steps).status ≡ status → ⊥
+never_listed status plan seed steps no_done no_spent same = never_drawn status plan seed steps no_done no_spent (sym (lines_end_alike plan seed steps) ∙ same)
 
 -- a status that no program ends with whose datagrams are delivered
 pub never_settles : (status : Status) (plan : Plan) (deliveries : ℕ) → (Done ≡ status → ⊥) → (Unsettled ≡ status → ⊥) → (Spent ≡ status → ⊥) → (settle_of plan deliveries).status ≡ status → ⊥
@@ -147,6 +152,7 @@ data Comes (contents : List ℕ → Option (List ℕ)) (words : List (List ℕ))
   unbuilt : IsNotBuilt words → due ≡ not_built → Comes contents words due
   replayed : (plan : Plan) (schedule : List ℕ) (ending : Ending) → IsReplay contents words plan schedule → IsEndOfReplay plan schedule ending → due ≡ finish ending → Comes contents words due
   drawn : (plan : Plan) (seed steps : ℕ) → IsSample contents words plan seed steps → due ≡ finish (sample_of plan seed steps) → Comes contents words due
+  listed : (plan : Plan) (seed steps : ℕ) → IsLines contents words plan seed steps → due ≡ finish (schedule_of plan seed steps) → Comes contents words due
   settles : (plan : Plan) (deliveries : ℕ) → IsSettle contents words plan deliveries → due ≡ finish (settle_of plan deliveries) → Comes contents words due
   served : (plan : Plan) (number turns : ℕ) → due ≡ serve plan number turns → Comes contents words due
   nameless : (name : List ℕ) → IsNameless contents words → due ≡ finish (no_node name) → Comes contents words due
@@ -186,6 +192,9 @@ module _ (contents : List ℕ → Option (List ℕ)) (words : List (List ℕ)) w
   comes_form (sample program seed steps) due form of =
       comes_program (sample program seed steps) program (IsDueOfSample seed steps) due form refl
       (λ bytes plan there good next. drawn plan seed steps (record { program = program; of_form = form; bytes = bytes; program_is = there; good = good }) next) of
+  comes_form (draw program seed steps) due form of =
+      comes_program (draw program seed steps) program (IsDueOfLines seed steps) due form refl
+      (λ bytes plan there good next. listed plan seed steps (record { program = program; of_form = form; bytes = bytes; program_is = there; good = good }) next) of
   comes_form (settle program deliveries) due form of =
       comes_program (settle program deliveries) program (IsDueOfSettle deliveries) due form refl
       (λ bytes plan there good next. settles plan deliveries (record { program = program; of_form = form; bytes = bytes; program_is = there; good = good }) next) of
@@ -207,6 +216,7 @@ module _ (contents : List ℕ → Option (List ℕ)) (words : List (List ℕ)) w
   why_words due (replayed plan schedule ending of end is) ends =
       absurd (never_replays BadCommandLine plan schedule ending end (λ same. cc) (λ same. cc) (λ same. cc) (ends_as BadCommandLine due ending is ends))
   why_words due (drawn plan seed steps of is) ends = absurd (never_drawn BadCommandLine plan seed steps (λ same. cc) (λ same. cc) (ends_as BadCommandLine due _ is ends))
+  why_words due (listed plan seed steps of is) ends = absurd (never_listed BadCommandLine plan seed steps (λ same. cc) (λ same. cc) (ends_as BadCommandLine due _ is ends))
   why_words due (settles plan deliveries of is) ends = absurd (never_settles BadCommandLine plan deliveries (λ same. cc) (λ same. cc) (λ same. cc) (ends_as BadCommandLine due _ is ends))
   why_words due (served plan number turns is) ends = never_serves BadCommandLine due plan number turns is ends
   why_words due (nameless name of is) ends = absurd (let clash : BadProgram ≡ BadCommandLine = ends_as BadCommandLine due _ is ends in cc)
@@ -235,6 +245,7 @@ module _ (contents : List ℕ → Option (List ℕ)) (words : List (List ℕ)) w
   why_program due (replayed plan schedule ending of end is) ends =
       absurd (never_replays BadProgram plan schedule ending end (λ same. cc) (λ same. cc) (λ same. cc) (ends_as BadProgram due ending is ends))
   why_program due (drawn plan seed steps of is) ends = absurd (never_drawn BadProgram plan seed steps (λ same. cc) (λ same. cc) (ends_as BadProgram due _ is ends))
+  why_program due (listed plan seed steps of is) ends = absurd (never_listed BadProgram plan seed steps (λ same. cc) (λ same. cc) (ends_as BadProgram due _ is ends))
   why_program due (settles plan deliveries of is) ends = absurd (never_settles BadProgram plan deliveries (λ same. cc) (λ same. cc) (λ same. cc) (ends_as BadProgram due _ is ends))
   why_program due (served plan number turns is) ends = never_serves BadProgram due plan number turns is ends
   why_program due (nameless name of is) ends = inr of
@@ -248,6 +259,7 @@ module _ (contents : List ℕ → Option (List ℕ)) (words : List (List ℕ)) w
   why_schedule due (replayed plan schedule ending of end is) ends =
       record { plan = plan; schedule = schedule; replayed = of; refused = replay_refused plan schedule ending end (ends_as BadSchedule due ending is ends) }
   why_schedule due (drawn plan seed steps of is) ends = absurd (never_drawn BadSchedule plan seed steps (λ same. cc) (λ same. cc) (ends_as BadSchedule due _ is ends))
+  why_schedule due (listed plan seed steps of is) ends = absurd (never_listed BadSchedule plan seed steps (λ same. cc) (λ same. cc) (ends_as BadSchedule due _ is ends))
   why_schedule due (settles plan deliveries of is) ends = absurd (never_settles BadSchedule plan deliveries (λ same. cc) (λ same. cc) (λ same. cc) (ends_as BadSchedule due _ is ends))
   why_schedule due (served plan number turns is) ends = never_serves BadSchedule due plan number turns is ends
   why_schedule due (nameless name of is) ends = absurd (let clash : BadProgram ≡ BadSchedule = ends_as BadSchedule due _ is ends in cc)
@@ -256,7 +268,7 @@ module _ (contents : List ℕ → Option (List ℕ)) (words : List (List ℕ)) w
   why_schedule due (ended command file bytes ending form there end is) ends =
       absurd (never_ends BadSchedule command bytes ending end (λ same. cc) (λ same. cc) (λ same. cc) (λ same. cc) (ends_as BadSchedule due ending is ends))
 
-  why_spent : (due : Due) → Comes contents words due → EndsWith Spent due → IsSpentReplay contents words ⊎ (IsSpentSample contents words ⊎ IsSpentSettle contents words)
+  why_spent : (due : Due) → Comes contents words due → EndsWith Spent due → IsSpent contents words
   why_spent due (nothing none is) ends = absurd (let clash : BadCommandLine ≡ Spent = ends_as Spent due _ is ends in cc)
   why_spent due (lacking name is) ends = never_fetch Spent due name is ends
   why_spent due (unbuilt why is) ends = absurd (let clash : NotBuilt ≡ Spent = ends_as Spent due _ is ends in cc)
@@ -270,7 +282,11 @@ module _ (contents : List ℕ → Option (List ℕ)) (words : List (List ℕ)) w
   why_spent due (settles plan deliveries of is) ends = elim (settle_status plan deliveries) [
     | inl done ↦ absurd (let clash : Done ≡ Spent = sym done ∙ ends_as Spent due _ is ends in cc)
     | inr (inl (left, why)) ↦ absurd (let clash : Unsettled ≡ Spent = sym left ∙ ends_as Spent due _ is ends in cc)
-    | inr (inr (spent, why)) ↦ inr (inr (record { plan = plan; deliveries = deliveries; settles = of; spent = why }))
+    | inr (inr (spent, why)) ↦ inr (inr (inl (record { plan = plan; deliveries = deliveries; settles = of; spent = why })))
+  ]
+  why_spent due (listed plan seed steps of is) ends = elim (sample_status plan seed steps) [
+    | inl done ↦ absurd (let clash : Done ≡ Spent = sym done ∙ sym (lines_end_alike plan seed steps) ∙ ends_as Spent due _ is ends in cc)
+    | inr (spent, why) ↦ inr (inr (inr (record { plan = plan; seed = seed; steps = steps; drawn = of; spent = why })))
   ]
   why_spent due (served plan number turns is) ends = never_serves Spent due plan number turns is ends
   why_spent due (nameless name of is) ends = absurd (let clash : BadProgram ≡ Spent = ends_as Spent due _ is ends in cc)
@@ -286,6 +302,7 @@ module _ (contents : List ℕ → Option (List ℕ)) (words : List (List ℕ)) w
   why_unbuilt due (replayed plan schedule ending of end is) ends =
       absurd (never_replays NotBuilt plan schedule ending end (λ same. cc) (λ same. cc) (λ same. cc) (ends_as NotBuilt due ending is ends))
   why_unbuilt due (drawn plan seed steps of is) ends = absurd (never_drawn NotBuilt plan seed steps (λ same. cc) (λ same. cc) (ends_as NotBuilt due _ is ends))
+  why_unbuilt due (listed plan seed steps of is) ends = absurd (never_listed NotBuilt plan seed steps (λ same. cc) (λ same. cc) (ends_as NotBuilt due _ is ends))
   why_unbuilt due (settles plan deliveries of is) ends = absurd (never_settles NotBuilt plan deliveries (λ same. cc) (λ same. cc) (λ same. cc) (ends_as NotBuilt due _ is ends))
   why_unbuilt due (served plan number turns is) ends = never_serves NotBuilt due plan number turns is ends
   why_unbuilt due (nameless name of is) ends = absurd (let clash : BadProgram ≡ NotBuilt = ends_as NotBuilt due _ is ends in cc)
@@ -301,6 +318,7 @@ module _ (contents : List ℕ → Option (List ℕ)) (words : List (List ℕ)) w
   why_unsettled due (replayed plan schedule ending of end is) ends =
       absurd (never_replays Unsettled plan schedule ending end (λ same. cc) (λ same. cc) (λ same. cc) (ends_as Unsettled due ending is ends))
   why_unsettled due (drawn plan seed steps of is) ends = absurd (never_drawn Unsettled plan seed steps (λ same. cc) (λ same. cc) (ends_as Unsettled due _ is ends))
+  why_unsettled due (listed plan seed steps of is) ends = absurd (never_listed Unsettled plan seed steps (λ same. cc) (λ same. cc) (ends_as Unsettled due _ is ends))
   why_unsettled due (settles plan deliveries of is) ends = elim (settle_status plan deliveries) [
     | inl done ↦ absurd (let clash : Done ≡ Unsettled = sym done ∙ ends_as Unsettled due _ is ends in cc)
     | inr (inl (left, why)) ↦ record { plan = plan; deliveries = deliveries; settles = of; left = why }
@@ -343,6 +361,7 @@ module _ (contents : List ℕ → Option (List ℕ)) (words : List (List ℕ)) w
       by_form (place _) of is = absurd cc
       by_form (node program name turns) of is = due_of_form (node program name turns) (has.bytes ∷ []) (finish (refused_with has.number has.cause)) of (found program is, tt) (inr (refused_with has.number has.cause, refusal, refl)) tt
       by_form (sample program seed steps) of is = due_of_form (sample program seed steps) (has.bytes ∷ []) (finish (refused_with has.number has.cause)) of (found program is, tt) (inr (refused_with has.number has.cause, refusal, refl)) tt
+      by_form (draw program seed steps) of is = due_of_form (draw program seed steps) (has.bytes ∷ []) (finish (refused_with has.number has.cause)) of (found program is, tt) (inr (refused_with has.number has.cause, refusal, refl)) tt
       by_form (settle program deliveries) of is = due_of_form (settle program deliveries) (has.bytes ∷ []) (finish (refused_with has.number has.cause)) of (found program is, tt) (inr (refused_with has.number has.cause, refusal, refl)) tt
       by_form (audit _ _) of is = absurd cc
 
@@ -371,8 +390,13 @@ module _ (contents : List ℕ → Option (List ℕ)) (words : List (List ℕ)) w
   unsettled : (due : Due) → IsDueLast contents words due → IsUnsettled contents words → EndsWith Unsettled due
   unsettled due is has = settle_due Unsettled has.plan has.deliveries due is has.settles (settle_left has.plan has.deliveries has.left)
 
-  spent : (due : Due) → IsDueLast contents words due → IsSpentReplay contents words ⊎ (IsSpentSample contents words ⊎ IsSpentSettle contents words) → EndsWith Spent due
-  spent due is (inr (inr has)) = settle_due Spent has.plan has.deliveries due is has.settles (settle_spent has.plan has.deliveries has.spent)
+  spent : (due : Due) → IsDueLast contents words due → IsSpent contents words → EndsWith Spent due
+  spent due is (inr (inr (inr has))) =
+      let d = has.drawn in
+      let end = schedule_of has.plan has.seed has.steps in
+      let other = due_of_form (draw d.program has.seed has.steps) (d.bytes ∷ []) (finish end) d.of_form (d.program_is, tt) (inl (has.plan, d.good, refl)) tt in
+      same_status Spent due (finish end) is other (lines_end_alike has.plan has.seed has.steps ∙ sample_spent has.plan has.seed has.steps has.spent)
+  spent due is (inr (inr (inl has))) = settle_due Spent has.plan has.deliveries due is has.settles (settle_spent has.plan has.deliveries has.spent)
   spent due is (inr (inl has)) =
       let d = has.drawn in
       let end = sample_of has.plan has.seed has.steps in
@@ -387,6 +411,7 @@ module _ (contents : List ℕ → Option (List ℕ)) (words : List (List ℕ)) w
   unbuilt_form (run _) un = absurd un
   unbuilt_form (node _ _ _) un = absurd un
   unbuilt_form (sample _ _ _) un = absurd un
+  unbuilt_form (draw _ _ _) un = absurd un
   unbuilt_form (settle _ _) un = absurd un
   unbuilt_form (audit _ _) un = refl
 
@@ -405,7 +430,7 @@ module _ (contents : List ℕ → Option (List ℕ)) (words : List (List ℕ)) w
   pub schedule_why : (due : Due) → IsDueLast contents words due → (EndsWith BadSchedule due ↔ IsRefusedReplay contents words)
   schedule_why due is = (why_schedule due (comes_to due is), bad_schedule due is)
 
-  pub spent_why : (due : Due) → IsDueLast contents words due → (EndsWith Spent due ↔ (IsSpentReplay contents words ⊎ (IsSpentSample contents words ⊎ IsSpentSettle contents words)))
+  pub spent_why : (due : Due) → IsDueLast contents words due → (EndsWith Spent due ↔ IsSpent contents words)
   spent_why due is = (why_spent due (comes_to due is), spent due is)
 
   pub unbuilt_why : (due : Due) → IsDueLast contents words due → (EndsWith NotBuilt due ↔ IsNotBuilt words)

@@ -15,7 +15,7 @@ use Rattle.circus_simulated.specs.Booted.{names_in}
 use Rattle.circus_program.specs.Form.{CommandForm, IsOfForm}
 use Rattle.circus_program.specs.Replay.{replay_of}
 use Rattle.circus_program.specs.Last.{program_read, IsReplay, IsSample, IsSettle}
-use Rattle.circus_program.specs.Worlds.{IsSpentAtBoot, IsSimulation, AskToSimulate}
+use Rattle.circus_program.specs.Worlds.{IsSpentAtBoot, IsSimulation, AskForRecords}
 
 -- the report of facts
 abbrev pub reported : Plan → Facts → List ℕ
@@ -68,10 +68,10 @@ ArePlans contents words =
     (form : CommandForm) (program bytes : List ℕ) (plan : Plan) → IsOfForm words form → IsSimulation form → program_read form ≡ Some program
     → contents program ≡ Some bytes → IsProgramOf bytes plan → IsPlan plan
 
--- where the shelf tells its contents, and the words ask to simulate a program, what was written is agreed
+-- where the shelf tells its contents, and the words ask for what tells records, what was written is agreed
 abbrev pub WritesAgreed : Option (List ℕ → Option (List ℕ)) → List (List ℕ) → Option (List ℕ) → Option (List ℕ) → Type 0
 WritesAgreed shelf words old new =
-    IfSome shelf (λ contents. AskToSimulate words → (text : List ℕ) × Writes old new text × IsAgreed contents words text)
+    IfSome shelf (λ contents. AskForRecords words → (text : List ℕ) × Writes old new text × IsAgreed contents words text)
 
 -- the same of a replay of lines that end too early
 abbrev pub WritesAgreedSoFar : Option (List ℕ → Option (List ℕ)) → List (List ℕ) → Option (List ℕ) → Option (List ℕ) → Type 0

@@ -3,7 +3,7 @@ use Rattle.std.specs.Prelude.{ℕ, ◌≡◌, ◌⊎◌, Option, Some, List, [],
 use Rattle.circus_outside.specs.Told.{told_more}
 use Rattle.circus_ending.specs.declared.status.Status.{Status}
 use Rattle.circus_ending.specs.declared.status.Status.TheVariants.{BadCommandLine, NotBuilt}
-use Rattle.circus_program.specs.Form.{CommandForm, stubs, run, replay, node, sample, settle, place, audit, IsOfForm, IsOfNoForm, files_of}
+use Rattle.circus_program.specs.Form.{CommandForm, stubs, run, replay, node, sample, draw, settle, place, audit, IsOfForm, IsOfNoForm, files_of}
 use Rattle.circus_ending.specs.Ending.{Ending}
 use Rattle.circus_program.specs.Replay.{IsEndOfReplay}
 use Rattle.circus_config.specs.declared.plan.Plan.{Plan}
@@ -16,6 +16,7 @@ use Rattle.circus_ending.specs.OneFile.{IsEndOf}
 use Rattle.circus_record.specs.Line.{line}
 use Rattle.circus_log.specs.Outside.{Tells}
 use Rattle.circus_simulated.specs.Sample.{sample_of}
+use Rattle.circus_simulated.specs.Schedule.{schedule_of}
 use Rattle.circus_simulated.specs.Settle.{settle_of}
 use Rattle.circus_served.specs.Named.{IsNamed, no_node}
 use Rattle.circus_served.specs.NodeEnds.{IsEndOfServing}
@@ -67,6 +68,10 @@ IsDueOfProgram IsNext bytes due = ((plan : Plan) × IsProgramOf bytes plan × Is
 abbrev pub IsDueOfSample : ℕ → ℕ → Plan → Due → Type 0
 IsDueOfSample seed steps plan due = due ≡ finish (sample_of plan seed steps)
 
+-- what is due of the lines of a sample of a plan
+abbrev pub IsDueOfLines : ℕ → ℕ → Plan → Due → Type 0
+IsDueOfLines seed steps plan due = due ≡ finish (schedule_of plan seed steps)
+
 -- what is due of a plan of which so many datagrams at most are delivered
 abbrev pub IsDueOfSettle : ℕ → Plan → Due → Type 0
 IsDueOfSettle deliveries plan due = due ≡ finish (settle_of plan deliveries)
@@ -89,6 +94,7 @@ IsDueOfForm (stubs program) files due = IsDueOfFile program (IsDueOfEnd Stubs) f
 IsDueOfForm (run program) files due = IsDueOfFile program (IsDueOfEnd Run) files due
 IsDueOfForm (node program name turns) files due = IsDueOfFile program (IsDueOfProgram (IsDueOfNode name turns)) files due
 IsDueOfForm (sample program seed steps) files due = IsDueOfFile program (IsDueOfProgram (IsDueOfSample seed steps)) files due
+IsDueOfForm (draw program seed steps) files due = IsDueOfFile program (IsDueOfProgram (IsDueOfLines seed steps)) files due
 IsDueOfForm (settle program deliveries) files due = IsDueOfFile program (IsDueOfProgram (IsDueOfSettle deliveries)) files due
 IsDueOfForm (place placing) files due = IsDueOfFile placing (IsDueOfEnd Place) files due
 IsDueOfForm (audit _ _) files due = IsDueUnbuilt files due

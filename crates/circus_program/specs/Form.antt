@@ -14,6 +14,8 @@ pub data CommandForm : Type 0 where
   node : List ℕ → List ℕ → ℕ → CommandForm
   -- program, seed, steps
   sample : List ℕ → ℕ → ℕ → CommandForm
+  -- program, seed, steps; asked for by the word lines
+  draw : List ℕ → ℕ → ℕ → CommandForm
   -- program, deliveries
   settle : List ℕ → ℕ → CommandForm
   -- placing
@@ -28,6 +30,7 @@ words_of (run program) = codes "run" ∷ program ∷ []
 words_of (replay program schedule) = codes "replay" ∷ program ∷ schedule ∷ []
 words_of (node program name turns) = codes "node" ∷ program ∷ name ∷ decimal turns ∷ []
 words_of (sample program seed steps) = codes "sample" ∷ program ∷ decimal seed ∷ decimal steps ∷ []
+words_of (draw program seed steps) = codes "lines" ∷ program ∷ decimal seed ∷ decimal steps ∷ []
 words_of (settle program deliveries) = codes "settle" ∷ program ∷ decimal deliveries ∷ []
 words_of (place placing) = codes "place" ∷ placing ∷ []
 words_of (audit program «record») = codes "audit" ∷ program ∷ «record» ∷ []
@@ -51,6 +54,7 @@ IsInRange (run program) = program ≢ []
 IsInRange (replay program schedule) = (program ≢ []) × (schedule ≢ [])
 IsInRange (node program name turns) = (program ≢ []) × (turns ≤ most_turns)
 IsInRange (sample program seed steps) = (program ≢ []) × (seed < 2 ^ 64) × (steps ≤ most_steps)
+IsInRange (draw program seed steps) = (program ≢ []) × (seed < 2 ^ 64) × (steps ≤ most_steps)
 IsInRange (settle program deliveries) = (program ≢ []) × (deliveries ≤ most_deliveries)
 IsInRange (place placing) = placing ≢ []
 IsInRange (audit program «record») = (program ≢ []) × («record» ≢ [])
@@ -71,6 +75,7 @@ files_of (run program) = program ∷ []
 files_of (replay program schedule) = program ∷ schedule ∷ []
 files_of (node program name turns) = program ∷ []
 files_of (sample program seed steps) = program ∷ []
+files_of (draw program seed steps) = program ∷ []
 files_of (settle program deliveries) = program ∷ []
 files_of (place placing) = placing ∷ []
 files_of (audit program «record») = program ∷ «record» ∷ []

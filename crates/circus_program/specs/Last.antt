@@ -10,7 +10,7 @@ use Rattle.circus_world.specs.WorldState.{WorldState}
 use Rattle.circus_world.specs.Legal.{refusal}
 use Rattle.circus_world.specs.Course.{stepped}
 use Rattle.circus_ending.specs.declared.status.Status.{Status}
-use Rattle.circus_program.specs.Form.{CommandForm, stubs, run, replay, node, sample, settle, place, audit, IsOfForm}
+use Rattle.circus_program.specs.Form.{CommandForm, stubs, run, replay, node, sample, draw, settle, place, audit, IsOfForm}
 use Rattle.circus_program.specs.Replay.{IsEndOfReplay}
 use Rattle.circus_world.specs.Lines.{Lead}
 use Rattle.circus_sample.specs.Sampled.{sampled}
@@ -69,6 +69,7 @@ file_read (replay program _) = Some program
 file_read (place placing) = Some placing
 file_read (node program _ _) = Some program
 file_read (sample program _ _) = Some program
+file_read (draw program _ _) = Some program
 file_read (settle program _) = Some program
 file_read (audit _ _) = None
 
@@ -96,6 +97,7 @@ IsAnswered contents (run _) bytes = (ending : Ending) × IsEndOf Run bytes endin
 IsAnswered contents (place _) bytes = (ending : Ending) × IsEndOf Place bytes ending
 IsAnswered contents (node _ _ _) bytes = IsGood bytes ⊎ ((ending : Ending) × IsEndOfRefused bytes ending)
 IsAnswered contents (sample _ _ _) bytes = IsGood bytes ⊎ ((ending : Ending) × IsEndOfRefused bytes ending)
+IsAnswered contents (draw _ _ _) bytes = IsGood bytes ⊎ ((ending : Ending) × IsEndOfRefused bytes ending)
 IsAnswered contents (settle _ _) bytes = IsGood bytes ⊎ ((ending : Ending) × IsEndOfRefused bytes ending)
 IsAnswered contents (audit _ _) bytes = ⊥
 
@@ -107,6 +109,7 @@ program_read (replay program _) = Some program
 program_read (place _) = None
 program_read (node program _ _) = Some program
 program_read (sample program _ _) = Some program
+program_read (draw program _ _) = Some program
 program_read (settle program _) = Some program
 program_read (audit _ _) = None
 
@@ -183,6 +186,22 @@ pub record IsSpentSample (contents : List ℕ → Option (List ℕ)) (words : Li
   pub drawn : IsSample contents words plan seed steps
   pub spent : HasSpentSample plan seed steps
 
+-- the words ask for the lines of a sample of a program that means this plan
+pub record IsLines (contents : List ℕ → Option (List ℕ)) (words : List (List ℕ)) (plan : Plan) (seed steps : ℕ) : Type 0 where
+  pub program : List ℕ
+  pub of_form : IsOfForm words (draw program seed steps)
+  pub bytes : List ℕ
+  pub program_is : contents program ≡ Some bytes
+  pub good : IsProgramOf bytes plan
+
+-- lines in whose steps a node has no number left for another one
+pub record IsSpentLines (contents : List ℕ → Option (List ℕ)) (words : List (List ℕ)) : Type 0 where
+  pub plan : Plan
+  pub seed : ℕ
+  pub steps : ℕ
+  pub drawn : IsLines contents words plan seed steps
+  pub spent : HasSpentSample plan seed steps
+
 -- the words are to settle a program that means this plan, with so many deliveries at most
 pub record IsSettle (contents : List ℕ → Option (List ℕ)) (words : List (List ℕ)) (plan : Plan) (deliveries : ℕ) : Type 0 where
   pub program : List ℕ
@@ -203,6 +222,12 @@ pub record IsSpentSettle (contents : List ℕ → Option (List ℕ)) (words : Li
   pub deliveries : ℕ
   pub settles : IsSettle contents words plan deliveries
   pub spent : HasSpentSettle plan deliveries
+
+-- a simulation in which a node has no number left for another one
+abbrev pub IsSpent : (List ℕ → Option (List ℕ)) → List (List ℕ) → Type 0
+IsSpent contents words =
+    IsSpentReplay contents words
+    ⊎ (IsSpentSample contents words ⊎ (IsSpentSettle contents words ⊎ IsSpentLines contents words))
 
 -- so many deliveries lead from boot to a world in which datagrams are left
 abbrev pub HasLeft : Plan → ℕ → Type 0
@@ -225,6 +250,7 @@ IsUnbuilt (stubs _) = ⊥
 IsUnbuilt (run _) = ⊥
 IsUnbuilt (node _ _ _) = ⊥
 IsUnbuilt (sample _ _ _) = ⊥
+IsUnbuilt (draw _ _ _) = ⊥
 IsUnbuilt (settle _ _) = ⊥
 IsUnbuilt (audit _ _) = Unit {0}
 

@@ -4,4 +4,8 @@ pub mod Answer
 pub mod Last
 pub mod Worlds
 pub mod Agreeing
+pub mod Replayed
+pub mod Promise
+pub mod Told
+pub mod Answered
 pub mod Seen

@@ -4,6 +4,7 @@ use Rattle.circus_model.specs.Behaviour.{Behaviour}
 use Rattle.circus_record.specs.Naming.{Names}
 use Rattle.circus_schedule.specs.declared.line.Line.{Line}
 use Rattle.circus_schedule.specs.Meaning.{numbers_of}
+use Rattle.circus_schedule.specs.ScheduleText.{lines_text}
 use Rattle.circus_schedule.specs.Answer.{IsAnswer}
 use Rattle.circus_world.specs.declared.cause.LineCause.{LineCause}
 use Rattle.circus_world.specs.WorldState.{WorldState}
@@ -18,9 +19,10 @@ use Rattle.circus_settle.specs.Summary.{settled_text}
 use Rattle.circus_config.specs.declared.plan.Plan.{Plan}
 use Rattle.circus_ending.specs.Spent.{spent}
 use Rattle.circus_simulated.specs.Booted.{booted, names_in}
-use Rattle.circus_program.specs.Form.{CommandForm, stubs, run, replay, node, sample, settle, place, audit, IsOfForm}
+use Rattle.circus_simulated.specs.Schedule.{lines_of_sample}
+use Rattle.circus_program.specs.Form.{CommandForm, stubs, run, replay, node, sample, draw, settle, place, audit, IsOfForm}
 use Rattle.circus_program.specs.Replay.{cause_text, refused}
-use Rattle.circus_program.specs.Last.{IsReplay, IsSample, IsSettle}
+use Rattle.circus_program.specs.Last.{IsReplay, IsSample, IsLines, IsSettle}
 
 -- lines lead from boot to a world
 pub record AreLed (plan : Plan) (lines : List Line) (last : WorldState Behaviour) : Type 0 where
@@ -76,6 +78,7 @@ IsSpentAtBoot plan text = (nodes : ℕ × ℕ) × (booted plan ≡ Err nodes) ×
 abbrev pub IsSimulation : CommandForm → Type 0
 IsSimulation (replay _ _) = Unit {0}
 IsSimulation (sample _ _ _) = Unit {0}
+IsSimulation (draw _ _ _) = Unit {0}
 IsSimulation (settle _ _) = Unit {0}
 IsSimulation (stubs _) = ⊥
 IsSimulation (run _) = ⊥
@@ -87,17 +90,41 @@ IsSimulation (audit _ _) = ⊥
 abbrev pub AskToSimulate : List (List ℕ) → Type 0
 AskToSimulate words = (form : CommandForm) × IsOfForm words form × IsSimulation form
 
+-- the form is that of one of which the records of members are written
+abbrev pub TellsRecords : CommandForm → Type 0
+TellsRecords (replay _ _) = Unit {0}
+TellsRecords (sample _ _ _) = Unit {0}
+TellsRecords (settle _ _) = Unit {0}
+TellsRecords (draw _ _ _) = ⊥
+TellsRecords (stubs _) = ⊥
+TellsRecords (run _) = ⊥
+TellsRecords (node _ _ _) = ⊥
+TellsRecords (place _) = ⊥
+TellsRecords (audit _ _) = ⊥
+
+-- the words are of such a form
+abbrev pub AskForRecords : List (List ℕ) → Type 0
+AskForRecords words = (form : CommandForm) × IsOfForm words form × TellsRecords form
+
 -- the lines of the schedule, and the report of the world to which they lead
 abbrev pub IsWrittenByReplay : (List ℕ → Option (List ℕ)) → List (List ℕ) → Plan → List Line → WorldState Behaviour → List ℕ → Type 0
 IsWrittenByReplay contents words plan lines last text =
     (schedule : List ℕ) × IsReplay contents words plan schedule × IsAnswer (numbers_of plan.deployment.nodes) schedule (Ok lines)
     × (text ≡ report_text (names_in plan) last)
 
--- as many lines as were drawn, and the summary of the world to which they lead, which is the one that the seed gives
+-- the lines that the seed draws, so many, and the summary of the world to which they lead
 abbrev pub IsWrittenBySample : (List ℕ → Option (List ℕ)) → List (List ℕ) → Plan → List Line → WorldState Behaviour → List ℕ → Type 0
 IsWrittenBySample contents words plan lines last text =
-    (seed steps : ℕ) × (begun : WorldState Behaviour) × IsSample contents words plan seed steps × (length lines ≡ steps) × (booted plan ≡ Ok begun)
+    (seed steps : ℕ) × (begun : WorldState Behaviour) × IsSample contents words plan seed steps
+    × (lines ≡ lines_of_sample plan seed steps) × (length lines ≡ steps) × (booted plan ≡ Ok begun)
     × (sampled (λ b. b.declared) (λ b. b.turn) steps seed begun ≡ Ok last) × (text ≡ summary (names_in plan) steps last)
+
+-- the same lines, and their text
+abbrev pub IsWrittenByLines : (List ℕ → Option (List ℕ)) → List (List ℕ) → Plan → List Line → WorldState Behaviour → List ℕ → Type 0
+IsWrittenByLines contents words plan lines last text =
+    (seed steps : ℕ) × (begun : WorldState Behaviour) × IsLines contents words plan seed steps
+    × (lines ≡ lines_of_sample plan seed steps) × (length lines ≡ steps) × (booted plan ≡ Ok begun)
+    × (sampled (λ b. b.declared) (λ b. b.turn) steps seed begun ≡ Ok last) × (text ≡ lines_text (names_in plan).node lines)
 
 -- as many deliveries as datagrams were sent, and what is written of the world to which they lead
 abbrev pub IsWrittenBySettle : (List ℕ → Option (List ℕ)) → List (List ℕ) → Plan → List Line → WorldState Behaviour → List ℕ → Type 0
@@ -105,9 +132,15 @@ IsWrittenBySettle contents words plan lines last text =
     (deliveries : ℕ) × IsSettle contents words plan deliveries × (length last.sent ≤ deliveries) × (lines ≡ first_deliveries (length last.sent))
     × (text ≡ settled_text (names_in plan) (length last.sent) last)
 
+-- what each form writes
+abbrev pub IsWrittenBySome : (List ℕ → Option (List ℕ)) → List (List ℕ) → Plan → List Line → WorldState Behaviour → List ℕ → Type 0
+IsWrittenBySome contents words plan lines last text =
+    IsWrittenByReplay contents words plan lines last text
+    ⊎ (IsWrittenBySample contents words plan lines last text
+    ⊎ (IsWrittenBySettle contents words plan lines last text ⊎ IsWrittenByLines contents words plan lines last text))
+
 -- over a shelf with these contents the words ask for a program that means this plan, these lines lead from its boot to this
 -- world, and the text is written of it
 pub record IsOfWorld (contents : List ℕ → Option (List ℕ)) (words : List (List ℕ)) (plan : Plan) (lines : List Line) (last : WorldState Behaviour) (text : List ℕ) : Type 0 where
   pub led : AreLed plan lines last
-  pub written : IsWrittenByReplay contents words plan lines last text
-      ⊎ (IsWrittenBySample contents words plan lines last text ⊎ IsWrittenBySettle contents words plan lines last text)
+  pub written : IsWrittenBySome contents words plan lines last text

@@ -10,7 +10,7 @@ use circus_config::Plan;
 use circus_ending::{Ending, OneFile, Status, end_of, plan_of};
 use circus_outside::{Shelf, ShelfFault};
 use circus_served::{no_node, node_named};
-use circus_simulated::{sample_plan, settle_plan};
+use circus_simulated::{draw_plan, sample_plan, settle_plan};
 use circus_value::NoMemory;
 use std::alloc::{AllocError, Global};
 
@@ -24,11 +24,12 @@ pub enum Step<'a> {
     Serve(Plan, u16, u32),
 }
 
-// What is done with a plan: a sample of so many lines is drawn from a seed, so many datagrams at most are delivered, or a node
-// is served for so many takes.
+// What is done with a plan: a sample of so many lines is drawn from a seed, its lines are written, so many datagrams at most are
+// delivered, or a node is served for so many takes.
 #[derive(Clone, Copy)]
 enum Task<'a> {
     Sample(u64, u32),
+    Lines(u64, u32),
     Settle(u32),
     Node(&'a str, u32),
 }
@@ -48,7 +49,7 @@ enum Built<'a> {
 
 ghost use Rattle.circus_program.specs.Seen.Step.{due_of, Stands, LacksNone, IsLackNoted, IsStepBehind, IsStepOfProgram, IsStepOfReplay, IsStepOfFile};
 ghost use Rattle.circus_program.specs.Seen.Built.{IsDueOfTask, IsDueOfCommand, built_form};
-ghost use Rattle.circus_program.specs.Seen.Planned.{MeanPlans, ReadsPlans, OfContents, PlansOf};
+ghost use Rattle.circus_program.specs.Seen.Planned.{MeanPlans, IsKnownOf, ReadsPlans, OfContents, PlansOf};
 
 // What comes of a replay whose program is fetched and read.
 fn replay_plan<'a, S: Shelf>(
@@ -58,9 +59,11 @@ fn replay_plan<'a, S: Shelf>(
     shelf: &mut S,
 ) -> Result<Step<'a>, NoMemory>
     requires { IsPlan plan }
-    ensures due { IfOk result (λ step. IsStepBehind (S.contents shelf.old) plan schedule.now (due_of step)) }
+    ensures due { IfOk result (λ step.
+        IsStepBehind (S.contents shelf.old) plan schedule.now (due_of step)) }
     ensures stands { IfOk result Stands }
-    ensures lack { IfOk result (IsLackNoted (S.fetched shelf.new) (S.faults shelf.old) (S.faults shelf.new)) }
+    ensures lack { IfOk result
+        (IsLackNoted (S.fetched shelf.new) (S.faults shelf.old) (S.faults shelf.new)) }
     ensures asked { AsksFirstOf (S.fetched shelf.old) (S.fetched shelf.new) (schedule.now ∷ []) }
 {
     let bytes = match shelf.fetch(schedule) {
@@ -81,9 +84,11 @@ fn replay_program<'a, S: Shelf>(
     schedule: &'a str,
     shelf: &mut S,
 ) -> Result<Step<'a>, NoMemory>
-    ensures due { IfOk result (λ step. IsStepOfProgram (S.contents shelf.old) program.now schedule.now (due_of step)) }
+    ensures due { IfOk result (λ step.
+        IsStepOfProgram (S.contents shelf.old) program.now schedule.now (due_of step)) }
     ensures stands { IfOk result Stands }
-    ensures lack { IfOk result (IsLackNoted (S.fetched shelf.new) (S.faults shelf.old) (S.faults shelf.new)) }
+    ensures lack { IfOk result
+        (IsLackNoted (S.fetched shelf.new) (S.faults shelf.old) (S.faults shelf.new)) }
     ensures asked { AsksFirstOf (S.fetched shelf.old) (S.fetched shelf.new) (schedule.now ∷ []) }
     ensures planned { IfOk result (λ _. MeanPlans program.now) }
 {
@@ -100,11 +105,15 @@ fn replay<'a, S: Shelf>(
     schedule: &'a str,
     shelf: &mut S,
 ) -> Result<Step<'a>, NoMemory>
-    ensures due { IfOk result (λ step. IsStepOfReplay (S.contents shelf.old) program.now schedule.now (due_of step)) }
+    ensures due { IfOk result (λ step.
+        IsStepOfReplay (S.contents shelf.old) program.now schedule.now (due_of step)) }
     ensures stands { IfOk result Stands }
-    ensures lack { IfOk result (IsLackNoted (S.fetched shelf.new) (S.faults shelf.old) (S.faults shelf.new)) }
-    ensures asked { AsksFirstOf (S.fetched shelf.old) (S.fetched shelf.new) (program.now ∷ schedule.now ∷ []) }
-    ensures planned { IfOk result (λ step. LacksNone step → OfContents (S.contents shelf.old) MeanPlans program.now) }
+    ensures lack { IfOk result
+        (IsLackNoted (S.fetched shelf.new) (S.faults shelf.old) (S.faults shelf.new)) }
+    ensures asked { AsksFirstOf (S.fetched shelf.old) (S.fetched shelf.new)
+        (program.now ∷ schedule.now ∷ []) }
+    ensures planned { IfOk result (λ step. LacksNone step
+        → OfContents (S.contents shelf.old) MeanPlans program.now) }
 {
     let bytes = match shelf.fetch(program) {
         Ok(bytes) => bytes,
@@ -121,9 +130,11 @@ fn of_plan<'a>(alloc: Global, plan: Plan, task: Task<'_>) -> Result<Step<'a>, No
     ensures due { IfOk result (λ step. IsDueOfTask task.entry plan (due_of step)) }
     ensures stands { IfOk result Stands }
     ensures whole { IfOk result LacksNone }
+    ensures known { IfOk result (λ _. IsKnownOf task.entry plan) }
 {
     match task {
         Task::Sample(seed, steps) => Ok(Step::Finish(sample_plan(alloc, plan, seed, steps)?)),
+        Task::Lines(seed, steps) => Ok(Step::Finish(draw_plan(alloc, plan, seed, steps)?)),
         Task::Settle(deliveries) => Ok(Step::Finish(settle_plan(alloc, plan, deliveries)?)),
         Task::Node(name, turns) => match node_named(&plan.deployment, name) {
             Some(node) => Ok(Step::Serve(plan, node, turns)),
@@ -155,11 +166,14 @@ fn one_file<'a, S: Shelf>(
     name: &'a str,
     shelf: &mut S,
 ) -> Result<Step<'a>, NoMemory>
-    ensures due { IfOk result (λ step. IsStepOfFile (S.contents shelf.old) name.now (IsDueOfCommand command.entry) (due_of step)) }
+    ensures due { IfOk result (λ step.
+        IsStepOfFile (S.contents shelf.old) name.now (IsDueOfCommand command.entry) (due_of step)) }
     ensures stands { IfOk result Stands }
-    ensures lack { IfOk result (IsLackNoted (S.fetched shelf.new) (S.faults shelf.old) (S.faults shelf.new)) }
+    ensures lack { IfOk result
+        (IsLackNoted (S.fetched shelf.new) (S.faults shelf.old) (S.faults shelf.new)) }
     ensures asked { AsksFirstOf (S.fetched shelf.old) (S.fetched shelf.new) (name.now ∷ []) }
-    ensures planned { IfOk result (λ step. LacksNone step → OfContents (S.contents shelf.old) (ReadsPlans command.entry) name.now) }
+    ensures planned { IfOk result (λ step. LacksNone step
+        → OfContents (S.contents shelf.old) (ReadsPlans command.entry) name.now) }
 {
     let bytes = match shelf.fetch(name) {
         Ok(bytes) => bytes,
@@ -184,6 +198,11 @@ fn built_of(form: CommandForm<'_>) -> Option<Built<'_>>
             seed,
             steps,
         } => (Command::OfPlan(Task::Sample(seed, steps)), program),
+        CommandForm::Lines {
+            program,
+            seed,
+            steps,
+        } => (Command::OfPlan(Task::Lines(seed, steps)), program),
         CommandForm::Settle {
             program,
             deliveries,
@@ -205,11 +224,15 @@ pub fn follow<'a, S: Shelf>(
     words: &'a [String],
     shelf: &mut S,
 ) -> Result<Step<'a>, NoMemory>
-    ensures due { IfOk result (λ step. IsDue (S.contents shelf.old) (map string_bytes words.now) (due_of step)) }
+    ensures due { IfOk result (λ step.
+        IsDue (S.contents shelf.old) (map string_bytes words.now) (due_of step)) }
     ensures stands { IfOk result Stands }
-    ensures lack { IfOk result (IsLackNoted (S.fetched shelf.new) (S.faults shelf.old) (S.faults shelf.new)) }
-    ensures asked { AsksOnly (S.fetched shelf.old) (S.fetched shelf.new) (map string_bytes words.now) }
-    ensures planned { IfOk result (λ step. LacksNone step → PlansOf (S.contents shelf.old) (map string_bytes words.now)) }
+    ensures lack { IfOk result
+        (IsLackNoted (S.fetched shelf.new) (S.faults shelf.old) (S.faults shelf.new)) }
+    ensures asked { AsksOnly (S.fetched shelf.old) (S.fetched shelf.new)
+        (map string_bytes words.now) }
+    ensures planned { IfOk result (λ step. LacksNone step
+        → PlansOf (S.contents shelf.old) (map string_bytes words.now)) }
 {
     let Some(form) = read_words(words) else {
         let refused = Ending::of_line(alloc, Status::BadCommandLine, "circus: bad command line\n")?;

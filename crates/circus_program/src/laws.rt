@@ -1,6 +1,7 @@
 // What holds of all words and all contents of the files.
-ghost use Rattle.std.specs.Prelude.{◌≡◌, ◌⊎◌, ◌↔◌, ℕ, Option, List};
-ghost use Rattle.circus_program.specs.Form.{IsOfNoForm};
+ghost use Rattle.std.specs.Prelude.{◌≡◌, ◌<◌, ◌≤◌, ◌⊎◌, ◌↔◌, ℕ, Option, List};
+ghost use Rattle.circus_program.specs.Form.{IsOfNoForm, most_steps};
+ghost use Rattle.circus_simulated.specs.Schedule.{schedule_of};
 ghost use Rattle.circus_model.specs.Behaviour.{Behaviour};
 ghost use Rattle.circus_schedule.specs.declared.line.Line.{Line};
 ghost use Rattle.circus_world.specs.WorldState.{WorldState};
@@ -9,10 +10,12 @@ ghost use Rattle.circus_program.specs.Answer.{Due, finish};
 ghost use Rattle.circus_program.specs.Replay.{replay_of};
 ghost use Rattle.circus_program.specs.Agreeing.{IsAgreed, IsAgreedSoFar, ArePlans};
 ghost use Rattle.circus_config.specs.Program.{IsPlan};
-ghost use Rattle.circus_program.specs.Worlds.{IsReported, IsCutByRefusal, IsCutBySpending, IsSpentAtBoot, AskToSimulate, IsOfWorld};
+ghost use Rattle.circus_program.specs.Promise.{KeepsPromise, IsKept, IsKeptSoFar, enough_deliveries};
+ghost use Rattle.circus_program.specs.Replayed.{AreShort, IsReplayed};
+ghost use Rattle.circus_program.specs.Worlds.{AreLed, IsReported, IsCutByRefusal, IsCutBySpending, IsSpentAtBoot, AskForRecords, AskToSimulate, IsOfWorld};
 ghost use Rattle.circus_ending.specs.Ending.{Ending};
 ghost use Rattle.circus_ending.specs.declared.status.Status.TheVariants.{Done, BadCommandLine, BadProgram, BadSchedule, Spent, NotBuilt, Unsettled};
-ghost use Rattle.circus_program.specs.Last.{IsDueLast, EndsWith, IsToBeRead, IsAnswered, IsRefusedProgram, IsNameless, IsRefusedReplay, IsSpentReplay, IsSpentSample, IsSpentSettle, IsNotBuilt, IsUnsettled};
+ghost use Rattle.circus_program.specs.Last.{IsDueLast, EndsWith, IsToBeRead, IsAnswered, IsRefusedProgram, IsNameless, IsRefusedReplay, IsSpent, IsNotBuilt, IsUnsettled, HasLeft};
 
 /// Of words one thing is due at last, whatever the files contain: an end, with its status and its text, a node that is to be
 /// served, or the fetch of a file that is not there. Something is due, but where the first file of a form that is built is
@@ -22,24 +25,27 @@ pub fn one_thing_is_due()
         → IsDueLast contents words due → IsDueLast contents words other → due ≡ other }
     ensures some { (contents : List ℕ → Option (List ℕ)) (words : List (List ℕ))
         → ((due : Due) × IsDueLast contents words due) ⊎ IsToBeRead contents words }
-    ensures read { (contents : List ℕ → Option (List ℕ)) (words : List (List ℕ)) (file : IsToBeRead contents words)
+    ensures read { (contents : List ℕ → Option (List ℕ)) (words : List (List ℕ))
+        (file : IsToBeRead contents words)
         → IsAnswered contents file.form file.bytes → (due : Due) × IsDueLast contents words due }
 {}
 
 /// What is due at last is an end with status 1 exactly where the words are of no form, with status 2 exactly where the file
 /// of another form than `place` is no program or has no node of the name, with status 3 exactly where a line of a schedule is
-/// refused, with status 8 exactly where a node has no number left in a replay, a sample or the deliveries that settle a
-/// program, with status 9 exactly where a form is asked for that is not built, and with status 10 exactly where all deliveries
+/// refused, with status 8 exactly where a node has no number left in a replay, in a sample or its lines, or in the deliveries that
+/// settle a program, with status 9 exactly where a form is asked for that is not built, and with status 10 exactly where all deliveries
 /// are made and datagrams are left. What a node that is served comes to is said by the contract of the call.
 pub fn ends_tell_why()
     ensures bad_words { (contents : List ℕ → Option (List ℕ)) (words : List (List ℕ)) (due : Due)
         → IsDueLast contents words due → (EndsWith BadCommandLine due ↔ IsOfNoForm words) }
     ensures bad_program { (contents : List ℕ → Option (List ℕ)) (words : List (List ℕ)) (due : Due)
-        → IsDueLast contents words due → (EndsWith BadProgram due ↔ (IsRefusedProgram contents words ⊎ IsNameless contents words)) }
+        → IsDueLast contents words due
+        → (EndsWith BadProgram due ↔ (IsRefusedProgram contents words ⊎ IsNameless contents words)) }
     ensures bad_schedule { (contents : List ℕ → Option (List ℕ)) (words : List (List ℕ)) (due : Due)
-        → IsDueLast contents words due → (EndsWith BadSchedule due ↔ IsRefusedReplay contents words) }
+        → IsDueLast contents words due
+        → (EndsWith BadSchedule due ↔ IsRefusedReplay contents words) }
     ensures spent { (contents : List ℕ → Option (List ℕ)) (words : List (List ℕ)) (due : Due)
-        → IsDueLast contents words due → (EndsWith Spent due ↔ (IsSpentReplay contents words ⊎ (IsSpentSample contents words ⊎ IsSpentSettle contents words))) }
+        → IsDueLast contents words due → (EndsWith Spent due ↔ IsSpent contents words) }
     ensures not_built { (contents : List ℕ → Option (List ℕ)) (words : List (List ℕ)) (due : Due)
         → IsDueLast contents words due → (EndsWith NotBuilt due ↔ IsNotBuilt words) }
     ensures unsettled { (contents : List ℕ → Option (List ℕ)) (words : List (List ℕ)) (due : Due)
@@ -52,34 +58,61 @@ pub fn ends_tell_why()
 pub fn reports_are_of_worlds()
     ensures done { (plan : Plan) (lines : List Line) → (replay_of plan lines).status ≡ Done
         → IsReported plan lines (replay_of plan lines).text }
-    ensures refused { (plan : Plan) (lines : List Line) → (replay_of plan lines).status ≡ BadSchedule
+    ensures refused { (plan : Plan) (lines : List Line)
+        → (replay_of plan lines).status ≡ BadSchedule
         → IsCutByRefusal plan lines (replay_of plan lines).text }
     ensures spent { (plan : Plan) (lines : List Line) → (replay_of plan lines).status ≡ Spent
-        → IsSpentAtBoot plan (replay_of plan lines).text ⊎ IsCutBySpending plan lines (replay_of plan lines).text }
+        → IsSpentAtBoot plan (replay_of plan lines).text
+        ⊎ IsCutBySpending plan lines (replay_of plan lines).text }
 {}
 
 /// Where words ask to simulate a program and what is due at last is an end with status 0, there is a plan, which the program
 /// means, with lines that lead from its boot to a world: those of the schedule, those that were drawn, or a delivery of each
-/// datagram. What is written is the report of that world, its summary, or what is written of a world that has settled.
+/// datagram. What is written is the report of that world, its summary, what is written of a world that has settled, or, where the
+/// words ask for the lines that are drawn, these.
 pub fn ends_are_of_worlds()
     ensures { (contents : List ℕ → Option (List ℕ)) (words : List (List ℕ)) (ending : Ending)
         → IsDueLast contents words (finish ending) → ending.status ≡ Done → AskToSimulate words
-        → (plan : Plan) × (lines : List Line) × (last : WorldState Behaviour) × IsOfWorld contents words plan lines last ending.text }
+        → (plan : Plan) × (lines : List Line) × (last : WorldState Behaviour)
+        × IsOfWorld contents words plan lines last ending.text }
 {}
 
-/// The copies agree in what is written of a program that is simulated, where it is a plan, as each program that is read is:
-/// what each active member performed are the next runs of its module in the history of the program, which the unreplicated
-/// execution of the program gives. What a replay writes that ends too early is the beginning of the report of the lines before
-/// and one line more.
-pub fn copies_agree()
+/// What is promised is kept of every world to which lines lead from the boot of a plan. So it is of the world of which a
+/// simulation writes where it ends with status 0, if the program is a plan, as each program that is read is; and where a
+/// replay ends too early, of the world to which the lines before lead. Deliveries that leave some of the datagrams are fewer
+/// than twice the segments of the messages that the unreplicated program makes.
+pub fn promises_are_kept()
+    ensures worlds { (plan : Plan) (lines : List Line) (last : WorldState Behaviour)
+        → IsPlan plan → (led : AreLed plan lines last) → KeepsPromise plan lines last led }
     ensures done { (contents : List ℕ → Option (List ℕ)) (words : List (List ℕ)) (ending : Ending)
         → IsDueLast contents words (finish ending) → ending.status ≡ Done → AskToSimulate words
-        → ArePlans contents words → IsAgreed contents words ending.text }
+        → ArePlans contents words → IsKept contents words ending.text }
     ensures refused { (plan : Plan) (lines : List Line)
         → IsPlan plan → (replay_of plan lines).status ≡ BadSchedule
-        → IsAgreedSoFar plan lines (replay_of plan lines).text }
+        → IsKeptSoFar plan lines (replay_of plan lines).text }
     ensures spent { (plan : Plan) (lines : List Line)
         → IsPlan plan → (replay_of plan lines).status ≡ Spent
         → IsSpentAtBoot plan (replay_of plan lines).text
-        ⊎ IsAgreedSoFar plan lines (replay_of plan lines).text }
+        ⊎ IsKeptSoFar plan lines (replay_of plan lines).text }
+    ensures enough { (plan : Plan) (deliveries : ℕ)
+        → IsPlan plan → HasLeft plan deliveries → deliveries < enough_deliveries plan }
+{}
+
+/// So the copies agree in what is written of records: what each active member performed are the next runs of its module in the
+/// history of the program, which the unreplicated execution of the program gives.
+pub fn copies_agree()
+    ensures done { (contents : List ℕ → Option (List ℕ)) (words : List (List ℕ)) (text : List ℕ)
+        → AskForRecords words → IsKept contents words text → IsAgreed contents words text }
+    ensures so_far { (plan : Plan) (lines : List Line) (text : List ℕ)
+        → IsKeptSoFar plan lines text → IsAgreedSoFar plan lines text }
+{}
+
+/// The lines of a sample, as they are written, are a schedule that its program may be replayed under, where datagrams have
+/// numbers that a line may have: a replay refuses none of them, and comes to the world of the sample. It reports those members
+/// that the sample counts, and each with the same count.
+pub fn lines_are_replayed()
+    ensures { (plan : Plan) (seed steps : ℕ)
+        → IsPlan plan → steps ≤ most_steps → AreShort plan seed steps
+        → (schedule_of plan seed steps).status ≡ Done
+        → IsReplayed plan seed steps (schedule_of plan seed steps).text }
 {}

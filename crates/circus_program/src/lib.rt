@@ -17,6 +17,7 @@ mod words;
 pub use call::circus;
 pub use circus_ending::Status;
 pub use laws::{
-    copies_agree, ends_are_of_worlds, ends_tell_why, one_thing_is_due, reports_are_of_worlds,
+    copies_agree, ends_are_of_worlds, ends_tell_why, lines_are_replayed, one_thing_is_due,
+    promises_are_kept, reports_are_of_worlds,
 };
 pub use words::{CommandForm, read_words};

@@ -40,6 +40,12 @@ pub enum CommandForm<'a> {
         seed: u64,
         steps: u32,
     },
+    /// `lines PROGRAM SEED STEPS`: the schedule of such a simulation.
+    Lines {
+        program: &'a str,
+        seed: u64,
+        steps: u32,
+    },
     /// `settle PROGRAM DELIVERIES`: a simulation of 0 to 1,000,000 deliveries in order of sending.
     Settle {
         program: &'a str,
@@ -149,6 +155,15 @@ fn read_four_words<'a>(
             let seed = decimal_at_most(second.as_bytes(), u64::MAX)?;
             let steps = decimal_at_most(third.as_bytes(), MOST_STEPS)?;
             Some(CommandForm::Sample {
+                program,
+                seed,
+                steps: steps as u32,
+            })
+        }
+        "lines" => {
+            let seed = decimal_at_most(second.as_bytes(), u64::MAX)?;
+            let steps = decimal_at_most(third.as_bytes(), MOST_STEPS)?;
+            Some(CommandForm::Lines {
                 program,
                 seed,
                 steps: steps as u32,

@@ -18,7 +18,7 @@ use Rattle.circus_pair.proofs.OneEnd.{total_stays}
 use Rattle.circus_pair.proofs.Outputs.{came_sends, taken_is}
 use Rattle.circus_pair.proofs.Sayings.{most_bound, good_number}
 use Rattle.circus_pair.proofs.Standing.{may_follow}
-use Rattle.circus_quiescence_theory.specs.Coming.{IsQuiet}
+use Rattle.circus_quiescence_theory.specs.Coming.{IsUndisturbed}
 use Rattle.circus_quiescence_theory.proofs.Sending.{Among, among_front, among_back, quiet_up, by_sent}
 
 -- an acknowledgement of all segments of a call was sent
@@ -109,7 +109,7 @@ none_arrived : (call : ℕ) → has_arrived [] 0 call ≡ true → ⊥
 unfolding has_arrived total_in
 none_arrived call h = cc
 
-pub acknowledged : (format : ℕ) (acts : Acts) (call : ℕ) → AreLawful 0 format acts → IsQuiet acts → has_arrived (taken_by (start 0 format) acts) 0 call ≡ true → Acknowledged format acts call
+pub acknowledged : (format : ℕ) (acts : Acts) (call : ℕ) → AreLawful 0 format acts → IsUndisturbed acts → has_arrived (taken_by (start 0 format) acts) 0 call ≡ true → Acknowledged format acts call
 acknowledged format none_yet call lawful quiet h = absurd (none_arrived call h)
 acknowledged format (more acts (Came s)) call lawful quiet h =
     let ts = taken_by (start 0 format) acts in

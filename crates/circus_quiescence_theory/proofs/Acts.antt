@@ -2,7 +2,9 @@
 use Rattle.std.proofs.Common.{◌≡◌, ◌≢◌, ◌⊎◌, inl, inr, ℕ, zero, suc, ◌+◌, ◌≤◌, Bool, true, false, cond, ◌&&◌, eqb, List, [], ◌∷◌, map, Option, None, Some, IsSome, Ok, refl, sym, ap, subst, ◌∙◌, arith, eq-eqb}
 use Rattle.std.specs.Prelude.{slice_get, is_some, if◌then◌else◌}
 use Rattle.std.proofs.lemmas.Bool.{eqb-true, ne_eqb}
+use Rattle.std.proofs.lemmas.Bool.Decides.{eqb_tells}
 use Rattle.std.proofs.lemmas.Option.{same_Some}
+use Rattle.circus_value.specs.Among.{is_among}
 use Rattle.circus_value.specs.declared.caller.Caller.{Caller}
 use Rattle.circus_segment.specs.Segment.{Piece, IsSegment}
 use Rattle.circus_exchange.specs.Exchange.{start}
@@ -28,6 +30,7 @@ use Rattle.circus_border_theory.specs.Made.{act_of}
 use Rattle.circus_border_theory.proofs.Handing.{AreReturns, is_same}
 use Rattle.circus_border_theory.proofs.Waiting.{is_caller, one_if, answered_in}
 use Rattle.circus_quiescence_theory.proofs.Hearing.{brings}
+use Rattle.circus_quiescence_theory.proofs.Once.{AreApart, targets, neither}
 
 module _ (b : Beginning) where
   -- ---- purposes
@@ -70,6 +73,47 @@ module _ (b : Beginning) where
           inr (0, message, λ i. Some (made.Call (at i) message (same i)))
       by_node true false here old = inl old
       by_node false y here old = inl old
+
+  -- ---- a node that is called once at most
+
+  -- a call to a node that is not among those that are called was made before
+  called_before : (acts : WireActs Purpose) (effects : List Effect) (node k : ℕ) (p : Purpose) → is_among (targets effects) node ≡ false → purpose_of (pair_of b) node (with_all acts (map act_of effects)) k ≡ Some p
+      → purpose_of (pair_of b) node acts k ≡ Some p
+  called_before acts [] node k p none is = is
+  called_before acts (made.Answer caller message ∷ effects) node k p none is = called_before (followed_by acts (AnswerTo caller message)) effects node k p none is
+  called_before acts (made.Call to message purpose ∷ effects) node k p none is =
+      let parts = neither (eqb to node) (is_among (targets effects) node) none in
+      let before = called_before (followed_by acts (CallTo to message purpose)) effects node k p parts.1 is in
+      sym (ap (λ x. cond (x && eqb k (b.first + made_ (acts_at (pair_of b) node acts))) (Some purpose) (purpose_of (pair_of b) node acts k)) parts.0) ∙ before
+
+  made_still : (here : Acts) (x : Bool) (call : ℕ) (message : List ℕ) → made_ (with_act here (cond x (Some (Return call message)) None)) ≡ made_ here
+  unfolding made_
+  made_still here true call message = refl
+  made_still here false call message = refl
+
+  -- a new call to it has the next number
+  pub purpose_next : (acts : WireActs Purpose) (effects : List Effect) (node k : ℕ) (p : Purpose) → AreApart (targets effects) → purpose_of (pair_of b) node (with_all acts (map act_of effects)) k ≡ Some p
+      → (purpose_of (pair_of b) node acts k ≡ Some p) ⊎ (k ≡ b.first + made_ (acts_at (pair_of b) node acts))
+  purpose_next acts [] node k p apart is = inl is
+  purpose_next acts (made.Answer caller message ∷ effects) node k p apart is = elim (purpose_next (followed_by acts (AnswerTo caller message)) effects node k p apart is) [
+    | inl old ↦ inl old
+    | inr new ↦ inr (new ∙ ap (λ n. b.first + n) (made_still (acts_at (pair_of b) node acts) (eqb caller.node node && awaits_after (pair_of b) (acts_at (pair_of b) node acts) caller.number) caller.number message))
+  ]
+  purpose_next acts (made.Call to message purpose ∷ effects) node k p apart is = elim (eqb_tells to node) [
+    | inl same ↦
+        by_number (eqb to node) (eqb k (b.first + made_ (acts_at (pair_of b) node acts))) refl
+        (called_before (followed_by acts (CallTo to message purpose)) effects node k p (subst (λ n. is_among (targets effects) n ≡ false) same.1 apart.0) is)
+    | inr differ ↦ elim (purpose_next (followed_by acts (CallTo to message purpose)) effects node k p apart.1 is) [
+      | inl old ↦ inl (sym (ap (λ x. cond (x && eqb k (b.first + made_ (acts_at (pair_of b) node acts))) (Some purpose) (purpose_of (pair_of b) node acts k)) differ.0) ∙ old)
+      | inr new ↦ inr (new ∙ ap (λ x. b.first + made_ (with_act (acts_at (pair_of b) node acts) (cond x (Some (Call message)) None))) differ.0)
+    ]
+  ]
+    where
+      by_number : (x y : Bool) → eqb k (b.first + made_ (acts_at (pair_of b) node acts)) ≡ y → cond (x && y) (Some purpose) (purpose_of (pair_of b) node acts k) ≡ Some p
+          → (purpose_of (pair_of b) node acts k ≡ Some p) ⊎ (k ≡ b.first + made_ (acts_at (pair_of b) node acts))
+      by_number true true at old = inr (eqb-true k (b.first + made_ (acts_at (pair_of b) node acts)) at)
+      by_number true false at old = inl old
+      by_number false y at old = inl old
 
   -- ---- returns
 

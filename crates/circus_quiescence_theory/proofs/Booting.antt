@@ -46,7 +46,8 @@ use Rattle.circus_quiescence_theory.specs.Still.{phase_of}
 use Rattle.circus_quiescence_theory.proofs.Phases.{entered_keeps}
 use Rattle.circus_quiescence_theory.specs.Told.{Recorded, IsOpenAt}
 use Rattle.circus_quiescence_theory.proofs.Staying as staying
-use Rattle.circus_quiescence_theory.proofs.Staying.{EffectSo, IsCallIn, is_entry, Body, keeps}
+use Rattle.circus_quiescence_theory.proofs.Once.{AreApart, AreOthers, targets, entered_once}
+use Rattle.circus_quiescence_theory.proofs.Staying.{EffectSo, NewCall, IsCallIn, is_entry, Body, keeps}
 use Rattle.circus_quiescence_theory.proofs.Stepping.{AreFirst, AreLow, IsQuiet, ones_of}
 
 -- ---- how many runs a record has
@@ -132,6 +133,7 @@ module _ {M : Type 0} (declared : M → Signature) (turn : M → List ValueTree 
         phase = refl;
         held = All-nil (λ (c : HeldCall). P c.sender c.header c.body);
         effects = All-nil (EffectSo views place.troupe P m.performing.kept);
+        news = All-nil (NewCall m.performing.kept);
         named = λ index number n. n;
         longer = omega arith;
         counts = omega arith;
@@ -178,6 +180,7 @@ module _ {M : Type 0} (declared : M → Signature) (turn : M → List ValueTree 
   pub record BootsQuietly (beginning : Beginning) (d : Doing M) : Type 0 where
     pub quiet : IsQuiet views place.troupe (phase_of beginning) P d.member
     pub effects : All (EffectSo views place.troupe P d.member.performing.kept) d.effects
+    pub once : ((t : ℕ) (view : View) → slice_get views t ≡ Some view → AreOthers view) → AreApart (targets d.effects)
     pub recorded : (index number callee : ℕ) → Recorded d.member.performing.kept index number callee → (view : View) (node : ℕ) → slice_get views callee ≡ Some view → is_entry view node ≡ true
         → IsCallIn d.effects index number callee node
     pub silent : (index number callee : ℕ) → IsOpenAt d.member.performing.kept index number callee → (a : Asking) → asking_of d.member.asks (record { run = index; ask = number }) ≡ Some a → a.said ≡ []
@@ -188,6 +191,7 @@ module _ {M : Type 0} (declared : M → Signature) (turn : M → List ValueTree 
   nothing_yet beginning none = record {
     quiet = quiet_before (phase_of beginning);
     effects = All-nil (EffectSo views place.troupe P (performing.before_any (phase_of beginning) (first hosted)));
+    once = λ others. tt;
     recorded = λ index number callee r. absurd (no_item index r.run r.run_is);
     silent = λ index number callee o. absurd (let clash : ◌≡◌ {A = Option RunRecord} None (Some o.run) = o.last in cc);
     begun = λ starts. absurd (none starts);
@@ -223,6 +227,7 @@ module _ {M : Type 0} (declared : M → Signature) (turn : M → List ValueTree 
               opened = λ index number callee o. (let x = body.opened index number callee o in record { asking = x.asking; there = x.there; server = x.server; kind = x.kind });
             };
             effects = s.effects;
+            once = λ others. (entered_once views others turn 0 (record { member = m is; effects = [] }) (main_start place.troupe views) refl refl).once;
             recorded = λ index number callee r view node at entry. elim (body.recorded index number callee r view node at entry) [ inl old ↦ absurd old | inr new ↦ new ];
             silent = λ index number callee o a at.
                 let x = body.opened index number callee o in

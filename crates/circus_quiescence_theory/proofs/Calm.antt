@@ -49,10 +49,11 @@ use Rattle.circus_world.proofs.SlotLemmas.{all_at}
 use Rattle.circus_border_theory.specs.Made.{act_of}
 use Rattle.circus_border_theory.proofs.Handing.{AreReturns, itself}
 use Rattle.circus_border_theory.proofs.Waiting.{waiting_at, answered_in, calls_in, one_if, step_answers}
-use Rattle.circus_quiescence_theory.proofs.Acts.{purposes_stay, made_purpose, purpose_from, returns_stay, answered_returned, handed_arrived}
+use Rattle.circus_quiescence_theory.proofs.Acts.{purposes_stay, made_purpose, purpose_from, purpose_next, returns_stay, answered_returned, handed_arrived}
 use Rattle.circus_quiescence_theory.specs.Told.{Recorded, IsOpenAt, IsSilent}
 use Rattle.circus_quiescence_theory.proofs.Evolving.{Named}
-use Rattle.circus_quiescence_theory.proofs.Staying.{IsEntryOf, EffectSo, is_entry, idle_count, busy_count}
+use Rattle.circus_quiescence_theory.proofs.Once.{AreOthers}
+use Rattle.circus_quiescence_theory.proofs.Staying.{IsEntryOf, EffectSo, NewCall, is_entry, idle_count, busy_count}
 use Rattle.circus_quiescence_theory.proofs.Stepping.{AreFirst, IsQuiet, IsQuietOccurrence, StepsQuiet, step_quiet, changed_there, changed_here}
 
 -- ---- an ask that was made is not opened again
@@ -104,6 +105,7 @@ module _ (b : Beginning) (bv : List View) (IsPeer : ℕ → Type 0) where
     pub made : (index number callee : ℕ) → Recorded m.performing.kept index number callee → (view : View) (node : ℕ) → slice_get bv callee ≡ Some view → is_entry view node ≡ true
         → (k : ℕ) × Purposed b a node k (for.Ask (record { run = index; ask = number }) callee)
     pub named : (node k index number callee : ℕ) → Purposed b a node k (for.Ask (record { run = index; ask = number }) callee) → Named m.performing.kept index number × IsEntryOf bv callee node
+    pub once : (node k j index number callee other : ℕ) → Purposed b a node k (for.Ask (record { run = index; ask = number }) callee) → Purposed b a node j (for.Ask (record { run = index; ask = number }) other) → k ≡ j
     pub waits : (c : Caller) → IsPeer c.node → Arrived b a c.node 0 c.number → Returned b a c ⊎ (1 ≤ waiting_at c m)
     pub said : (node k index number callee asked : ℕ) → IsPeer node → Arrived b a node 1 k → Purposed b a node k (for.Ask (record { run = index; ask = number }) asked) → IsOpenAt m.performing.kept index number callee
         → (asking : Asking) → asking_of m.asks (record { run = index; ask = number }) ≡ Some asking → list_any (is_from node) asking.said ≡ true
@@ -155,6 +157,7 @@ module _ (b : Beginning) (bv : List View) (IsPeer : ℕ → Type 0) (own : ℕ) 
   calm_still br = record {
     made = λ index number callee r view node there entry. (let k = calm.made index number callee r view node there entry in (k.0, purposes_stay b a came node k.0 _ k.1));
     named = λ node k index number callee p. calm.named node k index number callee (br.purposes node k _ p);
+    once = λ node k j index number callee other p r. calm.once node k j index number callee other (br.purposes node k _ p) (br.purposes node j _ r);
     waits = λ c peer arrived. elim (br.calls c peer arrived) [
       | inl before ↦ elim (calm.waits c peer before) [ inl returned ↦ inl (returns_stay b a came c returned) | inr waiting ↦ inr waiting ]
       | inr new ↦ absurd (none_is (comes.Asked new.0 new.1 c) new.2)
@@ -170,7 +173,7 @@ module _ (b : Beginning) (bv : List View) (IsPeer : ℕ → Type 0) (own : ℕ) 
   module _ (at : ℕ) (x : Occurrence) (can : CanHappen (declared m.performing.hosted) m x) (quiet_x : IsQuietOccurrence bv own phase P x)
       (few_before : length m.performing.kept.runs ≤ last_count) (few : length (stepped declared turn at x m).member.performing.kept.runs ≤ last_count)
       (after : IsRested (behaviour declared turn first (stepped declared turn at x m).member.performing.hosted) (stepped declared turn at x m).member)
-      (br : Brings (Some x)) (returns : AreReturns b now (stepped declared turn at x m).effects) where
+      (br : Brings (Some x)) (returns : AreReturns b now (stepped declared turn at x m).effects) (others : (t : ℕ) (view : View) → slice_get bv t ≡ Some view → AreOthers view) where
     abbrev Old : ℕ → ℕ → ℕ → ℕ → Type 0
     Old index number callee node = (k : ℕ) × Purposed b a node k (for.Ask (record { run = index; ask = number }) callee)
 
@@ -202,6 +205,25 @@ module _ (b : Beginning) (bv : List View) (IsPeer : ℕ → Type 0) (own : ℕ) 
     named_now node k index number callee p = elim (purpose_from b now effects node k (for.Ask (record { run = index; ask = number }) callee) p) [
       | inl old ↦ (let was = calm.named node k index number callee (br.purposes node k _ old) in (steps.named index number was.0, was.1))
       | inr new ↦ (let so = all_at (EffectSo bv own P n.performing.kept) effects new.0 (made.Call node new.1 (for.Ask (record { run = index; ask = number }) callee)) steps.effects new.2 in so.1)
+    ]
+
+    -- one that was called for before is not called for again
+    not_again : (node k j index number callee other : ℕ) → Purposed b now node k (for.Ask (record { run = index; ask = number }) callee) → Purposed b behind node j (for.Ask (record { run = index; ask = number }) other)
+        → Purposed b now node j (for.Ask (record { run = index; ask = number }) other)
+    not_again node k j index number callee other old new = elim (purpose_from b now effects node j (for.Ask (record { run = index; ask = number }) other) new) [
+      | inl before ↦ before
+      | inr made_ ↦ absurd (
+          let fresh = all_at (NewCall m.performing.kept) effects made_.0 (made.Call node made_.1 (for.Ask (record { run = index; ask = number }) other)) steps.news made_.2 in
+          fresh (calm.named node k index number callee (br.purposes node k _ old)).0)
+    ]
+
+    once_now : (node k j index number callee other : ℕ) → Purposed b behind node k (for.Ask (record { run = index; ask = number }) callee) → Purposed b behind node j (for.Ask (record { run = index; ask = number }) other) → k ≡ j
+    once_now node k j index number callee other p r = elim (purpose_next b now effects node k (for.Ask (record { run = index; ask = number }) callee) (steps.once others) p) [
+      | inl old ↦ calm.once node k j index number callee other (br.purposes node k _ old) (br.purposes node j _ (not_again node k j index number callee other old r))
+      | inr new ↦ elim (purpose_next b now effects node j (for.Ask (record { run = index; ask = number }) other) (steps.once others) r) [
+        | inl also ↦ calm.once node k j index number callee other (br.purposes node k _ (not_again node j k index number other callee also p)) (br.purposes node j _ also)
+        | inr both ↦ new ∙ sym both
+      ]
     ]
 
     -- ---- the calls that came
@@ -304,6 +326,7 @@ module _ (b : Beginning) (bv : List View) (IsPeer : ℕ → Type 0) (own : ℕ) 
     calm_now = record {
       made = made_now;
       named = named_now;
+      once = once_now;
       waits = waits_now;
       said = said_now;
       gone = inl (step_rests declared turn first lawful at x m rested can in_range).gone_on;

@@ -3,7 +3,7 @@ use Rattle.std.proofs.Common.{◌≡◌, ◌≢◌, ◌⊎◌, inl, inr, ℕ, �
 use Rattle.std.specs.Prelude.{slice_get, slice_index}
 use Rattle.std.specs.Option.{option_map_or}
 use Rattle.std.proofs.lemmas.Bool.Decides.{eqb_tells}
-use Rattle.std.proofs.lemmas.List.Elements.{All-nil, All-weaker}
+use Rattle.std.proofs.lemmas.List.Elements.{All-nil, All-head, All-tail, All-weaker}
 use Rattle.std.proofs.lemmas.Option.{same_Some}
 use Rattle.circus_value.specs.ValueTree.{ValueTree}
 use Rattle.circus_value.specs.declared.caller.Caller.{Caller}
@@ -65,11 +65,12 @@ use Rattle.circus_border_theory.proofs.Handing.{AreReturns}
 use Rattle.circus_border_theory.proofs.Hosting.{IsOtherOf}
 use Rattle.circus_border_theory.proofs.Steps.{IsHandedWhole}
 use Rattle.circus_border_theory.proofs.Worlds.{HandsLines}
-use Rattle.circus_quiescence_theory.specs.Lossless.{AreDeliveries}
+use Rattle.circus_quiescence_theory.specs.Quiet.{IsDelivery}
 use Rattle.circus_quiescence_theory.specs.Still.{phase_at}
 use Rattle.circus_quiescence_theory.proofs.Booting.{few_runs}
 use Rattle.circus_quiescence_theory.proofs.Calm.{IsCalm, Brings, quiet_in_range, calm_still, calm_now, steps}
 use Rattle.circus_quiescence_theory.proofs.CalmNodes.{GoesRight, entry_hosts, brings_so}
+use Rattle.circus_quiescence_theory.proofs.Founders.{boot_others}
 use Rattle.circus_quiescence_theory.proofs.Course.{AllLive, Delivers, line_delivers, line_stands, still_live}
 use Rattle.circus_quiescence_theory.proofs.Quietly.{HasCame, MemberQuiet, HappensQuietly, first_views}
 use Rattle.circus_quiescence_theory.proofs.QuietNodes.{NodesQuiet, NodeQuiet, happens_so, few_of, becomes, deployed, truly, still_called}
@@ -183,12 +184,12 @@ module _ {M : Type 0} (declared : M → Signature) (turn : M → List ValueTree 
           let few = few_of declared turn first lawful program agree are proper d good all acts w so_far quiet node from troupe m hosts truly still at (Some x) truth x refl in
           let br = subst (λ y. Brings (beginning_of d node) (boot_views d.troupes) (λ other. IsOtherOf d node other) troupe (phase_at d node) P declared turn first lawful (first_views 0 d.troupes) (acts node) (coming from segment) m truly.rested still calm y) is brings in
           let s = steps (beginning_of d node) (boot_views d.troupes) (λ other. IsOtherOf d node other) troupe (phase_at d node) P declared turn first lawful (first_views 0 d.troupes) (acts node) (coming from segment) m truly.rested still calm
-          at x so.0 so.1 few_before few truth.rested br returns in
+          at x so.0 so.1 few_before few truth.rested br returns (boot_others d good) in
           record {
             member_ = n;
             acting = refl;
             calm_ = calm_now (beginning_of d node) (boot_views d.troupes) (λ other. IsOtherOf d node other) troupe (phase_at d node) P declared turn first lawful (first_views 0 d.troupes) (acts node) (coming from segment) m truly.rested still calm
-                at x so.0 so.1 few_before few truth.rested br returns;
+                at x so.0 so.1 few_before few truth.rested br returns (boot_others d good);
             early_ = All-weaker (EffectSo (boot_views d.troupes) troupe P n.performing.kept) (IsMade AnyCall (EarlyReturn Called troupe n.performing.kept.count)) (made_early (boot_views d.troupes) Called troupe n.performing.kept)
                 (stepped declared turn at x m).effects s.effects;
             counts = s.counts;
@@ -398,7 +399,7 @@ module _ {M : Type 0} (declared : M → Signature) (turn : M → List ValueTree 
   module _ (I : (ℕ → WireActs Purpose) → WorldState M → Type 0)
       (kept : (number : ℕ) (acts new : ℕ → WireActs Purpose) (w next : WorldState M) → Stands d acts w → (delivers : Delivers declared turn d number acts new w next)
       → IsHandedWhole declared turn first lawful d good delivers.sent.to (acts delivers.sent.to) (w.steps + 1) (comes.Datagram delivers.sent.from delivers.sent.bytes) delivers.node.node → I acts w → I new next) where
-    pub lead_hands : (lines : List Line) (acts : ℕ → WireActs Purpose) (w last : WorldState M) → AreDeliveries lines → Stands d acts w → AllLive w → HandsLines declared turn first lawful d good acts lines w → I acts w
+    pub lead_hands : (lines : List Line) (acts : ℕ → WireActs Purpose) (w last : WorldState M) → All IsDelivery lines → Stands d acts w → AllLive w → HandsLines declared turn first lawful d good acts lines w → I acts w
         → Lead declared turn lines w last → I (λ node. with_lines declared turn node (acts node) lines w) last
     lead_hands [] acts w last are_ so_far live hands holds lead = subst (λ (v : WorldState M). I acts v) (sym lead) holds
     lead_hands (Deliver number ∷ lines) acts w last are_ so_far live hands holds lead =
@@ -408,9 +409,9 @@ module _ {M : Type 0} (declared : M → Signature) (turn : M → List ValueTree 
         let stands = line_stands declared turn d number acts w next so_far lead.1 in
         subst (λ (f : ℕ → WireActs Purpose). I f last)
         (λ i node. with_others (with_lines declared turn node (new node) lines) (acts node) (sym lead.1.stepped_is i))
-        (lead_hands lines new next last are_ stands (still_live declared turn d number acts new w next delivers live) (hands.1 next lead.1.stepped_is)
+        (lead_hands lines new next last (All-tail IsDelivery (Deliver number) lines are_) stands (still_live declared turn d number acts new w next delivers live) (hands.1 next lead.1.stepped_is)
         (kept number acts new w next so_far delivers (hands.0 delivers.sent.to (comes.Datagram delivers.sent.from delivers.sent.bytes) delivers.node delivers.comes_it delivers.at) holds) lead.2)
-    lead_hands (Tick node ∷ lines) acts w last are_ so_far live hands holds lead = absurd are_
-    lead_hands (Crash node ∷ lines) acts w last are_ so_far live hands holds lead = absurd are_
-    lead_hands (Down node told ∷ lines) acts w last are_ so_far live hands holds lead = absurd are_
-    lead_hands (Join node ∷ lines) acts w last are_ so_far live hands holds lead = absurd are_
+    lead_hands (Tick node ∷ lines) acts w last are_ so_far live hands holds lead = absurd (All-head IsDelivery (Tick node) lines are_)
+    lead_hands (Crash node ∷ lines) acts w last are_ so_far live hands holds lead = absurd (All-head IsDelivery (Crash node) lines are_)
+    lead_hands (Down node told ∷ lines) acts w last are_ so_far live hands holds lead = absurd (All-head IsDelivery (Down node told) lines are_)
+    lead_hands (Join node ∷ lines) acts w last are_ so_far live hands holds lead = absurd (All-head IsDelivery (Join node) lines are_)

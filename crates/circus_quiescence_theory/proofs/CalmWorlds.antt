@@ -1,5 +1,5 @@
 -- Where lines deliver datagrams alone, each member of the last world is calm.
-use Rattle.std.proofs.Common.{◌≡◌, inl, inr, ℕ, ◌<◌, ◌≤◌, true, List, [], ◌∷◌, length, map, All, Option, None, Some, refl, sym, ap, subst, ◌∙◌}
+use Rattle.std.proofs.Common.{◌≡◌, inl, inr, ℕ, ◌+◌, ◌<◌, ◌≤◌, true, List, [], ◌∷◌, length, map, All, Option, None, Some, refl, sym, ap, subst, ◌∙◌}
 use Rattle.std.specs.Prelude.{slice_get, flat_map, option_map, option_and_then, if◌then◌else◌}
 use Rattle.std.proofs.lemmas.List.Elements.{All-head, All-weaker}
 use Rattle.std.proofs.lemmas.Option.{none-some, same_Some, slice_get-map, slice_get_within}
@@ -20,7 +20,10 @@ use Rattle.circus_gather.specs.declared.held.HeldCall.{HeldCall}
 use Rattle.circus_performing.specs.Performing.{last_count}
 use Rattle.circus_performing.specs.Record.{behaviour}
 use Rattle.circus_pair.specs.Taken.{total_in, has_arrived}
-use Rattle.circus_wire.specs.WireActs.{WireActs, begun}
+use Rattle.circus_pair.specs.Acts.{none_yet}
+use Rattle.circus_pair.specs.Handed.{made as made_}
+use Rattle.circus_wire.specs.WireActs.{WireActs, begun, purpose_of}
+use Rattle.circus_wire.specs.WireStanding.{pair_of}
 use Rattle.circus_member_rules.specs.declared.occurrence.Effect.{Effect}
 use Rattle.circus_member_rules.specs.declared.occurrence.Effect.TheVariants as made
 use Rattle.circus_member_rules.specs.declared.occurrence.Purpose.{Purpose}
@@ -50,11 +53,12 @@ use Rattle.circus_world_theory.proofs.True.{IsTrueAt, ActsTrue}
 use Rattle.circus_border_theory.specs.Made.{act_of}
 use Rattle.circus_border_theory.proofs.Hosting.{IsOtherOf}
 use Rattle.circus_border_theory.proofs.Whole.{nothing_is_dropped, boots_hand_all}
-use Rattle.circus_quiescence_theory.specs.Lossless.{AreDeliveries}
-use Rattle.circus_quiescence_theory.proofs.Acts.{made_purpose, purpose_from, handed_arrived}
+use Rattle.circus_quiescence_theory.specs.Quiet.{IsDelivery}
+use Rattle.circus_quiescence_theory.proofs.Acts.{made_purpose, purpose_from, purpose_next, handed_arrived}
 use Rattle.circus_quiescence_theory.proofs.Booting.{few_runs, BootsQuietly, boots_quietly}
 use Rattle.circus_quiescence_theory.proofs.Calm.{Arrived, IsCalm}
 use Rattle.circus_quiescence_theory.proofs.CalmSteps.{AnyCall, EarlyReturn, NodesCalm, delivered_calm, lead_hands}
+use Rattle.circus_quiescence_theory.proofs.Founders.{boot_others}
 use Rattle.circus_quiescence_theory.proofs.Course.{own_of, at_boot, boot_live}
 use Rattle.circus_quiescence_theory.proofs.Quietly.{first_views}
 use Rattle.circus_quiescence_theory.proofs.QuietNodes.{NodesQuiet, delivered_true, delivered_quiet}
@@ -211,6 +215,13 @@ module _ {M : Type 0} (declared : M → Signature) (turn : M → List ValueTree 
         let before : has_arrived [] kind k ≡ true = sym (handed_arrived (beginning_of d node) begun boot_doing.effects other kind k) ∙ arrived in
         nothing_arrived kind k before
 
+    -- each other node is called once at most
+    next_at : (other k callee index number : ℕ) → purpose_of (pair_of (beginning_of d node)) other (with_all begun (map act_of boot_doing.effects)) k ≡ Some (for.Ask (record { run = index; ask = number }) callee) → k ≡ 0 + made_ none_yet
+    next_at other k callee index number p = elim (purpose_next (beginning_of d node) begun boot_doing.effects other k (for.Ask (record { run = index; ask = number }) callee) (boots.once (boot_others d world.deployment)) p) [
+      | inl old ↦ absurd (none-some (for.Ask (record { run = index; ask = number }) callee) old)
+      | inr new ↦ new
+    ]
+
     booted_calm : IsCalm (beginning_of d node) (boot_views d.troupes) (λ other. IsOtherOf d node other) (with_all begun (map act_of boot_doing.effects)) boot_doing.member
     booted_calm = record {
       made = λ index number callee r view other there entry.
@@ -220,6 +231,7 @@ module _ {M : Type 0} (declared : M → Signature) (turn : M → List ValueTree 
         | inl old ↦ absurd (none-some (for.Ask (record { run = index; ask = number }) callee) old)
         | inr new ↦ (all_at (EffectSo (boot_views d.troupes) as_.number Nobody boot_doing.member.performing.kept) boot_doing.effects new.0 (made.Call other new.1 (for.Ask (record { run = index; ask = number }) callee)) boots.effects new.2).1
       ];
+      once = λ other k j index number callee asked p r. next_at other k callee index number p ∙ sym (next_at other j asked index number r);
       waits = λ c peer arrived. absurd (none_arrived c.node 0 c.number arrived);
       said = λ other k index number callee asked peer arrived p o asking there. absurd (none_arrived other 1 k arrived);
       gone = inr (record { held = none_held boot_doing.member.gathered.held boots.quiet.held; said = boots.silent });
@@ -267,7 +279,7 @@ module _ {M : Type 0} (declared : M → Signature) (turn : M → List ValueTree 
 
   -- ---- at last
 
-  module _ (deliveries : AreDeliveries lines) where
+  module _ (deliveries : All IsDelivery lines) where
     abbrev pub acts : ℕ → WireActs Purpose
     acts = acts_of declared turn first d hosted lines booted
 

@@ -1,9 +1,10 @@
 -- Worlds that deliveries lead to from boot: what holds there, where each delivery keeps it.
-use Rattle.std.proofs.Common.{◌≡◌, ◌≢◌, ◌⊎◌, ℕ, zero, suc, ◌+◌, ◌<◌, inl, inr, Bool, true, false, List, [], ◌∷◌, ◌++◌, length, map, set, Option, None, Some, Ok, Err, refl, sym, ap, subst, ◌∙◌, arith, ltb-true, eq-eqb, zero-add, add-zero}
+use Rattle.std.proofs.Common.{◌≡◌, ◌≢◌, ◌⊎◌, ℕ, zero, suc, ◌+◌, ◌<◌, ◌≤◌, inl, inr, Bool, true, false, List, [], ◌∷◌, ◌++◌, length, map, set, All, Option, None, Some, Ok, Err, refl, sym, ap, subst, ◌∙◌, arith, ltb-true, eq-eqb, zero-add, add-zero}
 use Rattle.std.specs.Prelude.{slice_get, is_none, nat_lt, option_map, option_and_then, if◌then◌else◌}
 use Rattle.std.specs.Option.{option_map_or}
 use Rattle.std.proofs.lemmas.Bool.{ne_eqb}
-use Rattle.std.proofs.lemmas.List.{length-append}
+use Rattle.std.proofs.lemmas.List.{length-append, length-map}
+use Rattle.std.proofs.lemmas.List.Elements.{All-head, All-tail}
 use Rattle.std.proofs.lemmas.Option.{none-some, same_Some, slice_get-map}
 use Rattle.circus_value.specs.ValueTree.{ValueTree}
 use Rattle.circus_value.specs.declared.outcome.Outcome.{Outcome}
@@ -28,7 +29,7 @@ use Rattle.circus_world.specs.declared.cause.LineCause.{LineCause}
 use Rattle.circus_world.specs.declared.cause.LineCause.TheVariants.{NoDatagram}
 use Rattle.circus_world.specs.WorldState.{WorldState, Standing, is_live}
 use Rattle.circus_world.specs.Course as course
-use Rattle.circus_world.specs.Course.{Stepped, comes_to, concluded, stepped}
+use Rattle.circus_world.specs.Course.{Stepped, concluded, stepped}
 use Rattle.circus_world.specs.Boot.{before_any, joined_by, then_others, all_booted, AreHosted}
 use Rattle.circus_world.specs.Lines.{Leads, Lead}
 use Rattle.circus_world.proofs.ComeLemmas.{datagram_may_come, goes_there, delivered_at}
@@ -38,7 +39,11 @@ use Rattle.circus_talks.specs.NodeActs.{with_all, acts_in, acts_at_boot}
 use Rattle.circus_talks.proofs.Boots.{world_stands}
 use Rattle.circus_talks.proofs.Lines.{lead_stands}
 use Rattle.circus_talks.proofs.Worlds.{Stands}
-use Rattle.circus_quiescence_theory.specs.Lossless.{AreDeliveries}
+use Rattle.circus_quiescence_theory.specs.Enough.{total}
+use Rattle.circus_quiescence_theory.proofs.Amounts.{is_data}
+use Rattle.circus_quiescence_theory.proofs.Answering.{data_in, boot_but}
+use Rattle.circus_quiescence_theory.proofs.Sums.{one, weigh, weigh-append}
+use Rattle.circus_quiescence_theory.specs.Quiet.{IsDelivery}
 use Rattle.circus_quiescence_theory.proofs.Giving.{IsGive}
 
 module _ {M : Type 0} where
@@ -176,7 +181,7 @@ module _ {M : Type 0} (declared : M → Signature) (turn : M → List ValueTree 
   IsKept I = (number : ℕ) (acts new : ℕ → WireActs Purpose) (w next : WorldState M) → Stands d acts w → Stands d new next → Delivers number acts new w next → I acts w → I new next
 
   module _ (I : (ℕ → WireActs Purpose) → WorldState M → Type 0) (kept : IsKept I) where
-    pub lead_keeps : (lines : List Line) (acts : ℕ → WireActs Purpose) (w last : WorldState M) → AreDeliveries lines → Stands d acts w → AllLive w → I acts w → Lead declared turn lines w last
+    pub lead_keeps : (lines : List Line) (acts : ℕ → WireActs Purpose) (w last : WorldState M) → All IsDelivery lines → Stands d acts w → AllLive w → I acts w → Lead declared turn lines w last
         → I (λ node. with_lines declared turn node (acts node) lines w) last
     lead_keeps [] acts w last are so_far live holds lead = subst (λ (v : WorldState M). I acts v) (sym lead) holds
     lead_keeps (Deliver number ∷ lines) acts w last are so_far live holds lead =
@@ -186,15 +191,15 @@ module _ {M : Type 0} (declared : M → Signature) (turn : M → List ValueTree 
         let stands = line_stands number acts w next so_far lead.1 in
         subst (λ (f : ℕ → WireActs Purpose). I f last)
         (λ i node. with_others (with_lines declared turn node (new node) lines) (acts node) (sym lead.1.stepped_is i))
-        (lead_keeps lines new next last are stands (still_live number acts new w next delivers live) (kept number acts new w next so_far stands delivers holds) lead.2)
-    lead_keeps (Tick node ∷ lines) acts w last are so_far live holds lead = absurd are
-    lead_keeps (Crash node ∷ lines) acts w last are so_far live holds lead = absurd are
-    lead_keeps (Down node told ∷ lines) acts w last are so_far live holds lead = absurd are
-    lead_keeps (Join node ∷ lines) acts w last are so_far live holds lead = absurd are
+        (lead_keeps lines new next last (All-tail IsDelivery (Deliver number) lines are) stands (still_live number acts new w next delivers live) (kept number acts new w next so_far stands delivers holds) lead.2)
+    lead_keeps (Tick node ∷ lines) acts w last are so_far live holds lead = absurd (All-head IsDelivery (Tick node) lines are)
+    lead_keeps (Crash node ∷ lines) acts w last are so_far live holds lead = absurd (All-head IsDelivery (Crash node) lines are)
+    lead_keeps (Down node told ∷ lines) acts w last are so_far live holds lead = absurd (All-head IsDelivery (Down node told) lines are)
+    lead_keeps (Join node ∷ lines) acts w last are so_far live holds lead = absurd (All-head IsDelivery (Join node) lines are)
 
     -- what the delivery of a number makes true
     module _ (number : ℕ) (makes : (acts new : ℕ → WireActs Purpose) (w next : WorldState M) → Stands d acts w → Stands d new next → Delivers number acts new w next → I new next) where
-      pub lead_makes : (lines : List Line) (place : ℕ) (acts : ℕ → WireActs Purpose) (w last : WorldState M) → slice_get lines place ≡ Some (Deliver number) → AreDeliveries lines → Stands d acts w → AllLive w
+      pub lead_makes : (lines : List Line) (place : ℕ) (acts : ℕ → WireActs Purpose) (w last : WorldState M) → slice_get lines place ≡ Some (Deliver number) → All IsDelivery lines → Stands d acts w → AllLive w
           → Lead declared turn lines w last → I (λ node. with_lines declared turn node (acts node) lines w) last
       lead_makes [] place acts w last at are so_far live lead = absurd (let clash : ◌≡◌ {A = Option Line} None (Some (Deliver number)) = at in cc)
       lead_makes (Deliver other ∷ lines) zero acts w last at are so_far live lead =
@@ -205,7 +210,7 @@ module _ {M : Type 0} (declared : M → Signature) (turn : M → List ValueTree 
           let stands = line_stands other acts w next so_far lead.1 in
           subst (λ (f : ℕ → WireActs Purpose). I f last)
           (λ i node. with_others (with_lines declared turn node (new node) lines) (acts node) (sym lead.1.stepped_is i))
-          (lead_keeps lines new next last are stands (still_live other acts new w next delivers live)
+          (lead_keeps lines new next last (All-tail IsDelivery (Deliver other) lines are) stands (still_live other acts new w next delivers live)
           (makes acts new w next so_far stands (subst (λ n. Delivers n acts new w next) same delivers)) lead.2)
         where
           same_number : (n : ℕ) → ◌≡◌ {A = Line} (Deliver n) (Deliver number) → n ≡ number
@@ -217,11 +222,11 @@ module _ {M : Type 0} (declared : M → Signature) (turn : M → List ValueTree 
           let stands = line_stands other acts w next so_far lead.1 in
           subst (λ (f : ℕ → WireActs Purpose). I f last)
           (λ i node. with_others (with_lines declared turn node (new node) lines) (acts node) (sym lead.1.stepped_is i))
-          (lead_makes lines place new next last at are stands (still_live other acts new w next delivers live) lead.2)
-      lead_makes (Tick node ∷ lines) place acts w last at are so_far live lead = absurd are
-      lead_makes (Crash node ∷ lines) place acts w last at are so_far live lead = absurd are
-      lead_makes (Down node told ∷ lines) place acts w last at are so_far live lead = absurd are
-      lead_makes (Join node ∷ lines) place acts w last at are so_far live lead = absurd are
+          (lead_makes lines place new next last at (All-tail IsDelivery (Deliver other) lines are) stands (still_live other acts new w next delivers live) lead.2)
+      lead_makes (Tick node ∷ lines) place acts w last at are so_far live lead = absurd (All-head IsDelivery (Tick node) lines are)
+      lead_makes (Crash node ∷ lines) place acts w last at are so_far live lead = absurd (All-head IsDelivery (Crash node) lines are)
+      lead_makes (Down node told ∷ lines) place acts w last at are so_far live lead = absurd (All-head IsDelivery (Down node told) lines are)
+      lead_makes (Join node ∷ lines) place acts w last at are so_far live lead = absurd (All-head IsDelivery (Join node) lines are)
 
 -- ---- what was sent
 
@@ -267,6 +272,32 @@ posted_later w next more from to bytes is posted = record {
   bytes_are = posted.bytes_are;
 }
 
+-- ---- how much was sent
+
+-- how many datagrams with data were sent
+abbrev pub sent_data : List Sent → ℕ
+sent_data sent = weigh (λ (s : Sent). one (is_data s.bytes)) sent
+
+data_of_gives : (step node : ℕ) (gives : List Give) → sent_data (map (course.sent_by step node) gives) ≡ data_in gives
+data_of_gives step node [] = refl
+data_of_gives step node (g ∷ gives) = (let rest = data_of_gives step node gives in omega (arith, rest))
+
+-- in a step more by what a node gives in it
+pub sent_more : (before : List Sent) (step node : ℕ) (gives : List Give)
+    → (sent_data (before ++ map (course.sent_by step node) gives) ≡ sent_data before + data_in gives)
+    × (length (before ++ map (course.sent_by step node) gives) ≡ length before + length gives)
+sent_more before step node gives =
+    let both = weigh-append (λ (s : Sent). one (is_data s.bytes)) before (map (course.sent_by step node) gives) in
+    let here = data_of_gives step node gives in
+    let long = length-append before (map (course.sent_by step node) gives) in
+    let long_here = length-map gives (course.sent_by step node) in
+    (omega (arith, both, here), omega (arith, long, long_here))
+
+-- of what a node gives at boot
+abbrev pub data_of_end : {M : Type 0} → node_step.Ended M → ℕ
+data_of_end (Ok ended) = data_in ended.1.gives
+data_of_end (Err peer) = 0
+
 -- ---- at boot
 
 module _ {M : Type 0} (declared : M → Signature) (turn : M → List ValueTree → ℕ → List ValueTree → List Outcome → NextTurn) (first : M → List ValueTree) (d : Deployment) (hosted : List (Option M)) where
@@ -287,6 +318,8 @@ module _ {M : Type 0} (declared : M → Signature) (turn : M → List ValueTree 
   record SoFar (w : WorldState M) : Type 0 where
     deployment : w.deployment ≡ d
     boots : (node : ℕ) (s : Standing M) → slice_get w.nodes node ≡ Some s → BootsAt w node s
+    counted : sent_data w.sent ≡ total (length w.nodes) (λ node. data_of_end (booted declared turn first d (own_of node) node))
+    few : length w.sent ≤ sent_data w.sent
 
   one_more : (w : WorldState M) (own : Option M) (ended : NodeState M × Outputs) → SoFar w → slice_get hosted (length w.nodes) ≡ Some own → booted declared turn first w.deployment own (length w.nodes) ≡ Ok ended
       → SoFar (record w {
@@ -296,6 +329,20 @@ module _ {M : Type 0} (declared : M → Signature) (turn : M → List ValueTree 
   one_more w own ended so_far at ends = record {
     deployment = so_far.deployment;
     boots = λ node s found. by_place node s (get_push w.nodes node (record { node = ended.0; crashed = None; joins = false }) s found);
+    counted =
+        let more = (sent_more w.sent 0 (length w.nodes) ended.1.gives).0 in
+        let longer : length (w.nodes ++ record { node = ended.0; crashed = None; joins = false } ∷ []) ≡ suc (length w.nodes) = (let long = length-append w.nodes (record { node = ended.0; crashed = None; joins = false } ∷ []) in omega (arith, long)) in
+        let here : data_of_end (booted declared turn first d (own_of (length w.nodes)) (length w.nodes)) ≡ data_in ended.1.gives = ap data_of_end now.ends in
+        let before = so_far.counted in
+        let whole = ap (λ n. total n (λ node. data_of_end (booted declared turn first d (own_of node) node))) longer in
+        omega (arith, more, here, before, whole);
+    few =
+        let more = sent_more w.sent 0 (length w.nodes) ended.1.gives in
+        let here = boot_but declared turn first w.deployment own (length w.nodes) ended ends in
+        let before = so_far.few in
+        let data_ = more.0 in
+        let long = more.1 in
+        omega (arith, data_, long, here, before);
   }
     where
       next : WorldState M
@@ -345,7 +392,13 @@ module _ {M : Type 0} (declared : M → Signature) (turn : M → List ValueTree 
 
   pub world_boots : (modules : List M) (w : WorldState M) → all_booted declared turn first hosted (before_any d modules) ≡ Ok w → (node : ℕ) (s : Standing M) → slice_get w.nodes node ≡ Some s → BootsAt w node s
   world_boots modules w is =
-      (all_so_far hosted (before_any d modules) w (record { deployment = refl; boots = λ node s at. absurd (none-some s at) }) (λ place own found. ap (slice_get hosted) (zero-add place) ∙ found) is).boots
+      (all_so_far hosted (before_any d modules) w (record { deployment = refl; boots = λ node s at. absurd (none-some s at); counted = refl; few = omega arith }) (λ place own found. ap (slice_get hosted) (zero-add place) ∙ found) is).boots
+
+  pub boot_counts : (modules : List M) (w : WorldState M) → all_booted declared turn first hosted (before_any d modules) ≡ Ok w
+      → (sent_data w.sent ≡ total (length w.nodes) (λ node. data_of_end (booted declared turn first d (own_of node) node))) × (length w.sent ≤ sent_data w.sent)
+  boot_counts modules w is =
+      let so_far = all_so_far hosted (before_any d modules) w (record { deployment = refl; boots = λ node s at. absurd (none-some s at); counted = refl; few = omega arith }) (λ place own found. ap (slice_get hosted) (zero-add place) ∙ found) is in
+      (so_far.counted, so_far.few)
 
   pub boot_live : (modules : List M) (w : WorldState M) → all_booted declared turn first hosted (before_any d modules) ≡ Ok w → AllLive w
   boot_live modules w is node s at = ap (λ (t : Standing M). t.crashed) (world_boots modules w is node s at).is

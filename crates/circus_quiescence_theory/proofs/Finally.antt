@@ -97,8 +97,8 @@ use Rattle.circus_world_theory.specs.Worlds.{IsWorldOf}
 use Rattle.circus_world_theory.proofs.Stepping.{CalledAt}
 use Rattle.circus_world_theory.proofs.True.{CallSo, ReturnSo, IsTrueAt, ActsTrue}
 use Rattle.circus_border_theory.proofs.Hosting.{belongs_hosts}
-use Rattle.circus_quiescence_theory.specs.Done.{AsksAtMost, AskEnough, IsDone, RootsAreDone}
-use Rattle.circus_quiescence_theory.specs.Lossless.{LoseNothing}
+use Rattle.circus_quiescence_theory.specs.Done.{AsksAtMost, AskEnough, IsDone, RootsAreDone, EndsEveryRoot}
+use Rattle.circus_quiescence_theory.specs.Quiet.{IsQuiet}
 use Rattle.circus_quiescence_theory.specs.Still.{phase_of, phase_at}
 use Rattle.circus_quiescence_theory.specs.Told.{Recorded, IsOpenAt, IsTold, IsWaiting}
 use Rattle.circus_quiescence_theory.proofs.Booting.{few_runs}
@@ -143,12 +143,12 @@ node_within d node place is = go (slice_get d.nodes node) refl is
 module _ {M : Type 0} (declared : M → Signature) (turn : M → List ValueTree → ℕ → List ValueTree → List Outcome → NextTurn) (first : M → List ValueTree)
     (lawful : (hosted : M) → IsModule (behaviour declared turn first hosted))
     (d : Deployment) (modules : List M) (hosted : List (Option M)) (lines : List Line) (booted last : WorldState M)
-    (world : IsWorldOf declared turn first d modules hosted lines booted last) (lossless : LoseNothing lines last) where
+    (world : IsWorldOf declared turn first d modules hosted lines booted last) (lossless : IsQuiet last lines) where
   abbrev pub program : List Behaviour
   program = behaviours declared turn first modules
 
   abbrev pub happened : ℕ → WireActs Purpose
-  happened = acts declared turn first lawful d modules hosted lines booted last world lossless.deliveries
+  happened = acts declared turn first lawful d modules hosted lines booted last world lossless.alone
 
   -- ---- founders
 
@@ -163,8 +163,8 @@ module _ {M : Type 0} (declared : M → Signature) (turn : M → List ValueTree 
     pub active : is_active m.performing.kept.phase ≡ true
 
   pub founder_at : (place node : ℕ) → IsFounderAt d place node → Founder place node
-  founder_at place node e = by_acting s.0.node.acting refl (subst (λ o. ActsTrue declared turn first program d (CalledAt d happened node) o s.0.node.acting) hosts ((holds_at_last declared turn first lawful d modules hosted lines booted last world lossless.deliveries).0.nodes node s.0 s.1))
-      (subst (λ o. NodeQuiet declared turn first lawful program world.agree (are_modules declared turn first modules lawful) world.proper d world.deployment (many declared turn first lawful d modules hosted lines booted last world) (CalledAt d happened node) node o s.0.node.acting) hosts ((holds_at_last declared turn first lawful d modules hosted lines booted last world lossless.deliveries).1.nodes node s.0 s.1))
+  founder_at place node e = by_acting s.0.node.acting refl (subst (λ o. ActsTrue declared turn first program d (CalledAt d happened node) o s.0.node.acting) hosts ((holds_at_last declared turn first lawful d modules hosted lines booted last world lossless.alone).0.nodes node s.0 s.1))
+      (subst (λ o. NodeQuiet declared turn first lawful program world.agree (are_modules declared turn first modules lawful) world.proper d world.deployment (many declared turn first lawful d modules hosted lines booted last world) (CalledAt d happened node) node o s.0.node.acting) hosts ((holds_at_last declared turn first lawful d modules hosted lines booted last world lossless.alone).1.nodes node s.0 s.1))
     where
       hosts : troupe_at d node ≡ Some place
       hosts = belongs_hosts d world.deployment place node (ap (λ o. option_map_or (λ (t : Troupe). is_among t.founders node || is_among t.spares node) o false) e.there ∙ ap (λ b. b || is_among e.troupe.spares node) e.among)
@@ -263,7 +263,7 @@ module _ {M : Type 0} (declared : M → Signature) (turn : M → List ValueTree 
       let f = founder_at place node e in
       let rooted : is_root d place ≡ true = sym (fits declared turn first lawful d modules hosted lines booted last world place root.behaviour root.there).root ∙ root.root in
       begun_so place node f 0
-      ((holds_at_last declared turn first lawful d modules hosted lines booted last world lossless.deliveries).2.begun node place e.troupe f.s f.m f.at f.acting f.hosts e.there e.among rooted)
+      ((holds_at_last declared turn first lawful d modules hosted lines booted last world lossless.alone).2.begun node place e.troupe f.s f.m f.at f.acting f.hosts e.there e.among rooted)
 
   ends : (place index : ℕ) (run : Run) → run_at (history_of program) place index ≡ Some run → Answered place index (length run.asks) → Ended place index
   ends place index run run_is answered node e = elim (answered node e) [
@@ -327,7 +327,7 @@ module _ {M : Type 0} (declared : M → Signature) (turn : M → List ValueTree 
 
       by_call : (k : ℕ) → HasCalledFor d happened node other k (for.Ask name ask.callee) → IsCalledSo place node index number other run ask
       by_call k for_ =
-          let holds = holds_at_last declared turn first lawful d modules hosted lines booted last world lossless.deliveries in
+          let holds = holds_at_last declared turn first lawful d modules hosted lines booted last world lossless.alone in
           let c = purpose_said (CallSo program (CalledAt d happened node) (troupe_at d node)) (ReturnSo program (CalledAt d happened node) (troupe_at d node)) (beginning_of d node) (happened node) other k (for.Ask name ask.callee) (holds.0.said node) for_ in
           let q = purpose_said QuietCall QuietReturn (beginning_of d node) (happened node) other k (for.Ask name ask.callee) (holds.1.said node) for_ in
           let purpose : c.purpose ≡ for.Ask name ask.callee = same_Some c.purpose (for.Ask name ask.callee) (sym c.purpose_is ∙ for_) in
@@ -464,7 +464,7 @@ module _ {M : Type 0} (declared : M → Signature) (turn : M → List ValueTree 
 
       no_reply : ⊥
       no_reply =
-          let holds = holds_at_last declared turn first lawful d modules hosted lines booted last world lossless.deliveries in
+          let holds = holds_at_last declared turn first lawful d modules hosted lines booted last world lossless.alone in
           let i = passes_some (λ (x : Import). arguments_fit x.procedures ask.procedure ask.arguments) (import_of ask.callee (b place node f).declared.imports)
           (takes program world.agree (are_modules declared turn first modules lawful) place (b place node f) f.true_.at index number run ask there) in
           let most = enough.replies place ask.callee (b place node f).declared i.value own.troupe callee.0 (declared_there place (b place node f) f.true_.at) i.is own.there callee.1 in
@@ -592,7 +592,7 @@ module _ {M : Type 0} (declared : M → Signature) (turn : M → List ValueTree 
           let at_index_ : slice_index c.header.clock place ≡ index = ap (λ l. slice_index l place) c.so.clock ∙ clock_at in
           elim ((told_at place node f).heard caller c.message (node_within d other maker.caller_place g.hosts) differs c.called) [
             | inl back ↦ absurd (
-                let holds = holds_at_last declared turn first lawful d modules hosted lines booted last world lossless.deliveries in
+                let holds = holds_at_last declared turn first lawful d modules hosted lines booted last world lossless.alone in
                 let early = return_said AnyCall (EarlyReturn (CalledAt d happened node) place f.m.performing.kept.count) (beginning_of d node) (happened node) other c.k back.0 (holds.2.early node place f.s f.m f.at f.acting f.hosts) back.1 in
                 let same = ask_header early.header c.header early.body c.body early.header_is c.header_is (same_Some (ask_message early.header early.body) (ask_message c.header c.body) (sym early.called ∙ called)) in
                 let less = early.early in
@@ -620,7 +620,7 @@ module _ {M : Type 0} (declared : M → Signature) (turn : M → List ValueTree 
 
       no_start : ⊥
       no_start =
-          let holds = holds_at_last declared turn first lawful d modules hosted lines booted last world lossless.deliveries in
+          let holds = holds_at_last declared turn first lawful d modules hosted lines booted last world lossless.alone in
           let i = passes_some (λ (x : Import). arguments_fit x.procedures maker.ask.procedure maker.ask.arguments) (import_of maker.ask.callee client_behaviour.0.declared.imports)
           (takes program world.agree (are_modules declared turn first modules lawful) maker.caller_place client_behaviour.0 client_behaviour.1 maker.caller_index maker.number maker.caller maker.ask there_ask) in
           let most = enough.calls maker.caller_place place client_behaviour.0.declared i.value client_troupe.0 own.troupe (declared_there maker.caller_place client_behaviour.0 client_behaviour.1)
@@ -702,3 +702,9 @@ module _ {M : Type 0} (declared : M → Signature) (turn : M → List ValueTree 
         let once = root_runs_once program world.agree (are_modules declared turn first modules lawful) place (b place node f) f.true_.at declares in
         let done = all_done place 0 once.0 (ap (λ l. slice_get l 0) once.1.0) node e in
         subst (λ k. IsDone k) record_so (done_of place node f once.0 once.1.0 done)
+
+-- so a world that is quiet has ended every root
+pub quiet_ends : {M : Type 0} (declared : M → Signature) (turn : M → List ValueTree → ℕ → List ValueTree → List Outcome → NextTurn) (first : M → List ValueTree)
+    (lawful : (hosted : M) → IsModule (behaviour declared turn first hosted)) (lines : List Line) (last : WorldState M) → IsQuiet last lines → EndsEveryRoot declared turn first lines last
+quiet_ends declared turn first lawful lines last quiet d modules hosted booted world enough =
+    roots_are_done declared turn first lawful d modules hosted lines booted last world quiet enough

@@ -1,12 +1,12 @@
 -- What is owed to the other nodes for what happens at the pairs of a node is among what the node gives in that step.
-use Rattle.std.proofs.Common.{◌≡◌, ◌≢◌, ◌⊎◌, inl, inr, ℕ, zero, suc, ◌-◌, ◌*◌, ◌<◌, ◌≤◌, Bool, true, false, cond, not, ◌&&◌, eqb, List, [], ◌∷◌, ◌++◌, length, Option, None, Some, Result, Ok, Err, refl, sym, ap, subst, ◌∙◌, arith}
+use Rattle.std.proofs.Common.{◌≡◌, ◌≢◌, ◌⊎◌, inl, inr, ℕ, zero, suc, ◌+◌, ◌-◌, ◌*◌, ◌<◌, ◌≤◌, Bool, true, false, cond, not, ◌&&◌, eqb, List, [], ◌∷◌, ◌++◌, length, Option, None, Some, Result, Ok, Err, refl, sym, ap, subst, ◌∙◌, arith}
 use Rattle.std.specs.Prelude.{slice_get, option_map, flat_map, nat_lt, nat_le, if◌then◌else◌, ◌==◌}
-use Rattle.std.proofs.lemmas.Bool.{and_parts, ltb-true, leb-true, eqb-false}
+use Rattle.std.proofs.lemmas.Bool.{and_parts, ltb-true, leb-true, eqb-false, ne_eqb}
 use Rattle.std.proofs.lemmas.Bool.Decides.{eqb_tells}
-use Rattle.std.proofs.lemmas.Option.{slice_get-map}
+use Rattle.std.proofs.lemmas.Option.{slice_get-map, slice_get_within}
 use Rattle.circus_segment.specs.Segment.{part_size, most_segments}
 use Rattle.circus_exchange.specs.Limits.{never_used}
-use Rattle.circus_exchange.specs.Exchange.{IsSendable, datagrams_of_return}
+use Rattle.circus_exchange.specs.Exchange.{IsSendable, awaits_return, datagrams_of_return}
 use Rattle.circus_pair.proofs.Following as following
 use Rattle.circus_pair.proofs.Lasting.{lasts_called, lasts_returned}
 use Rattle.circus_value.specs.declared.caller.Caller.{Caller}
@@ -46,6 +46,10 @@ use Rattle.circus_node.specs.Step.{ended, concluded}
 use Rattle.circus_talks.specs.NodeActs.{with_all, handed_by}
 use Rattle.circus_talks.proofs.Spelled.{few_made}
 use Rattle.circus_talks.proofs.Given.{WasGiven, with_both, same_end}
+use Rattle.circus_quiescence_theory.specs.Enough.{total}
+use Rattle.circus_quiescence_theory.proofs.Amounts.{is_data, datas, datas-append}
+use Rattle.circus_quiescence_theory.proofs.Answering.{data_in, data_of_batch}
+use Rattle.circus_quiescence_theory.proofs.Sums.{one, weigh-append, total_le, total_raise}
 
 -- ---- what was sent
 
@@ -104,6 +108,62 @@ none_all b before acts act gives all none to bytes not_own within given = elim (
   | inr new ↦ absurd (no_bytes bytes new.0 (ap (λ (l : List (List ℕ)). slice_get l new.0) (sym (none to not_own within)) ∙ new.1))
 ]
 
+-- ---- how much is given
+
+-- how many datagrams with data acts have sent to another node
+abbrev pub data_to : Beginning → WireActs Purpose → ℕ → ℕ
+data_to b acts other = if other == b.own then 0 else datas (sent_in b other acts)
+
+-- and to all other ones
+abbrev pub data_sent : Beginning → WireActs Purpose → ℕ
+data_sent b acts = total b.nodes (data_to b acts)
+
+-- what is given these acts have sent, behind what was sent before
+abbrev pub AllCounted : Beginning → WireActs Purpose → WireActs Purpose → List Give → Type 0
+AllCounted b before acts gives = data_in gives + data_sent b before ≤ data_sent b acts
+
+data_later : (b : Beginning) (acts : WireActs Purpose) (act : WireAct Purpose) (other : ℕ) → data_to b acts other ≤ data_to b (followed_by acts act) other
+unfolding sent_in
+data_later b acts act other = by_test (other == b.own)
+  where
+    by_test : (own : Bool) → (if own then 0 else datas (sent_in b other acts)) ≤ (if own then 0 else datas (sent_in b other acts ++ (owed_to b acts act other).datagrams))
+    by_test true = omega arith
+    by_test false = (let both = datas-append (sent_in b other acts) (owed_to b acts act other).datagrams in omega (arith, both))
+
+more_counted : (b : Beginning) (before acts : WireActs Purpose) (act : WireAct Purpose) (gives : List Give) (batch : Batch) → AllCounted b before acts gives
+    → batch.datagrams ≡ (owed_to b acts act batch.to).datagrams → batch.to ≢ b.own → batch.to < b.nodes → AllCounted b before (followed_by acts act) (gives ++ gives_of batch)
+unfolding sent_in
+more_counted b before acts act gives batch counted owes differs below =
+    let both = weigh-append (λ (g : Give). one (is_data g.bytes)) gives (gives_of batch) in
+    let here = data_of_batch batch.to batch.datagrams in
+    let now = datas-append (sent_in b batch.to acts) (owed_to b acts act batch.to).datagrams in
+    let owed = ap datas owes in
+    let old : data_to b acts batch.to ≡ datas (sent_in b batch.to acts) = ap (λ x. if x then 0 else datas (sent_in b batch.to acts)) (ne_eqb batch.to b.own differs) in
+    let new : data_to b (followed_by acts act) batch.to ≡ datas (sent_in b batch.to acts ++ (owed_to b acts act batch.to).datagrams) =
+    ap (λ x. if x then 0 else datas (sent_in b batch.to acts ++ (owed_to b acts act batch.to).datagrams)) (ne_eqb batch.to b.own differs) in
+    let raise = total_raise b.nodes batch.to (datas batch.datagrams) (data_to b acts) (data_to b (followed_by acts act)) below (λ k k_below. data_later b acts act k) (omega (arith, now, owed, old, new)) in
+    omega (arith, counted, both, here, raise)
+
+none_counted : (b : Beginning) (before acts : WireActs Purpose) (act : WireAct Purpose) (gives : List Give) → AllCounted b before acts gives → AllCounted b before (followed_by acts act) (gives ++ [])
+none_counted b before acts act gives counted =
+    let both = weigh-append (λ (g : Give). one (is_data g.bytes)) gives [] in
+    let later = total_le b.nodes (data_to b acts) (data_to b (followed_by acts act)) (λ k k_below. data_later b acts act k) in
+    omega (arith, counted, both, later)
+
+-- another node that is up, or awaits a return, is one of the nodes
+peer_there : (b : Beginning) (acts : WireActs Purpose) (w : WireState Purpose) (test : PeerState Purpose → Bool) (node : ℕ) → WireStands w b acts → of_peer false test (peer_at w node) ≡ true → (node ≢ b.own) × (node < b.nodes)
+peer_there b acts w test node stands is =
+    let f = found_by test w w.own w.format w.peers node refl is in
+    let nodes = stands.nodes in
+    let own = stands.one in (
+      λ same. f.differs (same ∙ sym stands.own),
+      by_place (nat_lt w.own node) (omega (arith, slice_get_within w.peers (place_of w.own node) f.peer f.there, nodes)) own,
+    )
+  where
+    by_place : (low : Bool) → (if low then node - 1 else node) < b.nodes - 1 → b.own < b.nodes → node < b.nodes
+    by_place true below some = omega (arith, below, some)
+    by_place false below some = omega (arith, below, some)
+
 -- ---- a node stays up while calls and returns are handed over
 
 module _ (change : PeerState Purpose → PeerState Purpose) (same : (p : PeerState Purpose) → (change p).exchange.stopped ≡ p.exchange.stopped) where
@@ -140,6 +200,7 @@ up_answered w caller message node =
 pub record Handed (b : Beginning) (before acts : WireActs Purpose) (old w : WireState Purpose) (gives : List Give) : Type 0 where
   pub stands : WireStands w b acts
   pub all : AllGiven b before acts gives
+  pub counted : AllCounted b before acts gives
   pub up : (node : ℕ) → is_up w node ≡ is_up old node
   pub format : w.format ≡ old.format
 
@@ -181,6 +242,9 @@ module _ (b : Beginning) (low : b.first ≤ never_used) (before acts : WireActs 
             all = more_all b before acts (CallTo to message purpose) gives (sent_by_call w to message) so_far.all
                 (ap (λ (x : Batch). x.datagrams) (call_owes b acts w to message purpose up may left so_far.stands (sent_by_call w to message).datagrams refl))
                 (λ other differs. call_elsewhere b acts to other message purpose differs);
+            counted = (let there = peer_there b acts w (λ (p : PeerState Purpose). not p.exchange.stopped) to so_far.stands up in
+                more_counted b before acts (CallTo to message purpose) gives (sent_by_call w to message) so_far.counted
+                (ap (λ (x : Batch). x.datagrams) (call_owes b acts w to message purpose up may left so_far.stands (sent_by_call w to message).datagrams refl)) there.0 there.1);
             up = λ node. up_called w to node message purpose ∙ so_far.up node;
             format = so_far.format;
           }
@@ -222,6 +286,9 @@ module _ (b : Beginning) (low : b.first ≤ never_used) (before acts : WireActs 
             all = more_all b before acts (AnswerTo caller message) gives sends so_far.all
                 (ap (λ (x : Batch). x.datagrams) (answer_owes b acts w caller message so_far.stands sends.datagrams is (sym (ap (λ (x : Bool). let y : Batch = if x then sends else none in y.datagrams) is))))
                 (λ other differs. answer_elsewhere b acts caller other message differs);
+            counted = (let there = peer_there b acts w (λ (p : PeerState Purpose). awaits_return p.exchange caller.number) caller.node so_far.stands is in
+                more_counted b before acts (AnswerTo caller message) gives sends so_far.counted
+                (ap (λ (x : Batch). x.datagrams) (answer_owes b acts w caller message so_far.stands sends.datagrams is (sym (ap (λ (x : Bool). let y : Batch = if x then sends else none in y.datagrams) is)))) there.0 there.1);
             up = λ node. up_answered w caller message node ∙ so_far.up node;
             format = so_far.format;
           }
@@ -229,6 +296,7 @@ module _ (b : Beginning) (low : b.first ≤ never_used) (before acts : WireActs 
           record {
             stands = unawaited_stands b acts w caller message so_far.stands is;
             all = none_all b before acts (AnswerTo caller message) gives so_far.all (owes_none is);
+            counted = none_counted b before acts (AnswerTo caller message) gives so_far.counted;
             up = so_far.up;
             format = so_far.format;
           }
@@ -274,23 +342,27 @@ all_on b low before acts old (sent w gives) (e ∷ effects) so_far =
 pub record Gives {M : Type 0} (b : Beginning) (before acts : WireActs Purpose) (r : NodeState M × Outputs) : Type 0 where
   pub stands : WireStands r.0.wire b acts
   pub all : AllGiven b before acts r.1.gives
+  pub counted : AllCounted b before acts r.1.gives
 
 module _ {M : Type 0} where
   ended_gives : (b : Beginning) (before acts : WireActs Purpose) (old : WireState Purpose) (n : NodeState M) (m : Made M) (s : Sending) (r : NodeState M × Outputs)
       → IsHanded b before acts old s → ended n m.came s ≡ Ok r → Gives b before acts r
-  ended_gives b before acts old n m (sent w gives) r on is = subst (Gives b before acts) (same_end _ r is) (record { stands = on.stands; all = on.all })
+  ended_gives b before acts old n m (sent w gives) r on is = subst (Gives b before acts) (same_end _ r is) (record { stands = on.stands; all = on.all; counted = on.counted })
   ended_gives b before acts old n m (spent node) r on is = absurd (let clash : ◌≡◌ {A = Result (NodeState M × Outputs) ℕ} (Err node) (Ok r) = is in cc)
 
   concluded_gives : (b : Beginning) → b.first ≤ never_used → (before acts : WireActs Purpose) (n : NodeState M) (gives : List Give) (m : Made M) (r : NodeState M × Outputs)
-      → WireStands n.wire b acts → AllGiven b before acts gives → concluded n gives m.came ≡ Ok r → Gives b before (with_all acts (flat_map (handed_by n.wire) m.came.effects)) r
-  concluded_gives b low before acts n gives m r stands all is =
+      → WireStands n.wire b acts → AllGiven b before acts gives → AllCounted b before acts gives → concluded n gives m.came ≡ Ok r → Gives b before (with_all acts (flat_map (handed_by n.wire) m.came.effects)) r
+  concluded_gives b low before acts n gives m r stands all counted is =
       ended_gives b before (with_all acts (flat_map (handed_by n.wire) m.came.effects)) n.wire n m (all_handed (sent n.wire gives) m.came.effects) r
-      (all_on b low before acts n.wire (sent n.wire gives) m.came.effects (record { stands = stands; all = all; up = λ node. refl; format = refl }))
+      (all_on b low before acts n.wire (sent n.wire gives) m.came.effects (record { stands = stands; all = all; counted = counted; up = λ node. refl; format = refl }))
       is
 
 -- before anything is given
 same_all : (b : Beginning) (acts : WireActs Purpose) → AllGiven b acts acts []
 same_all b acts to bytes not_own within given = inl given
+
+none_yet_counted : (b : Beginning) (acts : WireActs Purpose) → AllCounted b acts acts []
+none_yet_counted b acts = omega arith
 
 module _ (b : Beginning) (acts : WireActs Purpose) (w : WireState Purpose) (from : ℕ) (other : IsOther w from) (stands : WireStands w b acts) where
   datagram_stands : (segment : Result Piece SegmentFault) → ((s : Piece) → segment ≡ Ok s → IsSegment s) → WireStands (after_datagram w from segment) b (with_all acts (coming from segment))
@@ -304,6 +376,17 @@ module _ (b : Beginning) (acts : WireActs Purpose) (w : WireState Purpose) (from
       (λ node differs. segment_elsewhere b acts from node s differs)
   datagram_all (Err fault) is = same_all b acts
 
+  datagram_counted : (segment : Result Piece SegmentFault) → ((s : Piece) → segment ≡ Ok s → IsSegment s) → AllCounted b acts (with_all acts (coming from segment)) (gives_of (sent_by_datagram w from segment))
+  datagram_counted (Ok s) is =
+      let own = stands.own in
+      let some = stands.one in
+      let nodes = stands.nodes in
+      let le = other.1 in
+      more_counted b acts acts (CameFrom from s) [] (sent_by_datagram w from (Ok s)) (none_yet_counted b acts)
+      (ap (λ (x : Batch). x.datagrams) (came_owes b acts w from s s other stands refl (is s refl)))
+      (λ same. other.0 (same ∙ sym own)) (omega (arith, some, nodes, le))
+  datagram_counted (Err fault) is = none_yet_counted b acts
+
 module _ {M : Type 0} (declared : M → Signature) (turn : M → List ValueTree → ℕ → List ValueTree → List Outcome → NextTurn) where
   -- a datagram comes to a node
   pub came_gives : (b : Beginning) → b.first ≤ never_used → (acts : WireActs Purpose) (at from : ℕ) (bytes : List ℕ) (n : NodeState M) (r : NodeState M × Outputs)
@@ -314,7 +397,7 @@ module _ {M : Type 0} (declared : M → Signature) (turn : M → List ValueTree 
       let wire = after_datagram n.wire from (reading bytes) in
       subst (λ x. Gives b acts x r) (sym (with_both acts (coming from (reading bytes)) _))
       (concluded_gives b low acts (with_all acts (coming from (reading bytes))) (record n { wire = wire; acting = m.acting }) (gives_of (sent_by_datagram n.wire from (reading bytes))) m r
-      (datagram_stands b acts n.wire from other stands (reading bytes) read) (datagram_all b acts n.wire from other stands (reading bytes) read) is)
+      (datagram_stands b acts n.wire from other stands (reading bytes) read) (datagram_all b acts n.wire from other stands (reading bytes) read) (datagram_counted b acts n.wire from other stands (reading bytes) read) is)
 
   -- a node boots
   pub boot_gives : (first : M → List ValueTree) (d : Deployment) (hosted : Option M) (node : ℕ) (r : NodeState M × Outputs) → node < length d.nodes → booted declared turn first d hosted node ≡ Ok r
@@ -322,4 +405,4 @@ module _ {M : Type 0} (declared : M → Signature) (turn : M → List ValueTree 
   boot_gives first d hosted node r within is =
       let m = made_at_boot declared turn first d (home_of d node) hosted in
       concluded_gives (beginning_of d node) (omega arith) begun begun (record { deployment = d; wire = fresh_wire d node; acting = m.acting; dropped = 0 }) [] m r
-      (stands_begun (beginning_of d node) (fresh_wire d node) within refl) (same_all (beginning_of d node) begun) is
+      (stands_begun (beginning_of d node) (fresh_wire d node) within refl) (same_all (beginning_of d node) begun) (none_yet_counted (beginning_of d node) begun) is

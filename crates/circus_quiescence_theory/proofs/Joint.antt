@@ -17,7 +17,7 @@ use Rattle.circus_pair.proofs.Each.{Each, each_append, each_map, each_at}
 use Rattle.circus_pair.proofs.OneEnd.{sent_stays}
 use Rattle.circus_pair.proofs.Outputs.{taken_is}
 use Rattle.circus_pair.proofs.Taking.{return_is}
-use Rattle.circus_quiescence_theory.specs.Coming.{came_in, IsQuiet}
+use Rattle.circus_quiescence_theory.specs.Coming.{came_in, IsUndisturbed}
 use Rattle.circus_quiescence_theory.proofs.Speaking.{OfSent, Speaks, speaks_act}
 
 -- ---- an act keeps two ends sound
@@ -167,7 +167,7 @@ joint_turned format here there joint = record {
 of_later : (format : ℕ) (acts : Acts) (act : Act) (s : Piece) → OfSent format acts s → OfSent format (more acts act) s
 of_later format acts act s of_it plain kind = sent_stays 0 format acts act s.call (of_it plain kind)
 
-quiet_before : (acts : Acts) (act : Act) → IsQuiet (more acts act) → IsQuiet acts
+quiet_before : (acts : Acts) (act : Act) → IsUndisturbed (more acts act) → IsUndisturbed acts
 quiet_before acts (Call message) quiet = quiet
 quiet_before acts (Return call message) quiet = quiet
 quiet_before acts (Came s) quiet = quiet
@@ -194,7 +194,7 @@ took_act format here there (Return call message) joint may was = record { took =
 took_act format here there Tick joint may was = record { took = joint.took_here; of = joint.of_there }
 took_act format here there Stop joint may was = record { took = joint.took_here; of = joint.of_there }
 
-joint_own : (format : ℕ) (here there : Acts) (act : Act) → Joint format here there → MayFollow 0 format here act → WasSent (sent_by (start 0 format) there) act → IsQuiet (more here act) → Joint format (more here act) there
+joint_own : (format : ℕ) (here there : Acts) (act : Act) → Joint format here there → MayFollow 0 format here act → WasSent (sent_by (start 0 format) there) act → IsUndisturbed (more here act) → Joint format (more here act) there
 joint_own format here there act joint may was quiet =
     let sound = sound_own format here there act joint.sound may was in
     let took = took_act format here there act joint may was in
@@ -213,7 +213,7 @@ joint_own format here there act joint may was quiet =
 joint_start : (format : ℕ) → (format ≡ 1) ⊎ (format ≡ 2) → Joint format none_yet none_yet
 joint_start format known = record { sound = sound_start format known; speaks_here = tt; speaks_there = tt; took_here = refl; took_there = refl; of_here = tt; of_there = tt }
 
-pub joint_talk : (format : ℕ) (talk : Talk) → (format ≡ 1) ⊎ (format ≡ 2) → IsTalk format talk → IsQuiet (acts_at_first talk) → IsQuiet (acts_at_second talk) → Joint format (acts_at_first talk) (acts_at_second talk)
+pub joint_talk : (format : ℕ) (talk : Talk) → (format ≡ 1) ⊎ (format ≡ 2) → IsTalk format talk → IsUndisturbed (acts_at_first talk) → IsUndisturbed (acts_at_second talk) → Joint format (acts_at_first talk) (acts_at_second talk)
 joint_talk format silent known is quiet also = joint_start format known
 joint_talk format (at_first talk act) known is quiet also =
     joint_own format _ _ act (joint_talk format talk known is.0 (quiet_before (acts_at_first talk) act quiet) also) is.1 is.2 quiet

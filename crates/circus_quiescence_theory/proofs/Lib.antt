@@ -6,9 +6,13 @@ pub mod Acknowledging
 pub mod Pairs
 pub mod Ordered
 pub mod Collating
+pub mod Sums
+pub mod Amounts
+pub mod Answering
 pub mod Giving
 pub mod Course
 pub mod Lossless
+pub mod Counts
 pub mod Phases
 pub mod Evolving
 pub mod Staying
@@ -18,6 +22,8 @@ pub mod Quietly
 pub mod Booting
 pub mod QuietNodes
 pub mod QuietWorlds
+pub mod Once
+pub mod Founders
 pub mod Accepts
 pub mod Hearing
 pub mod Acts
@@ -29,3 +35,5 @@ pub mod Told
 pub mod Recording
 pub mod Starting
 pub mod Finally
+pub mod Bounding
+pub mod Plain

@@ -1,9 +1,9 @@
 -- In a world where nothing is lost all that was handed over has arrived.
-use Rattle.std.proofs.Common.{◌≡◌, ◌≢◌, ℕ, suc, ◌+◌, ◌<◌, inl, inr, Bool, true, false, cond, ◌&&◌, eqb, List, [], ◌∷◌, ◌++◌, length, map, Option, None, Some, Result, Ok, Err, refl, sym, ap, subst, ◌∙◌, arith, eq-eqb}
+use Rattle.std.proofs.Common.{◌≡◌, ◌≢◌, ℕ, suc, ◌+◌, ◌<◌, inl, inr, Bool, true, false, cond, ◌&&◌, eqb, List, [], ◌∷◌, ◌++◌, length, map, All, Option, None, Some, Result, Ok, Err, refl, sym, ap, subst, ◌∙◌, arith, eq-eqb}
 use Rattle.std.specs.Prelude.{slice_get, if◌then◌else◌}
 use Rattle.std.specs.List.{flat_map}
 use Rattle.std.proofs.lemmas.Bool.Decides.{eqb_tells}
-use Rattle.std.proofs.lemmas.Option.{same_Some, slice_get_within}
+use Rattle.std.proofs.lemmas.Option.{same_Some, slice_get_within, slice_get-get_or}
 use Rattle.circus_value.specs.ValueTree.{ValueTree}
 use Rattle.circus_value.specs.declared.outcome.Outcome.{Outcome}
 use Rattle.circus_segment.specs.Segment.{Piece, IsSegment, reading}
@@ -31,6 +31,7 @@ use Rattle.circus_node.specs.declared.event.Event.TheVariants as comes
 use Rattle.circus_node.specs.Booting.{AreOfTroupes, fresh_wire, home_of, made_at_boot}
 use Rattle.circus_node.specs.Sending.{is_sendable}
 use Rattle.circus_schedule.specs.declared.line.Line.{Line}
+use Rattle.circus_schedule.specs.declared.line.Line.TheVariants.{Deliver}
 use Rattle.circus_world.specs.declared.sent.Sent.{Sent}
 use Rattle.circus_world.specs.WorldState.{WorldState}
 use Rattle.circus_world.specs.Course as course
@@ -41,8 +42,8 @@ use Rattle.circus_talks.specs.Histories.{beginning_of, acts_of}
 use Rattle.circus_talks.specs.NodeActs.{with_all, coming, handed_by, wire_behind, effects_in, acts_in, acts_at_boot}
 use Rattle.circus_talks.proofs.Given.{WasGiven}
 use Rattle.circus_talks.proofs.Worlds.{Stands, IsGiven, at_pair, is_other, lawful_at, came_sent}
-use Rattle.circus_quiescence_theory.specs.Coming.{IsQuiet, HasCome, AllCame, AllArrived}
-use Rattle.circus_quiescence_theory.specs.Lossless.{LoseNothing}
+use Rattle.circus_quiescence_theory.specs.Coming.{IsUndisturbed, HasCome, AllCame, AllArrived}
+use Rattle.circus_quiescence_theory.specs.Quiet.{IsDelivery, IsQuiet}
 use Rattle.circus_quiescence_theory.proofs.Joint.{joint_talk}
 use Rattle.circus_quiescence_theory.proofs.Pairs.{all_arrive}
 use Rattle.circus_quiescence_theory.proofs.Giving.{came_gives, boot_gives}
@@ -61,23 +62,23 @@ abbrev AllQuiet : List (WireAct Purpose) → Type 0
 AllQuiet [] = Unit {0}
 AllQuiet (act ∷ acts) = IsQuietAct act × AllQuiet acts
 
-abbrev QuietPairs : WireActs Purpose → Type 0
-QuietPairs acts = (e : Exchange) (other : ℕ) → IsQuiet (acts_at e other acts)
+abbrev pub QuietPairs : WireActs Purpose → Type 0
+QuietPairs acts = (e : Exchange) (other : ℕ) → IsUndisturbed (acts_at e other acts)
 
 quiet_act : (acts : WireActs Purpose) (act : WireAct Purpose) → QuietPairs acts → IsQuietAct act → QuietPairs (followed_by acts act)
 quiet_act acts (CallTo to message purpose) quiet is e other = by_test (eqb to other)
   where
-    by_test : (b : Bool) → IsQuiet (with_act (acts_at e other acts) (cond b (Some (Call message)) None))
+    by_test : (b : Bool) → IsUndisturbed (with_act (acts_at e other acts) (cond b (Some (Call message)) None))
     by_test true = quiet e other
     by_test false = quiet e other
 quiet_act acts (AnswerTo caller message) quiet is e other = by_test (eqb caller.node other && awaits_after e (acts_at e other acts) caller.number)
   where
-    by_test : (b : Bool) → IsQuiet (with_act (acts_at e other acts) (cond b (Some (Return caller.number message)) None))
+    by_test : (b : Bool) → IsUndisturbed (with_act (acts_at e other acts) (cond b (Some (Return caller.number message)) None))
     by_test true = quiet e other
     by_test false = quiet e other
 quiet_act acts (CameFrom from s) quiet is e other = by_test (eqb from other)
   where
-    by_test : (b : Bool) → IsQuiet (with_act (acts_at e other acts) (cond b (Some (Came s)) None))
+    by_test : (b : Bool) → IsUndisturbed (with_act (acts_at e other acts) (cond b (Some (Came s)) None))
     by_test true = quiet e other
     by_test false = quiet e other
 quiet_act acts TickAll quiet is e other = absurd is
@@ -151,7 +152,7 @@ module _ {M : Type 0} (declared : M → Signature) (turn : M → List ValueTree 
   AllPosted acts w = (node other : ℕ) (bytes : List ℕ) → node < length d.nodes → other < length d.nodes → other ≢ node → WasGiven (beginning_of d node) (acts node) other bytes → Posted w node other bytes
 
   module _ (number : ℕ) (acts new : ℕ → WireActs Purpose) (w next : WorldState M) (stands : Stands d acts w) (delivers : Delivers declared turn d number acts new w next) where
-    sent_is_more : next.sent ≡ w.sent ++ map (course.sent_by (w.steps + 1) delivers.sent.to) delivers.ended.1.gives
+    pub sent_is_more : next.sent ≡ w.sent ++ map (course.sent_by (w.steps + 1) delivers.sent.to) delivers.ended.1.gives
     sent_is_more = ap (λ (v : WorldState M). v.sent) delivers.next_is
 
     abbrev event : Event
@@ -163,7 +164,7 @@ module _ {M : Type 0} (declared : M → Signature) (turn : M → List ValueTree 
     abbrev handed_over : List (WireAct Purpose)
     handed_over = flat_map (handed_by (wire_behind event delivers.node.node)) (effects_in declared turn (w.steps + 1) event delivers.node.node)
 
-    came_read : (s : Piece) → reading delivers.sent.bytes ≡ Ok s → IsSegment s
+    pub came_read : (s : Piece) → reading delivers.sent.bytes ≡ Ok s → IsSegment s
     came_read s read =
         (came_sent d acts w stands delivers.sent.from delivers.sent.to delivers.sent.bytes s delivers.from_below delivers.to_below delivers.others
         (all_at (IsGiven d acts) w.sent number delivers.sent stands.sent delivers.there) read).0
@@ -232,8 +233,17 @@ module _ {M : Type 0} (declared : M → Signature) (turn : M → List ValueTree 
         (come_now delivers.sent.bytes s (start 0 d.format) delivers.sent.from (acts delivers.sent.to) (reading delivers.sent.bytes) (handed_over number acts new w next stands delivers) read read);
   }
 
+  -- deliveries alone disturb no pair
+  pub quiet_on : (first : M → List ValueTree) (hosted : List (Option M)) (lines : List Line) (booted last : WorldState M) → All IsDelivery lines → Stands d (at_boot declared turn first d hosted) booted → AllLive booted
+      → Lead declared turn lines booted last → (node : ℕ) → QuietPairs (acts_of declared turn first d hosted lines booted node)
+  quiet_on first hosted lines booted last alone began live leads =
+      lead_keeps declared turn d (λ a w. (node : ℕ) → QuietPairs (a node)) (λ number a new w next stands after delivers. quiet_still number a new w next stands delivers)
+      lines (at_boot declared turn first d hosted) booted last alone began live
+      (λ node. quiet_all begun (acts_at_boot declared turn first d (own_of declared turn first d hosted node) node) none_quiet
+      (handed_quiet (fresh_wire d node) (made_at_boot declared turn first d (home_of d node) (own_of declared turn first d hosted node)).came.effects)) leads
+
   module _ (first : M → List ValueTree) (hosted : List (Option M)) (modules : List M) (lines : List Line) (booted last : WorldState M) (good : IsDeployment d) (are : AreOfTroupes d (map declared modules))
-      (hosts : AreHosted declared turn first d modules hosted) (boots : all_booted declared turn first hosted (before_any d modules) ≡ Ok booted) (leads : Lead declared turn lines booted last) (lossless : LoseNothing lines last) where
+      (hosts : AreHosted declared turn first d modules hosted) (boots : all_booted declared turn first hosted (before_any d modules) ≡ Ok booted) (leads : Lead declared turn lines booted last) (lossless : IsQuiet last lines) where
     abbrev pub acts : ℕ → WireActs Purpose
     acts = acts_of declared turn first d hosted lines booted
 
@@ -257,23 +267,21 @@ module _ {M : Type 0} (declared : M → Signature) (turn : M → List ValueTree 
     posted : AllPosted acts last
     posted =
         lead_keeps declared turn d AllPosted (λ number a new w next stands after delivers. posted_still number a new w next stands delivers)
-        lines (at_boot declared turn first d hosted) booted last lossless.deliveries began live posted_at_boot leads
+        lines (at_boot declared turn first d hosted) booted last lossless.alone began live posted_at_boot leads
 
     quiet : (node : ℕ) → QuietPairs (acts node)
-    quiet =
-        lead_keeps declared turn d (λ a w. (node : ℕ) → QuietPairs (a node)) (λ number a new w next stands after delivers. quiet_still number a new w next stands delivers)
-        lines (at_boot declared turn first d hosted) booted last lossless.deliveries began live (λ node. quiet_all begun (acts_at_boot declared turn first d (own_of declared turn first d hosted node) node) none_quiet (handed_quiet (fresh_wire d node) (made_at_boot declared turn first d (home_of d node) (own_of declared turn first d hosted node)).came.effects)) leads
+    quiet = quiet_on first hosted lines booted last lossless.alone began live leads
 
     come : (number : ℕ) → number < length last.sent → IsCome number acts last
     come number below =
-        let line = lossless.all number below in
+        let line = lossless.each number below in
         lead_makes declared turn d (IsCome number) (come_kept number) number (come_made number)
-        lines line.0 (at_boot declared turn first d hosted) booted last line.1 lossless.deliveries began live leads
+        lines line.0 (at_boot declared turn first d hosted) booted last (slice_get-get_or lines line.0 (Deliver number) line.1 ∙ ap (λ (l : Line). Some l) line.2) lossless.alone began live leads
 
     stands : Stands d acts last
     stands =
         lead_keeps declared turn d (λ a w. Stands d a w) (λ number a new w next stands after delivers holds. after)
-        lines (at_boot declared turn first d hosted) booted last lossless.deliveries began live began leads
+        lines (at_boot declared turn first d hosted) booted last lossless.alone began live began leads
 
     module _ (node other : ℕ) (node_below : node < length d.nodes) (other_below : other < length d.nodes) (differs : node ≢ other) where
       -- all that a node has sent to another one has come there
@@ -299,8 +307,8 @@ module _ {M : Type 0} (declared : M → Signature) (turn : M → List ValueTree 
     all_between node other node_below other_below differs =
         let talks = stands.talks node other node_below other_below differs in
         let e = start 0 d.format in
-        let quiet_here : IsQuiet (acts_at_first talks.talk) = subst (λ a. IsQuiet a) (sym talks.at_here) (quiet node e other) in
-        let quiet_there : IsQuiet (acts_at_second talks.talk) = subst (λ a. IsQuiet a) (sym talks.at_there) (quiet other e node) in
+        let quiet_here : IsUndisturbed (acts_at_first talks.talk) = subst (λ a. IsUndisturbed a) (sym talks.at_here) (quiet node e other) in
+        let quiet_there : IsUndisturbed (acts_at_second talks.talk) = subst (λ a. IsUndisturbed a) (sym talks.at_there) (quiet other e node) in
         let joint = joint_talk d.format talks.talk good.format talks.is quiet_here quiet_there in
         let reads_here : (bytes : List ℕ) (number : ℕ) → slice_get (sent_by e (acts_at_first talks.talk)) number ≡ Some bytes → (s : Piece) × (reading bytes ≡ Ok s) =
         λ bytes number at. read_of _ _ bytes (each_at _ (sent_by e (acts_at_first talks.talk)) number bytes joint.sound.good_here.tells at) in

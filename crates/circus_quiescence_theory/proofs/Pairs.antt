@@ -15,7 +15,7 @@ use Rattle.circus_pair.proofs.Dialogue.{are_of}
 use Rattle.circus_pair.proofs.Keeping.{IsWithin, kept_after}
 use Rattle.circus_pair.proofs.OneEnd.{unsent_waits}
 use Rattle.circus_pair.proofs.Sayings.{MaySay, says_part, count_bounds}
-use Rattle.circus_quiescence_theory.specs.Coming.{IsQuiet, AllCame, AllArrived}
+use Rattle.circus_quiescence_theory.specs.Coming.{IsUndisturbed, AllCame, AllArrived}
 use Rattle.circus_quiescence_theory.proofs.Speaking.{read_is, may_call, may_return}
 use Rattle.circus_quiescence_theory.proofs.Joint.{Joint, joint_turned, joint_talk, total_of_sent}
 use Rattle.circus_quiescence_theory.proofs.Sending.{Among, quiet_up, by_sent, call_among, return_among}
@@ -30,7 +30,7 @@ record IsTaken (format : ℕ) (acts : Acts) (p : Piece) : Type 0 where
 some_of : (format : ℕ) (acts : Acts) (kind call : ℕ) (m : List ℕ) (ts : List Piece) → MaySay 0 format acts ts kind call m → 0 < segment_count m
 some_of format acts kind call m ts may = (count_bounds (length m) _ (segment_count m) refl may.sendable.0 may.sendable.1).0
 
-module _ (format : ℕ) (here there : Acts) (joint : Joint format here there) (quiet : IsQuiet here) (also : IsQuiet there) (came : AllCame format here there) (back : AllCame format there here) where
+module _ (format : ℕ) (here there : Acts) (joint : Joint format here there) (quiet : IsUndisturbed here) (also : IsUndisturbed there) (came : AllCame format here there) (back : AllCame format there here) where
   -- ---- what was sent was taken
 
   taken_there : (p : Piece) → IsSegment p → Among (spelling p) (sent_by (start 0 format) here) → IsTaken format there p
@@ -124,7 +124,7 @@ module _ (format : ℕ) (here there : Acts) (joint : Joint format here there) (q
   }
 
 -- both ways
-pub all_arrive : (format : ℕ) (talk : Talk) → (format ≡ 1) ⊎ (format ≡ 2) → IsTalk format talk → IsQuiet (acts_at_first talk) → IsQuiet (acts_at_second talk)
+pub all_arrive : (format : ℕ) (talk : Talk) → (format ≡ 1) ⊎ (format ≡ 2) → IsTalk format talk → IsUndisturbed (acts_at_first talk) → IsUndisturbed (acts_at_second talk)
     → AllCame format (acts_at_first talk) (acts_at_second talk) → AllCame format (acts_at_second talk) (acts_at_first talk)
     → AllArrived format (acts_at_first talk) (acts_at_second talk) × AllArrived format (acts_at_second talk) (acts_at_first talk)
 all_arrive format talk known is quiet also came back =

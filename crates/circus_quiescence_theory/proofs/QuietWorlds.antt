@@ -48,7 +48,7 @@ use Rattle.circus_world_theory.proofs.Handing.{IsMade, boot_said}
 use Rattle.circus_world_theory.proofs.Saying.{AllSaid, call_said, purpose_said, return_said}
 use Rattle.circus_world_theory.proofs.Stepping.{CalledAt, NodesTrue}
 use Rattle.circus_world_theory.proofs.True.{CallSo, ReturnSo, ActsTrue}
-use Rattle.circus_quiescence_theory.specs.Lossless.{AreDeliveries}
+use Rattle.circus_quiescence_theory.specs.Quiet.{IsDelivery}
 use Rattle.circus_quiescence_theory.specs.Still.{phase_of, phase_at, IsStill, AllStill, CallsAreAsks, ReturnsAreReplies}
 use Rattle.circus_quiescence_theory.proofs.Booting.{few_runs, boots_quietly}
 use Rattle.circus_quiescence_theory.proofs.Course.{own_of, at_boot, world_boots, boot_live, boot_stands, lead_keeps}
@@ -190,7 +190,7 @@ module _ {M : Type 0} (declared : M → Signature) (turn : M → List ValueTree 
 
   -- ---- deliveries
 
-  module _ (deliveries : AreDeliveries lines) where
+  module _ (deliveries : All IsDelivery lines) where
     abbrev pub acts : ℕ → WireActs Purpose
     acts = acts_of declared turn first d hosted lines booted
 

@@ -16,7 +16,7 @@ use Rattle.circus_pair.proofs.Dialogue.{both_true}
 use Rattle.circus_pair.proofs.Flowing.{made_call, sent_after}
 use Rattle.circus_pair.proofs.OneEnd.{call_stays, unsent_waits}
 use Rattle.circus_pair.proofs.Outputs.{call_sends, return_sends, came_sends}
-use Rattle.circus_quiescence_theory.specs.Coming.{IsQuiet}
+use Rattle.circus_quiescence_theory.specs.Coming.{IsUndisturbed}
 
 -- ---- a datagram in a list
 
@@ -56,7 +56,7 @@ among_first o (suc n) k some le = elim (eqb_tells (suc n) k) [
 
 -- ---- a call
 
-pub quiet_up : (acts : Acts) → IsQuiet acts → is_stopped_after acts ≡ false
+pub quiet_up : (acts : Acts) → IsUndisturbed acts → is_stopped_after acts ≡ false
 quiet_up none_yet quiet = refl
 quiet_up (more acts (Call message)) quiet = quiet_up acts quiet
 quiet_up (more acts (Return call message)) quiet = quiet_up acts quiet
@@ -68,7 +68,7 @@ quiet_up (more acts Stop) quiet = absurd quiet
 pub sent_some : (format : ℕ) (acts : Acts) (call : ℕ) → AreLawful 0 format acts → is_sent (start 0 format) acts call ≡ true → is_some (call_at 0 acts call) ≡ true
 sent_some format acts call lawful h = (both_true (ltb call (end_after (start 0 format) acts).sent) _ (sent_after 0 format acts call lawful ∙ h)).1
 
-some_is : (o : Option (List ℕ)) → is_some o ≡ true → (m : List ℕ) × (o ≡ Some m)
+pub some_is : (o : Option (List ℕ)) → is_some o ≡ true → (m : List ℕ) × (o ≡ Some m)
 some_is None h = absurd cc
 some_is (Some m) h = (m, refl)
 
@@ -94,7 +94,7 @@ waits_on false true true goes h k = absurd cc
 waits_on false true false goes h k = (refl, h)
 waits_on false false down goes h k = absurd cc
 
-no_call_by_return : (format : ℕ) (acts : Acts) (returned : ℕ) (message : List ℕ) (call : ℕ) → IsQuiet acts → is_sent (start 0 format) (more acts (Return returned message)) call ≡ true → is_sent (start 0 format) acts call ≡ false → ⊥
+no_call_by_return : (format : ℕ) (acts : Acts) (returned : ℕ) (message : List ℕ) (call : ℕ) → IsUndisturbed acts → is_sent (start 0 format) (more acts (Return returned message)) call ≡ true → is_sent (start 0 format) acts call ≡ false → ⊥
 unfolding is_sent call_at is_open call_is_whole
 no_call_by_return format acts returned message call quiet now before =
     let parts = waits_on (is_sent (start 0 format) acts call) _ (is_stopped_after acts) _ now before in
@@ -114,7 +114,7 @@ sent_as format acts act call m lawful before is =
     had.1 ∙ ap (λ (x : List ℕ). Some x) same
 
 -- each segment of a call that was sent is among what was sent
-pub call_among : (format : ℕ) (acts : Acts) (call : ℕ) (m : List ℕ) (k : ℕ) → AreLawful 0 format acts → IsQuiet acts → is_sent (start 0 format) acts call ≡ true → call_at 0 acts call ≡ Some m
+pub call_among : (format : ℕ) (acts : Acts) (call : ℕ) (m : List ℕ) (k : ℕ) → AreLawful 0 format acts → IsUndisturbed acts → is_sent (start 0 format) acts call ≡ true → call_at 0 acts call ≡ Some m
     → 0 < k → k ≤ segment_count m → Among (spelling (segment_of (message_out (start 0 format) 0 call m) 0 k)) (sent_by (start 0 format) acts)
 unfolding is_sent outputs made
 call_among format none_yet call m k lawful quiet sent is some le = absurd cc

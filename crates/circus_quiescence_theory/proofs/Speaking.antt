@@ -16,7 +16,7 @@ use Rattle.circus_pair.proofs.Each.{Each, each_append, each_cond}
 use Rattle.circus_pair.proofs.Outputs.{call_sends, return_sends, came_sends}
 use Rattle.circus_pair.proofs.Sayings.{MaySay, says_part}
 use Rattle.circus_pair.proofs.Speaking.{Fine}
-use Rattle.circus_quiescence_theory.specs.Coming.{IsQuiet}
+use Rattle.circus_quiescence_theory.specs.Coming.{IsUndisturbed}
 
 -- a segment of a call is of one that was sent
 abbrev pub OfSent : ℕ → Acts → Piece → Type 0
@@ -116,7 +116,7 @@ return_here acts call message = ap (λ b. cond b (Some message) (return_at acts 
 
 -- ---- each act
 
-pub speaks_act : (format : ℕ) (acts : Acts) (act : Act) → Good format (more acts act) → IsQuiet (more acts act) → Each (Speaks format (more acts act)) (datagrams_by (end_after (start 0 format) acts) act)
+pub speaks_act : (format : ℕ) (acts : Acts) (act : Act) → Good format (more acts act) → IsUndisturbed (more acts act) → Each (Speaks format (more acts act)) (datagrams_by (end_after (start 0 format) acts) act)
 unfolding outputs
 speaks_act format acts (Call message) good quiet =
     subst (Each (Speaks format (more acts (Call message)))) (sym (call_sends 0 format acts message good.lawful))

@@ -70,6 +70,13 @@ pub record IsEntryOf (views : List View) (troupe node : ℕ) : Type 0 where
   pub there : slice_get views troupe ≡ Some view
   pub among : list_any (λ (e : Entry). eqb e.node node) view.entries ≡ true
 
+-- an ask that is called for now has no part in a record
+abbrev pub NewCall : MemberRecord → Effect → Type 0
+NewCall kept (made.Call to message (for.Ask name server)) = Named kept name.run name.ask → ⊥
+NewCall kept (made.Call to message (for.Ring request)) = Unit {0}
+NewCall kept (made.Call to message for.Fetch) = Unit {0}
+NewCall kept (made.Answer caller message) = Unit {0}
+
 module _ (views : List View) (own : ℕ) (P : Caller → CallHeader → List ℕ → Type 0) where
   -- a return of a reply to a call of an index that was performed
   pub record IsAnswered (count : ℕ) (caller : Caller) (message : List ℕ) : Type 0 where
@@ -215,6 +222,7 @@ module _ (z : Beginning) (ones : (t : ℕ) (v : View) → slice_get z.views t �
       pub phase : d.member.performing.kept.phase ≡ z.phase
       pub held : All (λ (c : HeldCall). P c.sender c.header c.body) d.member.gathered.held
       pub effects : All (EffectSo z.views z.own P d.member.performing.kept) d.effects
+      pub news : All (NewCall z.kept) d.effects
       pub named : (index number : ℕ) → Named z.kept index number → Named d.member.performing.kept index number
       pub longer : length z.kept.runs ≤ length d.member.performing.kept.runs
       pub counts : z.kept.count ≤ d.member.performing.kept.count
@@ -275,6 +283,7 @@ module _ (z : Beginning) (ones : (t : ℕ) (v : View) → slice_get z.views t �
             effects = subst (All (EffectSo z.views z.own P e.member.performing.kept)) (sym effects)
                 (All-weaker (EffectSo z.views z.own P d.member.performing.kept) (EffectSo z.views z.own P e.member.performing.kept)
                 (λ x. effect_later z.views z.own P d.member.performing.kept e.member.performing.kept counts grows.named x) d.effects s.effects);
+            news = subst (All (NewCall z.kept)) (sym effects) s.news;
             named = λ index number n. grows.named index number (s.named index number n);
             longer = (let a = s.longer in let c = grows.longer in omega (arith, a, c));
             counts = (let a = s.counts in omega (arith, a, counts));
@@ -427,6 +436,12 @@ module _ (z : Beginning) (ones : (t : ℕ) (v : View) → slice_get z.views t �
         let short : length a.header.path < 65536 = omega (arith, below, most, long) in
         let named : Named kept name.run name.ask =
         subst (Named kept (index_of_last kept)) (sym (ap (λ o. option_map_or (λ (r : RunRecord). length r.asks - 1) o 0) last)) (named_last kept run ask s.from few last open_) in
+        let some = t.some in
+        let asks = has_asks run.asks (sym (ap (option_and_then (λ (r : RunRecord). option_and_then unanswered (last_of r.asks))) last) ∙ open_) in
+        let at_last : IsOpenAt kept (length kept.runs - 1) (length run.asks - 1) ask.callee =
+        record { run = run; ask = ask; last = last; is_open = open_; callee_is = refl; index_is = omega (arith, some); number_is = omega (arith, asks) } in
+        let is_new : Named z.kept name.run name.ask → ⊥ =
+        subst (λ (n : AskName). Named z.kept n.run n.ask → ⊥) (sym (name_is kept (length kept.runs - 1) (length run.asks - 1) ask.callee s.from few at_last)) (t.fresh (length kept.runs - 1) (length run.asks - 1) ask.callee at_last) in
         let same_callee : (index number callee : ℕ) → IsOpenAt kept index number callee → ask.callee ≡ callee = λ index number callee o. ap (λ (x : AskRecord). x.callee) (same_Some ask o.ask (sym open_ ∙ o.is_open)) ∙ o.callee_is in
         record {
           stays = record {
@@ -441,6 +456,7 @@ module _ (z : Beginning) (ones : (t : ℕ) (v : View) → slice_get z.views t �
             held = s.held;
             effects = All-append (EffectSo z.views z.own P kept) d.effects more s.effects (quiet_calls kept m.known name a (calls_for_a_view view m.known.down [])
                 (sends_entries view ask.callee m.known.down (ap (λ l. slice_get l ask.callee) (sym s.views) ∙ there)) s.views short named);
+            news = All-append (NewCall z.kept) d.effects more s.news (All-map (NewCall z.kept) (call_of_ask m.known name a) (calls_for_a_view view m.known.down []) (λ place send below_. is_new));
             named = s.named;
             longer = s.longer;
             counts = s.counts;
@@ -471,6 +487,10 @@ module _ (z : Beginning) (ones : (t : ℕ) (v : View) → slice_get z.views t �
       where
         none_some : (x : AskRecord) → ◌≡◌ {A = Option AskRecord} None (Some x) → ⊥
         none_some x is = cc
+
+        has_asks : (asks : List AskRecord) → option_and_then unanswered (last_of asks) ≡ Some ask → 0 < length asks
+        has_asks [] is = absurd (none_some ask is)
+        has_asks (x ∷ asks) is = omega arith
 
     -- ---- a run has ended
 
@@ -537,6 +557,7 @@ module _ (z : Beginning) (ones : (t : ℕ) (v : View) → slice_get z.views t �
             phase = s.phase;
             held = All-filter (λ x. not (is_of_index m.gathered.module index x)) (λ (x : HeldCall). P x.sender x.header x.body) m.gathered.held s.held;
             effects = All-append (EffectSo z.views z.own P kept) d.effects more s.effects (answers_so kept m.gathered index reply s.own less may s.held);
+            news = All-append (NewCall z.kept) d.effects more s.news (All-map (NewCall z.kept) (λ caller. made.Answer caller (reply_message reply)) (answered_by_end m.gathered index) (λ place caller below_. tt));
             named = s.named;
             longer = s.longer;
             counts = s.counts;
@@ -579,6 +600,7 @@ module _ (z : Beginning) (ones : (t : ℕ) (v : View) → slice_get z.views t �
             phase = s.phase;
             held = s.held;
             effects = subst (All (EffectSo z.views z.own P kept)) (sym none) s.effects;
+            news = subst (All (NewCall z.kept)) (sym none) s.news;
             named = s.named;
             longer = s.longer;
             counts = s.counts;

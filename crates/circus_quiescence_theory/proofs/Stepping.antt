@@ -49,7 +49,8 @@ use Rattle.circus_member_step.proofs.Starting.{IsSoundNow}
 use Rattle.circus_node.proofs.ViewLemmas.{executed_knows}
 use Rattle.circus_quiescence_theory.specs.Told.{Recorded, IsOpenAt}
 use Rattle.circus_quiescence_theory.proofs.Evolving.{Named}
-use Rattle.circus_quiescence_theory.proofs.Staying.{IsAnswered, EffectSo, IsCallIn, Beginning, is_entry, IsMade, IsOpened, Body, name_is, body_executed}
+use Rattle.circus_quiescence_theory.proofs.Once.{AreApart, AreOthers, targets, executed_once}
+use Rattle.circus_quiescence_theory.proofs.Staying.{IsAnswered, EffectSo, NewCall, IsCallIn, Beginning, is_entry, IsMade, IsOpened, Body, name_is, body_executed}
 
 -- ---- asks by name
 
@@ -178,6 +179,10 @@ module _ (bv : List View) (own : ℕ) (phase : Joiner) (P : Caller → CallHeade
     pub record StepsQuiet (d : Doing M) : Type 0 where
       pub quiet : IsQuiet d.member
       pub effects : All (EffectSo bv own P d.member.performing.kept) d.effects
+      -- the calls are for asks that are made in this step
+      pub news : All (NewCall m.performing.kept) d.effects
+      -- and each node is called once at most
+      pub once : ((t : ℕ) (view : View) → slice_get bv t ≡ Some view → AreOthers view) → AreApart (targets d.effects)
       pub recorded : (index number callee : ℕ) → Recorded d.member.performing.kept index number callee → IsMade z ones P Old OldSaid d.effects index number callee
       pub opened : (index number callee : ℕ) → IsOpenAt d.member.performing.kept index number callee → IsOpened z ones P Old OldSaid d.member index number callee
       pub named : (index number : ℕ) → Named m.performing.kept index number → Named d.member.performing.kept index number
@@ -192,8 +197,8 @@ module _ (bv : List View) (own : ℕ) (phase : Joiner) (P : Caller → CallHeade
       -- with these calls and these asks
       start_body : (d : Doing M) → d.member.known.views ≡ bv → d.member.known.down ≡ [] → d.member.requests ≡ [] → d.member.gathered.required ≡ 0 → d.member.gathered.from ≡ 0 → d.member.gathered.module ≡ own
           → d.member.performing ≡ m.performing → d.member.gathered.replies ≡ m.gathered.replies → All (λ (c : HeldCall). P c.sender c.header c.body) d.member.gathered.held
-          → All (EffectSo bv own P m.performing.kept) d.effects → ((index number callee : ℕ) → IsOpenAt m.performing.kept index number callee → IsOpened z ones P Old OldSaid d.member index number callee) → Body z ones P Old OldSaid d
-      start_body d views down requests required first_is own_is same replies held effects opened = record {
+          → All (EffectSo bv own P m.performing.kept) d.effects → All (NewCall m.performing.kept) d.effects → ((index number callee : ℕ) → IsOpenAt m.performing.kept index number callee → IsOpened z ones P Old OldSaid d.member index number callee) → Body z ones P Old OldSaid d
+      start_body d views down requests required first_is own_is same replies held effects news opened = record {
         stays = record {
           views = views;
           down = down;
@@ -205,6 +210,7 @@ module _ (bv : List View) (own : ℕ) (phase : Joiner) (P : Caller → CallHeade
           phase = kept_same (λ k. k.phase ≡ phase) q.phase_is;
           held = held;
           effects = kept_same (λ k. All (EffectSo bv own P k) d.effects) effects;
+          news = news;
           named = kept_same (λ k. (index number : ℕ) → Named m.performing.kept index number → Named k index number) (λ index number n. n);
           longer = kept_same (λ k. length m.performing.kept.runs ≤ length k.runs) (omega arith);
           counts = kept_same (λ k. m.performing.kept.count ≤ k.count) (omega arith);
@@ -290,6 +296,7 @@ module _ (bv : List View) (own : ℕ) (phase : Joiner) (P : Caller → CallHeade
     by_added (A.Reply reply) is = (
       start_body bv own phase P declared turn first lawful firsts Old at o m sound can (p, low) q old (asked_by (A.Reply reply)) q.views q.down q.requests q.required q.first q.own_is refl refl q.held
           (All-cons (EffectSo bv own P m.performing.kept) _ [] answered (All-nil (EffectSo bv own P m.performing.kept)))
+          (All-cons (NewCall m.performing.kept) _ [] tt (All-nil (NewCall m.performing.kept)))
           (λ index number callee o_. still_open bv own phase P declared turn first lawful firsts Old at o m sound can (p, low) q old index number callee o_ (asked_by (A.Reply reply)) refl refl refl),
       q.wants,
     )
@@ -315,7 +322,7 @@ module _ (bv : List View) (own : ℕ) (phase : Joiner) (P : Caller → CallHeade
     by_added A.Held is = (
       start_body bv own phase P declared turn first lawful firsts Old at o m sound can (p, low) q old (asked_by A.Held) q.views q.down q.requests q.required q.first q.own_is refl refl
           (All-push (λ (c : HeldCall). P c.sender c.header c.body) m.gathered.held call q.held p)
-          (All-nil (EffectSo bv own P m.performing.kept))
+          (All-nil (EffectSo bv own P m.performing.kept)) (All-nil (NewCall m.performing.kept))
           (λ index number callee o_. still_open bv own phase P declared turn first lawful firsts Old at o m sound can (p, low) q old index number callee o_ (asked_by A.Held) refl refl refl),
       low_wanted m.known header.client header.client_incarnation low q.wants,
     )
@@ -329,7 +336,7 @@ module _ (bv : List View) (own : ℕ) (phase : Joiner) (P : Caller → CallHeade
     replied_body : BodyOf (comes.Replied name from reply) (handled at (comes.Replied name from reply) m)
     replied_body = (
       start_body bv own phase P declared turn first lawful firsts Old at (comes.Replied name from reply) m sound can tt q old (handled at (comes.Replied name from reply) m) q.views q.down q.requests q.required q.first q.own_is refl refl q.held
-          (All-nil (EffectSo bv own P m.performing.kept))
+          (All-nil (EffectSo bv own P m.performing.kept)) (All-nil (NewCall m.performing.kept))
           (λ index number callee o_. (
           let h = q.opened index number callee o_ in
           let other : AskName = record { run = index; ask = number } in
@@ -369,6 +376,24 @@ module _ (bv : List View) (own : ℕ) (phase : Joiner) (P : Caller → CallHeade
     handled_sound (comes.Declared node) can_ quiet_ = absurd quiet_
     handled_sound comes.Joins can_ quiet_ = absurd quiet_
 
+    -- nobody is called by what comes itself
+    asked_silent : (header : CallHeader) (sender : Caller) (a : Added) → ((wanted_by_call a header m.known).views ≡ bv) × (targets (answer_at_once a sender) ≡ [])
+    asked_silent header sender (A.Reply reply) = (q.views, refl)
+    asked_silent header sender (A.Stale n) = (q.views, refl)
+    asked_silent header sender (A.Before n) = (q.views, refl)
+    asked_silent header sender A.Held = (q.views, refl)
+
+    handled_silent : (x : Occurrence) → IsQuietOccurrence bv own phase P x → ((handled at x m).member.known.views ≡ bv) × (targets (handled at x m).effects ≡ [])
+    handled_silent (comes.Asked header body sender) quiet_ = asked_silent header sender (answer_to m.gathered header)
+    handled_silent (comes.Replied name from reply) quiet_ = (q.views, refl)
+    handled_silent (comes.Fetched incarnation sender) quiet_ = absurd quiet_
+    handled_silent (comes.IsStale name server from incarnation) quiet_ = absurd quiet_
+    handled_silent (comes.IsBefore name from) quiet_ = absurd quiet_
+    handled_silent (comes.Told request table) quiet_ = absurd quiet_
+    handled_silent (comes.Restored state count) quiet_ = absurd quiet_
+    handled_silent (comes.Declared node) quiet_ = absurd quiet_
+    handled_silent comes.Joins quiet_ = absurd quiet_
+
     pub step_quiet : length (stepped declared turn at o m).member.performing.kept.runs ≤ last_count → StepsQuiet bv own phase P declared turn first lawful firsts Old at o m (stepped declared turn at o m)
     step_quiet few =
         let begun_ = handled_body o can quiet_o in
@@ -404,6 +429,8 @@ module _ (bv : List View) (own : ℕ) (phase : Joiner) (P : Caller → CallHeade
             opened = λ index number callee o_. (let x = body.opened index number callee o_ in record { asking = x.asking; there = opened index number callee o_ x.asking x.there; server = x.server; kind = x.kind });
           };
           effects = subst (All (EffectSo bv own P kept)) (sym effects) s.effects;
+          news = subst (All (NewCall m.performing.kept)) (sym effects) s.news;
+          once = λ others. subst (λ l. AreApart (targets l)) (sym effects) (executed_once bv others turn declared at (handled at o m) (handled_silent o quiet_o).0 (handled_silent o quiet_o).1).once;
           recorded = λ index number callee r view node there entry. elim (body.recorded index number callee r view node there entry) [
             | inl before ↦ inl before
             | inr new ↦ inr (subst (λ l. IsCallIn l index number callee node) (sym effects) new)

@@ -25,7 +25,7 @@ use Rattle.circus_talks.proofs.Worlds.{at_pair}
 use Rattle.circus_world_theory.specs.Worlds.{IsWorldOf}
 use Rattle.circus_border_theory.proofs.Handing.{is_same}
 use Rattle.circus_border_theory.proofs.Waiting.{is_caller, one_if, times_in, waiting_at}
-use Rattle.circus_quiescence_theory.specs.Lossless.{LoseNothing}
+use Rattle.circus_quiescence_theory.specs.Quiet.{IsQuiet}
 use Rattle.circus_quiescence_theory.specs.Told.{IsWaiting, IsTold, AllTold}
 use Rattle.circus_model.proofs.Threads.{are_modules}
 use Rattle.circus_wire.specs.WireActs.{WireActs}
@@ -71,14 +71,14 @@ back_there (Some l) is = (l, refl)
 module _ {M : Type 0} (declared : M → Signature) (turn : M → List ValueTree → ℕ → List ValueTree → List Outcome → NextTurn) (first : M → List ValueTree)
     (lawful : (hosted : M) → IsModule (behaviour declared turn first hosted))
     (d : Deployment) (modules : List M) (hosted : List (Option M)) (lines : List Line) (booted last : WorldState M)
-    (world : IsWorldOf declared turn first d modules hosted lines booted last) (lossless : LoseNothing lines last) where
+    (world : IsWorldOf declared turn first d modules hosted lines booted last) (lossless : IsQuiet last lines) where
   module _ (node : ℕ) (s : Standing M) (m : MemberState M) (at : slice_get last.nodes node ≡ Some s) (acting : s.node.acting ≡ member m) where
     abbrev happened : ℕ → WireActs Purpose
-    happened = acts declared turn first lawful d modules hosted lines booted last world lossless.deliveries
+    happened = acts declared turn first lawful d modules hosted lines booted last world lossless.alone
 
     calm : CalmAt declared turn first lawful (program declared turn first lawful d modules hosted lines booted last world) world.agree (are_modules declared turn first modules lawful) world.proper d world.deployment
         (many declared turn first lawful d modules hosted lines booted last world) (fits declared turn first lawful d modules hosted lines booted last world) node (happened node) m
-    calm = (holds_at_last declared turn first lawful d modules hosted lines booted last world lossless.deliveries).2.calm node s m at acting
+    calm = (holds_at_last declared turn first lawful d modules hosted lines booted last world lossless.alone).2.calm node s m at acting
 
     node_below : node < length d.nodes
     node_below = subst (λ k. node < k) (world_stands declared turn first d hosted modules lines booted last world.deployment world.troupes world.hosts world.boots world.leads).all (slice_get_within last.nodes node s at)
@@ -89,7 +89,7 @@ module _ {M : Type 0} (declared : M → Signature) (turn : M → List ValueTree 
 
     waits : (caller : Caller) → 1 ≤ waiting_at caller m → IsWaiting m caller
     waits caller waiting =
-        let none : times_in caller m.requests ≡ 0 = ap (times_in caller) (all_still declared turn first lawful d modules hosted lines booted last world lossless.deliveries node s m at acting).requests in
+        let none : times_in caller m.requests ≡ 0 = ap (times_in caller) (all_still declared turn first lawful d modules hosted lines booted last world lossless.alone node s m at acting).requests in
         let h = held_there caller m.gathered.held (omega (arith, waiting, none)) in
         record { place = h.0; call = h.1; there = h.2; is_of = h.3 }
 
@@ -107,5 +107,5 @@ module _ {M : Type 0} (declared : M → Signature) (turn : M → List ValueTree 
       gone = calm.gone;
     }
 
-  pub all_told : AllTold d (acts declared turn first lawful d modules hosted lines booted last world lossless.deliveries) last
+  pub all_told : AllTold d (acts declared turn first lawful d modules hosted lines booted last world lossless.alone) last
   all_told = told

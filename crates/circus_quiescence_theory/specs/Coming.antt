@@ -19,13 +19,13 @@ came_in (more acts Tick) = came_in acts
 came_in (more acts Stop) = came_in acts
 
 -- no tick came, and the other end was not declared down
-abbrev pub IsQuiet : Acts → Type 0
-IsQuiet none_yet = Unit {0}
-IsQuiet (more acts (Call message)) = IsQuiet acts
-IsQuiet (more acts (Return call message)) = IsQuiet acts
-IsQuiet (more acts (Came s)) = IsQuiet acts
-IsQuiet (more acts Tick) = ⊥
-IsQuiet (more acts Stop) = ⊥
+abbrev pub IsUndisturbed : Acts → Type 0
+IsUndisturbed none_yet = Unit {0}
+IsUndisturbed (more acts (Call message)) = IsUndisturbed acts
+IsUndisturbed (more acts (Return call message)) = IsUndisturbed acts
+IsUndisturbed (more acts (Came s)) = IsUndisturbed acts
+IsUndisturbed (more acts Tick) = ⊥
+IsUndisturbed (more acts Stop) = ⊥
 
 -- a datagram has come at an end
 pub record HasCome (bytes : List ℕ) (acts : Acts) : Type 0 where
@@ -36,11 +36,18 @@ pub record HasCome (bytes : List ℕ) (acts : Acts) : Type 0 where
 
 -- all that an end has sent has come at the other one
 abbrev pub AllCame : ℕ → Acts → Acts → Type 0
-AllCame format here there = (number : ℕ) (bytes : List ℕ) → slice_get (sent_by (start 0 format) here) number ≡ Some bytes → HasCome bytes there
+AllCame format here there =
+    (number : ℕ) (bytes : List ℕ)
+    → slice_get (sent_by (start 0 format) here) number ≡ Some bytes → HasCome bytes there
 
--- each message that was handed over at an end has arrived at the other one; a call was sent, and is acknowledged whole
+-- each message that was handed over at an end has arrived at the other one; a call was sent, and is
+-- acknowledged whole
 pub record AllArrived (format : ℕ) (here there : Acts) : Type 0 where
-  pub sent : (call : ℕ) (message : List ℕ) → call_at 0 here call ≡ Some message → is_sent (start 0 format) here call ≡ true
-  pub whole : (call : ℕ) (message : List ℕ) → call_at 0 here call ≡ Some message → call_is_whole 0 here (taken_by (start 0 format) here) call ≡ true
-  pub calls : (call : ℕ) (message : List ℕ) → call_at 0 here call ≡ Some message → has_arrived (taken_by (start 0 format) there) 0 call ≡ true
-  pub returns : (call : ℕ) (message : List ℕ) → return_at here call ≡ Some message → has_arrived (taken_by (start 0 format) there) 1 call ≡ true
+  pub sent : (call : ℕ) (message : List ℕ) → call_at 0 here call ≡ Some message
+      → is_sent (start 0 format) here call ≡ true
+  pub whole : (call : ℕ) (message : List ℕ) → call_at 0 here call ≡ Some message
+      → call_is_whole 0 here (taken_by (start 0 format) here) call ≡ true
+  pub calls : (call : ℕ) (message : List ℕ) → call_at 0 here call ≡ Some message
+      → has_arrived (taken_by (start 0 format) there) 0 call ≡ true
+  pub returns : (call : ℕ) (message : List ℕ) → return_at here call ≡ Some message
+      → has_arrived (taken_by (start 0 format) there) 1 call ≡ true

@@ -1,5 +1,6 @@
 pub mod Coming
-pub mod Lossless
+pub mod Quiet
 pub mod Still
 pub mod Told
 pub mod Done
+pub mod Enough

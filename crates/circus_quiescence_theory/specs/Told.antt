@@ -52,23 +52,36 @@ pub record IsWaiting {M : Type 0} (m : MemberState M) (caller : Caller) : Type 0
 -- nothing has been said to a member, and no call waits there
 pub record IsSilent {M : Type 0} (m : MemberState M) : Type 0 where
   pub held : m.gathered.held ≡ []
-  pub said : (index number callee : ℕ) → IsOpenAt m.performing.kept index number callee → (asking : Asking)
-      → asking_of m.asks (record { run = index; ask = number }) ≡ Some asking → asking.said ≡ []
+  pub said : (index number callee : ℕ) → IsOpenAt m.performing.kept index number callee
+      → (asking : Asking) → asking_of m.asks (record { run = index; ask = number }) ≡ Some asking
+      → asking.said ≡ []
 
-pub record IsTold {M : Type 0} (d : Deployment) (acts : ℕ → WireActs Purpose) (node : ℕ) (m : MemberState M) : Type 0 where
+pub record IsTold {M : Type 0} (d : Deployment) (acts : ℕ → WireActs Purpose) (node : ℕ)
+    (m : MemberState M) : Type 0 where
   -- each founder of the troupe that an ask goes to was called
-  pub called : (index number callee other : ℕ) (t : Troupe) → Recorded m.performing.kept index number callee → slice_get d.troupes callee ≡ Some t → is_among t.founders other ≡ true
-      → (k : ℕ) × HasCalledFor d acts node other k (for.Ask (record { run = index; ask = number }) callee)
+  pub called : (index number callee other : ℕ) (t : Troupe)
+      → Recorded m.performing.kept index number callee
+      → slice_get d.troupes callee ≡ Some t → is_among t.founders other ≡ true
+      → (k : ℕ)
+      × HasCalledFor d acts node other k (for.Ask (record { run = index; ask = number }) callee)
   -- each call that another node made here waits, or has its return
-  pub heard : (caller : Caller) (message : List ℕ) → caller.node < length d.nodes → caller.node ≢ node → HasCalled d acts caller.node node caller.number message
-      → ((back : List ℕ) × HasReturned d acts node caller.node caller.number back) ⊎ IsWaiting m caller
+  pub heard : (caller : Caller) (message : List ℕ)
+      → caller.node < length d.nodes → caller.node ≢ node
+      → HasCalled d acts caller.node node caller.number message
+      → ((back : List ℕ) × HasReturned d acts node caller.node caller.number back)
+      ⊎ IsWaiting m caller
   -- what was returned to the calls of an ask that waits has been said to it
-  pub said : (other k index number callee asked : ℕ) (message : List ℕ) → other < length d.nodes → other ≢ node → HasReturned d acts other node k message
-      → HasCalledFor d acts node other k (for.Ask (record { run = index; ask = number }) asked) → IsOpenAt m.performing.kept index number callee
-      → (asking : Asking) → asking_of m.asks (record { run = index; ask = number }) ≡ Some asking → list_any (is_from other) asking.said ≡ true
+  pub said : (other k index number callee asked : ℕ) (message : List ℕ)
+      → other < length d.nodes → other ≢ node → HasReturned d acts other node k message
+      → HasCalledFor d acts node other k (for.Ask (record { run = index; ask = number }) asked)
+      → IsOpenAt m.performing.kept index number callee
+      → (asking : Asking) → asking_of m.asks (record { run = index; ask = number }) ≡ Some asking
+      → list_any (is_from other) asking.said ≡ true
   -- and it has gone on as far as it can
   pub gone : HasGoneOn m ⊎ IsSilent m
 
 -- each member of a world knows all that
 abbrev pub AllTold : {M : Type 0} → Deployment → (ℕ → WireActs Purpose) → WorldState M → Type 0
-AllTold {M} d acts w = (node : ℕ) (s : Standing M) (m : MemberState M) → slice_get w.nodes node ≡ Some s → s.node.acting ≡ member m → IsTold d acts node m
+AllTold {M} d acts w =
+    (node : ℕ) (s : Standing M) (m : MemberState M)
+    → slice_get w.nodes node ≡ Some s → s.node.acting ≡ member m → IsTold d acts node m

@@ -1,5 +1,5 @@
 -- What the lines that are left come to.
-use Rattle.std.proofs.Common.{◌≡◌, ℕ, suc, List, Ok, Err, sym, ap, subst, ◌∙◌}
+use Rattle.std.proofs.Common.{◌≡◌, ℕ, suc, List, [], ◌∷◌, ◌++◌, Ok, Err, sym, ap, subst, ◌∙◌, append_assoc}
 use Rattle.circus_value.specs.ValueTree.{ValueTree}
 use Rattle.circus_value.specs.declared.outcome.Outcome.{Outcome}
 use Rattle.circus_model.specs.NextTurn.{NextTurn}
@@ -12,7 +12,7 @@ use Rattle.circus_world.specs.Course.{Stepped, stepped}
 use Rattle.circus_world.specs.Boot.{then_others}
 use Rattle.circus_sample.specs.declared.sampling.SampleFault.{SampleFault}
 use Rattle.circus_sample.specs.declared.sampling.SampleFault.TheVariants as fault
-use Rattle.circus_sample.specs.Sampled.{spares_from, facts_of, sampled}
+use Rattle.circus_sample.specs.Sampled.{spares_from, facts_of, lines_behind, sampled, lines_drawn}
 use Rattle.circus_sample.specs.Answers.{IsSampled}
 use Rattle.circus_sample.specs.Seen.Stepping.{NoneCrashed, left_by, ComesTo}
 use Rattle.circus_sample.proofs.Stepping.{Keeps, KeepsIfOk, line_keeps}
@@ -52,6 +52,18 @@ module _ {M : Type 0} (declared : M → Signature) (turn : M → List ValueTree 
       → stepped declared turn line w ≡ Ok next → sampled declared turn (suc left) word w ≡ whole → sampled declared turn left after next ≡ whole
   goes_on left word after w next line whole is behind stepped_is same =
       ap (λ n. sampled declared turn left n next) behind ∙ sym (behind_next left word w line (Ok next) is stepped_is) ∙ same
+
+  -- the lines that were drawn, and those that are left
+  pub lines_go_on : (left word after : ℕ) (w next : WorldState M) (line : Line) (drawn whole : List Line) → IsNext word w line → after ≡ word_behind word
+      → stepped declared turn line w ≡ Ok next → drawn ++ lines_drawn declared turn (suc left) word w ≡ whole
+      → (drawn ++ line ∷ []) ++ lines_drawn declared turn left after next ≡ whole
+  lines_go_on left word after w next line drawn whole is behind stepped_is same =
+      let others = lines_drawn declared turn left (word_behind word) in
+      append_assoc drawn (line ∷ []) (lines_drawn declared turn left after next)
+      ∙ ap (λ n. drawn ++ line ∷ lines_drawn declared turn left n next) behind
+      ∙ ap (λ e. drawn ++ line ∷ lines_behind others e) (sym stepped_is)
+      ∙ ap (λ l. drawn ++ l ∷ lines_behind others (stepped declared turn l w)) is.drawn
+      ∙ same
 
   pub ends : (left word : ℕ) (w : WorldState M) (line : Line) (steps seed : ℕ) (begun : WorldState M) (fault : SampleFault) → IsNext word w line
       → ComesTo (Err fault) (stepped declared turn line w)

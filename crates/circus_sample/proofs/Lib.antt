@@ -6,3 +6,4 @@ pub mod SamplesAlike
 pub mod Spares
 pub mod Stepping
 pub mod Untouched
+pub mod Writing

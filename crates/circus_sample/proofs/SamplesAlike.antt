@@ -23,7 +23,7 @@ use Rattle.circus_world.specs.Course.{Stepped, stepped}
 use Rattle.circus_world.specs.Boot.{then_others}
 use Rattle.circus_world.specs.Alike.{standing_as, world_as, step_as}
 use Rattle.circus_world.proofs.WorldsAlike.{world_stepped_as}
-use Rattle.circus_sample.specs.Sampled.{spares_from, facts_of, sampled}
+use Rattle.circus_sample.specs.Sampled.{spares_from, facts_of, lines_behind, sampled, lines_drawn}
 use Rattle.circus_sample.specs.Summary.{count_line, count_lines, summary}
 
 module _ {M : Type 0} (declared : M → Signature) (turn : M → List ValueTree → ℕ → List ValueTree → List Outcome → NextTurn) (first : M → List ValueTree) where
@@ -61,6 +61,24 @@ module _ {M : Type 0} (declared : M → Signature) (turn : M → List ValueTree 
       then_as left next (sampled_as left next) (stepped declared turn drawn w)
       ∙ ap (then_others (sampled declared_of turn_of left next))
       (world_stepped_as declared turn first drawn w ∙ ap (λ f. stepped declared_of turn_of (line_drawn next f) (seen w)) (sym (facts_as w)))
+
+  -- and the lines themselves
+  lines_then_as : (left word : ℕ)
+      → ((w : WorldState M) → lines_drawn declared_of turn_of left word (seen w) ≡ lines_drawn declared turn left word w)
+      → (s : Stepped M)
+      → lines_behind (lines_drawn declared_of turn_of left word) (step_as declared turn first s) ≡ lines_behind (lines_drawn declared turn left word) s
+  lines_then_as left word same (Ok next) = same next
+  lines_then_as left word same (Err nodes) = refl
+
+  pub lines_drawn_as : (steps word : ℕ) (w : WorldState M)
+      → lines_drawn declared_of turn_of steps word (seen w) ≡ lines_drawn declared turn steps word w
+  lines_drawn_as zero word w = refl
+  lines_drawn_as (suc left) word w =
+      let next = word_behind word in
+      let drawn = line_drawn next (facts_of w) in
+      ap (λ f. line_drawn next f ∷ lines_behind (lines_drawn declared_of turn_of left next) (stepped declared_of turn_of (line_drawn next f) (seen w))) (facts_as w)
+      ∙ ap (λ e. drawn ∷ lines_behind (lines_drawn declared_of turn_of left next) e) (sym (world_stepped_as declared turn first drawn w))
+      ∙ ap (λ l. drawn ∷ l) (lines_then_as left next (lines_drawn_as left next) (stepped declared turn drawn w))
 
   -- ---- texts
 

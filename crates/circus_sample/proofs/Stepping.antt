@@ -1,5 +1,5 @@
 -- What a line that is drawn keeps of a world.
-use Rattle.std.proofs.Common.{◌≡◌, ℕ, zero, suc, ◌+◌, ◌<◌, ◌≤◌, Bool, true, false, List, [], ◌∷◌, length, set, drop, Option, None, Some, Ok, Err, refl, sym, ap, subst, ◌∙◌, arith, length-set}
+use Rattle.std.proofs.Common.{◌≡◌, ℕ, zero, suc, ◌+◌, ◌<◌, ◌≤◌, Bool, true, false, List, ◌∷◌, length, set, drop, Option, None, Some, Ok, Err, refl, sym, ap, subst, ◌∙◌, arith, length-set}
 use Rattle.std.specs.Prelude.{if◌then◌else◌, slice_get, is_none}
 use Rattle.std.specs.Option.{option_map_or}
 use Rattle.std.proofs.lemmas.List.{get_or-set_same}
@@ -21,7 +21,7 @@ use Rattle.circus_world.specs.Course.{Stepped, passed, told_to_join, concluded, 
 use Rattle.circus_world.specs.Boot.{then_others}
 use Rattle.circus_world.specs.Lines.{Lead}
 use Rattle.circus_world.proofs.SlotLemmas.{get_there, all_at}
-use Rattle.circus_sample.specs.Sampled.{spares_from, facts_of, sampled}
+use Rattle.circus_sample.specs.Sampled.{spares_from, facts_of, lines_behind, sampled, lines_drawn}
 use Rattle.circus_sample.specs.Seen.Stepping.{NoneCrashed, left_by}
 use Rattle.circus_sample.proofs.Spares.{same_left}
 use Rattle.circus_sample.proofs.Possible.{IsToJoin, drawn_possible, to_join, named, legal}
@@ -130,12 +130,14 @@ module _ {M : Type 0} (declared : M → Signature) (turn : M → List ValueTree 
   abbrev next_line : ℕ → WorldState M → Line
   next_line word w = line_drawn (word_behind word) (facts_of w)
 
-  abbrev AreLed : ℕ → WorldState M → WorldState M → Type 0
-  AreLed steps w last = (lines : List Line) × (length lines ≡ steps) × Lead declared turn lines w last
+  -- the lines that are drawn lead there, as many as these
+  abbrev AreLed : ℕ → ℕ → WorldState M → WorldState M → Type 0
+  AreLed steps word w last =
+      (length (lines_drawn declared turn steps word w) ≡ steps) × Lead declared turn (lines_drawn declared turn steps word w) w last
 
   one_more : (left word : ℕ) (w last : WorldState M)
-      → ((word : ℕ) (w last : WorldState M) → NoneCrashed w → 1 ≤ length w.nodes → sampled declared turn left word w ≡ Ok last → AreLed left w last)
-      → NoneCrashed w → 1 ≤ length w.nodes → sampled declared turn (suc left) word w ≡ Ok last → AreLed (suc left) w last
+      → ((word : ℕ) (w last : WorldState M) → NoneCrashed w → 1 ≤ length w.nodes → sampled declared turn left word w ≡ Ok last → AreLed left word w last)
+      → NoneCrashed w → 1 ≤ length w.nodes → sampled declared turn (suc left) word w ≡ Ok last → AreLed (suc left) word w last
   one_more left word w last others none some is =
       by_step (stepped declared turn (next_line word w) w) refl (line_keeps (next_line word w) w none possible) is
     where
@@ -145,16 +147,16 @@ module _ {M : Type 0} (declared : M → Signature) (turn : M → List ValueTree 
       by_step : (e : Stepped M) → stepped declared turn (line_drawn (word_behind word) (facts_of w)) w ≡ e
           → KeepsIfOk (left_by (line_drawn (word_behind word) (facts_of w)) (spares_from w.deployment 0 w.nodes)) w e
           → then_others (sampled declared turn left (word_behind word)) e ≡ Ok last
-          → AreLed (suc left) w last
+          → (suc (length (lines_behind (lines_drawn declared turn left (word_behind word)) e)) ≡ suc left)
+          × Lead declared turn (next_line word w ∷ lines_behind (lines_drawn declared turn left (word_behind word)) e) w last
       by_step (Ok next) stepped_is keeps is =
           let rest = others (word_behind word) next last keeps.none (omega (arith, keeps.count, some)) is in
           let line = line_drawn (word_behind word) (facts_of w) in (
-            line ∷ rest.0,
-            ap suc rest.1,
-            (next, record { named = named w line possible; legal = legal w line none possible; stepped_is = stepped_is }, rest.2),
+            ap suc rest.0,
+            (next, record { named = named w line possible; legal = legal w line none possible; stepped_is = stepped_is }, rest.1),
           )
       by_step (Err nodes) stepped_is keeps is = absurd (let clash : ◌≡◌ {A = Stepped M} (Err nodes) (Ok last) = is in cc)
 
-  pub samples_lead : (steps word : ℕ) (w last : WorldState M) → NoneCrashed w → 1 ≤ length w.nodes → sampled declared turn steps word w ≡ Ok last → AreLed steps w last
-  samples_lead zero word w last none some is = ([], refl, (let same : w ≡ last = cc in sym same))
+  pub samples_lead : (steps word : ℕ) (w last : WorldState M) → NoneCrashed w → 1 ≤ length w.nodes → sampled declared turn steps word w ≡ Ok last → AreLed steps word w last
+  samples_lead zero word w last none some is = (refl, (let same : w ≡ last = cc in sym same))
   samples_lead (suc left) word w last none some is = one_more left word w last (samples_lead left) none some is

@@ -1,16 +1,17 @@
 // A simulation whose lines are drawn.
-ghost use Rattle.std.specs.Prelude.{◌≡◌, ◌+◌, ◌<◌, ◌≤◌, length, IfOk};
+ghost use Rattle.std.specs.Prelude.{◌≡◌, ◌+◌, ◌<◌, ◌≤◌, [], length, IfOk};
 ghost use Rattle.circus_schedule.specs.Meaning.{NamesBelow};
 ghost use Rattle.circus_world.specs.Legal.{refusal};
 ghost use Rattle.circus_world.specs.Course.{stepped};
 ghost use Rattle.circus_sample.specs.Sampled as sampling;
-ghost use Rattle.circus_sample.specs.Sampled.{IsUntouched, spares_from};
-ghost use Rattle.circus_sample.specs.Answers.{IsSampled};
+ghost use Rattle.circus_sample.specs.Sampled.{IsUntouched, lines_drawn, spares_from};
+ghost use Rattle.circus_sample.specs.Answers.{AreSampled, IsSampled};
 ghost use Rattle.circus_sample.specs.Seen.Stepping as seen;
 ghost use Rattle.circus_sample.specs.Seen.Stepping.{NoneCrashed, ComesTo};
 
+use crate::noting::{Nothing, Noting};
 use circus_model::Module;
-use circus_schedule::{Facts, Line, next_word, sample_line};
+use circus_schedule::{Facts, Line, Lines, next_word, sample_line};
 use circus_value::{NoMemory, Nodes};
 use circus_world::{World, WorldFault, is_spare};
 use std::alloc::Global;
@@ -55,25 +56,48 @@ pub fn sample<M: Module>(
     ensures { IsSampled M.declared M.turn steps seed world result }
 {
     let spares = spares_of(alloc, &world)?;
-    draw(world, spares.as_slice(), seed, steps)
+    draw(world, spares.as_slice(), seed, steps, &mut Nothing)
 }
 
-// Draws lines and steps them, where these spares are left to join.
-fn draw<M: Module>(
+/// The lines that `sample` steps for the same words, in order. The faults are those of `sample`, and the world is gone in any
+/// case.
+pub fn sample_lines<M: Module>(
+    alloc: Global,
+    world: World<M>,
+    seed: u64,
+    steps: u32,
+) -> Result<Lines, SampleFault>
+    requires untouched { IsUntouched world }
+    requires few { world.steps + steps ≤ 18446744073709551615 }
+    ensures { AreSampled M.declared M.turn steps seed world result }
+{
+    let spares = spares_of(alloc, &world)?;
+    let mut lines = Lines::new(alloc);
+    let _last = draw(world, spares.as_slice(), seed, steps, &mut lines)?;
+    Ok(lines)
+}
+
+// Draws lines, notes and steps them, where these spares are left to join.
+fn draw<M: Module, N: Noting>(
     mut world: World<M>,
     mut spares: &[u16],
     seed: u64,
     steps: u32,
+    notes: &mut N,
 ) -> Result<World<M>, SampleFault>
     requires live { NoneCrashed world }
     requires spares { spares.now ≡ spares_from world.deployment 0 world.nodes }
     requires few { world.steps + steps ≤ 18446744073709551615 }
-    ensures { IsSampled M.declared M.turn steps seed world result }
+    requires begun { N.noted notes.old [] notes.old }
+    ensures sampled { IsSampled M.declared M.turn steps seed world result }
+    ensures noted { IfOk result (λ _. N.noted notes.old
+        (lines_drawn M.declared M.turn steps seed world) notes.new) }
 {
     let mut word = seed;
     for _ in 0..steps {
         word = next_word(word);
         let line = sample_line(word, &facts_of(&world, spares));
+        notes.note(&line)?;
         spares = left_by(&line, spares);
         world = step(world, &line)?;
     }

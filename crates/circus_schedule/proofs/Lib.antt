@@ -7,3 +7,4 @@ pub mod Spelled
 pub mod OneAnswer
 pub mod WrittenAsRead
 pub mod NamedNodes
+pub mod ReadBack

@@ -1,5 +1,5 @@
 // What holds of every text.
-ghost use Rattle.std.specs.Prelude.{◌≡◌, ℕ, ◌↔◌, List, Result, Some, slice_get};
+ghost use Rattle.std.specs.Prelude.{◌≡◌, ◌≤◌, ℕ, ◌↔◌, All, List, Ok, Result, Some, length, slice_get};
 ghost use Rattle.circus_collate.specs.Deployment.{IsDeployment};
 ghost use Rattle.circus_collate.specs.declared.deployment.Deployment.{Deployment};
 ghost use Rattle.circus_collate.specs.declared.deployment.Host.{Host};
@@ -7,9 +7,9 @@ ghost use Rattle.circus_schedule.specs.declared.line.Line.{Line};
 ghost use Rattle.circus_schedule.specs.declared.schedule_fault.ScheduleFault.{ScheduleFault};
 ghost use Rattle.circus_schedule.specs.WrittenLine.{WrittenLine, IsName, Spells};
 ghost use Rattle.circus_schedule.specs.TextLines.{lines_of};
-ghost use Rattle.circus_schedule.specs.Meaning.{Numbers, numbers_of};
-ghost use Rattle.circus_schedule.specs.Answer.{AreReadAs, IsAnswer};
-ghost use Rattle.circus_schedule.specs.ScheduleText.{IsWrittenAs, StandFor};
+ghost use Rattle.circus_schedule.specs.Meaning.{Numbers, NamesBelow, numbers_of};
+ghost use Rattle.circus_schedule.specs.Answer.{AreReadAs, IsAnswer, most_lines};
+ghost use Rattle.circus_schedule.specs.ScheduleText.{AreCalled, IsShort, IsWrittenAs, StandFor, lines_text};
 
 /// A text spells one line at most.
 pub fn one_spelling()
@@ -34,4 +34,13 @@ pub fn nodes_are_named()
     ensures { (deployment : Deployment) (number : ℕ) (node : Host) → IsDeployment deployment
         → slice_get deployment.nodes number ≡ Some node
         → IsName node.name × (numbers_of deployment.nodes node.name ≡ Some number) }
+{}
+
+/// The text of lines is read as these lines: of at most 200,000 that ask for nodes of the deployment alone, where nodes are
+/// called by their names, and numbers of datagrams are below 2 to the 64th.
+pub fn lines_are_read_back()
+    ensures { (deployment : Deployment) (called : ℕ → List ℕ) (lines : List Line) → IsDeployment deployment
+        → AreCalled deployment.nodes called
+        → All (NamesBelow (length deployment.nodes)) lines → All IsShort lines → length lines ≤ most_lines
+        → IsAnswer (numbers_of deployment.nodes) (lines_text called lines) (Ok lines) }
 {}

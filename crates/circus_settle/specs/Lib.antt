@@ -1,5 +1,4 @@
 pub mod Settled
-pub mod Quiet
 pub mod Summary
 pub mod Alike
 pub mod Answers

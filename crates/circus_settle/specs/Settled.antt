@@ -1,5 +1,5 @@
 -- Each datagram is delivered once, in the order of sending.
-use Rattle.std.specs.Prelude.{ℕ, zero, suc, ◌+◌, nat_lt, if◌then◌else◌, List, [], ◌∷◌, length, Result, Ok, Err}
+use Rattle.std.specs.Prelude.{◌≡◌, ℕ, zero, suc, ◌+◌, nat_lt, if◌then◌else◌, List, [], ◌∷◌, length, Result, Ok, Err}
 use Rattle.circus_value.specs.ValueTree.{ValueTree}
 use Rattle.circus_value.specs.declared.outcome.Outcome.{Outcome}
 use Rattle.circus_model.specs.NextTurn.{NextTurn}
@@ -32,7 +32,8 @@ abbrev pub then_settled : {M : Type 0} → (WorldState M → Settling M) → Ste
 then_settled others (Ok w) = others w
 then_settled others (Err spent) = Err spent
 
-module _ {M : Type 0} (declared : M → Signature) (turn : M → List ValueTree → ℕ → List ValueTree → List Outcome → NextTurn) where
+module _ {M : Type 0} (declared : M → Signature)
+    (turn : M → List ValueTree → ℕ → List ValueTree → List Outcome → NextTurn) where
   -- so many deliveries at most, where those before this number were delivered
   abbrev pub settled : ℕ → ℕ → WorldState M → Settling M
   settled zero number w = Ok (record { world = w; given = number })
@@ -40,3 +41,7 @@ module _ {M : Type 0} (declared : M → Signature) (turn : M → List ValueTree 
       if nat_lt number (length w.sent) then
       then_settled (settled most (number + 1)) (stepped declared turn (Deliver number) w)
       else Ok (record { world = w; given = number })
+
+  -- at most so many deliveries, from the first datagram on, come to this
+  abbrev pub HasSettled : ℕ → WorldState M → Delivered M → Type 0
+  HasSettled most w done = settled most 0 w ≡ Ok done

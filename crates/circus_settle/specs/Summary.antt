@@ -8,4 +8,6 @@ use Rattle.circus_report.specs.Report.{rest_text}
 
 -- how many datagrams were delivered, and what a report says behind them
 abbrev pub settled_text : {M : Type 0} → Names → ℕ → WorldState M → List ℕ
-settled_text names given w = line (codes "circus settle 1") ++ line (codes "deliveries " ++ decimal given) ++ rest_text names w
+settled_text names given w =
+    line (codes "circus settle 1") ++ line (codes "deliveries " ++ decimal given)
+    ++ rest_text names w

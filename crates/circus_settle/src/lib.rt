@@ -1,7 +1,8 @@
 //! A simulation in which each datagram is delivered once, in the order of sending.
 //!
-//! `settling` delivers them, and `quietness` says whether all that was sent was delivered. `summary` has what is written of
-//! a world that has settled, and `laws` what holds of every such world.
+//! `settling` delivers them, and `quietness` says whether all that was sent was delivered.
+//! `summary` has what is written of a world that has settled, and `laws` what holds of every such
+//! world.
 #![tactic(auto)]
 
 mod laws;
@@ -10,7 +11,8 @@ mod settling;
 mod summary;
 
 pub use laws::{
-    settled_worlds_are_led_to, settling_depends_on_behaviours, settling_ends_as_steps_do,
+    enough_deliveries_leave_nothing, settled_worlds_are_led_to, settling_depends_on_behaviours,
+    settling_ends_as_steps_do,
 };
 pub use quietness::quiet;
 pub use settling::{SettleFault, Settled, settle};

@@ -1,15 +1,19 @@
 // Whether all that was sent was delivered.
 ghost use Rattle.std.specs.Prelude.{◌≡◌, ◌↔◌, IsTrue, All};
-ghost use Rattle.circus_settle.specs.Quiet.{IsDelivery, IsDelivered, IsQuiet};
+ghost use Rattle.circus_quiescence_theory.specs.Quiet.{IsDelivery, IsDelivered, IsQuiet};
+ghost use Rattle.circus_quiescence_theory.specs.Done.{EndsEveryRoot};
 
 use circus_model::Module;
 use circus_schedule::Line;
 use circus_world::World;
 
-/// Whether nothing but deliveries led to the world, by these lines, and each datagram that was sent was delivered. Where the
-/// lines are in the order of sending each of them is looked at once for its datagram. It takes no memory.
+/// Whether nothing but deliveries led to the world, by these lines, and each datagram that was sent
+/// was delivered. Then every root has ended, in a program whose collators ask for no more than
+/// there are founders. Where the lines are in the order of sending each of them is looked at once
+/// for its datagram. It takes no memory.
 pub fn quiet<M: Module>(world: &World<M>, lines: &[Line]) -> bool
-    ensures { IsTrue result ↔ IsQuiet world.now lines.now }
+    ensures quiet { IsTrue result ↔ IsQuiet world.now lines.now }
+    ensures ends { IsTrue result → EndsEveryRoot M.declared M.turn M.first lines.now world.now }
 {
     if !are_deliveries(lines) {
         return false;
@@ -39,7 +43,8 @@ fn is_delivery(line: &Line) -> bool
     matches!(line, Line::Deliver(_))
 }
 
-// Whether a line delivers the datagram of this number, of which the line of the same place is looked at first.
+// Whether a line delivers the datagram of this number, of which the line of the same place is
+// looked at first.
 fn is_delivered(lines: &[Line], number: u64) -> bool
     ensures { IsTrue result ↔ IsDelivered lines.now number }
 {

@@ -3,6 +3,7 @@ ghost use Rattle.std.specs.Prelude.{◌≡◌, ◌+◌, ◌<◌, ◌≤◌, leng
 ghost use Rattle.circus_world.specs.Legal.{refusal};
 ghost use Rattle.circus_world.specs.Course.{stepped};
 ghost use Rattle.circus_world.specs.Lines.{Lead};
+ghost use Rattle.circus_quiescence_theory.specs.Done.{EndsEveryRoot};
 ghost use Rattle.circus_settle.specs.Settled.{first_deliveries};
 ghost use Rattle.circus_settle.specs.Answers.{IsSettled};
 ghost use Rattle.circus_settle.specs.Seen.Stepping.{ComesTo};
@@ -13,7 +14,8 @@ use circus_value::NoMemory;
 use circus_world::{World, WorldFault};
 use thiserror::Error;
 
-/// A world in which so many datagrams were delivered, the first ones that were sent, and how many are left.
+/// A world in which so many datagrams were delivered, the first ones that were sent, and how many
+/// are left.
 #[derive(Drop)]
 pub struct Settled<M: Module> {
     pub world: World<M>,
@@ -33,19 +35,23 @@ pub enum SettleFault {
     Spent(u16, u16),
 }
 
-/// Delivers each datagram once, in the order of sending, those too that are sent meanwhile, until none is left or so many
-/// were delivered (docs/FORMATS.md, "Settling"). Each line that is stepped may be stepped, and a datagram is found by its
-/// number.
+/// Delivers each datagram once, in the order of sending, those too that are sent meanwhile, until
+/// none is left or so many were delivered (docs/FORMATS.md, "Settling"). Each line that is stepped
+/// may be stepped, and a datagram is found by its number. Where none is left, every root has ended,
+/// in a program whose collators ask for no more than there are founders.
 ///
-/// `Spent` exactly where the step of a node is refused so; `NoMemory` where memory runs out. After these two the world is
-/// gone.
+/// `Spent` exactly where the step of a node is refused so; `NoMemory` where memory runs out. After
+/// these two the world is gone.
 pub fn settle<M: Module>(world: World<M>, deliveries: u64) -> Result<Settled<M>, SettleFault>
     requires { world.steps + deliveries ≤ 18446744073709551615 }
     ensures settled { IsSettled M.declared M.turn deliveries world result }
-    ensures lines { IfOk result (λ done. Lead M.declared M.turn (first_deliveries done.given) world done.world) }
+    ensures lines { IfOk result (λ done. Lead M.declared M.turn
+        (first_deliveries done.given) world done.world) }
     ensures left { IfOk result (λ done. done.given + done.left ≡ length done.world.sent) }
     ensures most { IfOk result (λ done. done.given ≤ deliveries) }
     ensures all { IfOk result (λ done. 0 < done.left → done.given ≡ deliveries) }
+    ensures ends { IfOk result (λ done. done.left ≡ 0
+        → EndsEveryRoot M.declared M.turn M.first (first_deliveries done.given) done.world) }
 {
     deliver(world, deliveries)
 }

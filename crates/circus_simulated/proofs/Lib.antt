@@ -1,4 +1,5 @@
 pub mod Stepping
 pub mod Booted
 pub mod Sampling
+pub mod Drawing
 pub mod Settling

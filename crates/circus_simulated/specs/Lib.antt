@@ -1,4 +1,5 @@
 pub mod Booted
 pub mod Sample
+pub mod Schedule
 pub mod Settle
 pub mod Seen

@@ -35,7 +35,9 @@ fn sample_world(
     steps: u32,
 ) -> Result<Ending, NoMemory>
     requires { IsFresh simulated }
-    ensures ending { IfOk result (λ ending. ending_of ending ≡ sample_in (names_of simulated.hosts simulated.names) seed steps (world_of simulated.world)) }
+    ensures ending { IfOk result (λ ending. ending_of ending
+        ≡ sample_in (names_of simulated.hosts simulated.names) seed steps
+        (world_of simulated.world)) }
     ensures status { IfOk result (λ ending. IsTrue (is_end ending.status)) }
 {
     let Simulated {

@@ -33,7 +33,9 @@ pub fn settle_plan(alloc: Global, plan: Plan, deliveries: u32) -> Result<Ending,
 // What comes of a world that has just booted.
 fn settle_world(alloc: Global, simulated: Simulated, deliveries: u32) -> Result<Ending, NoMemory>
     requires { IsFresh simulated }
-    ensures ending { IfOk result (λ ending. ending_of ending ≡ settle_in (names_of simulated.hosts simulated.names) deliveries (world_of simulated.world)) }
+    ensures ending { IfOk result (λ ending. ending_of ending
+        ≡ settle_in (names_of simulated.hosts simulated.names) deliveries
+        (world_of simulated.world)) }
     ensures status { IfOk result (λ ending. IsTrue (is_end ending.status)) }
 {
     let Simulated {
@@ -59,7 +61,8 @@ fn ended(
     requires modules { All IsAscii names.now }
     requires left { settled.left ≡ length settled.world.sent - settled.given }
     ensures ending { IfOk result (λ ending. ending_of ending
-        ≡ settled_end (names_of settled.world.deployment.nodes names.now) deliveries (record { world = settled.world; given = settled.given })) }
+        ≡ settled_end (names_of settled.world.deployment.nodes names.now) deliveries
+        (record { world = settled.world; given = settled.given })) }
     ensures status { IfOk result (λ ending. IsTrue (is_end ending.status)) }
 {
     let Settled { world, given, left } = settled;
@@ -74,7 +77,8 @@ fn ended(
 
 // The end where datagrams are left, so many of which were sent.
 fn budget(alloc: Global, deliveries: u32, sent: usize) -> Result<Ending, NoMemory>
-    ensures ending { IfOk result (λ ending. ending_of ending ≡ settle_specs.budget deliveries sent) }
+    ensures ending { IfOk result (λ ending. ending_of ending
+        ≡ settle_specs.budget deliveries sent) }
     ensures status { IfOk result (λ ending. ending.status ≡ Status.Unsettled) }
 {
     let text = format!(in alloc; "budget {deliveries}, {sent} sent\n")?;

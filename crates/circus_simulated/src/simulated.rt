@@ -27,10 +27,12 @@ pub struct Simulated {
 /// one fault.
 pub fn boot_plan(alloc: Global, plan: Plan) -> Result<Result<Simulated, Ending>, NoMemory>
     requires { IsPlan plan }
-    ensures world { IfOk result (λ boot. IfOk boot (λ simulated. booted plan ≡ Ok (world_of simulated.world))) }
+    ensures world { IfOk result (λ boot. IfOk boot (λ simulated.
+        booted plan ≡ Ok (world_of simulated.world))) }
     ensures plan { IfOk result (λ boot. IfOk boot (IsOfPlan plan)) }
     ensures ended { IfOk result (λ boot. IfErr boot (λ ending.
-        (nodes : ℕ × ℕ) × (booted plan ≡ Err nodes) × (ending_of ending ≡ spent_end (names_in plan) nodes))) }
+        (nodes : ℕ × ℕ) × (booted plan ≡ Err nodes)
+        × (ending_of ending ≡ spent_end (names_in plan) nodes))) }
     ensures status { IfOk result (λ boot. IfErr boot (λ ending. ending.status ≡ Status.Spent)) }
 {
     let Loaded {

@@ -32,7 +32,7 @@ use Rattle.circus_world.proofs.SlotLemmas.{get_push, get_there}
 use Rattle.circus_world.proofs.SoundLemmas.{booted_sound}
 use Rattle.circus_talks.specs.Histories.{beginning_of, acts_of}
 use Rattle.circus_talks.specs.NodeActs.{with_all, acts_at_boot}
-use Rattle.circus_talks.proofs.Given.{Gives}
+use Rattle.circus_talks.proofs.Given.{HaveGiven, Gives, given_carries}
 use Rattle.circus_talks.proofs.Lines.{lead_stands}
 use Rattle.circus_talks.proofs.Steps.{boot_gives}
 use Rattle.circus_talks.proofs.Talks.{Talks, talks_back, none_said, acts_on, all_handed_sent}
@@ -72,7 +72,7 @@ module _ {M : Type 0} (declared : M → Signature) (turn : M → List ValueTree 
       gives : Gives (beginning_of d (length w.nodes)) (at_boot (length w.nodes)) ended
       gives =
           subst (λ (o : Option (Option M)). Gives (beginning_of d (length w.nodes)) (with_all begun (acts_at_boot declared turn first d (option_and_then (λ (x : Option M). x) o) (length w.nodes))) ended) (sym at)
-          (boot_gives declared turn first d own (length w.nodes) ended within (ap (λ x. booted declared turn first x own (length w.nodes)) (sym so_far.deployment) ∙ ends))
+          (boot_gives declared turn first d own (length w.nodes) (HaveGiven (beginning_of d (length w.nodes))) ended within (given_carries (beginning_of d (length w.nodes))) (ap (λ x. booted declared turn first x own (length w.nodes)) (sym so_far.deployment) ∙ ends))
 
       by_place : (node : ℕ) (s : Standing M) → ((node ≡ length w.nodes) × (s ≡ record { node = ended.0; crashed = None; joins = false })) ⊎ (slice_get w.nodes node ≡ Some s)
           → WireStands s.node.wire (beginning_of d node) (at_boot node)

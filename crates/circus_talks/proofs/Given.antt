@@ -1,18 +1,18 @@
 -- What a node gives in a step is what the acts send that happen at its pairs, and these stand for them.
-use Rattle.std.proofs.Common.{◌≡◌, ◌≢◌, ℕ, zero, suc, ◌*◌, ◌<◌, ◌≤◌, Bool, true, false, cond, not, ◌&&◌, eqb, List, [], ◌∷◌, ◌++◌, length, All, Option, None, Some, Result, Ok, Err, refl, sym, ap, subst, ◌∙◌, arith, get_or}
+use Rattle.std.proofs.Common.{◌≡◌, ◌≢◌, ℕ, zero, suc, ◌+◌, ◌-◌, ◌*◌, ◌<◌, ◌≤◌, ◌⊎◌, inl, inr, Bool, true, false, cond, not, ◌&&◌, eqb, List, [], ◌∷◌, ◌++◌, length, All, Option, None, Some, Result, Ok, Err, refl, sym, ap, subst, ◌∙◌, arith, get_or}
 use Rattle.std.specs.Prelude.{slice_get, flat_map, nat_lt, nat_le, if◌then◌else◌, ◌==◌}
-use Rattle.std.proofs.lemmas.Bool.{and_parts, ltb-true, leb-true, eqb-false}
+use Rattle.std.proofs.lemmas.Bool.{and_parts, ltb-true, leb-true, eqb-false, lt-ltb, le-ltb, cases_lt}
 use Rattle.std.proofs.lemmas.List.{append-nil}
 use Rattle.std.proofs.lemmas.List.Elements.{All-append, All-map, All-weaker}
-use Rattle.std.proofs.lemmas.Option.{slice_get-get_or}
+use Rattle.std.proofs.lemmas.Option.{slice_get-get_or, slice_get_within}
 use Rattle.circus_segment.specs.Segment.{part_size, most_segments}
 use Rattle.circus_exchange.specs.Limits.{never_used}
-use Rattle.circus_exchange.specs.Exchange.{IsSendable, datagrams_of_return}
+use Rattle.circus_exchange.specs.Exchange.{IsSendable, awaits_return, datagrams_of_return}
 use Rattle.circus_pair.proofs.Following as following
 use Rattle.circus_pair.proofs.Lasting.{lasts_called, lasts_returned}
 use Rattle.circus_value.specs.declared.caller.Caller.{Caller}
 use Rattle.circus_wire.specs.declared.delivery.Batch.{Batch}
-use Rattle.circus_wire.specs.Wire.{PeerState, WireState, Beginning, place_of, changed_at, changed, peer_at, of_peer, sent_to, is_up, next_number, is_awaited, peer_called, peer_answered, called_to, sent_by_call, answered, sent_by_answer}
+use Rattle.circus_wire.specs.Wire.{PeerState, WireState, Beginning, IsOther, node_at, place_of, changed_at, changed, peer_at, of_peer, sent_to, is_up, next_number, is_awaited, peer_called, peer_answered, called_to, sent_by_call, answered, sent_by_answer}
 use Rattle.circus_wire.specs.WireActs.{WireAct, WireActs, followed_by, CallTo, AnswerTo, acts_at}
 use Rattle.circus_wire.specs.WireStanding.{WireStands, pair_of, owed_to, sent_in}
 use Rattle.circus_wire.proofs.Changing.{found_by, peer_is}
@@ -59,28 +59,92 @@ pub given_on : (b : Beginning) (acts : WireActs Purpose) (more : List (WireAct P
 given_on b acts [] to bytes given = given
 given_on b acts (act ∷ more) to bytes given = given_on b (followed_by acts act) more to bytes (given_more b acts act to bytes given)
 
-still_given : (b : Beginning) (acts : WireActs Purpose) (act : WireAct Purpose) (gives : List Give) → AreGiven b acts gives → AreGiven b (followed_by acts act) gives
-still_given b acts act gives given = All-weaker (HaveGiven b acts) (HaveGiven b (followed_by acts act)) (λ give. given_more b acts act give.to give.bytes) gives given
+-- ---- the other nodes
 
--- what is owed for an act is given by it
-pub owed_given : (b : Beginning) (acts : WireActs Purpose) (act : WireAct Purpose) (batch : Batch) → batch.datagrams ≡ (owed_to b acts act batch.to).datagrams → AreGiven b (followed_by acts act) (gives_of batch)
+-- a node is another one of those that a wire is for
+abbrev pub IsPeer : Beginning → ℕ → Type 0
+IsPeer b to = (to ≢ b.own) × (to < b.nodes)
+
+pub peer_by : (b : Beginning) (acts : WireActs Purpose) (w : WireState Purpose) (to : ℕ) → WireStands w b acts → IsOther w to → IsPeer b to
+peer_by b acts w to stands other =
+    let one = stands.one in let all = stands.nodes in let low = other.1 in
+    (λ same. other.0 (same ∙ sym stands.own), omega (arith, one, all, low))
+
+peer_found : (b : Beginning) (acts : WireActs Purpose) (w : WireState Purpose) (to : ℕ) (p : PeerState Purpose) → WireStands w b acts → to ≢ w.own → slice_get w.peers (place_of w.own to) ≡ Some p → IsPeer b to
+peer_found b acts w to p stands differs there = peer_by b acts w to stands (differs, by_test (nat_lt w.own to) (slice_get_within w.peers (place_of w.own to) p there))
+  where
+    by_test : (t : Bool) → (if t then to - 1 else to) < length w.peers → to ≤ length w.peers
+    by_test true low = omega (arith, low)
+    by_test false low = omega (arith, low)
+
+pub peer_at_place : (b : Beginning) (place : ℕ) → place < b.nodes - 1 → b.own < b.nodes → IsPeer b (node_at b.own place)
+peer_at_place b place low one = by_cases (cases_lt place b.own)
+  where
+    by_cases : (place < b.own) ⊎ (b.own ≤ place) → IsPeer b (node_at b.own place)
+    by_cases (inr high) =
+        let is : node_at b.own place ≡ place + 1 = ap (λ x. if x then place else place + 1) (le-ltb place b.own high) in
+        (λ same. (let at : place + 1 ≡ b.own = sym is ∙ same in absurd (omega (arith, at, high))), subst (λ n. n < b.nodes) (sym is) (omega (arith, low)))
+    by_cases (inl less) =
+        let is : node_at b.own place ≡ place = ap (λ x. if x then place else place + 1) (lt-ltb place b.own less) in
+        (λ same. (let at : place ≡ b.own = sym is ∙ same in absurd (omega (arith, at, less))), subst (λ n. n < b.nodes) (sym is) (omega (arith, low)))
+
+-- ---- what holds of all that acts send
+
+-- what may hold of a datagram that these acts have sent
+abbrev pub OfGives : Type 1
+OfGives = WireActs Purpose → Give → Type 0
+
+module _ (b : Beginning) (P : OfGives) where
+  -- an act is such that the pairs stand for it, then it holds of each datagram that the act sends
+  abbrev pub HoldsBy : WireActs Purpose → WireAct Purpose → Type 0
+  HoldsBy acts act =
+      (w : WireState Purpose) → WireStands w b (followed_by acts act) → (to : ℕ) → IsPeer b to → (place : ℕ) (bytes : List ℕ)
+      → slice_get (owed_to b acts act to).datagrams place ≡ Some bytes → P (followed_by acts act) (give_to to bytes)
+
+  -- it holds still behind an act
+  abbrev pub StaysBy : WireActs Purpose → WireAct Purpose → Type 0
+  StaysBy acts act = (w : WireState Purpose) → WireStands w b (followed_by acts act) → (give : Give) → P acts give → P (followed_by acts act) give
+
+  -- calls and returns that are handed over make it so, and keep it so
+  pub record Carries : Type 0 where
+    pub call : (acts : WireActs Purpose) (to : ℕ) (message : List ℕ) (purpose : Purpose) → HoldsBy acts (CallTo to message purpose) × StaysBy acts (CallTo to message purpose)
+    pub answer : (acts : WireActs Purpose) (caller : Caller) (message : List ℕ) → HoldsBy acts (AnswerTo caller message) × StaysBy acts (AnswerTo caller message)
+
+  -- what is owed for an act is sent by it
+  pub owed_holds : (acts : WireActs Purpose) (act : WireAct Purpose) (w : WireState Purpose) (batch : Batch) → HoldsBy acts act → WireStands w b (followed_by acts act) → IsPeer b batch.to
+      → batch.datagrams ≡ (owed_to b acts act batch.to).datagrams → All (P (followed_by acts act)) (gives_of batch)
+  owed_holds acts act w batch holds stands peer owes =
+      All-map (P (followed_by acts act)) (give_to batch.to) batch.datagrams
+      (λ k d below.
+      let there : slice_get batch.datagrams k ≡ Some (get_or batch.datagrams k d) = slice_get-get_or batch.datagrams k d below in
+      holds w stands batch.to peer k (get_or batch.datagrams k d) (ap (λ (l : List (List ℕ)). slice_get l k) (sym owes) ∙ there))
+
+  still_holds : (acts : WireActs Purpose) (act : WireAct Purpose) (w : WireState Purpose) (gives : List Give) → StaysBy acts act → WireStands w b (followed_by acts act) → All (P acts) gives
+      → All (P (followed_by acts act)) gives
+  still_holds acts act w gives stays stands all = All-weaker (P acts) (P (followed_by acts act)) (stays w stands) gives all
+
+  more_holds : (acts : WireActs Purpose) (act : WireAct Purpose) (w : WireState Purpose) (gives : List Give) (batch : Batch) → HoldsBy acts act × StaysBy acts act
+      → WireStands w b (followed_by acts act) → IsPeer b batch.to → All (P acts) gives → batch.datagrams ≡ (owed_to b acts act batch.to).datagrams → All (P (followed_by acts act)) (gives ++ gives_of batch)
+  more_holds acts act w gives batch both stands peer all owes =
+      All-append (P (followed_by acts act)) gives (gives_of batch) (still_holds acts act w gives both.1 stands all) (owed_holds acts act w batch both.0 stands peer owes)
+
+  none_holds : (acts : WireActs Purpose) (act : WireAct Purpose) (w : WireState Purpose) (gives : List Give) → StaysBy acts act → WireStands w b (followed_by acts act) → All (P acts) gives
+      → All (P (followed_by acts act)) (gives ++ [])
+  none_holds acts act w gives stays stands all = subst (All (P (followed_by acts act))) (sym (append-nil gives)) (still_holds acts act w gives stays stands all)
+
+pub given_by : (b : Beginning) (acts : WireActs Purpose) (act : WireAct Purpose) → HoldsBy b (HaveGiven b) acts act
 unfolding sent_in
-owed_given b acts act batch owes =
-    All-map (HaveGiven b (followed_by acts act)) (give_to batch.to) batch.datagrams
-    (λ k d below.
-    let there : slice_get batch.datagrams k ≡ Some (get_or batch.datagrams k d) = slice_get-get_or batch.datagrams k d below in
-    get_behind (sent_in b batch.to acts) (owed_to b acts act batch.to).datagrams k (get_or batch.datagrams k d) (ap (λ (l : List (List ℕ)). slice_get l k) (sym owes) ∙ there))
+given_by b acts act w stands to peer place bytes at = get_behind (sent_in b to acts) (owed_to b acts act to).datagrams place bytes at
 
-more_given : (b : Beginning) (acts : WireActs Purpose) (act : WireAct Purpose) (gives : List Give) (batch : Batch) → AreGiven b acts gives
-    → batch.datagrams ≡ (owed_to b acts act batch.to).datagrams → AreGiven b (followed_by acts act) (gives ++ gives_of batch)
-more_given b acts act gives batch given owes =
-    All-append (HaveGiven b (followed_by acts act)) gives (gives_of batch)
-    (still_given b acts act gives given)
-    (owed_given b acts act batch owes)
+given_still : (b : Beginning) (acts : WireActs Purpose) (act : WireAct Purpose) → StaysBy b (HaveGiven b) acts act
+given_still b acts act w stands give given = given_more b acts act give.to give.bytes given
 
-none_given : (b : Beginning) (acts : WireActs Purpose) (act : WireAct Purpose) (gives : List Give) → AreGiven b acts gives → AreGiven b (followed_by acts act) (gives ++ [])
-none_given b acts act gives given =
-    subst (AreGiven b (followed_by acts act)) (sym (append-nil gives)) (still_given b acts act gives given)
+-- what was ever sent was sent
+pub given_carries : (b : Beginning) → Carries b (HaveGiven b)
+given_carries b = record {
+  call = λ acts to message purpose. (given_by b acts (CallTo to message purpose), given_still b acts (CallTo to message purpose));
+  answer = λ acts caller message. (given_by b acts (AnswerTo caller message), given_still b acts (AnswerTo caller message));
+}
 
 pub with_both : (acts : WireActs Purpose) (some more : List (WireAct Purpose)) → with_all acts (some ++ more) ≡ with_all (with_all acts some) more
 with_both acts [] more = refl
@@ -118,23 +182,23 @@ up_answered w caller message node =
 
 -- ---- a call or a return is handed over
 
--- the pairs stand for acts which have given what was given, and are up as they were
-pub record Handed (b : Beginning) (acts : WireActs Purpose) (old w : WireState Purpose) (gives : List Give) : Type 0 where
+-- the pairs stand for acts, which is so of what was given, and are up as they were
+pub record Handed (b : Beginning) (P : OfGives) (acts : WireActs Purpose) (old w : WireState Purpose) (gives : List Give) : Type 0 where
   pub stands : WireStands w b acts
-  pub given : AreGiven b acts gives
+  pub given : All (P acts) gives
   pub up : (node : ℕ) → is_up w node ≡ is_up old node
   pub format : w.format ≡ old.format
 
-abbrev pub IsHanded : Beginning → WireActs Purpose → WireState Purpose → Sending → Type 0
-IsHanded b acts old (sent w gives) = Handed b acts old w gives
-IsHanded b acts old (spent node) = Unit {0}
+abbrev pub IsHanded : Beginning → OfGives → WireActs Purpose → WireState Purpose → Sending → Type 0
+IsHanded b P acts old (sent w gives) = Handed b P acts old w gives
+IsHanded b P acts old (spent node) = Unit {0}
 
 can_send : (format : ℕ) (message : List ℕ) → is_sendable format message ≡ true → IsSendable format message
 can_send format message is =
     let parts = and_parts (nat_lt 0 (length message)) (nat_le (length message) (part_size * most_segments format)) is in
     (ltb-true 0 (length message) parts.0, leb-true (length message) (part_size * most_segments format) parts.1)
 
-module _ (b : Beginning) (low : b.first ≤ never_used) (acts : WireActs Purpose) (old w : WireState Purpose) (gives : List Give) (so_far : Handed b acts old w gives) where
+module _ (b : Beginning) (P : OfGives) (carries : Carries b P) (low : b.first ≤ never_used) (acts : WireActs Purpose) (old w : WireState Purpose) (gives : List Give) (so_far : Handed b P acts old w gives) where
   -- a number is left
   left_for : (to : ℕ) → is_up w to ≡ true → (next_number w to == never_used) ≡ false → next_number w to < never_used
   left_for to up differs =
@@ -146,33 +210,44 @@ module _ (b : Beginning) (low : b.first ≤ never_used) (acts : WireActs Purpose
       let other : next_number w to ≢ never_used = eqb-false (next_number w to) never_used differs in
       omega (arith, next, most, other)
 
-  call_on : (to : ℕ) (message : List ℕ) (purpose : Purpose) → IsHanded b (with_all acts (handed_by w (made.Call to message purpose))) old (handed w gives (made.Call to message purpose))
+  peer_up : (to : ℕ) → is_up w to ≡ true → IsPeer b to
+  peer_up to up =
+      let f = found_by (λ (p : PeerState Purpose). not p.exchange.stopped) w w.own w.format w.peers to refl up in
+      peer_found b acts w to f.peer so_far.stands f.differs f.there
+
+  peer_awaited : (caller : Caller) → is_awaited w caller ≡ true → IsPeer b caller.node
+  peer_awaited caller is =
+      let f = found_by (λ (p : PeerState Purpose). awaits_return p.exchange caller.number) w w.own w.format w.peers caller.node refl is in
+      peer_found b acts w caller.node f.peer so_far.stands f.differs f.there
+
+  call_on : (to : ℕ) (message : List ℕ) (purpose : Purpose) → IsHanded b P (with_all acts (handed_by w (made.Call to message purpose))) old (handed w gives (made.Call to message purpose))
   call_on to message purpose = by_test (is_up w to && is_sendable w.format message) refl
     where
       next : WireState Purpose
       next = called_to w to message purpose
 
       by_number : is_up w to ≡ true → is_sendable w.format message ≡ true → (none : Bool) → (next_number w to == never_used) ≡ none
-          → IsHanded b (followed_by acts (CallTo to message purpose)) old (if none then spent to else sent next (gives ++ gives_of (sent_by_call w to message)))
+          → IsHanded b P (followed_by acts (CallTo to message purpose)) old (if none then spent to else sent next (gives ++ gives_of (sent_by_call w to message)))
       by_number up sendable true is = tt
       by_number up sendable false is =
           let may = can_send w.format message sendable in
           let left = left_for to up is in
+          let stands = call_stands b acts w to message purpose up may left so_far.stands next refl in
           record {
-            stands = call_stands b acts w to message purpose up may left so_far.stands next refl;
-            given = more_given b acts (CallTo to message purpose) gives (sent_by_call w to message) so_far.given
+            stands = stands;
+            given = more_holds b P acts (CallTo to message purpose) next gives (sent_by_call w to message) (carries.call acts to message purpose) stands (peer_up to up) so_far.given
                 (ap (λ (x : Batch). x.datagrams) (call_owes b acts w to message purpose up may left so_far.stands (sent_by_call w to message).datagrams refl));
             up = λ node. up_called w to node message purpose ∙ so_far.up node;
             format = so_far.format;
           }
 
       by_test : (test : Bool) → (is_up w to && is_sendable w.format message) ≡ test
-          → IsHanded b (with_all acts (if test then CallTo to message purpose ∷ [] else [])) old
+          → IsHanded b P (with_all acts (if test then CallTo to message purpose ∷ [] else [])) old
           (if test then (if next_number w to == never_used then spent to else sent next (gives ++ gives_of (sent_by_call w to message))) else sent w gives)
       by_test true is = (let parts = and_parts (is_up w to) (is_sendable w.format message) is in by_number parts.0 parts.1 (next_number w to == never_used) refl)
       by_test false is = so_far
 
-  answer_on : (caller : Caller) (message : List ℕ) → IsHanded b (with_all acts (handed_by w (made.Answer caller message))) old (handed w gives (made.Answer caller message))
+  answer_on : (caller : Caller) (message : List ℕ) → IsHanded b P (with_all acts (handed_by w (made.Answer caller message))) old (handed w gives (made.Answer caller message))
   answer_on caller message = by_test (is_sendable w.format message) refl
     where
       next : WireState Purpose
@@ -185,78 +260,84 @@ module _ (b : Beginning) (low : b.first ≤ never_used) (acts : WireActs Purpose
       none = record { to = caller.node; datagrams = [] }
 
       by_call : IsSendable w.format message → (awaited : Bool) → is_awaited w caller ≡ awaited
-          → Handed b (followed_by acts (AnswerTo caller message)) old (if awaited then next else w) (gives ++ gives_of (if awaited then sends else none))
+          → Handed b P (followed_by acts (AnswerTo caller message)) old (if awaited then next else w) (gives ++ gives_of (if awaited then sends else none))
       by_call may true is =
+          let stands = answer_stands b acts w caller message so_far.stands next may is (sym (ap (λ (x : Bool). if x then next else w) is)) in
           record {
-            stands = answer_stands b acts w caller message so_far.stands next may is (sym (ap (λ (x : Bool). if x then next else w) is));
-            given = more_given b acts (AnswerTo caller message) gives sends so_far.given
+            stands = stands;
+            given = more_holds b P acts (AnswerTo caller message) next gives sends (carries.answer acts caller message) stands (peer_awaited caller is) so_far.given
                 (ap (λ (x : Batch). x.datagrams) (answer_owes b acts w caller message so_far.stands sends.datagrams is (sym (ap (λ (x : Bool). let y : Batch = if x then sends else none in y.datagrams) is))));
             up = λ node. up_answered w caller message node ∙ so_far.up node;
             format = so_far.format;
           }
       by_call may false is =
+          let stands = unawaited_stands b acts w caller message so_far.stands is in
           record {
-            stands = unawaited_stands b acts w caller message so_far.stands is;
-            given = none_given b acts (AnswerTo caller message) gives so_far.given;
+            stands = stands;
+            given = none_holds b P acts (AnswerTo caller message) w gives (carries.answer acts caller message).1 stands so_far.given;
             up = so_far.up;
             format = so_far.format;
           }
 
       by_test : (test : Bool) → is_sendable w.format message ≡ test
-          → IsHanded b (with_all acts (if test then AnswerTo caller message ∷ [] else [])) old
+          → IsHanded b P (with_all acts (if test then AnswerTo caller message ∷ [] else [])) old
           (if test then sent (answered w caller message) (gives ++ gives_of (sent_by_answer w caller message)) else sent w gives)
       by_test true is = by_call (can_send w.format message is) (is_awaited w caller) refl
       by_test false is = so_far
 
 -- ---- all of them
 
-handed_alike : (b : Beginning) (acts : WireActs Purpose) (old w : WireState Purpose) (gives : List Give) (e : Effect) → Handed b acts old w gives → handed_by w e ≡ handed_by old e
-handed_alike b acts old w gives (made.Call to message purpose) so_far =
+handed_alike : (b : Beginning) (P : OfGives) (acts : WireActs Purpose) (old w : WireState Purpose) (gives : List Give) (e : Effect) → Handed b P acts old w gives → handed_by w e ≡ handed_by old e
+handed_alike b P acts old w gives (made.Call to message purpose) so_far =
     λ i. if so_far.up to i && is_sendable (so_far.format i) message then CallTo to message purpose ∷ [] else []
-handed_alike b acts old w gives (made.Answer caller message) so_far =
+handed_alike b P acts old w gives (made.Answer caller message) so_far =
     λ i. if is_sendable (so_far.format i) message then AnswerTo caller message ∷ [] else []
 
-one_on : (b : Beginning) → b.first ≤ never_used → (acts : WireActs Purpose) (old w : WireState Purpose) (gives : List Give) (e : Effect) → Handed b acts old w gives
-    → IsHanded b (with_all acts (handed_by old e)) old (handed w gives e)
-one_on b low acts old w gives (made.Call to message purpose) so_far =
-    subst (λ l. IsHanded b (with_all acts l) old (handed w gives (made.Call to message purpose))) (handed_alike b acts old w gives (made.Call to message purpose) so_far)
-    (call_on b low acts old w gives so_far to message purpose)
-one_on b low acts old w gives (made.Answer caller message) so_far =
-    subst (λ l. IsHanded b (with_all acts l) old (handed w gives (made.Answer caller message))) (handed_alike b acts old w gives (made.Answer caller message) so_far)
-    (answer_on b low acts old w gives so_far caller message)
+one_on : (b : Beginning) (P : OfGives) → Carries b P → b.first ≤ never_used → (acts : WireActs Purpose) (old w : WireState Purpose) (gives : List Give) (e : Effect) → Handed b P acts old w gives
+    → IsHanded b P (with_all acts (handed_by old e)) old (handed w gives e)
+one_on b P carries low acts old w gives (made.Call to message purpose) so_far =
+    subst (λ l. IsHanded b P (with_all acts l) old (handed w gives (made.Call to message purpose))) (handed_alike b P acts old w gives (made.Call to message purpose) so_far)
+    (call_on b P carries low acts old w gives so_far to message purpose)
+one_on b P carries low acts old w gives (made.Answer caller message) so_far =
+    subst (λ l. IsHanded b P (with_all acts l) old (handed w gives (made.Answer caller message))) (handed_alike b P acts old w gives (made.Answer caller message) so_far)
+    (answer_on b P carries low acts old w gives so_far caller message)
 
-spent_on : (b : Beginning) (acts : WireActs Purpose) (old : WireState Purpose) (node : ℕ) (effects : List Effect) → IsHanded b acts old (all_handed (spent node) effects)
-spent_on b acts old node [] = tt
-spent_on b acts old node (e ∷ effects) = spent_on b acts old node effects
+spent_on : (b : Beginning) (P : OfGives) (acts : WireActs Purpose) (old : WireState Purpose) (node : ℕ) (effects : List Effect) → IsHanded b P acts old (all_handed (spent node) effects)
+spent_on b P acts old node [] = tt
+spent_on b P acts old node (e ∷ effects) = spent_on b P acts old node effects
 
-all_on : (b : Beginning) → b.first ≤ never_used → (acts : WireActs Purpose) (old : WireState Purpose) (s : Sending) (effects : List Effect) → IsHanded b acts old s
-    → IsHanded b (with_all acts (flat_map (handed_by old) effects)) old (all_handed s effects)
-all_on b low acts old s [] so_far = so_far
-all_on b low acts old (spent node) (e ∷ effects) so_far = spent_on b (with_all acts (flat_map (handed_by old) (e ∷ effects))) old node effects
-all_on b low acts old (sent w gives) (e ∷ effects) so_far =
-    subst (λ x. IsHanded b x old (all_handed (handed w gives e) effects)) (sym (with_both acts (handed_by old e) (flat_map (handed_by old) effects)))
-    (all_on b low (with_all acts (handed_by old e)) old (handed w gives e) effects (one_on b low acts old w gives e so_far))
+all_on : (b : Beginning) (P : OfGives) → Carries b P → b.first ≤ never_used → (acts : WireActs Purpose) (old : WireState Purpose) (s : Sending) (effects : List Effect) → IsHanded b P acts old s
+    → IsHanded b P (with_all acts (flat_map (handed_by old) effects)) old (all_handed s effects)
+all_on b P carries low acts old s [] so_far = so_far
+all_on b P carries low acts old (spent node) (e ∷ effects) so_far = spent_on b P (with_all acts (flat_map (handed_by old) (e ∷ effects))) old node effects
+all_on b P carries low acts old (sent w gives) (e ∷ effects) so_far =
+    subst (λ x. IsHanded b P x old (all_handed (handed w gives e) effects)) (sym (with_both acts (handed_by old e) (flat_map (handed_by old) effects)))
+    (all_on b P carries low (with_all acts (handed_by old e)) old (handed w gives e) effects (one_on b P carries low acts old w gives e so_far))
 
 -- ---- a step
 
--- the pairs of a node stand for acts which have given what it gives
-pub record Gives {M : Type 0} (b : Beginning) (acts : WireActs Purpose) (r : NodeState M × Outputs) : Type 0 where
+-- the pairs of a node stand for acts, which is so of what it gives
+pub record GivesSo {M : Type 0} (b : Beginning) (P : OfGives) (acts : WireActs Purpose) (r : NodeState M × Outputs) : Type 0 where
   pub stands : WireStands r.0.wire b acts
-  pub given : AreGiven b acts r.1.gives
+  pub given : All (P acts) r.1.gives
 
 module _ {M : Type 0} where
+  -- the acts have given what it gives
+  abbrev pub Gives : Beginning → WireActs Purpose → NodeState M × Outputs → Type 0
+  Gives b acts r = GivesSo b (HaveGiven b) acts r
+
   pub same_end : (x y : NodeState M × Outputs) → ◌≡◌ {A = Result (NodeState M × Outputs) ℕ} (Ok x) (Ok y) → x ≡ y
   same_end x y is = cc
 
-  ended_gives : (b : Beginning) (acts : WireActs Purpose) (old : WireState Purpose) (n : NodeState M) (m : Made M) (s : Sending) (r : NodeState M × Outputs)
-      → IsHanded b acts old s → ended n m.came s ≡ Ok r → Gives b acts r
-  ended_gives b acts old n m (sent w gives) r on is = subst (Gives b acts) (same_end _ r is) (record { stands = on.stands; given = on.given })
-  ended_gives b acts old n m (spent node) r on is = absurd (let clash : ◌≡◌ {A = Result (NodeState M × Outputs) ℕ} (Err node) (Ok r) = is in cc)
+  ended_gives : (b : Beginning) (P : OfGives) (acts : WireActs Purpose) (old : WireState Purpose) (n : NodeState M) (m : Made M) (s : Sending) (r : NodeState M × Outputs)
+      → IsHanded b P acts old s → ended n m.came s ≡ Ok r → GivesSo b P acts r
+  ended_gives b P acts old n m (sent w gives) r on is = subst (GivesSo b P acts) (same_end _ r is) (record { stands = on.stands; given = on.given })
+  ended_gives b P acts old n m (spent node) r on is = absurd (let clash : ◌≡◌ {A = Result (NodeState M × Outputs) ℕ} (Err node) (Ok r) = is in cc)
 
   -- what came of an event is sent
-  pub concluded_gives : (b : Beginning) → b.first ≤ never_used → (acts : WireActs Purpose) (n : NodeState M) (gives : List Give) (m : Made M) (r : NodeState M × Outputs)
-      → WireStands n.wire b acts → AreGiven b acts gives → concluded n gives m.came ≡ Ok r → Gives b (with_all acts (flat_map (handed_by n.wire) m.came.effects)) r
-  concluded_gives b low acts n gives m r stands given is =
-      ended_gives b (with_all acts (flat_map (handed_by n.wire) m.came.effects)) n.wire n m (all_handed (sent n.wire gives) m.came.effects) r
-      (all_on b low acts n.wire (sent n.wire gives) m.came.effects (record { stands = stands; given = given; up = λ node. refl; format = refl }))
+  pub concluded_gives : (b : Beginning) (P : OfGives) → Carries b P → b.first ≤ never_used → (acts : WireActs Purpose) (n : NodeState M) (gives : List Give) (m : Made M) (r : NodeState M × Outputs)
+      → WireStands n.wire b acts → All (P acts) gives → concluded n gives m.came ≡ Ok r → GivesSo b P (with_all acts (flat_map (handed_by n.wire) m.came.effects)) r
+  concluded_gives b P carries low acts n gives m r stands given is =
+      ended_gives b P (with_all acts (flat_map (handed_by n.wire) m.came.effects)) n.wire n m (all_handed (sent n.wire gives) m.came.effects) r
+      (all_on b P carries low acts n.wire (sent n.wire gives) m.came.effects (record { stands = stands; given = given; up = λ node. refl; format = refl }))
       is

@@ -36,9 +36,9 @@ use Rattle.circus_world.proofs.SlotLemmas.{get_set, get_there}
 use Rattle.circus_world.proofs.SoundLemmas.{comes_sound}
 use Rattle.circus_talks.specs.Histories.{beginning_of}
 use Rattle.circus_talks.specs.NodeActs.{with_all, coming, came_by, wire_behind, effects_in, acts_in}
-use Rattle.circus_talks.proofs.Given.{WasGiven, AreGiven, Gives, given_on}
+use Rattle.circus_talks.proofs.Given.{HaveGiven, WasGiven, AreGiven, Gives, given_on}
 use Rattle.circus_talks.proofs.Spelled.{sent_is_read}
-use Rattle.circus_talks.proofs.Steps.{IsRead, step_gives}
+use Rattle.circus_talks.proofs.Steps.{IsRead, given_brings, step_gives}
 use Rattle.circus_talks.proofs.Talks.{Talks, talks_back, AllSent, acts_on, both_sent, all_handed_sent}
 
 -- ---- lists
@@ -111,7 +111,7 @@ module _ {M : Type 0} (d : Deployment) (acts : ℕ → WireActs Purpose) (w : Wo
   can_come node (comes.Down other) s at real = is_other d node other s.node.wire (acts node) (so_far.stands node s at) real.0 real.1
   can_come node comes.Join s at real = tt
 
-  is_read : (node : ℕ) (event : Event) → node < length d.nodes → IsReal d acts node event → IsRead event
+  pub is_read : (node : ℕ) (event : Event) → node < length d.nodes → IsReal d acts node event → IsRead event
   is_read node (comes.Datagram from bytes) below real = λ s read. (came_sent from node bytes s real.0 below real.1 real.2 read).0
   is_read node comes.Tick below real = tt
   is_read node (comes.Down other) below real = tt
@@ -154,8 +154,8 @@ module _ {M : Type 0} (declared : M → Signature) (turn : M → List ValueTree 
 
     gives : Gives (beginning_of d node) (with_all (acts node) later) ended
     gives =
-        step_gives declared turn (beginning_of d node) (omega arith) (acts node) (w.steps + 1) event s.node ended (so_far.stands node s at)
-        (can_come d acts w so_far node event s at real) (is_read d acts w so_far node event below real) ends
+        step_gives declared turn (beginning_of d node) (HaveGiven (beginning_of d node)) (omega arith) (acts node) (w.steps + 1) event s.node ended
+        (given_brings (beginning_of d node) (acts node) event) (so_far.stands node s at) (can_come d acts w so_far node event s at real) (is_read d acts w so_far node event below real) ends
 
     after_is : comes_to declared turn node event w ≡ Ok after
     after_is = comes_is ∙ ap (concluded node s w) ends

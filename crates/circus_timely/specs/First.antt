@@ -13,7 +13,9 @@ module _ {A : Type 0} where
   or_else None other = other
   or_else (Some given) other = Some given
 
-  -- what `gives` gives at the end of the shortest past at whose end it gives anything, with the last step of that
+  -- what `gives` gives at the end of the shortest past at whose end it gives anything, with the
+  -- last step of that
   unfoldable pub first_given : (Past → Option A) → Past → Option (ℕ × A)
   first_given gives booted = at_end booted (gives booted)
-  first_given gives (followed p step o) = or_else (first_given gives p) (at_end (followed p step o) (gives (followed p step o)))
+  first_given gives (followed p step o) =
+      or_else (first_given gives p) (at_end (followed p step o) (gives (followed p step o)))

@@ -1,3 +1,4 @@
 pub mod Past
 pub mod First
 pub mod Timely
+pub mod Starts

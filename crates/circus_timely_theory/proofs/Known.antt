@@ -1,5 +1,5 @@
 -- What a member knows, holds and is behind what happens is what its past says.
-use Rattle.std.proofs.Common.{◌≡◌, ℕ, ◌≤◌, Bool, true, false, if◌then◌else◌, true≢false, List, [], ◌∷◌, ◌++◌, Option, None, Some, refl, ap, sym, subst, ◌∙◌}
+use Rattle.std.proofs.Common.{◌≡◌, ℕ, ◌≤◌, Bool, true, false, ◌&&◌, if◌then◌else◌, true≢false, List, [], ◌∷◌, ◌++◌, length, length-set, Option, None, Some, refl, ap, sym, subst, ◌∙◌}
 use Rattle.std.specs.Prelude.{slice_set, max}
 use Rattle.circus_value.specs.Among.{is_among}
 use Rattle.circus_value.specs.ValueTree.{ValueTree}
@@ -24,14 +24,15 @@ use Rattle.circus_member_step.specs.MemberState.{MemberState, Doing}
 use Rattle.circus_member_step.specs.Step.{is_join, answered_by_ring, handled}
 use Rattle.circus_member_step.proofs.Homes.{ring_views, ring_down, called_views, declared_views, told_down}
 use Rattle.circus_member_theory.specs.Ranges.{InRange}
-use Rattle.circus_timely.specs.Past.{Past, booted, followed, with_view, known, down, required, arrived, phase, fetched}
+use Rattle.circus_timely.specs.Past.{Past, booted, followed, is_newer, with_view, known, down, required, arrived, is_asking, taken_in as way_in, phase, fetched}
 use Rattle.circus_timely.specs.First.{first_given}
 use Rattle.circus_timely_theory.proofs.Firsts.{first_now, none_yet, none_now, given_before}
+use Rattle.circus_timely_theory.proofs.Phases.{once_told, once_tabled, once_restored, inactive_told, inactive_tabled, inactive_restored}
 use Rattle.circus_timely_theory.proofs.Calls.{IsLeft, left_call, left_required, left_first}
 
 -- ---- views, and nodes that are down
 
-told_views : (k : Knowing) (view : View) → (knowing.told k view).views ≡ with_view k.views view
+pub told_views : (k : Knowing) (view : View) → (knowing.told k view).views ≡ with_view k.views view
 told_views k view = by_test (knowing.is_newer k view)
   where
     by_test : (b : Bool) → let t : Knowing = if b then record k { views = slice_set k.views view.troupe view } else k in t.views ≡
@@ -39,18 +40,37 @@ told_views k view = by_test (knowing.is_newer k view)
     by_test true = refl
     by_test false = refl
 
-called_down : (a : Added) (header : CallHeader) (k : Knowing) → (wanted_by_call a header k).down ≡ k.down
+pub called_down : (a : Added) (header : CallHeader) (k : Knowing) → (wanted_by_call a header k).down ≡ k.down
 called_down (added.Reply reply) header k = refl
 called_down (added.Stale required) header k = refl
 called_down (added.Before first) header k = refl
 called_down added.Held header k = refl
 
-declared_down : (k : Knowing) (node : ℕ) → (knowing.declared k node).down ≡ (if is_among k.down node then k.down else k.down ++ node ∷ [])
+pub declared_down : (k : Knowing) (node : ℕ) → (knowing.declared k node).down ≡ (if is_among k.down node then k.down else k.down ++ node ∷ [])
 declared_down k node = by_test (is_among k.down node)
   where
     by_test : (b : Bool) → let t : Knowing = if b then k else record k { down = k.down ++ node ∷ [] } in t.down ≡ (if b then k.down else k.down ++ node ∷ [])
     by_test true = refl
     by_test false = refl
+
+with_view_long : (views : List View) (view : View) → length (with_view views view) ≡ length views
+with_view_long views view = by_test (is_newer views view)
+  where
+    by_test : (b : Bool) → length (if b then slice_set views view.troupe view else views) ≡ length views
+    by_test true = length-set views view.troupe view
+    by_test false = refl
+
+pub known_long : (boot : List View) (p : Past) → length (known boot p) ≡ length boot
+known_long boot booted = refl
+known_long boot (followed p at (comes.Told request table)) = with_view_long (known boot p) table.view ∙ known_long boot p
+known_long boot (followed p at (comes.Asked header body sender)) = known_long boot p
+known_long boot (followed p at (comes.Fetched incarnation sender)) = known_long boot p
+known_long boot (followed p at (comes.Replied name from reply)) = known_long boot p
+known_long boot (followed p at (comes.IsStale name server from incarnation)) = known_long boot p
+known_long boot (followed p at (comes.IsBefore name from)) = known_long boot p
+known_long boot (followed p at (comes.Restored state count)) = known_long boot p
+known_long boot (followed p at (comes.Declared node)) = known_long boot p
+known_long boot (followed p at comes.Joins) = known_long boot p
 
 pub record Knows (boot : List View) (q : Past) (k : Knowing) : Type 0 where
   pub views : k.views ≡ known boot q
@@ -101,20 +121,10 @@ still_outside begins p step (comes.Fetched incarnation sender) is = is
 still_outside begins p step (comes.Replied name from reply) is = is
 still_outside begins p step (comes.IsStale name server from incarnation) is = is
 still_outside begins p step (comes.IsBefore name from) is = is
-still_outside begins p step (comes.Told request table) is = by_test (is_join request) is
-  where
-    by_test : (t : Bool) → is_active (if t then after_table table (phase begins p) else phase begins p) ≡ false → is_active (phase begins p) ≡ false
-    by_test true is = still_inactive_taken table (phase begins p) is
-    by_test false is = is
-still_outside begins p step (comes.Restored state count) is = by_phase (phase begins p) is
-  where
-    by_phase : (ph : Joiner) → is_active (after_state count ph) ≡ false → is_active ph ≡ false
-    by_phase Outside is = refl
-    by_phase Asking is = refl
-    by_phase (Fetching incarnation) is = refl
-    by_phase (Active first) is = is
+still_outside begins p step (comes.Told request table) is = inactive_tabled (is_join request) table (phase begins p) is
+still_outside begins p step (comes.Restored state count) is = inactive_restored count (phase begins p) is
 still_outside begins p step (comes.Declared node) is = is
-still_outside begins p step comes.Joins is = still_inactive_joining (phase begins p) is
+still_outside begins p step comes.Joins is = inactive_told (phase begins p) is
 
 -- so what is given to active members alone wasn't given before
 pub inactive_none : {A : Type 0} (begins : Joiner) (gives : Past → Option A) → ((q : Past) → is_active (phase begins q) ≡ false → gives q ≡ None) → (p : Past)
@@ -221,8 +231,10 @@ module _ (boot : List View) (begins : Joiner) (p : Past) (step : ℕ) where
       by_test : (t : Bool) → is_join request ≡ t → IsOnItsWay begins (followed p step (comes.Told request table)) (if t then taken_in table m.performing.kept else m.performing.kept)
       by_test true is =
           way_same (comes.Told request table) m.performing.kept (taken_in table m.performing.kept) refl refl refl (still_inactive_taken table m.performing.kept.phase)
-          (rw is (ap (after_table table) h.phase_is)) h
-      by_test false is = way_same (comes.Told request table) m.performing.kept m.performing.kept refl refl refl (λ x. x) (rw is h.phase_is) h
+          (ap (after_table table) h.phase_is ∙ once_tabled table (phase begins p)
+          ∙ (λ j. if sym is j && is_asking (phase begins p) then way_in table else phase begins p)) h
+      by_test false is = way_same (comes.Told request table) m.performing.kept m.performing.kept refl refl refl (λ x. x)
+          (h.phase_is ∙ (λ j. if sym is j && is_asking (phase begins p) then way_in table else phase begins p)) h
   way_handled {M} (comes.Restored state count) m within h = by_test (is_fetching m.performing.kept.phase) refl
     where
       o : Occurrence
@@ -242,15 +254,17 @@ module _ (boot : List View) (begins : Joiner) (p : Past) (step : ℕ) where
       by_test true is =
           let later = (made_active step state count m.performing).kept in
           record {
-            phase_is = joined_is m.performing.kept.phase count is ∙ ap (after_state count) h.phase_is;
+            phase_is = joined_is m.performing.kept.phase count is ∙ ap (after_state count) h.phase_is ∙ once_restored count (phase begins p);
             outside = λ no_longer. absurd (true≢false no_longer);
             active = subst (ActiveSo later) (sym (by_given is (first_given (fetched begins) p) refl h.active)) (refl, refl, refl);
             few = within;
           }
       by_test false is =
           let now_is : is_fetching (phase begins p) ≡ false = ap is_fetching (sym h.phase_is) ∙ is in
-          way_same o m.performing.kept m.performing.kept (rw now_is refl) refl refl (λ x. x) (same_phase m.performing.kept.phase count is ∙ ap (after_state count) h.phase_is) h
+          way_same o m.performing.kept m.performing.kept (rw now_is refl) refl refl (λ x. x)
+          (same_phase m.performing.kept.phase count is ∙ ap (after_state count) h.phase_is ∙ once_restored count (phase begins p)) h
   way_handled (comes.Declared node) m within h = way_same (comes.Declared node) m.performing.kept m.performing.kept refl refl refl (λ is. is) h.phase_is h
   way_handled comes.Joins m within h =
       let kept = m.performing.kept in
-      way_same comes.Joins kept (record kept { phase = after_join kept.phase }) refl refl refl (still_inactive_joining kept.phase) (ap after_join h.phase_is) h
+      way_same comes.Joins kept (record kept { phase = after_join kept.phase }) refl refl refl (still_inactive_joining kept.phase)
+      (ap after_join h.phase_is ∙ once_told (phase begins p)) h

@@ -79,7 +79,7 @@ module _ {M : Type 0} (declared : M → Signature) (turn : M → List ValueTree 
   now_of h = behaviour declared turn first h
 
   -- what is known of the member behind a past
-  record HasLived (beginning : Beginning) (p : Past) (m : MemberState M) : Type 0 where
+  pub record LivesSo (beginning : Beginning) (p : Past) (m : MemberState M) : Type 0 where
     pub rises : Rises p
     pub rested : IsRested (now_of m.performing.hosted) m
     pub rest : IsAtRest declared turn first lawful place views (phase_at_boot beginning) hosted (runs_at_boot declared beginning hosted) p m
@@ -143,7 +143,7 @@ module _ {M : Type 0} (declared : M → Signature) (turn : M → List ValueTree 
       by_test false is = goes_before beginning is
       by_test true is = goes_main beginning is
 
-  lived_at_boot : (beginning : Beginning) → HasLived beginning booted (after declared turn first place views beginning hosted booted)
+  lived_at_boot : (beginning : Beginning) → LivesSo beginning booted (after declared turn first place views beginning hosted booted)
   lived_at_boot beginning =
       let m = after declared turn first place views beginning hosted booted in
       let b = boot_rests declared turn first lawful place views beginning hosted home in
@@ -159,8 +159,8 @@ module _ {M : Type 0} (declared : M → Signature) (turn : M → List ValueTree 
 
   -- ---- a step
 
-  lived_step : (beginning : Beginning) (p : Past) (m : MemberState M) (at : ℕ) (o : Occurrence) → HasLived beginning p m → now p < at → CanHappen (declared hosted) m o → InRange o
-      → HasLived beginning (followed p at o) (stepped declared turn at o m).member
+  lived_step : (beginning : Beginning) (p : Past) (m : MemberState M) (at : ℕ) (o : Occurrence) → LivesSo beginning p m → now p < at → CanHappen (declared hosted) m o → InRange o
+      → LivesSo beginning (followed p at o) (stepped declared turn at o m).member
   lived_step beginning p m at o h later can within =
       let begins = phase_at_boot beginning in
       let many = runs_at_boot declared beginning hosted in
@@ -177,8 +177,8 @@ module _ {M : Type 0} (declared : M → Signature) (turn : M → List ValueTree 
       let rested : IsRested (now_of n.performing.hosted) n = subst (λ x. IsRested (now_of x) n) (sym s.hosted) s.rested in
       record { rises = rises; rested = rested; rest = rest_by_going declared turn first lawful place views begins hosted many q rises n rested.sound ended s.gone_on }
 
-  lived : (beginning : Beginning) (p : Past) → MayLive declared turn first place views beginning hosted p
-      → HasLived beginning p (after declared turn first place views beginning hosted p)
+  pub lived : (beginning : Beginning) (p : Past) → MayLive declared turn first place views beginning hosted p
+      → LivesSo beginning p (after declared turn first place views beginning hosted p)
   lived beginning booted may = lived_at_boot beginning
   lived beginning (followed p at o) may = lived_step beginning p (after declared turn first place views beginning hosted p) at o (lived beginning p may.0) may.1 may.2
       may.3

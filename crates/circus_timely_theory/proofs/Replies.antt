@@ -53,7 +53,7 @@ said_none asked name (followed p step comes.Joins) rises below = said_none asked
 
 -- ---- names
 
-names_turned : (one other : AskName) → is_name one other ≡ is_name other one
+pub names_turned : (one other : AskName) → is_name one other ≡ is_name other one
 names_turned one other = by_test (is_name one other) refl
   where
     by_other : (b : Bool) → is_name other one ≡ b → is_name one other ≡ false → false ≡ b

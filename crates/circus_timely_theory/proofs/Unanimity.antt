@@ -6,6 +6,7 @@ use Rattle.std.proofs.lemmas.Option.{same_Some}
 use Rattle.circus_value.specs.Among.{is_among}
 use Rattle.circus_collate.specs.declared.giving.Said.{Said}
 use Rattle.circus_collate.specs.Giving.{is_from, passes_at, all_have_said, have_equal, first_difference, unanimous}
+use Rattle.circus_timely_theory.specs.Counting.{HasSaid, IsUnanimous}
 use Rattle.circus_collate.proofs.Places.{first_place-none}
 use Rattle.circus_collate.proofs.Later.{parts_of}
 use Rattle.circus_collate.proofs.Values.{some_at, below_at}
@@ -76,7 +77,7 @@ module _ {V : Type 0} (eq : V → V → Bool) (expected : V → List ℕ) (said 
 
   module _ (e : unanimous eq expected said down ≡ Some place) where
     -- the first that arrived is given
-    pub unanimous_first : place ≡ 0
+    unanimous_first : place ≡ 0
     unanimous_first = sym (unanimous_is e).2
 
     module _ (s : Said V) (there : slice_get said place ≡ Some s) where
@@ -84,8 +85,7 @@ module _ {V : Type 0} (eq : V → V → Bool) (expected : V → List ℕ) (said 
       given_is = let u = unanimous_is e in same_Some u.0 s (sym u.1 ∙ ap (slice_get said) u.2 ∙ there)
 
       -- each that is expected to say it and isn't down has said something
-      pub unanimous_heard : (node : ℕ) → is_among (expected s.value) node ≡ true → is_among down node ≡ false
-          → (at : ℕ) × (t : Said V) × (slice_get said at ≡ Some t) × (t.node ≡ node)
+      unanimous_heard : (node : ℕ) → is_among (expected s.value) node ≡ true → is_among down node ≡ false → HasSaid said node
       unfolding all_have_said
       unanimous_heard node is up =
           let u = unanimous_is e in
@@ -97,10 +97,10 @@ module _ {V : Type 0} (eq : V → V → Bool) (expected : V → List ℕ) (said 
           subst (λ n. (is_among down n || list_any (is_from n) said) ≡ true) same
           (all_at (λ n. is_among down n || list_any (is_from n) said) (expected s.value) h.0 h.1 all h.2) in
           let a = any_at (is_from node) said (either_false (is_among down node) (list_any (is_from node) said) up one) in
-          (a.0, a.1, a.2, eqb-true a.1.node node a.3)
+          record { place = a.0; one = a.1; there = a.2; of_node = eqb-true a.1.node node a.3 }
 
       -- and all of it is equal
-      pub unanimous_equal : (at : ℕ) (t : Said V) → slice_get said at ≡ Some t → eq s.value t.value ≡ true
+      unanimous_equal : (at : ℕ) (t : Said V) → slice_get said at ≡ Some t → eq s.value t.value ≡ true
       unfolding have_equal
       unanimous_equal at t is =
           let u = unanimous_is e in
@@ -110,3 +110,11 @@ module _ {V : Type 0} (eq : V → V → Bool) (expected : V → List ℕ) (said 
           let same : one.0 ≡ s = same_Some one.0 s (sym one.1 ∙ ap (slice_get said) u.2 ∙ there) in
           let also : other.0 ≡ t = same_Some other.0 t (sym other.1 ∙ is) in
           (λ j. eq (sym same j).value (sym also j).value) ∙ other.2
+
+    pub is_unanimous : IsUnanimous eq expected down said place
+    is_unanimous =
+        record {
+          first = unanimous_first;
+          heard = λ s node there is up. unanimous_heard s there node is up;
+          equal = λ at s t there is. unanimous_equal s there at t is;
+        }

@@ -1,3 +1,4 @@
+pub mod ActsAlike
 pub mod Along
 pub mod Beginning
 pub mod Booted
@@ -6,6 +7,7 @@ pub mod Handing
 pub mod Lawful
 pub mod Making
 pub mod Plain
+pub mod PlainMessages
 pub mod Saying
 pub mod Stepping
 pub mod Theorem

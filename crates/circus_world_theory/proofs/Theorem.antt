@@ -114,10 +114,10 @@ module _ {M : Type 0} (declared : M → Signature) (turn : M → List ValueTree 
     talks : Stands d acts last
     talks = world_stands declared turn first d hosted modules lines booted last world.deployment world.troupes world.hosts world.boots world.leads
 
-    one_each : length program ≡ length d.troupes
+    pub one_each : length program ≡ length d.troupes
     one_each = length-map modules (behaviour declared turn first) ∙ sym (length-map modules declared) ∙ world.troupes.one_each
 
-    nodes_true : NodesTrue declared turn first program d acts last
+    pub nodes_true : NodesTrue declared turn first program d acts last
     nodes_true =
         lead_true declared turn first lawful program world.agree (are_modules declared turn first modules lawful) world.proper d world.deployment one_each (acts_of declared turn first d hosted [] booted) lines booted last
         (world_stands declared turn first d hosted modules [] booted booted world.deployment world.troupes world.hosts world.boots refl)

@@ -4,6 +4,7 @@ ghost use Rattle.circus_collate.specs.declared.deployment.Deployment.{Deployment
 ghost use Rattle.circus_model.specs.Behaviour.{Behaviour, behaviours};
 ghost use Rattle.circus_schedule.specs.declared.line.Line.{Line};
 ghost use Rattle.circus_world.specs.WorldState.{WorldState};
+ghost use Rattle.circus_alike.specs.Alike.{declared_of, turn_of, first_of};
 ghost use Rattle.circus_talks.specs.Histories.{acts_of};
 ghost use Rattle.circus_world_theory.specs.Worlds.{IsWorldOf, IsPlainWorldOf};
 ghost use Rattle.circus_world_theory.specs.Agreeing.{RecordsStand, AsksAreTrue, ReturnsAreTrue, OthersCiteNothing, NoneDiffer};
@@ -54,4 +55,28 @@ pub fn no_difference<M: Module>()
         (lines : List Line) (booted last : WorldState M)
         → IsWorldOf M.declared M.turn M.first d modules hosted lines booted last
         → NoneDiffer M.declared M.turn last }
+{}
+
+/// So are the messages of behaviours that keep to the laws of modules.
+pub fn plain_messages_are_true()
+    ensures asks { (d : Deployment) (program : List Behaviour) (hosted : List (Option Behaviour))
+        (lines : List Line) (booted last : WorldState Behaviour)
+        → IsPlainWorldOf d program hosted lines booted last
+        → AsksAreTrue program d (acts_of declared_of turn_of first_of d hosted lines booted) }
+    ensures returns { (d : Deployment) (program : List Behaviour) (hosted : List (Option Behaviour))
+        (lines : List Line) (booted last : WorldState Behaviour)
+        → IsPlainWorldOf d program hosted lines booted last
+        → ReturnsAreTrue program d (acts_of declared_of turn_of first_of d hosted lines booted) }
+    ensures others { (d : Deployment) (program : List Behaviour) (hosted : List (Option Behaviour))
+        (lines : List Line) (booted last : WorldState Behaviour)
+        → IsPlainWorldOf d program hosted lines booted last
+        → OthersCiteNothing d (acts_of declared_of turn_of first_of d hosted lines booted) }
+{}
+
+/// Nor do replies differ in a world of such behaviours.
+pub fn plain_no_difference()
+    ensures { (d : Deployment) (program : List Behaviour) (hosted : List (Option Behaviour))
+        (lines : List Line) (booted last : WorldState Behaviour)
+        → IsPlainWorldOf d program hosted lines booted last
+        → NoneDiffer declared_of turn_of last }
 {}

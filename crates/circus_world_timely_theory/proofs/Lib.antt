@@ -1,5 +1,7 @@
 pub mod Octets
 pub mod Wires
+pub mod Once
+pub mod Callers
 pub mod Ranges
 pub mod Lives
 pub mod Nodes

@@ -1,5 +1,5 @@
 -- A member of a node lives what comes to the node along lines of a world.
-use Rattle.std.proofs.Common.{◌≡◌, ◌≢◌, ℕ, ◌+◌, ◌<◌, ◌≤◌, ◌⊎◌, inl, inr, Bool, true, false, List, [], ◌∷◌, length, set, Option, None, Some, Ok, Err, refl, sym, ap, subst, ◌∙◌, arith, ltb-true, eq-eqb}
+use Rattle.std.proofs.Common.{◌≡◌, ◌≢◌, ℕ, ◌+◌, ◌<◌, ◌≤◌, inl, inr, Bool, true, false, List, [], ◌∷◌, length, set, Option, None, Some, Ok, Err, refl, sym, ap, subst, ◌∙◌, arith, ltb-true, eq-eqb}
 use Rattle.std.specs.Prelude.{slice_get, nat_lt, option_and_then, if◌then◌else◌}
 use Rattle.std.specs.Option.{option_map_or}
 use Rattle.std.proofs.lemmas.Bool.{ne_eqb}
@@ -43,25 +43,31 @@ use Rattle.circus_world_theory.proofs.Stepping.{same_world, comes_is, ComesTruly
 use Rattle.circus_world_timely_theory.specs.Happened.{of_member, happens_by, with_one, with_others, with_step, with_line, with_lines}
 use Rattle.circus_world_timely_theory.proofs.Heard.{comes_may}
 use Rattle.circus_world_timely_theory.proofs.Lives.{MayHappen, NodeLives, node_lives_on}
-use Rattle.circus_world_timely_theory.proofs.Nodes.{ends_by}
+use Rattle.circus_world_timely_theory.proofs.Callers.{Numbers}
+use Rattle.circus_world_timely_theory.proofs.Nodes.{ends_by, numbers_on}
+
+-- where a past ends once something has happened in a step, if anything did
+pub now_one : (p : Past) (step : ℕ) (o : Option Occurrence) → now p ≤ step → now (with_one p step o) ≤ step
+now_one p step None before = before
+now_one p step (Some o) before = omega arith
 
 -- ---- what a line adds to a past
 
 module _ {M : Type 0} (declared : M → Signature) (node : ℕ) (p : Past) (line : Line) (w : WorldState M) where
-  nothing_by : comes_by line w ≡ None → with_line declared node p line w ≡ p
+  pub nothing_by : comes_by line w ≡ None → with_line declared node p line w ≡ p
   nothing_by none = ap (λ o. option_map_or (with_step declared node p w) o p) none
 
   module _ (other : ℕ) (event : Event) (comes_it : comes_by line w ≡ Some (other, event)) where
     abbrev one_more : Standing M → Past
     one_more s = with_one p (w.steps + 1) (happens_by declared event s.node)
 
-    here_by : (s : Standing M) → slice_get w.nodes other ≡ Some s → other ≡ node → with_line declared node p line w ≡ one_more s
+    pub here_by : (s : Standing M) → slice_get w.nodes other ≡ Some s → other ≡ node → with_line declared node p line w ≡ one_more s
     here_by s at same =
         ap (λ o. option_map_or (with_step declared node p w) o p) comes_it
         ∙ ap (λ b. if b then option_map_or one_more (slice_get w.nodes node) p else p) (eq-eqb other node same)
         ∙ ap (λ (o : Option (Standing M)). option_map_or one_more o p) (ap (slice_get w.nodes) (sym same) ∙ at)
 
-    elsewhere_by : other ≢ node → with_line declared node p line w ≡ p
+    pub elsewhere_by : other ≢ node → with_line declared node p line w ≡ p
     elsewhere_by differs =
         ap (λ o. option_map_or (with_step declared node p w) o p) comes_it
         ∙ ap (λ b. if b then option_map_or one_more (slice_get w.nodes node) p else p) (ne_eqb other node differs)
@@ -71,16 +77,13 @@ module _ {M : Type 0} (declared : M → Signature) (turn : M → List ValueTree 
   -- the member of a node of a world lives this past, which ends by now
   pub record LivesIn (p : Past) (w : WorldState M) : Type 0 where
     pub lives : (s : Standing M) → slice_get w.nodes node ≡ Some s → NodeLives declared turn first lawful d node number troupe own p s.node.acting
+    pub numbers : (s : Standing M) → slice_get w.nodes node ≡ Some s → Numbers s.node.wire p
     pub before : now p ≤ w.steps
 
   abbrev IsAlive : Past → NodeState M → Type 0
   IsAlive p n = NodeLives declared turn first lawful d node number troupe own p n.acting
 
   -- ---- something comes to a node
-
-  now_one : (p : Past) (step : ℕ) (o : Option Occurrence) → now p ≤ step → now (with_one p step o) ≤ step
-  now_one p step None before = before
-  now_one p step (Some o) before = omega arith
 
   module _ (p q : Past) (v : WorldState M) (other : ℕ) (event : Event) (s : Standing M) (at : slice_get v.nodes other ≡ Some s)
       (may : MayHappen declared s.node.acting (happens_by declared event s.node))
@@ -93,17 +96,16 @@ module _ {M : Type 0} (declared : M → Signature) (turn : M → List ValueTree 
           let e = ends_by declared turn (v.steps + 1) event s.node ended ends in
           let before = h.before in
           let later : now p < v.steps + 1 = omega (arith, before) in
-          let alive : IsAlive p s.node = h.lives s (ap (slice_get v.nodes) (sym same.1) ∙ at) in
+          let there : slice_get v.nodes node ≡ Some s = ap (slice_get v.nodes) (sym same.1) ∙ at in
           let goes : IsAlive q ended.0 =
           subst (λ (x : Past). IsAlive x ended.0) (sym same_past)
           (subst (NodeLives declared turn first lawful d node number troupe own (with_one p (v.steps + 1) (happens_by declared event s.node))) (sym e.acting)
-          (node_lives_on declared turn first lawful d node number troupe own p (v.steps + 1) later event s.node alive may)) in
+          (node_lives_on declared turn first lawful d node number troupe own p (v.steps + 1) later event s.node (h.lives s there) may)) in
+          let numbers : Numbers ended.0.wire q =
+          subst (λ (x : Past). Numbers ended.0.wire x) (sym same_past) (numbers_on declared turn p (v.steps + 1) event s.node ended e (h.numbers s there)) in
           record {
-            lives = λ t found.
-                let set_there : slice_get next.nodes node ≡ Some (record s { node = ended.0 }) =
-                ap (λ (l : List (Standing M)). slice_get l node) nodes ∙ ap (slice_get (set v.nodes other (record s { node = ended.0 }))) (sym same.1)
-                ∙ get_same v.nodes other (record s { node = ended.0 }) s at in
-                subst (λ (x : Standing M). IsAlive q x.node) (same_Some _ t (sym set_there ∙ found)) goes;
+            lives = λ t found. is_set (λ (n : NodeState M). IsAlive q n) same.1 t found goes;
+            numbers = λ t found. is_set (λ (n : NodeState M). Numbers n.wire q) same.1 t found numbers;
             before = subst (λ (x : Past). now x ≤ next.steps) (sym same_past)
                 (subst (λ k. now (with_one p (v.steps + 1) (happens_by declared event s.node)) ≤ k) (sym steps)
                 (now_one p (v.steps + 1) (happens_by declared event s.node) (omega (arith, before))));
@@ -112,15 +114,25 @@ module _ {M : Type 0} (declared : M → Signature) (turn : M → List ValueTree 
           let same_past = elsewhere differ.1 in
           let before = h.before in
           record {
-            lives = λ t found. subst (λ (x : Past). IsAlive x t.node) (sym same_past)
-                (by_slot t (get_set v.nodes other node (record s { node = ended.0 }) t (ap (λ (l : List (Standing M)). slice_get l node) (sym nodes) ∙ found)) differ.1);
+            lives = λ t found. subst (λ (x : Past). IsAlive x t.node) (sym same_past) (h.lives t (is_left differ.1 t found));
+            numbers = λ t found. subst (λ (x : Past). Numbers t.node.wire x) (sym same_past) (h.numbers t (is_left differ.1 t found));
             before = subst (λ (x : Past). now x ≤ next.steps) (sym same_past) (omega (arith, before, steps));
           }
     ]
       where
-        by_slot : (t : Standing M) → ((node ≡ other) × (t ≡ record s { node = ended.0 })) ⊎ (slice_get v.nodes node ≡ Some t) → other ≢ node → IsAlive p t.node
-        by_slot t (inl slot) differs = absurd (differs (sym slot.0))
-        by_slot t (inr there) differs = h.lives t there
+        is_set : (P : NodeState M → Type 0) → other ≡ node → (t : Standing M) → slice_get next.nodes node ≡ Some t → P ended.0 → P t.node
+        is_set P same t found holds =
+            let set_there : slice_get next.nodes node ≡ Some (record s { node = ended.0 }) =
+            ap (λ (l : List (Standing M)). slice_get l node) nodes ∙ ap (slice_get (set v.nodes other (record s { node = ended.0 }))) (sym same)
+            ∙ get_same v.nodes other (record s { node = ended.0 }) s at in
+            subst (λ (x : Standing M). P x.node) (same_Some _ t (sym set_there ∙ found)) holds
+
+        is_left : other ≢ node → (t : Standing M) → slice_get next.nodes node ≡ Some t → slice_get v.nodes node ≡ Some t
+        is_left differs t found =
+            elim (get_set v.nodes other node (record s { node = ended.0 }) t (ap (λ (l : List (Standing M)). slice_get l node) (sym nodes) ∙ found)) [
+              | inl slot ↦ absurd (differs (sym slot.0))
+              | inr there ↦ there
+            ]
 
     comes_lives : (next : WorldState M) → comes_to declared turn other event v ≡ Ok next → LivesIn q next
     comes_lives next is = by_end (node_step.stepped declared turn (v.steps + 1) event s.node) refl
@@ -135,20 +147,25 @@ module _ {M : Type 0} (declared : M → Signature) (turn : M → List ValueTree 
 
   noted_lives : (p : Past) (note : Standing M → Standing M) (other : ℕ) (w : WorldState M) → ((s : Standing M) → (note s).node ≡ s.node) → LivesIn p w
       → LivesIn p (noted note other w)
-  noted_lives p note other w same h = record { lives = λ t found. by_node t (slice_get w.nodes other) refl found; before = h.before }
+  noted_lives p note other w same h =
+      record {
+        lives = λ t found. by_node (λ (n : NodeState M). IsAlive p n) h.lives t (slice_get w.nodes other) refl found;
+        numbers = λ t found. by_node (λ (n : NodeState M). Numbers n.wire p) h.numbers t (slice_get w.nodes other) refl found;
+        before = h.before;
+      }
     where
-      by_node : (t : Standing M) (o : Option (Standing M)) → slice_get w.nodes other ≡ o
-          → slice_get (option_map_or (λ s. set w.nodes other (note s)) o w.nodes) node ≡ Some t → IsAlive p t.node
-      by_node t None at found = h.lives t found
-      by_node t (Some s) at found = elim (get_set w.nodes other node (note s) t found) [
+      by_node : (P : NodeState M → Type 0) → ((s : Standing M) → slice_get w.nodes node ≡ Some s → P s.node) → (t : Standing M) (o : Option (Standing M)) → slice_get w.nodes other ≡ o
+          → slice_get (option_map_or (λ s. set w.nodes other (note s)) o w.nodes) node ≡ Some t → P t.node
+      by_node P holds t None at found = holds t found
+      by_node P holds t (Some s) at found = elim (get_set w.nodes other node (note s) t found) [
         | inl here ↦
-            subst (λ (x : Standing M). IsAlive p x.node) (sym here.1)
-            (subst (λ (n : NodeState M). IsAlive p n) (sym (same s)) (h.lives s (ap (slice_get w.nodes) here.0 ∙ at)))
-        | inr there ↦ h.lives t there
+            subst (λ (x : Standing M). P x.node) (sym here.1)
+            (subst (λ (n : NodeState M). P n) (sym (same s)) (holds s (ap (slice_get w.nodes) here.0 ∙ at)))
+        | inr there ↦ holds t there
       ]
 
   passed_lives : (p : Past) (w : WorldState M) → LivesIn p w → LivesIn p (passed w)
-  passed_lives p w h = record { lives = h.lives; before = (let before = h.before in omega (arith, before)) }
+  passed_lives p w h = record { lives = h.lives; numbers = h.numbers; before = (let before = h.before in omega (arith, before)) }
 
 module _ {M : Type 0} (declared : M → Signature) (turn : M → List ValueTree → ℕ → List ValueTree → List Outcome → NextTurn) (first : M → List ValueTree)
     (lawful : (hosted : M) → IsModule (behaviour declared turn first hosted))
@@ -192,7 +209,7 @@ module _ {M : Type 0} (declared : M → Signature) (turn : M → List ValueTree 
         (subst (λ (v : WorldState M). Lives p v) (same_world _ next (sym (delivered_at declared turn w place sent false there live) ∙ is))
         (passed_lives declared turn first lawful d node number troupe own p w h))
 
-    line_lives : (line : Line) → Leads declared turn line w next → Lives (behind line) next
+    pub line_lives : (line : Line) → Leads declared turn line w next → Lives (behind line) next
     line_lives (Deliver place) leads =
         let below : place < length w.sent = ltb-true place (length w.sent) (below_sent (nat_lt place (length w.sent)) place (length w.sent) leads.legal) in
         let found = get_there w.sent place below in

@@ -1,35 +1,26 @@
 -- What happens to a node whose module is seen as a behaviour is what happens to the node.
-use Rattle.std.proofs.Common.{◌≡◌, ℕ, ◌+◌, false, List, [], ◌∷◌, Option, None, Some, Ok, Err, refl, sym, ap, ◌∙◌}
-use Rattle.std.specs.Prelude.{slice_get, is_none, option_map, option_and_then, ◌==◌, if◌then◌else◌}
+use Rattle.std.proofs.Common.{◌≡◌, ℕ, ◌+◌, List, [], ◌∷◌, Option, None, Some, Ok, Err, refl, sym, ap, ◌∙◌}
+use Rattle.std.specs.Prelude.{slice_get, ◌==◌, if◌then◌else◌}
 use Rattle.std.specs.Option.{option_map_or}
-use Rattle.std.proofs.lemmas.Option.{slice_get-map}
 use Rattle.circus_value.specs.ValueTree.{ValueTree}
 use Rattle.circus_value.specs.declared.outcome.Outcome.{Outcome}
 use Rattle.circus_segment.specs.Segment.{reading}
-use Rattle.circus_collate.specs.declared.deployment.Deployment.{Deployment}
 use Rattle.circus_model.specs.NextTurn.{NextTurn}
 use Rattle.circus_model.specs.Behaviour.{Behaviour}
 use Rattle.circus_model.specs.declared.signature.Signature.{Signature}
-use Rattle.circus_wire.specs.declared.delivery.Heard.{Heard}
-use Rattle.circus_wire.specs.declared.delivery.Heard.TheVariants.{Dropped, Taken, Called, Returned}
 use Rattle.circus_wire.specs.Wire.{heard_from}
-use Rattle.circus_member_rules.specs.declared.occurrence.Purpose.{Purpose}
-use Rattle.circus_member_rules.specs.declared.occurrence.Purpose.TheVariants as for
-use Rattle.circus_member_step.specs.MemberState.{MemberState}
-use Rattle.circus_accepting.specs.Accepting.{accepted}
 use Rattle.circus_node.specs.declared.event.Event.{Event}
 use Rattle.circus_node.specs.declared.event.Event.TheVariants as comes
 use Rattle.circus_node.specs.NodeState.{Acting, member, ringmaster, NodeState}
 use Rattle.circus_schedule.specs.declared.line.Line.{Line}
-use Rattle.circus_schedule.specs.declared.line.Line.TheVariants.{Deliver, Tick, Crash, Down, Join}
-use Rattle.circus_alike.specs.Alike.{declared_of, turn_of, member_as, acting_as, node_as}
-use Rattle.circus_world.specs.declared.sent.Sent.{Sent}
+use Rattle.circus_alike.specs.Alike.{declared_of, turn_of, acting_as, node_as}
 use Rattle.circus_world.specs.WorldState.{WorldState, Standing}
 use Rattle.circus_world.specs.Alike.{standing_as, world_as, step_as}
 use Rattle.circus_world.specs.Course.{Stepped, stepped}
 use Rattle.circus_world.proofs.WorldsAlike.{world_stepped_as}
-use Rattle.circus_talks.specs.Histories.{delivery, comes_by}
+use Rattle.circus_talks.specs.Histories.{comes_by}
 use Rattle.circus_timely.specs.Past.{Past}
+use Rattle.circus_world_theory.proofs.ActsAlike.{accepted_as, by_place, comes_as}
 use Rattle.circus_world_timely_theory.specs.Happened.{happens_by, with_one, with_others, with_step, with_line, with_lines}
 
 module _ {M : Type 0} (declared : M → Signature) (turn : M → List ValueTree → ℕ → List ValueTree → List Outcome → NextTurn) (first : M → List ValueTree) where
@@ -41,21 +32,12 @@ module _ {M : Type 0} (declared : M → Signature) (turn : M → List ValueTree 
 
   -- ---- a node
 
-  accepted_as : (d : Deployment) (s : Signature) (m : MemberState M) (from : ℕ) (h : Heard Purpose)
-      → accepted d s (member_as declared turn first m) from h ≡ accepted d s m from h
-  accepted_as d s m from Dropped = refl
-  accepted_as d s m from Taken = refl
-  accepted_as d s m from (Called sender message) = refl
-  accepted_as d s m from (Returned number (for.Ask name server) message) = refl
-  accepted_as d s m from (Returned number (for.Ring request) message) = refl
-  accepted_as d s m from (Returned number for.Fetch message) = refl
-
   happens_as : (event : Event) (n : NodeState M) → happens_by declared_of event (node_as declared turn first n) ≡ happens_by declared event n
   happens_as event n = by_acting event n.acting
     where
       by_acting : (e : Event) (a : Acting M)
           → happens_by declared_of e (record (node_as declared turn first n) { acting = acting_as declared turn first a }) ≡ happens_by declared e (record n { acting = a })
-      by_acting (comes.Datagram from bytes) (member m) = accepted_as n.deployment (declared m.performing.hosted) m from (heard_from n.wire from (reading bytes))
+      by_acting (comes.Datagram from bytes) (member m) = accepted_as declared turn first n.deployment (declared m.performing.hosted) m from (heard_from n.wire from (reading bytes))
       by_acting comes.Tick (member m) = refl
       by_acting (comes.Down node) (member m) = refl
       by_acting comes.Join (member m) = refl
@@ -63,30 +45,11 @@ module _ {M : Type 0} (declared : M → Signature) (turn : M → List ValueTree 
 
   -- ---- a line
 
-  by_place : {X : Type 0} (given : Standing Behaviour → X) (none : X) (w : WorldState M) (place : ℕ)
-      → option_map_or given (slice_get (seen w).nodes place) none ≡ option_map_or (λ (s : Standing M). given (one s)) (slice_get w.nodes place) none
-  by_place given none w place = ap (λ (o : Option (Standing Behaviour)). option_map_or given o none) (slice_get-map one w.nodes place) ∙ of_option (slice_get w.nodes place)
-    where
-      of_option : (o : Option (Standing M)) → option_map_or given (option_map one o) none ≡ option_map_or (λ (s : Standing M). given (one s)) o none
-      of_option None = refl
-      of_option (Some s) = refl
-
-  comes_as : (line : Line) (w : WorldState M) → comes_by line (seen w) ≡ comes_by line w
-  comes_as (Deliver number) w = of_sent (slice_get w.sent number)
-    where
-      of_sent : (o : Option Sent) → option_and_then (delivery (seen w)) o ≡ option_and_then (delivery w) o
-      of_sent None = refl
-      of_sent (Some sent) = ap (λ b. if b then Some (sent.to, comes.Datagram sent.from sent.bytes) else None) (by_place (λ s. is_none s.crashed) false w sent.to)
-  comes_as (Tick node) w = refl
-  comes_as (Crash node) w = refl
-  comes_as (Down node told) w = refl
-  comes_as (Join node) w = refl
-
   module _ (node : ℕ) where
     step_as_seen : (p : Past) (w : WorldState M) (came : ℕ × Event) → with_step declared_of node p (seen w) came ≡ with_step declared node p w came
     step_as_seen p w came =
         ap (λ q. if came.0 == node then q else p)
-        (by_place (λ s. with_one p (w.steps + 1) (happens_by declared_of came.1 s.node)) p w node ∙ of_option (slice_get w.nodes node))
+        (by_place declared turn first (λ s. with_one p (w.steps + 1) (happens_by declared_of came.1 s.node)) p w node ∙ of_option (slice_get w.nodes node))
       where
         of_option : (o : Option (Standing M)) → option_map_or (λ (s : Standing M). with_one p (w.steps + 1) (happens_by declared_of came.1 (one s).node)) o p
             ≡ option_map_or (λ (s : Standing M). with_one p (w.steps + 1) (happens_by declared came.1 s.node)) o p
@@ -94,7 +57,7 @@ module _ {M : Type 0} (declared : M → Signature) (turn : M → List ValueTree 
         of_option (Some s) = ap (with_one p (w.steps + 1)) (happens_as came.1 s.node)
 
     line_as : (p : Past) (line : Line) (w : WorldState M) → with_line declared_of node p line (seen w) ≡ with_line declared node p line w
-    line_as p line w = ap (λ o. option_map_or (with_step declared_of node p (seen w)) o p) (comes_as line w) ∙ of_option (comes_by line w)
+    line_as p line w = ap (λ o. option_map_or (with_step declared_of node p (seen w)) o p) (comes_as declared turn first line w) ∙ of_option (comes_by line w)
       where
         of_option : (o : Option (ℕ × Event)) → option_map_or (with_step declared_of node p (seen w)) o p ≡ option_map_or (with_step declared node p w) o p
         of_option None = refl

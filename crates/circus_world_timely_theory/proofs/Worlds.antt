@@ -27,13 +27,14 @@ use Rattle.circus_world_theory.proofs.Booted.{HasBooted, all_have_booted}
 use Rattle.circus_world_theory.proofs.Beginning.{boot_true}
 use Rattle.circus_world_timely_theory.specs.Happened.{past_of}
 use Rattle.circus_world_timely_theory.specs.InTime.{IsInTime, RecordsAreTimely}
+use Rattle.circus_world_timely_theory.proofs.Callers.{none_numbered}
 use Rattle.circus_world_timely_theory.proofs.Lines.{LivesIn, lead_lives}
 use Rattle.circus_world_timely_theory.proofs.Lives.{NodeLives, lives_in_time}
 use Rattle.circus_world_timely_theory.proofs.Nodes.{at_home, has_begun}
 
 module _ {M : Type 0} (declared : M → Signature) (turn : M → List ValueTree → ℕ → List ValueTree → List Outcome → NextTurn) (first : M → List ValueTree) where
   -- what a node hosts is of its troupe
-  of_troupe : (d : Deployment) (modules : List M) (node number : ℕ) (own : M) → AreOfTroupes d (map declared modules) → IsHosted declared turn first d modules node (Some own)
+  pub of_troupe : (d : Deployment) (modules : List M) (node number : ℕ) (own : M) → AreOfTroupes d (map declared modules) → IsHosted declared turn first d modules node (Some own)
       → troupe_at d node ≡ Some number → IsOfTroupe d number (declared own)
   of_troupe d modules node number own fit hosts at = by_module (slice_get modules number) refl
       (hosts ∙ ap (λ o. option_map (behaviour declared turn first) (option_and_then (slice_get modules) o)) at)
@@ -51,7 +52,7 @@ module _ {M : Type 0} (declared : M → Signature) (turn : M → List ValueTree 
     abbrev program : List Behaviour
     program = behaviours declared turn first modules
 
-    one_each : length program ≡ length d.troupes
+    pub one_each : length program ≡ length d.troupes
     one_each = length-map modules (behaviour declared turn first) ∙ sym (length-map modules declared) ∙ world.troupes.one_each
 
     module _ (node number : ℕ) (troupe : Troupe) (own : M) (hosts_it : slice_get hosted node ≡ Some (Some own)) (is_at : troupe_at d node ≡ Some number)
@@ -59,8 +60,13 @@ module _ {M : Type 0} (declared : M → Signature) (turn : M → List ValueTree 
       abbrev Lives : WorldState M → Type 0
       Lives w = LivesIn declared turn first lawful d node number troupe own (past_of declared turn lines begun node) w
 
-      begins : LivesIn declared turn first lawful d node number troupe own booted begun
-      begins = record { lives = λ s found. by_boot s ((all_have_booted declared turn first d hosted modules begun world.boots).nodes node s found); before = omega arith }
+      pub begins : LivesIn declared turn first lawful d node number troupe own booted begun
+      begins =
+          record {
+            lives = λ s found. by_boot s ((all_have_booted declared turn first d hosted modules begun world.boots).nodes node s found);
+            numbers = λ s found. none_numbered s.node.wire;
+            before = omega arith;
+          }
         where
           by_boot : (s : Standing M) → HasBooted declared turn first d hosted node s.node → NodeLives declared turn first lawful d node number troupe own booted s.node.acting
           by_boot s b =
@@ -70,7 +76,7 @@ module _ {M : Type 0} (declared : M → Signature) (turn : M → List ValueTree 
               (has_begun declared turn first lawful d node number troupe own (s.node, b.outputs) is_at there home
               (subst (λ (o : Option M). booting.booted declared turn first d o node ≡ Ok (s.node, b.outputs)) same b.booted_is)).lives
 
-      lives_so : Lives last
+      pub lives_so : Lives last
       lives_so =
           let modules_are = are_modules declared turn first modules lawful in
           lead_lives declared turn first lawful program world.agree modules_are world.proper d world.deployment one_each node number troupe own

@@ -12,16 +12,17 @@ ghost use Rattle.circus_world_timely_theory.specs.InTime.{NodeIsInTime, RecordsA
 
 use circus_model::Module;
 
-/// Nothing that the member of a node does comes late or early, whatever comes to the node by itself: datagrams of
-/// anyone with any bytes, whatever they claim, ticks, true and false declarations, and joins. Its record is timely
-/// for what was accepted of these.
+/// Nothing that the member of a node does comes late or early, whatever comes to the node by
+/// itself: datagrams of anyone with any bytes, whatever they claim, ticks, true and false
+/// declarations, and joins. Its record is timely for what was accepted of these.
 pub fn node_records_are_timely<M: Module>()
     ensures { (d : Deployment) (own : M) (node : ℕ) (events : Events) (begun last : NodeState M)
         → IsLife M.declared M.turn M.first d own node events begun last
         → NodeIsInTime M.declared M.turn d own node events begun last }
 {}
 
-/// So it is in every world that lines lead to: the record of each member is timely for what happened to it.
+/// So it is in every world that lines lead to: the record of each member is timely for what
+/// happened to it.
 pub fn records_are_timely<M: Module>()
     ensures { (d : Deployment) (modules : List M) (hosted : List (Option M))
         (lines : List Line) (begun last : WorldState M)

@@ -39,6 +39,8 @@ impl Slow {
 impl Sink for Slow {
     ghost written = { λ _. None };
 
+    ghost gathered = { λ _. None };
+
     ghost faults = { λ sink. sink.faults };
 
     fn put(&mut self, bytes: &[u8]) -> Result<usize, SinkFault> {

@@ -94,6 +94,8 @@ struct Slow(u64);
 impl Sink for Slow {
     ghost written = { λ _. None };
 
+    ghost gathered = { λ _. None };
+
     ghost faults = { λ _. 0 };
 
     fn put(&mut self, bytes: &[u8]) -> Result<usize, SinkFault> {

@@ -3,10 +3,10 @@ use Rattle.std.specs.Prelude.{List, ℕ}
 use Rattle.circus_config.specs.declared.plan.Plan.{Plan}
 use Rattle.circus_ending.specs.declared.one_file.OneFile.{OneFile}
 use Rattle.circus_ending.specs.declared.one_file.OneFile.TheVariants.{Stubs, Run, Place}
-use Rattle.circus_program.specs.Form.{CommandForm, stubs, run, replay, node, sample, settle, place}
-use Rattle.circus_program.specs.Answer.{Due, IsDueOfEnd, IsDueOfProgram, IsDueOfSample, IsDueOfSettle, IsDueOfNode}
+use Rattle.circus_program.specs.Form.{CommandForm, stubs, run, replay, node, sample, draw, settle, place}
+use Rattle.circus_program.specs.Answer.{Due, IsDueOfEnd, IsDueOfProgram, IsDueOfSample, IsDueOfLines, IsDueOfSettle, IsDueOfNode}
 use Rattle.circus_program.specs.declared.answer.Task.{Task}
-use Rattle.circus_program.specs.declared.answer.Task.TheVariants.{Sample, Settle, Node}
+use Rattle.circus_program.specs.declared.answer.Task.TheVariants.{Sample, Lines, Settle, Node}
 use Rattle.circus_program.specs.declared.answer.Command.{Command}
 use Rattle.circus_program.specs.declared.answer.Command.TheVariants.{End, OfPlan}
 use Rattle.circus_program.specs.declared.answer.Built.{Built}
@@ -15,6 +15,7 @@ use Rattle.circus_program.specs.declared.answer.Built.TheVariants.{OneFile as Of
 -- what is due of a plan
 abbrev pub IsDueOfTask : Task → Plan → Due → Type 0
 IsDueOfTask (Sample seed steps) = IsDueOfSample seed steps
+IsDueOfTask (Lines seed steps) = IsDueOfLines seed steps
 IsDueOfTask (Settle deliveries) = IsDueOfSettle deliveries
 IsDueOfTask (Node name turns) = IsDueOfNode name.now turns
 
@@ -33,6 +34,7 @@ end_form Place file = place file
 abbrev pub file_form : Command → List ℕ → CommandForm
 file_form (End command) file = end_form command file
 file_form (OfPlan (Sample seed steps)) file = sample file seed steps
+file_form (OfPlan (Lines seed steps)) file = draw file seed steps
 file_form (OfPlan (Settle deliveries)) file = settle file deliveries
 file_form (OfPlan (Node name turns)) file = node file name.now turns
 

@@ -3,7 +3,7 @@ use Rattle.std.specs.String.{string_bytes}
 use Rattle.circus_program.specs.Seen.Built.{built_form}
 use Rattle.circus_program.specs.Seen.Planned.{MeanPlans, ReadsPlans, OfContents, PlansOf}
 use Rattle.circus_program.proofs.AnswerLemmas.{result-of_command, asks-of_command}
-use Rattle.circus_program.proofs.Planned.{then_ok, command_plans, replay_plans}
+use Rattle.circus_program.proofs.Planned.{then_ok, command_plans, replay_plans, no_form_plans}
 use Rattle.circus_program.proofs.answer.follow.Goals as goal
 
 pub returns-in-Some-OneFile-clause-due : goal.returns-in-Some-OneFile-clause-due
@@ -29,3 +29,6 @@ returns-in-Some-Replay-clause-planned g c =
     let built = c.in-Some-Replay in
     then_ok (OfContents shelf MeanPlans built.program.now) (PlansOf shelf (map string_bytes c.args.words.now)) c.replay.result
     (replay_plans shelf _ _ built.program.now built.schedule.now c.in-Some.ensures.form (built.ensures.some ∙ ap built_form built.field-0-is)) c.replay.ensures.planned
+
+pub returns-in_default-clause-planned : goal.returns-in_default-clause-planned
+returns-in_default-clause-planned g c = λ whole. no_form_plans _ _ c.in_default.ensures.none

@@ -5,10 +5,10 @@ use Rattle.circus_ending.specs.Seen.Ending.{ending_of}
 use Rattle.circus_program.specs.Answer.{finish}
 use Rattle.circus_program.specs.Seen.Built.{IsDueOfTask, IsDueOfCommand}
 use Rattle.circus_program.specs.Seen.Step.{due_of}
-use Rattle.circus_program.specs.Seen.Planned.{MeanPlans, ReadsPlans}
+use Rattle.circus_program.specs.Seen.Planned.{ReadsPlans}
 use Rattle.circus_program.specs.declared.answer.Command.{Command}
 use Rattle.circus_program.proofs.AnswerLemmas.{bytes-good}
-use Rattle.circus_program.proofs.Planned.{good_plans, refused_plans, holds_ok}
+use Rattle.circus_program.proofs.Planned.{good_read, refused_read}
 use Rattle.circus_program.proofs.answer.of_bytes.Goals as goal
 
 pub returns-in_ok-end_of-in-End-clause-due : goal.returns-in_ok-end_of-in-End-clause-due
@@ -27,9 +27,9 @@ returns-in-Ok-clause-planned c =
     let means = subst (λ r. IfOk r (IsProgramOf c.args.bytes.now)) c.in-Ok.is c.in_ok-plan-in-OfPlan.ensures.program in
     let is = subst (λ r. IfOk r IsPlan) c.in-Ok.is c.in_ok-plan-in-OfPlan.ensures.plan in
     subst (λ (command : Command). IfOk c.of_plan.result (λ _. ReadsPlans command c.args.bytes.now)) (sym c.in-OfPlan.is)
-    (holds_ok (MeanPlans c.args.bytes.now) c.of_plan.result (good_plans c.args.bytes.now c.in-Ok.plan means is))
+    (good_read c.args.bytes.now c.in-OfPlan.task c.in-Ok.plan c.of_plan.result means is c.of_plan.ensures.known)
 
 pub returns-in-Err-clause-planned : goal.returns-in-Err-clause-planned
 returns-in-Err-clause-planned c =
     let refused = subst (λ r. IfErr r (λ ending. IsEndOfRefused c.args.bytes.now (ending_of ending))) c.in-Err.is c.in_ok-plan-in-OfPlan.ensures.refused in
-    subst (λ (command : Command). ReadsPlans command c.args.bytes.now) (sym c.in-OfPlan.is) (refused_plans c.args.bytes.now (ending_of c.in-Err.refused) refused)
+    subst (λ (command : Command). ReadsPlans command c.args.bytes.now) (sym c.in-OfPlan.is) (refused_read c.args.bytes.now c.in-OfPlan.task (ending_of c.in-Err.refused) refused)

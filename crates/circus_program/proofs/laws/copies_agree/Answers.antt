@@ -1,11 +1,8 @@
-use Rattle.circus_program.proofs.Agreed.{ends_agreed, refused_agreed, spent_agreed}
+use Rattle.circus_program.proofs.Agreed.{agreed_of_kept, agreed_so_far}
 use Rattle.circus_program.proofs.laws.copies_agree.Goals as goal
 
 pub returns-clause-done : goal.returns-clause-done
-returns-clause-done c = ends_agreed
+returns-clause-done c = agreed_of_kept
 
-pub returns-clause-refused : goal.returns-clause-refused
-returns-clause-refused c = refused_agreed
-
-pub returns-clause-spent : goal.returns-clause-spent
-returns-clause-spent c = spent_agreed
+pub returns-clause-so_far : goal.returns-clause-so_far
+returns-clause-so_far c = agreed_so_far

@@ -1,6 +1,6 @@
 use Rattle.std.proofs.Common.{◌≡◌, ◌+◌, ◌-◌, ◌<◌, ◌≤◌, suc, length, Ok, Err, sym, ap, subst, ◌∙◌, arith, zero-add}
 use Rattle.std.proofs.lemmas.Result.{err_from_is_err_and}
-use Rattle.circus_settle.specs.Settled.{Settling, settled}
+use Rattle.circus_settle.specs.Settled.{settled}
 use Rattle.circus_settle.specs.Answers.{IsSettled}
 use Rattle.circus_settle.proofs.Delivering.{may_be, kept, goes_on, ends, stops}
 use Rattle.circus_settle.proofs.settling.deliver.Goals as goal

@@ -5,4 +5,4 @@ pub returns-clause-only : goal.returns-clause-only
 returns-clause-only c troupe required views index call is = counted_is troupe required views index call is
 
 pub returns-clause-all : goal.returns-clause-all
-returns-clause-all c troupe required views index call of_index recent known = is_counted_by troupe required views index call of_index recent known
+returns-clause-all c troupe required views index call is = is_counted_by troupe required views index call is

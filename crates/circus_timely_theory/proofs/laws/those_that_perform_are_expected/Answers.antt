@@ -5,4 +5,4 @@ pub returns-clause-only : goal.returns-clause-only
 returns-clause-only c view index node is = expected_perform view index node is
 
 pub returns-clause-all : goal.returns-clause-all
-returns-clause-all c view index place e first there since below = performing_are_expected view index place e first there since below
+returns-clause-all c view index node h = performing_are_expected view index node h

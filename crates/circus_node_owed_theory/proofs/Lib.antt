@@ -1,0 +1,4 @@
+pub mod Making
+pub mod Nodes
+pub mod Worlds
+pub mod Handing
