@@ -148,6 +148,36 @@ The Ringmaster is told, and answers with a view without it.
 
 At least two of four, and at least four, of whom three are left.
 
+Who is down is told to the Ringmaster at each declaration, until the known view has it no more.
+
+  $ replayed all_of_2.circus 'crash s2\ndeliver 0\ndeliver 3\ndown s2 m1\ndown s2 m1\ndeliver 5\ndeliver 8\ndown s2 m1\ndown s2 ring\n'
+  circus report 1
+  datagram 0 step 0 from m1 to s1 00000101000000000000000100010000000100000001000000000000000000010001000200000000000000000005
+  datagram 1 step 0 from m1 to s2 00000101000000000000000100010000000100000001000000000000000000010001000200000000000000000005
+  datagram 2 step 2 from s1 to m1 0001010100000000
+  datagram 3 step 2 from s1 to m1 010001010000000000000002000000010000000000000005
+  datagram 4 step 3 from m1 to s1 0101010100000000
+  datagram 5 step 4 from m1 to ring 0000010100000000000100030000000200000000
+  datagram 6 step 5 from m1 to ring 0000010100000001000100030000000200000000
+  datagram 7 step 6 from ring to m1 0001010100000000
+  datagram 8 step 6 from ring to m1 01000101000000000004000000000000000200010001000100000000
+  datagram 9 step 7 from m1 to ring 0101010100000000
+  ringmaster ring live
+  view Counter 2 s1=0
+  view Main 1 m1=0
+  member s1 Counter live from 0 at 0 count 1
+  run 0 step 2 path Main.0 procedure 1 clock 1,0 arguments [5]
+  end 0 step 2 clock 1,0 returned [5] state [5]
+  now idle state [5]
+  member s2 Counter crashed 1 from 0 at 0 count 0
+  now idle state [0]
+  member m1 Main live from 0 at 0 count 1
+  run 0 step 0 path Main procedure 0 clock 0,0 arguments []
+  ask 0 step 0 to Counter index 0 procedure 1 arguments [5] state [0]
+  reply 0 step 4 clock 1,0 returned [5]
+  end 0 step 4 clock 1,0 returned [] state [5]
+  now idle state [5]
+
   $ replayed two_of_4.circus 'crash s3\ndeliver 0\ndeliver 1\ndeliver 5\ndeliver 7\n'
   circus report 1
   datagram 0 step 0 from m1 to s1 00000101000000000000000100010000000100000001000000000000000000010001000200000000000000000005

@@ -129,3 +129,54 @@ Of two that join, one asks a member that crashed.
   run 0 step 0 path Main procedure 0 clock 0,0 arguments []
   ask 0 step 0 to Counter index 0 procedure 1 arguments [5] state [0]
   now waiting ask 0 state [0]
+
+A spare of a root doesn't join, and one that asks goes on asking where the Ringmaster is down.
+
+  $ replayed spares.circus 'join m2\ndeliver 1\ndeliver 3\n'
+  circus report 1
+  datagram 0 step 0 from m1 to s1 00000101000000000000000100010000000100000001000000000000000000010001000200000000000000000005
+  datagram 1 step 1 from m2 to ring 0000010100000000000100010001000400000000
+  datagram 2 step 2 from ring to m2 0001010100000000
+  datagram 3 step 2 from ring to m2 01000101000000000004000100010000000100010003000100000000
+  datagram 4 step 3 from m2 to ring 0101010100000000
+  ringmaster ring live
+  view Counter 1 s1=0
+  view Main 1 m1=0
+  member s1 Counter live from 0 at 0 count 0
+  now idle state [0]
+  member s2 Counter live outside
+  member m1 Main live from 0 at 0 count 0
+  run 0 step 0 path Main procedure 0 clock 0,0 arguments []
+  ask 0 step 0 to Counter index 0 procedure 1 arguments [5] state [0]
+  now waiting ask 0 state [0]
+  member m2 Main live outside
+  $ replayed spares.circus 'crash ring\ndown ring s2\njoin s2\ntick s2\n'
+  circus report 1
+  datagram 0 step 0 from m1 to s1 00000101000000000000000100010000000100000001000000000000000000010001000200000000000000000005
+  ringmaster ring crashed 1
+  view Counter 1 s1=0
+  view Main 1 m1=0
+  member s1 Counter live from 0 at 0 count 0
+  now idle state [0]
+  member s2 Counter live asking
+  member m1 Main live from 0 at 0 count 0
+  run 0 step 0 path Main procedure 0 clock 0,0 arguments []
+  ask 0 step 0 to Counter index 0 procedure 1 arguments [5] state [0]
+  now waiting ask 0 state [0]
+  member m2 Main live outside
+
+A view of 16 entries takes no other one.
+
+  $ {
+  >     sed '/^TROUPE/d' first.circus; printf 'TROUPE Counter CALLS FIRST REPLIES FIRST MEMBERS s1 PORT 9001'
+  >     for i in $(seq 2 16); do printf ', s%s PORT %s' $i $((9001 + i)); done; echo ' SPARES s17 PORT 9018;'; tail -n 1 first.circus
+  > } >full.circus
+  $ replayed full.circus 'join s17\ndeliver 16\ndeliver 18\n' | sed -n '/^datagram 16 /,/^view Main/p; /^member s17/p'
+  datagram 16 step 1 from s17 to ring 0000010100000000000100010000001100000000
+  datagram 17 step 2 from ring to s17 0001010100000000
+  datagram 18 step 2 from ring to s17 0100010100000000000400030000000000010010000100010000000000020001000000000003000100000000000400010000000000050001000000000006000100000000000700010000000000080001000000000009000100000000000a000100000000000b000100000000000c000100000000000d000100000000000e000100000000000f0001000000000010000100000000
+  datagram 19 step 3 from s17 to ring 0101010100000000
+  ringmaster ring live
+  view Counter 1 s1=0 s2=0 s3=0 s4=0 s5=0 s6=0 s7=0 s8=0 s9=0 s10=0 s11=0 s12=0 s13=0 s14=0 s15=0 s16=0
+  view Main 1 m1=0
+  member s17 Counter live outside

@@ -179,3 +179,34 @@ The longest argument.
   run 0 step 0 path Main procedure 0 clock 0,0 arguments []
   ask 0 step 0 to Store index 0 procedure 1 arguments [{{7, 7, 7, 7, 7, 7, 7, 7, 7, 7, 7, 7,
   now waiting ask 0 state []
+
+Each second segment of it is lost. A tick sends the first of these again, whose acknowledgement tells of the next one.
+
+  $ { seq 0 2 1024 | sed 's/^/deliver /'; echo tick m1; echo deliver 1537; echo deliver 1538; echo tick m1; echo deliver 1539; } >s
+  $ circus replay block_8.circus s | sed -n '/^datagram 102[5-7] /p; /^datagram 153[6-9] /p; /^datagram 1540 /p' | cut -c 1-80
+  datagram 1025 step 2 from s1 to m1 02010401000100000000
+  datagram 1026 step 3 from s1 to m1 02010401000100000000
+  datagram 1027 step 4 from s1 to m1 02010401000100000000
+  datagram 1536 step 513 from s1 to m1 02010401000100000000
+  datagram 1537 step 514 from m1 to s1 0202040100010000000000000001000100000001000
+  datagram 1538 step 515 from s1 to m1 02010401000100000000
+  datagram 1539 step 517 from m1 to s1 0202040100020000000000070007000700070007000
+  datagram 1540 step 518 from s1 to m1 02010401000300000000
+
+Calls wait while 64 to a node are on their way. Of two servers the second one has crashed.
+
+  $ sed 's/MAIN BEGIN/MAIN VAR i: CARDINAL; BEGIN/; s/MEMBERS s1 PORT 9001/&, s2 PORT 9003/
+  >     s/CALL Counter.Add \[5\] INTO \[got\];/WHILE i < 70 DO CALL Counter.Add [1] INTO [got]; i := i + 1; END;/' first.circus >seventy.circus
+  $ { echo crash s2; seq 0 343 | sed 's/^/deliver /'; } >s
+  $ circus replay seventy.circus s >r
+  $ tail -n 4 r
+  ask 69 step 340 to Counter index 69 procedure 1 arguments [1] state [69]
+  reply 69 step 344 clock 70,0 returned [70]
+  end 0 step 344 clock 70,0 returned [] state [70]
+  now idle state [70]
+  $ grep -c 'from m1 to s1 0000' r
+  70
+  $ grep -c 'from m1 to s2 0000' r
+  64
+  $ grep 'from m1 to s2 0000' r | tail -n 1
+  datagram 316 step 315 from m1 to s2 000001010000003f000000010001003f00010000000100000000000000000001000100020000003f000000000001

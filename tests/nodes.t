@@ -45,6 +45,20 @@ Nothing ever comes.
   ask 0 step 0 to Counter index 0 procedure 1 arguments [5] state [0]
   now waiting ask 0 state [0]
 
+Two servers are silent.
+
+  $ circus node watched m1 8 | grep -v 'tick$\|^give s'
+  circus node 1 m1
+  event 0 boot
+  event 9 down s1
+  give ring 0000010100000000000100030000000100000000
+  event 10 down s2
+  give ring 0000010100000001000100030000000200000000
+  member m1 Main live from 0 at 0 count 0
+  run 0 step 0 path Main procedure 0 clock 0,0 arguments []
+  ask 0 step 0 to Counter index 0 procedure 1 arguments [5] state [0]
+  now waiting ask 0 state [0]
+
 A spare is told to join.
 
   $ circus node two_calls s2 1

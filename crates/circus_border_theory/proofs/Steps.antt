@@ -31,7 +31,8 @@ use Rattle.circus_node.specs.NodeState.{NodeState}
 use Rattle.circus_node.specs.Making.{Made, hears, learns_down, is_told_to_join}
 use Rattle.circus_node.specs.Sending.{Sending, sent, spent, gives_of, is_sendable, handed, all_handed}
 use Rattle.circus_node.specs.Step.{CanCome, ended, concluded, stepped}
-use Rattle.circus_talks.specs.NodeActs.{with_all, coming, came_by, wire_behind, effects_in, acts_in, handed_by}
+use Rattle.circus_talks.specs.NodeActs.{with_all, coming, came_by, wire_behind, acts_in, handed_by}
+use Rattle.circus_node.specs.Trace.{effects_in}
 use Rattle.circus_talks.specs.Histories.{beginning_of}
 use Rattle.circus_talks.proofs.Given.{with_both}
 use Rattle.circus_talks.proofs.Steps.{IsRead}

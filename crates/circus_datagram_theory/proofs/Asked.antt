@@ -47,12 +47,12 @@ name_is name other is =
     let parts = and_parts (nat_eq name.run other.run) (nat_eq name.ask other.ask) is in
     λ i. record { run = eqb-true name.run other.run parts.0 i; ask = eqb-true name.ask other.ask parts.1 i }
 
-record IsThere (asks : List (AskName × Asking)) (name : AskName) (a : Asking) : Type 0 where
-  own : AskName
-  there : IsIn asks (own, a)
-  is : name ≡ own
+pub record IsThere (asks : List (AskName × Asking)) (name : AskName) (a : Asking) : Type 0 where
+  pub own : AskName
+  pub there : IsIn asks (own, a)
+  pub is : name ≡ own
 
-found_there : (asks : List (AskName × Asking)) (name : AskName) (a : Asking) → asking_of asks name ≡ Some a → IsThere asks name a
+pub found_there : (asks : List (AskName × Asking)) (name : AskName) (a : Asking) → asking_of asks name ≡ Some a → IsThere asks name a
 found_there [] name a at = absurd (let clash : ◌≡◌ {A = Option Asking} None (Some a) = at in cc)
 found_there (e ∷ asks) name a at = by_test (found_there asks name a) (is_name name e.0) refl at
   where
@@ -74,7 +74,7 @@ has_entry (x ∷ es) e (inr at) = by_test (nat_eq x.node e.node) (has_entry es e
 module _ (place : Place) (boot : List View) (begins : Joiner) (first : List ValueTree) (kept : MemberRecord) where
   -- ---- the asks that are open are those of the record
 
-  abbrev first_header : AskName → RunRecord → AskRecord → CallHeader
+  abbrev pub first_header : AskName → RunRecord → AskRecord → CallHeader
   first_header name run ask =
       record {
         root = run.root;
@@ -89,18 +89,18 @@ module _ (place : Place) (boot : List View) (begins : Joiner) (first : List Valu
       }
 
   -- an ask of a name is one of the record, asked by a step
-  record IsOf (step : ℕ) (name : AskName) (header : CallHeader) (body : List ℕ) : Type 0 where
-    number : ℕ
-    run : RunRecord
-    ask : AskRecord
-    index : name.run ≡ kept.from + number
-    run_is : slice_get kept.runs number ≡ Some run
-    ask_is : slice_get run.asks name.ask ≡ Some ask
-    by_then : ask.asked ≤ step
-    header_is : header ≡ first_header name run ask
-    body_is : body ≡ spelling_of_all ask.arguments
+  pub record IsOf (step : ℕ) (name : AskName) (header : CallHeader) (body : List ℕ) : Type 0 where
+    pub number : ℕ
+    pub run : RunRecord
+    pub ask : AskRecord
+    pub index : name.run ≡ kept.from + number
+    pub run_is : slice_get kept.runs number ≡ Some run
+    pub ask_is : slice_get run.asks name.ask ≡ Some ask
+    pub by_then : ask.asked ≤ step
+    pub header_is : header ≡ first_header name run ask
+    pub body_is : body ≡ spelling_of_all ask.arguments
 
-  abbrev IsEntry : ℕ → AskName × Asking → Type 0
+  abbrev pub IsEntry : ℕ → AskName × Asking → Type 0
   IsEntry step e = IsOf step e.0 e.1.header e.1.body
 
   -- asked in the step itself
@@ -254,7 +254,7 @@ module _ (place : Place) (boot : List View) (begins : Joiner) (first : List Valu
       all_of_in [] each = All-nil (IsEntry (now q))
       all_of_in (x ∷ xs) each = All-cons (IsEntry (now q)) x xs (each x (inl refl)) (all_of_in xs (λ e at. each e (inr at)))
 
-  open_all : (p : Past) → Rises p → All (IsEntry (now p)) (open_asks place boot kept p)
+  pub open_all : (p : Past) → Rises p → All (IsEntry (now p)) (open_asks place boot kept p)
   open_all booted rises = opened_all (knows place boot booted) 0 (new_asks place boot kept booted) [] (new_all booted) (All-nil (IsEntry 0))
   open_all (followed p step o) rises =
       let q = followed p step o in

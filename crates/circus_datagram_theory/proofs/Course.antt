@@ -45,7 +45,8 @@ use Rattle.circus_node.specs.declared.event.Event.{Event}
 use Rattle.circus_node.specs.declared.event.Event.TheVariants as comes
 use Rattle.circus_node.specs.declared.event.Outputs.{Outputs}
 use Rattle.circus_talks.specs.Histories.{beginning_of}
-use Rattle.circus_talks.specs.NodeActs.{with_all, came_by, coming, handed_by, wire_behind, effects_in, acts_in}
+use Rattle.circus_talks.specs.NodeActs.{with_all, came_by, coming, handed_by, wire_behind, acts_in}
+use Rattle.circus_node.specs.Trace.{effects_in}
 use Rattle.circus_talks.proofs.Given.{GivesSo, with_both}
 use Rattle.circus_talks.proofs.Steps.{IsRead, step_gives}
 use Rattle.circus_border_theory.specs.Made.{act_of}

@@ -7,3 +7,4 @@ pub mod GoLemmas
 pub mod NodeLemmas
 pub mod NoticeLemmas
 pub mod TroupeLemmas
+pub mod TraceLemmas

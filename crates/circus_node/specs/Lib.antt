@@ -4,5 +4,6 @@ pub mod Making
 pub mod Sending
 pub mod Step
 pub mod Booting
+pub mod Trace
 pub mod Noticing
 pub mod Seen

@@ -1,5 +1,5 @@
 // A node.
-ghost use Rattle.std.specs.Prelude.{◌≡◌, ℕ, ◌<◌, length, map, slice_get, option_copied, option_map, option_and_then, IfOk};
+ghost use Rattle.std.specs.Prelude.{◌≡◌, ℕ, ◌<◌, length, map, slice_get, Option, option_copied, option_map, option_and_then, IfOk};
 ghost use Rattle.circus_collate.specs.Deployment.{IsDeployment};
 ghost use Rattle.circus_performing.specs.Record.{behaviour};
 ghost use Rattle.circus_collate.specs.declared.deployment.Deployment.{Deployment as Deployed};
@@ -7,6 +7,8 @@ ghost use Rattle.circus_segment.specs.Segment.{reading};
 ghost use Rattle.circus_wire.specs.Wire.{IsOther};
 ghost use Rattle.circus_node.specs.Booting as booting;
 ghost use Rattle.circus_node.specs.Step as step;
+ghost use Rattle.circus_node.specs.Trace as trace;
+ghost use Rattle.circus_node.specs.Trace.{Trace, StandsFor, effects_in, effects_at_boot};
 ghost use Rattle.circus_node.specs.Node.{IsNodeOf, GoToOthers};
 ghost use Rattle.circus_node.specs.Seen.Kept.{IsActing};
 ghost use Rattle.circus_node.specs.Seen.StationOf.{node_of, IsStation};
@@ -63,7 +65,7 @@ impl<M: Module> Model for NodeCore<M> {
 impl<M: Module> NodeCore<M> {
     /// A node of a program at boot, which is step 0, and what it gives: a founder of a root has entered its MAIN. The
     /// module is that of the node's troupe, and none at the Ringmaster's node; its conditions are in `CanBoot`. What it
-    /// gives goes to other nodes.
+    /// gives goes to other nodes. It stands for a trace, in which nothing has come yet (`specs/Trace.antt`).
     ///
     /// `NoMemory` where memory runs out.
     pub fn boot(
@@ -76,6 +78,8 @@ impl<M: Module> NodeCore<M> {
         ensures booted { step.IsEnded result (booting.booted M.declared M.turn M.first deployment.now «module» node) }
         ensures node { IfOk result (λ booted. IsNodeOf deployment.now node booted.0) }
         ensures others { IfOk result (λ booted. GoToOthers booted.0 booted.1.gives) }
+        ensures trace { IfOk result (λ begun. StandsFor M.declared M.turn M.first deployment.now «module» node
+            (trace.booted (effects_at_boot M.declared M.turn M.first deployment.now «module» node) begun.1) begun.0) }
     {
         NodeCore::begin(alloc, deployment, module, node)
     }
@@ -99,7 +103,8 @@ impl<M: Module> NodeCore<M> {
     }
 
     /// A step, which has this number, and what the node gives in it (docs/PROTOCOL.md, "Order within a step"). What comes
-    /// names another node of the program; its conditions are in `CanCome`.
+    /// names another node of the program; its conditions are in `CanCome`. Each trace for which the node stood is one step
+    /// longer then.
     ///
     /// After `NoMemory` and `Spent`, which names the node to which no number is left, there is no node, and nothing of
     /// the step was sent.
@@ -108,6 +113,10 @@ impl<M: Module> NodeCore<M> {
         ensures stepped { step.IsEnded result (step.stepped M.declared M.turn at event self) }
         ensures node { (program : Deployed) (number : ℕ) → IsNodeOf program number self → IfOk result (λ stepped. IsNodeOf program number stepped.0) }
         ensures others { IfOk result (λ stepped. GoToOthers stepped.0 stepped.1.gives) }
+        ensures trace { (d : Deployed) (hosted : Option M) (node : ℕ) (t : Trace)
+            → StandsFor M.declared M.turn M.first d hosted node t self
+            → IfOk result (λ on. StandsFor M.declared M.turn M.first d hosted node
+            (trace.stepped t at event (effects_in M.declared M.turn at event self) on.1) on.0) }
     {
         self.follow(at, event)
     }

@@ -19,14 +19,15 @@ use Rattle.circus_schedule.specs.declared.line.Line.{Line}
 use Rattle.circus_world.specs.WorldState.{WorldState, Standing}
 use Rattle.circus_world.specs.Lines.{Lead}
 use Rattle.circus_talks.specs.Histories.{comes_by, with_line}
-use Rattle.circus_talks.specs.NodeActs.{effects_in, acts_at_boot}
+use Rattle.circus_talks.specs.NodeActs.{acts_at_boot}
+use Rattle.circus_node.specs.Trace.{effects_in, effects_at_boot}
 use Rattle.circus_world_theory.specs.Worlds.{IsWorldOf}
 use Rattle.circus_border_theory.specs.Made.{act_of}
 use Rattle.circus_border_theory.proofs.BootWorlds.{at_boot}
 use Rattle.circus_border_theory.proofs.Whole.{nothing_is_dropped, boots_hand_all}
 use Rattle.circus_border_theory.proofs.Worlds.{HandsLine, HandsLines}
 use Rattle.circus_owed_theory.specs.Living.{made_in}
-use Rattle.circus_node_owed_theory.specs.Makes.{handed_in, as_handed, makes_at_boot, by_line, makes_then, hands_then, then_along, makes_along, hands_along, made_of, handed_of}
+use Rattle.circus_node_owed_theory.specs.Makes.{handed_in, as_handed, by_line, makes_then, hands_then, then_along, makes_along, hands_along, made_of, handed_of}
 
 handed_as : (at : ℕ) (effects : List Effect) → handed_in at (map act_of effects) ≡ map as_handed (made_in at effects)
 handed_as at [] = refl
@@ -83,11 +84,11 @@ module _ {M : Type 0} (declared : M → Signature) (turn : M → List ValueTree 
   worlds_hand_over d modules hosted lines begun last world node within own found =
       let b = boots_hand_all declared turn first lawful d modules hosted lines begun last world node within own found in
       let own_is : option_and_then (λ (o : Option M). o) (slice_get hosted node) ≡ own = ap (option_and_then (λ (o : Option M). o)) found in
-      let boots = b.all ∙ ap (λ o. map act_of (makes_at_boot declared turn first d o node)) (sym own_is) in
+      let boots = b.all ∙ ap (λ o. map act_of (effects_at_boot declared turn first d o node)) (sym own_is) in
       let l = lines_hand declared turn first lawful d world.deployment node
       (at_boot declared turn first lawful d world.deployment modules hosted world.troupes world.hosts) lines begun last
       (nothing_is_dropped declared turn first lawful d modules hosted lines begun last world).hands world.leads in
-      let at_boot_made = makes_at_boot declared turn first d (option_and_then (λ (o : Option M). o) (slice_get hosted node)) node in
+      let at_boot_made = effects_at_boot declared turn first d (option_and_then (λ (o : Option M). o) (slice_get hosted node)) node in
       (λ j. handed_in 0 (acts_at_boot declared turn first d (own_is j) node) ++ l j)
       ∙ ap (λ acts. handed_in 0 acts ++ map as_handed (makes_along declared turn node lines begun)) boots
       ∙ ap (λ acts. acts ++ map as_handed (makes_along declared turn node lines begun)) (handed_as 0 at_boot_made)

@@ -19,7 +19,7 @@ use Rattle.circus_member_step.specs.MemberState.{MemberState}
 use Rattle.circus_accepting.specs.Accepting.{troupe_at}
 use Rattle.circus_node.specs.Booting.{beginning_in, home_in, made_at_boot}
 use Rattle.circus_node.specs.NodeState.{Acting, member, ringmaster, NodeState, member_record}
-use Rattle.circus_talks.specs.NodeActs.{effects_in}
+use Rattle.circus_node.specs.Trace.{effects_in, effects_at_boot}
 use Rattle.circus_timely.specs.Past.{Past, booted, now}
 use Rattle.circus_timely_theory.specs.Living.{kept_after}
 use Rattle.circus_owed.specs.Made.{AreDistinct}
@@ -32,7 +32,7 @@ use Rattle.circus_world_timely_theory.specs.Happened.{happens_by, with_one}
 use Rattle.circus_world_timely_theory.specs.NodeLives.{Events, Rising, Comes, with_rest, with_events, past_behind, IsLife}
 use Rattle.circus_world_timely_theory.proofs.Lives.{NodeLives}
 use Rattle.circus_world_timely_theory.proofs.Nodes.{at_home, Goes, goes_on, life_numbers, life_goes, goes_begun}
-use Rattle.circus_node_owed_theory.specs.Makes.{then_on, given_by, makes, tells, makes_at_boot}
+use Rattle.circus_node_owed_theory.specs.Makes.{then_on, given_by, makes, tells}
 use Rattle.circus_node_owed_theory.specs.Owes.{MakesWhatIsOwed, NodeMakesWhatIsOwed}
 use Rattle.circus_node_owed_theory.proofs.Making.{made, told, step_tells, grows}
 
@@ -102,7 +102,7 @@ module _ {M : Type 0} (declared : M → Signature) (turn : M → List ValueTree 
       }
 
   -- at boot
-  pub boot_made : troupe_at d node ≡ Some number → slice_get d.troupes number ≡ Some troupe → made_in 0 (makes_at_boot declared turn first d (Some own) node) ≡ all_made booted
+  pub boot_made : troupe_at d node ≡ Some number → slice_get d.troupes number ≡ Some troupe → made_in 0 (effects_at_boot declared turn first d (Some own) node) ≡ all_made booted
   boot_made hosts there =
       let home_is = ap (option_and_then (λ n. option_map (home_in d node n) (slice_get d.troupes n))) hosts ∙ ap (option_map (home_in d node number)) there in
       ap (λ h. made_in 0 (made_at_boot declared turn first d h (Some own)).came.effects) home_is

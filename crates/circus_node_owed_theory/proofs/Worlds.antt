@@ -37,7 +37,8 @@ use Rattle.circus_world_timely_theory.specs.Happened.{happens_by, with_one, with
 use Rattle.circus_world_timely_theory.proofs.Lines.{LivesIn, line_lives}
 use Rattle.circus_world_timely_theory.proofs.Nodes.{at_home}
 use Rattle.circus_world_timely_theory.proofs.Worlds.{of_troupe, one_each, begins, lives_so}
-use Rattle.circus_node_owed_theory.specs.Makes.{makes_at_boot, by_line, makes_then, tells_then, then_along, makes_along, tells_along}
+use Rattle.circus_node.specs.Trace.{effects_at_boot}
+use Rattle.circus_node_owed_theory.specs.Makes.{by_line, makes_then, tells_then, then_along, makes_along, tells_along}
 use Rattle.circus_node_owed_theory.specs.Owes.{MakesWhatIsOwed, NodesMakeWhatIsOwed}
 use Rattle.circus_node_owed_theory.proofs.Making.{made, told, grows}
 use Rattle.circus_node_owed_theory.proofs.Nodes.{owed_all, boot_made}
@@ -135,9 +136,9 @@ module _ {M : Type 0} (declared : M → Signature) (turn : M → List ValueTree 
       (boot_true declared turn first lawful modules world.agree modules_are world.proper d world.deployment world.troupes hosted world.hosts begun world.boots)
       (begins declared turn first lawful d modules hosted lines begun last world node number troupe own hosts_it is_at there) world.leads in
       let own_is : option_and_then (λ (o : Option M). o) (slice_get hosted node) ≡ Some own = ap (option_and_then (λ (o : Option M). o)) hosts_it in
-      let boots : made_in 0 (makes_at_boot declared turn first d (option_and_then (λ (o : Option M). o) (slice_get hosted node)) node)
+      let boots : made_in 0 (effects_at_boot declared turn first d (option_and_then (λ (o : Option M). o) (slice_get hosted node)) node)
       ≡ made declared turn first lawful d node number troupe own booted =
-      ap (λ o. made_in 0 (makes_at_boot declared turn first d o node)) own_is ∙ boot_made declared turn first lawful d node number troupe own is_at there in
+      ap (λ o. made_in 0 (effects_at_boot declared turn first d o node)) own_is ∙ boot_made declared turn first lawful d node number troupe own is_at there in
       let made_so = ap (λ l. l ++ makes_along declared turn node lines begun) boots ∙ m.makes_so in
       let o = owed_all declared turn first lawful d node number troupe own home p (lives.numbers s at).distinct s.node.acting kept (lives.lives s at) is in
       subst (λ l. MakesWhatIsOwed d node number troupe (first own) kept p l (tells_along declared turn node lines begun)) (sym made_so)

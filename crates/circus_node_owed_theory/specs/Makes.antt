@@ -15,7 +15,6 @@ use Rattle.circus_member_rules.specs.declared.occurrence.Effect.{Effect}
 use Rattle.circus_member_rules.specs.declared.occurrence.Purpose.{Purpose}
 use Rattle.circus_node.specs.declared.event.Event.{Event}
 use Rattle.circus_node.specs.declared.event.Event.TheVariants as comes
-use Rattle.circus_node.specs.Booting.{home_of, made_at_boot}
 use Rattle.circus_node.specs.Making.{hears, learns_down, is_told_to_join}
 use Rattle.circus_node.specs.NodeState.{NodeState}
 use Rattle.circus_node.specs.Step.{Ended, stepped}
@@ -24,7 +23,8 @@ use Rattle.circus_world.specs.WorldState.{WorldState, Standing}
 use Rattle.circus_world.specs.Course.{Stepped}
 use Rattle.circus_world.specs.Course as course
 use Rattle.circus_border_theory.specs.Made.{act_of}
-use Rattle.circus_talks.specs.NodeActs.{handed_by, wire_behind, effects_in, acts_at_boot}
+use Rattle.circus_talks.specs.NodeActs.{handed_by, wire_behind, acts_at_boot}
+use Rattle.circus_node.specs.Trace.{effects_in, effects_at_boot}
 use Rattle.circus_talks.specs.Histories.{comes_by}
 use Rattle.circus_owed_theory.specs.Living.{made_in, told_in}
 use Rattle.circus_world_timely_theory.specs.NodeLives.{Events}
@@ -69,15 +69,10 @@ module _ {M : Type 0} (declared : M → Signature)
       (stepped declared turn next.0 next.1 n)
 
   module _ (first : M → List ValueTree) where
-    -- those that it makes at boot
-    abbrev pub makes_at_boot : Deployment → Option M → ℕ → List Effect
-    makes_at_boot d hosted node =
-        (made_at_boot declared turn first d (home_of d node) hosted).came.effects
-
     -- all that a node has made which hosts this, from boot on
     abbrev pub made_behind : Deployment → M → ℕ → Events → NodeState M → List (ℕ × Effect)
     made_behind d own node events begun =
-        made_in 0 (makes_at_boot d (Some own) node) ++ makes events begun
+        made_in 0 (effects_at_boot declared turn first d (Some own) node) ++ makes events begun
 
 -- ---- a node of a world
 
@@ -152,6 +147,6 @@ module _ {M : Type 0} (declared : M → Signature)
       → WorldState M → List (ℕ × Effect)
   made_of first d hosted lines begun =
       made_in 0
-      (makes_at_boot declared turn first d (option_and_then (λ own. own) (slice_get hosted node))
+      (effects_at_boot declared turn first d (option_and_then (λ own. own) (slice_get hosted node))
       node)
       ++ makes_along lines begun

@@ -23,26 +23,15 @@ use Rattle.circus_facts.proofs.Told.{report_is_told, summary_is_told, settled_is
 use Rattle.circus_ending.specs.declared.status.Status.TheVariants.{Done}
 use Rattle.circus_ending.specs.Ending.{Ending}
 use Rattle.circus_simulated.specs.Booted.{names_in}
+use Rattle.circus_program.specs.Form.{picture, draw}
 use Rattle.circus_program.specs.Replay.{replay_of}
 use Rattle.circus_program.specs.Worlds.{AreLed, AskForRecords, IsWrittenBySome}
 use Rattle.circus_program.specs.Promise.{IsKept, IsKeptSoFar, IsKeptOfSchedule}
 use Rattle.circus_program.specs.Agreeing.{reported, IsReportOf, IsSummaryOf, IsSettledOf, IsAgreed, IsAgreedSoFar, IsCutSoFar}
 use Rattle.circus_program.proofs.Reports.{booted_nodes, led_reported}
-use Rattle.circus_program.proofs.Telling.{no_lines}
+use Rattle.circus_program.proofs.Telling.{no_records}
 
 -- ---- of a world
-
-agrees : (d : Deployment) (program : List Behaviour) (last : WorldState Behaviour) → RecordsStand program d last → AllStand d program (facts_of last)
-agrees d program last stand = λ node troupe n b kept at is_kept own at_program active.
-    by_node node troupe n b kept (slice_get last.nodes node) refl (sym (slice_get-map node_facts last.nodes node) ∙ at) is_kept own at_program active
-  where
-    by_node : (node troupe : ℕ) (n : NodeFacts) (b : Behaviour) (kept : MemberRecord) (o : Option (Standing Behaviour)) → slice_get last.nodes node ≡ o → option_map node_facts o ≡ Some n
-        → n.member ≡ Some kept → troupe_at d node ≡ Some troupe → IsAt program troupe b → is_active kept.phase ≡ true
-        → Stands (history_of program) troupe b.first kept
-    by_node node troupe n b kept None there at is_kept own at_program active = absurd (none-some n at)
-    by_node node troupe n b kept (Some s) there at is_kept own at_program active =
-        let same : node_facts s ≡ n = same_Some (node_facts s) n at in
-        stand node troupe s kept b there (ap (λ (v : NodeFacts). v.member) same ∙ is_kept) own at_program active
 
 module _ (plan : Plan) (lines : List Line) (last : WorldState Behaviour) (led : AreLed plan lines last) where
   nodes_are : last.deployment.nodes ≡ plan.deployment.nodes
@@ -62,8 +51,9 @@ pub agreed_of_kept : (contents : List ℕ → Option (List ℕ)) (words : List (
 agreed_of_kept contents words text tells k =
     record {
       plan = k.plan;
+      lines = k.lines;
       facts = facts_of k.last;
-      agree = agrees k.plan.deployment (behaviours_in k.plan) k.last k.kept.stand;
+      headline = k.kept.headline;
       written = by_form k.of_world.written;
     }
   where
@@ -71,15 +61,18 @@ agreed_of_kept contents words text tells k =
     nodes = nodes_are k.plan k.lines k.last k.of_world.led
 
     by_form : IsWrittenBySome contents words k.plan k.lines k.last text
-        → IsReportOf contents words k.plan (facts_of k.last) text ⊎ (IsSummaryOf contents words k.plan (facts_of k.last) text ⊎ IsSettledOf contents words k.plan (facts_of k.last) text)
+        → IsReportOf contents words k.plan k.lines (facts_of k.last) text
+        ⊎ (IsSummaryOf contents words k.plan k.lines (facts_of k.last) text ⊎ IsSettledOf contents words k.plan k.lines (facts_of k.last) text)
     by_form (inl (schedule, replayed, read, so)) =
-        inl (schedule, replayed, so ∙ report_is_told (names_in k.plan) k.last ∙ ap (λ (hs : List Host). report_of (names_in k.plan) hs (facts_of k.last)) nodes)
-    by_form (inr (inl (seed, steps, begun, drawn, lines_are, count, booted_is, sampled_is, so))) = inr (inl (seed, steps, drawn, so ∙ summary_is_told (names_in k.plan) steps k.last))
-    by_form (inr (inr (inr (seed, steps, begun, l, lines_are, count, booted_is, sampled_is, so)))) = absurd (no_lines words l.program seed steps tells l.of_form)
+        inl (schedule, replayed, read, so ∙ report_is_told (names_in k.plan) k.last ∙ ap (λ (hs : List Host). report_of (names_in k.plan) hs (facts_of k.last)) nodes)
+    by_form (inr (inl (seed, steps, begun, drawn, lines_are, count, booted_is, sampled_is, so))) = inr (inl (seed, steps, drawn, lines_are, so ∙ summary_is_told (names_in k.plan) steps k.last))
+    by_form (inr (inr (inr (inl (seed, steps, begun, l, lines_are, count, booted_is, sampled_is, so))))) = no_records words (draw l.program seed steps) tells l.of_form (λ told. told)
+    by_form (inr (inr (inr (inr (schedule, p, read, so))))) = no_records words (picture p.program p.name) tells p.of_form (λ told. told)
     by_form (inr (inr (inl (deliveries, settles, few, lines_are, so)))) =
         inr (inr (
           deliveries,
           settles,
+          lines_are,
           so
               ∙ settled_is_told (names_in k.plan) (length k.last.sent) k.last
               ∙ ap (λ (hs : List Host). settled_of (names_in k.plan) hs (length k.last.sent) (facts_of k.last)) nodes,
@@ -94,7 +87,7 @@ agreed_so_far plan lines text k = record {
   others = k.others;
   lines_are = k.lines_are;
   facts = facts_of k.last;
-  agree = agrees plan.deployment (behaviours_in plan) k.last k.kept.stand;
+  headline = k.kept.headline;
   reported_is = replay_is plan k.before k.last k.led;
   last = k.said;
   written = k.written;

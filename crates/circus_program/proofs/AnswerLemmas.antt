@@ -7,10 +7,12 @@ use Rattle.circus_config.specs.declared.plan.Plan.{Plan}
 use Rattle.circus_config.specs.Program.{IsProgramOf}
 use Rattle.circus_program.specs.declared.answer.Step.TheVariants.{Finish, Lack, Replay, Serve}
 use Rattle.circus_ending.specs.declared.one_file.OneFile.TheVariants.{Stubs, Run, Place}
-use Rattle.circus_program.specs.Form.{CommandForm, stubs, run, node, sample, draw, settle, place, IsOfForm}
+use Rattle.circus_program.specs.Form.{CommandForm, stubs, run, node, sample, draw, settle, place, IsOfForm, replay, picture, shown_form}
 use Rattle.circus_program.specs.declared.answer.Command.{Command}
 use Rattle.circus_program.specs.declared.answer.Command.TheVariants.{End, OfPlan}
 use Rattle.circus_program.specs.declared.answer.Task.TheVariants.{Sample, Lines, Settle, Node}
+use Rattle.circus_program.specs.declared.shown.Shown.{Shown}
+use Rattle.circus_program.specs.declared.shown.Shown.TheVariants.{Report, Picture}
 use Rattle.circus_program.specs.Answer.{Due, IsDueOfReplay, IsDueOfProgram, IsDue, AreFetchedOf, AsksFirstOf, AsksOnly}
 use Rattle.circus_program.specs.Seen.Built.{IsDueOfCommand, file_form}
 use Rattle.circus_program.specs.Seen.Step.{due_of, LacksNone, IsLackNoted, IsDueBehind, IsStepBehind, IsStepOfProgram, IsStepOfReplay, IsStepOfFile}
@@ -27,20 +29,22 @@ fetched-more None name bytes names files e h = tt
 fetched-more (Some contents) name bytes names files e h = (e, h)
 
 -- what is due behind the program is due of the replay
-behind-replay : (program bytes schedule : List ℕ) (plan : Plan) (due : Due) (files : List (List ℕ)) → IsProgramOf bytes plan → IsDueBehind plan schedule files due → IsDueOfReplay program schedule (bytes ∷ files) due
-behind-replay program bytes schedule plan due [] means h = inl ((plan, means), h)
-behind-replay program bytes schedule plan due (more ∷ []) means h = (plan, means, h)
-behind-replay program bytes schedule plan due (_ ∷ _ ∷ _) means h = absurd h
+behind-replay : (shown : Shown) (program bytes schedule : List ℕ) (plan : Plan) (due : Due) (files : List (List ℕ)) → IsProgramOf bytes plan → IsDueBehind shown plan schedule files due
+    → IsDueOfReplay shown program schedule (bytes ∷ files) due
+behind-replay shown program bytes schedule plan due [] means h = inl ((plan, means), h)
+behind-replay shown program bytes schedule plan due (more ∷ []) means h = (plan, means, h)
+behind-replay shown program bytes schedule plan due (_ ∷ _ ∷ _) means h = absurd h
 
 -- a step behind the first file is one of the replay
-pub step-of_replay : (shelf : Option (List ℕ → Option (List ℕ))) (program bytes schedule : List ℕ) (due : Due) → IfSome shelf (λ told. told program ≡ Some bytes) → IsStepOfProgram shelf bytes schedule due → IsStepOfReplay shelf program schedule due
-step-of_replay shelf program bytes schedule due told (inl (plan, means, h)) =
+pub step-of_replay : (shelf : Option (List ℕ → Option (List ℕ))) (shown : Shown) (program bytes schedule : List ℕ) (due : Due) → IfSome shelf (λ told. told program ≡ Some bytes) → IsStepOfProgram shelf shown bytes schedule due
+    → IsStepOfReplay shelf shown program schedule due
+step-of_replay shelf shown program bytes schedule due told (inl (plan, means, h)) =
     record {
       files = bytes ∷ h.files;
       fetched = fetched-more shelf program bytes (schedule ∷ []) h.files told h.fetched;
-      is_due = behind-replay program bytes schedule plan due h.files means h.is_due;
+      is_due = behind-replay shown program bytes schedule plan due h.files means h.is_due;
     }
-step-of_replay shelf program bytes schedule due told (inr refused) =
+step-of_replay shelf shown program bytes schedule due told (inr refused) =
     record {
       files = bytes ∷ [];
       fetched = fetched-more shelf program bytes (schedule ∷ []) [] told (fetched-none shelf (schedule ∷ []));
@@ -48,10 +52,10 @@ step-of_replay shelf program bytes schedule due told (inr refused) =
     }
 
 -- a step behind a program
-pub behind-good : {E : Type 0} (shelf : Option (List ℕ → Option (List ℕ))) (program schedule : List ℕ) (plan : Plan) (r : Result Step E) → IsProgramOf program plan
-    → IfOk r (λ step. IsStepBehind shelf plan schedule (due_of step)) → IfOk r (λ step. IsStepOfProgram shelf program schedule (due_of step))
-behind-good shelf program schedule plan (Ok step) means behind = inl (plan, means, behind)
-behind-good shelf program schedule plan (Err e) means behind = tt
+pub behind-good : {E : Type 0} (shelf : Option (List ℕ → Option (List ℕ))) (shown : Shown) (program schedule : List ℕ) (plan : Plan) (r : Result Step E) → IsProgramOf program plan
+    → IfOk r (λ step. IsStepBehind shelf shown plan schedule (due_of step)) → IfOk r (λ step. IsStepOfProgram shelf shown program schedule (due_of step))
+behind-good shelf shown program schedule plan (Ok step) means behind = inl (plan, means, behind)
+behind-good shelf shown program schedule plan (Err e) means behind = tt
 
 -- the name that was asked for first, and then others
 pub asks-more : (old middle new : Option (List (List ℕ))) (name : List ℕ) (names : List (List ℕ)) → middle ≡ told_more old (name ∷ []) → AsksFirstOf middle new names → AsksFirstOf old new (name ∷ names)
@@ -87,6 +91,20 @@ pub result-of_command : {E : Type 0} (shelf : Option (List ℕ → Option (List 
     → IsOfForm words form → form ≡ file_form command file → IfOk r (λ step. IsStepOfFile shelf file (IsDueOfCommand command) (due_of step)) → IfOk r (λ step. IsDue shelf words (due_of step))
 result-of_command shelf words form command file (Ok step) of is h = due-of_command shelf words command file (due_of step) (subst (λ (f : CommandForm). IsOfForm words f) is of) h
 result-of_command shelf words form command file (Err e) of is h = tt
+
+-- likewise what is due of a replay, or of its picture
+due-of_replay : (shelf : Option (List ℕ → Option (List ℕ))) (words : List (List ℕ)) (shown : Shown) (program schedule : List ℕ) (due : Due) → IsOfForm words (shown_form shown program schedule)
+    → IsStepOfReplay shelf shown program schedule due → IsDue shelf words due
+due-of_replay shelf words Report program schedule due of h =
+    inl (record { form = replay program schedule; of_form = of; files = h.files; fetched = h.fetched; is_due = h.is_due })
+due-of_replay shelf words Picture program schedule due of h =
+    inl (record { form = picture program schedule; of_form = of; files = h.files; fetched = h.fetched; is_due = h.is_due })
+
+pub result-of_replay : {E : Type 0} (shelf : Option (List ℕ → Option (List ℕ))) (words : List (List ℕ)) (form : CommandForm) (shown : Shown) (program schedule : List ℕ) (r : Result Step E)
+    → IsOfForm words form → form ≡ shown_form shown program schedule → IfOk r (λ step. IsStepOfReplay shelf shown program schedule (due_of step)) → IfOk r (λ step. IsDue shelf words (due_of step))
+result-of_replay shelf words form shown program schedule (Ok step) of is h =
+    due-of_replay shelf words shown program schedule (due_of step) (subst (λ (f : CommandForm). IsOfForm words f) is of) h
+result-of_replay shelf words form shown program schedule (Err e) of is h = tt
 
 -- and asks for its file alone
 asks-of_file : (old new : Option (List (List ℕ))) (words : List (List ℕ)) (command : Command) (file : List ℕ) → IsOfForm words (file_form command file)

@@ -1,7 +1,7 @@
 -- Whether words are of a form can be told.
 use Rattle.std.proofs.Common.{◌≡◌, ◌≢◌, ℕ, ◌^◌, ◌⊎◌, ◌∙◌, inl, inr, List, [], ◌∷◌, subst, ap, refl, arith, codes}
 use Rattle.std.specs.Fmt.{decimal}
-use Rattle.circus_program.specs.Form.{CommandForm, stubs, run, replay, node, sample, draw, settle, place, audit, IsOfForm, IsOfNoForm}
+use Rattle.circus_program.specs.Form.{CommandForm, stubs, run, replay, picture, node, sample, draw, settle, place, audit, IsOfForm, IsOfNoForm}
 use Rattle.circus_program.proofs.Decided.{IsDecided, decided_as, decided_both, same_bytes, Some_below, decided_number}
 
 -- ---- so many words behind a command
@@ -88,13 +88,14 @@ module _ (words : List (List ℕ)) where
       (draw program n m, record { spelled = spelled ∙ ap (λ w. codes "lines" ∷ program ∷ w ∷ steps ∷ []) is ∙ ap (λ w. codes "lines" ∷ program ∷ decimal n ∷ w ∷ []) are; in_range = (some, low, omega (arith, few)) })
 
   -- words that are of none of the forms
-  of_none : (Two IsFile (codes "stubs") words → ⊥) → (Two IsFile (codes "run") words → ⊥) → (Three AreFiles (codes "replay") words → ⊥) → (Four IsNode (codes "node") words → ⊥) → (Four IsSampled (codes "sample") words → ⊥) → (Four IsSampled (codes "lines") words → ⊥) → (Three IsSettled (codes "settle") words → ⊥) → (Two IsFile (codes "place") words → ⊥) → (Three AreFiles (codes "audit") words → ⊥) → IsOfNoForm words
-  of_none no_stubs no_run no_replay no_node no_sample no_lines no_settle no_place no_audit = each
+  of_none : (Two IsFile (codes "stubs") words → ⊥) → (Two IsFile (codes "run") words → ⊥) → (Three AreFiles (codes "replay") words → ⊥) → (Three AreFiles (codes "picture") words → ⊥) → (Four IsNode (codes "node") words → ⊥) → (Four IsSampled (codes "sample") words → ⊥) → (Four IsSampled (codes "lines") words → ⊥) → (Three IsSettled (codes "settle") words → ⊥) → (Two IsFile (codes "place") words → ⊥) → (Three AreFiles (codes "audit") words → ⊥) → IsOfNoForm words
+  of_none no_stubs no_run no_replay no_picture no_node no_sample no_lines no_settle no_place no_audit = each
     where
       each : (form : CommandForm) → IsOfForm words form → ⊥
       each (stubs program) is = no_stubs (program, is.spelled, is.in_range)
       each (run program) is = no_run (program, is.spelled, is.in_range)
       each (replay program schedule) is = no_replay (program, schedule, is.spelled, is.in_range)
+      each (picture program schedule) is = no_picture (program, schedule, is.spelled, is.in_range)
       each (node program name turns) is = no_node (program, name, decimal turns, is.spelled, (is.in_range.0, (turns, omega (arith, is.in_range.1), refl)))
       each (sample program seed steps) is = no_sample (program, decimal seed, decimal steps, is.spelled, (is.in_range.0, ((seed, is.in_range.1, refl), (steps, omega (arith, is.in_range.2), refl))))
       each (draw program seed steps) is = no_lines (program, decimal seed, decimal steps, is.spelled, (is.in_range.0, ((seed, is.in_range.1, refl), (steps, omega (arith, is.in_range.2), refl))))
@@ -109,19 +110,22 @@ module _ (words : List (List ℕ)) where
       | inl (program, spelled, some) ↦ inl (run program, record { spelled = spelled; in_range = some })
       | inr no_run ↦ elim (decided_three AreFiles (λ a b. decided_both _ _ (file a) (file b)) (codes "replay") words) [
         | inl (program, schedule, spelled, some) ↦ inl (replay program schedule, record { spelled = spelled; in_range = some })
-        | inr no_replay ↦ elim (decided_four IsNode (λ a b c. decided_both _ _ (file a) (decided_number c 100001)) (codes "node") words) [
-          | inl is ↦ inl (noded is)
-          | inr no_node ↦ elim (decided_four IsSampled (λ a b c. decided_both _ _ (file a) (decided_both _ _ (decided_number b (2 ^ 64)) (decided_number c 200001))) (codes "sample") words) [
-            | inl is ↦ inl (sampled is)
-            | inr no_sample ↦ elim (decided_four IsSampled (λ a b c. decided_both _ _ (file a) (decided_both _ _ (decided_number b (2 ^ 64)) (decided_number c 200001))) (codes "lines") words) [
-              | inl is ↦ inl (drawn is)
-              | inr no_lines ↦ elim (decided_three IsSettled (λ a b. decided_both _ _ (file a) (decided_number b 1000001)) (codes "settle") words) [
-                | inl is ↦ inl (settled is)
-                | inr no_settle ↦ elim (decided_two IsFile file (codes "place") words) [
-                  | inl (placing, spelled, some) ↦ inl (place placing, record { spelled = spelled; in_range = some })
-                  | inr no_place ↦ elim (decided_three AreFiles (λ a b. decided_both _ _ (file a) (file b)) (codes "audit") words) [
-                    | inl (program, «record», spelled, some) ↦ inl (audit program «record», record { spelled = spelled; in_range = some })
-                    | inr no_audit ↦ inr (of_none no_stubs no_run no_replay no_node no_sample no_lines no_settle no_place no_audit)
+        | inr no_replay ↦ elim (decided_three AreFiles (λ a b. decided_both _ _ (file a) (file b)) (codes "picture") words) [
+          | inl (program, schedule, spelled, some) ↦ inl (picture program schedule, record { spelled = spelled; in_range = some })
+          | inr no_picture ↦ elim (decided_four IsNode (λ a b c. decided_both _ _ (file a) (decided_number c 100001)) (codes "node") words) [
+            | inl is ↦ inl (noded is)
+            | inr no_node ↦ elim (decided_four IsSampled (λ a b c. decided_both _ _ (file a) (decided_both _ _ (decided_number b (2 ^ 64)) (decided_number c 200001))) (codes "sample") words) [
+              | inl is ↦ inl (sampled is)
+              | inr no_sample ↦ elim (decided_four IsSampled (λ a b c. decided_both _ _ (file a) (decided_both _ _ (decided_number b (2 ^ 64)) (decided_number c 200001))) (codes "lines") words) [
+                | inl is ↦ inl (drawn is)
+                | inr no_lines ↦ elim (decided_three IsSettled (λ a b. decided_both _ _ (file a) (decided_number b 1000001)) (codes "settle") words) [
+                  | inl is ↦ inl (settled is)
+                  | inr no_settle ↦ elim (decided_two IsFile file (codes "place") words) [
+                    | inl (placing, spelled, some) ↦ inl (place placing, record { spelled = spelled; in_range = some })
+                    | inr no_place ↦ elim (decided_three AreFiles (λ a b. decided_both _ _ (file a) (file b)) (codes "audit") words) [
+                      | inl (program, «record», spelled, some) ↦ inl (audit program «record», record { spelled = spelled; in_range = some })
+                      | inr no_audit ↦ inr (of_none no_stubs no_run no_replay no_picture no_node no_sample no_lines no_settle no_place no_audit)
+                    ]
                   ]
                 ]
               ]

@@ -5,7 +5,9 @@ use Rattle.circus_ending.specs.declared.status.Status.TheVariants.{BadCommandLin
 use Rattle.circus_ending.specs.declared.one_file.OneFile.{OneFile}
 use Rattle.circus_ending.specs.declared.one_file.OneFile.TheVariants.{Stubs, Run, Place}
 use Rattle.circus_ending.specs.Ending.{Ending}
-use Rattle.circus_program.specs.Form.{CommandForm, stubs, run, replay, node, sample, draw, settle, place, audit, IsOfForm}
+use Rattle.circus_program.specs.Form.{CommandForm, stubs, run, replay, picture, node, sample, draw, settle, place, audit, IsOfForm}
+use Rattle.circus_program.specs.declared.shown.Shown.{Shown}
+use Rattle.circus_program.specs.declared.shown.Shown.TheVariants.{Report, Picture}
 use Rattle.circus_program.specs.Answer.{Due, fetch, finish, serve, IsDueOfRefused, IsDueOfSchedule, IsDueOfReplay, IsDueOfFile, IsDueOfEnd, IsDueOfProgram, IsDueOfSample, IsDueOfLines, IsDueOfSettle, IsDueOfNode, IsDueUnbuilt, IsDueOfForm, IsDue, AsksForNode}
 use Rattle.circus_program.proofs.Why.{never_ends, never_replays, never_drawn, never_listed, never_settles, ends_as}
 
@@ -14,6 +16,7 @@ IsNode (node _ _ _) = Unit {0}
 IsNode (stubs _) = ⊥
 IsNode (run _) = ⊥
 IsNode (replay _ _) = ⊥
+IsNode (picture _ _) = ⊥
 IsNode (sample _ _ _) = ⊥
 IsNode (draw _ _ _) = ⊥
 IsNode (settle _ _) = ⊥
@@ -30,15 +33,15 @@ module _ (form : CommandForm) where
   of_refused bytes due (ending, (number, cause, refusal, means), is) =
       finishes ending is (λ same. let clash : BadProgram ≡ LinkFault = sym (ap (λ (e : Ending). e.status) means) ∙ same in cc)
 
-  of_schedule : (plan : Plan) (schedule : List ℕ) (due : Due) → IsDueOfSchedule plan schedule due → Kind form due
-  of_schedule plan schedule due (ending, end, is) = finishes ending is (never_replays LinkFault plan schedule ending end (λ same. cc) (λ same. cc) (λ same. cc))
+  of_schedule : (shown : Shown) (plan : Plan) (schedule : List ℕ) (due : Due) → IsDueOfSchedule shown plan schedule due → Kind form due
+  of_schedule shown plan schedule due (ending, end, is) = finishes ending is (never_replays LinkFault shown plan schedule ending end (λ same. cc) (λ same. cc) (λ same. cc))
 
-  of_replay : (program schedule : List ℕ) (files : List (List ℕ)) (due : Due) → IsDueOfReplay program schedule files due → Kind form due
-  of_replay program schedule [] due is = fetches program is
-  of_replay program schedule (bytes ∷ []) due (inl (good, is)) = fetches schedule is
-  of_replay program schedule (bytes ∷ []) due (inr refused) = of_refused bytes due refused
-  of_replay program schedule (bytes ∷ more ∷ []) due (plan, means, is) = of_schedule plan more due is
-  of_replay program schedule (_ ∷ _ ∷ _ ∷ _) due is = absurd is
+  of_replay : (shown : Shown) (program schedule : List ℕ) (files : List (List ℕ)) (due : Due) → IsDueOfReplay shown program schedule files due → Kind form due
+  of_replay shown program schedule [] due is = fetches program is
+  of_replay shown program schedule (bytes ∷ []) due (inl (good, is)) = fetches schedule is
+  of_replay shown program schedule (bytes ∷ []) due (inr refused) = of_refused bytes due refused
+  of_replay shown program schedule (bytes ∷ more ∷ []) due (plan, means, is) = of_schedule shown plan more due is
+  of_replay shown program schedule (_ ∷ _ ∷ _ ∷ _) due is = absurd is
 
   of_file : (file : List ℕ) (IsNext : List ℕ → Due → Type 0) (files : List (List ℕ)) (due : Due) → ((bytes : List ℕ) → IsNext bytes due → Kind form due) → IsDueOfFile file IsNext files due → Kind form due
   of_file file IsNext [] due next is = fetches file is
@@ -76,7 +79,8 @@ module _ (form : CommandForm) where
   of_unbuilt (_ ∷ _) due is = absurd is
 
 kind_of : (form : CommandForm) (files : List (List ℕ)) (due : Due) → IsDueOfForm form files due → Kind form due
-kind_of (replay program schedule) files due is = of_replay (replay program schedule) program schedule files due is
+kind_of (replay program schedule) files due is = of_replay (replay program schedule) Report program schedule files due is
+kind_of (picture program schedule) files due is = of_replay (picture program schedule) Picture program schedule files due is
 kind_of (stubs program) files due is = of_command (stubs program) Stubs program files due is
 kind_of (run program) files due is = of_command (run program) Run program files due is
 kind_of (place placing) files due is = of_command (place placing) Place placing files due is
@@ -105,6 +109,7 @@ asks words (node program name turns) of own = (program, name, turns, of)
 asks words (stubs _) of own = absurd own
 asks words (run _) of own = absurd own
 asks words (replay _ _) of own = absurd own
+asks words (picture _ _) of own = absurd own
 asks words (sample _ _ _) of own = absurd own
 asks words (draw _ _ _) of own = absurd own
 asks words (settle _ _) of own = absurd own

@@ -35,7 +35,7 @@ use Rattle.circus_program.proofs.OneLine.{replayed_stepped, replayed_spent, repl
 use Rattle.circus_program.proofs.Pieces.{IsBegun, begun-none, begun-as, begun-more, part-left, part-next, put-left}
 
 -- a cause names nodes alone
-cause_same : (hosts : List Host) (modules : List (List ℕ)) (cause : LineCause) → cause_text (names_of hosts []) cause ≡ cause_text (names_of hosts modules) cause
+pub cause_same : (hosts : List Host) (modules : List (List ℕ)) (cause : LineCause) → cause_text (names_of hosts []) cause ≡ cause_text (names_of hosts modules) cause
 cause_same hosts modules (NoDatagram number sent) = refl
 cause_same hosts modules (NotLive node) = refl
 cause_same hosts modules (NotCrashed node) = refl

@@ -1,7 +1,10 @@
 pub mod ReplaysAlike
+pub mod PicturesAlike
 pub mod Pieces
 pub mod OneLine
+pub mod Drawn
 pub mod Following
+pub mod Stepping
 pub mod ReadyLemmas
 pub mod ReplayEnds
 pub mod AnswerLemmas
@@ -22,4 +25,5 @@ pub mod Telling
 pub mod Promised
 pub mod Agreed
 pub mod Planned
+pub mod ServedRuns
 pub mod PutLemmas

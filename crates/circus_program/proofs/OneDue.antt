@@ -15,7 +15,9 @@ use Rattle.circus_ending.specs.declared.one_file.OneFile.TheVariants.{Stubs, Run
 use Rattle.circus_ending.specs.Ending.{Ending}
 use Rattle.circus_ending.proofs.OneProgram.{refused_one, good_or_refused}
 use Rattle.circus_ending.proofs.OneEnding.{end_one}
-use Rattle.circus_program.specs.Form.{CommandForm, stubs, run, replay, node, sample, draw, settle, place, audit, words_of, files_of, IsInRange, IsOfForm}
+use Rattle.circus_program.specs.Form.{CommandForm, stubs, run, replay, picture, node, sample, draw, settle, place, audit, words_of, files_of, IsInRange, IsOfForm}
+use Rattle.circus_program.specs.declared.shown.Shown.{Shown}
+use Rattle.circus_program.specs.declared.shown.Shown.TheVariants.{Report, Picture}
 use Rattle.circus_program.specs.Replay.{IsReplayOf, IsEndOfReplay}
 use Rattle.circus_program.specs.Answer.{Due, fetch, finish, serve, not_built, IsDueOfSchedule, IsDueOfReplay, IsDueOfFile, IsDueOfEnd, IsDueOfProgram, IsDueOfSample, IsDueOfLines, IsDueOfSettle, IsDueOfNode, IsDueUnbuilt, IsDueOfForm, AreContents, IsDue}
 use Rattle.circus_program.specs.Last.{IsLast, IsDueLast}
@@ -24,17 +26,17 @@ use Rattle.circus_program.proofs.NamedOnce.{named_once}
 
 -- What comes of one plan is one thing.
 
-read_one : (plan : Plan) (read : Result (List Line) ScheduleFault) (one another : Ending) → IsReplayOf plan read one → IsReplayOf plan read another → one ≡ another
-read_one plan (Ok lines) one another is also = is ∙ sym also
-read_one plan (Err (schedule_fault.BadLine number)) one another is also = is ∙ sym also
-read_one plan (Err (schedule_fault.UnknownNode number name)) one another is also = is ∙ sym also
-read_one plan (Err (schedule_fault.TooManyLines number)) one another is also = is ∙ sym also
-read_one plan (Err schedule_fault.NoMemory) one another is also = absurd is
+read_one : (shown : Shown) (plan : Plan) (read : Result (List Line) ScheduleFault) (one another : Ending) → IsReplayOf shown plan read one → IsReplayOf shown plan read another → one ≡ another
+read_one shown plan (Ok lines) one another is also = is ∙ sym also
+read_one shown plan (Err (schedule_fault.BadLine number)) one another is also = is ∙ sym also
+read_one shown plan (Err (schedule_fault.UnknownNode number name)) one another is also = is ∙ sym also
+read_one shown plan (Err (schedule_fault.TooManyLines number)) one another is also = is ∙ sym also
+read_one shown plan (Err schedule_fault.NoMemory) one another is also = absurd is
 
-replay_one : (plan : Plan) (schedule : List ℕ) (one another : Ending) → IsEndOfReplay plan schedule one → IsEndOfReplay plan schedule another → one ≡ another
-replay_one plan schedule one another (read, answer, is) (again, answers, also) =
+replay_one : (shown : Shown) (plan : Plan) (schedule : List ℕ) (one another : Ending) → IsEndOfReplay shown plan schedule one → IsEndOfReplay shown plan schedule another → one ≡ another
+replay_one shown plan schedule one another (read, answer, is) (again, answers, also) =
     let reads : read ≡ again = IsAnswer-one (numbers_of plan.deployment.nodes) schedule read again answer answers in
-    read_one plan again one another (subst (λ (r : Result (List Line) ScheduleFault). IsReplayOf plan r one) reads is) also
+    read_one shown plan again one another (subst (λ (r : Result (List Line) ScheduleFault). IsReplayOf shown plan r one) reads is) also
 
 node_one : (bytes name : List ℕ) (turns : ℕ) (plan : Plan) (one other : Due) → IsProgramOf bytes plan → IsDueOfNode name turns plan one → IsDueOfNode name turns plan other → one ≡ other
 node_one bytes name turns plan one other means (inl (number, named, is)) (inl (another, also, so)) =
@@ -46,7 +48,7 @@ node_one bytes name turns plan one other means (inr (none, is)) (inr (neither, s
 -- What is asked for, by what comes of it.
 
 data Asked : Type 0 where
-  replaying : List ℕ → List ℕ → Asked
+  replaying : Shown → List ℕ → List ℕ → Asked
   reading : OneFile → List ℕ → Asked
   -- program, node's name, takes as they are written
   serving : List ℕ → List ℕ → List ℕ → Asked
@@ -58,7 +60,8 @@ data Asked : Type 0 where
   unbuilt : Asked
 
 abbrev asked_by : CommandForm → Asked
-asked_by (replay program schedule) = replaying program schedule
+asked_by (replay program schedule) = replaying Report program schedule
+asked_by (picture program schedule) = replaying Picture program schedule
 asked_by (place placing) = reading Place placing
 asked_by (stubs program) = reading Stubs program
 asked_by (run program) = reading Run program
@@ -73,7 +76,8 @@ asked_of (command ∷ file ∷ []) =
     cond (bytes_eq command (codes "place")) (reading Place file)
     (cond (bytes_eq command (codes "stubs")) (reading Stubs file) (cond (bytes_eq command (codes "run")) (reading Run file) unbuilt))
 asked_of (command ∷ program ∷ second ∷ []) =
-    cond (bytes_eq command (codes "replay")) (replaying program second) (cond (bytes_eq command (codes "settle")) (settling program second) unbuilt)
+    cond (bytes_eq command (codes "replay")) (replaying Report program second)
+    (cond (bytes_eq command (codes "picture")) (replaying Picture program second) (cond (bytes_eq command (codes "settle")) (settling program second) unbuilt))
 asked_of (command ∷ program ∷ first ∷ second ∷ []) =
     cond (bytes_eq command (codes "node")) (serving program first second)
     (cond (bytes_eq command (codes "sample")) (sampling program first second) (cond (bytes_eq command (codes "lines")) (drawing program first second) unbuilt))
@@ -81,6 +85,7 @@ asked_of _ = unbuilt
 
 asked_is : (form : CommandForm) → asked_of (words_of form) ≡ asked_by form
 asked_is (replay _ _) = refl
+asked_is (picture _ _) = refl
 asked_is (place _) = refl
 asked_is (stubs _) = refl
 asked_is (run _) = refl
@@ -111,8 +116,8 @@ module _ (contents : List ℕ → Option (List ℕ)) where
       ((contents file ≡ None) × (due ≡ fetch file))
       ⊎ ((bytes : List ℕ) × (contents file ≡ Some bytes) × IsNext bytes due)
 
-  abbrev pub OfSchedule : List ℕ → Plan → Due → Type 0
-  OfSchedule schedule plan due = OfFile schedule (IsDueOfSchedule plan) due
+  abbrev pub OfSchedule : Shown → List ℕ → Plan → Due → Type 0
+  OfSchedule shown schedule plan due = OfFile schedule (IsDueOfSchedule shown plan) due
 
   -- of a program, where this comes of its plan
   abbrev pub OfProgram : List ℕ → (Plan → Due → Type 0) → Due → Type 0
@@ -120,7 +125,8 @@ module _ (contents : List ℕ → Option (List ℕ)) where
 
   -- what comes at last of a form, and of what is asked for
   abbrev pub OfWords : CommandForm → Due → Type 0
-  OfWords (replay program schedule) due = OfProgram program (OfSchedule schedule) due
+  OfWords (replay program schedule) due = OfProgram program (OfSchedule Report schedule) due
+  OfWords (picture program schedule) due = OfProgram program (OfSchedule Picture schedule) due
   OfWords (place placing) due = OfFile placing (IsDueOfEnd Place) due
   OfWords (stubs program) due = OfFile program (IsDueOfEnd Stubs) due
   OfWords (run program) due = OfFile program (IsDueOfEnd Run) due
@@ -131,7 +137,7 @@ module _ (contents : List ℕ → Option (List ℕ)) where
   OfWords (audit _ _) due = due ≡ not_built
 
   abbrev OfAsked : Asked → Due → Type 0
-  OfAsked (replaying program schedule) due = OfProgram program (OfSchedule schedule) due
+  OfAsked (replaying shown program schedule) due = OfProgram program (OfSchedule shown schedule) due
   OfAsked (reading command file) due = OfFile file (IsDueOfEnd command) due
   OfAsked (serving program name word) due = (turns : ℕ) × Spells word turns × OfProgram program (IsDueOfNode name turns) due
   OfAsked (sampling program first second) due = (seed : ℕ) × (steps : ℕ) × Spells first seed × Spells second steps × OfProgram program (IsDueOfSample seed steps) due
@@ -143,14 +149,14 @@ module _ (contents : List ℕ → Option (List ℕ)) where
   lacking : (name : List ℕ) (due : Due) → due ≡ fetch name → IsLast contents due → contents name ≡ None
   lacking name due is last = subst (λ (d : Due). IsLast contents d) is last
 
-  of_replay : (program schedule : List ℕ) (files : List (List ℕ)) (due : Due) → AreContents contents (program ∷ schedule ∷ []) files → IsDueOfReplay program schedule files due → IsLast contents due → OfProgram program (OfSchedule schedule) due
-  of_replay program schedule [] due fetched is last = inl (lacking program due is last, is)
-  of_replay program schedule (bytes ∷ []) due fetched (inl ((plan, means), is)) last =
+  of_replay : (shown : Shown) (program schedule : List ℕ) (files : List (List ℕ)) (due : Due) → AreContents contents (program ∷ schedule ∷ []) files → IsDueOfReplay shown program schedule files due → IsLast contents due → OfProgram program (OfSchedule shown schedule) due
+  of_replay shown program schedule [] due fetched is last = inl (lacking program due is last, is)
+  of_replay shown program schedule (bytes ∷ []) due fetched (inl ((plan, means), is)) last =
       inr (bytes, fetched.0, inl (plan, means, inl (lacking schedule due is last, is)))
-  of_replay program schedule (bytes ∷ []) due fetched (inr refused) last = inr (bytes, fetched.0, inr refused)
-  of_replay program schedule (bytes ∷ more ∷ []) due fetched (plan, means, is) last =
+  of_replay shown program schedule (bytes ∷ []) due fetched (inr refused) last = inr (bytes, fetched.0, inr refused)
+  of_replay shown program schedule (bytes ∷ more ∷ []) due fetched (plan, means, is) last =
       inr (bytes, fetched.0, inl (plan, means, inr (more, fetched.1.0, is)))
-  of_replay program schedule (_ ∷ _ ∷ _ ∷ _) due fetched is last = absurd is
+  of_replay shown program schedule (_ ∷ _ ∷ _ ∷ _) due fetched is last = absurd is
 
   of_file : (file : List ℕ) (IsNext : List ℕ → Due → Type 0) (files : List (List ℕ)) (due : Due) → AreContents contents (file ∷ []) files → IsDueOfFile file IsNext files due → IsLast contents due → OfFile file IsNext due
   of_file file IsNext [] due fetched is last = inl (lacking file due is last, is)
@@ -162,7 +168,8 @@ module _ (contents : List ℕ → Option (List ℕ)) where
   of_unbuilt (_ ∷ _) due is = absurd is
 
   pub of_form : (form : CommandForm) (files : List (List ℕ)) (due : Due) → AreContents contents (files_of form) files → IsDueOfForm form files due → IsLast contents due → OfWords form due
-  of_form (replay program schedule) files due fetched is last = of_replay program schedule files due fetched is last
+  of_form (replay program schedule) files due fetched is last = of_replay Report program schedule files due fetched is last
+  of_form (picture program schedule) files due fetched is last = of_replay Picture program schedule files due fetched is last
   of_form (place file) files due fetched is last = of_file file (IsDueOfEnd Place) files due fetched is last
   of_form (stubs file) files due fetched is last = of_file file (IsDueOfEnd Stubs) files due fetched is last
   of_form (run file) files due fetched is last = of_file file (IsDueOfEnd Run) files due fetched is last
@@ -174,6 +181,7 @@ module _ (contents : List ℕ → Option (List ℕ)) where
 
   of_asked : (form : CommandForm) (due : Due) → IsInRange form → OfWords form due → OfAsked (asked_by form) due
   of_asked (replay program schedule) due range of = of
+  of_asked (picture program schedule) due range of = of
   of_asked (place file) due range of = of
   of_asked (stubs file) due range of = of
   of_asked (run file) due range of = of
@@ -199,8 +207,8 @@ module _ (contents : List ℕ → Option (List ℕ)) where
   one_of_end : (command : OneFile) (bytes : List ℕ) (one other : Due) → IsDueOfEnd command bytes one → IsDueOfEnd command bytes other → one ≡ other
   one_of_end command bytes one other (ending, end, is) (another, ends, also) = is ∙ ap finish (end_one command bytes ending another end ends) ∙ sym also
 
-  one_of_replay : (plan : Plan) (bytes : List ℕ) (one other : Due) → IsDueOfSchedule plan bytes one → IsDueOfSchedule plan bytes other → one ≡ other
-  one_of_replay plan bytes one other (ending, end, is) (another, ends, also) = is ∙ ap finish (replay_one plan bytes ending another end ends) ∙ sym also
+  one_of_replay : (shown : Shown) (plan : Plan) (bytes : List ℕ) (one other : Due) → IsDueOfSchedule shown plan bytes one → IsDueOfSchedule shown plan bytes other → one ≡ other
+  one_of_replay shown plan bytes one other (ending, end, is) (another, ends, also) = is ∙ ap finish (replay_one shown plan bytes ending another end ends) ∙ sym also
 
   -- where one thing comes of a plan
   abbrev OneOf : (Plan → Due → Type 0) → Type 0
@@ -230,8 +238,8 @@ module _ (contents : List ℕ → Option (List ℕ)) where
   one_of_settle program deliveries one other is also = one_of_program program (IsDueOfSettle deliveries) (λ bytes plan first second means so too. so ∙ sym too) one other is also
 
   one_of_asked : (asked : Asked) (one other : Due) → OfAsked asked one → OfAsked asked other → one ≡ other
-  one_of_asked (replaying program schedule) one other is also =
-      one_of_program program (OfSchedule schedule) (λ bytes plan first second means. one_of_file schedule (IsDueOfSchedule plan) (one_of_replay plan) first second) one other is also
+  one_of_asked (replaying shown program schedule) one other is also =
+      one_of_program program (OfSchedule shown schedule) (λ bytes plan first second means. one_of_file schedule (IsDueOfSchedule shown plan) (one_of_replay shown plan) first second) one other is also
   one_of_asked (reading command file) one other is also = one_of_file file (IsDueOfEnd command) (one_of_end command) one other is also
   one_of_asked (serving program name word) one other (turns, spelled, is) (others, again, also) =
       one_of_node program name others one other (subst (λ n. OfProgram program (IsDueOfNode name n) one) (spelled_once word turns others spelled again) is) also
@@ -258,10 +266,10 @@ module _ (contents : List ℕ → Option (List ℕ)) where
   one_due words one other is also = one_of_words words one other is.is_due also.is_due is.last also.last
 
   -- what comes at last of a replay
-  pub of_replaying : (words : List (List ℕ)) (program name : List ℕ) (due : Due) → IsOfForm words (replay program name) → IsDueLast contents words due → OfProgram program (OfSchedule name) due
+  pub of_replaying : (words : List (List ℕ)) (program name : List ℕ) (due : Due) → IsOfForm words (replay program name) → IsDueLast contents words due → OfProgram program (OfSchedule Report name) due
   of_replaying words program name due of is = by_due is.is_due
     where
-      by_due : IsDue (Some contents) words due → OfProgram program (OfSchedule name) due
+      by_due : IsDue (Some contents) words due → OfProgram program (OfSchedule Report name) due
       by_due (inl some) =
           subst (λ a. OfAsked a due) (asked_one words some.form (replay program name) some.of_form of)
           (of_asked some.form due some.of_form.in_range (of_form some.form some.files due some.fetched some.is_due is.last))

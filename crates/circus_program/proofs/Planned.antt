@@ -15,7 +15,9 @@ use Rattle.circus_ending.specs.Status.{is_end}
 use Rattle.circus_ending.specs.Ending.{Ending}
 use Rattle.circus_ending.specs.Refusal.{IsEndOfRefused}
 use Rattle.circus_ending.proofs.OneProgram.{good_or_refused}
-use Rattle.circus_program.specs.Form.{CommandForm, stubs, run, replay, node, sample, draw, settle, place, audit, words_of, IsOfForm, IsOfNoForm}
+use Rattle.circus_program.specs.Form.{CommandForm, stubs, run, replay, picture, node, sample, draw, settle, place, audit, words_of, IsOfForm, IsOfNoForm, shown_form}
+use Rattle.circus_program.specs.declared.shown.Shown.{Shown}
+use Rattle.circus_program.specs.declared.shown.Shown.TheVariants.{Report, Picture}
 use Rattle.circus_program.specs.Answer.{serve, IsDue, WritesEnd}
 use Rattle.circus_program.specs.Last.{program_read, IsLines}
 use Rattle.circus_program.specs.Worlds.{IsSimulation, AskToSimulate}
@@ -88,6 +90,7 @@ unfolding second
 read_second (stubs file) program is = same_Some file program is
 read_second (run file) program is = same_Some file program is
 read_second (replay file _) program is = same_Some file program is
+read_second (picture file _) program is = same_Some file program is
 read_second (node file _ _) program is = same_Some file program is
 read_second (sample file _ _) program is = same_Some file program is
 read_second (draw file _ _) program is = same_Some file program is
@@ -129,16 +132,25 @@ module _ (contents : List ℕ → Option (List ℕ)) (words : List (List ℕ)) w
       subst (λ n. AreShort plan n count) (sym one)
       (subst (λ n. AreShort plan seed n) (sym two) (known l.bytes (subst (λ name. contents name ≡ Some l.bytes) named l.program_is) plan l.good))
 
-pub replay_plans : (shelf : Option (List ℕ → Option (List ℕ))) (words : List (List ℕ)) (form : CommandForm) (program schedule : List ℕ) → IsOfForm words form → form ≡ replay program schedule
-    → OfContents shelf MeanPlans program → PlansOf shelf words
+shown_plans : (contents : List ℕ → Option (List ℕ)) (words : List (List ℕ)) (shown : Shown) (program schedule : List ℕ) → IsOfForm words (shown_form shown program schedule)
+    → ((bytes : List ℕ) → contents program ≡ Some bytes → MeanPlans bytes) → AreKnown contents words
 unfolding lists
-replay_plans None words form program schedule of is plans = tt
-replay_plans (Some contents) words form program schedule of is plans =
-    let own = subst (λ (f : CommandForm). IsOfForm words f) is of in
+shown_plans contents words Report program schedule own plans =
     record {
       plans = simulated_plans contents words (replay program schedule) program own refl plans;
       short = no_lines contents words (replay program schedule) own refl;
     }
+shown_plans contents words Picture program schedule own plans =
+    record {
+      plans = simulated_plans contents words (picture program schedule) program own refl plans;
+      short = no_lines contents words (picture program schedule) own refl;
+    }
+
+pub replay_plans : (shelf : Option (List ℕ → Option (List ℕ))) (words : List (List ℕ)) (form : CommandForm) (shown : Shown) (program schedule : List ℕ) → IsOfForm words form → form ≡ shown_form shown program schedule
+    → OfContents shelf MeanPlans program → PlansOf shelf words
+replay_plans None words form shown program schedule of is plans = tt
+replay_plans (Some contents) words form shown program schedule of is plans =
+    shown_plans contents words shown program schedule (subst (λ (f : CommandForm). IsOfForm words f) is of) plans
 
 file_plans : (contents : List ℕ → Option (List ℕ)) (words : List (List ℕ)) (command : Command) (file : List ℕ) → IsOfForm words (file_form command file)
     → ((bytes : List ℕ) → contents file ≡ Some bytes → ReadsPlans command bytes) → AreKnown contents words

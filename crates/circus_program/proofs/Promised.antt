@@ -8,6 +8,7 @@ use Rattle.circus_world_theory.specs.Worlds.{IsPlainWorldOf}
 use Rattle.circus_world_theory.proofs.Plain.{plain_records_stand}
 use Rattle.circus_world_theory.proofs.PlainMessages.{plain_asks_are_true, plain_returns_are_true, plain_others_cite_nothing, plain_none_differ}
 use Rattle.circus_world_timely_theory.proofs.Plain.{plain_records_are_timely}
+use Rattle.circus_headline_theory.proofs.Runs.{plain_worlds_keep_the_headline}
 use Rattle.circus_quiescence_theory.proofs.Plain.{plain_roots_are_done, plain_few_sent}
 use Rattle.circus_settle.proofs.AllDelivered.{alone, first_once}
 use Rattle.circus_config.specs.declared.plan.Plan.{Plan}
@@ -22,7 +23,8 @@ use Rattle.circus_ending.proofs.OneProgram.{good_or_refused}
 use Rattle.circus_ending.specs.Refusal.{IsEndOfRefused}
 use Rattle.circus_ending.specs.Spent.{spent}
 use Rattle.circus_simulated.specs.Booted.{names_in}
-use Rattle.circus_program.specs.Form.{replay, sample, draw, settle}
+use Rattle.circus_program.specs.Form.{replay, picture, sample, draw, settle}
+use Rattle.circus_program.specs.declared.shown.Shown.TheVariants.{Report}
 use Rattle.circus_program.specs.Replay.{IsEndOfReplay, replay_of, cause_text, refused}
 use Rattle.circus_program.specs.Answer.{fetch, finish}
 use Rattle.circus_settle.specs.Settled.{first_deliveries}
@@ -54,6 +56,7 @@ pub keeps_promise : (plan : Plan) (lines : List Line) (last : WorldState Behavio
 keeps_promise plan lines last is led =
     let world = plain_world plan lines last is led in
     record {
+      headline = plain_worlds_keep_the_headline plan.deployment (behaviours_in plan) (hosted_in plan) lines led.begun last world;
       stand = plain_records_stand plan.deployment (behaviours_in plan) (hosted_in plan) lines led.begun last world;
       timely = plain_records_are_timely plan.deployment (behaviours_in plan) (hosted_in plan) lines led.begun last world;
       asks = plain_asks_are_true plan.deployment (behaviours_in plan) (hosted_in plan) lines led.begun last world;
@@ -81,7 +84,8 @@ module _ (contents : List ℕ → Option (List ℕ)) (words : List (List ℕ)) w
       by_form : IsWrittenBySome contents words plan lines last text → IsPlan plan
       by_form (inl (schedule, r, read, so)) = plans (replay r.program r.name) r.program r.bytes plan r.of_form tt refl r.program_is r.good
       by_form (inr (inl (seed, steps, begun, d, lines_are, count, booted_is, sampled_is, so))) = plans (sample d.program seed steps) d.program d.bytes plan d.of_form tt refl d.program_is d.good
-      by_form (inr (inr (inr (seed, steps, begun, l, lines_are, count, booted_is, sampled_is, so)))) = plans (draw l.program seed steps) l.program l.bytes plan l.of_form tt refl l.program_is l.good
+      by_form (inr (inr (inr (inl (seed, steps, begun, l, lines_are, count, booted_is, sampled_is, so))))) = plans (draw l.program seed steps) l.program l.bytes plan l.of_form tt refl l.program_is l.good
+      by_form (inr (inr (inr (inr (schedule, r, read, so))))) = plans (picture r.program r.name) r.program r.bytes plan r.of_form tt refl r.program_is r.good
       by_form (inr (inr (inl (deliveries, s, few, lines_are, so)))) = plans (settle s.program deliveries) s.program s.bytes plan s.of_form tt refl s.program_is s.good
 
   pub ends_kept : (ending : Ending) → IsDueLast contents words (finish ending) → ending.status ≡ Done → AskToSimulate words → ArePlans contents words → IsKept contents words ending.text
@@ -140,18 +144,18 @@ module _ (contents : List ℕ → Option (List ℕ)) (words : List (List ℕ)) (
   same_bytes name one other first second = same_Some one other (sym first ∙ second)
 
   -- what comes of the replay is the end of its schedule
-  schedule_end : (ending : Ending) → OfSchedule contents r.name plan (finish ending) → IsEndOfReplay plan schedule ending
+  schedule_end : (ending : Ending) → OfSchedule contents Report r.name plan (finish ending) → IsEndOfReplay Report plan schedule ending
   schedule_end ending (inl (none, is)) = absurd (let clash : finish ending ≡ fetch r.name = is in cc)
   schedule_end ending (inr (text, here, (other, end, is))) =
       let same : other ≡ ending = (let finishes : finish ending ≡ finish other = is in cc) in
-      subst (λ t. IsEndOfReplay plan t ending) (same_bytes r.name text schedule here r.schedule_is) (subst (λ (e : Ending). IsEndOfReplay plan text e) same end)
+      subst (λ t. IsEndOfReplay Report plan t ending) (same_bytes r.name text schedule here r.schedule_is) (subst (λ (e : Ending). IsEndOfReplay Report plan text e) same end)
 
-  replay_end : (ending : Ending) → OfProgram contents r.program (OfSchedule contents r.name) (finish ending) → IsEndOfReplay plan schedule ending
+  replay_end : (ending : Ending) → OfProgram contents r.program (OfSchedule contents Report r.name) (finish ending) → IsEndOfReplay Report plan schedule ending
   replay_end ending (inl (none, is)) = absurd (let clash : finish ending ≡ fetch r.program = is in cc)
   replay_end ending (inr (bytes, there, inl (again, means, next))) =
       let same = same_bytes r.program bytes r.bytes there r.program_is in
       let one = plan_is_one r.bytes again plan (subst (λ b. IsProgramOf b again) same means) r.good in
-      schedule_end ending (subst (λ (p : Plan). OfSchedule contents r.name p (finish ending)) one next)
+      schedule_end ending (subst (λ (p : Plan). OfSchedule contents Report r.name p (finish ending)) one next)
   replay_end ending (inr (bytes, there, inr (other, bad, is))) =
       let same = same_bytes r.program bytes r.bytes there r.program_is in
       absurd (good_or_refused r.bytes plan other r.good (subst (λ b. IsEndOfRefused b other) same bad))
@@ -159,7 +163,7 @@ module _ (contents : List ℕ → Option (List ℕ)) (words : List (List ℕ)) (
   pub kept_so_far : (ending : Ending) → IsPlan plan → IsDueLast contents words (finish ending) → (ending.status ≡ BadSchedule) ⊎ (ending.status ≡ Spent) → IsKeptOfSchedule plan schedule ending.text
   kept_so_far ending is due status = by_end (replay_end ending (of_replaying contents words r.program r.name (finish ending) r.of_form due))
     where
-      by_end : IsEndOfReplay plan schedule ending → IsKeptOfSchedule plan schedule ending.text
+      by_end : IsEndOfReplay Report plan schedule ending → IsKeptOfSchedule plan schedule ending.text
       by_end (Err fault, answer, so) = inl (fault, answer)
       by_end (Ok lines, answer, so) = by_cut (cut_kept plan lines is (subst (λ (e : Ending). (e.status ≡ BadSchedule) ⊎ (e.status ≡ Spent)) so status))
         where

@@ -20,7 +20,7 @@ use Rattle.circus_record.specs.Naming.{names_of}
 use Rattle.circus_program.specs.Seen.Ready.{end_of_ready}
 use Rattle.circus_program.specs.Seen.Step.{due_of, IsWrittenOf, IsPutStep, IsServing, Stands, IsLackNoted}
 use Rattle.circus_running.proofs.ToldLemmas.{WritesPart-all}
-use Rattle.circus_program.proofs.ReplayEnds.{lines_are_end}
+use Rattle.circus_program.proofs.ReplayEnds.{end_by_is_end}
 use Rattle.circus_program.proofs.DueKinds.{never_linked, serves_asked}
 
 -- the status with a number
@@ -207,7 +207,7 @@ module _ (shelf : Option (List ℕ → Option (List ℕ))) (words : List (List �
   answer-step (Finish own) ending before after result due stands noted rose linked written given = answer-end (ending_of own) ending result stands due written.0 written.1 given
   answer-step (Replay ready) ending before after result due stands noted rose linked written given =
       answer-end (end_of_ready ready) ending result
-      (lines_are_end (names_of ready.simulated.hosts ready.simulated.names) 1 ready.lines (world_of ready.simulated.world)) due written.0 written.1 given
+      (end_by_is_end ready.procedures (names_of ready.simulated.hosts ready.simulated.names) ready.lines (world_of ready.simulated.world)) due written.0 written.1 given
   answer-step (Lack name) ending before after result due stands noted rose linked written given =
       answer-lack result name.now due noted.1 (rose noted.0) (subst (λ (e : Ending). IsGiven e.status e.text old new SinkRose result) written.0 given)
   answer-step (Serve plan number turns) ending before after result due stands noted rose linked written given =

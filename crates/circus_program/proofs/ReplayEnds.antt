@@ -1,8 +1,10 @@
 -- How replays end.
-use Rattle.std.proofs.Common.{◌≡◌, ℕ, ◌+◌, ◌⊎◌, inl, inr, Some, None, List, [], ◌∷◌, ◌++◌, codes, refl, sym, ap, subst, ◌∙◌, Ok, Err}
+use Rattle.std.proofs.Common.{◌≡◌, ℕ, ◌+◌, ◌⊎◌, inl, inr, Option, Some, None, List, [], ◌∷◌, ◌++◌, codes, refl, sym, ap, subst, ◌∙◌, Ok, Err}
 use Rattle.std.specs.Prelude.{IsTrue}
 use Rattle.circus_model.specs.Behaviour.{Behaviour}
 use Rattle.circus_record.specs.Naming.{Names, names_of}
+use Rattle.circus_idl.specs.declared.interface.Procedure.{Procedure}
+use Rattle.circus_picture.specs.Picture.{picture_text}
 use Rattle.circus_alike.specs.Alike.{declared_of, turn_of}
 use Rattle.circus_schedule.specs.declared.line.Line.{Line}
 use Rattle.circus_schedule.specs.declared.schedule_fault.ScheduleFault.{ScheduleFault}
@@ -18,9 +20,13 @@ use Rattle.circus_ending.specs.Status.{is_end}
 use Rattle.circus_ending.specs.Ending.{Ending}
 use Rattle.circus_config.specs.declared.plan.Plan.{Plan}
 use Rattle.circus_simulated.specs.Booted.{booted, names_in, after_step}
-use Rattle.circus_program.specs.Replay.{refused, replayed, replayed_whole, replay_of, IsEndOfReplay}
+use Rattle.circus_program.specs.declared.shown.Shown.{Shown}
+use Rattle.circus_program.specs.declared.shown.Shown.TheVariants.{Report, Picture}
+use Rattle.circus_program.specs.Replay.{refused, replayed, replayed_whole, replay_of, shown_of, IsEndOfReplay}
 use Rattle.circus_program.specs.Last.{HasRefused, HasSpent}
+use Rattle.circus_program.specs.Seen.Ready.{end_by}
 use Rattle.circus_program.proofs.OneLine.{replayed_stepped, replayed_spent, replayed_refused}
+use Rattle.circus_program.proofs.Drawn.{followed_status, picture_status}
 
 abbrev step : Line → WorldState Behaviour → Stepped Behaviour
 step line w = stepped declared_of turn_of line w
@@ -75,13 +81,20 @@ lines_spent names number (line ∷ lines) w (legal, inr (next, is, has)) =
     ap (λ (e : Ending). e.status) (replayed_stepped declared_of turn_of names number line lines w next legal is) ∙ lines_spent names (number + 1) lines next has
 
 -- a replay ends as one that is due may
-pub lines_are_end : (names : Names) (number : ℕ) (lines : List Line) (w : WorldState Behaviour) → IsTrue (is_end (lines_end names number lines w).status)
+lines_are_end : (names : Names) (number : ℕ) (lines : List Line) (w : WorldState Behaviour) → IsTrue (is_end (lines_end names number lines w).status)
 lines_are_end names number lines w = by_status (lines_status names number lines w)
   where
     by_status : IsStatusOf lines w (lines_end names number lines w).status → IsTrue (is_end (lines_end names number lines w).status)
     by_status (inl done) = ap is_end done
     by_status (inr (inl (bad, has))) = ap is_end bad
     by_status (inr (inr (spent, has))) = ap is_end spent
+
+-- so does what is drawn
+pub end_by_is_end : (procedures : Option (List (List Procedure))) (names : Names) (lines : List Line) (w : WorldState Behaviour) → IsTrue (is_end (end_by procedures names lines w).status)
+end_by_is_end None names lines w = lines_are_end names 1 lines w
+end_by_is_end (Some procedures) names lines w =
+    let end : WorldState Behaviour → Ending = λ last. record { status = Done; text = picture_text names procedures lines last } in
+    subst (λ s. IsTrue (is_end s)) (sym (followed_status declared_of turn_of names end (λ last. refl) 1 lines w)) (lines_are_end names 1 lines w)
 
 -- ---- schedules
 
@@ -114,37 +127,43 @@ booted_status plan schedule lines read =
       | Err nodes ↦ λ is. inr (inr (refl, (lines, read, inl (nodes, is))))
     ] refl
 
-pub replay_status : (plan : Plan) (schedule : List ℕ) (ending : Ending) → IsEndOfReplay plan schedule ending → IsStatusOfReplay plan schedule ending.status
-replay_status plan schedule ending (Ok lines, read, is) =
-    subst (λ (e : Ending). IsStatusOfReplay plan schedule e.status) (sym is) (booted_status plan schedule lines read)
-replay_status plan schedule ending (Err (schedule_fault.BadLine number), read, is) = inr (inl (ap (λ (e : Ending). e.status) is, inl (schedule_fault.BadLine number, read)))
-replay_status plan schedule ending (Err (schedule_fault.UnknownNode number name), read, is) = inr (inl (ap (λ (e : Ending). e.status) is, inl (schedule_fault.UnknownNode number name, read)))
-replay_status plan schedule ending (Err (schedule_fault.TooManyLines number), read, is) = inr (inl (ap (λ (e : Ending). e.status) is, inl (schedule_fault.TooManyLines number, read)))
-replay_status plan schedule ending (Err schedule_fault.NoMemory, read, is) = absurd is
+-- whatever is shown, the status is that of the replay
+pub shown_status : (shown : Shown) (plan : Plan) (lines : List Line) → (shown_of shown plan lines).status ≡ (replay_of plan lines).status
+shown_status Report plan lines = refl
+shown_status Picture plan lines = picture_status plan lines
+
+pub replay_status : (shown : Shown) (plan : Plan) (schedule : List ℕ) (ending : Ending) → IsEndOfReplay shown plan schedule ending → IsStatusOfReplay plan schedule ending.status
+replay_status shown plan schedule ending (Ok lines, read, is) =
+    subst (IsStatusOfReplay plan schedule) (sym (ap (λ (e : Ending). e.status) is ∙ shown_status shown plan lines)) (booted_status plan schedule lines read)
+replay_status shown plan schedule ending (Err (schedule_fault.BadLine number), read, is) = inr (inl (ap (λ (e : Ending). e.status) is, inl (schedule_fault.BadLine number, read)))
+replay_status shown plan schedule ending (Err (schedule_fault.UnknownNode number name), read, is) = inr (inl (ap (λ (e : Ending). e.status) is, inl (schedule_fault.UnknownNode number name, read)))
+replay_status shown plan schedule ending (Err (schedule_fault.TooManyLines number), read, is) = inr (inl (ap (λ (e : Ending). e.status) is, inl (schedule_fault.TooManyLines number, read)))
+replay_status shown plan schedule ending (Err schedule_fault.NoMemory, read, is) = absurd is
 
 -- an end of this status
-pub record Ends (plan : Plan) (schedule : List ℕ) (status : Status) : Type 0 where
+pub record Ends (shown : Shown) (plan : Plan) (schedule : List ℕ) (status : Status) : Type 0 where
   pub ending : Ending
-  pub end : IsEndOfReplay plan schedule ending
+  pub end : IsEndOfReplay shown plan schedule ending
   pub status_is : ending.status ≡ status
 
-pub ends_refused : (plan : Plan) (schedule : List ℕ) → Refuses plan schedule → Ends plan schedule BadSchedule
-ends_refused plan schedule (inl (schedule_fault.BadLine number, read)) =
+pub ends_refused : (shown : Shown) (plan : Plan) (schedule : List ℕ) → Refuses plan schedule → Ends shown plan schedule BadSchedule
+ends_refused shown plan schedule (inl (schedule_fault.BadLine number, read)) =
     record { ending = refused number (codes "bad line"); end = (Err (schedule_fault.BadLine number), read, refl); status_is = refl }
-ends_refused plan schedule (inl (schedule_fault.UnknownNode number name, read)) =
+ends_refused shown plan schedule (inl (schedule_fault.UnknownNode number name, read)) =
     record { ending = refused number (codes "unknown node " ++ name); end = (Err (schedule_fault.UnknownNode number name), read, refl); status_is = refl }
-ends_refused plan schedule (inl (schedule_fault.TooManyLines number, read)) =
+ends_refused shown plan schedule (inl (schedule_fault.TooManyLines number, read)) =
     record { ending = refused number (codes "too many lines"); end = (Err (schedule_fault.TooManyLines number), read, refl); status_is = refl }
-ends_refused plan schedule (inl (schedule_fault.NoMemory, read)) = absurd read.faulty
-ends_refused plan schedule (inr (lines, w, read, is, has)) =
+ends_refused shown plan schedule (inl (schedule_fault.NoMemory, read)) = absurd read.faulty
+ends_refused shown plan schedule (inr (lines, w, read, is, has)) =
     record {
-      ending = replay_of plan lines;
+      ending = shown_of shown plan lines;
       end = (Ok lines, read, refl);
-      status_is = ap (λ s. (from_boot plan lines s).status) is ∙ lines_refused (names_of plan.deployment.nodes plan.names) 1 lines w has;
+      status_is = shown_status shown plan lines ∙ ap (λ s. (from_boot plan lines s).status) is ∙ lines_refused (names_of plan.deployment.nodes plan.names) 1 lines w has;
     }
 
-pub ends_spent : (plan : Plan) (schedule : List ℕ) (lines : List Line) → IsAnswer (numbers_of plan.deployment.nodes) schedule (Ok lines) → Spends plan lines → Ends plan schedule Spent
-ends_spent plan schedule lines read spends = record { ending = replay_of plan lines; end = (Ok lines, read, refl); status_is = by_end spends }
+pub ends_spent : (shown : Shown) (plan : Plan) (schedule : List ℕ) (lines : List Line) → IsAnswer (numbers_of plan.deployment.nodes) schedule (Ok lines) → Spends plan lines → Ends shown plan schedule Spent
+ends_spent shown plan schedule lines read spends =
+    record { ending = shown_of shown plan lines; end = (Ok lines, read, refl); status_is = shown_status shown plan lines ∙ by_end spends }
   where
     by_end : Spends plan lines → (replay_of plan lines).status ≡ Spent
     by_end (inl (nodes, is)) = ap (λ s. (from_boot plan lines s).status) is

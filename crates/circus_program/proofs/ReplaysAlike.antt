@@ -29,7 +29,7 @@ module _ {M : Type 0} (declared : M → Signature) (turn : M → List ValueTree 
   -- ---- lines
 
   -- the same comes after a step
-  after_as : (names : Names) (next : WorldState M → Ending) (also : WorldState Behaviour → Ending) → ((w : WorldState M) → next w ≡ also (seen w))
+  pub after_as : (names : Names) (next : WorldState M → Ending) (also : WorldState Behaviour → Ending) → ((w : WorldState M) → next w ≡ also (seen w))
       → (s : Stepped M) → after_step names next s ≡ after_step names also (step_as declared turn first s)
   after_as names next also same (Ok w) = same w
   after_as names next also same (Err nodes) = refl

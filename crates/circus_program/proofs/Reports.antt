@@ -34,9 +34,10 @@ use Rattle.circus_ending.specs.Spent.{spent}
 use Rattle.circus_load.specs.Loaded.{behaviours_in, hosted_by}
 use Rattle.circus_simulated.specs.Booted.{booted, names_in, after_step}
 use Rattle.circus_simulated.proofs.Stepping.{booted_joins}
-use Rattle.circus_program.specs.Replay.{cause_text, refused, behind, replayed, replayed_whole, replay_of}
-use Rattle.circus_program.specs.Worlds.{AreLed, sent_text, IsReported, IsCutByRefusal, IsCutBySpending, IsSpentAtBoot}
+use Rattle.circus_program.specs.Replay.{cause_text, refused, behind, replayed, replayed_whole, replay_of, picture_of}
+use Rattle.circus_program.specs.Worlds.{AreLed, sent_text, IsReported, IsCutByRefusal, IsCutBySpending, IsSpentAtBoot, IsPictured}
 use Rattle.circus_program.proofs.OneLine.{replayed_stepped, replayed_spent, replayed_refused}
+use Rattle.circus_program.proofs.Drawn.{picture_status, led_pictured}
 
 -- ---- lines of datagrams
 
@@ -309,3 +310,10 @@ led_reported plan lines last led =
     ap (from_boot plan lines) led.booted_is
     ∙ ap (behind (beginning led.begun)) (led_whole declared_of turn_of plan.deployment.nodes plan.names 1 lines led.begun last deployed led.lead)
     ∙ begins declared_of turn_of plan.deployment.nodes plan.names led.begun last lines (record { status = Done; text = rest_text (names_in plan) last }) deployed led.lead
+
+-- ---- of a picture
+
+pub is_pictured : (plan : Plan) (lines : List Line) → (picture_of plan lines).status ≡ Done → IsPictured plan lines
+is_pictured plan lines done =
+    let r = is_reported plan lines (sym (picture_status plan lines) ∙ done) in
+    record { last = r.last; led = r.led; pictured = led_pictured plan lines r.last r.led; reported = led_reported plan lines r.last r.led }

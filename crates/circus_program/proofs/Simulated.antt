@@ -11,6 +11,8 @@ use Rattle.circus_performing.specs.Record.{behaviour}
 use Rattle.circus_alike.specs.Alike.{declared_of, turn_of, first_of}
 use Rattle.circus_schedule.specs.declared.line.Line.{Line}
 use Rattle.circus_schedule.specs.declared.schedule_fault.ScheduleFault.TheVariants as schedule_fault
+use Rattle.circus_schedule.specs.Meaning.{numbers_of}
+use Rattle.circus_schedule.specs.Answer.{IsAnswer}
 use Rattle.circus_world.specs.WorldState.{WorldState}
 use Rattle.circus_world.specs.Course.{Stepped}
 use Rattle.circus_world.specs.Lines.{Lead}
@@ -33,13 +35,15 @@ use Rattle.circus_simulated.specs.Sample.{summed, sample_in, sample_of}
 use Rattle.circus_simulated.specs.Schedule.{lines_in, lines_of_sample, drawn, schedule_in, schedule_of}
 use Rattle.circus_simulated.specs.Settle.{budget, settled_end, after_settling, settle_in, settle_of}
 use Rattle.circus_simulated.proofs.Stepping.{booted_joins}
-use Rattle.circus_program.specs.Form.{CommandForm, stubs, run, replay, node, sample, draw, settle, place, audit, words_of, IsOfForm}
-use Rattle.circus_program.specs.Replay.{IsEndOfReplay, replay_of}
+use Rattle.circus_program.specs.Form.{CommandForm, stubs, run, replay, picture, node, sample, draw, settle, place, audit, words_of, IsOfForm}
+use Rattle.circus_program.specs.declared.shown.Shown.TheVariants.{Report, Picture}
+use Rattle.circus_program.specs.declared.shown.Shown.{Shown}
+use Rattle.circus_program.specs.Replay.{IsEndOfReplay, replay_of, picture_of, shown_of}
 use Rattle.circus_program.specs.Answer.{Due, fetch, finish, IsDue}
 use Rattle.circus_program.specs.Last.{IsDueLast}
 use Rattle.circus_program.specs.Worlds.{IsSimulation, AskToSimulate, IsOfWorld}
 use Rattle.circus_program.proofs.OneDue.{of_form, OfProgram, OfSchedule, OfWords}
-use Rattle.circus_program.proofs.Reports.{is_reported}
+use Rattle.circus_program.proofs.Reports.{is_reported, is_pictured}
 use Rattle.circus_program.proofs.SampleEnds.{lines_end_alike}
 
 -- ---- what a seed draws
@@ -200,12 +204,20 @@ module _ (contents : List ℕ → Option (List ℕ)) (words : List (List ℕ)) (
   found program IsNext (inr (bytes, there, inr (other, (number, cause, refusal, means), is))) =
       not_done BadProgram ending other done is (ap (λ (e : Ending). e.status) means) (λ same. cc)
 
-  replay_written : (program name : List ℕ) → IsOfForm words (replay program name) → IsFound program (OfSchedule contents name) → Written
+  -- what comes of a schedule that was read as lines, if not as a fault
+  by_lines : (shown : Shown) (plan : Plan) (schedule : List ℕ) (other : Ending) → finish ending ≡ finish other → IsEndOfReplay shown plan schedule other
+      → ((lines : List Line) → IsAnswer (numbers_of plan.deployment.nodes) schedule (Ok lines) → ending ≡ shown_of shown plan lines → Written) → Written
+  by_lines shown plan schedule other is (Ok lines, read, end) next = next lines read (same_end ending other is ∙ end)
+  by_lines shown plan schedule other is (Err (schedule_fault.BadLine number), read, end) next = not_done BadSchedule ending other done is (ap (λ (e : Ending). e.status) end) (λ same. cc)
+  by_lines shown plan schedule other is (Err (schedule_fault.UnknownNode number node_name), read, end) next = not_done BadSchedule ending other done is (ap (λ (e : Ending). e.status) end) (λ same. cc)
+  by_lines shown plan schedule other is (Err (schedule_fault.TooManyLines number), read, end) next = not_done BadSchedule ending other done is (ap (λ (e : Ending). e.status) end) (λ same. cc)
+  by_lines shown plan schedule other is (Err schedule_fault.NoMemory, read, end) next = absurd end
+
+  replay_written : (program name : List ℕ) → IsOfForm words (replay program name) → IsFound program (OfSchedule contents Report name) → Written
   replay_written program name of f = by_schedule f.next
     where
-      by_read : (schedule : List ℕ) → contents name ≡ Some schedule → (other : Ending) → finish ending ≡ finish other → IsEndOfReplay f.plan schedule other → Written
-      by_read schedule here other is (Ok lines, read, end) =
-          let whole : ending ≡ replay_of f.plan lines = same_end ending other is ∙ end in
+      reported : (schedule : List ℕ) → contents name ≡ Some schedule → (lines : List Line) → IsAnswer (numbers_of f.plan.deployment.nodes) schedule (Ok lines) → ending ≡ replay_of f.plan lines → Written
+      reported schedule here lines read whole =
           let r = is_reported f.plan lines (sym (ap (λ (e : Ending). e.status) whole) ∙ done) in (
             f.plan,
             lines,
@@ -220,14 +232,34 @@ module _ (contents : List ℕ → Option (List ℕ)) (words : List (List ℕ)) (
               );
             },
           )
-      by_read schedule here other is (Err (schedule_fault.BadLine number), read, end) = not_done BadSchedule ending other done is (ap (λ (e : Ending). e.status) end) (λ same. cc)
-      by_read schedule here other is (Err (schedule_fault.UnknownNode number node_name), read, end) = not_done BadSchedule ending other done is (ap (λ (e : Ending). e.status) end) (λ same. cc)
-      by_read schedule here other is (Err (schedule_fault.TooManyLines number), read, end) = not_done BadSchedule ending other done is (ap (λ (e : Ending). e.status) end) (λ same. cc)
-      by_read schedule here other is (Err schedule_fault.NoMemory, read, end) = absurd end
 
-      by_schedule : OfSchedule contents name f.plan (finish ending) → Written
+      by_schedule : OfSchedule contents Report name f.plan (finish ending) → Written
       by_schedule (inl (none, is)) = absurd (let clash : finish ending ≡ fetch name = is in cc)
-      by_schedule (inr (schedule, here, (other, end, is))) = by_read schedule here other is end
+      by_schedule (inr (schedule, here, (other, end, is))) = by_lines Report f.plan schedule other is end (reported schedule here)
+
+  picture_written : (program name : List ℕ) → IsOfForm words (picture program name) → IsFound program (OfSchedule contents Picture name) → Written
+  picture_written program name of f = by_schedule f.next
+    where
+      drawn_as : (schedule : List ℕ) → contents name ≡ Some schedule → (lines : List Line) → IsAnswer (numbers_of f.plan.deployment.nodes) schedule (Ok lines) → ending ≡ picture_of f.plan lines → Written
+      drawn_as schedule here lines read whole =
+          let p = is_pictured f.plan lines (sym (ap (λ (e : Ending). e.status) whole) ∙ done) in (
+            f.plan,
+            lines,
+            p.last,
+            record {
+              led = p.led;
+              written = inr (inr (inr (inr (
+                schedule,
+                record { program = program; name = name; of_form = of; bytes = f.bytes; program_is = f.there; good = f.good; schedule_is = here },
+                read,
+                ap (λ (e : Ending). e.text) (whole ∙ p.pictured),
+              ))));
+            },
+          )
+
+      by_schedule : OfSchedule contents Picture name f.plan (finish ending) → Written
+      by_schedule (inl (none, is)) = absurd (let clash : finish ending ≡ fetch name = is in cc)
+      by_schedule (inr (schedule, here, (other, end, is))) = by_lines Picture f.plan schedule other is end (drawn_as schedule here)
 
   sample_written : (program : List ℕ) (seed steps : ℕ) → IsOfForm words (sample program seed steps) → IsFound program (λ plan due. due ≡ finish (sample_of plan seed steps)) → Written
   sample_written program seed steps of f =
@@ -262,7 +294,7 @@ module _ (contents : List ℕ → Option (List ℕ)) (words : List (List ℕ)) (
         d.last,
         record {
           led = record { begun = d.begun; booted_is = d.booted_is; lead = d.lead };
-          written = inr (inr (inr (
+          written = inr (inr (inr (inl (
             seed,
             steps,
             d.begun,
@@ -272,7 +304,7 @@ module _ (contents : List ℕ → Option (List ℕ)) (words : List (List ℕ)) (
             d.booted_is,
             d.sampled_is,
             ap (λ (e : Ending). e.text) (whole ∙ d.listed_is),
-          )));
+          ))));
         },
       )
 
@@ -296,7 +328,8 @@ module _ (contents : List ℕ → Option (List ℕ)) (words : List (List ℕ)) (
       )
 
   form_written : (form : CommandForm) → IsOfForm words form → IsSimulation form → OfWords contents form (finish ending) → Written
-  form_written (replay program name) of simulates is = replay_written program name of (found program (OfSchedule contents name) is)
+  form_written (replay program name) of simulates is = replay_written program name of (found program (OfSchedule contents Report name) is)
+  form_written (picture program name) of simulates is = picture_written program name of (found program (OfSchedule contents Picture name) is)
   form_written (sample program seed steps) of simulates is = sample_written program seed steps of (found program (λ plan due. due ≡ finish (sample_of plan seed steps)) is)
   form_written (draw program seed steps) of simulates is = lines_written program seed steps of (found program (λ plan due. due ≡ finish (schedule_of plan seed steps)) is)
   form_written (settle program deliveries) of simulates is = settle_written program deliveries of (found program (λ plan due. due ≡ finish (settle_of plan deliveries)) is)
@@ -312,11 +345,13 @@ module _ (contents : List ℕ → Option (List ℕ)) (words : List (List ℕ)) (
 pub asks : List (List ℕ) → Bool
 asks [] = false
 asks (command ∷ _) =
-    bytes_eq command (codes "replay") || (bytes_eq command (codes "sample") || (bytes_eq command (codes "settle") || bytes_eq command (codes "lines")))
+    bytes_eq command (codes "replay")
+    || (bytes_eq command (codes "sample") || (bytes_eq command (codes "settle") || (bytes_eq command (codes "lines") || bytes_eq command (codes "picture"))))
 
 pub asking : (form : CommandForm) → IsSimulation form → asks (words_of form) ≡ true
 unfolding asks
 asking (replay _ _) simulates = refl
+asking (picture _ _) simulates = refl
 asking (sample _ _ _) simulates = refl
 asking (draw _ _ _) simulates = refl
 asking (settle _ _) simulates = refl
@@ -329,6 +364,7 @@ asking (audit _ _) simulates = absurd simulates
 pub asked : (form : CommandForm) → asks (words_of form) ≡ true → IsSimulation form
 unfolding asks
 asked (replay _ _) is = tt
+asked (picture _ _) is = tt
 asked (sample _ _ _) is = tt
 asked (draw _ _ _) is = tt
 asked (settle _ _) is = tt

@@ -6,9 +6,11 @@ use Rattle.circus_simulated.specs.Sample.{sample_of}
 use Rattle.circus_simulated.specs.Schedule.{schedule_of}
 use Rattle.circus_simulated.specs.Settle.{settle_of}
 use Rattle.circus_served.specs.Named.{no_node}
-use Rattle.circus_program.specs.Form.{CommandForm, stubs, run, replay, node, sample, draw, settle, place, audit, files_of, IsOfForm}
-use Rattle.circus_program.specs.Answer.{Due, fetch, finish, serve, not_built, bad_command_line, IsDueOfForm, AreContents}
-use Rattle.circus_program.specs.Last.{IsLast, IsDueLast, file_read, IsToBeRead, IsScheduleAnswered, IsAnswered}
+use Rattle.circus_program.specs.Form.{CommandForm, stubs, run, replay, picture, node, sample, draw, settle, place, audit, files_of, IsOfForm, shown_form}
+use Rattle.circus_program.specs.declared.shown.Shown.{Shown}
+use Rattle.circus_program.specs.declared.shown.Shown.TheVariants.{Report, Picture}
+use Rattle.circus_program.specs.Answer.{Due, fetch, finish, serve, not_built, bad_command_line, IsDueOfReplay, IsDueOfForm, AreContents}
+use Rattle.circus_program.specs.Last.{IsLast, IsDueLast, file_read, IsToBeRead, IsScheduleAnswered, IsReplayAnswered, IsAnswered}
 use Rattle.circus_program.proofs.DecidedWords.{decided_form}
 use Rattle.circus_program.proofs.NamedOnce.{decided_named}
 
@@ -38,6 +40,7 @@ module _ (contents : List ℕ → Option (List ℕ)) where
 
   comes_to : (form : CommandForm) → Comes form ⊎ IsThere form
   comes_to (replay program schedule) = first_file (replay program schedule) program refl (λ none. record { due = fetch program; files = []; fetched = tt; is_due = refl; last = none })
+  comes_to (picture program schedule) = first_file (picture program schedule) program refl (λ none. record { due = fetch program; files = []; fetched = tt; is_due = refl; last = none })
   comes_to (place placing) = first_file (place placing) placing refl (λ none. record { due = fetch placing; files = []; fetched = tt; is_due = refl; last = none })
   comes_to (stubs program) = first_file (stubs program) program refl (λ none. record { due = fetch program; files = []; fetched = tt; is_due = refl; last = none })
   comes_to (run program) = first_file (run program) program refl (λ none. record { due = fetch program; files = []; fetched = tt; is_due = refl; last = none })
@@ -58,9 +61,22 @@ module _ (contents : List ℕ → Option (List ℕ)) where
 
   -- ---- it is read
 
-  read_schedule : (program schedule bytes : List ℕ) (plan : Plan) → contents program ≡ Some bytes → IsProgramOf bytes plan → IsScheduleAnswered plan (contents schedule) → Comes (replay program schedule)
-  read_schedule program schedule bytes plan there means =
-      elim (contents schedule) as (λ o. contents schedule ≡ o → IsScheduleAnswered plan o → Comes (replay program schedule)) [
+  -- what comes of both files, as far as they are there
+  record ComesOfTwo (shown : Shown) (program schedule : List ℕ) : Type 0 where
+    due : Due
+    files : List (List ℕ)
+    fetched : AreContents contents (program ∷ schedule ∷ []) files
+    is_due : IsDueOfReplay shown program schedule files due
+    last : IsLast contents due
+
+  of_two : (shown : Shown) (program schedule : List ℕ) → ComesOfTwo shown program schedule → Comes (shown_form shown program schedule)
+  of_two Report program schedule c = record { due = c.due; files = c.files; fetched = c.fetched; is_due = c.is_due; last = c.last }
+  of_two Picture program schedule c = record { due = c.due; files = c.files; fetched = c.fetched; is_due = c.is_due; last = c.last }
+
+  read_schedule : (shown : Shown) (program schedule bytes : List ℕ) (plan : Plan) → contents program ≡ Some bytes → IsProgramOf bytes plan → IsScheduleAnswered shown plan (contents schedule)
+      → ComesOfTwo shown program schedule
+  read_schedule shown program schedule bytes plan there means =
+      elim (contents schedule) as (λ o. contents schedule ≡ o → IsScheduleAnswered shown plan o → ComesOfTwo shown program schedule) [
         | None ↦ λ none answered. record { due = fetch schedule; files = bytes ∷ []; fetched = (there, tt); is_due = inl ((plan, means), refl); last = none }
         | Some more ↦ λ here answered. record {
           due = finish answered.0;
@@ -70,6 +86,11 @@ module _ (contents : List ℕ → Option (List ℕ)) where
           last = tt;
         }
       ] refl
+
+  read_two : (shown : Shown) (program schedule bytes : List ℕ) → contents program ≡ Some bytes → IsReplayAnswered shown (contents schedule) bytes → Comes (shown_form shown program schedule)
+  read_two shown program schedule bytes there (inl (plan, means, answered)) = of_two shown program schedule (read_schedule shown program schedule bytes plan there means answered)
+  read_two shown program schedule bytes there (inr (ending, refused)) =
+      of_two shown program schedule (record { due = finish ending; files = bytes ∷ []; fetched = (there, tt); is_due = inr (ending, refused, refl); last = tt })
 
   read_node : (program name : List ℕ) (turns : ℕ) (bytes : List ℕ) (plan : Plan) → contents program ≡ Some bytes → IsProgramOf bytes plan → Comes (node program name turns)
   read_node program name turns bytes plan there means = elim (decided_named plan.deployment name) [
@@ -87,10 +108,8 @@ module _ (contents : List ℕ → Option (List ℕ)) where
   same_name name other bytes first there = let same : other ≡ name = cc in subst (λ n. contents n ≡ Some bytes) (sym same) there
 
   comes_read : (form : CommandForm) (name bytes : List ℕ) → file_read form ≡ Some name → contents name ≡ Some bytes → IsAnswered contents form bytes → Comes form
-  comes_read (replay program schedule) name bytes first there (inl (plan, means, answered)) =
-      read_schedule program schedule bytes plan (same_name name program bytes first there) means answered
-  comes_read (replay program schedule) name bytes first there (inr (ending, refused)) =
-      record { due = finish ending; files = bytes ∷ []; fetched = (same_name name program bytes first there, tt); is_due = inr (ending, refused, refl); last = tt }
+  comes_read (replay program schedule) name bytes first there answered = read_two Report program schedule bytes (same_name name program bytes first there) answered
+  comes_read (picture program schedule) name bytes first there answered = read_two Picture program schedule bytes (same_name name program bytes first there) answered
   comes_read (stubs program) name bytes first there (ending, end) =
       record { due = finish ending; files = bytes ∷ []; fetched = (same_name name program bytes first there, tt); is_due = (ending, end, refl); last = tt }
   comes_read (run program) name bytes first there (ending, end) =

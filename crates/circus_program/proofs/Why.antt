@@ -5,7 +5,7 @@ use Rattle.circus_schedule.specs.Meaning.{numbers_of}
 use Rattle.circus_schedule.specs.Answer.{IsAnswer}
 use Rattle.circus_ending.specs.declared.status.Status.{Status}
 use Rattle.circus_ending.specs.declared.status.Status.TheVariants.{Done, BadCommandLine, BadProgram, BadSchedule, Spent, NotBuilt, Unsettled, BadPlacing, NoPlacement}
-use Rattle.circus_program.specs.Form.{CommandForm, stubs, run, replay, node, sample, draw, settle, place, audit, files_of, IsOfForm, IsOfNoForm}
+use Rattle.circus_program.specs.Form.{CommandForm, stubs, run, replay, picture, node, sample, draw, settle, place, audit, files_of, IsOfForm, IsOfNoForm, shown_form}
 use Rattle.circus_ending.specs.Ending.{Ending}
 use Rattle.circus_config.specs.declared.plan.Plan.{Plan}
 use Rattle.circus_config.specs.declared.program_fault.ProgramCause.{ProgramCause}
@@ -16,6 +16,8 @@ use Rattle.circus_ending.specs.Refusal.{refused_text, IsEndOfRefused}
 use Rattle.circus_ending.specs.Program.{history_lines, stubs_lines, IsEndOfProgram}
 use Rattle.circus_ending.specs.Placed.{IsEndOfPlacing}
 use Rattle.circus_ending.specs.OneFile.{IsEndOf}
+use Rattle.circus_program.specs.declared.shown.Shown.{Shown}
+use Rattle.circus_program.specs.declared.shown.Shown.TheVariants.{Report, Picture}
 use Rattle.circus_program.specs.Replay.{IsEndOfReplay}
 use Rattle.circus_simulated.specs.Sample.{sample_of}
 use Rattle.circus_simulated.specs.Schedule.{schedule_of}
@@ -23,7 +25,7 @@ use Rattle.circus_simulated.specs.Settle.{settle_of}
 use Rattle.circus_served.specs.Named.{no_node}
 use Rattle.circus_program.specs.Answer.{Due, fetch, finish, serve, not_built, bad_command_line, IsDueOfEnd, IsDueOfSample, IsDueOfLines, IsDueOfSettle, IsDueOfNode, IsDueOfForm, AreContents, IsDue}
 use Rattle.circus_program.specs.Seen.Built.{end_form}
-use Rattle.circus_program.specs.Last.{IsLast, IsDueLast, EndsWith, program_read, IsRefusedProgram, IsNameless, IsReplay, IsRefusedReplay, IsSample, IsLines, IsSettle, IsSpent, IsUnsettled, IsUnbuilt, IsNotBuilt}
+use Rattle.circus_program.specs.Last.{IsLast, IsDueLast, EndsWith, program_read, IsRefusedProgram, IsNameless, IsShown, IsRefusedReplay, IsSample, IsLines, IsSettle, IsSpent, IsUnsettled, IsUnbuilt, IsNotBuilt}
 use Rattle.circus_program.proofs.ReplayEnds.{Refuses, Spends, IsStatusOfReplay, replay_status, Ends, ends_refused, ends_spent}
 use Rattle.circus_program.proofs.SampleEnds.{sample_status, sample_spent, lines_end_alike}
 use Rattle.circus_program.proofs.SettleEnds.{settle_status, settle_spent, settle_left}
@@ -71,8 +73,8 @@ never_ends status command bytes ending end no_done no_program no_none no_bad sam
     by_command Run (inr bad) = no_program (sym bad ∙ same)
 
 -- a status that no replay ends with
-pub never_replays : (status : Status) (plan : Plan) (schedule : List ℕ) (ending : Ending) → IsEndOfReplay plan schedule ending → (Done ≡ status → ⊥) → (BadSchedule ≡ status → ⊥) → (Spent ≡ status → ⊥) → ending.status ≡ status → ⊥
-never_replays status plan schedule ending end no_done no_bad no_spent same = by_status (replay_status plan schedule ending end)
+pub never_replays : (status : Status) (shown : Shown) (plan : Plan) (schedule : List ℕ) (ending : Ending) → IsEndOfReplay shown plan schedule ending → (Done ≡ status → ⊥) → (BadSchedule ≡ status → ⊥) → (Spent ≡ status → ⊥) → ending.status ≡ status → ⊥
+never_replays status shown plan schedule ending end no_done no_bad no_spent same = by_status (replay_status shown plan schedule ending end)
   where
     by_status : IsStatusOfReplay plan schedule ending.status → ⊥
     by_status (inl done) = no_done (sym done ∙ same)
@@ -115,16 +117,16 @@ refused_end Run bytes ending end same = elim (program_status history_lines bytes
 ]
 
 -- a line is refused, and a node has no number left, where the end says so
-replay_refused : (plan : Plan) (schedule : List ℕ) (ending : Ending) → IsEndOfReplay plan schedule ending → ending.status ≡ BadSchedule → Refuses plan schedule
-replay_refused plan schedule ending end same = elim (replay_status plan schedule ending end) [
+replay_refused : (shown : Shown) (plan : Plan) (schedule : List ℕ) (ending : Ending) → IsEndOfReplay shown plan schedule ending → ending.status ≡ BadSchedule → Refuses plan schedule
+replay_refused shown plan schedule ending end same = elim (replay_status shown plan schedule ending end) [
   | inl done ↦ absurd (let clash : Done ≡ BadSchedule = sym done ∙ same in cc)
   | inr (inl (bad, why)) ↦ why
   | inr (inr (spent, why)) ↦ absurd (let clash : Spent ≡ BadSchedule = sym spent ∙ same in cc)
 ]
 
-replay_spent : (plan : Plan) (schedule : List ℕ) (ending : Ending) → IsEndOfReplay plan schedule ending → ending.status ≡ Spent
+replay_spent : (shown : Shown) (plan : Plan) (schedule : List ℕ) (ending : Ending) → IsEndOfReplay shown plan schedule ending → ending.status ≡ Spent
     → (lines : List Line) × IsAnswer (numbers_of plan.deployment.nodes) schedule (Ok lines) × Spends plan lines
-replay_spent plan schedule ending end same = elim (replay_status plan schedule ending end) [
+replay_spent shown plan schedule ending end same = elim (replay_status shown plan schedule ending end) [
   | inl done ↦ absurd (let clash : Done ≡ Spent = sym done ∙ same in cc)
   | inr (inl (bad, why)) ↦ absurd (let clash : BadSchedule ≡ Spent = sym bad ∙ same in cc)
   | inr (inr (spent, why)) ↦ why
@@ -150,7 +152,7 @@ data Comes (contents : List ℕ → Option (List ℕ)) (words : List (List ℕ))
   nothing : IsOfNoForm words → due ≡ bad_command_line → Comes contents words due
   lacking : (name : List ℕ) → due ≡ fetch name → Comes contents words due
   unbuilt : IsNotBuilt words → due ≡ not_built → Comes contents words due
-  replayed : (plan : Plan) (schedule : List ℕ) (ending : Ending) → IsReplay contents words plan schedule → IsEndOfReplay plan schedule ending → due ≡ finish ending → Comes contents words due
+  replayed : (shown : Shown) (plan : Plan) (schedule : List ℕ) (ending : Ending) → IsShown shown contents words plan schedule → IsEndOfReplay shown plan schedule ending → due ≡ finish ending → Comes contents words due
   drawn : (plan : Plan) (seed steps : ℕ) → IsSample contents words plan seed steps → due ≡ finish (sample_of plan seed steps) → Comes contents words due
   listed : (plan : Plan) (seed steps : ℕ) → IsLines contents words plan seed steps → due ≡ finish (schedule_of plan seed steps) → Comes contents words due
   settles : (plan : Plan) (deliveries : ℕ) → IsSettle contents words plan deliveries → due ≡ finish (settle_of plan deliveries) → Comes contents words due
@@ -167,10 +169,11 @@ module _ (contents : List ℕ → Option (List ℕ)) (words : List (List ℕ)) w
   comes_program form program IsNext due of first next (inr (bytes, there, inl (plan, good, behind))) = next bytes plan there good behind
   comes_program form program IsNext due of first next (inr (bytes, there, inr (ending, refusal, is))) = refused form program bytes ending of first there refusal is
 
-  comes_schedule : (program name bytes : List ℕ) (plan : Plan) (due : Due) → IsOfForm words (replay program name) → contents program ≡ Some bytes → IsProgramOf bytes plan → OfSchedule contents name plan due → Comes contents words due
-  comes_schedule program name bytes plan due form there good (inl (none, is)) = lacking name is
-  comes_schedule program name bytes plan due form there good (inr (schedule, here, (ending, end, is))) =
-      replayed plan schedule ending (record { program = program; name = name; of_form = form; bytes = bytes; program_is = there; good = good; schedule_is = here }) end is
+  comes_schedule : (shown : Shown) (program name bytes : List ℕ) (plan : Plan) (due : Due) → IsOfForm words (shown_form shown program name) → contents program ≡ Some bytes → IsProgramOf bytes plan
+      → OfSchedule contents shown name plan due → Comes contents words due
+  comes_schedule shown program name bytes plan due form there good (inl (none, is)) = lacking name is
+  comes_schedule shown program name bytes plan due form there good (inr (schedule, here, (ending, end, is))) =
+      replayed shown plan schedule ending (record { program = program; name = name; of_form = form; bytes = bytes; program_is = there; good = good; schedule_is = here }) end is
 
   comes_node : (program name : List ℕ) (turns : ℕ) (bytes : List ℕ) (plan : Plan) (due : Due) → IsOfForm words (node program name turns) → contents program ≡ Some bytes → IsProgramOf bytes plan → IsDueOfNode name turns plan due → Comes contents words due
   comes_node program name turns bytes plan due form there good (inl (number, named, is)) = served plan number turns is
@@ -183,7 +186,11 @@ module _ (contents : List ℕ → Option (List ℕ)) (words : List (List ℕ)) w
 
   comes_form : (form : CommandForm) (due : Due) → IsOfForm words form → OfWords contents form due → Comes contents words due
   comes_form (replay program name) due form of =
-      comes_program (replay program name) program (OfSchedule contents name) due form refl (λ bytes plan there good next. comes_schedule program name bytes plan due form there good next) of
+      comes_program (replay program name) program (OfSchedule contents Report name) due form refl
+      (λ bytes plan there good next. comes_schedule Report program name bytes plan due form there good next) of
+  comes_form (picture program name) due form of =
+      comes_program (picture program name) program (OfSchedule contents Picture name) due form refl
+      (λ bytes plan there good next. comes_schedule Picture program name bytes plan due form there good next) of
   comes_form (place file) due form of = comes_file Place file due form of
   comes_form (stubs program) due form of = comes_file Stubs program due form of
   comes_form (run program) due form of = comes_file Run program due form of
@@ -213,8 +220,8 @@ module _ (contents : List ℕ → Option (List ℕ)) (words : List (List ℕ)) w
   why_words due (nothing none is) ends = none
   why_words due (lacking name is) ends = never_fetch BadCommandLine due name is ends
   why_words due (unbuilt why is) ends = absurd (let clash : NotBuilt ≡ BadCommandLine = ends_as BadCommandLine due _ is ends in cc)
-  why_words due (replayed plan schedule ending of end is) ends =
-      absurd (never_replays BadCommandLine plan schedule ending end (λ same. cc) (λ same. cc) (λ same. cc) (ends_as BadCommandLine due ending is ends))
+  why_words due (replayed shown plan schedule ending of end is) ends =
+      absurd (never_replays BadCommandLine shown plan schedule ending end (λ same. cc) (λ same. cc) (λ same. cc) (ends_as BadCommandLine due ending is ends))
   why_words due (drawn plan seed steps of is) ends = absurd (never_drawn BadCommandLine plan seed steps (λ same. cc) (λ same. cc) (ends_as BadCommandLine due _ is ends))
   why_words due (listed plan seed steps of is) ends = absurd (never_listed BadCommandLine plan seed steps (λ same. cc) (λ same. cc) (ends_as BadCommandLine due _ is ends))
   why_words due (settles plan deliveries of is) ends = absurd (never_settles BadCommandLine plan deliveries (λ same. cc) (λ same. cc) (λ same. cc) (ends_as BadCommandLine due _ is ends))
@@ -242,8 +249,8 @@ module _ (contents : List ℕ → Option (List ℕ)) (words : List (List ℕ)) w
   why_program due (nothing none is) ends = absurd (let clash : BadCommandLine ≡ BadProgram = ends_as BadProgram due _ is ends in cc)
   why_program due (lacking name is) ends = never_fetch BadProgram due name is ends
   why_program due (unbuilt why is) ends = absurd (let clash : NotBuilt ≡ BadProgram = ends_as BadProgram due _ is ends in cc)
-  why_program due (replayed plan schedule ending of end is) ends =
-      absurd (never_replays BadProgram plan schedule ending end (λ same. cc) (λ same. cc) (λ same. cc) (ends_as BadProgram due ending is ends))
+  why_program due (replayed shown plan schedule ending of end is) ends =
+      absurd (never_replays BadProgram shown plan schedule ending end (λ same. cc) (λ same. cc) (λ same. cc) (ends_as BadProgram due ending is ends))
   why_program due (drawn plan seed steps of is) ends = absurd (never_drawn BadProgram plan seed steps (λ same. cc) (λ same. cc) (ends_as BadProgram due _ is ends))
   why_program due (listed plan seed steps of is) ends = absurd (never_listed BadProgram plan seed steps (λ same. cc) (λ same. cc) (ends_as BadProgram due _ is ends))
   why_program due (settles plan deliveries of is) ends = absurd (never_settles BadProgram plan deliveries (λ same. cc) (λ same. cc) (λ same. cc) (ends_as BadProgram due _ is ends))
@@ -256,8 +263,8 @@ module _ (contents : List ℕ → Option (List ℕ)) (words : List (List ℕ)) w
   why_schedule due (nothing none is) ends = absurd (let clash : BadCommandLine ≡ BadSchedule = ends_as BadSchedule due _ is ends in cc)
   why_schedule due (lacking name is) ends = never_fetch BadSchedule due name is ends
   why_schedule due (unbuilt why is) ends = absurd (let clash : NotBuilt ≡ BadSchedule = ends_as BadSchedule due _ is ends in cc)
-  why_schedule due (replayed plan schedule ending of end is) ends =
-      record { plan = plan; schedule = schedule; replayed = of; refused = replay_refused plan schedule ending end (ends_as BadSchedule due ending is ends) }
+  why_schedule due (replayed shown plan schedule ending of end is) ends =
+      record { shown = shown; plan = plan; schedule = schedule; replayed = of; refused = replay_refused shown plan schedule ending end (ends_as BadSchedule due ending is ends) }
   why_schedule due (drawn plan seed steps of is) ends = absurd (never_drawn BadSchedule plan seed steps (λ same. cc) (λ same. cc) (ends_as BadSchedule due _ is ends))
   why_schedule due (listed plan seed steps of is) ends = absurd (never_listed BadSchedule plan seed steps (λ same. cc) (λ same. cc) (ends_as BadSchedule due _ is ends))
   why_schedule due (settles plan deliveries of is) ends = absurd (never_settles BadSchedule plan deliveries (λ same. cc) (λ same. cc) (λ same. cc) (ends_as BadSchedule due _ is ends))
@@ -272,9 +279,9 @@ module _ (contents : List ℕ → Option (List ℕ)) (words : List (List ℕ)) w
   why_spent due (nothing none is) ends = absurd (let clash : BadCommandLine ≡ Spent = ends_as Spent due _ is ends in cc)
   why_spent due (lacking name is) ends = never_fetch Spent due name is ends
   why_spent due (unbuilt why is) ends = absurd (let clash : NotBuilt ≡ Spent = ends_as Spent due _ is ends in cc)
-  why_spent due (replayed plan schedule ending of end is) ends =
-      let spent = replay_spent plan schedule ending end (ends_as Spent due ending is ends) in
-      inl (record { plan = plan; schedule = schedule; replayed = of; lines = spent.0; read = spent.1; spent = spent.2 })
+  why_spent due (replayed shown plan schedule ending of end is) ends =
+      let spent = replay_spent shown plan schedule ending end (ends_as Spent due ending is ends) in
+      inl (record { shown = shown; plan = plan; schedule = schedule; replayed = of; lines = spent.0; read = spent.1; spent = spent.2 })
   why_spent due (drawn plan seed steps of is) ends = elim (sample_status plan seed steps) [
     | inl done ↦ absurd (let clash : Done ≡ Spent = sym done ∙ ends_as Spent due _ is ends in cc)
     | inr (spent, why) ↦ inr (inl (record { plan = plan; seed = seed; steps = steps; drawn = of; spent = why }))
@@ -299,8 +306,8 @@ module _ (contents : List ℕ → Option (List ℕ)) (words : List (List ℕ)) w
   why_unbuilt due (nothing none is) ends = absurd (let clash : BadCommandLine ≡ NotBuilt = ends_as NotBuilt due _ is ends in cc)
   why_unbuilt due (lacking name is) ends = never_fetch NotBuilt due name is ends
   why_unbuilt due (unbuilt why is) ends = why
-  why_unbuilt due (replayed plan schedule ending of end is) ends =
-      absurd (never_replays NotBuilt plan schedule ending end (λ same. cc) (λ same. cc) (λ same. cc) (ends_as NotBuilt due ending is ends))
+  why_unbuilt due (replayed shown plan schedule ending of end is) ends =
+      absurd (never_replays NotBuilt shown plan schedule ending end (λ same. cc) (λ same. cc) (λ same. cc) (ends_as NotBuilt due ending is ends))
   why_unbuilt due (drawn plan seed steps of is) ends = absurd (never_drawn NotBuilt plan seed steps (λ same. cc) (λ same. cc) (ends_as NotBuilt due _ is ends))
   why_unbuilt due (listed plan seed steps of is) ends = absurd (never_listed NotBuilt plan seed steps (λ same. cc) (λ same. cc) (ends_as NotBuilt due _ is ends))
   why_unbuilt due (settles plan deliveries of is) ends = absurd (never_settles NotBuilt plan deliveries (λ same. cc) (λ same. cc) (λ same. cc) (ends_as NotBuilt due _ is ends))
@@ -315,8 +322,8 @@ module _ (contents : List ℕ → Option (List ℕ)) (words : List (List ℕ)) w
   why_unsettled due (nothing none is) ends = absurd (let clash : BadCommandLine ≡ Unsettled = ends_as Unsettled due _ is ends in cc)
   why_unsettled due (lacking name is) ends = never_fetch Unsettled due name is ends
   why_unsettled due (unbuilt why is) ends = absurd (let clash : NotBuilt ≡ Unsettled = ends_as Unsettled due _ is ends in cc)
-  why_unsettled due (replayed plan schedule ending of end is) ends =
-      absurd (never_replays Unsettled plan schedule ending end (λ same. cc) (λ same. cc) (λ same. cc) (ends_as Unsettled due ending is ends))
+  why_unsettled due (replayed shown plan schedule ending of end is) ends =
+      absurd (never_replays Unsettled shown plan schedule ending end (λ same. cc) (λ same. cc) (λ same. cc) (ends_as Unsettled due ending is ends))
   why_unsettled due (drawn plan seed steps of is) ends = absurd (never_drawn Unsettled plan seed steps (λ same. cc) (λ same. cc) (ends_as Unsettled due _ is ends))
   why_unsettled due (listed plan seed steps of is) ends = absurd (never_listed Unsettled plan seed steps (λ same. cc) (λ same. cc) (ends_as Unsettled due _ is ends))
   why_unsettled due (settles plan deliveries of is) ends = elim (settle_status plan deliveries) [
@@ -358,6 +365,7 @@ module _ (contents : List ℕ → Option (List ℕ)) (words : List (List ℕ)) w
       by_form (stubs program) of is = due_of_form (stubs program) (has.bytes ∷ []) (finish (refused_with has.number has.cause)) of (found program is, tt) (refused_with has.number has.cause, inr refusal, refl) tt
       by_form (run program) of is = due_of_form (run program) (has.bytes ∷ []) (finish (refused_with has.number has.cause)) of (found program is, tt) (refused_with has.number has.cause, inr refusal, refl) tt
       by_form (replay program name) of is = due_of_form (replay program name) (has.bytes ∷ []) (finish (refused_with has.number has.cause)) of (found program is, tt) (inr (refused_with has.number has.cause, refusal, refl)) tt
+      by_form (picture program name) of is = due_of_form (picture program name) (has.bytes ∷ []) (finish (refused_with has.number has.cause)) of (found program is, tt) (inr (refused_with has.number has.cause, refusal, refl)) tt
       by_form (place _) of is = absurd cc
       by_form (node program name turns) of is = due_of_form (node program name turns) (has.bytes ∷ []) (finish (refused_with has.number has.cause)) of (found program is, tt) (inr (refused_with has.number has.cause, refusal, refl)) tt
       by_form (sample program seed steps) of is = due_of_form (sample program seed steps) (has.bytes ∷ []) (finish (refused_with has.number has.cause)) of (found program is, tt) (inr (refused_with has.number has.cause, refusal, refl)) tt
@@ -372,13 +380,18 @@ module _ (contents : List ℕ → Option (List ℕ)) (words : List (List ℕ)) w
       same_status BadProgram due (finish (no_node has.name)) is other refl
 
   -- a replay that ends so
-  replay_due : (status : Status) (plan : Plan) (schedule : List ℕ) (due : Due) → IsDueLast contents words due → IsReplay contents words plan schedule → Ends plan schedule status → EndsWith status due
-  replay_due status plan schedule due is r e =
-      let other = due_of_form (replay r.program r.name) (r.bytes ∷ schedule ∷ []) (finish e.ending) r.of_form (r.program_is, (r.schedule_is, tt)) (plan, r.good, (e.ending, e.end, refl)) tt in
-      same_status status due (finish e.ending) is other e.status_is
+  shown_due : (shown : Shown) (plan : Plan) (schedule : List ℕ) (ending : Ending) → IsShown shown contents words plan schedule → IsEndOfReplay shown plan schedule ending → IsDueLast contents words (finish ending)
+  shown_due Report plan schedule ending r end =
+      due_of_form (replay r.program r.name) (r.bytes ∷ schedule ∷ []) (finish ending) r.of_form (r.program_is, (r.schedule_is, tt)) (plan, r.good, (ending, end, refl)) tt
+  shown_due Picture plan schedule ending r end =
+      due_of_form (picture r.program r.name) (r.bytes ∷ schedule ∷ []) (finish ending) r.of_form (r.program_is, (r.schedule_is, tt)) (plan, r.good, (ending, end, refl)) tt
+
+  replay_due : (status : Status) (shown : Shown) (plan : Plan) (schedule : List ℕ) (due : Due) → IsDueLast contents words due → IsShown shown contents words plan schedule → Ends shown plan schedule status
+      → EndsWith status due
+  replay_due status shown plan schedule due is r e = same_status status due (finish e.ending) is (shown_due shown plan schedule e.ending r e.end) e.status_is
 
   bad_schedule : (due : Due) → IsDueLast contents words due → IsRefusedReplay contents words → EndsWith BadSchedule due
-  bad_schedule due is has = replay_due BadSchedule has.plan has.schedule due is has.replayed (ends_refused has.plan has.schedule has.refused)
+  bad_schedule due is has = replay_due BadSchedule has.shown has.plan has.schedule due is has.replayed (ends_refused has.shown has.plan has.schedule has.refused)
 
   -- deliveries that end so
   settle_due : (status : Status) (plan : Plan) (deliveries : ℕ) (due : Due) → IsDueLast contents words due → IsSettle contents words plan deliveries → (settle_of plan deliveries).status ≡ status → EndsWith status due
@@ -402,10 +415,11 @@ module _ (contents : List ℕ → Option (List ℕ)) (words : List (List ℕ)) w
       let end = sample_of has.plan has.seed has.steps in
       let other = due_of_form (sample d.program has.seed has.steps) (d.bytes ∷ []) (finish end) d.of_form (d.program_is, tt) (inl (has.plan, d.good, refl)) tt in
       same_status Spent due (finish end) is other (sample_spent has.plan has.seed has.steps has.spent)
-  spent due is (inl has) = replay_due Spent has.plan has.schedule due is has.replayed (ends_spent has.plan has.schedule has.lines has.read has.spent)
+  spent due is (inl has) = replay_due Spent has.shown has.plan has.schedule due is has.replayed (ends_spent has.shown has.plan has.schedule has.lines has.read has.spent)
 
   unbuilt_form : (form : CommandForm) → IsUnbuilt form → IsDueOfForm form [] not_built
   unbuilt_form (replay _ _) un = absurd un
+  unbuilt_form (picture _ _) un = absurd un
   unbuilt_form (place _) un = absurd un
   unbuilt_form (stubs _) un = absurd un
   unbuilt_form (run _) un = absurd un

@@ -1,5 +1,5 @@
--- What it means that the copies agree in what is written of a program: what each active member performed are the next runs of
--- its module in the history of the program.
+-- What it means that the promise of a whole run is kept in what is written of a program: that each node was a node run by what the
+-- lines gave to it, and that the copies agree.
 use Rattle.std.specs.Prelude.{ℕ, ◌≡◌, ◌⊎◌, Option, Some, List, ◌∷◌, ◌++◌, length, Ok, Err, IfSome}
 use Rattle.circus_schedule.specs.declared.line.Line.{Line}
 use Rattle.circus_schedule.specs.declared.schedule_fault.ScheduleFault.{ScheduleFault}
@@ -9,9 +9,12 @@ use Rattle.circus_config.specs.declared.plan.Plan.{Plan}
 use Rattle.circus_config.specs.Program.{IsProgramOf, IsPlan}
 use Rattle.circus_load.specs.Loaded.{behaviours_in}
 use Rattle.circus_running.specs.Writing.{Writes}
-use Rattle.circus_facts.specs.Facts.{Facts, AllStand, sent_text, report_of, summary_of, settled_of}
+use Rattle.circus_facts.specs.Facts.{Facts, sent_text, report_of, summary_of, settled_of}
+use Rattle.circus_headline_theory.specs.Headline.{Headline}
 use Rattle.circus_ending.specs.declared.status.Status.TheVariants.{Done}
+use Rattle.circus_settle.specs.Settled.{first_deliveries}
 use Rattle.circus_simulated.specs.Booted.{names_in}
+use Rattle.circus_simulated.specs.Schedule.{lines_of_sample}
 use Rattle.circus_program.specs.Form.{CommandForm, IsOfForm}
 use Rattle.circus_program.specs.Replay.{replay_of}
 use Rattle.circus_program.specs.Last.{program_read, IsReplay, IsSample, IsSettle}
@@ -23,33 +26,41 @@ reported plan facts = report_of (names_in plan) plan.deployment.nodes facts
 
 -- ---- what is written in full
 
-abbrev pub IsReportOf : (List ℕ → Option (List ℕ)) → List (List ℕ) → Plan → Facts → List ℕ → Type 0
-IsReportOf contents words plan facts text = (schedule : List ℕ) × IsReplay contents words plan schedule × (text ≡ reported plan facts)
+-- of a replay of these lines
+abbrev pub IsReportOf : (List ℕ → Option (List ℕ)) → List (List ℕ) → Plan → List Line → Facts → List ℕ → Type 0
+IsReportOf contents words plan lines facts text =
+    (schedule : List ℕ) × IsReplay contents words plan schedule × IsAnswer (numbers_of plan.deployment.nodes) schedule (Ok lines) × (text ≡ reported plan facts)
 
-abbrev pub IsSummaryOf : (List ℕ → Option (List ℕ)) → List (List ℕ) → Plan → Facts → List ℕ → Type 0
-IsSummaryOf contents words plan facts text = (seed steps : ℕ) × IsSample contents words plan seed steps × (text ≡ summary_of (names_in plan) steps facts)
+-- of a sample that draws these lines
+abbrev pub IsSummaryOf : (List ℕ → Option (List ℕ)) → List (List ℕ) → Plan → List Line → Facts → List ℕ → Type 0
+IsSummaryOf contents words plan lines facts text =
+    (seed steps : ℕ) × IsSample contents words plan seed steps × (lines ≡ lines_of_sample plan seed steps) × (text ≡ summary_of (names_in plan) steps facts)
 
-abbrev pub IsSettledOf : (List ℕ → Option (List ℕ)) → List (List ℕ) → Plan → Facts → List ℕ → Type 0
-IsSettledOf contents words plan facts text =
-    (deliveries : ℕ) × IsSettle contents words plan deliveries × (text ≡ settled_of (names_in plan) plan.deployment.nodes (length facts.sent) facts)
+-- of a program that has settled by these lines, a delivery of each datagram
+abbrev pub IsSettledOf : (List ℕ → Option (List ℕ)) → List (List ℕ) → Plan → List Line → Facts → List ℕ → Type 0
+IsSettledOf contents words plan lines facts text =
+    (deliveries : ℕ) × IsSettle contents words plan deliveries × (lines ≡ first_deliveries (length facts.sent))
+    × (text ≡ settled_of (names_in plan) plan.deployment.nodes (length facts.sent) facts)
 
--- of facts in which the copies agree it is the report, the summary, or what is written of a program that has settled
+-- of facts that keep the promise of a whole run it is the report, the summary, or what is written of a program that has settled
 pub record IsAgreed (contents : List ℕ → Option (List ℕ)) (words : List (List ℕ)) (text : List ℕ) : Type 0 where
   pub plan : Plan
+  pub lines : List Line
   pub facts : Facts
-  pub agree : AllStand plan.deployment (behaviours_in plan) facts
-  pub written : IsReportOf contents words plan facts text ⊎ (IsSummaryOf contents words plan facts text ⊎ IsSettledOf contents words plan facts text)
+  pub headline : Headline plan.deployment (behaviours_in plan) lines facts
+  pub written : IsReportOf contents words plan lines facts text
+      ⊎ (IsSummaryOf contents words plan lines facts text ⊎ IsSettledOf contents words plan lines facts text)
 
 -- ---- what is written of lines up to one that isn't stepped
 
--- a replay of the lines before it reports facts in which the copies agree; written are their datagrams, and one line more
+-- a replay of the lines before it reports facts that keep the promise; written are their datagrams, and one line more
 pub record IsAgreedSoFar (plan : Plan) (lines : List Line) (text : List ℕ) : Type 0 where
   pub before : List Line
   pub line : Line
   pub others : List Line
   pub lines_are : lines ≡ before ++ line ∷ others
   pub facts : Facts
-  pub agree : AllStand plan.deployment (behaviours_in plan) facts
+  pub headline : Headline plan.deployment (behaviours_in plan) before facts
   pub reported_is : replay_of plan before ≡ record { status = Done; text = reported plan facts }
   pub last : List ℕ
   pub written : text ≡ sent_text (names_in plan) facts ++ last

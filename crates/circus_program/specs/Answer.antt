@@ -3,8 +3,10 @@ use Rattle.std.specs.Prelude.{ℕ, ◌≡◌, ◌⊎◌, Option, Some, List, [],
 use Rattle.circus_outside.specs.Told.{told_more}
 use Rattle.circus_ending.specs.declared.status.Status.{Status}
 use Rattle.circus_ending.specs.declared.status.Status.TheVariants.{BadCommandLine, NotBuilt}
-use Rattle.circus_program.specs.Form.{CommandForm, stubs, run, replay, node, sample, draw, settle, place, audit, IsOfForm, IsOfNoForm, files_of}
+use Rattle.circus_program.specs.Form.{CommandForm, stubs, run, replay, picture, node, sample, draw, settle, place, audit, IsOfForm, IsOfNoForm, files_of}
 use Rattle.circus_ending.specs.Ending.{Ending}
+use Rattle.circus_program.specs.declared.shown.Shown.{Shown}
+use Rattle.circus_program.specs.declared.shown.Shown.TheVariants.{Report, Picture}
 use Rattle.circus_program.specs.Replay.{IsEndOfReplay}
 use Rattle.circus_config.specs.declared.plan.Plan.{Plan}
 use Rattle.circus_config.specs.Program.{IsProgramOf}
@@ -39,16 +41,16 @@ not_built = finish (record { status = NotBuilt; text = line (codes "not built") 
 abbrev pub IsDueOfRefused : List ℕ → Due → Type 0
 IsDueOfRefused program due = (ending : Ending) × IsEndOfRefused program ending × (due ≡ finish ending)
 
--- what is due once a replay's two files are fetched
-abbrev pub IsDueOfSchedule : Plan → List ℕ → Due → Type 0
-IsDueOfSchedule plan schedule due = (ending : Ending) × IsEndOfReplay plan schedule ending × (due ≡ finish ending)
+-- what is due once a replay's two files are fetched, of which this is shown
+abbrev pub IsDueOfSchedule : Shown → Plan → List ℕ → Due → Type 0
+IsDueOfSchedule shown plan schedule due = (ending : Ending) × IsEndOfReplay shown plan schedule ending × (due ≡ finish ending)
 
 -- what is due of a replay, whose files so far are these
-abbrev pub IsDueOfReplay : List ℕ → List ℕ → List (List ℕ) → Due → Type 0
-IsDueOfReplay program schedule [] due = due ≡ fetch program
-IsDueOfReplay program schedule (bytes ∷ []) due = (IsGood bytes × (due ≡ fetch schedule)) ⊎ IsDueOfRefused bytes due
-IsDueOfReplay program schedule (bytes ∷ more ∷ []) due = (plan : Plan) × IsProgramOf bytes plan × IsDueOfSchedule plan more due
-IsDueOfReplay program schedule (_ ∷ _ ∷ _ ∷ _) due = ⊥
+abbrev pub IsDueOfReplay : Shown → List ℕ → List ℕ → List (List ℕ) → Due → Type 0
+IsDueOfReplay shown program schedule [] due = due ≡ fetch program
+IsDueOfReplay shown program schedule (bytes ∷ []) due = (IsGood bytes × (due ≡ fetch schedule)) ⊎ IsDueOfRefused bytes due
+IsDueOfReplay shown program schedule (bytes ∷ more ∷ []) due = (plan : Plan) × IsProgramOf bytes plan × IsDueOfSchedule shown plan more due
+IsDueOfReplay shown program schedule (_ ∷ _ ∷ _ ∷ _) due = ⊥
 
 -- what is due of a command of one file, whose bytes so far are these, where this is due of its bytes
 abbrev pub IsDueOfFile : List ℕ → (List ℕ → Due → Type 0) → List (List ℕ) → Due → Type 0
@@ -89,7 +91,8 @@ IsDueUnbuilt (_ ∷ _) due = ⊥
 
 -- what is due of a form, once these of its files are fetched, in order
 abbrev pub IsDueOfForm : CommandForm → List (List ℕ) → Due → Type 0
-IsDueOfForm (replay program schedule) files due = IsDueOfReplay program schedule files due
+IsDueOfForm (replay program schedule) files due = IsDueOfReplay Report program schedule files due
+IsDueOfForm (picture program schedule) files due = IsDueOfReplay Picture program schedule files due
 IsDueOfForm (stubs program) files due = IsDueOfFile program (IsDueOfEnd Stubs) files due
 IsDueOfForm (run program) files due = IsDueOfFile program (IsDueOfEnd Run) files due
 IsDueOfForm (node program name turns) files due = IsDueOfFile program (IsDueOfProgram (IsDueOfNode name turns)) files due

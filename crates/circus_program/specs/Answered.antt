@@ -62,7 +62,7 @@ module _ (told : Told) where
         → WritesKeptSoFar told.contents told.words told.written.before told.written.after
     -- a replay under the lines that are written comes to the world of the sample
     pub replayed : status ≡ Done → WritesReplayed told.contents told.words told.written.before told.written.after
-    -- the copies agree in what is written of records
+    -- each node was a node run and the copies agree, in what is written of records
     pub agree : status ≡ Done → WritesAgreed told.contents told.words told.written.before told.written.after
     pub agree_so_far : IsCutShort status
         → WritesAgreedSoFar told.contents told.words told.written.before told.written.after

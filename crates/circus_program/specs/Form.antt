@@ -1,6 +1,8 @@
 -- The forms of a command line, and the words that spell each.
 use Rattle.std.specs.Prelude.{ℕ, ◌≡◌, ◌≢◌, ◌<◌, ◌≤◌, ◌^◌, List, [], ◌∷◌, codes}
 use Rattle.std.specs.Fmt.{decimal}
+use Rattle.circus_program.specs.declared.shown.Shown.{Shown}
+use Rattle.circus_program.specs.declared.shown.Shown.TheVariants.{Report, Picture}
 
 -- the words of a command line; files and names are byte lists
 pub data CommandForm : Type 0 where
@@ -10,6 +12,8 @@ pub data CommandForm : Type 0 where
   run : List ℕ → CommandForm
   -- program, schedule
   replay : List ℕ → List ℕ → CommandForm
+  -- program, schedule
+  picture : List ℕ → List ℕ → CommandForm
   -- program, node's name, takes
   node : List ℕ → List ℕ → ℕ → CommandForm
   -- program, seed, steps
@@ -28,6 +32,7 @@ abbrev pub words_of : CommandForm → List (List ℕ)
 words_of (stubs program) = codes "stubs" ∷ program ∷ []
 words_of (run program) = codes "run" ∷ program ∷ []
 words_of (replay program schedule) = codes "replay" ∷ program ∷ schedule ∷ []
+words_of (picture program schedule) = codes "picture" ∷ program ∷ schedule ∷ []
 words_of (node program name turns) = codes "node" ∷ program ∷ name ∷ decimal turns ∷ []
 words_of (sample program seed steps) = codes "sample" ∷ program ∷ decimal seed ∷ decimal steps ∷ []
 words_of (draw program seed steps) = codes "lines" ∷ program ∷ decimal seed ∷ decimal steps ∷ []
@@ -52,6 +57,7 @@ abbrev pub IsInRange : CommandForm → Type 0
 IsInRange (stubs program) = program ≢ []
 IsInRange (run program) = program ≢ []
 IsInRange (replay program schedule) = (program ≢ []) × (schedule ≢ [])
+IsInRange (picture program schedule) = (program ≢ []) × (schedule ≢ [])
 IsInRange (node program name turns) = (program ≢ []) × (turns ≤ most_turns)
 IsInRange (sample program seed steps) = (program ≢ []) × (seed < 2 ^ 64) × (steps ≤ most_steps)
 IsInRange (draw program seed steps) = (program ≢ []) × (seed < 2 ^ 64) × (steps ≤ most_steps)
@@ -73,9 +79,15 @@ abbrev pub files_of : CommandForm → List (List ℕ)
 files_of (stubs program) = program ∷ []
 files_of (run program) = program ∷ []
 files_of (replay program schedule) = program ∷ schedule ∷ []
+files_of (picture program schedule) = program ∷ schedule ∷ []
 files_of (node program name turns) = program ∷ []
 files_of (sample program seed steps) = program ∷ []
 files_of (draw program seed steps) = program ∷ []
 files_of (settle program deliveries) = program ∷ []
 files_of (place placing) = placing ∷ []
 files_of (audit program «record») = program ∷ «record» ∷ []
+
+-- to show what the lines of a schedule come to: program, schedule
+abbrev pub shown_form : Shown → List ℕ → List ℕ → CommandForm
+shown_form Report program schedule = replay program schedule
+shown_form Picture program schedule = picture program schedule

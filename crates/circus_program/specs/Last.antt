@@ -10,7 +10,9 @@ use Rattle.circus_world.specs.WorldState.{WorldState}
 use Rattle.circus_world.specs.Legal.{refusal}
 use Rattle.circus_world.specs.Course.{stepped}
 use Rattle.circus_ending.specs.declared.status.Status.{Status}
-use Rattle.circus_program.specs.Form.{CommandForm, stubs, run, replay, node, sample, draw, settle, place, audit, IsOfForm}
+use Rattle.circus_program.specs.Form.{CommandForm, stubs, run, replay, picture, node, sample, draw, settle, place, audit, IsOfForm, shown_form}
+use Rattle.circus_program.specs.declared.shown.Shown.{Shown}
+use Rattle.circus_program.specs.declared.shown.Shown.TheVariants.{Report, Picture}
 use Rattle.circus_program.specs.Replay.{IsEndOfReplay}
 use Rattle.circus_world.specs.Lines.{Lead}
 use Rattle.circus_sample.specs.Sampled.{sampled}
@@ -66,6 +68,7 @@ abbrev pub file_read : CommandForm → Option (List ℕ)
 file_read (stubs program) = Some program
 file_read (run program) = Some program
 file_read (replay program _) = Some program
+file_read (picture program _) = Some program
 file_read (place placing) = Some placing
 file_read (node program _ _) = Some program
 file_read (sample program _ _) = Some program
@@ -83,15 +86,20 @@ pub record IsToBeRead (contents : List ℕ → Option (List ℕ)) (words : List 
   pub there : contents name ≡ Some bytes
 
 -- reading the schedule answers, where it is there
-abbrev pub IsScheduleAnswered : Plan → Option (List ℕ) → Type 0
-IsScheduleAnswered plan None = Unit {0}
-IsScheduleAnswered plan (Some schedule) = (ending : Ending) × IsEndOfReplay plan schedule ending
+abbrev pub IsScheduleAnswered : Shown → Plan → Option (List ℕ) → Type 0
+IsScheduleAnswered shown plan None = Unit {0}
+IsScheduleAnswered shown plan (Some schedule) = (ending : Ending) × IsEndOfReplay shown plan schedule ending
+
+-- reading the program answers, and then the schedule, of which this is shown
+abbrev pub IsReplayAnswered : Shown → Option (List ℕ) → List ℕ → Type 0
+IsReplayAnswered shown schedule bytes =
+    ((plan : Plan) × IsProgramOf bytes plan × IsScheduleAnswered shown plan schedule) ⊎ ((ending : Ending) × IsEndOfRefused bytes ending)
 
 -- reading these bytes answers, and of a replay the schedule too: that they are a program or are refused, of a command of one
 -- file its end
 abbrev pub IsAnswered : (List ℕ → Option (List ℕ)) → CommandForm → List ℕ → Type 0
-IsAnswered contents (replay _ schedule) bytes =
-    ((plan : Plan) × IsProgramOf bytes plan × IsScheduleAnswered plan (contents schedule)) ⊎ ((ending : Ending) × IsEndOfRefused bytes ending)
+IsAnswered contents (replay _ schedule) bytes = IsReplayAnswered Report (contents schedule) bytes
+IsAnswered contents (picture _ schedule) bytes = IsReplayAnswered Picture (contents schedule) bytes
 IsAnswered contents (stubs _) bytes = (ending : Ending) × IsEndOf Stubs bytes ending
 IsAnswered contents (run _) bytes = (ending : Ending) × IsEndOf Run bytes ending
 IsAnswered contents (place _) bytes = (ending : Ending) × IsEndOf Place bytes ending
@@ -106,6 +114,7 @@ abbrev pub program_read : CommandForm → Option (List ℕ)
 program_read (stubs program) = Some program
 program_read (run program) = Some program
 program_read (replay program _) = Some program
+program_read (picture program _) = Some program
 program_read (place _) = None
 program_read (node program _ _) = Some program
 program_read (sample program _ _) = Some program
@@ -137,29 +146,35 @@ pub record IsNameless (contents : List ℕ → Option (List ℕ)) (words : List 
   pub good : IsProgramOf bytes plan
   pub nameless : (number : ℕ) → IsNamed plan.deployment name number → ⊥
 
--- the words are a replay of a program that means this plan, and of this schedule
-pub record IsReplay (contents : List ℕ → Option (List ℕ)) (words : List (List ℕ)) (plan : Plan) (schedule : List ℕ) : Type 0 where
+-- the words ask to show this of the lines of this schedule, over a program that means this plan
+pub record IsShown (shown : Shown) (contents : List ℕ → Option (List ℕ)) (words : List (List ℕ)) (plan : Plan) (schedule : List ℕ) : Type 0 where
   pub program : List ℕ
   pub name : List ℕ
-  pub of_form : IsOfForm words (replay program name)
+  pub of_form : IsOfForm words (shown_form shown program name)
   pub bytes : List ℕ
   pub program_is : contents program ≡ Some bytes
   pub good : IsProgramOf bytes plan
   pub schedule_is : contents name ≡ Some schedule
 
--- a replay of which a line is refused: it is read as none, or may not be stepped
+-- they are a replay
+abbrev pub IsReplay : (List ℕ → Option (List ℕ)) → List (List ℕ) → Plan → List ℕ → Type 0
+IsReplay contents words plan schedule = IsShown Report contents words plan schedule
+
+-- a replay or a picture of which a line is refused: it is read as none, or may not be stepped
 pub record IsRefusedReplay (contents : List ℕ → Option (List ℕ)) (words : List (List ℕ)) : Type 0 where
+  pub shown : Shown
   pub plan : Plan
   pub schedule : List ℕ
-  pub replayed : IsReplay contents words plan schedule
+  pub replayed : IsShown shown contents words plan schedule
   pub refused : ((fault : ScheduleFault) × IsAnswer (numbers_of plan.deployment.nodes) schedule (Err fault))
       ⊎ ((lines : List Line) × (w : WorldState Behaviour) × IsAnswer (numbers_of plan.deployment.nodes) schedule (Ok lines) × (booted plan ≡ Ok w) × HasRefused lines w)
 
--- a replay in which a node has no number left for another one, at boot or in the step of a line
+-- a replay or a picture in which a node has no number left for another one, at boot or in the step of a line
 pub record IsSpentReplay (contents : List ℕ → Option (List ℕ)) (words : List (List ℕ)) : Type 0 where
+  pub shown : Shown
   pub plan : Plan
   pub schedule : List ℕ
-  pub replayed : IsReplay contents words plan schedule
+  pub replayed : IsShown shown contents words plan schedule
   pub lines : List Line
   pub read : IsAnswer (numbers_of plan.deployment.nodes) schedule (Ok lines)
   pub spent : ((nodes : ℕ × ℕ) × (booted plan ≡ Err nodes)) ⊎ ((w : WorldState Behaviour) × (booted plan ≡ Ok w) × HasSpent lines w)
@@ -245,6 +260,7 @@ pub record IsUnsettled (contents : List ℕ → Option (List ℕ)) (words : List
 -- another form than those that are built
 abbrev pub IsUnbuilt : CommandForm → Type 0
 IsUnbuilt (replay _ _) = ⊥
+IsUnbuilt (picture _ _) = ⊥
 IsUnbuilt (place _) = ⊥
 IsUnbuilt (stubs _) = ⊥
 IsUnbuilt (run _) = ⊥

@@ -6,6 +6,7 @@ pub mod Worlds
 pub mod Agreeing
 pub mod Replayed
 pub mod Promise
+pub mod ServedRuns
 pub mod Told
 pub mod Answered
 pub mod Seen

@@ -13,6 +13,8 @@ use Rattle.circus_world.specs.WorldState.{WorldState}
 use Rattle.circus_talks.specs.Histories.{acts_of}
 use Rattle.circus_world_theory.specs.Agreeing.{RecordsStand, AsksAreTrue, ReturnsAreTrue, OthersCiteNothing, NoneDiffer}
 use Rattle.circus_world_timely_theory.specs.InTime.{RecordsAreTimely}
+use Rattle.circus_facts.specs.Facts.{facts_of}
+use Rattle.circus_headline_theory.specs.Headline.{Headline}
 use Rattle.circus_quiescence_theory.specs.Done.{AskEnough, RootsAreDone}
 use Rattle.circus_quiescence_theory.specs.Enough.{all_segments, AreOnce}
 use Rattle.circus_quiescence_theory.specs.Quiet.{IsDelivery, IsQuiet}
@@ -41,6 +43,9 @@ module _ (plan : Plan) (lines : List Line) (last : WorldState Behaviour) (led : 
   handed = acts_of declared_of turn_of first_of plan.deployment (hosted_in plan) lines led.begun
 
   pub record KeepsPromise : Type 0 where
+    -- each node is a node run by what the lines gave to it, and sent all that is from it; the copies agree; and the Ringmaster's views
+    -- are those of the requests that it accepted
+    pub headline : Headline plan.deployment (behaviours_in plan) lines (facts_of last)
     -- each active member performed exactly the next runs of its module in the unreplicated program, each once
     pub stand : RecordsStand (behaviours_in plan) plan.deployment last
     -- each start, answer and activation came in the first step that allows it, and what may come has come

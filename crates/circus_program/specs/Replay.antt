@@ -1,4 +1,5 @@
--- What a replay comes to: the report of the world that the lines leave, or what was sent before a line that is refused, and why.
+-- What the lines of a schedule come to: the report of the world that they leave, or what was sent before a line that is refused, and
+-- why; and their picture.
 use Rattle.std.specs.Prelude.{ℕ, ◌≡◌, ◌+◌, List, [], ◌∷◌, ◌++◌, length, codes, Result, Ok, Err}
 use Rattle.std.specs.Option.{option_map_or}
 use Rattle.std.specs.Fmt.{decimal}
@@ -8,6 +9,7 @@ use Rattle.circus_model.specs.NextTurn.{NextTurn}
 use Rattle.circus_model.specs.declared.signature.Signature.{Signature}
 use Rattle.circus_record.specs.Line.{line}
 use Rattle.circus_record.specs.Naming.{Names}
+use Rattle.circus_idl.specs.declared.interface.Procedure.{Procedure}
 use Rattle.circus_schedule.specs.declared.line.Line.{Line}
 use Rattle.circus_schedule.specs.declared.schedule_fault.ScheduleFault.{ScheduleFault}
 use Rattle.circus_schedule.specs.declared.schedule_fault.ScheduleFault.TheVariants as schedule_fault
@@ -21,9 +23,12 @@ use Rattle.circus_world.specs.Legal.{refusal}
 use Rattle.circus_world.specs.Course.{stepped}
 use Rattle.circus_report.specs.Report.{rest_text}
 use Rattle.circus_running.specs.Run.{beginning, sent_from}
+use Rattle.circus_picture.specs.Picture.{procedures_in, picture_text}
 use Rattle.circus_ending.specs.declared.status.Status.TheVariants.{Done, BadSchedule}
 use Rattle.circus_ending.specs.Ending.{Ending}
 use Rattle.circus_simulated.specs.Booted.{booted, names_in, after_step}
+use Rattle.circus_program.specs.declared.shown.Shown.{Shown}
+use Rattle.circus_program.specs.declared.shown.Shown.TheVariants.{Report, Picture}
 
 -- ---- why it ends before its last line
 
@@ -57,22 +62,44 @@ module _ {M : Type 0} (declared : M → Signature) (turn : M → List ValueTree 
   abbrev pub replayed_whole : Names → List Line → WorldState M → Ending
   replayed_whole names lines w = behind (beginning w) (replayed names 1 lines w)
 
+  -- the lines from this number on, and the end that comes of the world behind them
+  abbrev pub followed : Names → (WorldState M → Ending) → ℕ → List Line → WorldState M → Ending
+  followed names end number [] w = end w
+  followed names end number (next ∷ lines) w =
+      option_map_or (λ cause. refused number (cause_text names cause)) (refusal w next)
+      (after_step names (followed names end (number + 1) lines) (stepped declared turn next w))
+
+  -- the picture of all lines, from boot on
+  abbrev pub pictured : Names → List (List Procedure) → List Line → WorldState M → Ending
+  pictured names procedures lines w =
+      followed names (λ last. record { status = Done; text = picture_text names procedures lines last }) 1 lines w
+
 -- ---- of a program
 
--- a replay of these lines
+-- a replay of these lines, which writes as it goes
 abbrev pub replay_of : Plan → List Line → Ending
 replay_of plan lines =
     after_step (names_in plan) (replayed_whole (λ b. b.declared) (λ b. b.turn) (names_in plan) lines) (booted plan)
 
--- what a schedule comes to that was read so
-abbrev pub IsReplayOf : Plan → Result (List Line) ScheduleFault → Ending → Type 0
-IsReplayOf plan (Ok lines) ending = ending ≡ replay_of plan lines
-IsReplayOf plan (Err (schedule_fault.BadLine number)) ending = ending ≡ refused number (codes "bad line")
-IsReplayOf plan (Err (schedule_fault.UnknownNode number name)) ending = ending ≡ refused number (codes "unknown node " ++ name)
-IsReplayOf plan (Err (schedule_fault.TooManyLines number)) ending = ending ≡ refused number (codes "too many lines")
-IsReplayOf plan (Err schedule_fault.NoMemory) ending = ⊥
+-- their picture, which is drawn once all are stepped
+abbrev pub picture_of : Plan → List Line → Ending
+picture_of plan lines =
+    after_step (names_in plan) (pictured (λ b. b.declared) (λ b. b.turn) (names_in plan) (procedures_in plan) lines) (booted plan)
 
--- the end of a replay of a schedule
-abbrev pub IsEndOfReplay : Plan → List ℕ → Ending → Type 0
-IsEndOfReplay plan schedule ending =
-    (read : Result (List Line) ScheduleFault) × IsAnswer (numbers_of plan.deployment.nodes) schedule read × IsReplayOf plan read ending
+-- what is shown of them
+abbrev pub shown_of : Shown → Plan → List Line → Ending
+shown_of Report plan lines = replay_of plan lines
+shown_of Picture plan lines = picture_of plan lines
+
+-- what a schedule comes to that was read so
+abbrev pub IsReplayOf : Shown → Plan → Result (List Line) ScheduleFault → Ending → Type 0
+IsReplayOf shown plan (Ok lines) ending = ending ≡ shown_of shown plan lines
+IsReplayOf shown plan (Err (schedule_fault.BadLine number)) ending = ending ≡ refused number (codes "bad line")
+IsReplayOf shown plan (Err (schedule_fault.UnknownNode number name)) ending = ending ≡ refused number (codes "unknown node " ++ name)
+IsReplayOf shown plan (Err (schedule_fault.TooManyLines number)) ending = ending ≡ refused number (codes "too many lines")
+IsReplayOf shown plan (Err schedule_fault.NoMemory) ending = ⊥
+
+-- the end of a schedule of which this is shown
+abbrev pub IsEndOfReplay : Shown → Plan → List ℕ → Ending → Type 0
+IsEndOfReplay shown plan schedule ending =
+    (read : Result (List Line) ScheduleFault) × IsAnswer (numbers_of plan.deployment.nodes) schedule read × IsReplayOf shown plan read ending

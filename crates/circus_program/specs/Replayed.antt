@@ -11,6 +11,7 @@ use Rattle.circus_ending.specs.declared.status.Status.TheVariants.{Done}
 use Rattle.circus_simulated.specs.Booted.{names_in}
 use Rattle.circus_simulated.specs.Sample.{sample_of}
 use Rattle.circus_simulated.specs.Schedule.{lines_of_sample, schedule_of}
+use Rattle.circus_program.specs.declared.shown.Shown.TheVariants.{Report}
 use Rattle.circus_program.specs.Replay.{IsEndOfReplay}
 use Rattle.circus_program.specs.Last.{IsLines}
 
@@ -18,7 +19,7 @@ use Rattle.circus_program.specs.Last.{IsLines}
 -- writes the summary of the same world
 pub record IsReplayed (plan : Plan) (seed steps : ℕ) (text : List ℕ) : Type 0 where
   pub last : WorldState Behaviour
-  pub replayed : IsEndOfReplay plan text (record { status = Done; text = report_text (names_in plan) last })
+  pub replayed : IsEndOfReplay Report plan text (record { status = Done; text = report_text (names_in plan) last })
   pub sampled : sample_of plan seed steps ≡ record { status = Done; text = summary (names_in plan) steps last }
 
 -- datagrams have numbers that a line may have, in lines that are written

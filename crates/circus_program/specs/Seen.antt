@@ -6,3 +6,4 @@ pub mod Built
 pub mod Planned
 pub mod Ready
 pub mod Ended
+pub mod Followed

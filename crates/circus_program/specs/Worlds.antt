@@ -17,12 +17,15 @@ use Rattle.circus_sample.specs.Summary.{summary}
 use Rattle.circus_settle.specs.Settled.{first_deliveries}
 use Rattle.circus_settle.specs.Summary.{settled_text}
 use Rattle.circus_config.specs.declared.plan.Plan.{Plan}
+use Rattle.circus_picture.specs.Picture.{procedures_in, picture_text}
+use Rattle.circus_ending.specs.declared.status.Status.TheVariants.{Done}
 use Rattle.circus_ending.specs.Spent.{spent}
 use Rattle.circus_simulated.specs.Booted.{booted, names_in}
 use Rattle.circus_simulated.specs.Schedule.{lines_of_sample}
-use Rattle.circus_program.specs.Form.{CommandForm, stubs, run, replay, node, sample, draw, settle, place, audit, IsOfForm}
-use Rattle.circus_program.specs.Replay.{cause_text, refused}
-use Rattle.circus_program.specs.Last.{IsReplay, IsSample, IsLines, IsSettle}
+use Rattle.circus_program.specs.Form.{CommandForm, stubs, run, replay, picture, node, sample, draw, settle, place, audit, IsOfForm}
+use Rattle.circus_program.specs.declared.shown.Shown.TheVariants.{Picture}
+use Rattle.circus_program.specs.Replay.{cause_text, refused, replay_of, picture_of}
+use Rattle.circus_program.specs.Last.{IsShown, IsReplay, IsSample, IsLines, IsSettle}
 
 -- lines lead from boot to a world
 pub record AreLed (plan : Plan) (lines : List Line) (last : WorldState Behaviour) : Type 0 where
@@ -72,11 +75,21 @@ pub record IsCutBySpending (plan : Plan) (lines : List Line) (text : List ℕ) :
 abbrev pub IsSpentAtBoot : Plan → List ℕ → Type 0
 IsSpentAtBoot plan text = (nodes : ℕ × ℕ) × (booted plan ≡ Err nodes) × (text ≡ (spent (names_in plan) nodes).text)
 
+-- ---- pictures
+
+-- the picture and the report of the lines are of the world to which all of them lead
+pub record IsPictured (plan : Plan) (lines : List Line) : Type 0 where
+  pub last : WorldState Behaviour
+  pub led : AreLed plan lines last
+  pub pictured : picture_of plan lines ≡ record { status = Done; text = picture_text (names_in plan) (procedures_in plan) lines last }
+  pub reported : replay_of plan lines ≡ record { status = Done; text = report_text (names_in plan) last }
+
 -- ---- of words
 
 -- the form is that of a program whose nodes are simulated
 abbrev pub IsSimulation : CommandForm → Type 0
 IsSimulation (replay _ _) = Unit {0}
+IsSimulation (picture _ _) = Unit {0}
 IsSimulation (sample _ _ _) = Unit {0}
 IsSimulation (draw _ _ _) = Unit {0}
 IsSimulation (settle _ _) = Unit {0}
@@ -95,6 +108,7 @@ abbrev pub TellsRecords : CommandForm → Type 0
 TellsRecords (replay _ _) = Unit {0}
 TellsRecords (sample _ _ _) = Unit {0}
 TellsRecords (settle _ _) = Unit {0}
+TellsRecords (picture _ _) = ⊥
 TellsRecords (draw _ _ _) = ⊥
 TellsRecords (stubs _) = ⊥
 TellsRecords (run _) = ⊥
@@ -111,6 +125,12 @@ abbrev pub IsWrittenByReplay : (List ℕ → Option (List ℕ)) → List (List �
 IsWrittenByReplay contents words plan lines last text =
     (schedule : List ℕ) × IsReplay contents words plan schedule × IsAnswer (numbers_of plan.deployment.nodes) schedule (Ok lines)
     × (text ≡ report_text (names_in plan) last)
+
+-- the same, and their picture
+abbrev pub IsWrittenByPicture : (List ℕ → Option (List ℕ)) → List (List ℕ) → Plan → List Line → WorldState Behaviour → List ℕ → Type 0
+IsWrittenByPicture contents words plan lines last text =
+    (schedule : List ℕ) × IsShown Picture contents words plan schedule × IsAnswer (numbers_of plan.deployment.nodes) schedule (Ok lines)
+    × (text ≡ picture_text (names_in plan) (procedures_in plan) lines last)
 
 -- the lines that the seed draws, so many, and the summary of the world to which they lead
 abbrev pub IsWrittenBySample : (List ℕ → Option (List ℕ)) → List (List ℕ) → Plan → List Line → WorldState Behaviour → List ℕ → Type 0
@@ -137,7 +157,8 @@ abbrev pub IsWrittenBySome : (List ℕ → Option (List ℕ)) → List (List ℕ
 IsWrittenBySome contents words plan lines last text =
     IsWrittenByReplay contents words plan lines last text
     ⊎ (IsWrittenBySample contents words plan lines last text
-    ⊎ (IsWrittenBySettle contents words plan lines last text ⊎ IsWrittenByLines contents words plan lines last text))
+    ⊎ (IsWrittenBySettle contents words plan lines last text
+    ⊎ (IsWrittenByLines contents words plan lines last text ⊎ IsWrittenByPicture contents words plan lines last text)))
 
 -- over a shelf with these contents the words ask for a program that means this plan, these lines lead from its boot to this
 -- world, and the text is written of it

@@ -5,6 +5,7 @@ ghost use Rattle.circus_program.specs.Answer.{IsDue, IsDueOfForm, AsksOnly, Asks
 ghost use Rattle.circus_config.specs.Program.{IsPlan};
 
 use crate::ready::{Ready, prepare};
+use crate::shown::Shown;
 use crate::words::{CommandForm, read_words};
 use circus_config::Plan;
 use circus_ending::{Ending, OneFile, Status, end_of, plan_of};
@@ -44,7 +45,7 @@ enum Command<'a> {
 // A form that is built, with its files.
 enum Built<'a> {
     OneFile(Command<'a>, &'a str),
-    Replay(&'a str, &'a str),
+    Replay(Shown, &'a str, &'a str),
 }
 
 ghost use Rattle.circus_program.specs.Seen.Step.{due_of, Stands, LacksNone, IsLackNoted, IsStepBehind, IsStepOfProgram, IsStepOfReplay, IsStepOfFile};
@@ -54,13 +55,14 @@ ghost use Rattle.circus_program.specs.Seen.Planned.{MeanPlans, IsKnownOf, ReadsP
 // What comes of a replay whose program is fetched and read.
 fn replay_plan<'a, S: Shelf>(
     alloc: Global,
+    shown: Shown,
     plan: Plan,
     schedule: &'a str,
     shelf: &mut S,
 ) -> Result<Step<'a>, NoMemory>
     requires { IsPlan plan }
     ensures due { IfOk result (λ step.
-        IsStepBehind (S.contents shelf.old) plan schedule.now (due_of step)) }
+        IsStepBehind (S.contents shelf.old) shown plan schedule.now (due_of step)) }
     ensures stands { IfOk result Stands }
     ensures lack { IfOk result
         (IsLackNoted (S.fetched shelf.new) (S.faults shelf.old) (S.faults shelf.new)) }
@@ -71,7 +73,7 @@ fn replay_plan<'a, S: Shelf>(
         Err(ShelfFault::NoMemory) => return Err(AllocError),
         Err(ShelfFault::Failed) => return Ok(Step::Lack(schedule)),
     };
-    match prepare(alloc, plan, bytes.as_slice())? {
+    match prepare(alloc, plan, bytes.as_slice(), shown)? {
         Ok(ready) => Ok(Step::Replay(ready)),
         Err(ending) => Ok(Step::Finish(ending)),
     }
@@ -80,12 +82,13 @@ fn replay_plan<'a, S: Shelf>(
 // What comes of a replay whose first file is fetched.
 fn replay_program<'a, S: Shelf>(
     alloc: Global,
+    shown: Shown,
     program: &[u8],
     schedule: &'a str,
     shelf: &mut S,
 ) -> Result<Step<'a>, NoMemory>
     ensures due { IfOk result (λ step.
-        IsStepOfProgram (S.contents shelf.old) program.now schedule.now (due_of step)) }
+        IsStepOfProgram (S.contents shelf.old) shown program.now schedule.now (due_of step)) }
     ensures stands { IfOk result Stands }
     ensures lack { IfOk result
         (IsLackNoted (S.fetched shelf.new) (S.faults shelf.old) (S.faults shelf.new)) }
@@ -93,20 +96,21 @@ fn replay_program<'a, S: Shelf>(
     ensures planned { IfOk result (λ _. MeanPlans program.now) }
 {
     match plan_of(alloc, program)? {
-        Ok(plan) => replay_plan(alloc, plan, schedule, shelf),
+        Ok(plan) => replay_plan(alloc, shown, plan, schedule, shelf),
         Err(refused) => Ok(Step::Finish(refused)),
     }
 }
 
-// What comes of a replay of two files.
+// What comes of a replay of two files, of which this is shown.
 fn replay<'a, S: Shelf>(
     alloc: Global,
+    shown: Shown,
     program: &'a str,
     schedule: &'a str,
     shelf: &mut S,
 ) -> Result<Step<'a>, NoMemory>
     ensures due { IfOk result (λ step.
-        IsStepOfReplay (S.contents shelf.old) program.now schedule.now (due_of step)) }
+        IsStepOfReplay (S.contents shelf.old) shown program.now schedule.now (due_of step)) }
     ensures stands { IfOk result Stands }
     ensures lack { IfOk result
         (IsLackNoted (S.fetched shelf.new) (S.faults shelf.old) (S.faults shelf.new)) }
@@ -120,7 +124,7 @@ fn replay<'a, S: Shelf>(
         Err(ShelfFault::NoMemory) => return Err(AllocError),
         Err(ShelfFault::Failed) => return Ok(Step::Lack(program)),
     };
-    let step = replay_program(alloc, bytes.as_slice(), schedule, shelf)?;
+    let step = replay_program(alloc, shown, bytes.as_slice(), schedule, shelf)?;
     Ok(step)
 }
 
@@ -212,7 +216,12 @@ fn built_of(form: CommandForm<'_>) -> Option<Built<'_>>
             name,
             turns,
         } => (Command::OfPlan(Task::Node(name, turns)), program),
-        CommandForm::Replay { program, schedule } => return Some(Built::Replay(program, schedule)),
+        CommandForm::Replay { program, schedule } => {
+            return Some(Built::Replay(Shown::Report, program, schedule));
+        }
+        CommandForm::Picture { program, schedule } => {
+            return Some(Built::Replay(Shown::Picture, program, schedule));
+        }
         CommandForm::Audit { .. } => return None,
     };
     Some(Built::OneFile(command, file))
@@ -240,7 +249,9 @@ pub fn follow<'a, S: Shelf>(
     };
     match built_of(form) {
         Some(Built::OneFile(command, file)) => one_file(alloc, command, file, shelf),
-        Some(Built::Replay(program, schedule)) => replay(alloc, program, schedule, shelf),
+        Some(Built::Replay(shown, program, schedule)) => {
+            replay(alloc, shown, program, schedule, shelf)
+        }
         None => {
             let unbuilt = Ending::of_line(alloc, Status::NotBuilt, "not built\n")?;
             Ok(Step::Finish(unbuilt))

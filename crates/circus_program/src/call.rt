@@ -22,15 +22,15 @@ use std::alloc::Global;
 
 /// Does what the words ask for: fetches files from the shelf, writes to the sink line by line, and answers the status
 /// (docs/GUIDE.md, "Statuses"). So far all forms but `audit` are built; the link is used by `node` alone. The report of
-/// a replay is written as its lines are stepped.
+/// a replay is written as its lines are stepped, its picture once all are.
 ///
-/// - 0: the stubs or the history of a program, the report of a replay, the record of a node, the summary of a sample, its
-///   lines, what a program has settled to, or the best choice of a placing is written.
+/// - 0: the stubs or the history of a program, the report of a replay or its picture, the record of a node, the summary of a
+///   sample, its lines, what a program has settled to, or the best choice of a placing is written.
 /// - 1: exactly where the words are of no form.
 /// - 2: exactly where the file of another form than `place` is no program, whose line and cause are written, or `node` names
 ///   no node of it.
-/// - 3: exactly where a line of the schedule is refused, which the last line written names; behind the lines of what was
-///   sent before, where it may not be stepped.
+/// - 3: exactly where a line of the schedule is refused, which the last line written names; in `replay` behind the lines of
+///   what was sent before, where it may not be stepped.
 /// - 4: only where the shelf's count of faults rose; the name fetched last is written.
 /// - 5: only where the sink's count of faults rose; what was written is a part of the text.
 /// - 6: only where the link's count of faults rose, in `node`.

@@ -1,5 +1,5 @@
 // What holds of all words and all contents of the files.
-ghost use Rattle.std.specs.Prelude.{◌≡◌, ◌<◌, ◌≤◌, ◌⊎◌, ◌↔◌, ℕ, Option, List};
+ghost use Rattle.std.specs.Prelude.{◌≡◌, ◌<◌, ◌≤◌, ◌⊎◌, ◌↔◌, ◌++◌, ℕ, Option, List};
 ghost use Rattle.circus_program.specs.Form.{IsOfNoForm, most_steps};
 ghost use Rattle.circus_simulated.specs.Schedule.{schedule_of};
 ghost use Rattle.circus_model.specs.Behaviour.{Behaviour};
@@ -7,12 +7,15 @@ ghost use Rattle.circus_schedule.specs.declared.line.Line.{Line};
 ghost use Rattle.circus_world.specs.WorldState.{WorldState};
 ghost use Rattle.circus_config.specs.declared.plan.Plan.{Plan};
 ghost use Rattle.circus_program.specs.Answer.{Due, finish};
-ghost use Rattle.circus_program.specs.Replay.{replay_of};
+ghost use Rattle.circus_program.specs.Replay.{replay_of, picture_of};
 ghost use Rattle.circus_program.specs.Agreeing.{IsAgreed, IsAgreedSoFar, ArePlans};
 ghost use Rattle.circus_config.specs.Program.{IsPlan};
 ghost use Rattle.circus_program.specs.Promise.{KeepsPromise, IsKept, IsKeptSoFar, enough_deliveries};
+ghost use Rattle.circus_program.specs.ServedRuns.{IsServedRunOf};
+ghost use Rattle.circus_log.specs.Outside.{Tells};
+ghost use Rattle.circus_served.specs.NodeEnds.{IsEndOfServing};
 ghost use Rattle.circus_program.specs.Replayed.{AreShort, IsReplayed};
-ghost use Rattle.circus_program.specs.Worlds.{AreLed, IsReported, IsCutByRefusal, IsCutBySpending, IsSpentAtBoot, AskForRecords, AskToSimulate, IsOfWorld};
+ghost use Rattle.circus_program.specs.Worlds.{AreLed, IsReported, IsCutByRefusal, IsCutBySpending, IsSpentAtBoot, IsPictured, AskForRecords, AskToSimulate, IsOfWorld};
 ghost use Rattle.circus_ending.specs.Ending.{Ending};
 ghost use Rattle.circus_ending.specs.declared.status.Status.TheVariants.{Done, BadCommandLine, BadProgram, BadSchedule, Spent, NotBuilt, Unsettled};
 ghost use Rattle.circus_program.specs.Last.{IsDueLast, EndsWith, IsToBeRead, IsAnswered, IsRefusedProgram, IsNameless, IsRefusedReplay, IsSpent, IsNotBuilt, IsUnsettled, HasLeft};
@@ -32,7 +35,7 @@ pub fn one_thing_is_due()
 
 /// What is due at last is an end with status 1 exactly where the words are of no form, with status 2 exactly where the file
 /// of another form than `place` is no program or has no node of the name, with status 3 exactly where a line of a schedule is
-/// refused, with status 8 exactly where a node has no number left in a replay, in a sample or its lines, or in the deliveries that
+/// refused, with status 8 exactly where a node has no number left in a replay or a picture, in a sample or its lines, or in the deliveries that
 /// settle a program, with status 9 exactly where a form is asked for that is not built, and with status 10 exactly where all deliveries
 /// are made and datagrams are left. What a node that is served comes to is said by the contract of the call.
 pub fn ends_tell_why()
@@ -66,10 +69,19 @@ pub fn reports_are_of_worlds()
         ⊎ IsCutBySpending plan lines (replay_of plan lines).text }
 {}
 
+/// The picture of lines comes to the same status as their replay, and where that is 0, picture and report are of one world.
+/// Where it isn't, the picture is the line that says why, with which the replay ends too.
+pub fn pictures_are_of_worlds()
+    ensures status { (plan : Plan) (lines : List Line) → (picture_of plan lines).status ≡ (replay_of plan lines).status }
+    ensures done { (plan : Plan) (lines : List Line) → (picture_of plan lines).status ≡ Done → IsPictured plan lines }
+    ensures cut { (plan : Plan) (lines : List Line) → ((picture_of plan lines).status ≡ Done → ⊥)
+        → (sent : List ℕ) × ((replay_of plan lines).text ≡ sent ++ (picture_of plan lines).text) }
+{}
+
 /// Where words ask to simulate a program and what is due at last is an end with status 0, there is a plan, which the program
 /// means, with lines that lead from its boot to a world: those of the schedule, those that were drawn, or a delivery of each
-/// datagram. What is written is the report of that world, its summary, what is written of a world that has settled, or, where the
-/// words ask for the lines that are drawn, these.
+/// datagram. What is written is the report of that world, its picture, its summary, what is written of a world that has settled,
+/// or, where the words ask for the lines that are drawn, these.
 pub fn ends_are_of_worlds()
     ensures { (contents : List ℕ → Option (List ℕ)) (words : List (List ℕ)) (ending : Ending)
         → IsDueLast contents words (finish ending) → ending.status ≡ Done → AskToSimulate words
@@ -98,8 +110,9 @@ pub fn promises_are_kept()
         → IsPlan plan → HasLeft plan deliveries → deliveries < enough_deliveries plan }
 {}
 
-/// So the copies agree in what is written of records: what each active member performed are the next runs of its module in the
-/// history of the program, which the unreplicated execution of the program gives.
+/// So the promise of a whole run is kept in what is written of records: of facts of which the text is the report, the summary, or
+/// what is written of a settling, by the lines that led to them. Each node was a node run by what the lines gave to it; what each
+/// active member performed are the next runs of its module in the history of the program, which its unreplicated execution gives.
 pub fn copies_agree()
     ensures done { (contents : List ℕ → Option (List ℕ)) (words : List (List ℕ)) (text : List ℕ)
         → AskForRecords words → IsKept contents words text → IsAgreed contents words text }
@@ -115,4 +128,13 @@ pub fn lines_are_replayed()
         → IsPlan plan → steps ≤ most_steps → AreShort plan seed steps
         → (schedule_of plan seed steps).status ≡ Done
         → IsReplayed plan seed steps (schedule_of plan seed steps).text }
+{}
+
+/// Where a node of a plan is served to its end with status 0, what is written is the record of a node run, if the node hosts a
+/// member: its events are the takes, with the declarations and the join that these bring about, what it gave and told in each is
+/// what is written, and so is the record of its member.
+pub fn served_ends_are_node_runs()
+    ensures { (plan : Plan) (node turns : ℕ) (old new : Tells) (ending : Ending)
+        → IsPlan plan → IsEndOfServing plan node turns old new ending → ending.status ≡ Done
+        → IsServedRunOf plan node turns old new ending.text }
 {}

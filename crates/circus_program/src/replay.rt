@@ -1,21 +1,22 @@
-// A replay, which writes its report as it goes.
-ghost use Rattle.std.specs.Prelude.{◌≡◌, ◌<◌, ◌+◌, [], All, IsAscii, length};
+// A replay, whose report is written as it goes.
+ghost use Rattle.std.specs.Prelude.{◌≡◌, ◌<◌, ◌≤◌, ◌+◌, All, IsAscii, None, length};
 ghost use Rattle.circus_record.specs.Naming.{host_name, names_of};
+ghost use Rattle.circus_schedule.specs.Answer.{most_lines};
 ghost use Rattle.circus_schedule.specs.Meaning.{NamesBelow};
+ghost use Rattle.circus_simulated.specs.Seen.Simulated.{world_of, IsFresh};
 ghost use Rattle.circus_program.specs.Replay.{replayed};
 ghost use Rattle.circus_program.specs.Seen.Put.{IsPutEnd};
-ghost use Rattle.circus_program.specs.Seen.Ready.{end_of_ready, IsReady};
-ghost use Rattle.circus_program.specs.Seen.Ended.{IsEndedBy};
+ghost use Rattle.circus_program.specs.Seen.Ready.{end_by, end_of_ready, IsReady};
 
-use crate::put::put_end;
+use crate::drawing::draw;
+use crate::ended::{ended, stopped};
 use crate::ready::Ready;
-use crate::schedule_refused::illegal;
 use circus_collate::Hosts;
 use circus_config::ModuleNames;
-use circus_ending::{Status, spent};
+use circus_ending::Status;
 use circus_model::Module;
 use circus_outside::Sink;
-use circus_running::{RunFault, Running};
+use circus_running::Running;
 use circus_schedule::Line;
 use circus_simulated::Simulated;
 use std::alloc::Global;
@@ -25,14 +26,32 @@ pub fn replay<K: Sink>(alloc: Global, ready: Ready, sink: &mut K) -> Status
     requires { IsReady ready }
     ensures { IsPutEnd (end_of_ready ready) (K.written sink.old) (K.written sink.new) (K.faults sink.old) (K.faults sink.new) result }
 {
-    let Ready { simulated, lines } = ready;
+    let Ready {
+        simulated,
+        lines,
+        procedures,
+    } = ready;
+    match procedures {
+        None => report(alloc, simulated, lines.as_slice(), sink),
+        Some(procedures) => draw(alloc, simulated, lines.as_slice(), &procedures, sink),
+    }
+}
+
+// Writes the report of lines as they are stepped.
+fn report<K: Sink>(alloc: Global, simulated: Simulated, lines: &[Line], sink: &mut K) -> Status
+    requires fresh { IsFresh simulated }
+    requires below { All (NamesBelow (length simulated.hosts)) lines.now }
+    requires few { length lines.now ≤ most_lines }
+    ensures { IsPutEnd (end_by None (names_of simulated.hosts simulated.names) lines.now (world_of simulated.world))
+        (K.written sink.old) (K.written sink.new) (K.faults sink.old) (K.faults sink.new) result }
+{
     let Simulated {
         world,
         hosts,
         names,
     } = simulated;
     match Running::begin(alloc, world, sink) {
-        Ok(running) => follow(alloc, running, &hosts, &names, lines.as_slice(), sink),
+        Ok(running) => follow(alloc, running, &hosts, &names, lines, sink),
         Err(fault) => stopped(fault),
     }
 }
@@ -64,36 +83,5 @@ fn follow<M: Module, K: Sink>(
     match running.finish(alloc, names, sink) {
         Ok(()) => Status::Done,
         Err(fault) => stopped(fault),
-    }
-}
-
-// What a replay comes to that ends at the line of this number.
-fn ended<K: Sink>(
-    alloc: Global,
-    hosts: &Hosts,
-    number: u64,
-    fault: RunFault,
-    sink: &mut K,
-) -> Status
-    requires { All (λ h. IsAscii (host_name h)) hosts.now }
-    ensures { IsEndedBy (names_of hosts.now []) number fault
-        (K.written sink.old) (K.written sink.new) (K.faults sink.old) (K.faults sink.new) result }
-{
-    match fault {
-        RunFault::Illegal(cause) => put_end(illegal(alloc, hosts, number, cause), sink),
-        RunFault::Spent(node, peer) => put_end(spent(alloc, hosts, node, peer), sink),
-        RunFault::SinkFailed => Status::SinkFault,
-        RunFault::NoMemory => Status::NoMemory,
-    }
-}
-
-// What a fault comes to where no line was stepped.
-fn stopped(fault: RunFault) -> Status
-    ensures sink { fault ≡ RunFault.SinkFailed → result ≡ Status.SinkFault }
-    ensures memory { fault ≡ RunFault.NoMemory → result ≡ Status.NoMemory }
-{
-    match fault {
-        RunFault::SinkFailed => Status::SinkFault,
-        _ => Status::NoMemory,
     }
 }

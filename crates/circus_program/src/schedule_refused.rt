@@ -6,6 +6,7 @@ ghost use Rattle.circus_record.specs.Naming.{host_name, names_of};
 ghost use Rattle.circus_ending.specs.Seen.Ending.{ending_of};
 ghost use Rattle.circus_program.specs.Replay.{cause_text, refused as refused_end, IsReplayOf};
 ghost use Rattle.circus_config.specs.declared.plan.Plan.{Plan};
+ghost use Rattle.circus_program.specs.declared.shown.Shown.{Shown};
 
 use circus_collate::Hosts;
 use circus_ending::{Ending, Status};
@@ -18,7 +19,7 @@ use std::fmt;
 
 /// The end of a schedule that is read as none.
 pub fn refused(alloc: Global, fault: &ScheduleFault) -> Result<Ending, NoMemory>
-    ensures ending { (plan : Plan) → IfOk result (λ ending. IsReplayOf plan (Err fault.now) (ending_of ending)) }
+    ensures ending { (shown : Shown) (plan : Plan) → IfOk result (λ ending. IsReplayOf shown plan (Err fault.now) (ending_of ending)) }
     ensures status { IfOk result (λ ending. ending.status ≡ Status.BadSchedule) }
 {
     Ok(Ending {
@@ -29,7 +30,7 @@ pub fn refused(alloc: Global, fault: &ScheduleFault) -> Result<Ending, NoMemory>
 
 // What is written of a schedule that is read as none.
 fn fault_text(alloc: Global, fault: &ScheduleFault) -> Result<Octets, NoMemory>
-    ensures { (plan : Plan) → IfOk result (λ text. IsReplayOf plan (Err fault.now) (record { status = Status.BadSchedule; text = text })) }
+    ensures { (shown : Shown) (plan : Plan) → IfOk result (λ text. IsReplayOf shown plan (Err fault.now) (record { status = Status.BadSchedule; text = text })) }
 {
     match fault {
         ScheduleFault::BadLine(number) => line_text(alloc, *number, "bad line"),

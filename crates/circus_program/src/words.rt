@@ -28,6 +28,11 @@ pub enum CommandForm<'a> {
         program: &'a str,
         schedule: &'a str,
     },
+    /// `picture PROGRAM SCHEDULE`: the picture of a simulation under a schedule.
+    Picture {
+        program: &'a str,
+        schedule: &'a str,
+    },
     /// `node PROGRAM NAME TURNS`: one node over the link, for 0 to 100,000 takes.
     Node {
         program: &'a str,
@@ -112,6 +117,10 @@ fn read_three_words<'a>(
     }
     match command {
         "replay" if !second.is_empty() => Some(CommandForm::Replay {
+            program,
+            schedule: second,
+        }),
+        "picture" if !second.is_empty() => Some(CommandForm::Picture {
             program,
             schedule: second,
         }),

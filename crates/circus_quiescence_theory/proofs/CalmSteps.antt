@@ -52,7 +52,8 @@ use Rattle.circus_world.specs.WorldState.{WorldState, Standing}
 use Rattle.circus_world.specs.Lines.{Lead}
 use Rattle.circus_world.proofs.SlotLemmas.{get_set, get_there, all_at}
 use Rattle.circus_talks.specs.Histories.{beginning_of, with_line, with_lines, with_others}
-use Rattle.circus_talks.specs.NodeActs.{with_all, coming, came_by, wire_behind, effects_in}
+use Rattle.circus_talks.specs.NodeActs.{with_all, coming, came_by, wire_behind}
+use Rattle.circus_node.specs.Trace.{effects_in}
 use Rattle.circus_talks.proofs.Given.{with_both}
 use Rattle.circus_talks.proofs.Worlds.{Stands, IsGiven, get_same, came_sent}
 use Rattle.circus_truth.specs.Proper.{AreProper}

@@ -50,7 +50,8 @@ use Rattle.circus_world.specs.WorldState.{WorldState, Standing}
 use Rattle.circus_world.specs.Course.{Stepped, comes_to, concluded}
 use Rattle.circus_world.proofs.SlotLemmas.{get_set}
 use Rattle.circus_talks.specs.Histories.{beginning_of}
-use Rattle.circus_talks.specs.NodeActs.{wire_behind, effects_in, acts_in}
+use Rattle.circus_talks.specs.NodeActs.{wire_behind, acts_in}
+use Rattle.circus_node.specs.Trace.{effects_in}
 use Rattle.circus_talks.proofs.Worlds.{Stands, at_pair}
 use Rattle.circus_truth.specs.Proper.{AreProper}
 use Rattle.circus_truth.specs.Truth.{IsTrueCallFor}

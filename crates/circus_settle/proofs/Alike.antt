@@ -60,7 +60,7 @@ module _ {M : Type 0} (declared : M → Signature) (turn : M → List ValueTree 
 
   -- ---- what is written of a node
 
-  record_as : (a : Acting M) → member_record (acting_as declared turn first a) ≡ member_record a
+  pub record_as : (a : Acting M) → member_record (acting_as declared turn first a) ≡ member_record a
   record_as (member m) = refl
   record_as (ringmaster kept) = refl
 

@@ -35,7 +35,8 @@ use Rattle.circus_world.specs.Seen.Sound.{IsSound}
 use Rattle.circus_world.proofs.SlotLemmas.{get_set, get_there}
 use Rattle.circus_world.proofs.SoundLemmas.{comes_sound}
 use Rattle.circus_talks.specs.Histories.{beginning_of}
-use Rattle.circus_talks.specs.NodeActs.{with_all, coming, came_by, wire_behind, effects_in, acts_in}
+use Rattle.circus_talks.specs.NodeActs.{with_all, coming, came_by, wire_behind, acts_in}
+use Rattle.circus_node.specs.Trace.{effects_in}
 use Rattle.circus_talks.proofs.Given.{HaveGiven, WasGiven, AreGiven, Gives, given_on}
 use Rattle.circus_talks.proofs.Spelled.{sent_is_read}
 use Rattle.circus_talks.proofs.Steps.{IsRead, given_brings, step_gives}

@@ -8,7 +8,7 @@ use Rattle.circus_segment.specs.declared.fault.SegmentFault.{SegmentFault}
 use Rattle.circus_collate.specs.declared.deployment.Deployment.{Deployment}
 use Rattle.circus_model.specs.NextTurn.{NextTurn}
 use Rattle.circus_model.specs.declared.signature.Signature.{Signature}
-use Rattle.circus_wire.specs.Wire.{WireState, is_up, after_datagram, heard_from, all_ticked, stopped_at}
+use Rattle.circus_wire.specs.Wire.{WireState, is_up, after_datagram, all_ticked, stopped_at}
 use Rattle.circus_wire.specs.WireActs.{WireAct, WireActs, followed_by, CallTo, AnswerTo, CameFrom, TickAll, StopOf}
 use Rattle.circus_member_rules.specs.declared.occurrence.Purpose.{Purpose}
 use Rattle.circus_member_rules.specs.declared.occurrence.Effect.{Effect}
@@ -16,9 +16,9 @@ use Rattle.circus_member_rules.specs.declared.occurrence.Effect.TheVariants as m
 use Rattle.circus_node.specs.declared.event.Event.{Event}
 use Rattle.circus_node.specs.declared.event.Event.TheVariants.{Datagram, Tick, Down, Join}
 use Rattle.circus_node.specs.NodeState.{NodeState}
-use Rattle.circus_node.specs.Making.{hears, learns_down, is_told_to_join}
+use Rattle.circus_node.specs.Trace.{effects_in, effects_at_boot}
 use Rattle.circus_node.specs.Sending.{is_sendable}
-use Rattle.circus_node.specs.Booting.{home_of, made_at_boot, fresh_wire}
+use Rattle.circus_node.specs.Booting.{fresh_wire}
 
 -- each act behind those before it
 abbrev pub with_all : WireActs Purpose → List (WireAct Purpose) → WireActs Purpose
@@ -51,19 +51,12 @@ module _ {M : Type 0} where
   wire_behind Join n = n.wire
 
 module _ {M : Type 0} (declared : M → Signature) (turn : M → List ValueTree → ℕ → List ValueTree → List Outcome → NextTurn) where
-  -- the calls and returns that a node makes in a step
-  abbrev pub effects_in : ℕ → Event → NodeState M → List Effect
-  effects_in at (Datagram from bytes) n = (hears declared turn n.deployment at from (heard_from n.wire from (reading bytes)) n.acting).came.effects
-  effects_in at Tick n = []
-  effects_in at (Down node) n = (learns_down declared turn at node n.acting).came.effects
-  effects_in at Join n = (is_told_to_join declared turn at n.acting).came.effects
-
   -- all that happens at the pairs in a step
   abbrev pub acts_in : ℕ → Event → NodeState M → List (WireAct Purpose)
-  acts_in at event n = came_by event ++ flat_map (handed_by (wire_behind event n)) (effects_in at event n)
+  acts_in at event n = came_by event ++ flat_map (handed_by (wire_behind event n)) (effects_in declared turn at event n)
 
 module _ {M : Type 0} (declared : M → Signature) (turn : M → List ValueTree → ℕ → List ValueTree → List Outcome → NextTurn) (first : M → List ValueTree) where
   -- and at boot
   abbrev pub acts_at_boot : Deployment → Option M → ℕ → List (WireAct Purpose)
   acts_at_boot d hosted node =
-      flat_map (handed_by (fresh_wire d node)) (made_at_boot declared turn first d (home_of d node) hosted).came.effects
+      flat_map (handed_by (fresh_wire d node)) (effects_at_boot declared turn first d hosted node)

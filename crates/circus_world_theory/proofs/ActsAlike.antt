@@ -38,7 +38,8 @@ use Rattle.circus_world.specs.Alike.{standing_as, world_as, step_as}
 use Rattle.circus_world.specs.Course.{Stepped, stepped}
 use Rattle.circus_world.proofs.WorldsAlike.{world_stepped_as}
 use Rattle.circus_talks.specs.Histories.{delivery, comes_by, with_others, with_step, with_line, with_lines, acts_of}
-use Rattle.circus_talks.specs.NodeActs.{with_all, came_by, handed_by, wire_behind, effects_in, acts_in, acts_at_boot}
+use Rattle.circus_talks.specs.NodeActs.{with_all, came_by, handed_by, wire_behind, acts_in, acts_at_boot}
+use Rattle.circus_node.specs.Trace.{effects_in}
 
 module _ {M : Type 0} (declared : M → Signature) (turn : M → List ValueTree → ℕ → List ValueTree → List Outcome → NextTurn) (first : M → List ValueTree) where
   abbrev seen : WorldState M → WorldState Behaviour

@@ -41,7 +41,8 @@ use Rattle.circus_world.specs.Course.{Stepped, concluded, comes_to}
 use Rattle.circus_world.specs.Course as course
 use Rattle.circus_world.proofs.SlotLemmas.{get_set, get_there}
 use Rattle.circus_talks.specs.Histories.{beginning_of}
-use Rattle.circus_talks.specs.NodeActs.{with_all, wire_behind, effects_in, acts_in}
+use Rattle.circus_talks.specs.NodeActs.{with_all, wire_behind, acts_in}
+use Rattle.circus_node.specs.Trace.{effects_in}
 use Rattle.circus_talks.proofs.Worlds.{at_pair}
 use Rattle.circus_truth.specs.Proper.{AreProper}
 use Rattle.circus_world_theory.proofs.Handing.{IsMade, calls_stay, step_said}

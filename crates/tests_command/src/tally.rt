@@ -17,12 +17,9 @@ use circus_world::{Line, World};
 use std::alloc::Global;
 use std::str;
 use std::test::Fail;
-use tests_parts::{FORMAT_1, ONE_OF_EACH, joined};
-
-const PROGRAM: &[&str] = &[FORMAT_1, LONG_COUNTER, ONE_OF_EACH];
 
 // A counter of the signature of a tally, whose sum is a LONG CARDINAL, and a root that adds once.
-const LONG_COUNTER: &str = "\
+const PROGRAM: &[u8] = b"CIRCUS 1;
 Count: PROGRAM 1 VERSION 1 =
 BEGIN
   Add: PROCEDURE [n: CARDINAL] RETURNS [sum: LONG CARDINAL] = 1;
@@ -43,6 +40,9 @@ BEGIN
     RETURN [];
   END;
 END.
+RINGMASTER ring PORT 9000;
+TROUPE Counter CALLS FIRST REPLIES FIRST MEMBERS s1 PORT 9001;
+TROUPE Main CALLS FIRST REPLIES FIRST MEMBERS m1 PORT 9002;
 ";
 
 const REPORT: &str = "circus report 1
@@ -145,13 +145,12 @@ fn replay<M: Module>(
 
 // The report of the program, with a tally for its counter or with texts alone.
 fn report(alloc: Global, with_tally: bool) -> Result<MemSink, Fail> {
-    let program = joined(alloc, PROGRAM)?;
     let Loaded {
         deployment,
         names,
         modules,
         ..
-    } = load(alloc, read_program(alloc, program.as_str().as_bytes())?)?;
+    } = load(alloc, read_program(alloc, PROGRAM)?)?;
     let modules = modules_of(alloc, &deployment, modules, with_tally)?;
     let mut sink = MemSink::new(alloc, Failing::new(alloc));
     replay(alloc, deployment, &names, modules, &mut sink)?;

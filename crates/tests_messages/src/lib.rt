@@ -1,16 +1,17 @@
-//! Tests of the message layer: segments that are read and refused, the last number of a call, two ends that are put
-//! together, what two pairs say to each other, and the wire of a node, by rows of what happens at it and what it says.
+//! Tests of bytes and messages, by the library's calls that no form of the command reaches: external data and stubs, read,
+//! refused and written; shown texts; segments that are none; the last number of a call, and two ends that are put together;
+//! and what collators answer.
 #![tactic(auto)]
 
 #[cfg(test)]
-mod numbers;
+mod collators;
 #[cfg(test)]
-mod post;
+mod external;
+#[cfg(test)]
+mod pairs;
 #[cfg(test)]
 mod segments;
 #[cfg(test)]
-mod talks;
+mod shown;
 #[cfg(test)]
-mod two_ends;
-#[cfg(test)]
-mod wires;
+mod stubs;

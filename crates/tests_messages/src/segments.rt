@@ -3,79 +3,55 @@ use circus_segment::{SegmentFault, read_segment};
 use circus_value::{Message, NoMemory};
 use std::alloc::Global;
 
-fn fault_of(bytes: &[u8]) -> Option<SegmentFault> {
-    read_segment(bytes).err()
-}
+// The first bytes, behind which are zeros, how many there are in all, and the fault. Of several the first one is told.
+const ROWS: [(&[u8], usize, Option<SegmentFault>); 12] = [
+    (&[0], 7, Some(SegmentFault::Short)),
+    (&[4, 3], 7, Some(SegmentFault::Short)),
+    (
+        &[2, 0, 1, 1, 0, 0, 0, 0, 0xaa],
+        9,
+        Some(SegmentFault::Short),
+    ),
+    (&[0, 0, 1, 1], 1032, None),
+    (&[0, 0, 1, 1], 1033, Some(SegmentFault::TooLong)),
+    (&[2, 0, 0, 1, 0, 1], 1034, None),
+    (&[2, 0, 0, 1, 0, 1], 1035, Some(SegmentFault::TooLong)),
+    (&[4, 3], 1033, Some(SegmentFault::TooLong)),
+    (
+        &[4, 0, 1, 1, 0, 0, 0, 0, 0xaa],
+        9,
+        Some(SegmentFault::BadKind),
+    ),
+    (
+        &[0, 0, 0, 1, 0, 0, 0, 0, 0xaa],
+        9,
+        Some(SegmentFault::BadNumber),
+    ),
+    (&[0, 2, 0, 1], 8, Some(SegmentFault::BadNumber)),
+    (
+        &[0, 0, 2, 1, 0, 0, 0, 0, 0xaa],
+        9,
+        Some(SegmentFault::BadPart),
+    ),
+];
 
-#[test]
-fn refuses_what_is_no_segment(rt: HostRuntime) {
-    assert_eq!(rt; fault_of(&[0; 7]), Some(SegmentFault::Short));
-    assert_eq!(rt;
-        fault_of(&[2, 0, 1, 1, 0, 0, 0, 0, 0xaa]),
-        Some(SegmentFault::Short)
-    );
-    assert_eq!(rt;
-        fault_of(&[4, 0, 1, 1, 0, 0, 0, 0, 0xaa]),
-        Some(SegmentFault::BadKind)
-    );
-    assert_eq!(rt;
-        fault_of(&[0, 0, 0, 1, 0, 0, 0, 0, 0xaa]),
-        Some(SegmentFault::BadNumber)
-    );
-    assert_eq!(rt;
-        fault_of(&[0, 0, 2, 1, 0, 0, 0, 0, 0xaa]),
-        Some(SegmentFault::BadPart)
-    );
-}
-
-// Why a header and zeros, so many bytes in all, are no segment.
-fn fault_of_long(
-    alloc: Global,
-    header: &[u8],
-    len: usize,
-) -> Result<Option<SegmentFault>, NoMemory> {
+// The fault of so many bytes, of which these are the first.
+fn fault_of(alloc: Global, first: &[u8], length: usize) -> Result<Option<SegmentFault>, NoMemory> {
     let mut bytes = Message::new(alloc);
-    bytes.append(header)?;
-    for _i in header.len()..len {
+    bytes.append(first)?;
+    for _ in first.len()..length {
         bytes.push(0)?;
     }
-    Ok(fault_of(bytes.as_slice()))
+    Ok(read_segment(bytes.as_slice()).err())
 }
 
 #[test]
-fn takes_1_024_bytes_of_data(rt: HostRuntime) -> Result<(), NoMemory> {
-    let alloc = rt.alloc();
-    let first = [0, 0, 1, 1, 0, 0, 0, 0];
-    let second = [2, 0, 0, 1, 0, 1, 0, 0, 0, 0];
-    assert_eq!(rt; fault_of_long(alloc, &first, 1032)?, None);
-    assert_eq!(rt;
-        fault_of_long(alloc, &first, 1033)?,
-        Some(SegmentFault::TooLong)
-    );
-    assert_eq!(rt; fault_of_long(alloc, &second, 1034)?, None);
-    assert_eq!(rt;
-        fault_of_long(alloc, &second, 1035)?,
-        Some(SegmentFault::TooLong)
-    );
-    Ok(())
-}
-
-// Each of these has the faults behind it too.
-#[test]
-fn names_the_first_fault(rt: HostRuntime) -> Result<(), NoMemory> {
-    let alloc = rt.alloc();
-    assert_eq!(rt; fault_of(&[4, 3, 0, 0, 0, 0, 0]), Some(SegmentFault::Short));
-    assert_eq!(rt;
-        fault_of_long(alloc, &[4, 3, 0, 0], 1033)?,
-        Some(SegmentFault::TooLong)
-    );
-    assert_eq!(rt;
-        fault_of(&[4, 3, 0, 0, 0, 0, 0, 0]),
-        Some(SegmentFault::BadKind)
-    );
-    assert_eq!(rt;
-        fault_of(&[0, 2, 0, 1, 0, 0, 0, 0]),
-        Some(SegmentFault::BadNumber)
-    );
+fn what_is_no_segment_is_refused(rt: HostRuntime) -> Result<(), NoMemory> {
+    for (number, (first, length, fault)) in ROWS.iter().enumerate() {
+        assert!(rt;
+            fault_of(rt.alloc(), first, *length)? == *fault,
+            "row {number}"
+        );
+    }
     Ok(())
 }

@@ -3,7 +3,7 @@ use Rattle.std.specs.Prelude.{List, ℕ}
 use Rattle.circus_config.specs.declared.plan.Plan.{Plan}
 use Rattle.circus_ending.specs.declared.one_file.OneFile.{OneFile}
 use Rattle.circus_ending.specs.declared.one_file.OneFile.TheVariants.{Stubs, Run, Place}
-use Rattle.circus_program.specs.Form.{CommandForm, stubs, run, replay, node, sample, draw, settle, place}
+use Rattle.circus_program.specs.Form.{CommandForm, stubs, run, node, sample, draw, settle, place, shown_form}
 use Rattle.circus_program.specs.Answer.{Due, IsDueOfEnd, IsDueOfProgram, IsDueOfSample, IsDueOfLines, IsDueOfSettle, IsDueOfNode}
 use Rattle.circus_program.specs.declared.answer.Task.{Task}
 use Rattle.circus_program.specs.declared.answer.Task.TheVariants.{Sample, Lines, Settle, Node}
@@ -41,4 +41,4 @@ file_form (OfPlan (Node name turns)) file = node file name.now turns
 -- the form with its files
 abbrev pub built_form : Built → CommandForm
 built_form (OfFile command file) = file_form command file.now
-built_form (Replay program schedule) = replay program.now schedule.now
+built_form (Replay shown program schedule) = shown_form shown program.now schedule.now

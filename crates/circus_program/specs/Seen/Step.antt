@@ -12,6 +12,7 @@ use Rattle.circus_ending.specs.Ending.{Ending}
 use Rattle.circus_ending.specs.Seen.Ending.{ending_of}
 use Rattle.circus_config.specs.declared.plan.Plan.{Plan}
 use Rattle.circus_config.specs.Program.{IsProgramOf, IsPlan}
+use Rattle.circus_program.specs.declared.shown.Shown.{Shown}
 use Rattle.circus_program.specs.Answer.{Due, fetch, finish, serve, IsDueOfRefused, IsDueOfSchedule, IsDueOfReplay, IsDueOfFile, AreFetchedOf, WasLast, shelf_fault}
 use Rattle.circus_program.specs.Seen.Put.{IsPutEnd}
 use Rattle.circus_program.specs.Seen.Ready.{end_of_ready, IsReady}
@@ -69,27 +70,27 @@ IsLackNoted fetched old new (Serve plan node turns) = Unit {0}
 IsLackNoted fetched old new (Lack name) = Rose old new × WasLast fetched name.now
 
 -- what is due behind the program of a replay, which means this plan, once these more files are fetched
-abbrev pub IsDueBehind : Plan → List ℕ → List (List ℕ) → Due → Type 0
-IsDueBehind plan schedule [] due = due ≡ fetch schedule
-IsDueBehind plan schedule (bytes ∷ []) due = IsDueOfSchedule plan bytes due
-IsDueBehind plan schedule (_ ∷ _ ∷ _) due = ⊥
+abbrev pub IsDueBehind : Shown → Plan → List ℕ → List (List ℕ) → Due → Type 0
+IsDueBehind shown plan schedule [] due = due ≡ fetch schedule
+IsDueBehind shown plan schedule (bytes ∷ []) due = IsDueOfSchedule shown plan bytes due
+IsDueBehind shown plan schedule (_ ∷ _ ∷ _) due = ⊥
 
 -- a step that is due behind the program
-pub record IsStepBehind (shelf : Option (List ℕ → Option (List ℕ))) (plan : Plan) (schedule : List ℕ) (due : Due) : Type 0 where
+pub record IsStepBehind (shelf : Option (List ℕ → Option (List ℕ))) (shown : Shown) (plan : Plan) (schedule : List ℕ) (due : Due) : Type 0 where
   pub files : List (List ℕ)
   pub fetched : AreFetchedOf shelf (schedule ∷ []) files
-  pub is_due : IsDueBehind plan schedule files due
+  pub is_due : IsDueBehind shown plan schedule files due
 
 -- a step that is due behind a replay's first file
-abbrev pub IsStepOfProgram : Option (List ℕ → Option (List ℕ)) → List ℕ → List ℕ → Due → Type 0
-IsStepOfProgram shelf program schedule due =
-    ((plan : Plan) × IsProgramOf program plan × IsStepBehind shelf plan schedule due) ⊎ IsDueOfRefused program due
+abbrev pub IsStepOfProgram : Option (List ℕ → Option (List ℕ)) → Shown → List ℕ → List ℕ → Due → Type 0
+IsStepOfProgram shelf shown program schedule due =
+    ((plan : Plan) × IsProgramOf program plan × IsStepBehind shelf shown plan schedule due) ⊎ IsDueOfRefused program due
 
 -- a step that is due of a replay
-pub record IsStepOfReplay (shelf : Option (List ℕ → Option (List ℕ))) (program schedule : List ℕ) (due : Due) : Type 0 where
+pub record IsStepOfReplay (shelf : Option (List ℕ → Option (List ℕ))) (shown : Shown) (program schedule : List ℕ) (due : Due) : Type 0 where
   pub files : List (List ℕ)
   pub fetched : AreFetchedOf shelf (program ∷ schedule ∷ []) files
-  pub is_due : IsDueOfReplay program schedule files due
+  pub is_due : IsDueOfReplay shown program schedule files due
 
 -- a step that is due of a command of one file, where this is due of its bytes
 pub record IsStepOfFile (shelf : Option (List ℕ → Option (List ℕ))) (name : List ℕ) (IsNext : List ℕ → Due → Type 0) (due : Due) : Type 0 where

@@ -8,8 +8,8 @@ use Rattle.circus_program.proofs.answer.replay.Goals as goal
 pub returns-clause-due : goal.returns-clause-due
 returns-clause-due g c =
     let told = rw c.in-Ok.ensures.contents at c.in_ok-step.ensures.due in
-    let behind = subst (λ b. IsStepOfProgram (g.S.Shelf.contents c.args.shelf.now) b c.args.schedule.now (due_of c.in_ok-step.step)) c.as_slice.ensures told in
-    step-of_replay (g.S.Shelf.contents c.args.shelf.now) c.args.program.now c.in-Ok.bytes c.args.schedule.now _ c.in-Ok.ensures.told behind
+    let behind = subst (λ b. IsStepOfProgram (g.S.Shelf.contents c.args.shelf.now) c.args.shown b c.args.schedule.now (due_of c.in_ok-step.step)) c.as_slice.ensures told in
+    step-of_replay (g.S.Shelf.contents c.args.shelf.now) c.args.shown c.args.program.now c.in-Ok.bytes c.args.schedule.now _ c.in-Ok.ensures.told behind
 
 pub returns-clause-asked : goal.returns-clause-asked
 returns-clause-asked g c =

@@ -10,7 +10,7 @@ use Rattle.circus_program.proofs.answer.replay_program.Goals as goal
 pub returns-in-Ok-clause-due : goal.returns-in-Ok-clause-due
 returns-in-Ok-clause-due g c =
     let means = subst (λ r. IfOk r (IsProgramOf c.args.program.now)) c.in-Ok.is c.in_ok-plan.ensures.program in
-    behind-good (g.S.Shelf.contents c.args.shelf.now) c.args.program.now c.args.schedule.now c.in-Ok.plan c.replay_plan.result means c.replay_plan.ensures.due
+    behind-good (g.S.Shelf.contents c.args.shelf.now) c.args.shown c.args.program.now c.args.schedule.now c.in-Ok.plan c.replay_plan.result means c.replay_plan.ensures.due
 
 pub returns-in-Err-clause-due : goal.returns-in-Err-clause-due
 returns-in-Err-clause-due g c =

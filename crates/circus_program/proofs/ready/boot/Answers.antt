@@ -2,7 +2,7 @@ use Rattle.std.proofs.Common.{◌≡◌, All, Ok, IfOk, length, ap, sym, subst}
 use Rattle.circus_schedule.specs.Meaning.{NamesBelow}
 use Rattle.circus_simulated.specs.Booted.{booted}
 use Rattle.circus_simulated.specs.Seen.Simulated.{world_of, IsOfPlan}
-use Rattle.circus_program.proofs.ReadyLemmas.{ready_replays}
+use Rattle.circus_program.proofs.ReadyLemmas.{ready_shows}
 use Rattle.circus_program.proofs.ready.boot.Goals as goal
 
 pub returns-in-Ok-clause-ready : goal.returns-in-Ok-clause-ready
@@ -18,4 +18,4 @@ pub returns-in-Ok-clause-end : goal.returns-in-Ok-clause-end
 returns-in-Ok-clause-end c =
     let of = subst (λ r. IfOk r (IsOfPlan c.args.plan)) c.in-Ok.is c.in_ok-simulated.ensures.plan in
     let is = subst (λ r. IfOk r (λ simulated. booted c.args.plan ≡ Ok (world_of simulated.world))) c.in-Ok.is c.in_ok-simulated.ensures.world in
-    ready_replays c.args.plan (record { simulated = c.in-Ok.simulated; lines = c.args.lines }) of is
+    ready_shows c.args.shown c.args.plan (record { simulated = c.in-Ok.simulated; lines = c.args.lines; procedures = c.in_ok-procedures.procedures }) of is c.in_ok-procedures.ensures

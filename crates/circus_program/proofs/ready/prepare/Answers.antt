@@ -12,14 +12,14 @@ boot-requires-clause-few c = read-few _ c.args.schedule.now c.in-Ok.lines (read-
 
 pub returns-in-Ok-clause-end : goal.returns-in-Ok-clause-end
 returns-in-Ok-clause-end c =
-    end-of_lines c.args.plan c.args.schedule.now c.in-Ok.lines end_of_ready c.boot.result
+    end-of_lines c.args.shown c.args.plan c.args.schedule.now c.in-Ok.lines end_of_ready c.boot.result
     (read-answers _ c.args.schedule.now _ c.in-Ok.lines refl c.in-Ok.ensures.answer) c.boot.ensures.end
 
 pub returns-in-Ok-clause-ended : goal.returns-in-Ok-clause-ended
 returns-in-Ok-clause-ended c =
-    ended-of_lines c.args.plan c.args.schedule.now c.in-Ok.lines ending_of c.boot.result
+    ended-of_lines c.args.shown c.args.plan c.args.schedule.now c.in-Ok.lines ending_of c.boot.result
     (read-answers _ c.args.schedule.now _ c.in-Ok.lines refl c.in-Ok.ensures.answer) c.boot.ensures.ended
 
 pub returns-clause-ended : goal.returns-clause-ended
 returns-clause-ended c =
-    end-of_fault c.args.plan c.args.schedule.now c.in-Err.fault (ending_of c.in_ok-refused-in-Err.field-0) c.in-Err.ensures.answer (c.in_ok-refused-in-Err.ensures.ending c.args.plan)
+    end-of_fault c.args.shown c.args.plan c.args.schedule.now c.in-Err.fault (ending_of c.in_ok-refused-in-Err.field-0) c.in-Err.ensures.answer (c.in_ok-refused-in-Err.ensures.ending c.args.shown c.args.plan)

@@ -1,40 +1,31 @@
-use Rattle.std.proofs.Common.{◌≡◌, ◌∙◌, ℕ, List, ap, subst}
-use Rattle.circus_machine.specs.declared.text.TextModule.{TextModule}
+use Rattle.std.proofs.Common.{List, Option, None, Some, sym, ap, subst, ◌∙◌}
+use Rattle.circus_idl.specs.declared.interface.Procedure.{Procedure}
 use Rattle.circus_record.specs.Naming.{names_of}
 use Rattle.circus_schedule.specs.declared.line.Line.{Line}
-use Rattle.circus_world.specs.WorldState.{WorldState}
-use Rattle.circus_running.specs.Run.{beginning}
-use Rattle.circus_program.specs.Replay.{replayed}
+use Rattle.circus_ending.specs.Ending.{Ending}
+use Rattle.circus_simulated.specs.Seen.Simulated.{world_of}
 use Rattle.circus_program.specs.Seen.Put.{IsPutEnd}
-use Rattle.circus_load.specs.Seen.Behaving.{declared, turn, first}
-use Rattle.circus_program.specs.Seen.Ready.{end_of_ready}
-use Rattle.circus_program.proofs.Pieces.{put-left}
-use Rattle.circus_program.proofs.Following.{put-stopped, begun-boot, part-boot}
+use Rattle.circus_program.specs.Seen.Ready.{end_by}
 use Rattle.circus_program.proofs.replay.replay.Goals as goal
 
-pub returns-in-Ok : goal.returns-in-Ok
-returns-in-Ok g c =
+pub returns-in-None : goal.returns-in-None
+returns-in-None g c =
     let r = c.args.ready in
-    let names = names_of r.simulated.hosts r.simulated.names in
-    let whole = end_of_ready r in
     let old = g.K.Sink.written c.args.sink.now in
-    let now = g.K.Sink.written c.begin.new.sink in
-    let new = g.K.Sink.written c.follow.new.sink in
-    let begins = g.K.Sink.faults c.begin.new.sink in
-    let after = g.K.Sink.faults c.follow.new.sink in
-    let left = replayed declared turn names 1 r.lines r.simulated.world in
-    let here : replayed declared turn names 1 c.as_slice.result.now c.in-Ok.running ≡ left =
-    ap (λ (l : List Line). replayed declared turn names 1 l c.in-Ok.running) c.as_slice.ensures
-    ∙ ap (λ (w : WorldState TextModule). replayed declared turn names 1 r.lines w) c.in-Ok.ensures.same in
-    subst (λ (before : ℕ). IsPutEnd whole old new before after c.follow.result) c.in-Ok.ensures.count
-    (put-left whole old left now new begins after c.follow.result
-    (begun-boot declared turn first names r.lines r.simulated.world old now c.in-Ok.ensures.put)
-    (subst (λ e. IsPutEnd e now new begins after c.follow.result) here c.follow.ensures))
+    let new = g.K.Sink.written c.report.new.sink in
+    let before = g.K.Sink.faults c.args.sink.now in
+    let after = g.K.Sink.faults c.report.new.sink in
+    let end : Option (List (List Procedure)) → List Line → Ending = λ procedures lines.
+    end_by procedures (names_of r.simulated.hosts r.simulated.names) lines (world_of r.simulated.world) in
+    subst (λ (e : Ending). IsPutEnd e old new before after c.report.result) (ap (λ (l : List Line). end None l) c.as_slice.ensures ∙ ap (λ o. end o r.lines) (sym c.in-None.is)) c.report.ensures
 
 pub returns : goal.returns
 returns g c =
     let r = c.args.ready in
     let old = g.K.Sink.written c.args.sink.now in
-    let now = g.K.Sink.written c.begin.new.sink in
-    put-stopped (beginning r.simulated.world) (end_of_ready r) old old now (g.K.Sink.faults c.args.sink.now) (g.K.Sink.faults c.begin.new.sink) c.in-Err.fault c.stopped.result
-    c.stopped.ensures.sink c.stopped.ensures.memory c.in-Err.ensures.put c.in-Err.ensures.rose (part-boot declared turn first (names_of r.simulated.hosts r.simulated.names) r.lines r.simulated.world old now)
+    let new = g.K.Sink.written c.draw.new.sink in
+    let before = g.K.Sink.faults c.args.sink.now in
+    let after = g.K.Sink.faults c.draw.new.sink in
+    let end : Option (List (List Procedure)) → List Line → Ending = λ procedures lines.
+    end_by procedures (names_of r.simulated.hosts r.simulated.names) lines (world_of r.simulated.world) in
+    subst (λ (e : Ending). IsPutEnd e old new before after c.draw.result) (ap (λ (l : List Line). end (Some c.in-Some.procedures) l) c.as_slice-in-Some.ensures ∙ ap (λ o. end o r.lines) (sym c.in-Some.is)) c.draw.ensures

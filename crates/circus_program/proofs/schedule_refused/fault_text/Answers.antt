@@ -5,6 +5,7 @@ use Rattle.circus_schedule.specs.declared.schedule_fault.ScheduleFault.{Schedule
 use Rattle.circus_config.specs.declared.plan.Plan.{Plan}
 use Rattle.circus_ending.specs.declared.status.Status.TheVariants.{BadSchedule}
 use Rattle.circus_ending.specs.Ending.{Ending}
+use Rattle.circus_program.specs.declared.shown.Shown.{Shown}
 use Rattle.circus_program.specs.Replay.{refused, IsReplayOf}
 use Rattle.circus_program.proofs.schedule_refused.fault_text.Goals as goal
 
@@ -15,14 +16,14 @@ said (Ok text) number cause is = let end : List ℕ → Ending = λ t. record { 
 said (Err e) number cause is = tt
 
 -- of this fault
-of_fault : {E : Type 0} (r : Result (List ℕ) E) (plan : Plan) (fault same : ScheduleFault) → fault ≡ same → IfOk r (λ text. IsReplayOf plan (Err same) (record { status = BadSchedule; text = text }))
-    → IfOk r (λ text. IsReplayOf plan (Err fault) (record { status = BadSchedule; text = text }))
-of_fault r plan fault same is holds = subst (λ (f : ScheduleFault). IfOk r (λ text. IsReplayOf plan (Err f) (record { status = BadSchedule; text = text }))) (sym is) holds
+of_fault : {E : Type 0} (r : Result (List ℕ) E) (shown : Shown) (plan : Plan) (fault same : ScheduleFault) → fault ≡ same → IfOk r (λ text. IsReplayOf shown plan (Err same) (record { status = BadSchedule; text = text }))
+    → IfOk r (λ text. IsReplayOf shown plan (Err fault) (record { status = BadSchedule; text = text }))
+of_fault r shown plan fault same is holds = subst (λ (f : ScheduleFault). IfOk r (λ text. IsReplayOf shown plan (Err f) (record { status = BadSchedule; text = text }))) (sym is) holds
 
 pub returns-in-UnknownNode : goal.returns-in-UnknownNode
 returns-in-UnknownNode c =
-    λ plan. of_fault c.unknown_text.result plan c.args.fault.now _ c.in-UnknownNode.is (said c.unknown_text.result c.in-UnknownNode.number (codes "unknown node " ++ c.in-UnknownNode.name) c.unknown_text.ensures)
+    λ shown plan. of_fault c.unknown_text.result shown plan c.args.fault.now _ c.in-UnknownNode.is (said c.unknown_text.result c.in-UnknownNode.number (codes "unknown node " ++ c.in-UnknownNode.name) c.unknown_text.ensures)
 
 pub returns-in-TooManyLines : goal.returns-in-TooManyLines
 returns-in-TooManyLines c =
-    λ plan. of_fault c.line_text-in-TooManyLines.result plan c.args.fault.now _ c.in-TooManyLines.is (said c.line_text-in-TooManyLines.result c.in-TooManyLines.number (codes "too many lines") c.line_text-in-TooManyLines.ensures)
+    λ shown plan. of_fault c.line_text-in-TooManyLines.result shown plan c.args.fault.now _ c.in-TooManyLines.is (said c.line_text-in-TooManyLines.result c.in-TooManyLines.number (codes "too many lines") c.line_text-in-TooManyLines.ensures)

@@ -1,0 +1,404 @@
+-- What a node gives in a step is what the acts at its pairs owe, one behind the other.
+use Rattle.std.proofs.Common.{◌≡◌, ◌≢◌, ℕ, zero, suc, ◌*◌, ◌<◌, ◌≤◌, ◌⊎◌, inl, inr, Bool, true, false, cond, not, ◌&&◌, eqb, List, [], ◌∷◌, ◌++◌, length, Option, None, Some, Result, Ok, Err, refl, sym, ap, subst, ◌∙◌, arith, append_assoc, append-nil}
+use Rattle.std.specs.Prelude.{slice_get, flat_map, nat_lt, nat_le, if◌then◌else◌, ◌==◌}
+use Rattle.std.proofs.lemmas.Bool.{and_parts, ltb-true, leb-true, eqb-true, eqb-false, cases_lt}
+use Rattle.std.proofs.lemmas.Bool.Decides.{eqb_tells}
+use Rattle.circus_value.specs.ValueTree.{ValueTree}
+use Rattle.circus_value.specs.declared.caller.Caller.{Caller}
+use Rattle.circus_value.specs.declared.outcome.Outcome.{Outcome}
+use Rattle.circus_segment.specs.Segment.{Piece, IsSegment, reading, part_size, most_segments}
+use Rattle.circus_segment.specs.declared.fault.SegmentFault.{SegmentFault}
+use Rattle.circus_collate.specs.declared.deployment.Deployment.{Deployment}
+use Rattle.circus_model.specs.NextTurn.{NextTurn}
+use Rattle.circus_model.specs.declared.signature.Signature.{Signature}
+use Rattle.circus_exchange.specs.Limits.{never_used}
+use Rattle.circus_exchange.specs.Exchange.{IsSendable, datagrams_of_return}
+use Rattle.circus_pair.specs.Acts.{Call, Return, Came, Tick, Stop, taken_by}
+use Rattle.circus_pair.specs.Lawful.{is_stopped_after}
+use Rattle.circus_pair.specs.Taken.{has_arrived, total_in}
+use Rattle.circus_pair.specs.TwoEnds.{with_act}
+use Rattle.circus_pair.proofs.Following as following
+use Rattle.circus_pair.proofs.Lasting.{lasts_called, lasts_returned}
+use Rattle.circus_wire.specs.declared.delivery.Batch.{Batch}
+use Rattle.circus_wire.specs.Wire.{PeerState, WireState, Beginning, IsOther, place_of, changed_at, changed, peer_at, of_peer, sent_to, is_up, next_number, is_awaited, peer_called, peer_answered, called_to, sent_by_call, answered, sent_by_answer, after_datagram, sent_by_datagram, heard_from, stopped_at}
+use Rattle.circus_wire.specs.WireActs.{WireAct, WireActs, begun, followed_by, CallTo, AnswerTo, CameFrom, TickAll, StopOf, acts_at, awaits_after}
+use Rattle.circus_wire.specs.WireStanding.{WireStands, pair_of, outputs_for}
+use Rattle.circus_wire.proofs.Changing.{found_by, peer_is}
+use Rattle.circus_wire.proofs.Owing.{found_stands, tick_owed, suspects_owed}
+use Rattle.circus_wire.proofs.Performing.{call_stands, call_owes, answer_stands, answer_owes, unawaited_stands, unawaited_owes, came_stands, came_owes}
+use Rattle.circus_wire.proofs.Standing.{stands_begun, stands_ticked, stands_stopped}
+use Rattle.circus_member_rules.specs.declared.occurrence.Purpose.{Purpose}
+use Rattle.circus_member_rules.specs.declared.occurrence.Effect.{Effect}
+use Rattle.circus_member_rules.specs.declared.occurrence.Effect.TheVariants as made
+use Rattle.circus_node.specs.declared.event.Event.{Event}
+use Rattle.circus_node.specs.declared.event.Event.TheVariants as comes
+use Rattle.circus_node.specs.declared.event.Give.{Give}
+use Rattle.circus_node.specs.declared.event.Outputs.{Outputs}
+use Rattle.circus_node.specs.Booting.{home_of, made_at_boot, booted, fresh_wire}
+use Rattle.circus_node.specs.Making.{Made, hears, learns_down, is_told_to_join}
+use Rattle.circus_node.specs.NodeState.{NodeState}
+use Rattle.circus_node.specs.Sending.{Sending, sent, spent, gives_of, is_sendable, handed, all_handed}
+use Rattle.circus_node.specs.Step.{CanCome, ended, concluded, stepped}
+use Rattle.circus_talks.specs.Histories.{beginning_of}
+use Rattle.circus_talks.specs.NodeActs.{with_all, coming, came_by, handed_by, wire_behind, acts_in, acts_at_boot}
+use Rattle.circus_talks.proofs.Given.{IsPeer, peer_by, with_both, same_end}
+use Rattle.circus_talks.proofs.Spelled.{few_made}
+use Rattle.circus_talks.proofs.Steps.{IsRead}
+use Rattle.circus_headline_theory.specs.Trace.{gives_for, gives_for_all, suspects_in}
+
+-- what is owed for acts behind others
+pub gives_both : (b : Beginning) (acts : WireActs Purpose) (some more : List (WireAct Purpose)) → gives_for_all b acts (some ++ more) ≡ gives_for_all b acts some ++ gives_for_all b (with_all acts some) more
+gives_both b acts [] more = refl
+gives_both b acts (act ∷ some) more =
+    ap (λ l. gives_for b acts act ++ l) (gives_both b (followed_by acts act) some more)
+    ∙ sym (append_assoc (gives_for b acts act) (gives_for_all b (followed_by acts act) some) (gives_for_all b (with_all (followed_by acts act) some) more))
+
+-- ---- nothing comes of a node that is none of the others
+
+abbrev pub ComesOfPeer : Beginning → WireAct Purpose → Type 0
+ComesOfPeer b (CallTo to message purpose) = Unit {0}
+ComesOfPeer b (AnswerTo caller message) = Unit {0}
+ComesOfPeer b (CameFrom from s) = IsPeer b from
+ComesOfPeer b TickAll = Unit {0}
+ComesOfPeer b (StopOf node) = Unit {0}
+
+abbrev pub ComeOfPeers : Beginning → WireActs Purpose → Type 0
+ComeOfPeers b begun = Unit {0}
+ComeOfPeers b (followed_by acts act) = ComeOfPeers b acts × ComesOfPeer b act
+
+none_arrived : (call : ℕ) → has_arrived [] 0 call ≡ false
+unfolding has_arrived total_in
+none_arrived call = refl
+
+neither : (x : Bool) → (x && false) ≡ false
+neither true = refl
+neither false = refl
+
+module _ (b : Beginning) (node : ℕ) (no_peer : IsPeer b node → ⊥) where
+  none_taken : (acts : WireActs Purpose) → ComeOfPeers b acts → taken_by (pair_of b) (acts_at (pair_of b) node acts) ≡ []
+  none_taken begun of = refl
+  none_taken (followed_by acts (CallTo to message purpose)) of = by_test (none_taken acts of.0) (eqb to node)
+    where
+      by_test : taken_by (pair_of b) (acts_at (pair_of b) node acts) ≡ [] → (t : Bool)
+          → taken_by (pair_of b) (with_act (acts_at (pair_of b) node acts) (cond t (Some (Call message)) None)) ≡ []
+      by_test rest true = rest
+      by_test rest false = rest
+  none_taken (followed_by acts (AnswerTo caller message)) of = by_test (none_taken acts of.0) (eqb caller.node node && awaits_after (pair_of b) (acts_at (pair_of b) node acts) caller.number)
+    where
+      by_test : taken_by (pair_of b) (acts_at (pair_of b) node acts) ≡ [] → (t : Bool)
+          → taken_by (pair_of b) (with_act (acts_at (pair_of b) node acts) (cond t (Some (Return caller.number message)) None)) ≡ []
+      by_test rest true = rest
+      by_test rest false = rest
+  none_taken (followed_by acts (CameFrom from s)) of = by_test (none_taken acts of.0) (eqb from node) refl
+    where
+      by_test : taken_by (pair_of b) (acts_at (pair_of b) node acts) ≡ [] → (t : Bool) → eqb from node ≡ t
+          → taken_by (pair_of b) (with_act (acts_at (pair_of b) node acts) (cond t (Some (Came s)) None)) ≡ []
+      by_test rest true is = absurd (no_peer (subst (IsPeer b) (eqb-true from node is) of.1))
+      by_test rest false is = rest
+  none_taken (followed_by acts TickAll) of = by_test (none_taken acts of.0) (is_stopped_after (acts_at (pair_of b) node acts))
+    where
+      by_test : taken_by (pair_of b) (acts_at (pair_of b) node acts) ≡ [] → (t : Bool)
+          → taken_by (pair_of b) (with_act (acts_at (pair_of b) node acts) (cond t None (Some Tick))) ≡ []
+      by_test rest true = rest
+      by_test rest false = rest
+  none_taken (followed_by acts (StopOf down)) of = by_test (none_taken acts of.0) (eqb down node)
+    where
+      by_test : taken_by (pair_of b) (acts_at (pair_of b) node acts) ≡ [] → (t : Bool)
+          → taken_by (pair_of b) (with_act (acts_at (pair_of b) node acts) (cond t (Some Stop) None)) ≡ []
+      by_test rest true = rest
+      by_test rest false = rest
+
+  none_awaited : (acts : WireActs Purpose) → ComeOfPeers b acts → (call : ℕ) → awaits_after (pair_of b) (acts_at (pair_of b) node acts) call ≡ false
+  none_awaited acts of call =
+      by_arrived (has_arrived (taken_by (pair_of b) (acts_at (pair_of b) node acts)) 0 call) _ (ap (λ l. has_arrived l 0 call) (none_taken acts of) ∙ none_arrived call)
+    where
+      by_arrived : (x y : Bool) → x ≡ false → (x && y) ≡ false
+      by_arrived true y is = cc
+      by_arrived false y is = refl
+
+is_peer_or_not : (b : Beginning) (node : ℕ) → IsPeer b node ⊎ (IsPeer b node → ⊥)
+is_peer_or_not b node = elim (eqb_tells node b.own) [
+  | inl same ↦ inr (λ is. is.0 same.1)
+  | inr differs ↦ elim (cases_lt node b.nodes) [
+    | inl low ↦ inl (differs.1, low)
+    | inr high ↦ inr (λ is. let low : node < b.nodes = is.1 in absurd (omega (arith, low, high)))
+  ]
+]
+
+-- ---- a node stays up while calls and returns are handed over
+
+module _ (change : PeerState Purpose → PeerState Purpose) (same : (p : PeerState Purpose) → (change p).exchange.stopped ≡ p.exchange.stopped) where
+  up_there : (peers : List (PeerState Purpose)) (place other : ℕ)
+      → of_peer false (λ p. not p.exchange.stopped) (slice_get (changed_at change peers place) other) ≡ of_peer false (λ p. not p.exchange.stopped) (slice_get peers other)
+  unfolding changed_at
+  up_there [] place other = refl
+  up_there (p ∷ peers) zero zero = ap not (same p)
+  up_there (p ∷ peers) zero (suc other) = refl
+  up_there (p ∷ peers) (suc place) zero = refl
+  up_there (p ∷ peers) (suc place) (suc other) = up_there peers place other
+
+  up_either : (t : Bool) (o q : Option (PeerState Purpose)) → of_peer false (λ p. not p.exchange.stopped) o ≡ of_peer false (λ p. not p.exchange.stopped) q
+      → of_peer false (λ p. not p.exchange.stopped) (cond t None o) ≡ of_peer false (λ p. not p.exchange.stopped) (cond t None q)
+  up_either true o q is = refl
+  up_either false o q is = is
+
+  up_changed : (w : WireState Purpose) (at node : ℕ) → is_up (changed change w at) node ≡ is_up w node
+  unfolding peer_at
+  up_changed w at node =
+      up_either (eqb node w.own) (slice_get (changed_at change w.peers (place_of w.own at)) (place_of w.own node)) (slice_get w.peers (place_of w.own node))
+      (up_there w.peers (place_of w.own at) (place_of w.own node))
+
+up_called : (w : WireState Purpose) (to node : ℕ) (message : List ℕ) (purpose : Purpose) → is_up (called_to w to message purpose) node ≡ is_up w node
+up_called w to node message purpose = up_changed (λ p. peer_called p message purpose) (λ p. (lasts_called p.exchange message).stopped) w to node
+
+up_answered : (w : WireState Purpose) (caller : Caller) (message : List ℕ) (node : ℕ) → is_up (changed (λ p. peer_answered p caller.number message) w caller.node) node ≡ is_up w node
+up_answered w caller message node =
+    up_changed (λ p. peer_answered p caller.number message) (λ p. (lasts_returned p.exchange caller.number message).stopped) w caller.node node
+
+-- ---- a call or a return is handed over
+
+-- the pairs stand for acts, and are up as they were
+record Hands (b : Beginning) (acts : WireActs Purpose) (old w : WireState Purpose) : Type 0 where
+  stands : WireStands w b acts
+  of_peers : ComeOfPeers b acts
+  up : (node : ℕ) → is_up w node ≡ is_up old node
+  format : w.format ≡ old.format
+
+-- and this was given
+abbrev HandsSo : Beginning → WireActs Purpose → WireState Purpose → List Give → Sending → Type 0
+HandsSo b acts old given (sent w gives) = Hands b acts old w × (gives ≡ given)
+HandsSo b acts old given (spent node) = Unit {0}
+
+can_send : (format : ℕ) (message : List ℕ) → is_sendable format message ≡ true → IsSendable format message
+can_send format message is =
+    let parts = and_parts (nat_lt 0 (length message)) (nat_le (length message) (part_size * most_segments format)) is in
+    (ltb-true 0 (length message) parts.0, leb-true (length message) (part_size * most_segments format) parts.1)
+
+module _ (b : Beginning) (low : b.first ≤ never_used) (acts : WireActs Purpose) (old w : WireState Purpose) (gives : List Give) (so_far : Hands b acts old w) where
+  -- a number is left
+  left_for : (to : ℕ) → is_up w to ≡ true → (next_number w to == never_used) ≡ false → next_number w to < never_used
+  left_for to up differs =
+      let f = found_by (λ (p : PeerState Purpose). not p.exchange.stopped) w w.own w.format w.peers to refl up in
+      let at = peer_is w w.own w.format w.peers to (place_of w.own to) f.peer refl f.differs refl f.there in
+      let stood = found_stands b acts w to f.peer f.differs f.there so_far.stands in
+      let next = ap (of_peer 0 (λ (p : PeerState Purpose). p.exchange.next)) at ∙ following.next_is f.peer.exchange b.first b.format (acts_at (pair_of b) to acts) stood.pair in
+      let most = few_made b.first b.format (acts_at (pair_of b) to acts) low stood.pair.lawful in
+      let other : next_number w to ≢ never_used = eqb-false (next_number w to) never_used differs in
+      omega (arith, next, most, other)
+
+  call_on : (to : ℕ) (message : List ℕ) (purpose : Purpose)
+      → HandsSo b (with_all acts (handed_by w (made.Call to message purpose))) old (gives ++ gives_for_all b acts (handed_by w (made.Call to message purpose))) (handed w gives (made.Call to message purpose))
+  call_on to message purpose = by_test (is_up w to && is_sendable w.format message) refl
+    where
+      next : WireState Purpose
+      next = called_to w to message purpose
+
+      by_number : is_up w to ≡ true → is_sendable w.format message ≡ true → (none : Bool) → (next_number w to == never_used) ≡ none
+          → HandsSo b (followed_by acts (CallTo to message purpose)) old (gives ++ gives_for_all b acts (CallTo to message purpose ∷ [])) (if none then spent to else sent next (gives ++ gives_of (sent_by_call w to message)))
+      by_number up sendable true is = tt
+      by_number up sendable false is =
+          let may = can_send w.format message sendable in
+          let left = left_for to up is in (
+            record {
+              stands = call_stands b acts w to message purpose up may left so_far.stands next refl;
+              of_peers = (so_far.of_peers, tt);
+              up = λ node. up_called w to node message purpose ∙ so_far.up node;
+              format = so_far.format;
+            },
+            ap (λ (x : Batch). gives ++ gives_of x) (call_owes b acts w to message purpose up may left so_far.stands (sent_by_call w to message).datagrams refl)
+                ∙ ap (λ l. gives ++ l) (sym (append-nil (gives_for b acts (CallTo to message purpose)))),
+          )
+
+      by_test : (test : Bool) → (is_up w to && is_sendable w.format message) ≡ test
+          → HandsSo b (with_all acts (if test then CallTo to message purpose ∷ [] else [])) old (gives ++ gives_for_all b acts (if test then CallTo to message purpose ∷ [] else []))
+          (if test then (if next_number w to == never_used then spent to else sent next (gives ++ gives_of (sent_by_call w to message))) else sent w gives)
+      by_test true is = (let parts = and_parts (is_up w to) (is_sendable w.format message) is in by_number parts.0 parts.1 (next_number w to == never_used) refl)
+      by_test false is = (so_far, sym (append-nil gives))
+
+  -- for a return that is not awaited nothing is owed
+  unawaited : (caller : Caller) (message : List ℕ) → is_awaited w caller ≡ false → gives_for b acts (AnswerTo caller message) ≡ []
+  unawaited caller message none = elim (is_peer_or_not b caller.node) [
+    | inl peer ↦
+        (let one = so_far.stands.one in let all = so_far.stands.nodes in let below = peer.1 in
+        sym (ap gives_of (unawaited_owes b acts w caller message so_far.stands [] ((λ same. peer.0 (same ∙ so_far.stands.own)), omega (arith, one, all, below)) none refl)))
+    | inr no_peer ↦
+        (let e = pair_of b in let here = acts_at e caller.node acts in
+        (λ j. gives_of (let x : Batch = record { to = caller.node; datagrams = outputs_for e here (cond (eqb caller.node caller.node && none_awaited b caller.node no_peer acts so_far.of_peers caller.number j) (Some (Return caller.number message)) None) } in x))
+        ∙ (λ j. gives_of (let x : Batch = record { to = caller.node; datagrams = outputs_for e here (cond (neither (eqb caller.node caller.node) j) (Some (Return caller.number message)) None) } in x)))
+  ]
+
+  answer_on : (caller : Caller) (message : List ℕ)
+      → HandsSo b (with_all acts (handed_by w (made.Answer caller message))) old (gives ++ gives_for_all b acts (handed_by w (made.Answer caller message))) (handed w gives (made.Answer caller message))
+  answer_on caller message = by_test (is_sendable w.format message) refl
+    where
+      next : WireState Purpose
+      next = changed (λ p. peer_answered p caller.number message) w caller.node
+
+      sends : Batch
+      sends = sent_to (λ p. datagrams_of_return p.exchange caller.number message) w caller.node
+
+      none : Batch
+      none = record { to = caller.node; datagrams = [] }
+
+      by_call : IsSendable w.format message → (awaited : Bool) → is_awaited w caller ≡ awaited
+          → Hands b (followed_by acts (AnswerTo caller message)) old (if awaited then next else w)
+          × ((gives ++ gives_of (if awaited then sends else none)) ≡ gives ++ gives_for_all b acts (AnswerTo caller message ∷ []))
+      by_call may true is = (
+        record {
+          stands = answer_stands b acts w caller message so_far.stands next may is (sym (ap (λ (x : Bool). if x then next else w) is));
+          of_peers = (so_far.of_peers, tt);
+          up = λ node. up_answered w caller message node ∙ so_far.up node;
+          format = so_far.format;
+        },
+        ap (λ (x : Batch). gives ++ gives_of x) (answer_owes b acts w caller message so_far.stands sends.datagrams is (sym (ap (λ (x : Bool). let y : Batch = if x then sends else none in y.datagrams) is)))
+            ∙ ap (λ l. gives ++ l) (sym (append-nil (gives_for b acts (AnswerTo caller message)))),
+      )
+      by_call may false is = (
+        record {
+          stands = unawaited_stands b acts w caller message so_far.stands is;
+          of_peers = (so_far.of_peers, tt);
+          up = so_far.up;
+          format = so_far.format;
+        },
+        ap (λ l. gives ++ l) (sym (append-nil (gives_for b acts (AnswerTo caller message)) ∙ unawaited caller message is)),
+      )
+
+      by_test : (test : Bool) → is_sendable w.format message ≡ test
+          → HandsSo b (with_all acts (if test then AnswerTo caller message ∷ [] else [])) old (gives ++ gives_for_all b acts (if test then AnswerTo caller message ∷ [] else []))
+          (if test then sent (answered w caller message) (gives ++ gives_of (sent_by_answer w caller message)) else sent w gives)
+      by_test true is = by_call (can_send w.format message is) (is_awaited w caller) refl
+      by_test false is = (so_far, sym (append-nil gives))
+
+-- ---- all of them
+
+handed_alike : (b : Beginning) (acts : WireActs Purpose) (old w : WireState Purpose) (e : Effect) → Hands b acts old w → handed_by w e ≡ handed_by old e
+handed_alike b acts old w (made.Call to message purpose) so_far =
+    λ i. if so_far.up to i && is_sendable (so_far.format i) message then CallTo to message purpose ∷ [] else []
+handed_alike b acts old w (made.Answer caller message) so_far =
+    λ i. if is_sendable (so_far.format i) message then AnswerTo caller message ∷ [] else []
+
+one_on : (b : Beginning) → b.first ≤ never_used → (acts : WireActs Purpose) (old w : WireState Purpose) (gives : List Give) (e : Effect) → Hands b acts old w
+    → HandsSo b (with_all acts (handed_by old e)) old (gives ++ gives_for_all b acts (handed_by old e)) (handed w gives e)
+one_on b low acts old w gives (made.Call to message purpose) so_far =
+    subst (λ l. HandsSo b (with_all acts l) old (gives ++ gives_for_all b acts l) (handed w gives (made.Call to message purpose))) (handed_alike b acts old w (made.Call to message purpose) so_far)
+    (call_on b low acts old w gives so_far to message purpose)
+one_on b low acts old w gives (made.Answer caller message) so_far =
+    subst (λ l. HandsSo b (with_all acts l) old (gives ++ gives_for_all b acts l) (handed w gives (made.Answer caller message))) (handed_alike b acts old w (made.Answer caller message) so_far)
+    (answer_on b low acts old w gives so_far caller message)
+
+spent_on : (b : Beginning) (acts : WireActs Purpose) (old : WireState Purpose) (given : List Give) (node : ℕ) (effects : List Effect) → HandsSo b acts old given (all_handed (spent node) effects)
+spent_on b acts old given node [] = tt
+spent_on b acts old given node (e ∷ effects) = spent_on b acts old given node effects
+
+given_as : (b : Beginning) (acts : WireActs Purpose) (old : WireState Purpose) (s : Sending) (given other : List Give) → given ≡ other → HandsSo b acts old given s → HandsSo b acts old other s
+given_as b acts old s given other same h = subst (λ l. HandsSo b acts old l s) same h
+
+all_on : (b : Beginning) → b.first ≤ never_used → (acts : WireActs Purpose) (old : WireState Purpose) (s : Sending) (given : List Give) (effects : List Effect) → HandsSo b acts old given s
+    → HandsSo b (with_all acts (flat_map (handed_by old) effects)) old (given ++ gives_for_all b acts (flat_map (handed_by old) effects)) (all_handed s effects)
+all_on b low acts old s given [] so_far = given_as b acts old s given (given ++ []) (sym (append-nil given)) so_far
+all_on b low acts old (spent node) given (e ∷ effects) so_far =
+    spent_on b (with_all acts (flat_map (handed_by old) (e ∷ effects))) old (given ++ gives_for_all b acts (flat_map (handed_by old) (e ∷ effects))) node effects
+all_on b low acts old (sent w gives) given (e ∷ effects) so_far =
+    let now = handed_by old e in
+    let rest = flat_map (handed_by old) effects in
+    let one = one_on b low acts old w gives e so_far.0 in
+    let all = all_on b low (with_all acts now) old (handed w gives e) (gives ++ gives_for_all b acts now) effects one in
+    let same : (gives ++ gives_for_all b acts now) ++ gives_for_all b (with_all acts now) rest ≡ given ++ gives_for_all b acts (now ++ rest) =
+    append_assoc gives (gives_for_all b acts now) (gives_for_all b (with_all acts now) rest) ∙ ap (λ l. gives ++ l) (sym (gives_both b acts now rest)) ∙ ap (λ l. l ++ gives_for_all b acts (now ++ rest)) so_far.1 in
+    subst (λ x. HandsSo b x old (given ++ gives_for_all b acts (now ++ rest)) (all_handed (handed w gives e) effects)) (sym (with_both acts now rest))
+    (given_as b (with_all (with_all acts now) rest) old (all_handed (handed w gives e) effects) _ _ same all)
+
+-- ---- a step
+
+-- the pairs of a node stand for acts, and this was given, and nobody was suspected but these
+pub record Sends {M : Type 0} (b : Beginning) (acts : WireActs Purpose) (gives : List Give) (suspects : List ℕ) (r : NodeState M × Outputs) : Type 0 where
+  pub stands : WireStands r.0.wire b acts
+  pub of_peers : ComeOfPeers b acts
+  pub gives_are : r.1.gives ≡ gives
+  pub suspects_are : r.1.suspects ≡ suspects
+
+module _ {M : Type 0} where
+  ended_sends : (b : Beginning) (acts : WireActs Purpose) (old : WireState Purpose) (given : List Give) (n : NodeState M) (m : Made M) (s : Sending) (r : NodeState M × Outputs)
+      → HandsSo b acts old given s → ended n m.came s ≡ Ok r → Sends b acts given [] r
+  ended_sends b acts old given n m (sent w gives) r on is =
+      subst (Sends b acts given []) (same_end _ r is) (record { stands = on.0.stands; of_peers = on.0.of_peers; gives_are = on.1; suspects_are = refl })
+  ended_sends b acts old given n m (spent node) r on is = absurd (let clash : ◌≡◌ {A = Result (NodeState M × Outputs) ℕ} (Err node) (Ok r) = is in cc)
+
+  -- what came of an event is sent
+  concluded_sends : (b : Beginning) → b.first ≤ never_used → (acts : WireActs Purpose) (n : NodeState M) (gives : List Give) (m : Made M) (r : NodeState M × Outputs)
+      → WireStands n.wire b acts → ComeOfPeers b acts → concluded n gives m.came ≡ Ok r
+      → Sends b (with_all acts (flat_map (handed_by n.wire) m.came.effects)) (gives ++ gives_for_all b acts (flat_map (handed_by n.wire) m.came.effects)) [] r
+  concluded_sends b low acts n gives m r stands of_peers is =
+      ended_sends b (with_all acts (flat_map (handed_by n.wire) m.came.effects)) n.wire (gives ++ gives_for_all b acts (flat_map (handed_by n.wire) m.came.effects)) n m (all_handed (sent n.wire gives) m.came.effects) r
+      (all_on b low acts n.wire (sent n.wire gives) gives m.came.effects (record { stands = stands; of_peers = of_peers; up = λ node. refl; format = refl }, refl))
+      is
+
+module _ (b : Beginning) (acts : WireActs Purpose) (w : WireState Purpose) (from : ℕ) (other : IsOther w from) (stands : WireStands w b acts) (of_peers : ComeOfPeers b acts) where
+  datagram_stands : (segment : Result Piece SegmentFault) → ((s : Piece) → segment ≡ Ok s → IsSegment s)
+      → WireStands (after_datagram w from segment) b (with_all acts (coming from segment))
+  datagram_stands (Ok s) is = came_stands b acts w from s s other stands refl (is s refl) (after_datagram w from (Ok s)) refl
+  datagram_stands (Err fault) is = stands
+
+  datagram_of : (segment : Result Piece SegmentFault) → ComeOfPeers b (with_all acts (coming from segment))
+  datagram_of (Ok s) = (of_peers, peer_by b acts w from stands other)
+  datagram_of (Err fault) = of_peers
+
+  datagram_gives : (segment : Result Piece SegmentFault) → ((s : Piece) → segment ≡ Ok s → IsSegment s)
+      → gives_of (sent_by_datagram w from segment) ≡ gives_for_all b acts (coming from segment)
+  datagram_gives (Ok s) is =
+      ap gives_of (came_owes b acts w from s s other stands refl (is s refl)) ∙ sym (append-nil (gives_for b acts (CameFrom from s)))
+  datagram_gives (Err fault) is = refl
+
+-- once an event has come
+pub behind_stands : {M : Type 0} (b : Beginning) (acts : WireActs Purpose) (event : Event) (n : NodeState M) → WireStands n.wire b acts → ComeOfPeers b acts → CanCome n event → IsRead event
+    → WireStands (wire_behind event n) b (with_all acts (came_by event))
+behind_stands b acts (comes.Datagram from bytes) n stands of_peers can read = datagram_stands b acts n.wire from can stands of_peers (reading bytes) read
+behind_stands b acts comes.Tick n stands of_peers can read = stands_ticked b acts n.wire stands
+behind_stands b acts (comes.Down node) n stands of_peers can read = stands_stopped b acts n.wire node can.0 stands
+behind_stands b acts comes.Join n stands of_peers can read = stands
+
+module _ {M : Type 0} (declared : M → Signature) (turn : M → List ValueTree → ℕ → List ValueTree → List Outcome → NextTurn) where
+  -- behind what came, what is handed over
+  behind : (b : Beginning) (acts : WireActs Purpose) (some more : List (WireAct Purpose)) (gives : List Give) (r : NodeState M × Outputs) → gives ≡ gives_for_all b acts some
+      → Sends b (with_all (with_all acts some) more) (gives ++ gives_for_all b (with_all acts some) more) [] r → Sends b (with_all acts (some ++ more)) (gives_for_all b acts (some ++ more)) [] r
+  behind b acts some more gives r same s =
+      record {
+        stands = subst (λ x. WireStands r.0.wire b x) (sym (with_both acts some more)) s.stands;
+        of_peers = subst (ComeOfPeers b) (sym (with_both acts some more)) s.of_peers;
+        gives_are = s.gives_are ∙ ap (λ l. l ++ gives_for_all b (with_all acts some) more) same ∙ sym (gives_both b acts some more);
+        suspects_are = s.suspects_are;
+      }
+
+  pub step_sends : (b : Beginning) → b.first ≤ never_used → (acts : WireActs Purpose) (at : ℕ) (event : Event) (n : NodeState M) (r : NodeState M × Outputs)
+      → WireStands n.wire b acts → ComeOfPeers b acts → CanCome n event → IsRead event → stepped declared turn at event n ≡ Ok r
+      → Sends b (with_all acts (acts_in declared turn at event n)) (gives_for_all b acts (acts_in declared turn at event n)) (suspects_in b acts event) r
+  step_sends b low acts at (comes.Datagram from bytes) n r stands of_peers can read is =
+      let m = hears declared turn n.deployment at from (heard_from n.wire from (reading bytes)) n.acting in
+      let wire = after_datagram n.wire from (reading bytes) in
+      behind b acts (coming from (reading bytes)) _ (gives_of (sent_by_datagram n.wire from (reading bytes))) r (datagram_gives b acts n.wire from can stands of_peers (reading bytes) read)
+      (concluded_sends b low (with_all acts (coming from (reading bytes))) (record n { wire = wire; acting = m.acting }) (gives_of (sent_by_datagram n.wire from (reading bytes))) m r
+      (datagram_stands b acts n.wire from can stands of_peers (reading bytes) read) (datagram_of b acts n.wire from can stands of_peers (reading bytes)) is)
+  step_sends b low acts at comes.Tick n r stands of_peers can read is =
+      subst (Sends b (followed_by acts TickAll) (gives_for_all b acts (TickAll ∷ [])) (suspects_in b acts comes.Tick)) (same_end _ r is)
+      (record {
+        stands = stands_ticked b acts n.wire stands;
+        of_peers = (of_peers, tt);
+        gives_are = ap (flat_map gives_of) (tick_owed n.wire b acts stands) ∙ sym (append-nil (gives_for b acts TickAll));
+        suspects_are = suspects_owed n.wire b acts stands;
+      })
+  step_sends b low acts at (comes.Down node) n r stands of_peers can read is =
+      let m = learns_down declared turn at node n.acting in
+      concluded_sends b low (followed_by acts (StopOf node)) (record n { wire = stopped_at n.wire node; acting = m.acting }) [] m r
+      (stands_stopped b acts n.wire node can.0 stands) (of_peers, tt) is
+  step_sends b low acts at comes.Join n r stands of_peers can read is =
+      let m = is_told_to_join declared turn at n.acting in
+      concluded_sends b low acts (record n { acting = m.acting }) [] m r stands of_peers is
+
+  module _ (first : M → List ValueTree) where
+    pub boot_sends : (d : Deployment) (hosted : Option M) (node : ℕ) (r : NodeState M × Outputs) → node < length d.nodes
+        → booted declared turn first d hosted node ≡ Ok r
+        → Sends (beginning_of d node) (with_all begun (acts_at_boot declared turn first d hosted node)) (gives_for_all (beginning_of d node) begun (acts_at_boot declared turn first d hosted node)) [] r
+    boot_sends d hosted node r within is =
+        let m = made_at_boot declared turn first d (home_of d node) hosted in
+        concluded_sends (beginning_of d node) (omega arith) begun (record { deployment = d; wire = fresh_wire d node; acting = m.acting; dropped = 0 }) [] m r
+        (stands_begun (beginning_of d node) (fresh_wire d node) within refl) tt is

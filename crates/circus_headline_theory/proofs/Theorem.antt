@@ -1,0 +1,235 @@
+-- A node by itself is a node run, whatever comes to it.
+use Rattle.std.proofs.Common.{◌≡◌, ℕ, ◌<◌, ◌≤◌, List, [], ◌∷◌, ◌++◌, All, None, Some, Ok, Err, refl, sym, ap, subst, ◌∙◌, arith, append_assoc, append-nil}
+use Rattle.std.specs.Prelude.{slice_get, if◌then◌else◌, option_map, option_and_then}
+use Rattle.std.proofs.lemmas.List.Elements.{All-head, All-tail}
+use Rattle.std.proofs.lemmas.Option.{same_Some}
+use Rattle.circus_value.specs.ValueTree.{ValueTree}
+use Rattle.circus_value.specs.declared.outcome.Outcome.{Outcome}
+use Rattle.circus_collate.specs.Deployment.{IsDeployment}
+use Rattle.circus_collate.specs.declared.deployment.Deployment.{Deployment}
+use Rattle.circus_collate.specs.declared.deployment.Troupe.{Troupe}
+use Rattle.circus_collate.specs.declared.view.View.{View}
+use Rattle.circus_ring.specs.RingTable.{boot_views}
+use Rattle.circus_transfer.specs.declared.joiner.Joiner.{Joiner}
+use Rattle.circus_model.specs.Behaviour.{Behaviour, IsModule}
+use Rattle.circus_model.specs.NextTurn.{NextTurn}
+use Rattle.circus_model.specs.declared.signature.Signature.{Signature}
+use Rattle.circus_record.specs.declared.record.MemberRecord.{MemberRecord}
+use Rattle.circus_performing.specs.Performing.{is_active}
+use Rattle.circus_performing.specs.Record.{behaviour, IsRecord}
+use Rattle.circus_wire.specs.WireActs.{WireActs}
+use Rattle.circus_member_rules.specs.declared.place.Beginning.{Beginning}
+use Rattle.circus_member_rules.specs.declared.place.Beginning.TheVariants.{Founder, Spare}
+use Rattle.circus_member_rules.specs.declared.place.Place.{Place}
+use Rattle.circus_member_rules.specs.declared.occurrence.Purpose.{Purpose}
+use Rattle.circus_member_step.specs.Happening.{IsHome}
+use Rattle.circus_member_step.specs.MemberState.{MemberState}
+use Rattle.circus_accepting.specs.Accepting.{troupe_at}
+use Rattle.circus_node.specs.Booting.{beginning_in, home_in, home_of, made_at_boot, fresh_wire}
+use Rattle.circus_node.specs.Booting as booting
+use Rattle.circus_node.specs.Making.{Made}
+use Rattle.circus_node.specs.NodeState.{member, NodeState, member_record}
+use Rattle.circus_node.specs.Sending.{Sending, sent, spent, all_handed}
+use Rattle.circus_node.specs.Step as node_step
+use Rattle.circus_node.specs.declared.event.Event.{Event}
+use Rattle.circus_node.specs.declared.event.Outputs.{Outputs}
+use Rattle.circus_talks.specs.NodeActs.{with_all, acts_in}
+use Rattle.circus_node.specs.Trace.{effects_in, effects_at_boot, Trace}
+use Rattle.circus_timely.specs.Past.{Past, booted, now, fetched}
+use Rattle.circus_timely.specs.First.{first_given}
+use Rattle.circus_timely.specs.Timely.{IsTimely}
+use Rattle.circus_timely_theory.specs.Living.{after, kept_after, phase_at_boot}
+use Rattle.circus_timely_theory.specs.Living as member_living
+use Rattle.circus_owed.specs.Snapshots.{began}
+use Rattle.circus_owed_theory.specs.Living.{made_in, told_in}
+use Rattle.circus_owed_theory.proofs.Lives.{IsKnown, known}
+use Rattle.circus_world_theory.proofs.Stepping.{same_ended}
+use Rattle.circus_world_timely_theory.specs.Happened.{happens_by, with_one}
+use Rattle.circus_world_timely_theory.specs.NodeLives.{Events, Rising, Comes, past_behind, IsLife}
+use Rattle.circus_world_timely_theory.specs.NodeLives as pasts
+use Rattle.circus_world_timely_theory.proofs.Lines.{now_one}
+use Rattle.circus_world_timely_theory.proofs.Nodes.{at_home, node_records_are_timely}
+use Rattle.circus_node_owed_theory.specs.Makes.{makes, tells, made_behind, given_by}
+use Rattle.circus_node_owed_theory.specs.Makes as owed
+use Rattle.circus_node_owed_theory.specs.Owes.{MakesWhatIsOwed}
+use Rattle.circus_node_owed_theory.proofs.Nodes.{node_makes_what_is_owed}
+use Rattle.circus_datagram_theory.specs.Lives.{IsOfOther, boot_acts, acts_behind}
+use Rattle.circus_datagram_theory.specs.Lives as at_pairs
+use Rattle.circus_headline_theory.specs.Lived.{trace_behind}
+use Rattle.circus_headline_theory.specs.Lived as lived
+use Rattle.circus_headline_theory.specs.NodeRun.{past_of, IsNodeRun}
+use Rattle.circus_node.specs.Trace as trace
+use Rattle.circus_headline_theory.specs.Trace.{events_of, made_of, told_of}
+use Rattle.circus_headline_theory.proofs.Course.{Says, is_life, may_live, Follows, follows_on, follows_at_boot}
+use Rattle.circus_headline_theory.proofs.Growing.{says_same}
+use Rattle.circus_headline_theory.proofs.Since.{IsFromFirst, from_first}
+
+-- ---- what stands in the trace
+
+module _ {M : Type 0} (declared : M → Signature) (turn : M → List ValueTree → ℕ → List ValueTree → List Outcome → NextTurn) where
+  abbrev grown : Trace → Events → NodeState M → Trace
+  grown t events n = lived.with_events declared turn t events n
+
+  abbrev grown_by : Trace → ℕ × Event → Events → NodeState M → node_step.Ended M → Trace
+  grown_by t next events n e = lived.then_on (λ (x : Trace) (m : NodeState M). grown x events m) t (trace.stepped t next.0 next.1 (effects_in declared turn next.0 next.1 n)) e
+
+  events_along : (t : Trace) (events : Events) (n last : NodeState M) → Comes declared turn events n last → events_of (grown t events n) ≡ events_of t ++ events
+  events_along t [] n last come = sym (append-nil (events_of t))
+  events_along t (next ∷ events) n last come =
+      (λ j. events_of (grown_by t next events n (come.2 j)))
+      ∙ events_along (trace.stepped t next.0 next.1 (effects_in declared turn next.0 next.1 n) come.0.1) events come.0.0 last come.3
+      ∙ append_assoc (events_of t) (next ∷ []) events
+
+  made_along : (t : Trace) (events : Events) (n last : NodeState M) → Comes declared turn events n last → made_of (grown t events n) ≡ made_of t ++ makes declared turn events n
+  made_along t [] n last come = sym (append-nil (made_of t))
+  made_along t (next ∷ events) n last come =
+      let made = effects_in declared turn next.0 next.1 n in
+      (λ j. made_of (grown_by t next events n (come.2 j)))
+      ∙ made_along (trace.stepped t next.0 next.1 made come.0.1) events come.0.0 last come.3
+      ∙ append_assoc (made_of t) (made_in next.0 made) (makes declared turn events come.0.0)
+      ∙ (λ j. made_of t ++ owed.then_on (made_in next.0 made) (makes declared turn events) (sym come.2 j))
+
+  told_along : (t : Trace) (events : Events) (n last : NodeState M) → Comes declared turn events n last → told_of (grown t events n) ≡ told_of t ++ tells declared turn events n
+  told_along t [] n last come = sym (append-nil (told_of t))
+  told_along t (next ∷ events) n last come =
+      let made = effects_in declared turn next.0 next.1 n in
+      (λ j. told_of (grown_by t next events n (come.2 j)))
+      ∙ told_along (trace.stepped t next.0 next.1 made come.0.1) events come.0.0 last come.3
+      ∙ append_assoc (told_of t) (told_in next.0 come.0.1.differences) (tells declared turn events come.0.0)
+      ∙ (λ j. told_of t ++ owed.then_on (told_in next.0 (given_by (sym come.2 j))) (tells declared turn events) (sym come.2 j))
+
+  -- nothing is told at boot
+  module _ (first : M → List ValueTree) (d : Deployment) (own : M) (node number : ℕ) (troupe : Troupe) (hosts : troupe_at d node ≡ Some number) (there : slice_get d.troupes number ≡ Some troupe) where
+    boot_tells : (ended : NodeState M × Outputs) → booting.booted declared turn first d (Some own) node ≡ Ok ended → ended.1.differences ≡ []
+    boot_tells ended is = by_sending (all_handed (sent (fresh_wire d node) []) m.came.effects) is ∙ subst (λ h. (made_at_boot declared turn first d h (Some own)).came.differences ≡ []) (sym home_is) refl
+      where
+        m : Made M
+        m = made_at_boot declared turn first d (home_of d node) (Some own)
+
+        n : NodeState M
+        n = record { deployment = d; wire = fresh_wire d node; acting = m.acting; dropped = 0 }
+
+        home_is : home_of d node ≡ Some (home_in d node number troupe)
+        home_is = ap (option_and_then (λ k. option_map (home_in d node k) (slice_get d.troupes k))) hosts ∙ ap (option_map (home_in d node number)) there
+
+        by_sending : (s : Sending) → node_step.ended n m.came s ≡ Ok ended → ended.1.differences ≡ m.came.differences
+        by_sending (sent w given) ends = subst (λ (e : NodeState M × Outputs). e.1.differences ≡ m.came.differences) (same_ended _ ended ends) refl
+        by_sending (spent peer) ends = absurd (let clash : ◌≡◌ {A = node_step.Ended M} (Err peer) (Ok ended) = ends in cc)
+
+module _ {M : Type 0} (declared : M → Signature) (turn : M → List ValueTree → ℕ → List ValueTree → List Outcome → NextTurn) (first : M → List ValueTree)
+    (lawful : (hosted : M) → IsModule (behaviour declared turn first hosted)) where
+  -- ---- all that comes
+
+  module _ (d : Deployment) (good : IsDeployment d) (node number : ℕ) (troupe : Troupe) (own : M) (hosts : troupe_at d node ≡ Some number)
+      (home : IsHome (declared own) (home_in d node number troupe).place (boot_views d.troupes)) where
+    abbrev FollowsSo : Trace → Past → WireActs Purpose → NodeState M → Type 0
+    FollowsSo t p acts n = Follows declared turn first lawful d good node number troupe own hosts home t p acts n
+
+    follows_behind : (t : Trace) (p : Past) (acts : WireActs Purpose) (at : ℕ) (events : Events) (n last : NodeState M) → FollowsSo t p acts n → now p ≤ at → Rising at events
+        → All (λ (e : ℕ × Event). IsOfOther d node e.1) events → Comes declared turn events n last
+        → FollowsSo (lived.with_events declared turn t events n) (pasts.with_events declared turn p events n) (at_pairs.with_events declared turn acts events n) last
+    follows_behind t p acts at [] n last f before rising others come = subst (FollowsSo t p acts) (sym come) f
+    follows_behind t p acts at (next ∷ events) n last f before rising others come =
+        let later : now p < next.0 = omega (arith, before, rising.0) in
+        let o = happens_by declared next.1 n in
+        let q = with_one p next.0 o in
+        let acts_then = with_all acts (acts_in declared turn next.0 next.1 n) in
+        let made = effects_in declared turn next.0 next.1 n in
+        let one = follows_on declared turn first lawful d good node number troupe own hosts home t p acts n f next.0 next.1 come.0 later come.1 (All-head (λ (e : ℕ × Event). IsOfOther d node e.1) next events others) come.2 in
+        let rest = follows_behind (trace.stepped t next.0 next.1 made come.0.1) q acts_then next.0 events come.0.0 last one (now_one p next.0 o (omega (arith, later))) rising.1
+        (All-tail (λ (e : ℕ × Event). IsOfOther d node e.1) next events others) come.3 in
+        subst
+        (λ (e : node_step.Ended M). FollowsSo (grown_by declared turn t next events n e) (pasts.with_rest declared turn (pasts.with_events declared turn q events) p e)
+        (at_pairs.with_rest (at_pairs.with_events declared turn acts_then events) acts e) last) (sym come.2) rest
+
+  -- ---- the law
+
+  runs_are : (own : M) (beginning : Beginning) → member_living.runs_at_boot declared beginning own ≡ (if is_active (phase_at_boot beginning) then (if (declared own).root then 1 else 0) else 0)
+  runs_are own Founder = refl
+  runs_are own Spare = refl
+
+  pub node_is_a_node_run : (d : Deployment) (own : M) (node number : ℕ) (troupe : Troupe) (events : Events) (begun_ last : NodeState M) (kept : MemberRecord) (life : IsLife declared turn first d own node events begun_ last)
+      → All (λ (e : ℕ × Event). IsOfOther d node e.1) events → troupe_at d node ≡ Some number → slice_get d.troupes number ≡ Some troupe → member_record last.acting ≡ Some kept
+      → IsNodeRun d (behaviour declared turn first own) node number troupe (trace_behind declared turn first d own node life.outputs events begun_) kept
+  node_is_a_node_run d own node number troupe events begun_ last kept life others hosts there at =
+      record {
+        timely = subst (λ n. IsTimely place views begins (declared own).procedures n kept (past_of d b node number troupe kept t)) (runs_are own beginning)
+            (subst (IsTimely place views begins (declared own).procedures (member_living.runs_at_boot declared beginning own) kept) (sym past_so)
+            (node_records_are_timely declared turn first lawful d own node events begun_ last life number troupe kept hosts there at));
+        from_first = subst (λ q. first_given (fetched begins) q ≡ None → (kept.from ≡ 0) × (kept.active_at ≡ 0)) (sym past_so)
+            (λ none. subst IsFromFirst kept_is (from_first declared turn first lawful place views beginning own home p (may_live declared turn first lawful d good node number troupe own hosts home p last.acting f.goes.lives) none));
+        follows = subst (λ q. IsRecord b (began begins b.first q) kept) (sym past_so) follows_so;
+        makes = subst (λ q. MakesWhatIsOwed d node number troupe b.first kept q (made_of t) (told_of t)) (sym past_so) makes_so;
+        ordered = f.ordered kept says;
+        sends = f.sends;
+      }
+    where
+      good : IsDeployment d
+      good = life.can.deployment
+
+      home : IsHome (declared own) (home_in d node number troupe).place (boot_views d.troupes)
+      home = at_home declared turn first lawful d node number troupe own hosts there good (life.can.fits number (declared own) hosts refl)
+
+      b : Behaviour
+      b = behaviour declared turn first own
+
+      place : Place
+      place = (home_in d node number troupe).place
+
+      views : List View
+      views = boot_views d.troupes
+
+      beginning : Beginning
+      beginning = beginning_in troupe node
+
+      begins : Joiner
+      begins = phase_at_boot beginning
+
+      t : Trace
+      t = trace_behind declared turn first d own node life.outputs events begun_
+
+      p : Past
+      p = past_behind declared turn events begun_
+
+      f : Follows declared turn first lawful d good node number troupe own hosts home t p (acts_behind declared turn first d own node events begun_) last
+      f =
+          follows_behind d good node number troupe own hosts home (trace.booted (effects_at_boot declared turn first d (Some own) node) life.outputs) booted (boot_acts declared turn first d own node) 0 events begun_ last
+          (follows_at_boot declared turn first lawful d good node number troupe own hosts home begun_ life.outputs life.can.within there life.boots) (omega arith) life.rising others life.comes
+
+      m : MemberState M
+      m = after declared turn first place views beginning own p
+
+      acting_is : last.acting ≡ member m
+      acting_is = is_life declared turn first lawful d good node number troupe own hosts home p last.acting f.goes.lives
+
+      kept_is : m.performing.kept ≡ kept
+      kept_is = same_Some m.performing.kept kept (sym (ap member_record acting_is) ∙ at)
+
+      says : Says declared turn first lawful d good node number troupe own hosts home p kept
+      says = subst (Says declared turn first lawful d good node number troupe own hosts home p) kept_is (says_same place views begins p m.performing.kept)
+
+      past_so : past_of d b node number troupe kept t ≡ p
+      past_so = f.past_is kept says
+
+      -- the record follows the turns from the state that the member had as it became active
+      follows_so : IsRecord b (began begins b.first p) kept
+      follows_so =
+          let k : IsKnown declared turn first lawful place views beginning own p m = known declared turn first lawful place views beginning own home p (may_live declared turn first lawful d good node number troupe own hosts home p last.acting f.goes.lives) in
+          let by : IsRecord (behaviour declared turn first m.performing.hosted) m.performing.began m.performing.kept = k.sound.kept in
+          subst (IsRecord b (began begins b.first p)) kept_is
+          (subst (λ s. IsRecord b s m.performing.kept) k.knows.state_is (subst (λ h. IsRecord (behaviour declared turn first h) m.performing.began m.performing.kept) k.hosts by))
+
+      makes_so : MakesWhatIsOwed d node number troupe b.first kept p (made_of t) (told_of t)
+      makes_so =
+          let made_is = made_along declared turn (trace.booted (effects_at_boot declared turn first d (Some own) node) life.outputs) events begun_ last life.comes in
+          let told_is = told_along declared turn (trace.booted (effects_at_boot declared turn first d (Some own) node) life.outputs) events begun_ last life.comes
+          ∙ ap (λ l. told_in 0 l ++ tells declared turn events begun_) (boot_tells declared turn first d own node number troupe hosts there (begun_, life.outputs) life.boots) in
+          subst (λ l. MakesWhatIsOwed d node number troupe b.first kept p l (told_of t)) (sym made_is)
+          (subst (λ l. MakesWhatIsOwed d node number troupe b.first kept p (made_behind declared turn first d own node events begun_) l) (sym told_is)
+          (node_makes_what_is_owed declared turn first lawful d own node events begun_ last life number troupe kept hosts there at))
+
+module _ {M : Type 0} (declared : M → Signature) (turn : M → List ValueTree → ℕ → List ValueTree → List Outcome → NextTurn) (first : M → List ValueTree) where
+  pub trace_has_the_events : (d : Deployment) (own : M) (node : ℕ) (events : Events) (begun_ last : NodeState M) (life : IsLife declared turn first d own node events begun_ last)
+      → events_of (trace_behind declared turn first d own node life.outputs events begun_) ≡ events
+  trace_has_the_events d own node events begun_ last life =
+      events_along declared turn (trace.booted (effects_at_boot declared turn first d (Some own) node) life.outputs) events begun_ last life.comes

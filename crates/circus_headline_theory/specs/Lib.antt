@@ -1,0 +1,10 @@
+pub mod Trace
+pub mod NodeRun
+pub mod Lived
+pub mod ServedRun
+pub mod Events
+pub mod Legality
+pub mod Sendings
+pub mod RingRun
+pub mod Headline
+pub mod Coming

@@ -1,6 +1,0 @@
-use Rattle.circus_pair_benchmark.specs.Up.{IsUp}
-use Rattle.circus_pair_benchmark.proofs.measure.Given as goal
-
--- both ends go on as they began
-abbrev pub invariant-loop-tenth : goal.invariant-loop-tenth
-invariant-loop-tenth l = record { client : IsUp l.client; server : IsUp l.server }

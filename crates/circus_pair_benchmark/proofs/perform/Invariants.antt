@@ -1,6 +1,0 @@
-use Rattle.circus_pair_benchmark.specs.Up.{IsUp}
-use Rattle.circus_pair_benchmark.proofs.perform.Given as goal
-
--- both ends go on as they began
-abbrev pub invariant-loop : goal.invariant-loop
-invariant-loop l = record { client : IsUp l.client; server : IsUp l.server }

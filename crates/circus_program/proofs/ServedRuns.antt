@@ -1,0 +1,95 @@
+-- A node of a plan that is served to its end is a node run.
+use Rattle.std.proofs.Common.{◌≡◌, ◌↔◌, ℕ, inl, inr, List, All, Option, None, Some, Ok, refl, sym, ap, subst, ◌∙◌}
+use Rattle.std.specs.Prelude.{IsSome, slice_get, option_map, option_and_then}
+use Rattle.std.proofs.lemmas.Option.{none-some, same_Some, slice_get-map, slice_get_within}
+use Rattle.circus_collate.specs.declared.deployment.Host.{Host}
+use Rattle.circus_collate.specs.declared.deployment.Troupe.{Troupe}
+use Rattle.circus_model.specs.Agree.{IsAt}
+use Rattle.circus_model.specs.Behaviour.{Behaviour}
+use Rattle.circus_model.specs.declared.signature.Signature.{Signature}
+use Rattle.circus_record.specs.Naming.{names_of}
+use Rattle.circus_record.specs.declared.record.MemberRecord.{MemberRecord}
+use Rattle.circus_accepting.specs.Accepting.{troupe_at}
+use Rattle.circus_node.specs.Booting.{CanBoot}
+use Rattle.circus_node.specs.Booting as booting
+use Rattle.circus_node.specs.NodeState.{NodeState, member_record}
+use Rattle.circus_node.specs.Step.{Ended}
+use Rattle.circus_node.specs.declared.event.Outputs.{Outputs}
+use Rattle.circus_alike.specs.Alike.{declared_of, turn_of, first_of}
+use Rattle.circus_log.specs.Outside.{Tells}
+use Rattle.circus_serve.specs.Recorded.{Recorded}
+use Rattle.circus_serve.specs.Answers.{IsServed}
+use Rattle.circus_config.specs.declared.plan.Plan.{Plan}
+use Rattle.circus_config.specs.Program.{IsPlan}
+use Rattle.circus_load.specs.Loaded.{behaviours_in, hosted_by}
+use Rattle.circus_plan_theory.proofs.Plan.{plan_modules}
+use Rattle.circus_plan_theory.proofs.Troupes.{plan_of_troupes}
+use Rattle.circus_ending.specs.declared.status.Status.TheVariants.{Done, LinkFault, Spent}
+use Rattle.circus_ending.specs.Ending.{Ending}
+use Rattle.circus_served.specs.NodeEnds.{booted_node, IsEndOfServing}
+use Rattle.circus_headline_theory.specs.ServedRun.{IsOfOctets, IsServedRun}
+use Rattle.circus_headline_theory.proofs.PlainServed.{plain_served_is_a_node_run}
+use Rattle.circus_program.specs.ServedRuns.{IsServedRunOf}
+
+module _ (plan : Plan) (is : IsPlan plan) (node number : ℕ) (b : Behaviour) (hosts : troupe_at plan.deployment node ≡ Some number)
+    (at : IsAt (behaviours_in plan) number b) where
+  -- the node is one of the program, and hosts the module of its troupe
+  record IsHost : Type 0 where
+    host : Host
+    there : slice_get plan.deployment.nodes node ≡ Some host
+    own : host.module ≡ Some number
+
+  is_host : IsHost
+  is_host = by_option (slice_get plan.deployment.nodes node) refl hosts
+    where
+      by_option : (o : Option Host) → slice_get plan.deployment.nodes node ≡ o → option_and_then (λ (h : Host). h.module) o ≡ Some number → IsHost
+      by_option None there own = absurd (none-some number own)
+      by_option (Some host) there own = record { host = host; there = there; own = own }
+
+  hosted : option_and_then (hosted_by (behaviours_in plan)) (slice_get plan.deployment.nodes node) ≡ Some b
+  hosted =
+      ap (option_and_then (hosted_by (behaviours_in plan))) is_host.there
+      ∙ ap (option_and_then (slice_get (behaviours_in plan))) is_host.own ∙ at
+
+  can_boot : CanBoot plan.deployment node (Some b.declared)
+  can_boot = record {
+    deployment = is.deployed;
+    within = slice_get_within plan.deployment.nodes node is_host.host is_host.there;
+    hosted = ((λ some. subst (λ (o : Option ℕ). IsSome o) (sym hosts) refl), (λ some. refl));
+    fits = λ other signature own said.
+        let same : number ≡ other = same_Some number other (sym hosts ∙ own) in
+        (plan_of_troupes plan is).each other signature
+        (slice_get-map declared_of (behaviours_in plan) other
+        ∙ ap (λ (k : ℕ). option_map declared_of (slice_get (behaviours_in plan) k)) (sym same)
+        ∙ ap (option_map declared_of) at ∙ said);
+  }
+
+  -- what it came to at boot is what a node comes to that hosts this
+  boots : (ended : Ended Behaviour) → booted_node plan node ≡ ended → booting.booted declared_of turn_of first_of plan.deployment (Some b) node ≡ ended
+  boots ended booted_is = ap (λ (o : Option Behaviour). booting.booted declared_of turn_of first_of plan.deployment o node) (sym hosted) ∙ booted_is
+
+module _ (plan : Plan) (is : IsPlan plan) (node turns : ℕ) (old new : Tells) where
+  served_run : (begun : NodeState Behaviour) (outputs : Outputs) → booted_node plan node ≡ Ok (begun, outputs) → (recorded : Recorded Behaviour)
+      → (served : IsServed declared_of turn_of plan.deployment node begun outputs.gives turns old new recorded) → All IsOfOctets served.takes
+      → (number : ℕ) (troupe : Troupe) (b : Behaviour) (kept : MemberRecord) → troupe_at plan.deployment node ≡ Some number
+      → slice_get plan.deployment.troupes number ≡ Some troupe → IsAt (behaviours_in plan) number b → member_record recorded.node.acting ≡ Some kept
+      → IsServedRun plan.deployment b node number troupe recorded.happened kept
+  served_run begun outputs booted_is recorded served octets number troupe b kept hosts there at recorded_is =
+      subst (λ happened. IsServedRun plan.deployment b node number troupe happened kept) (sym served.happened)
+      (plain_served_is_a_node_run plan.deployment b (plan_modules plan is number b at) node number troupe begun outputs served.takes served.last kept
+      (can_boot plan is node number b hosts at) (boots plan is node number b hosts at (Ok (begun, outputs)) booted_is) served.is octets hosts there
+      (ap (λ (n : NodeState Behaviour). member_record n.acting) (sym served.node) ∙ recorded_is))
+
+  pub served_ends : (ending : Ending) → IsEndOfServing plan node turns old new ending → ending.status ≡ Done → IsServedRunOf plan node turns old new ending.text
+  served_ends ending (inr (peer, spent_is, same, ends)) done = absurd (let clash : Spent ≡ Done = sym (ap (λ (e : Ending). e.status) ends) ∙ done in cc)
+  served_ends ending (inl (boot, booted_is, inr (inl (peer, spent_is, ends)))) done = absurd (let clash : Spent ≡ Done = sym (ap (λ (e : Ending). e.status) ends) ∙ done in cc)
+  served_ends ending (inl (boot, booted_is, inr (inr (failed, ends)))) done = absurd (let clash : LinkFault ≡ Done = sym (ap (λ (e : Ending). e.status) ends) ∙ done in cc)
+  served_ends ending (inl (boot, booted_is, inl (recorded, served, ends))) done =
+      record {
+        recorded = recorded;
+        written = ap (λ (e : Ending). e.text) ends;
+        boot = boot;
+        booted_is = booted_is;
+        served = served;
+        run = λ octets. served_run boot.0 boot.1 booted_is recorded served octets;
+      }
