@@ -62,6 +62,9 @@ SEED and STEPS have the ranges of a sample.
   $ circus lines first.circus 1 200001
   circus: bad command line
   [1]
+  $ circus lines first.circus 1 1 1
+  circus: bad command line
+  [1]
   $ circus lines '' 1 1
   circus: bad command line
   [1]
@@ -74,3 +77,14 @@ A program that is refused, and a file that is not there.
   $ circus lines absent 18446744073709551615 200000
   shelf fault: absent
   [4]
+
+A standard output that takes nothing, one that is closed, and a reader that has had enough.
+
+  $ circus lines first.circus 1 1 >/dev/full
+  [5]
+  $ circus lines first.circus 1 1 >&-
+  [5]
+  $ { circus lines first.circus 1 10000; echo $? >status; } | head -n 1
+  deliver 0
+  $ sleep 1; cat status
+  5

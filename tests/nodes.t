@@ -158,7 +158,7 @@ A call that comes twice is performed once. What is sent again at ticks is left o
 
 Replies that differ, to a root that waits for the first and looks at the others.
 
-  $ circus node watched m1 16 >m1 &
+  $ circus node watched m1 32 >m1 &
   > sleep 1
   > send 9301 9302 010001010000000000000002000000010000000000000005
   > send 9303 9302 010001010000000000000002000000010000000000000006; wait

@@ -30,7 +30,7 @@ use Rattle.circus_record.specs.Line.{line}
 use Rattle.circus_ending.specs.Program.{history_lines, stubs_lines}
 use Rattle.circus_ending.specs.OneFile.{IsEndOf}
 use Rattle.circus_ending.proofs.OneProgram.{program_end_one, stubs_same, history_same}
-use Rattle.circus_ending.specs.Placed.{refused_text, member_lines, choice_text, IsEndOfChoice, IsEndOfPlacing}
+use Rattle.circus_ending.specs.Placed.{refused_text, member_lines, choice_text, HasChoice, IsEndOfChoice, IsEndOfPlacing}
 
 -- of two lists that are not before each other there is one
 neither_before : (xs ys : List ℕ) → is_before xs ys ≡ false → is_before ys xs ≡ false → xs ≡ ys
@@ -133,6 +133,14 @@ placing_one_end text one other (inr (number, cause, refused, is)) (inr (also, an
     let numbers : number ≡ also = cc in
     let causes : cause ≡ another = cc in
     is ∙ (λ i. record { status = BadPlacing; text = refused_text (numbers i) (causes i) }) ∙ sym so
+
+-- a text that some choice satisfies ends well
+pub choice_is_done : (text : List ℕ) (ending : Ending) → IsEndOf Place text ending → HasChoice text → ending.status ≡ Done
+choice_is_done text ending (inl (p, read, inl (choice, best, is))) has = ap (λ (e : Ending). e.status) is
+choice_is_done text ending (inl (p, read, inr (none, is))) (q, also, (choice, there, holds)) =
+    let same = read_same text q p also read in
+    absurd (none choice (choice_same q p same choice there) (satisfies_same q p same choice holds))
+choice_is_done text ending (inr (number, cause, refused, is)) (q, also, has) = absurd (not_both text q number cause also refused)
 
 pub end_one : (command : OneFile) (bytes : List ℕ) (one other : Ending) → IsEndOf command bytes one → IsEndOf command bytes other → one ≡ other
 end_one Stubs bytes one other is so = program_end_one stubs_lines stubs_same bytes one other is so

@@ -46,6 +46,16 @@ member_lines machines member (number ∷ more) = member_line member (name_of mac
 abbrev pub choice_text : Placing → List ℕ → List ℕ
 choice_text p choice = line (codes "circus place 1") ++ member_lines p.machines 1 choice ++ line (codes "kept " ++ decimal (kept_by p choice))
 
+-- a text that is refused, one that no choice satisfies, and one that some choice does
+abbrev pub IsRefusedPlacing : List ℕ → Type 0
+IsRefusedPlacing text = (number : ℕ) × (cause : PlaceCause) × IsRefused text (Refused number cause)
+
+abbrev pub HasNoChoice : List ℕ → Type 0
+HasNoChoice text = (p : Placing) × IsReadAs text p × ((choice : List ℕ) → IsChoice p choice → Satisfies p choice → ⊥)
+
+abbrev pub HasChoice : List ℕ → Type 0
+HasChoice text = (p : Placing) × IsReadAs text p × ((choice : List ℕ) × IsChoice p choice × Satisfies p choice)
+
 -- the end of a placing that is read: its best choice, or that there is none
 abbrev pub IsEndOfChoice : Placing → Ending → Type 0
 IsEndOfChoice p ending =

@@ -47,17 +47,17 @@ use Rattle.circus_accepting.specs.Accepting as accepting
 use Rattle.circus_accepting.specs.Accepting.{accepted_call, accepted_table, accepted_state, imported, recorded_ask, called_by}
 use Rattle.circus_accepting.specs.Bodies.{outcome_at}
 use Rattle.circus_accepting.specs.Headers.{return_in}
-use Rattle.circus_accepting_theory.proofs.Taken.{imported_as, called_open}
+use Rattle.circus_member_theory.proofs.Accepting.Taken.{imported_as, called_open}
 use Rattle.circus_limits.specs.Limits.{limit_of}
-use Rattle.circus_border_theory.proofs.Makers.{IsIn, IsAmong}
+use Rattle.circus_world_theory.proofs.Border.Makers.{IsIn, IsAmong}
 use Rattle.circus_timely.specs.Past.{Past, now}
-use Rattle.circus_timely_theory.specs.Living.{MayLive, after, kept_after, phase_at_boot}
-use Rattle.circus_owed.specs.Asks.{is_of_ask, open_asks}
-use Rattle.circus_owed_theory.specs.Living.{made_by}
-use Rattle.circus_owed_theory.proofs.Calling.{AreCalled, called_all}
-use Rattle.circus_owed_theory.proofs.Lives.{rises}
-use Rattle.circus_datagram_theory.proofs.Asked.{found_there, IsEntry, open_all, call_was_due}
-use Rattle.circus_datagram_theory.proofs.Membership.{all_in, filtered_in}
+use Rattle.circus_member_theory.specs.Living.{MayLive, after, kept_after, phase_at_boot}
+use Rattle.circus_timely.specs.Asks.{is_of_ask, open_asks}
+use Rattle.circus_headline_theory.specs.Owed.Living.{made_by}
+use Rattle.circus_headline_theory.proofs.Owed.Calling.{AreCalled, called_all}
+use Rattle.circus_headline_theory.proofs.Owed.Lives.{rises}
+use Rattle.circus_headline_theory.proofs.Datagrams.Asked.{found_there, IsEntry, open_all, call_was_due}
+use Rattle.circus_headline_theory.proofs.Datagrams.Membership.{all_in, filtered_in}
 use Rattle.circus_headline_theory.specs.Trace.{heard_in}
 use Rattle.circus_headline_theory.specs.NodeRun.{accepted, accepted_answer}
 use Rattle.circus_headline_theory.proofs.Asks.{Callee, callee_of, recorded, recorded_at, imported_recorded}
@@ -71,7 +71,7 @@ heard_as b acts w from (Ok s) other stands is = sym (came_tells b acts w from s 
 heard_as b acts w from (Err fault) other stands is = refl
 
 -- what a call was made for was handed over with it
-purposed : (b : Beginning) (node : ℕ) (acts : WireActs Purpose) (number : ℕ) (purpose : Purpose) → purpose_of (pair_of b) node acts number ≡ Some purpose
+pub purposed : (b : Beginning) (node : ℕ) (acts : WireActs Purpose) (number : ℕ) (purpose : Purpose) → purpose_of (pair_of b) node acts number ≡ Some purpose
     → (message : List ℕ) × IsAmong acts (CallTo node message purpose)
 purposed b node begun number purpose is = absurd (let clash : ◌≡◌ {A = Option Purpose} None (Some purpose) = is in cc)
 purposed b node (followed_by acts (CallTo to message other)) number purpose is =

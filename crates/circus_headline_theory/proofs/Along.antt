@@ -29,9 +29,9 @@ use Rattle.circus_talks.specs.Histories as talks
 use Rattle.circus_node.specs.Trace.{effects_in, Trace}
 use Rattle.circus_talks.proofs.Worlds.{Stands}
 use Rattle.circus_world_theory.proofs.Along.{below_sent, line_talks}
-use Rattle.circus_world_timely_theory.specs.NodeLives.{Events, Rising, Comes}
-use Rattle.circus_node_owed_theory.specs.Makes.{then_along}
-use Rattle.circus_datagram_theory.specs.Lives.{IsOfOther}
+use Rattle.circus_world_theory.specs.NodeLives.{Events, Rising, Comes}
+use Rattle.circus_headline_theory.specs.Owed.Makes.{then_along}
+use Rattle.circus_headline_theory.specs.Datagrams.Lives.{IsOfOther}
 use Rattle.circus_node.specs.Trace as trace
 use Rattle.circus_headline_theory.specs.Trace.{events_of}
 use Rattle.circus_headline_theory.specs.Lived.{then_on, with_events}

@@ -27,11 +27,11 @@ use Rattle.circus_member_step.proofs.Entering.{HasValue, with_entered, with_answ
 use Rattle.circus_member_step.proofs.Starting.{IsSoundNow}
 use Rattle.circus_member_step.proofs.Writing.{one_is_performing}
 use Rattle.circus_accepting.specs.Accepting.{imported, recorded_ask}
-use Rattle.circus_accepting_theory.proofs.Taken.{imported_as}
+use Rattle.circus_member_theory.proofs.Accepting.Taken.{imported_as}
 use Rattle.circus_timely.specs.Past.{Past, followed}
-use Rattle.circus_timely_theory.specs.Living.{MayLive, kept_after}
-use Rattle.circus_owed_theory.proofs.Going.{behaves, Keeps, executed_keeps}
-use Rattle.circus_owed_theory.proofs.Lives.{handles, IsStepped, step_is, known}
+use Rattle.circus_member_theory.specs.Living.{MayLive, kept_after}
+use Rattle.circus_headline_theory.proofs.Owed.Going.{behaves, Keeps, executed_keeps}
+use Rattle.circus_headline_theory.proofs.Owed.Lives.{handles, IsStepped, step_is, known}
 
 -- what an ask calls: whose procedure, and which
 abbrev pub Callee : Type 0

@@ -47,24 +47,24 @@ use Rattle.circus_talks.specs.Histories.{beginning_of}
 use Rattle.circus_talks.specs.NodeActs.{with_all, came_by, wire_behind, acts_in, acts_at_boot}
 use Rattle.circus_node.specs.Trace.{effects_in, effects_at_boot, Trace}
 use Rattle.circus_talks.proofs.Steps.{IsRead}
-use Rattle.circus_border_theory.proofs.Going.{begun as with_nothing}
-use Rattle.circus_border_theory.proofs.Hosting.{Hosts, IsOtherOf, boot_views_are, may_be_called}
-use Rattle.circus_border_theory.proofs.Reaching.{Reaches, AllReach, TellsOf, MayBeCalled, IsReaching, step_reaches, boot_reaches}
-use Rattle.circus_border_theory.proofs.Telling.{accepted_is}
+use Rattle.circus_world_theory.proofs.Border.Going.{begun as with_nothing}
+use Rattle.circus_world_theory.proofs.Border.Hosting.{Hosts, IsOtherOf, boot_views_are, may_be_called}
+use Rattle.circus_world_theory.proofs.Border.Reaching.{Reaches, AllReach, TellsOf, MayBeCalled, IsReaching, step_reaches, boot_reaches}
+use Rattle.circus_world_theory.proofs.Border.Telling.{accepted_is}
 use Rattle.circus_timely.specs.Past.{Past, booted, followed, now}
-use Rattle.circus_timely_theory.specs.Living.{MayLive, after, kept_after, phase_at_boot}
-use Rattle.circus_owed_theory.specs.Living.{made_in, made_by, makes_in}
-use Rattle.circus_owed_theory.proofs.Lives.{IsKnown, known}
-use Rattle.circus_world_timely_theory.specs.Happened.{happens_by, with_one}
-use Rattle.circus_world_timely_theory.specs.NodeLives.{IsOfBytes}
-use Rattle.circus_world_timely_theory.proofs.Lives.{NodeLives, MayHappen}
-use Rattle.circus_world_timely_theory.proofs.Nodes.{ends_by, may_happen}
-use Rattle.circus_world_timely_theory.proofs.Wires.{AllGather}
-use Rattle.circus_node_owed_theory.proofs.Making.{grows}
-use Rattle.circus_datagram_theory.specs.Lives.{IsOfOther, boot_acts}
-use Rattle.circus_datagram_theory.proofs.AtPairs.{other_by}
-use Rattle.circus_datagram_theory.proofs.Course.{Goes, goes_on}
-use Rattle.circus_datagram_theory.proofs.Theorem.{is_read, has_booted}
+use Rattle.circus_member_theory.specs.Living.{MayLive, after, kept_after, phase_at_boot}
+use Rattle.circus_headline_theory.specs.Owed.Living.{made_in, made_by, makes_in}
+use Rattle.circus_headline_theory.proofs.Owed.Lives.{IsKnown, known}
+use Rattle.circus_world_theory.specs.Happened.{happens_by, with_one}
+use Rattle.circus_world_theory.specs.NodeLives.{IsOfBytes}
+use Rattle.circus_world_theory.proofs.Timely.Lives.{NodeLives, MayHappen}
+use Rattle.circus_world_theory.proofs.Timely.Nodes.{ends_by, may_happen}
+use Rattle.circus_world_theory.proofs.Timely.Wires.{AllGather}
+use Rattle.circus_headline_theory.proofs.Owed.Making.{grows}
+use Rattle.circus_headline_theory.specs.Datagrams.Lives.{IsOfOther, boot_acts}
+use Rattle.circus_headline_theory.proofs.Datagrams.AtPairs.{other_by}
+use Rattle.circus_headline_theory.proofs.Datagrams.Course.{Goes, goes_on}
+use Rattle.circus_headline_theory.proofs.Datagrams.Theorem.{is_read, has_booted}
 use Rattle.circus_node.specs.Trace as trace
 use Rattle.circus_headline_theory.specs.Trace.{acts_of, acts_in_step, gives_for_all, suspects_in, heard_in, handed_over, SendsWhatIsOwed}
 use Rattle.circus_headline_theory.specs.NodeRun as node_run
@@ -118,7 +118,7 @@ module _ {M : Type 0} (declared : M → Signature) (turn : M → List ValueTree 
   IsAlive p a = NodeLives declared turn first lawful d node number troupe own p a
 
   abbrev pub Says : Past → MemberRecord → Type 0
-  Says p kept = SaysAs place views begins p (kept_at p) kept
+  Says p kept = SaysAs place views begins (first own) p (kept_at p) kept
 
   pub may_call : MayBeCalled (Hosts d) (IsOtherOf d node) place
   may_call = may_be_called d good node place refl hosts
@@ -260,7 +260,7 @@ module _ {M : Type 0} (declared : M → Signature) (turn : M → List ValueTree 
     says_before : (kept : MemberRecord) (o : Option Occurrence) → May (with_one p step o) → Says (with_one p step o) kept → Says p kept
     says_before kept None may says = says
     says_before kept (Some o) may says =
-        says_on place views begins p (followed p step o) (kept_at p) (kept_at (followed p step o)) kept (omega (arith, later))
+        says_on place views begins (first own) p (followed p step o) (kept_at p) (kept_at (followed p step o)) kept (omega (arith, later))
         (says_then declared turn first lawful place views beginning own home p step o may) says
 
     module _ (kept : MemberRecord) (says : Says p kept) where

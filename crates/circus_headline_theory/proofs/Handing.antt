@@ -17,9 +17,9 @@ use Rattle.circus_member_rules.specs.declared.occurrence.Effect.TheVariants as m
 use Rattle.circus_node.specs.Sending.{is_sendable}
 use Rattle.circus_talks.specs.Histories.{beginning_of}
 use Rattle.circus_talks.specs.NodeActs.{handed_by}
-use Rattle.circus_border_theory.proofs.Hosting.{IsOtherOf}
-use Rattle.circus_border_theory.proofs.Reaching.{Reaches, AllReach}
-use Rattle.circus_datagram_theory.proofs.AtPairs.{other_by}
+use Rattle.circus_world_theory.proofs.Border.Hosting.{IsOtherOf}
+use Rattle.circus_world_theory.proofs.Border.Reaching.{Reaches, AllReach}
+use Rattle.circus_headline_theory.proofs.Datagrams.AtPairs.{other_by}
 use Rattle.circus_headline_theory.specs.Trace.{handed_over}
 
 up_is : (b : Beginning) (acts : WireActs Purpose) (w : WireState Purpose) (to : ℕ) → WireStands w b acts → IsOther w to → is_up w to ≡ not (is_stopped_after (acts_at (pair_of b) to acts))

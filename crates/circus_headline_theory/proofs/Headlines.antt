@@ -28,9 +28,9 @@ use Rattle.circus_world_theory.specs.Worlds.{IsWorldOf}
 use Rattle.circus_world_theory.proofs.Stepping.{CalledAt}
 use Rattle.circus_world_theory.proofs.Theorem.{nodes_true, records_stand}
 use Rattle.circus_world_theory.proofs.True.{ActsTrue}
-use Rattle.circus_world_timely_theory.specs.NodeLives.{Events, IsLife}
+use Rattle.circus_world_theory.specs.NodeLives.{Events, IsLife}
 use Rattle.circus_node.specs.Trace.{effects_at_boot, booted}
-use Rattle.circus_facts.specs.Facts.{NodeFacts, node_facts, ring_facts, facts_of}
+use Rattle.circus_headline_theory.specs.Facts.{NodeFacts, node_facts, ring_facts, facts_of}
 use Rattle.circus_headline_theory.specs.NodeRun.{IsNodeRun}
 use Rattle.circus_headline_theory.specs.Lived.{trace_behind}
 use Rattle.circus_headline_theory.specs.Coming.{events_along, AreOfOthers}

@@ -1,3 +1,7 @@
+pub mod Owed
+pub mod Datagrams
+pub mod Told
+pub mod Ended
 pub mod Sends
 pub mod Handing
 pub mod Asks
@@ -8,6 +12,9 @@ pub mod Course
 pub mod Theorem
 pub mod Stood
 pub mod One
+pub mod Agree
+pub mod Alike
+pub mod OneRun
 pub mod Served
 pub mod PlainServed
 pub mod Spelled

@@ -43,7 +43,7 @@ use Rattle.circus_model.proofs.Threads.{are_modules}
 use Rattle.circus_record.specs.declared.record.MemberRecord.{MemberRecord}
 use Rattle.circus_record.specs.declared.record.RunRecord.{RunRecord}
 use Rattle.circus_performing.specs.Record.{behaviour}
-use Rattle.circus_performing_theory.proofs.Histories.{run_follows, state_is, runs_are_few}
+use Rattle.circus_member_theory.proofs.Histories.{run_follows, state_is, runs_are_few}
 use Rattle.circus_exchange.specs.Exchange.{start}
 use Rattle.circus_pair.specs.Handed.{call_at, return_at}
 use Rattle.circus_pair.specs.TwoEnds.{sent_by}
@@ -64,11 +64,11 @@ use Rattle.circus_member_rules.specs.declared.place.Beginning.{Beginning}
 use Rattle.circus_member_rules.specs.declared.place.Place.{Place}
 use Rattle.circus_member_step.specs.Step.{reply_of_run}
 use Rattle.circus_accepting.specs.Accepting.{troupe_at, accepted_request}
-use Rattle.circus_accepting_theory.proofs.Arguments.{values_octets}
-use Rattle.circus_accepting_theory.proofs.Octets.{word_octets, fields_octets}
-use Rattle.circus_accepting_theory.proofs.Options.{before_some, passes_some}
-use Rattle.circus_accepting_theory.proofs.States.{snapshot_octets}
-use Rattle.circus_accepting_theory.proofs.TrueCan.{true_call_octets}
+use Rattle.circus_member_theory.proofs.Accepting.Arguments.{values_octets}
+use Rattle.circus_member_theory.proofs.Accepting.Octets.{word_octets, fields_octets}
+use Rattle.circus_member_theory.proofs.Accepting.Options.{before_some, passes_some}
+use Rattle.circus_member_theory.proofs.Accepting.States.{snapshot_octets}
+use Rattle.circus_member_theory.proofs.Accepting.TrueCan.{true_call_octets}
 use Rattle.circus_node.specs.Booting.{beginning_in, home_in, home_of, made_at_boot}
 use Rattle.circus_node.specs.Making.{hears, by_ring, performs, a_drop, table_message}
 use Rattle.circus_node.specs.NodeState.{Acting, member, ringmaster, NodeState}
@@ -86,25 +86,25 @@ use Rattle.circus_talks.proofs.Worlds.{Stands, IsGiven, at_pair, lawful_at}
 use Rattle.circus_standing.specs.Messages.{IsReplyOf, IsTrueReply, IsTrueState}
 use Rattle.circus_truth.specs.Truth.{IsTrueReturn}
 use Rattle.circus_timely.specs.Past.{Past}
-use Rattle.circus_timely_theory.specs.Living.{after, phase_at_boot, MayLive}
-use Rattle.circus_owed.specs.Returns.{run_of, has_ended}
-use Rattle.circus_owed_theory.proofs.States.{are_returned}
-use Rattle.circus_border_theory.specs.Made.{WasMade}
-use Rattle.circus_border_theory.proofs.Makers.{was_answered, return_was_made}
+use Rattle.circus_member_theory.specs.Living.{after, phase_at_boot, MayLive}
+use Rattle.circus_timely.specs.Returns.{run_of, has_ended}
+use Rattle.circus_headline_theory.proofs.Owed.States.{are_returned}
+use Rattle.circus_world_theory.specs.Made.{WasMade}
+use Rattle.circus_world_theory.proofs.Border.Makers.{was_answered, return_was_made}
 use Rattle.circus_world_theory.specs.Worlds.{IsWorldOf}
 use Rattle.circus_world_theory.proofs.Making.{HasModule, MayHaveModule}
 use Rattle.circus_world_theory.proofs.Saying.{call_said, return_said}
 use Rattle.circus_world_theory.proofs.Stepping.{has_module, CalledAt, NodesTrue}
 use Rattle.circus_world_theory.proofs.Theorem.{one_each, nodes_true}
 use Rattle.circus_world_theory.proofs.True.{first_at, CallSo, ReturnSo, ActsTrue}
-use Rattle.circus_world_timely_theory.specs.Happened.{past_of}
-use Rattle.circus_world_timely_theory.proofs.Lives as lives
-use Rattle.circus_world_timely_theory.proofs.Nodes.{at_home}
-use Rattle.circus_world_timely_theory.proofs.Worlds.{of_troupe}
-use Rattle.circus_datagram_theory.specs.Due.{ReturnIsDue}
-use Rattle.circus_datagram_theory.proofs.Course.{all_made}
-use Rattle.circus_datagram_theory.proofs.Returning.{return_was_due}
-use Rattle.circus_datagram_theory.proofs.WorldTheorem.{goes_then}
+use Rattle.circus_world_theory.specs.Happened.{past_of}
+use Rattle.circus_world_theory.proofs.Timely.Lives as lives
+use Rattle.circus_world_theory.proofs.Timely.Nodes.{at_home}
+use Rattle.circus_world_theory.proofs.Timely.Worlds.{of_troupe}
+use Rattle.circus_headline_theory.specs.Datagrams.Due.{ReturnIsDue}
+use Rattle.circus_headline_theory.proofs.Datagrams.Course.{all_made}
+use Rattle.circus_headline_theory.proofs.Datagrams.Returning.{return_was_due}
+use Rattle.circus_headline_theory.proofs.Datagrams.WorldTheorem.{goes_then}
 use Rattle.circus_headline_theory.proofs.Spelled.{sent_octets, message_octets}
 
 -- ---- what a run ends with

@@ -31,8 +31,8 @@ use Rattle.circus_member_rules.specs.declared.occurrence.Occurrence.TheVariants 
 use Rattle.circus_member_step.specs.Step.{start_by_call, is_join}
 use Rattle.circus_timely.specs.First.{at_end, or_else, first_given}
 use Rattle.circus_timely.specs.Past.{Past, booted, followed, now, known, down, said, is_outside, is_asking, taken_in, phase, fetched}
-use Rattle.circus_timely_theory.specs.Living.{phase_at_boot}
-use Rattle.circus_owed.specs.Snapshots.{began}
+use Rattle.circus_member_theory.specs.Living.{phase_at_boot}
+use Rattle.circus_timely.specs.Snapshots.{began}
 use Rattle.circus_ring.specs.RingTable.{boot_views}
 use Rattle.circus_collate.specs.declared.deployment.Deployment.{Deployment}
 use Rattle.circus_collate.specs.declared.deployment.Troupe.{Troupe}
@@ -43,11 +43,11 @@ use Rattle.circus_timely.specs.Timely.{given_value, ShowsAnswer, IsMain, has_end
 
 -- ---- lists
 
-at_front : {X : Type 0} (xs : List X) (x : X) (ys : List X) → slice_get (xs ++ x ∷ ys) (length xs) ≡ Some x
+pub at_front : {X : Type 0} (xs : List X) (x : X) (ys : List X) → slice_get (xs ++ x ∷ ys) (length xs) ≡ Some x
 at_front [] x ys = refl
 at_front (y ∷ xs) x ys = at_front xs x ys
 
-take_front : {X : Type 0} (xs ys : List X) → take (length xs) (xs ++ ys) ≡ xs
+pub take_front : {X : Type 0} (xs ys : List X) → take (length xs) (xs ++ ys) ≡ xs
 take_front [] ys = refl
 take_front (x ∷ xs) ys = ap (λ l. x ∷ l) (take_front xs ys)
 
@@ -57,32 +57,32 @@ take_within [] ys (suc n) low = absurd (omega (arith, low))
 take_within (x ∷ xs) ys zero low = refl
 take_within (x ∷ xs) ys (suc n) low = ap (λ l. x ∷ l) (take_within xs ys n (omega (arith, low)))
 
-get_within : {X : Type 0} (xs ys zs : List X) (n : ℕ) → n < length xs → slice_get (xs ++ ys) n ≡ slice_get (xs ++ zs) n
+pub get_within : {X : Type 0} (xs ys zs : List X) (n : ℕ) → n < length xs → slice_get (xs ++ ys) n ≡ slice_get (xs ++ zs) n
 get_within [] ys zs n low = absurd (omega (arith, low))
 get_within (x ∷ xs) ys zs zero low = refl
 get_within (x ∷ xs) ys zs (suc n) low = get_within xs ys zs n (omega (arith, low))
 
-none_is_some : {X : Type 0} (o : Option X) (x : X) → o ≡ None → o ≡ Some x → ⊥
+pub none_is_some : {X : Type 0} (o : Option X) (x : X) → o ≡ None → o ≡ Some x → ⊥
 none_is_some {X} o x none some = (let clash : ◌≡◌ {A = Option X} None (Some x) = sym none ∙ some in cc)
 
-no_more : {X : Type 0} (x : X) (xs : List X) → x ∷ xs ≡ [] → ⊥
+pub no_more : {X : Type 0} (x : X) (xs : List X) → x ∷ xs ≡ [] → ⊥
 no_more x xs is = cc
 
 -- ---- turns
 
-abbrev asked_callee : NextTurn → ℕ
+abbrev pub asked_callee : NextTurn → ℕ
 asked_callee (asks callee procedure arguments state) = callee
 asked_callee (ends outcome state) = 0
 
-abbrev asked_procedure : NextTurn → ℕ
+abbrev pub asked_procedure : NextTurn → ℕ
 asked_procedure (asks callee procedure arguments state) = procedure
 asked_procedure (ends outcome state) = 0
 
-abbrev asked_arguments : NextTurn → List ValueTree
+abbrev pub asked_arguments : NextTurn → List ValueTree
 asked_arguments (asks callee procedure arguments state) = arguments
 asked_arguments (ends outcome state) = []
 
-abbrev turned_state : NextTurn → List ValueTree
+abbrev pub turned_state : NextTurn → List ValueTree
 turned_state (asks callee procedure arguments state) = state
 turned_state (ends outcome state) = state
 
@@ -97,15 +97,15 @@ asks_is_no_end callee procedure arguments state after outcome is = none_is_some 
 
 module _ (b : Behaviour) (state : List ValueTree) where
   -- a run has ended, or waits for a reply
-  abbrev RunIs : RunRecord → Type 0
+  abbrev pub RunIs : RunRecord → Type 0
   RunIs run = HasEnded b state run ⊎ IsOpen b state run
 
   -- an ask behind others, before these
-  record AskIs (run : RunRecord) (made : List AskRecord) (ask : AskRecord) (rest : List AskRecord) : Type 0 where
-    is_made : IsMade b state (start_of run) run.started made ask
-    next : IsAnswered b (start_of run) made ask ⊎ (IsWaiting (start_of run) made ask × (rest ≡ []))
+  pub record AskIs (run : RunRecord) (made : List AskRecord) (ask : AskRecord) (rest : List AskRecord) : Type 0 where
+    pub is_made : IsMade b state (start_of run) run.started made ask
+    pub next : IsAnswered b (start_of run) made ask ⊎ (IsWaiting (start_of run) made ask × (rest ≡ []))
 
-  ask_is : (run : RunRecord) → RunIs run → (made : List AskRecord) (ask : AskRecord) (rest : List AskRecord) → run.asks ≡ made ++ ask ∷ rest → AskIs run made ask rest
+  pub ask_is : (run : RunRecord) → RunIs run → (made : List AskRecord) (ask : AskRecord) (rest : List AskRecord) → run.asks ≡ made ++ ask ∷ rest → AskIs run made ask rest
   ask_is run (inl e) made ask rest are =
       let so = e.made.asks_so (length made) ask (ap (λ l. slice_get l (length made)) are ∙ at_front made ask rest) in
       let front : take (length made) run.asks ≡ made = ap (take (length made)) are ∙ take_front made (ask ∷ rest) in
@@ -144,7 +144,7 @@ module _ (b : Behaviour) (state : List ValueTree) where
           }
 
   -- behind its asks a run has ended by their turn, or the last of them waits
-  none_behind : (run : RunRecord) → RunIs run → (made : List AskRecord) → run.asks ≡ made → (other : RunRecord) → RunIs other → (ask : AskRecord) (rest : List AskRecord) → other.asks ≡ made ++ ask ∷ rest
+  pub none_behind : (run : RunRecord) → RunIs run → (made : List AskRecord) → run.asks ≡ made → (other : RunRecord) → RunIs other → (ask : AskRecord) (rest : List AskRecord) → other.asks ≡ made ++ ask ∷ rest
       → start_of run ≡ start_of other → ⊥
   none_behind run (inl e) made are other is ask rest more same =
       let a = ask_is other is made ask rest more in
@@ -160,18 +160,18 @@ module _ (b : Behaviour) (state : List ValueTree) where
       ]
 
   -- how it ends, by its asks
-  record EndsAs (one other : RunRecord) : Type 0 where
-    outcome : one.outcome ≡ other.outcome
-    state_is : one.state ≡ other.state
-    end : one.end ≡ other.end
-    ended : one.ended ≡ other.ended
+  pub record EndsAs (one other : RunRecord) : Type 0 where
+    pub outcome : one.outcome ≡ other.outcome
+    pub state_is : one.state ≡ other.state
+    pub end : one.end ≡ other.end
+    pub ended : one.ended ≡ other.ended
 
   open_is_not_ended : (one other : RunRecord) → HasEnded b state one → IsOpen b state other → one.asks ≡ other.asks → ⊥
   open_is_not_ended one other e o same =
       let a = (e.made.asks_so (length o.before) o.ask (ap (λ l. slice_get l (length o.before)) (same ∙ o.asks_are) ∙ at_front o.before o.ask [])).1 in
       none_is_some o.ask.reply a.reply o.waits.no_reply a.reply_is
 
-  ends_as : (one other : RunRecord) → RunIs one → RunIs other → start_of one ≡ start_of other → one.started ≡ other.started → one.asks ≡ other.asks → EndsAs one other
+  pub ends_as : (one other : RunRecord) → RunIs one → RunIs other → start_of one ≡ start_of other → one.started ≡ other.started → one.asks ≡ other.asks → EndsAs one other
   ends_as one other (inl e) (inl f) starts started same =
       let turn : ends e.outcome e.after ≡ ends f.outcome f.after = sym e.turn ∙ (λ j. turns b state (starts j) (replies_of (same j))) ∙ f.turn in
       record {
@@ -193,7 +193,7 @@ module _ (b : Behaviour) (state : List ValueTree) where
 -- ---- all runs
 
 module _ (b : Behaviour) (began : List ValueTree) (kept : MemberRecord) where
-  run_is : IsRecord b began kept → (before rest : List RunRecord) (run : RunRecord) → kept.runs ≡ before ++ run ∷ rest → RunIs b (state_after began before) run
+  pub run_is : IsRecord b began kept → (before rest : List RunRecord) (run : RunRecord) → kept.runs ≡ before ++ run ∷ rest → RunIs b (state_after began before) run
   run_is r before rest run are = elim r.now [
     | inl idle ↦ inl (subst (λ l. HasEnded b (state_after began l) run) front (idle.runs (length before) run there))
     | inr p ↦ by_place p (old_or_added p.before p.run (length before) run (ap (λ l. slice_get l (length before)) (sym p.runs_are) ∙ there))
@@ -217,7 +217,7 @@ module _ (b : Behaviour) (began : List ValueTree) (kept : MemberRecord) where
 
 -- ---- what was given
 
-some_of : {A : Type 0} (o : Option A) (x : A) (P : A → Type 0) → o ≡ Some x → IsSomeAnd o P → P x
+pub some_of : {A : Type 0} (o : Option A) (x : A) (P : A → Type 0) → o ≡ Some x → IsSomeAnd o P → P x
 some_of None x P is holds = absurd holds
 some_of (Some y) x P is holds = subst P (same_Some y x is) holds
 
@@ -276,7 +276,7 @@ module _ (begins : Joiner) (active : is_active begins ≡ true) where
   none_fetched (followed p step (comes.IsBefore name from)) = none_fetched p
   none_fetched (followed p step (comes.Declared node)) = none_fetched p
 
-  none_given : (p : Past) → first_given (fetched begins) p ≡ None
+  pub none_given : (p : Past) → first_given (fetched begins) p ≡ None
   unfolding first_given
   none_given booted = refl
   none_given (followed p step o) =

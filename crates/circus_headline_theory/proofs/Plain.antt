@@ -13,7 +13,7 @@ use Rattle.circus_world.specs.WorldState.{WorldState, Standing}
 use Rattle.circus_world_theory.specs.Worlds.{IsPlainWorldOf}
 use Rattle.circus_world_theory.proofs.Lawful as lawful
 use Rattle.circus_world_theory.proofs.Lawful.{Lawful, acting_recorded}
-use Rattle.circus_facts.specs.Facts.{Facts, NodeFacts, node_facts, ring_facts, facts_of}
+use Rattle.circus_headline_theory.specs.Facts.{Facts, NodeFacts, node_facts, ring_facts, facts_of}
 use Rattle.circus_headline_theory.specs.Headline.{Headline}
 use Rattle.circus_headline_theory.proofs.Headlines.{AreNodeRuns, keeps_headline}
 

@@ -14,13 +14,13 @@ use Rattle.circus_node.specs.Step.{Ended}
 use Rattle.circus_node.specs.declared.event.Outputs.{Outputs}
 use Rattle.circus_alike.specs.Alike.{declared_of, turn_of, first_of, node_as, ended_as}
 use Rattle.circus_alike.proofs.NodesAlike.{node_booted_as}
-use Rattle.circus_log.specs.Serving.{Served, Progress, on, spent, served}
+use Rattle.circus_log.specs.Serving.{Served, Progress, on, spent, happened_by, served}
 use Rattle.circus_served.specs.Alike.{served_as, progress_as}
 use Rattle.circus_served.proofs.ServingAlike.{serving_as, record_as}
 use Rattle.circus_world_theory.proofs.Lawful as lawful
 use Rattle.circus_world_theory.proofs.Lawful.{Lawful}
-use Rattle.circus_headline_theory.specs.ServedRun.{IsOfOctets, IsServedRun}
-use Rattle.circus_headline_theory.proofs.Served.{served_is_a_node_run}
+use Rattle.circus_headline_theory.specs.ServedRun.{IsOfOctets, IsServedRun, IsServedSoFar}
+use Rattle.circus_headline_theory.proofs.Served.{served_is_a_node_run, served_so_far}
 
 abbrev seen : NodeState Lawful → NodeState Behaviour
 seen n = node_as lawful.declared lawful.turn lawful.first n
@@ -76,5 +76,21 @@ module _ (d : Deployment) (b : Behaviour) (is_module : IsModule b) (node : ℕ) 
       let recorded = sym (record_as lawful.declared lawful.turn lawful.first serves.last_.node.acting)
       ∙ ap (λ (s : Served Behaviour). member_record s.node.acting) serves.same ∙ at in
       subst (λ happened. IsServedRun d b node number troupe happened kept) (ap (λ (s : Served Behaviour). s.happened) serves.same)
-      (served_is_a_node_run lawful.declared lawful.turn lawful.first d own node lawful.all_lawful number troupe begins.begun outputs takes serves.last_ kept can begins.boots serves.is octets hosts there
-      recorded)
+      (served_is_a_node_run lawful.declared lawful.turn lawful.first d own node lawful.all_lawful number troupe can hosts there begins.begun outputs takes begins.boots octets serves.last_ kept
+      serves.is recorded)
+
+  -- what happened is the same
+  happened_as : (p : Progress Lawful) → happened_by (progress_as lawful.declared lawful.turn lawful.first p) ≡ happened_by p
+  happened_as (on s) = refl
+  happened_as (spent peer happened) = refl
+
+  pub plain_served_so_far : (number : ℕ) (troupe : Troupe) (begun_ : NodeState Behaviour) (outputs : Outputs) (takes : List TakenFrom) → CanBoot d node (Some b.declared)
+      → booting.booted declared_of turn_of first_of d (Some b) node ≡ Ok (begun_, outputs) → All IsOfOctets takes → troupe_at d node ≡ Some number
+      → slice_get d.troupes number ≡ Some troupe → IsServedSoFar d b node number troupe (happened_by (served declared_of turn_of d node begun_ outputs.gives takes))
+  plain_served_so_far number troupe begun_ outputs takes can boots octets hosts there =
+      let begins = boots_so begun_ outputs boots in
+      subst (IsServedSoFar d b node number troupe)
+      (sym (happened_as (served lawful.declared lawful.turn d node begins.begun outputs.gives takes))
+      ∙ ap happened_by (serving_as lawful.declared lawful.turn lawful.first d node begins.begun outputs.gives takes)
+      ∙ ap (λ (n : NodeState Behaviour). happened_by (served declared_of turn_of d node n outputs.gives takes)) begins.same)
+      (served_so_far lawful.declared lawful.turn lawful.first d own node lawful.all_lawful number troupe can hosts there begins.begun outputs takes begins.boots octets)

@@ -43,13 +43,13 @@ use Rattle.circus_talks.specs.Histories.{beginning_of}
 use Rattle.circus_talks.specs.NodeActs.{with_all, came_by, handed_by, wire_behind, acts_in, acts_at_boot}
 use Rattle.circus_node.specs.Trace.{effects_in, Trace}
 use Rattle.circus_talks.proofs.Steps.{IsRead}
-use Rattle.circus_world_timely_theory.specs.NodeLives.{Events, Comes}
-use Rattle.circus_world_timely_theory.proofs.Lives.{acting_by}
-use Rattle.circus_world_timely_theory.proofs.Nodes.{concludes, ends_by}
-use Rattle.circus_datagram_theory.specs.Lives.{IsOfOther}
-use Rattle.circus_datagram_theory.specs.Ring.{Requests}
-use Rattle.circus_datagram_theory.proofs.AtPairs.{other_by}
-use Rattle.circus_datagram_theory.proofs.Theorem.{is_read}
+use Rattle.circus_world_theory.specs.NodeLives.{Events, Comes}
+use Rattle.circus_world_theory.proofs.Timely.Lives.{acting_by}
+use Rattle.circus_world_theory.proofs.Timely.Nodes.{concludes, ends_by}
+use Rattle.circus_headline_theory.specs.Datagrams.Lives.{IsOfOther}
+use Rattle.circus_headline_theory.specs.Datagrams.Ring.{Requests}
+use Rattle.circus_headline_theory.proofs.Datagrams.AtPairs.{other_by}
+use Rattle.circus_headline_theory.proofs.Datagrams.Theorem.{is_read}
 use Rattle.circus_node.specs.Trace as trace
 use Rattle.circus_headline_theory.specs.Trace.{handed_over, acts_of, acts_in_step, gives_for_all, heard_in, SendsWhatIsOwed}
 use Rattle.circus_headline_theory.specs.Lived.{then_on, with_events}

@@ -11,7 +11,7 @@ use Rattle.circus_schedule.specs.declared.line.Line.{Line}
 use Rattle.circus_world.specs.WorldState.{WorldState}
 use Rattle.circus_world_theory.specs.Worlds.{IsWorldOf, IsPlainWorldOf}
 use Rattle.circus_world_theory.proofs.Lawful as lawful_modules
-use Rattle.circus_facts.specs.Facts.{facts_of}
+use Rattle.circus_headline_theory.specs.Facts.{facts_of}
 use Rattle.circus_headline_theory.proofs.Theorem.{node_is_a_node_run}
 use Rattle.circus_headline_theory.specs.Headline.{Headline}
 use Rattle.circus_headline_theory.proofs.Headlines.{keeps_headline}

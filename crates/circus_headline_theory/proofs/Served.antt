@@ -1,6 +1,6 @@
 -- A node that is served stands for a trace that shows what happened to it.
 use Rattle.std.proofs.Common.{◌≡◌, ℕ, ◌+◌, ◌-◌, ◌<◌, Bool, true, false, if◌then◌else◌, List, [], ◌∷◌, ◌++◌, length, All, Option, None, Some, Ok, Err, refl, sym, ap, subst, ◌∙◌, arith}
-use Rattle.std.specs.Prelude.{slice_get}
+use Rattle.std.specs.Prelude.{slice_get, IsSome}
 use Rattle.std.specs.Option.{option_map_or}
 use Rattle.std.proofs.lemmas.List.Elements.{All-head, All-tail, All-weaker}
 use Rattle.circus_value.specs.ValueTree.{ValueTree}
@@ -32,14 +32,14 @@ use Rattle.circus_node.proofs.NodeLemmas.{boot_is_of, step_is_of}
 use Rattle.circus_log.specs.declared.happening.Happening.{Happening}
 use Rattle.circus_log.specs.declared.happening.Happening.TheVariants.{Booted, Stepped, Foreign}
 use Rattle.circus_log.specs.Happened.{peer_at}
-use Rattle.circus_log.specs.Serving.{Served, Progress, on, spent, and_then, concluded, with_foreign, is_spare, at_boot, event_comes, suspected, all_declared, comes, took, all_took, begun, served}
+use Rattle.circus_log.specs.Serving.{Served, Progress, on, spent, happened_by, and_then, concluded, with_foreign, is_spare, at_boot, event_comes, suspected, all_declared, comes, took, all_took, begun, served}
 use Rattle.circus_serve.proofs.EventLemmas.{peer_is_other}
 use Rattle.circus_serve.proofs.SuspectLemmas.{suspects_others}
-use Rattle.circus_world_timely_theory.specs.NodeLives.{IsOfBytes}
-use Rattle.circus_datagram_theory.specs.Lives.{IsOfOther}
+use Rattle.circus_world_theory.specs.NodeLives.{IsOfBytes}
+use Rattle.circus_headline_theory.specs.Datagrams.Lives.{IsOfOther}
 use Rattle.circus_headline_theory.specs.Trace.{now, Rises, ComesFromOthers}
 use Rattle.circus_headline_theory.proofs.Stood.{core_is_a_node_run}
-use Rattle.circus_headline_theory.specs.ServedRun.{IsOfOctets, own_happenings, shown_of, IsNumbered, IsServedRun}
+use Rattle.circus_headline_theory.specs.ServedRun.{IsOfOctets, own_happenings, shown_of, IsNumbered, IsServedRun, IsServedSoFar}
 
 -- ---- what happened
 
@@ -76,27 +76,32 @@ module _ {M : Type 0} (declared : M → Signature) (turn : M → List ValueTree 
     shows : own_happenings s.happened ≡ shown_of lived
     of : IsNodeOf d node s.node
 
+  -- this has happened at a node that stands so
+  record HasReached (happened : List Happening) : Type 0 where
+    pub last : Served M
+    pub reached : Reached last
+    pub same : last.happened ≡ happened
+
   abbrev GoesOn : Progress M → Type 0
-  GoesOn progress = (t : Served M) → progress ≡ on t → Reached t
-
-  on_same : (s t : Served M) → on s ≡ on t → s ≡ t
-  on_same s t is = cc
-
-  goes : (s : Served M) → Reached s → GoesOn (on s)
-  goes s r t is = subst Reached (on_same s t is) r
+  GoesOn (on s) = Reached s
+  GoesOn (spent peer happened) = HasReached happened
 
   goes_then : (next : Served M → Progress M) → ((s : Served M) → Reached s → GoesOn (next s)) → (progress : Progress M) → GoesOn progress → GoesOn (and_then next progress)
-  goes_then next each (on s) so_far t is = each s (so_far s refl) t is
-  goes_then next each (spent peer happened) so_far t is = absurd cc
+  goes_then next each (on s) so_far = each s so_far
+  goes_then next each (spent peer happened) so_far = so_far
+
+  -- as far as it came
+  reached_so_far : (progress : Progress M) → GoesOn progress → HasReached (happened_by progress)
+  reached_so_far (on s) r = record { last = s; reached = r; same = refl }
+  reached_so_far (spent peer happened) r = r
 
   goes_event : (event : Event) (s : Served M) → Reached s → IsOfOther d node event → IsOfBytes event → GoesOn (event_comes declared turn event s)
   unfolding event_comes
   goes_event event s r other octets = by_end (step.stepped declared turn s.next event s.node) refl
     where
       by_end : (end : step.Ended M) → step.stepped declared turn s.next event s.node ≡ end → GoesOn (concluded event s end)
-      by_end (Ok ended) is t same =
-          goes (record { node = ended.0; next = s.next + 1; happened = s.happened ++ Stepped event ended.1.gives ended.1.differences ∷ [] })
-          (record {
+      by_end (Ok ended) is =
+          record {
             lived = trace.stepped r.lived s.next event (effects_in declared turn s.next event s.node) ended.1;
             stands = (s.node, r.stands, is, refl);
             rises = (r.rises, omega (arith, r.next_is));
@@ -105,13 +110,12 @@ module _ {M : Type 0} (declared : M → Signature) (turn : M → List ValueTree 
             next_is = refl;
             shows = own_push s.happened event ended.1.gives ended.1.differences ∙ ap (λ l. l ++ Stepped event ended.1.gives ended.1.differences ∷ []) r.shows;
             of = step_is_of declared turn (Ok ended) s.next event s.node is d node r.of;
-          })
-          t same
-      by_end (Err peer) is t same = absurd cc
+          }
+      by_end (Err peer) is = record { last = s; reached = r; same = refl }
 
   -- the nodes that are suspected are other ones of the program
   goes_declared : (nodes : List ℕ) (s : Served M) → Reached s → All (λ (x : ℕ). IsOfOther d node (Down x)) nodes → GoesOn (all_declared declared turn nodes s)
-  goes_declared [] s r all = goes s r
+  goes_declared [] s r all = r
   goes_declared (x ∷ others) s r all =
       goes_then (all_declared declared turn others) (λ t reached. goes_declared others t reached (All-tail (λ (x : ℕ). IsOfOther d node (Down x)) x others all))
       (event_comes declared turn (Down x) s) (goes_event (Down x) s r (All-head (λ (x : ℕ). IsOfOther d node (Down x)) x others all) tt)
@@ -142,12 +146,12 @@ module _ {M : Type 0} (declared : M → Signature) (turn : M → List ValueTree 
   goes_took (From port bytes) s r octets = by_peer (peer_at d node port) refl
     where
       by_peer : (peer : Option ℕ) → peer_at d node port ≡ peer → GoesOn (option_map_or (λ from. comes declared turn (Datagram from bytes) s) peer (on (with_foreign port bytes s)))
-      by_peer None is = goes (with_foreign port bytes s) (goes_foreign port bytes s r)
+      by_peer None is = goes_foreign port bytes s r
       by_peer (Some from) is = goes_comes (Datagram from bytes) s r (other_of d node from s.node some r.of (peer_is_other d node port from s.node r.of is)) octets
   goes_took Nothing s r octets = goes_comes Tick s r tt tt
 
   goes_all : (takes : List TakenFrom) (s : Served M) → Reached s → All IsOfOctets takes → GoesOn (all_took declared turn d node takes s)
-  goes_all [] s r all = goes s r
+  goes_all [] s r all = r
   goes_all (taken ∷ others) s r all =
       goes_then (all_took declared turn d node others) (λ t reached. goes_all others t reached (All-tail IsOfOctets taken others all))
       (took declared turn d node taken s) (goes_took taken s r (All-head IsOfOctets taken others all))
@@ -170,23 +174,45 @@ module _ {M : Type 0} (declared : M → Signature) (turn : M → List ValueTree 
       where
         by_spare : (b : Bool) → GoesOn (if b then comes declared turn Join (at_boot begun_ outputs.gives) else on (at_boot begun_ outputs.gives))
         by_spare true = goes_comes Join (at_boot begun_ outputs.gives) goes_boot tt tt
-        by_spare false = goes (at_boot begun_ outputs.gives) goes_boot
+        by_spare false = goes_boot
 
-    reached_all : (takes : List TakenFrom) (last : Served M) → served declared turn d node begun_ outputs.gives takes ≡ on last → All IsOfOctets takes → Reached last
-    reached_all takes last is octets =
-        goes_then (all_took declared turn d node takes) (λ s r. goes_all takes s r octets) (begun declared turn begun_ outputs.gives) goes_begun last is
+    reached_all : (takes : List TakenFrom) → All IsOfOctets takes → GoesOn (served declared turn d node begun_ outputs.gives takes)
+    reached_all takes octets = goes_then (all_took declared turn d node takes) (λ s r. goes_all takes s r octets) (begun declared turn begun_ outputs.gives) goes_begun
 
 module _ {M : Type 0} (declared : M → Signature) (turn : M → List ValueTree → ℕ → List ValueTree → List Outcome → NextTurn) (first : M → List ValueTree)
     (d : Deployment) (own : M) (node : ℕ) where
-  pub served_is_a_node_run : ((m : M) → IsModule (behaviour declared turn first m)) → (number : ℕ) (troupe : Troupe) (begun_ : NodeState M) (outputs : Outputs) (takes : List TakenFrom)
-      (last : Served M) (kept : MemberRecord) → CanBoot d node (Some (declared own)) → booting.booted declared turn first d (Some own) node ≡ Ok (begun_, outputs)
-      → served declared turn d node begun_ outputs.gives takes ≡ on last → All IsOfOctets takes → troupe_at d node ≡ Some number → slice_get d.troupes number ≡ Some troupe
-      → member_record last.node.acting ≡ Some kept → IsServedRun d (behaviour declared turn first own) node number troupe last.happened kept
-  served_is_a_node_run lawful number troupe begun_ outputs takes last kept can boots is octets hosts there at =
-      let r = reached_all declared turn first d own node can begun_ outputs boots takes last is octets in
-      record {
-        lived = r.lived;
-        shows = r.shows;
-        numbered = r.numbered;
-        is = core_is_a_node_run declared turn first d own node lawful can number troupe r.lived last.node kept r.stands r.rises r.others hosts there at;
-      }
+  module _ (lawful : (m : M) → IsModule (behaviour declared turn first m)) (number : ℕ) (troupe : Troupe) (can : CanBoot d node (Some (declared own))) (hosts : troupe_at d node ≡ Some number)
+      (there : slice_get d.troupes number ≡ Some troupe) where
+    is_served_run : (s : Served M) → Reached declared turn first d own node can s → (kept : MemberRecord) → member_record s.node.acting ≡ Some kept
+        → IsServedRun d (behaviour declared turn first own) node number troupe s.happened kept
+    is_served_run s r kept at =
+        record {
+          lived = r.lived;
+          shows = r.shows;
+          numbered = r.numbered;
+          is = core_is_a_node_run declared turn first d own node lawful can number troupe r.lived s.node kept r.stands r.rises r.others hosts there at;
+        }
+
+    module _ (begun_ : NodeState M) (outputs : Outputs) (takes : List TakenFrom) (boots : booting.booted declared turn first d (Some own) node ≡ Ok (begun_, outputs))
+        (octets : All IsOfOctets takes) where
+      reached : GoesOn declared turn first d own node can (served declared turn d node begun_ outputs.gives takes)
+      reached = reached_all declared turn first d own node can begun_ outputs boots takes octets
+
+      pub served_is_a_node_run : (last : Served M) (kept : MemberRecord) → served declared turn d node begun_ outputs.gives takes ≡ on last → member_record last.node.acting ≡ Some kept
+          → IsServedRun d (behaviour declared turn first own) node number troupe last.happened kept
+      served_is_a_node_run last kept is at = is_served_run last (subst (GoesOn declared turn first d own node can) is reached) kept at
+
+      pub served_so_far : IsServedSoFar d (behaviour declared turn first own) node number troupe (happened_by (served declared turn d node begun_ outputs.gives takes))
+      served_so_far = by_record (member_record so_far.last.node.acting) refl (so_far.reached.of.member (subst (λ (o : Option ℕ). IsSome o) (sym hosts) refl))
+        where
+          so_far : HasReached declared turn first d own node can (happened_by (served declared turn d node begun_ outputs.gives takes))
+          so_far = reached_so_far declared turn first d own node can (served declared turn d node begun_ outputs.gives takes) reached
+
+          by_record : (o : Option MemberRecord) → member_record so_far.last.node.acting ≡ o → IsSome o
+              → IsServedSoFar d (behaviour declared turn first own) node number troupe (happened_by (served declared turn d node begun_ outputs.gives takes))
+          by_record (Some kept) at some =
+              record {
+                kept = kept;
+                is = subst (λ happened. IsServedRun d (behaviour declared turn first own) node number troupe happened kept) so_far.same (is_served_run so_far.last so_far.reached kept at);
+              }
+          by_record None at some = absurd cc

@@ -28,11 +28,11 @@ use Rattle.circus_member_step.proofs.Writing.{one_is_performing}
 use Rattle.circus_member_theory.proofs.Resting.{at_boot}
 use Rattle.circus_timely.specs.Past.{Past, booted, followed, phase, fetched}
 use Rattle.circus_timely.specs.First.{or_else, first_given}
-use Rattle.circus_timely_theory.specs.Living.{MayLive, after, kept_after, phase_at_boot}
-use Rattle.circus_timely_theory.proofs.Firsts.{first_is, none_now}
-use Rattle.circus_owed_theory.proofs.Booting.{booted_keeps}
-use Rattle.circus_owed_theory.proofs.Going.{behaves, Keeps, executed_keeps}
-use Rattle.circus_owed_theory.proofs.Lives.{step_is, known}
+use Rattle.circus_member_theory.specs.Living.{MayLive, after, kept_after, phase_at_boot}
+use Rattle.circus_member_theory.proofs.Timely.Firsts.{first_is, none_now}
+use Rattle.circus_headline_theory.proofs.Owed.Booting.{booted_keeps}
+use Rattle.circus_headline_theory.proofs.Owed.Going.{behaves, Keeps, executed_keeps}
+use Rattle.circus_headline_theory.proofs.Owed.Lives.{step_is, known}
 
 -- it performs from the first call on, since boot
 abbrev pub IsFromFirst : MemberRecord → Type 0

@@ -21,8 +21,8 @@ use Rattle.circus_node.specs.Trace as trace
 use Rattle.circus_node.specs.Trace.{Trace, StandsFor, effects_in}
 use Rattle.circus_node.specs.declared.event.Event.{Event}
 use Rattle.circus_node.specs.declared.event.Outputs.{Outputs}
-use Rattle.circus_world_timely_theory.specs.NodeLives.{Events, Rising, IsOfBytes, Comes, IsLife}
-use Rattle.circus_datagram_theory.specs.Lives.{IsOfOther, last_step}
+use Rattle.circus_world_theory.specs.NodeLives.{Events, Rising, IsOfBytes, Comes, IsLife}
+use Rattle.circus_headline_theory.specs.Datagrams.Lives.{IsOfOther, last_step}
 use Rattle.circus_headline_theory.specs.Trace.{events_of, now, Rises, ComesFromOthers}
 use Rattle.circus_headline_theory.specs.Lived.{trace_behind}
 use Rattle.circus_headline_theory.specs.Lived as lived

@@ -38,23 +38,23 @@ use Rattle.circus_node.specs.Trace.{effects_in, effects_at_boot, Trace}
 use Rattle.circus_timely.specs.Past.{Past, booted, now, fetched}
 use Rattle.circus_timely.specs.First.{first_given}
 use Rattle.circus_timely.specs.Timely.{IsTimely}
-use Rattle.circus_timely_theory.specs.Living.{after, kept_after, phase_at_boot}
-use Rattle.circus_timely_theory.specs.Living as member_living
-use Rattle.circus_owed.specs.Snapshots.{began}
-use Rattle.circus_owed_theory.specs.Living.{made_in, told_in}
-use Rattle.circus_owed_theory.proofs.Lives.{IsKnown, known}
+use Rattle.circus_member_theory.specs.Living.{after, kept_after, phase_at_boot}
+use Rattle.circus_member_theory.specs.Living as member_living
+use Rattle.circus_timely.specs.Snapshots.{began}
+use Rattle.circus_headline_theory.specs.Owed.Living.{made_in, told_in}
+use Rattle.circus_headline_theory.proofs.Owed.Lives.{IsKnown, known}
 use Rattle.circus_world_theory.proofs.Stepping.{same_ended}
-use Rattle.circus_world_timely_theory.specs.Happened.{happens_by, with_one}
-use Rattle.circus_world_timely_theory.specs.NodeLives.{Events, Rising, Comes, past_behind, IsLife}
-use Rattle.circus_world_timely_theory.specs.NodeLives as pasts
-use Rattle.circus_world_timely_theory.proofs.Lines.{now_one}
-use Rattle.circus_world_timely_theory.proofs.Nodes.{at_home, node_records_are_timely}
-use Rattle.circus_node_owed_theory.specs.Makes.{makes, tells, made_behind, given_by}
-use Rattle.circus_node_owed_theory.specs.Makes as owed
-use Rattle.circus_node_owed_theory.specs.Owes.{MakesWhatIsOwed}
-use Rattle.circus_node_owed_theory.proofs.Nodes.{node_makes_what_is_owed}
-use Rattle.circus_datagram_theory.specs.Lives.{IsOfOther, boot_acts, acts_behind}
-use Rattle.circus_datagram_theory.specs.Lives as at_pairs
+use Rattle.circus_world_theory.specs.Happened.{happens_by, with_one}
+use Rattle.circus_world_theory.specs.NodeLives.{Events, Rising, Comes, past_behind, IsLife}
+use Rattle.circus_world_theory.specs.NodeLives as pasts
+use Rattle.circus_world_theory.proofs.Timely.Lines.{now_one}
+use Rattle.circus_world_theory.proofs.Timely.Nodes.{at_home, node_records_are_timely}
+use Rattle.circus_headline_theory.specs.Owed.Makes.{makes, tells, made_behind, given_by}
+use Rattle.circus_headline_theory.specs.Owed.Makes as owed
+use Rattle.circus_headline_theory.specs.Owed.Owes.{MakesWhatIsOwed}
+use Rattle.circus_headline_theory.proofs.Owed.Nodes.{node_makes_what_is_owed}
+use Rattle.circus_headline_theory.specs.Datagrams.Lives.{IsOfOther, boot_acts, acts_behind}
+use Rattle.circus_headline_theory.specs.Datagrams.Lives as at_pairs
 use Rattle.circus_headline_theory.specs.Lived.{trace_behind}
 use Rattle.circus_headline_theory.specs.Lived as lived
 use Rattle.circus_headline_theory.specs.NodeRun.{past_of, IsNodeRun}
@@ -206,7 +206,7 @@ module _ {M : Type 0} (declared : M → Signature) (turn : M → List ValueTree 
       kept_is = same_Some m.performing.kept kept (sym (ap member_record acting_is) ∙ at)
 
       says : Says declared turn first lawful d good node number troupe own hosts home p kept
-      says = subst (Says declared turn first lawful d good node number troupe own hosts home p) kept_is (says_same place views begins p m.performing.kept)
+      says = subst (Says declared turn first lawful d good node number troupe own hosts home p) kept_is (says_same place views begins (first own) p m.performing.kept)
 
       past_so : past_of d b node number troupe kept t ≡ p
       past_so = f.past_is kept says

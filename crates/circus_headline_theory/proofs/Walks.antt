@@ -35,9 +35,9 @@ use Rattle.circus_talks.specs.Histories.{delivery, comes_by}
 use Rattle.circus_talks.proofs.Worlds.{Stands, get_same}
 use Rattle.circus_world_theory.proofs.Along.{noted_at, live_there, below_sent}
 use Rattle.circus_world_theory.proofs.Stepping.{same_world, comes_is}
-use Rattle.circus_world_timely_theory.specs.NodeLives.{Events, IsOfBytes}
-use Rattle.circus_node_owed_theory.specs.Makes.{by_line}
-use Rattle.circus_datagram_theory.specs.Lives.{IsOfOther}
+use Rattle.circus_world_theory.specs.NodeLives.{Events, IsOfBytes}
+use Rattle.circus_headline_theory.specs.Owed.Makes.{by_line}
+use Rattle.circus_headline_theory.specs.Datagrams.Lives.{IsOfOther}
 use Rattle.circus_headline_theory.specs.Coming.{comes_then}
 use Rattle.circus_headline_theory.specs.Events.{arriving, event_for, is_crash_of, is_join_of}
 use Rattle.circus_headline_theory.specs.Sendings.{is_from, sent_from}

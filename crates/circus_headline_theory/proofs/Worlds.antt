@@ -22,7 +22,7 @@ use Rattle.circus_talks.proofs.Boots.{world_stands}
 use Rattle.circus_talks.proofs.Worlds.{Stands}
 use Rattle.circus_world_theory.specs.Worlds.{IsWorldOf}
 use Rattle.circus_world_theory.proofs.Stepping.{same_ended}
-use Rattle.circus_world_timely_theory.specs.NodeLives.{Events}
+use Rattle.circus_world_theory.specs.NodeLives.{Events}
 use Rattle.circus_headline_theory.specs.Trace.{events_of}
 use Rattle.circus_node.specs.Trace.{Trace, booted}
 use Rattle.circus_headline_theory.specs.Lived.{with_events}

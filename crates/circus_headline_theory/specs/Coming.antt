@@ -14,9 +14,9 @@ use Rattle.circus_node.specs.declared.event.Outputs.{Outputs}
 use Rattle.circus_schedule.specs.declared.line.Line.{Line}
 use Rattle.circus_world.specs.Course as course
 use Rattle.circus_world.specs.WorldState.{WorldState, Standing}
-use Rattle.circus_world_timely_theory.specs.NodeLives.{Events, Rising, Comes, IsLife}
-use Rattle.circus_node_owed_theory.specs.Makes.{by_line, then_along}
-use Rattle.circus_datagram_theory.specs.Lives.{IsOfOther}
+use Rattle.circus_world_theory.specs.NodeLives.{Events, Rising, Comes, IsLife}
+use Rattle.circus_headline_theory.specs.Owed.Makes.{by_line, then_along}
+use Rattle.circus_headline_theory.specs.Datagrams.Lives.{IsOfOther}
 use Rattle.circus_node.specs.Trace.{booted}
 use Rattle.circus_headline_theory.specs.Lived.{with_events}
 use Rattle.circus_headline_theory.specs.Events.{events_for}

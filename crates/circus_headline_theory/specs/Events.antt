@@ -5,7 +5,7 @@ use Rattle.circus_node.specs.declared.event.Event.TheVariants as comes
 use Rattle.circus_schedule.specs.declared.line.Line.{Line}
 use Rattle.circus_schedule.specs.declared.line.Line.TheVariants.{Deliver, Tick, Crash, Down, Join}
 use Rattle.circus_world.specs.declared.sent.Sent.{Sent}
-use Rattle.circus_world_timely_theory.specs.NodeLives.{Events}
+use Rattle.circus_world_theory.specs.NodeLives.{Events}
 
 -- a datagram, where it is to the node
 abbrev pub arriving : ℕ → Sent → Option Event

@@ -1,3 +1,6 @@
+pub mod Owed
+pub mod Datagrams
+pub mod Facts
 pub mod Trace
 pub mod NodeRun
 pub mod Lived

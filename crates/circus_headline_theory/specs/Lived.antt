@@ -10,7 +10,7 @@ use Rattle.circus_node.specs.Step as step
 use Rattle.circus_node.specs.Step.{Ended}
 use Rattle.circus_node.specs.declared.event.Outputs.{Outputs}
 use Rattle.circus_node.specs.Trace.{effects_in, effects_at_boot, Trace, booted, stepped}
-use Rattle.circus_world_timely_theory.specs.NodeLives.{Events}
+use Rattle.circus_world_theory.specs.NodeLives.{Events}
 
 module _ {M : Type 0} where
   -- and then behind other events, if the step came to an end

@@ -35,11 +35,11 @@ use Rattle.circus_talks.specs.Histories.{beginning_of}
 use Rattle.circus_timely.specs.Past.{Past, booted, fetched}
 use Rattle.circus_timely.specs.First.{first_given}
 use Rattle.circus_timely.specs.Timely.{IsTimely}
-use Rattle.circus_timely_theory.specs.Living.{phase_at_boot}
-use Rattle.circus_owed.specs.Order.{IsInOrder}
-use Rattle.circus_owed.specs.Snapshots.{began}
-use Rattle.circus_world_timely_theory.specs.Happened.{with_one}
-use Rattle.circus_node_owed_theory.specs.Owes.{MakesWhatIsOwed}
+use Rattle.circus_member_theory.specs.Living.{phase_at_boot}
+use Rattle.circus_timely.specs.Order.{IsInOrder}
+use Rattle.circus_timely.specs.Snapshots.{began}
+use Rattle.circus_world_theory.specs.Happened.{with_one}
+use Rattle.circus_headline_theory.specs.Owed.Owes.{MakesWhatIsOwed}
 use Rattle.circus_node.specs.Trace as trace
 use Rattle.circus_headline_theory.specs.Trace.{made_of, told_of, acts_of, heard_in, SendsWhatIsOwed}
 use Rattle.circus_node.specs.Trace.{Trace}
@@ -111,7 +111,7 @@ module _ (d : Deployment) (b : Behaviour) (node number : ℕ) (troupe : Troupe) 
   -- which stand as they are owed)
   abbrev pub IsOrderedFor : MemberRecord → Past → ℕ → List Effect → Option Occurrence → Type 0
   IsOrderedFor kept p at made None = made ≡ []
-  IsOrderedFor kept p at made (Some o) = IsInOrder place (boot_views d.troupes) begins kept p at o made
+  IsOrderedFor kept p at made (Some o) = IsInOrder place (boot_views d.troupes) begins b.first kept p at o made
 
   abbrev pub IsOrdered : MemberRecord → Trace → Type 0
   IsOrdered kept (trace.booted made outputs) = Unit {0}

@@ -42,3 +42,8 @@ pub record IsServedRun (d : Deployment) (b : Behaviour) (node number : ℕ) (tro
   pub shows : own_happenings happened ≡ shown_of lived
   pub numbered : IsNumbered lived
   pub is : IsNodeRun d b node number troupe lived kept
+
+-- so it is as far as it came, with the record that the member had then
+pub record IsServedSoFar (d : Deployment) (b : Behaviour) (node number : ℕ) (troupe : Troupe) (happened : List Happening) : Type 0 where
+  pub kept : MemberRecord
+  pub is : IsServedRun d b node number troupe happened kept

@@ -5,7 +5,7 @@ ghost use Rattle.circus_model.specs.Behaviour.{Behaviour, behaviours, IsModule};
 ghost use Rattle.circus_schedule.specs.declared.line.Line.{Line};
 ghost use Rattle.circus_world.specs.WorldState.{WorldState};
 ghost use Rattle.circus_world_theory.specs.Worlds.{IsWorldOf, IsPlainWorldOf};
-ghost use Rattle.circus_facts.specs.Facts.{facts_of};
+ghost use Rattle.circus_headline_theory.specs.Facts.{facts_of};
 ghost use Rattle.circus_headline_theory.specs.Coming.{NodesLive, NodesSendWhatTheyGive};
 ghost use Rattle.circus_headline_theory.specs.Coming.{NodesGetWhatLinesGive};
 ghost use Rattle.circus_headline_theory.specs.Headline.{Headline};
@@ -17,8 +17,8 @@ ghost use Rattle.circus_node.specs.Booting.{CanBoot};
 ghost use Rattle.circus_node.specs.NodeState.{NodeState, member_record};
 ghost use Rattle.circus_node.specs.Trace.{Trace, StandsFor};
 ghost use Rattle.circus_node.specs.declared.event.Event.{Event};
-ghost use Rattle.circus_world_timely_theory.specs.NodeLives.{Events, IsLife};
-ghost use Rattle.circus_datagram_theory.specs.Lives.{IsOfOther};
+ghost use Rattle.circus_world_theory.specs.NodeLives.{Events, IsLife};
+ghost use Rattle.circus_headline_theory.specs.Datagrams.Lives.{IsOfOther};
 ghost use Rattle.circus_headline_theory.specs.Trace.{events_of, Rises, ComesFromOthers};
 ghost use Rattle.circus_headline_theory.specs.NodeRun.{IsNodeRun, past_of};
 ghost use Rattle.circus_headline_theory.specs.Lived.{trace_behind};
@@ -26,10 +26,15 @@ ghost use Rattle.circus_alike.specs.Alike.{declared_of, turn_of, first_of};
 ghost use Rattle.circus_outside.specs.declared.link.TakenFrom.{TakenFrom};
 ghost use Rattle.circus_node.specs.Booting as booting;
 ghost use Rattle.circus_node.specs.declared.event.Outputs.{Outputs};
-ghost use Rattle.circus_log.specs.Serving.{Served, on, served};
-ghost use Rattle.circus_headline_theory.specs.ServedRun.{IsOfOctets, IsServedRun};
+ghost use Rattle.circus_log.specs.Serving.{Served, on, happened_by, served};
+ghost use Rattle.circus_headline_theory.specs.ServedRun.{IsOfOctets, IsServedRun, IsServedSoFar};
 
 use circus_model::Module;
+
+pub mod datagrams;
+pub mod ended;
+pub mod node_owed;
+pub mod owed;
 
 /// A node that hosts a member of a troupe is a node run, whatever comes to it from the other nodes:
 /// datagrams with any bytes, whatever they claim, ticks, true and false declarations, and joins.
@@ -74,11 +79,23 @@ pub fn there_is_one_record()
         → kept ≡ last }
 {}
 
+/// For the events that came to a node there is one run: two node runs of the same member with the same
+/// events in the same steps, which rise, have the same record and the same trace. So what came says
+/// what happened to the member, what its node made in each step, and what it gave, suspected and told.
+pub fn there_is_one_run()
+    ensures { (d : Deployment) (b : Behaviour) (node number : ℕ) (troupe : Troupe)
+        (one other : Trace) (kept last : MemberRecord)
+        → IsNodeRun d b node number troupe one kept → IsNodeRun d b node number troupe other last
+        → Rises one → events_of one ≡ events_of other
+        → (kept ≡ last) × (one ≡ other) }
+{}
+
 /// What happened to a served node that hosts a member, whatever its takes answered, is a node run,
 /// with the record of its member: the events, what it gave in each and the differences are those
-/// that a node record shows.
+/// that a node record shows. It is one as far as it came, too, where a step had no number left to
+/// another node.
 pub fn served_nodes_are_node_runs<M: Module>()
-    ensures { (d : Deployment) (own : M) (node number : ℕ) (troupe : Troupe)
+    ensures run { (d : Deployment) (own : M) (node number : ℕ) (troupe : Troupe)
         (begun : NodeState M) (outputs : Outputs) (takes : List TakenFrom) (last : Served M)
         (kept : MemberRecord)
         → CanBoot d node (Some (M.declared own))
@@ -89,11 +106,19 @@ pub fn served_nodes_are_node_runs<M: Module>()
         → member_record last.node.acting ≡ Some kept
         → IsServedRun d (behaviour M.declared M.turn M.first own) node number troupe
         last.happened kept }
+    ensures so_far { (d : Deployment) (own : M) (node number : ℕ) (troupe : Troupe)
+        (begun : NodeState M) (outputs : Outputs) (takes : List TakenFrom)
+        → CanBoot d node (Some (M.declared own))
+        → booting.booted M.declared M.turn M.first d (Some own) node ≡ Ok (begun, outputs)
+        → All IsOfOctets takes
+        → troupe_at d node ≡ Some number → slice_get d.troupes number ≡ Some troupe
+        → IsServedSoFar d (behaviour M.declared M.turn M.first own) node number troupe
+        (happened_by (served M.declared M.turn d node begun outputs.gives takes)) }
 {}
 
 /// So it is with a behaviour that keeps to the laws of modules, in place of a module.
 pub fn plain_served_nodes_are_node_runs()
-    ensures { (d : Deployment) (b : Behaviour) (node number : ℕ) (troupe : Troupe)
+    ensures run { (d : Deployment) (b : Behaviour) (node number : ℕ) (troupe : Troupe)
         (begun : NodeState Behaviour) (outputs : Outputs) (takes : List TakenFrom)
         (last : Served Behaviour) (kept : MemberRecord)
         → IsModule b
@@ -104,6 +129,15 @@ pub fn plain_served_nodes_are_node_runs()
         → troupe_at d node ≡ Some number → slice_get d.troupes number ≡ Some troupe
         → member_record last.node.acting ≡ Some kept
         → IsServedRun d b node number troupe last.happened kept }
+    ensures so_far { (d : Deployment) (b : Behaviour) (node number : ℕ) (troupe : Troupe)
+        (begun : NodeState Behaviour) (outputs : Outputs) (takes : List TakenFrom)
+        → IsModule b
+        → CanBoot d node (Some b.declared)
+        → booting.booted declared_of turn_of first_of d (Some b) node ≡ Ok (begun, outputs)
+        → All IsOfOctets takes
+        → troupe_at d node ≡ Some number → slice_get d.troupes number ≡ Some troupe
+        → IsServedSoFar d b node number troupe
+        (happened_by (served declared_of turn_of d node begun outputs.gives takes)) }
 {}
 
 /// In every world that lines lead to each node lives by itself through what came to it: it boots,

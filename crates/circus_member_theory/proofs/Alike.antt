@@ -26,7 +26,7 @@ use Rattle.circus_member_rules.specs.Rules.{difference_by, difference_told}
 use Rattle.circus_member_step.specs.MemberState.{MemberState}
 use Rattle.circus_member_step.specs.Step.{difference}
 use Rattle.circus_truth.specs.Truth.{reply_to, Answers, IsTrueAsking, IsTrueMember, IsTrueOccurrence}
-use Rattle.circus_accepting_theory.proofs.Entries.{ask_found}
+use Rattle.circus_member_theory.proofs.Accepting.Entries.{ask_found}
 
 module _ (history : List (List Run)) (troupe : ℕ) (first : List ValueTree) (Called : Caller → List ℕ → Type 0) where
   -- an ask has one reply

@@ -16,7 +16,7 @@ use Rattle.circus_model.proofs.Lookups.{within}
 use Rattle.circus_model.proofs.Counting.{clock_after_more}
 use Rattle.circus_model.proofs.Logging.{some_and}
 use Rattle.circus_model.proofs.Histories.{in_history, maker_of, root_runs_once}
-use Rattle.circus_performing_theory.proofs.Histories.{counts_are_few}
+use Rattle.circus_member_theory.proofs.Histories.{counts_are_few}
 
 -- no entry counts more
 abbrev pub IsFew : List ℕ → Type 0

@@ -49,12 +49,12 @@ use Rattle.circus_member_step.proofs.Writing.{one_is_performing}
 use Rattle.circus_member_step.proofs.Starting.{none_from_test, given_is_chosen, IsReady, next_is_ready, may_start, IsSoundNow}
 use Rattle.circus_standing.specs.Stands.{Stands}
 use Rattle.circus_standing.specs.Messages.{IsTrueState}
-use Rattle.circus_performing_theory.proofs.Histories.{takes, clock_counts, asked_run}
-use Rattle.circus_performing_theory.proofs.Standing.{open_is, entered_stands, answered_stands, idle_is}
-use Rattle.circus_accepting_theory.proofs.Arguments.{arguments_read}
+use Rattle.circus_member_theory.proofs.Histories.{takes, clock_counts, asked_run}
+use Rattle.circus_member_theory.proofs.Standing.{open_is, entered_stands, answered_stands, idle_is}
+use Rattle.circus_member_theory.proofs.Accepting.Arguments.{arguments_read}
 use Rattle.circus_truth.specs.Proper.{AreProper}
 use Rattle.circus_truth.specs.Truth.{reply_to, Answers, IsTrueAsking, IsCalled, IsFetch}
-use Rattle.circus_accepting_theory.proofs.Entries.{ask_found}
+use Rattle.circus_member_theory.proofs.Accepting.Entries.{ask_found}
 use Rattle.circus_member_theory.proofs.Ranges.{module_of, taken_is}
 use Rattle.circus_member_theory.proofs.Kept.{KeepsTrue}
 use Rattle.circus_member_theory.proofs.Handled.{IsNow, IsMade, Keeps}

@@ -60,8 +60,8 @@ use Rattle.circus_standing.specs.Stands.{Stands}
 use Rattle.circus_standing.specs.Messages.{IsReplyOf, IsTrueReply, IsTrueState}
 use Rattle.circus_truth.specs.Proper.{AreProper}
 use Rattle.circus_truth.specs.Truth.{IsLong, Answers, IsTrueAsking, IsCalled, IsTrueKept, IsFetch, IsTrueMember, IsTrueOccurrence, IsOtherReturn, IsTrueEffect}
-use Rattle.circus_performing_theory.proofs.Standing.{active_stands}
-use Rattle.circus_accepting_theory.proofs.Entries.{ask_found, kept_found}
+use Rattle.circus_member_theory.proofs.Standing.{active_stands}
+use Rattle.circus_member_theory.proofs.Accepting.Entries.{ask_found, kept_found}
 use Rattle.circus_member_theory.proofs.Headers.{is_one_reply}
 use Rattle.circus_member_theory.proofs.Ranges.{reply_is_long}
 use Rattle.circus_member_theory.proofs.Kept.{KeepsTrue}

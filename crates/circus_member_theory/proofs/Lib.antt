@@ -1,3 +1,7 @@
+pub mod Histories
+pub mod OneRun
+pub mod Standing
+pub mod Accepting
 pub mod Counts
 pub mod Headers
 pub mod Ranges
@@ -9,3 +13,4 @@ pub mod Turned
 pub mod Going
 pub mod Resting
 pub mod Step
+pub mod Timely

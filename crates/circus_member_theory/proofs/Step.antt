@@ -28,8 +28,8 @@ use Rattle.circus_member_step.specs.MemberState.{MemberState, Doing}
 use Rattle.circus_member_step.specs.Step.{waits, main_start, handled, entered, executed, closed, looked_up, stepped, starts_at_boot, booted}
 use Rattle.circus_member_step.specs.Happening.{IsHome, CanHappen}
 use Rattle.circus_member_step.specs.Seen.Sound.{IsRested}
-use Rattle.circus_performing_theory.proofs.Histories.{runs_are_few, main_run}
-use Rattle.circus_performing_theory.proofs.Standing.{founder_stands}
+use Rattle.circus_member_theory.proofs.Histories.{runs_are_few, main_run}
+use Rattle.circus_member_theory.proofs.Standing.{founder_stands}
 use Rattle.circus_truth.specs.Proper.{AreProper}
 use Rattle.circus_truth.specs.Truth.{IsLong, IsTrueAsking, IsCalled, IsTrueKept, IsFetch, IsTrueMember, IsTrueOccurrence, IsTrueEffect}
 use Rattle.circus_member_theory.proofs.Kept.{KeepsTrue}

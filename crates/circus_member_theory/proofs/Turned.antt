@@ -43,7 +43,7 @@ use Rattle.circus_standing.specs.Stands.{IsPerformed}
 use Rattle.circus_standing.specs.Messages.{IsAskAt, AsksSo, IsReplyOf}
 use Rattle.circus_truth.specs.Proper.{AreProper}
 use Rattle.circus_truth.specs.Truth.{Answers, IsNamed, IsCalled, IsTrueKept}
-use Rattle.circus_performing_theory.proofs.Standing.{IsOpenOf, open_is, last_performed}
+use Rattle.circus_member_theory.proofs.Standing.{IsOpenOf, open_is, last_performed}
 use Rattle.circus_member_theory.proofs.Calling.{MayName, named_by_view, known_is_long, incarnation_is_long, IsReady, calls_are_true}
 use Rattle.circus_member_theory.proofs.Handled.{IsMade, Keeps, IsAsking, reply_is_made}
 

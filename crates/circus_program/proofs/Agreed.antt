@@ -18,8 +18,8 @@ use Rattle.circus_standing.specs.Stands.{Stands}
 use Rattle.circus_world_theory.specs.Agreeing.{RecordsStand}
 use Rattle.circus_config.specs.declared.plan.Plan.{Plan}
 use Rattle.circus_load.specs.Loaded.{behaviours_in}
-use Rattle.circus_facts.specs.Facts.{NodeFacts, AllStand, report_of, settled_of, node_facts, facts_of}
-use Rattle.circus_facts.proofs.Told.{report_is_told, summary_is_told, settled_is_told}
+use Rattle.circus_headline_theory.specs.Facts.{NodeFacts, AllStand, report_of, settled_of, node_facts, facts_of}
+use Rattle.circus_headline_theory.proofs.Told.{report_is_told, summary_is_told, settled_is_told}
 use Rattle.circus_ending.specs.declared.status.Status.TheVariants.{Done}
 use Rattle.circus_ending.specs.Ending.{Ending}
 use Rattle.circus_simulated.specs.Booted.{names_in}

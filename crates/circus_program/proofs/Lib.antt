@@ -18,6 +18,7 @@ pub mod OneDue
 pub mod SomeDue
 pub mod Why
 pub mod DueKinds
+pub mod Sound
 pub mod Reports
 pub mod Simulated
 pub mod Replayed

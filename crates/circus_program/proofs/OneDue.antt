@@ -274,3 +274,13 @@ module _ (contents : List ℕ → Option (List ℕ)) where
           subst (λ a. OfAsked a due) (asked_one words some.form (replay program name) some.of_form of)
           (of_asked some.form due some.of_form.in_range (of_form some.form some.files due some.fetched some.is_due is.last))
       by_due (inr (none, so)) = absurd (none (replay program name) of)
+
+  -- and of a placing
+  pub of_placing : (words : List (List ℕ)) (placing : List ℕ) (due : Due) → IsOfForm words (place placing) → IsDueLast contents words due → OfFile placing (IsDueOfEnd Place) due
+  of_placing words placing due of is = by_due is.is_due
+    where
+      by_due : IsDue (Some contents) words due → OfFile placing (IsDueOfEnd Place) due
+      by_due (inl some) =
+          subst (λ a. OfAsked a due) (asked_one words some.form (place placing) some.of_form of)
+          (of_asked some.form due some.of_form.in_range (of_form some.form some.files due some.fetched some.is_due is.last))
+      by_due (inr (none, so)) = absurd (none (place placing) of)

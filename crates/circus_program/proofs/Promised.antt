@@ -7,9 +7,9 @@ use Rattle.circus_world.specs.WorldState.{WorldState}
 use Rattle.circus_world_theory.specs.Worlds.{IsPlainWorldOf}
 use Rattle.circus_world_theory.proofs.Plain.{plain_records_stand}
 use Rattle.circus_world_theory.proofs.PlainMessages.{plain_asks_are_true, plain_returns_are_true, plain_others_cite_nothing, plain_none_differ}
-use Rattle.circus_world_timely_theory.proofs.Plain.{plain_records_are_timely}
+use Rattle.circus_world_theory.proofs.Timely.Plain.{plain_records_are_timely}
 use Rattle.circus_headline_theory.proofs.Runs.{plain_worlds_keep_the_headline}
-use Rattle.circus_quiescence_theory.proofs.Plain.{plain_roots_are_done, plain_few_sent}
+use Rattle.circus_world_theory.proofs.Quiescence.Plain.{plain_roots_are_done, plain_few_sent}
 use Rattle.circus_settle.proofs.AllDelivered.{alone, first_once}
 use Rattle.circus_config.specs.declared.plan.Plan.{Plan}
 use Rattle.circus_config.specs.Program.{IsProgramOf, IsPlan}

@@ -1,12 +1,11 @@
 -- A node of a plan that is served to its end is a node run.
-use Rattle.std.proofs.Common.{◌≡◌, ◌↔◌, ℕ, inl, inr, List, All, Option, None, Some, Ok, refl, sym, ap, subst, ◌∙◌}
+use Rattle.std.proofs.Common.{◌≡◌, ◌↔◌, ◌≤◌, ◌⊎◌, ℕ, inl, inr, List, [], ◌∷◌, ◌++◌, length, map, All, Option, None, Some, Ok, refl, sym, ap, subst, ◌∙◌, arith, append-nil}
 use Rattle.std.specs.Prelude.{IsSome, slice_get, option_map, option_and_then}
 use Rattle.std.proofs.lemmas.Option.{none-some, same_Some, slice_get-map, slice_get_within}
 use Rattle.circus_collate.specs.declared.deployment.Host.{Host}
 use Rattle.circus_collate.specs.declared.deployment.Troupe.{Troupe}
 use Rattle.circus_model.specs.Agree.{IsAt}
 use Rattle.circus_model.specs.Behaviour.{Behaviour}
-use Rattle.circus_model.specs.declared.signature.Signature.{Signature}
 use Rattle.circus_record.specs.Naming.{names_of}
 use Rattle.circus_record.specs.declared.record.MemberRecord.{MemberRecord}
 use Rattle.circus_accepting.specs.Accepting.{troupe_at}
@@ -16,9 +15,14 @@ use Rattle.circus_node.specs.NodeState.{NodeState, member_record}
 use Rattle.circus_node.specs.Step.{Ended}
 use Rattle.circus_node.specs.declared.event.Outputs.{Outputs}
 use Rattle.circus_alike.specs.Alike.{declared_of, turn_of, first_of}
-use Rattle.circus_log.specs.Outside.{Tells}
+use Rattle.circus_outside.specs.Link.{Taken, failed, taken_of}
+use Rattle.circus_outside.specs.declared.link.TakenFrom.{TakenFrom}
+use Rattle.circus_log.specs.declared.happening.Happening.{Happening}
+use Rattle.circus_log.specs.Happened.{given_in}
+use Rattle.circus_log.specs.Serving.{Progress, happened_by, served}
+use Rattle.circus_log.specs.Outside.{Tells, IsAsked}
 use Rattle.circus_serve.specs.Recorded.{Recorded}
-use Rattle.circus_serve.specs.Answers.{IsServed}
+use Rattle.circus_serve.specs.Answers.{asked, IsServed, IsPartGiven}
 use Rattle.circus_config.specs.declared.plan.Plan.{Plan}
 use Rattle.circus_config.specs.Program.{IsPlan}
 use Rattle.circus_load.specs.Loaded.{behaviours_in, hosted_by}
@@ -26,10 +30,10 @@ use Rattle.circus_plan_theory.proofs.Plan.{plan_modules}
 use Rattle.circus_plan_theory.proofs.Troupes.{plan_of_troupes}
 use Rattle.circus_ending.specs.declared.status.Status.TheVariants.{Done, LinkFault, Spent}
 use Rattle.circus_ending.specs.Ending.{Ending}
-use Rattle.circus_served.specs.NodeEnds.{booted_node, IsEndOfServing}
+use Rattle.circus_served.specs.NodeEnds.{booted_node, IsEndOfBooted, IsEndOfServing}
 use Rattle.circus_headline_theory.specs.ServedRun.{IsOfOctets, IsServedRun}
-use Rattle.circus_headline_theory.proofs.PlainServed.{plain_served_is_a_node_run}
-use Rattle.circus_program.specs.ServedRuns.{IsServedRunOf}
+use Rattle.circus_headline_theory.proofs.PlainServed.{plain_served_is_a_node_run, plain_served_so_far}
+use Rattle.circus_program.specs.ServedRuns.{IsServedRunOf, happened_so_far, WasGiven, WasServedSoFar, WasSpentAtBoot}
 
 module _ (plan : Plan) (is : IsPlan plan) (node number : ℕ) (b : Behaviour) (hosts : troupe_at plan.deployment node ≡ Some number)
     (at : IsAt (behaviours_in plan) number b) where
@@ -83,7 +87,7 @@ module _ (plan : Plan) (is : IsPlan plan) (node turns : ℕ) (old new : Tells) w
   pub served_ends : (ending : Ending) → IsEndOfServing plan node turns old new ending → ending.status ≡ Done → IsServedRunOf plan node turns old new ending.text
   served_ends ending (inr (peer, spent_is, same, ends)) done = absurd (let clash : Spent ≡ Done = sym (ap (λ (e : Ending). e.status) ends) ∙ done in cc)
   served_ends ending (inl (boot, booted_is, inr (inl (peer, spent_is, ends)))) done = absurd (let clash : Spent ≡ Done = sym (ap (λ (e : Ending). e.status) ends) ∙ done in cc)
-  served_ends ending (inl (boot, booted_is, inr (inr (failed, ends)))) done = absurd (let clash : LinkFault ≡ Done = sym (ap (λ (e : Ending). e.status) ends) ∙ done in cc)
+  served_ends ending (inl (boot, booted_is, inr (inr (broken, ends)))) done = absurd (let clash : LinkFault ≡ Done = sym (ap (λ (e : Ending). e.status) ends) ∙ done in cc)
   served_ends ending (inl (boot, booted_is, inl (recorded, served, ends))) done =
       record {
         recorded = recorded;
@@ -93,3 +97,90 @@ module _ (plan : Plan) (is : IsPlan plan) (node turns : ℕ) (old new : Tells) w
         served = served;
         run = λ octets. served_run boot.0 boot.1 booted_is recorded served octets;
       }
+
+  -- ---- as far as it came
+
+  module _ (boot : NodeState Behaviour × Outputs) (booted_is : booted_node plan node ≡ Ok boot) where
+    run_so_far : (takes : List TakenFrom) → length takes ≤ turns → WasGiven plan node old new boot takes → WasServedSoFar plan node turns old new
+    run_so_far takes few gave =
+        record {
+          boot = boot;
+          booted_is = booted_is;
+          takes = takes;
+          few = few;
+          gave = gave;
+          run = λ octets number troupe b hosts there at.
+              plain_served_so_far plan.deployment b (plan_modules plan is number b at) node number troupe boot.0 boot.1 takes (can_boot plan is node number b hosts at)
+              (boots plan is node number b hosts at (Ok boot) booted_is) octets hosts there;
+        }
+
+    -- all of it
+    gave_all : (takes : List TakenFrom) (happened : List Happening) (failing : List Taken) → happened_so_far plan node boot takes ≡ happened → (failing ≡ []) ⊎ (failing ≡ failed ∷ [])
+        → IsAsked old new (asked plan.deployment node (map taken_of takes ++ failing) (given_in plan.deployment happened)) → WasGiven plan node old new boot takes
+    gave_all takes happened failing same few link =
+        record {
+          given = given_in plan.deployment happened;
+          rest = [];
+          whole = ap (given_in plan.deployment) same ∙ sym (append-nil (given_in plan.deployment happened));
+          earlier = λ missing before last are. absurd (missing refl);
+          failing = failing;
+          at_most_one = few;
+          link = link;
+        }
+
+    -- no call of it failed
+    none_failed : (takes : List TakenFrom) (given : List (ℕ × List ℕ)) → IsAsked old new (asked plan.deployment node (map taken_of takes) given)
+        → IsAsked old new (asked plan.deployment node (map taken_of takes ++ []) given)
+    none_failed takes given link = subst (λ (l : List Taken). IsAsked old new (asked plan.deployment node l given)) (sym (append-nil (map taken_of takes))) link
+
+    abbrev after : List TakenFrom → Progress Behaviour
+    after takes = served declared_of turn_of plan.deployment node boot.0 boot.1.gives takes
+
+    -- a part of it
+    gave_part : (takes : List TakenFrom) (given : List (ℕ × List ℕ)) → IsPartGiven declared_of turn_of plan.deployment node boot.0 boot.1.gives takes given
+        → IsAsked old new (asked plan.deployment node (map taken_of takes) given) → WasGiven plan node old new boot takes
+    gave_part takes given part link =
+        record {
+          given = given;
+          rest = part.rest;
+          whole = part.whole;
+          earlier = λ missing before last are. part.earlier before last are;
+          failing = [];
+          at_most_one = inl refl;
+          link = none_failed takes given link;
+        }
+
+    -- the port was bound at most
+    gave_nothing : IsAsked old new (asked plan.deployment node [] []) → WasGiven plan node old new boot []
+    gave_nothing link =
+        record {
+          given = [];
+          rest = given_in plan.deployment (happened_so_far plan node boot []);
+          whole = refl;
+          earlier = λ missing before last are. absurd (no_last before last are);
+          failing = [];
+          at_most_one = inl refl;
+          link = link;
+        }
+      where
+        no_last : (before : List TakenFrom) (last : TakenFrom) → [] ≡ before ++ last ∷ [] → ⊥
+        no_last [] last are = cc
+        no_last (x ∷ before) last are = cc
+
+    booted_so_far : (ending : Ending)
+        → IsEndOfBooted declared_of turn_of (names_of plan.deployment.nodes plan.names) plan.deployment node turns old new boot.0 boot.1.gives ending
+        → WasServedSoFar plan node turns old new
+    booted_so_far ending (inl (recorded, served, ends)) =
+        run_so_far served.takes (omega (arith, served.all))
+        (gave_all served.takes served.last.happened [] (ap happened_by served.is) (inl refl) (none_failed served.takes (given_in plan.deployment served.last.happened) served.link))
+    booted_so_far ending (inr (inl (peer, spent_is, ends))) =
+        run_so_far spent_is.takes spent_is.few
+        (gave_all spent_is.takes spent_is.happened [] (ap happened_by spent_is.is) (inl refl) (none_failed spent_is.takes (given_in plan.deployment spent_is.happened) spent_is.link))
+    booted_so_far ending (inr (inr (inl unbound, ends))) = run_so_far [] (omega arith) (gave_nothing unbound)
+    booted_so_far ending (inr (inr (inr (inl take), ends))) =
+        run_so_far take.takes (omega (arith, take.few)) (gave_all take.takes take.last.happened (failed ∷ []) (ap happened_by take.is) (inr refl) take.link)
+    booted_so_far ending (inr (inr (inr (inr give), ends))) = run_so_far give.takes give.few (gave_part give.takes give.given give.part give.link)
+
+  pub served_so_far : (ending : Ending) → IsEndOfServing plan node turns old new ending → WasServedSoFar plan node turns old new ⊎ WasSpentAtBoot plan node old new
+  served_so_far ending (inl (boot, booted_is, end)) = inl (booted_so_far boot booted_is ending end)
+  served_so_far ending (inr (peer, booted_is, same, ends)) = inr (record { peer = peer; booted_is = booted_is; same = same })

@@ -25,6 +25,7 @@ use Rattle.circus_simulated.specs.Settle.{settle_of}
 use Rattle.circus_served.specs.Named.{no_node}
 use Rattle.circus_program.specs.Answer.{Due, fetch, finish, serve, not_built, bad_command_line, IsDueOfEnd, IsDueOfSample, IsDueOfLines, IsDueOfSettle, IsDueOfNode, IsDueOfForm, AreContents, IsDue}
 use Rattle.circus_program.specs.Seen.Built.{end_form}
+use Rattle.circus_program.specs.Sound.{AreSound}
 use Rattle.circus_program.specs.Last.{IsLast, IsDueLast, EndsWith, program_read, IsRefusedProgram, IsNameless, IsShown, IsRefusedReplay, IsSample, IsLines, IsSettle, IsSpent, IsUnsettled, IsUnbuilt, IsNotBuilt}
 use Rattle.circus_program.proofs.ReplayEnds.{Refuses, Spends, IsStatusOfReplay, replay_status, Ends, ends_refused, ends_spent}
 use Rattle.circus_program.proofs.SampleEnds.{sample_status, sample_spent, lines_end_alike}
@@ -135,10 +136,10 @@ replay_spent shown plan schedule ending end same = elim (replay_status shown pla
 pub ends_as : (status : Status) (due : Due) (ending : Ending) → due ≡ finish ending → EndsWith status due → ending.status ≡ status
 ends_as status due ending is ends = subst (EndsWith status) is ends
 
-never_serves : {X : Type 0} (status : Status) (due : Due) (plan : Plan) (number turns : ℕ) → due ≡ serve plan number turns → EndsWith status due → X
+pub never_serves : {X : Type 0} (status : Status) (due : Due) (plan : Plan) (number turns : ℕ) → due ≡ serve plan number turns → EndsWith status due → X
 never_serves status due plan number turns is ends = absurd (let none : ⊥ = subst (EndsWith status) is ends in none)
 
-never_fetch : {X : Type 0} (status : Status) (due : Due) (name : List ℕ) → due ≡ fetch name → EndsWith status due → X
+pub never_fetch : {X : Type 0} (status : Status) (due : Due) (name : List ℕ) → due ≡ fetch name → EndsWith status due → X
 never_fetch status due name is ends = absurd (let none : ⊥ = subst (EndsWith status) is ends in none)
 
 -- the end of a program that is refused
@@ -148,7 +149,7 @@ refused_with number cause = record { status = BadProgram; text = refused_text nu
 -- ---- what comes of each form
 
 -- what may come of words
-data Comes (contents : List ℕ → Option (List ℕ)) (words : List (List ℕ)) (due : Due) : Type 0 where
+pub data Comes (contents : List ℕ → Option (List ℕ)) (words : List (List ℕ)) (due : Due) : Type 0 where
   nothing : IsOfNoForm words → due ≡ bad_command_line → Comes contents words due
   lacking : (name : List ℕ) → due ≡ fetch name → Comes contents words due
   unbuilt : IsNotBuilt words → due ≡ not_built → Comes contents words due
@@ -156,7 +157,7 @@ data Comes (contents : List ℕ → Option (List ℕ)) (words : List (List ℕ))
   drawn : (plan : Plan) (seed steps : ℕ) → IsSample contents words plan seed steps → due ≡ finish (sample_of plan seed steps) → Comes contents words due
   listed : (plan : Plan) (seed steps : ℕ) → IsLines contents words plan seed steps → due ≡ finish (schedule_of plan seed steps) → Comes contents words due
   settles : (plan : Plan) (deliveries : ℕ) → IsSettle contents words plan deliveries → due ≡ finish (settle_of plan deliveries) → Comes contents words due
-  served : (plan : Plan) (number turns : ℕ) → due ≡ serve plan number turns → Comes contents words due
+  served : (plan : Plan) (number turns : ℕ) → AreSound contents words → due ≡ serve plan number turns → Comes contents words due
   nameless : (name : List ℕ) → IsNameless contents words → due ≡ finish (no_node name) → Comes contents words due
   refused : (form : CommandForm) (program bytes : List ℕ) (ending : Ending) → IsOfForm words form → program_read form ≡ Some program → contents program ≡ Some bytes → IsEndOfRefused bytes ending → due ≡ finish ending → Comes contents words due
   ended : (command : OneFile) (file bytes : List ℕ) (ending : Ending) → IsOfForm words (end_form command file) → contents file ≡ Some bytes → IsEndOf command bytes ending → due ≡ finish ending → Comes contents words due
@@ -176,7 +177,8 @@ module _ (contents : List ℕ → Option (List ℕ)) (words : List (List ℕ)) w
       replayed shown plan schedule ending (record { program = program; name = name; of_form = form; bytes = bytes; program_is = there; good = good; schedule_is = here }) end is
 
   comes_node : (program name : List ℕ) (turns : ℕ) (bytes : List ℕ) (plan : Plan) (due : Due) → IsOfForm words (node program name turns) → contents program ≡ Some bytes → IsProgramOf bytes plan → IsDueOfNode name turns plan due → Comes contents words due
-  comes_node program name turns bytes plan due form there good (inl (number, named, is)) = served plan number turns is
+  comes_node program name turns bytes plan due form there good (inl (number, named, is)) =
+      served plan number turns (node program name turns, form, (plan, record { bytes = bytes; there = there; good = good }, (number, named))) is
   comes_node program name turns bytes plan due form there good (inr (none, is)) =
       nameless name (record { program = program; name = name; turns = turns; of_form = form; bytes = bytes; there = there; plan = plan; good = good; nameless = none }) is
 
@@ -207,7 +209,7 @@ module _ (contents : List ℕ → Option (List ℕ)) (words : List (List ℕ)) w
       (λ bytes plan there good next. settles plan deliveries (record { program = program; of_form = form; bytes = bytes; program_is = there; good = good }) next) of
   comes_form (audit program «record») due form of = unbuilt (audit program «record», form, tt) of
 
-  comes_to : (due : Due) → IsDueLast contents words due → Comes contents words due
+  pub comes_to : (due : Due) → IsDueLast contents words due → Comes contents words due
   comes_to due is = go is.is_due
     where
       go : IsDue (Some contents) words due → Comes contents words due
@@ -225,7 +227,7 @@ module _ (contents : List ℕ → Option (List ℕ)) (words : List (List ℕ)) w
   why_words due (drawn plan seed steps of is) ends = absurd (never_drawn BadCommandLine plan seed steps (λ same. cc) (λ same. cc) (ends_as BadCommandLine due _ is ends))
   why_words due (listed plan seed steps of is) ends = absurd (never_listed BadCommandLine plan seed steps (λ same. cc) (λ same. cc) (ends_as BadCommandLine due _ is ends))
   why_words due (settles plan deliveries of is) ends = absurd (never_settles BadCommandLine plan deliveries (λ same. cc) (λ same. cc) (λ same. cc) (ends_as BadCommandLine due _ is ends))
-  why_words due (served plan number turns is) ends = never_serves BadCommandLine due plan number turns is ends
+  why_words due (served plan number turns of is) ends = never_serves BadCommandLine due plan number turns is ends
   why_words due (nameless name of is) ends = absurd (let clash : BadProgram ≡ BadCommandLine = ends_as BadCommandLine due _ is ends in cc)
   why_words due (refused form program bytes ending of first there (number, cause, refusal, means) is) ends =
       absurd (let clash : BadProgram ≡ BadCommandLine = sym (ap (λ (e : Ending). e.status) means) ∙ ends_as BadCommandLine due ending is ends in cc)
@@ -254,7 +256,7 @@ module _ (contents : List ℕ → Option (List ℕ)) (words : List (List ℕ)) w
   why_program due (drawn plan seed steps of is) ends = absurd (never_drawn BadProgram plan seed steps (λ same. cc) (λ same. cc) (ends_as BadProgram due _ is ends))
   why_program due (listed plan seed steps of is) ends = absurd (never_listed BadProgram plan seed steps (λ same. cc) (λ same. cc) (ends_as BadProgram due _ is ends))
   why_program due (settles plan deliveries of is) ends = absurd (never_settles BadProgram plan deliveries (λ same. cc) (λ same. cc) (λ same. cc) (ends_as BadProgram due _ is ends))
-  why_program due (served plan number turns is) ends = never_serves BadProgram due plan number turns is ends
+  why_program due (served plan number turns of is) ends = never_serves BadProgram due plan number turns is ends
   why_program due (nameless name of is) ends = inr of
   why_program due (refused form program bytes ending of first there refusal is) ends = inl (refused_program form program bytes ending of first there refusal)
   why_program due (ended command file bytes ending form there end is) ends = inl (refused_file command file bytes ending form there end (ends_as BadProgram due ending is ends))
@@ -268,7 +270,7 @@ module _ (contents : List ℕ → Option (List ℕ)) (words : List (List ℕ)) w
   why_schedule due (drawn plan seed steps of is) ends = absurd (never_drawn BadSchedule plan seed steps (λ same. cc) (λ same. cc) (ends_as BadSchedule due _ is ends))
   why_schedule due (listed plan seed steps of is) ends = absurd (never_listed BadSchedule plan seed steps (λ same. cc) (λ same. cc) (ends_as BadSchedule due _ is ends))
   why_schedule due (settles plan deliveries of is) ends = absurd (never_settles BadSchedule plan deliveries (λ same. cc) (λ same. cc) (λ same. cc) (ends_as BadSchedule due _ is ends))
-  why_schedule due (served plan number turns is) ends = never_serves BadSchedule due plan number turns is ends
+  why_schedule due (served plan number turns of is) ends = never_serves BadSchedule due plan number turns is ends
   why_schedule due (nameless name of is) ends = absurd (let clash : BadProgram ≡ BadSchedule = ends_as BadSchedule due _ is ends in cc)
   why_schedule due (refused form program bytes ending of first there (number, cause, refusal, means) is) ends =
       absurd (let clash : BadProgram ≡ BadSchedule = sym (ap (λ (e : Ending). e.status) means) ∙ ends_as BadSchedule due ending is ends in cc)
@@ -295,7 +297,7 @@ module _ (contents : List ℕ → Option (List ℕ)) (words : List (List ℕ)) w
     | inl done ↦ absurd (let clash : Done ≡ Spent = sym done ∙ sym (lines_end_alike plan seed steps) ∙ ends_as Spent due _ is ends in cc)
     | inr (spent, why) ↦ inr (inr (inr (record { plan = plan; seed = seed; steps = steps; drawn = of; spent = why })))
   ]
-  why_spent due (served plan number turns is) ends = never_serves Spent due plan number turns is ends
+  why_spent due (served plan number turns of is) ends = never_serves Spent due plan number turns is ends
   why_spent due (nameless name of is) ends = absurd (let clash : BadProgram ≡ Spent = ends_as Spent due _ is ends in cc)
   why_spent due (refused form program bytes ending of first there (number, cause, refusal, means) is) ends =
       absurd (let clash : BadProgram ≡ Spent = sym (ap (λ (e : Ending). e.status) means) ∙ ends_as Spent due ending is ends in cc)
@@ -311,7 +313,7 @@ module _ (contents : List ℕ → Option (List ℕ)) (words : List (List ℕ)) w
   why_unbuilt due (drawn plan seed steps of is) ends = absurd (never_drawn NotBuilt plan seed steps (λ same. cc) (λ same. cc) (ends_as NotBuilt due _ is ends))
   why_unbuilt due (listed plan seed steps of is) ends = absurd (never_listed NotBuilt plan seed steps (λ same. cc) (λ same. cc) (ends_as NotBuilt due _ is ends))
   why_unbuilt due (settles plan deliveries of is) ends = absurd (never_settles NotBuilt plan deliveries (λ same. cc) (λ same. cc) (λ same. cc) (ends_as NotBuilt due _ is ends))
-  why_unbuilt due (served plan number turns is) ends = never_serves NotBuilt due plan number turns is ends
+  why_unbuilt due (served plan number turns of is) ends = never_serves NotBuilt due plan number turns is ends
   why_unbuilt due (nameless name of is) ends = absurd (let clash : BadProgram ≡ NotBuilt = ends_as NotBuilt due _ is ends in cc)
   why_unbuilt due (refused form program bytes ending of first there (number, cause, refusal, means) is) ends =
       absurd (let clash : BadProgram ≡ NotBuilt = sym (ap (λ (e : Ending). e.status) means) ∙ ends_as NotBuilt due ending is ends in cc)
@@ -331,7 +333,7 @@ module _ (contents : List ℕ → Option (List ℕ)) (words : List (List ℕ)) w
     | inr (inl (left, why)) ↦ record { plan = plan; deliveries = deliveries; settles = of; left = why }
     | inr (inr (spent, why)) ↦ absurd (let clash : Spent ≡ Unsettled = sym spent ∙ ends_as Unsettled due _ is ends in cc)
   ]
-  why_unsettled due (served plan number turns is) ends = never_serves Unsettled due plan number turns is ends
+  why_unsettled due (served plan number turns of is) ends = never_serves Unsettled due plan number turns is ends
   why_unsettled due (nameless name of is) ends = absurd (let clash : BadProgram ≡ Unsettled = ends_as Unsettled due _ is ends in cc)
   why_unsettled due (refused form program bytes ending of first there (number, cause, refusal, means) is) ends =
       absurd (let clash : BadProgram ≡ Unsettled = sym (ap (λ (e : Ending). e.status) means) ∙ ends_as Unsettled due ending is ends in cc)
@@ -341,10 +343,10 @@ module _ (contents : List ℕ → Option (List ℕ)) (words : List (List ℕ)) w
   -- ---- and where the reason holds the end is that one
 
   -- one thing is due, so it ends with the status of any that is
-  same_status : (status : Status) (due other : Due) → IsDueLast contents words due → IsDueLast contents words other → EndsWith status other → EndsWith status due
+  pub same_status : (status : Status) (due other : Due) → IsDueLast contents words due → IsDueLast contents words other → EndsWith status other → EndsWith status due
   same_status status due other is also ends = subst (EndsWith status) (sym (one_due contents words due other is also)) ends
 
-  due_of_form : (form : CommandForm) (files : List (List ℕ)) (due : Due) → IsOfForm words form → AreContents contents (files_of form) files → IsDueOfForm form files due → IsLast contents due → IsDueLast contents words due
+  pub due_of_form : (form : CommandForm) (files : List (List ℕ)) (due : Due) → IsOfForm words form → AreContents contents (files_of form) files → IsDueOfForm form files due → IsLast contents due → IsDueLast contents words due
   due_of_form form files due of fetched is last = record { is_due = inl (record { form = form; of_form = of; files = files; fetched = fetched; is_due = is }); last = last }
 
   bad_words : (due : Due) → IsDueLast contents words due → IsOfNoForm words → EndsWith BadCommandLine due
@@ -386,7 +388,7 @@ module _ (contents : List ℕ → Option (List ℕ)) (words : List (List ℕ)) w
   shown_due Picture plan schedule ending r end =
       due_of_form (picture r.program r.name) (r.bytes ∷ schedule ∷ []) (finish ending) r.of_form (r.program_is, (r.schedule_is, tt)) (plan, r.good, (ending, end, refl)) tt
 
-  replay_due : (status : Status) (shown : Shown) (plan : Plan) (schedule : List ℕ) (due : Due) → IsDueLast contents words due → IsShown shown contents words plan schedule → Ends shown plan schedule status
+  pub replay_due : (status : Status) (shown : Shown) (plan : Plan) (schedule : List ℕ) (due : Due) → IsDueLast contents words due → IsShown shown contents words plan schedule → Ends shown plan schedule status
       → EndsWith status due
   replay_due status shown plan schedule due is r e = same_status status due (finish e.ending) is (shown_due shown plan schedule e.ending r e.end) e.status_is
 
@@ -400,7 +402,7 @@ module _ (contents : List ℕ → Option (List ℕ)) (words : List (List ℕ)) w
       let other = due_of_form (settle s.program deliveries) (s.bytes ∷ []) (finish end) s.of_form (s.program_is, tt) (inl (plan, s.good, refl)) tt in
       same_status status due (finish end) is other ends
 
-  unsettled : (due : Due) → IsDueLast contents words due → IsUnsettled contents words → EndsWith Unsettled due
+  pub unsettled : (due : Due) → IsDueLast contents words due → IsUnsettled contents words → EndsWith Unsettled due
   unsettled due is has = settle_due Unsettled has.plan has.deliveries due is has.settles (settle_left has.plan has.deliveries has.left)
 
   spent : (due : Due) → IsDueLast contents words due → IsSpent contents words → EndsWith Spent due

@@ -2,6 +2,7 @@ pub mod Form
 pub mod Replay
 pub mod Answer
 pub mod Last
+pub mod Sound
 pub mod Worlds
 pub mod Agreeing
 pub mod Replayed

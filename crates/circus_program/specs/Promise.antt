@@ -12,12 +12,12 @@ use Rattle.circus_member_rules.specs.declared.occurrence.Purpose.{Purpose}
 use Rattle.circus_world.specs.WorldState.{WorldState}
 use Rattle.circus_talks.specs.Histories.{acts_of}
 use Rattle.circus_world_theory.specs.Agreeing.{RecordsStand, AsksAreTrue, ReturnsAreTrue, OthersCiteNothing, NoneDiffer}
-use Rattle.circus_world_timely_theory.specs.InTime.{RecordsAreTimely}
-use Rattle.circus_facts.specs.Facts.{facts_of}
+use Rattle.circus_world_theory.specs.InTime.{RecordsAreTimely}
+use Rattle.circus_headline_theory.specs.Facts.{facts_of}
 use Rattle.circus_headline_theory.specs.Headline.{Headline}
-use Rattle.circus_quiescence_theory.specs.Done.{AskEnough, RootsAreDone}
-use Rattle.circus_quiescence_theory.specs.Enough.{all_segments, AreOnce}
-use Rattle.circus_quiescence_theory.specs.Quiet.{IsDelivery, IsQuiet}
+use Rattle.circus_world_theory.specs.Done.{AskEnough, RootsAreDone}
+use Rattle.circus_world_theory.specs.Enough.{all_segments, AreOnce}
+use Rattle.circus_world_theory.specs.Quiet.{IsDelivery, IsQuiet}
 use Rattle.circus_config.specs.declared.plan.Plan.{Plan}
 use Rattle.circus_load.specs.Loaded.{behaviours_in, hosted_by}
 use Rattle.circus_running.specs.Writing.{Writes}

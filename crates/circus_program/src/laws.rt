@@ -11,13 +11,15 @@ ghost use Rattle.circus_program.specs.Replay.{replay_of, picture_of};
 ghost use Rattle.circus_program.specs.Agreeing.{IsAgreed, IsAgreedSoFar, ArePlans};
 ghost use Rattle.circus_config.specs.Program.{IsPlan};
 ghost use Rattle.circus_program.specs.Promise.{KeepsPromise, IsKept, IsKeptSoFar, enough_deliveries};
-ghost use Rattle.circus_program.specs.ServedRuns.{IsServedRunOf};
+ghost use Rattle.circus_program.specs.ServedRuns.{IsServedRunOf, WasServedSoFar, WasSpentAtBoot};
 ghost use Rattle.circus_log.specs.Outside.{Tells};
 ghost use Rattle.circus_served.specs.NodeEnds.{IsEndOfServing};
 ghost use Rattle.circus_program.specs.Replayed.{AreShort, IsReplayed};
 ghost use Rattle.circus_program.specs.Worlds.{AreLed, IsReported, IsCutByRefusal, IsCutBySpending, IsSpentAtBoot, IsPictured, AskForRecords, AskToSimulate, IsOfWorld};
 ghost use Rattle.circus_ending.specs.Ending.{Ending};
-ghost use Rattle.circus_ending.specs.declared.status.Status.TheVariants.{Done, BadCommandLine, BadProgram, BadSchedule, Spent, NotBuilt, Unsettled};
+ghost use Rattle.circus_ending.specs.declared.status.Status.TheVariants.{Done, BadCommandLine, BadProgram, BadSchedule, Spent, NotBuilt, Unsettled, BadPlacing, NoPlacement};
+ghost use Rattle.circus_ending.specs.Placed.{IsRefusedPlacing, HasNoChoice};
+ghost use Rattle.circus_program.specs.Sound.{AreSound, AskToPlace, ComesWell, IsDone};
 ghost use Rattle.circus_program.specs.Last.{IsDueLast, EndsWith, IsToBeRead, IsAnswered, IsRefusedProgram, IsNameless, IsRefusedReplay, IsSpent, IsNotBuilt, IsUnsettled, HasLeft};
 
 /// Of words one thing is due at last, whatever the files contain: an end, with its status and its text, a node that is to be
@@ -36,8 +38,10 @@ pub fn one_thing_is_due()
 /// What is due at last is an end with status 1 exactly where the words are of no form, with status 2 exactly where the file
 /// of another form than `place` is no program or has no node of the name, with status 3 exactly where a line of a schedule is
 /// refused, with status 8 exactly where a node has no number left in a replay or a picture, in a sample or its lines, or in the deliveries that
-/// settle a program, with status 9 exactly where a form is asked for that is not built, and with status 10 exactly where all deliveries
-/// are made and datagrams are left. What a node that is served comes to is said by the contract of the call.
+/// settle a program, with status 9 exactly where a form is asked for that is not built, with status 10 exactly where all deliveries
+/// are made and datagrams are left, with status 11 exactly where a placing is refused, and with status 12 exactly where no choice
+/// satisfies one. Every command line has its outcome: exactly where nothing is amiss with words and files, it is an end with status
+/// 0, or with 8 where that says, or a node to be served. What such a node comes to is said by the contract of the call.
 pub fn ends_tell_why()
     ensures bad_words { (contents : List ℕ → Option (List ℕ)) (words : List (List ℕ)) (due : Due)
         → IsDueLast contents words due → (EndsWith BadCommandLine due ↔ IsOfNoForm words) }
@@ -53,6 +57,17 @@ pub fn ends_tell_why()
         → IsDueLast contents words due → (EndsWith NotBuilt due ↔ IsNotBuilt words) }
     ensures unsettled { (contents : List ℕ → Option (List ℕ)) (words : List (List ℕ)) (due : Due)
         → IsDueLast contents words due → (EndsWith Unsettled due ↔ IsUnsettled contents words) }
+    ensures bad_placing { (contents : List ℕ → Option (List ℕ)) (words : List (List ℕ)) (due : Due)
+        → IsDueLast contents words due
+        → (EndsWith BadPlacing due ↔ AskToPlace contents words IsRefusedPlacing) }
+    ensures no_placement { (contents : List ℕ → Option (List ℕ)) (words : List (List ℕ)) (due : Due)
+        → IsDueLast contents words due
+        → (EndsWith NoPlacement due ↔ AskToPlace contents words HasNoChoice) }
+    ensures done { (contents : List ℕ → Option (List ℕ)) (words : List (List ℕ)) (due : Due)
+        → IsDueLast contents words due
+        → (EndsWith Done due ↔ IsDone contents words due) }
+    ensures sound { (contents : List ℕ → Option (List ℕ)) (words : List (List ℕ)) (due : Due)
+        → IsDueLast contents words due → (ComesWell due ↔ AreSound contents words) }
 {}
 
 /// What a replay writes is written of a world to which lines lead from boot, each of which may be stepped: the report of that
@@ -132,9 +147,13 @@ pub fn lines_are_replayed()
 
 /// Where a node of a plan is served to its end with status 0, what is written is the record of a node run, if the node hosts a
 /// member: its events are the takes, with the declarations and the join that these bring about, what it gave and told in each is
-/// what is written, and so is the record of its member.
+/// what is written, and so is the record of its member. Whatever the status is, what happened to it as far as it came is a node
+/// run, and the link was given what the node gave in it, up to the call that failed; unless no number was left at boot.
 pub fn served_ends_are_node_runs()
-    ensures { (plan : Plan) (node turns : ℕ) (old new : Tells) (ending : Ending)
+    ensures done { (plan : Plan) (node turns : ℕ) (old new : Tells) (ending : Ending)
         → IsPlan plan → IsEndOfServing plan node turns old new ending → ending.status ≡ Done
         → IsServedRunOf plan node turns old new ending.text }
+    ensures so_far { (plan : Plan) (node turns : ℕ) (old new : Tells) (ending : Ending)
+        → IsPlan plan → IsEndOfServing plan node turns old new ending
+        → WasServedSoFar plan node turns old new ⊎ WasSpentAtBoot plan node old new }
 {}

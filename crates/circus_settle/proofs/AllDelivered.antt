@@ -6,8 +6,8 @@ use Rattle.std.proofs.lemmas.List.Elements.{All-nil, All-cons, Contains-append_r
 use Rattle.circus_schedule.specs.declared.line.Line.{Line}
 use Rattle.circus_schedule.specs.declared.line.Line.TheVariants.{Deliver}
 use Rattle.circus_world.specs.WorldState.{WorldState}
-use Rattle.circus_quiescence_theory.specs.Enough.{AreOnce}
-use Rattle.circus_quiescence_theory.specs.Quiet.{IsDelivery, IsDelivered, IsQuiet}
+use Rattle.circus_world_theory.specs.Enough.{AreOnce}
+use Rattle.circus_world_theory.specs.Quiet.{IsDelivery, IsDelivered, IsQuiet}
 use Rattle.circus_settle.specs.Settled.{deliveries_from, first_deliveries}
 
 pub alone : (number count : ℕ) → All IsDelivery (deliveries_from number count)

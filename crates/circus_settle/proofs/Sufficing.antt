@@ -11,10 +11,10 @@ use Rattle.circus_model.specs.declared.signature.Signature.{Signature}
 use Rattle.circus_performing.specs.Record.{behaviour}
 use Rattle.circus_world.specs.WorldState.{WorldState}
 use Rattle.circus_world_theory.specs.Worlds.{IsWorldOf}
-use Rattle.circus_quiescence_theory.specs.Done.{AskEnough, RootsAreDone}
-use Rattle.circus_quiescence_theory.specs.Enough.{all_segments}
-use Rattle.circus_quiescence_theory.proofs.Bounding.{few_sent}
-use Rattle.circus_quiescence_theory.proofs.Finally.{roots_are_done}
+use Rattle.circus_world_theory.specs.Done.{AskEnough, RootsAreDone}
+use Rattle.circus_world_theory.specs.Enough.{all_segments}
+use Rattle.circus_world_theory.proofs.Quiescence.Bounding.{few_sent}
+use Rattle.circus_world_theory.proofs.Quiescence.Finally.{roots_are_done}
 use Rattle.circus_settle.specs.Settled.{Delivered, first_deliveries, HasSettled}
 use Rattle.circus_settle.proofs.AllDelivered.{alone, first_once, all_quiet}
 use Rattle.circus_settle.proofs.Leading.{led}

@@ -1,7 +1,7 @@
 // Whether all that was sent was delivered.
 ghost use Rattle.std.specs.Prelude.{◌≡◌, ◌↔◌, IsTrue, All};
-ghost use Rattle.circus_quiescence_theory.specs.Quiet.{IsDelivery, IsDelivered, IsQuiet};
-ghost use Rattle.circus_quiescence_theory.specs.Done.{EndsEveryRoot};
+ghost use Rattle.circus_world_theory.specs.Quiet.{IsDelivery, IsDelivered, IsQuiet};
+ghost use Rattle.circus_world_theory.specs.Done.{EndsEveryRoot};
 
 use circus_model::Module;
 use circus_schedule::Line;

@@ -3,7 +3,7 @@ ghost use Rattle.std.specs.Prelude.{◌≡◌, ◌+◌, ◌<◌, ◌≤◌, leng
 ghost use Rattle.circus_world.specs.Legal.{refusal};
 ghost use Rattle.circus_world.specs.Course.{stepped};
 ghost use Rattle.circus_world.specs.Lines.{Lead};
-ghost use Rattle.circus_quiescence_theory.specs.Done.{EndsEveryRoot};
+ghost use Rattle.circus_world_theory.specs.Done.{EndsEveryRoot};
 ghost use Rattle.circus_settle.specs.Settled.{first_deliveries};
 ghost use Rattle.circus_settle.specs.Answers.{IsSettled};
 ghost use Rattle.circus_settle.specs.Seen.Stepping.{ComesTo};

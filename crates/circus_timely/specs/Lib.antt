@@ -2,3 +2,11 @@ pub mod Past
 pub mod First
 pub mod Timely
 pub mod Starts
+pub mod Made
+pub mod Returns
+pub mod Snapshots
+pub mod Requests
+pub mod Asks
+pub mod Differences
+pub mod Order
+pub mod Owed

@@ -12,3 +12,6 @@ pub mod Saying
 pub mod Stepping
 pub mod Theorem
 pub mod True
+pub mod Border
+pub mod Timely
+pub mod Quiescence

@@ -1,2 +1,12 @@
 pub mod Worlds
 pub mod Agreeing
+pub mod Made
+pub mod Happened
+pub mod NodeLives
+pub mod InTime
+pub mod Coming
+pub mod Quiet
+pub mod Still
+pub mod Told
+pub mod Done
+pub mod Enough

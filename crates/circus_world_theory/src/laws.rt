@@ -11,6 +11,10 @@ ghost use Rattle.circus_world_theory.specs.Agreeing.{RecordsStand, AsksAreTrue, 
 
 use circus_model::Module;
 
+pub mod border;
+pub mod quiescence;
+pub mod timely;
+
 /// The copies agree: whichever datagrams come twice, late or never, and whichever nodes crash or join, the
 /// record of each active member stands in the history of the unreplicated program. It performed exactly the next
 /// runs of its module, each once and in their order, with the arguments, asks, replies, outcomes and states that

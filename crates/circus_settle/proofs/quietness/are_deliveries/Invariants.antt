@@ -1,6 +1,6 @@
 use Rattle.std.proofs.Common.{ℕ, ◌<◌}
 use Rattle.std.specs.List.{HoldsAt}
-use Rattle.circus_quiescence_theory.specs.Quiet.{IsDelivery}
+use Rattle.circus_world_theory.specs.Quiet.{IsDelivery}
 use Rattle.circus_settle.proofs.quietness.are_deliveries.Given as goal
 
 -- the lines before this one are deliveries

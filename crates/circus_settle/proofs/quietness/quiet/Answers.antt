@@ -1,6 +1,6 @@
 use Rattle.std.proofs.Common.{rules, ◌↔◌, IsTrue, true}
-use Rattle.circus_quiescence_theory.specs.Quiet.{IsQuiet}
-use Rattle.circus_quiescence_theory.proofs.Finally.{quiet_ends}
+use Rattle.circus_world_theory.specs.Quiet.{IsQuiet}
+use Rattle.circus_world_theory.proofs.Quiescence.Finally.{quiet_ends}
 use Rattle.circus_settle.proofs.quietness.quiet.Goals as goal
 
 pub returns-clause-ends : goal.returns-clause-ends

@@ -1,5 +1,5 @@
 use Rattle.std.proofs.Common.{ℕ, ◌<◌}
-use Rattle.circus_quiescence_theory.specs.Quiet.{IsDelivered}
+use Rattle.circus_world_theory.specs.Quiet.{IsDelivered}
 use Rattle.circus_settle.proofs.quietness.quiet.Given as goal
 
 -- those before this number were delivered

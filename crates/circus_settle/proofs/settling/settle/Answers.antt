@@ -1,6 +1,6 @@
 use Rattle.std.proofs.lemmas.Result.{IfOk-weaker}
 use Rattle.std.proofs.Common.{arith}
-use Rattle.circus_quiescence_theory.proofs.Finally.{quiet_ends}
+use Rattle.circus_world_theory.proofs.Quiescence.Finally.{quiet_ends}
 use Rattle.circus_settle.specs.Settled.{first_deliveries}
 use Rattle.circus_settle.proofs.AllDelivered.{all_quiet}
 use Rattle.circus_settle.proofs.Leading.{led_if}

@@ -1,0 +1,19 @@
+-- What is read of a message that was written is what was meant, so that what is accepted is true.
+pub mod Arguments
+pub mod Heads
+pub mod Calls
+pub mod Returns
+pub mod Outcomes
+pub mod States
+pub mod Options
+pub mod Octets
+pub mod Entries
+pub mod Fitting
+pub mod Tables
+pub mod Taken
+pub mod TrueCalls
+pub mod TrueReturns
+pub mod Can
+pub mod True
+pub mod TrueCan
+pub mod Sendable

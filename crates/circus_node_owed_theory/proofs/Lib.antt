@@ -1,4 +1,0 @@
-pub mod Making
-pub mod Nodes
-pub mod Worlds
-pub mod Handing

@@ -1,8 +1,0 @@
-use Rattle.circus_timely_theory.proofs.Counted.{expected_perform, performing_are_expected}
-use Rattle.circus_timely_theory.proofs.laws.those_that_perform_are_expected.Goals as goal
-
-pub returns-clause-only : goal.returns-clause-only
-returns-clause-only c view index node is = expected_perform view index node is
-
-pub returns-clause-all : goal.returns-clause-all
-returns-clause-all c view index node h = performing_are_expected view index node h

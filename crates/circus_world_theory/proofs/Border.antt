@@ -1,0 +1,19 @@
+-- Nothing that a node makes is dropped at its border, and what was handed over was made.
+pub mod Going
+pub mod Booting
+pub mod Reaching
+pub mod Brief
+pub mod Sizing
+pub mod Waiting
+pub mod Pairs
+pub mod Hosting
+pub mod Telling
+pub mod Handing
+pub mod Members
+pub mod Nodes
+pub mod Steps
+pub mod Boots
+pub mod Worlds
+pub mod BootWorlds
+pub mod Makers
+pub mod Whole

@@ -1,5 +1,0 @@
-use Rattle.circus_world_timely_theory.proofs.Plain.{plain_records_are_timely}
-use Rattle.circus_world_timely_theory.proofs.laws.plain_records_are_timely.Goals as goal
-
-pub returns : goal.returns
-returns c = λ d program hosted lines begun last world. plain_records_are_timely d program hosted lines begun last world

@@ -1,7 +1,0 @@
-use Rattle.circus_world_timely_theory.proofs.Worlds.{records_are_timely}
-use Rattle.circus_world_timely_theory.proofs.laws.records_are_timely.Goals as goal
-
-pub returns : goal.returns
-returns g c = λ d modules hosted lines begun last world.
-    records_are_timely g.M.Module.declared g.M.Module.turn g.M.Module.first
-    (λ m. record { first_is_state = g.met.M.Module.first_is_state m; turns_are_lawful = g.met.M.Module.turns_are_lawful m }) d modules hosted lines begun last world

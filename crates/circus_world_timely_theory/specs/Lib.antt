@@ -1,3 +1,0 @@
-pub mod Happened
-pub mod NodeLives
-pub mod InTime
