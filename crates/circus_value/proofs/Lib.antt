@@ -4,6 +4,7 @@ pub mod Octets
 pub mod ShapeBack
 pub mod ShapeItems
 mod ItemFalls
+mod SizeLemmas
 mod ShownMore
 pub mod EqualityLemmas
 pub mod PointwiseLemmas

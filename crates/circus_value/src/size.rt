@@ -1,5 +1,5 @@
 // How many bytes values have in external form.
-ghost use Rattle.std.specs.Prelude.{◌≡◌, ◌-◌, ◌^◌, min};
+ghost use Rattle.std.specs.Prelude.{◌≡◌, ◌-◌, ◌^◌, min, map};
 ghost use Rattle.circus_value.specs.ValueOf.{tree_of};
 ghost use Rattle.circus_value.specs.ExternalSize as external;
 
@@ -23,12 +23,18 @@ pub fn external_size(value: &Value) -> u64
 
 /// How many bytes values have in external form one after another, or 18,446,744,073,709,551,615
 /// where there are more. It takes no memory.
-#[cycle(sizing)]
 pub fn values_size(values: &Values) -> u64
     ensures { result ≡ min (external.size_of_values values.now) (2 ^ 64 - 1) }
 {
+    values.size()
+}
+
+/// The same of a slice, value by value.
+pub(crate) fn size_of_all(values: &[Value]) -> u64
+    ensures { result ≡ min (external.size_of_values (map tree_of values.now)) (2 ^ 64 - 1) }
+{
     let mut total: u64 = 0;
-    for value in values.as_slice() {
+    for value in values {
         total = total.saturating_add(external_size(value));
     }
     total

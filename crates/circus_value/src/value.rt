@@ -1,11 +1,15 @@
 // Values, and lists of them.
-ghost use Rattle.std.specs.Prelude.{◌≡◌, List, [], ◌∷◌, ◌++◌, ◌<◌, length, map, option_map, option_copied, Some, slice_get, slice_set, take, OnOk, OnErr, IfOk, IsTrue, ◌↔◌};
+ghost use Rattle.std.specs.Prelude.{◌≡◌, ◌-◌, ◌^◌, min, List, [], ◌∷◌, ◌++◌, ◌<◌, length, map, option_map, option_copied, Some, slice_get, slice_set, take, OnOk, OnErr, IfOk, IsTrue, ◌↔◌};
 ghost use Rattle.circus_value.specs.ValueOf.{tree_of};
+ghost use Rattle.circus_value.specs.ExternalSize.{size_of_values};
+ghost use Rattle.circus_value.specs.Seen.SharedItems.{items_in, IsRecounted};
 
-use crate::{Duplicate, ListOf, NoMemory};
+use crate::size::size_of_all;
+use crate::{Duplicate, ListOf, NoMemory, external_size};
 use std::alloc::Global;
 use std::marker::Model;
 use std::mem;
+use std::rc::Rc;
 
 /// A value of some shape.
 #[cycle(value)]
@@ -24,18 +28,26 @@ pub enum Value {
     Choice(u16, Chosen),
 }
 
-/// Values in order. Clauses see the plain list of their trees.
+/// Values in order. Copies share them until one of the copies is changed. Clauses see the plain list of their trees.
 #[cycle(value)]
 #[derive(Debug)]
 pub struct Values {
-    items: Vec<Value>,
+    alloc: Global,
+    /// `None` where there are none and no memory was taken yet.
+    items: Option<Rc<Vec<Value>>>,
+    /// The bytes of their external forms, or 18,446,744,073,709,551,615 where there are more.
+    size: u64,
 }
 
 // Written out, so that dropping one is one step of a proof (docs/PROOFS.md, "Cost").
 impl Drop for Values {
     #[cycle(value_drop)]
     fn drop(self) {
-        let Values { items: _ } = self;
+        let Values {
+            alloc: _,
+            items: _,
+            size: _,
+        } = self;
     }
 }
 
@@ -51,22 +63,26 @@ impl Model for Values {
     ghost coded = { coded_list coded_value };
 
     ghost use Rattle.circus_value.specs.ValueOf.{tree_of};
+    ghost use Rattle.circus_value.specs.Seen.SharedItems.{items_in};
 
-    ghost view = { λ a. map tree_of a.items.items };
+    ghost view = { λ a. map tree_of (items_in a.items) };
+
+    ghost use Rattle.circus_value.specs.Seen.SharedItems.{IsCounted};
+
+    ghost invariant = { λ a. IsCounted a.items a.size };
 
     ghost size = { λ ts. weights (value_trees ts) };
 
-    ghost use Rattle.std.proofs.Common.{arith};
-    ghost use Rattle.circus_value.specs.Seen.ValueFalls.{most_deep_le-weights};
+    ghost use Rattle.circus_value.specs.Seen.ValueFalls.{items_fall};
 
-    ghost size_decreases = { λ a h. Prim.omega (arith, most_deep_le-weights a.items.items) };
+    ghost size_decreases = { λ a h. items_fall a.alloc a.items a.size };
 }
 
-/// The value of the chosen arm. Clauses see its tree.
+/// The value of the chosen arm. Copies share it until one of the copies is changed. Clauses see its tree.
 #[cycle(value)]
 #[derive(Debug)]
 pub struct Chosen {
-    value: Box<Value>,
+    value: Rc<Value>,
 }
 
 // Written out, so that dropping one is one step of a proof (docs/PROOFS.md, "Cost").
@@ -104,7 +120,9 @@ impl Values {
         ensures { result ≡ [] }
     {
         Values {
-            items: Vec::new(alloc),
+            alloc,
+            items: None,
+            size: 0,
         }
     }
 
@@ -112,28 +130,35 @@ impl Values {
     pub fn len(&self) -> usize
         ensures { result ≡ length self.now }
     {
-        self.items.len()
+        self.as_slice().len()
     }
 
     /// Whether there are none.
     pub fn is_empty(&self) -> bool
         ensures { IsTrue result ↔ (self.now ≡ []) }
     {
-        self.items.is_empty()
+        self.as_slice().is_empty()
     }
 
     /// The value at a place, counted from 0. `None` exactly where the place is not below the length.
     pub fn get(&self, place: usize) -> Option<&Value>
         ensures { option_map tree_of (option_copied result) ≡ slice_get self.now place }
     {
-        self.items.get(place)
+        self.as_slice().get(place)
     }
 
     /// All of them, in order.
     pub fn as_slice(&self) -> &[Value]
         ensures { map tree_of result.now ≡ self.now }
     {
-        self.items.as_slice()
+        listed(&self.items)
+    }
+
+    /// How many bytes they have in external form one after another, or 18,446,744,073,709,551,615 where there are more.
+    pub(crate) fn size(&self) -> u64
+        ensures { result ≡ min (size_of_values self.now) (2 ^ 64 - 1) }
+    {
+        self.size
     }
 
     /// Adds a value at the end. After `NoMemory` the list is unchanged.
@@ -141,24 +166,97 @@ impl Values {
         ensures ok { OnOk result (self.new ≡ self.old ++ tree_of item ∷ []) }
         ensures err { OnErr result (self.new ≡ self.old) }
     {
-        self.items.push(item)?;
+        let size = self.size.saturating_add(external_size(&item));
+        append(self.alloc, &mut self.items, item)?;
+        self.size = size;
         Ok(())
     }
 
-    /// Keeps the first values, at most so many, and drops those behind them.
-    pub fn truncate(&mut self, len: usize)
-        ensures { self.new ≡ take len self.old }
+    /// Keeps the first values, at most so many, and drops those behind them. After `NoMemory` the list is unchanged.
+    pub fn truncate(&mut self, len: usize) -> Result<(), NoMemory>
+        ensures ok { OnOk result (self.new ≡ take len self.old) }
+        ensures err { OnErr result (self.new ≡ self.old) }
     {
-        self.items.truncate(len);
+        keep_first(&mut self.items, len)?;
+        self.size = size_of_all(listed(&self.items));
+        Ok(())
     }
 
-    /// Puts a value in the place of another, which it answers.
-    pub fn replace(&mut self, place: usize, item: Value) -> Value
+    /// Puts a value in the place of another, which it answers. After `NoMemory` the list is unchanged.
+    pub fn replace(&mut self, place: usize, item: Value) -> Result<Value, NoMemory>
         requires { place < length self.old }
-        ensures new { self.new ≡ slice_set self.old place (tree_of item) }
-        ensures old { slice_get self.old place ≡ Some (tree_of result) }
+        ensures new { OnOk result (self.new ≡ slice_set self.old place (tree_of item)) }
+        ensures old { IfOk result (λ value. slice_get self.old place ≡ Some (tree_of value)) }
+        ensures err { OnErr result (self.new ≡ self.old) }
     {
-        mem::replace(&mut self.items[place], item)
+        let grows = external_size(&item);
+        let old = exchange(&mut self.items, place, item)?;
+        self.size = resized(&self.items, self.size, external_size(&old), grows);
+        Ok(old)
+    }
+}
+
+// The items.
+fn listed(items: &Option<Rc<Vec<Value>>>) -> &[Value]
+    ensures { result.now ≡ items_in items.now }
+{
+    match items {
+        Some(items) => items.as_slice(),
+        None => &[],
+    }
+}
+
+// Adds an item at the end. After `NoMemory` the items are unchanged.
+fn append(alloc: Global, items: &mut Option<Rc<Vec<Value>>>, item: Value) -> Result<(), NoMemory>
+    ensures ok { OnOk result (items_in items.new ≡ items_in items.old ++ item ∷ []) }
+    ensures err { OnErr result (items_in items.new ≡ items_in items.old) }
+{
+    match items {
+        Some(items) => Rc::make_mut(items)?.push(item)?,
+        None => {
+            let mut first = Vec::new(alloc);
+            first.push(item)?;
+            *items = Some(Rc::new(alloc, first)?);
+        }
+    }
+    Ok(())
+}
+
+// Keeps the first items. After `NoMemory` the items are unchanged.
+fn keep_first(items: &mut Option<Rc<Vec<Value>>>, len: usize) -> Result<(), NoMemory>
+    ensures ok { OnOk result (items_in items.new ≡ take len (items_in items.old)) }
+    ensures err { OnErr result (items_in items.new ≡ items_in items.old) }
+{
+    if let Some(items) = items {
+        Rc::make_mut(items)?.truncate(len);
+    }
+    Ok(())
+}
+
+// Puts an item in the place of another, which it answers. After `NoMemory` the items are unchanged.
+fn exchange(
+    items: &mut Option<Rc<Vec<Value>>>,
+    place: usize,
+    item: Value,
+) -> Result<Value, NoMemory>
+    requires { place < length (items_in items.old) }
+    ensures new { OnOk result (items_in items.new ≡ slice_set (items_in items.old) place item) }
+    ensures old { IfOk result (λ old. slice_get (items_in items.old) place ≡ Some old) }
+    ensures err { OnErr result (items_in items.new ≡ items_in items.old) }
+{
+    let Some(items) = items else { unreachable!() };
+    let items = Rc::make_mut(items)?;
+    Ok(mem::replace(&mut items[place], item))
+}
+
+// The size of items of which one was put in the place of another: before that all together had this size.
+fn resized(items: &Option<Rc<Vec<Value>>>, before: u64, shrinks: u64, grows: u64) -> u64
+    ensures { IsRecounted items.now before shrinks grows result }
+{
+    if before == u64::MAX {
+        size_of_all(listed(items))
+    } else {
+        before.saturating_sub(shrinks).saturating_add(grows)
     }
 }
 
@@ -168,7 +266,7 @@ impl Chosen {
         ensures { IfOk result (λ chosen. chosen ≡ tree_of value) }
     {
         Ok(Chosen {
-            value: Box::new(alloc, value)?,
+            value: Rc::new(alloc, value)?,
         })
     }
 
@@ -179,17 +277,18 @@ impl Chosen {
         &self.value
     }
 
-    /// Puts a value in the place of the chosen one, which it answers.
-    pub fn replace(&mut self, value: Value) -> Value
-        ensures new { self.new ≡ tree_of value }
-        ensures old { self.old ≡ tree_of result }
+    /// Puts a value in the place of the chosen one, which it answers. After `NoMemory` it is unchanged.
+    pub fn replace(&mut self, value: Value) -> Result<Value, NoMemory>
+        ensures new { OnOk result (self.new ≡ tree_of value) }
+        ensures old { IfOk result (λ old. self.old ≡ tree_of old) }
+        ensures err { OnErr result (self.new ≡ self.old) }
     {
-        mem::replace(&mut *self.value, value)
+        Ok(mem::replace(Rc::make_mut(&mut self.value)?, value))
     }
 }
 
+/// The items of a list, the value of a chosen arm, are shared.
 impl Duplicate for Value {
-    #[cycle(value_copy)]
     fn copy(&self) -> Result<Self, NoMemory> {
         Ok(match self {
             Value::Boolean(truth) => Value::Boolean(*truth),
@@ -207,20 +306,31 @@ impl Duplicate for Value {
     }
 }
 
+/// The values are shared.
 impl Duplicate for Values {
-    #[cycle(value_copy)]
     fn copy(&self) -> Result<Self, NoMemory> {
-        let mut items = Vec::with_capacity(*self.items.allocator(), self.items.len())?;
-        for item in &self.items {
-            items.push(item.copy()?)?;
-        }
-        Ok(Values { items })
+        Ok(Values {
+            alloc: self.alloc,
+            items: self.items.clone()?,
+            size: self.size,
+        })
     }
 }
 
+/// The value is shared.
 impl Duplicate for Chosen {
-    #[cycle(value_copy)]
     fn copy(&self) -> Result<Self, NoMemory> {
-        Chosen::new(*Box::allocator(&self.value), self.value.copy()?)
+        Ok(Chosen {
+            value: self.value.clone()?,
+        })
+    }
+}
+
+// What a change takes of a value that is shared.
+impl Clone for Value {
+    ghost is_clone = { λ value copy. copy ≡ value };
+
+    fn clone(&self) -> Result<Self, NoMemory> {
+        self.copy()
     }
 }

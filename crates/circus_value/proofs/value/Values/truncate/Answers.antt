@@ -1,8 +1,9 @@
-use Rattle.std.proofs.Common.{arith}
-use Rattle.std.proofs.lemmas.Grind.{common_steps}
+use Rattle.std.proofs.Common.{take, map, sym, ap, ◌∙◌}
 use Rattle.std.proofs.lemmas.List.{take-map}
 use Rattle.circus_value.specs.ValueOf.{tree_of}
+use Rattle.circus_value.specs.Seen.SharedItems.{items_in}
 use Rattle.circus_value.proofs.value.Values.truncate.Goals as goal
 
-pub returns : goal.returns
-returns c = grind (arith, common_steps, c.self.view_is, c.truncate.ensures.items, take-map tree_of c.args.len c.self.inside.items.items)
+pub returns-clause-ok : goal.returns-clause-ok
+returns-clause-ok c =
+    ap (map tree_of) c.in_ok-keep_first.ensures.ok ∙ sym (take-map tree_of c.args.len (items_in c.self.inside.items)) ∙ ap (take c.args.len) c.self.view_is
