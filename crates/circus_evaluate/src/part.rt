@@ -1,5 +1,5 @@
 // Parts of values, and the steps that lead to them.
-ghost use Rattle.std.specs.Prelude.{◌≡◌, ◌-◌, ◌^◌, Ok, Err, ok_or, min, slice_get, map, MatchResult, OnOk};
+ghost use Rattle.std.specs.Prelude.{◌≡◌, ◌-◌, ◌^◌, ◌<◌, Ok, Err, ok_or, min, slice_get, length, map, MatchResult, OnOk};
 ghost use Rattle.circus_value.specs.ValueOf.{tree_of};
 ghost use Rattle.circus_value.specs.ValueTree.{value_trees};
 ghost use Rattle.circus_evaluate.specs.Parts as parts;
@@ -124,9 +124,9 @@ pub(crate) fn put_in(value: &mut Value, steps: &[Step], what: Put) -> Result<(),
                 if *number != arm {
                     return Ok(());
                 }
-                let mut inner = chosen.replace(Value::Boolean(false));
+                let mut inner = chosen.replace(Value::Boolean(false))?;
                 let done = put_in(&mut inner, rest, what);
-                chosen.replace(inner);
+                chosen.replace(inner)?;
                 done
             }
             _ => Ok(()),
@@ -151,8 +151,8 @@ fn put_under(items: &mut Values, subscript: i64, steps: &[Step], what: Put) -> R
 }
 
 /// Puts something where steps lead to in the item at a place. Where there is no such item, or the steps lead nowhere, or an
-/// item more goes to what is no sequence, it changes nothing. To replace a value takes no memory; one item more may find
-/// none, and after `NoMemory` nothing is said of the items. It goes no deeper than the steps.
+/// item more goes to what is no sequence, it changes nothing. What is changed is shared no longer, which may take memory, as
+/// one item more may; after `NoMemory` nothing is said of the items. It goes no deeper than the steps.
 #[cycle(putting)]
 pub fn put_item(items: &mut Values, place: usize, steps: &[Step], what: Put) -> Result<(), NoMemory>
     ensures { OnOk result (items.new ≡ with_put_item (map step_as steps.now) what place items.old) }
@@ -160,9 +160,24 @@ pub fn put_item(items: &mut Values, place: usize, steps: &[Step], what: Put) -> 
     if place >= items.len() {
         return Ok(());
     }
-    let mut inner = items.replace(place, Value::Boolean(false));
+    match (what, steps.is_empty()) {
+        (Put::Whole(value), true) => {
+            items.replace(place, value)?;
+            Ok(())
+        }
+        (what, _) => put_within(items, place, steps, what),
+    }
+}
+
+// Puts something into an item, which is taken out for a while: so it is held once, and changed where it stands.
+#[cycle(putting)]
+fn put_within(items: &mut Values, place: usize, steps: &[Step], what: Put) -> Result<(), NoMemory>
+    requires { place < length items.old }
+    ensures { OnOk result (items.new ≡ with_put_item (map step_as steps.now) what place items.old) }
+{
+    let mut inner = items.replace(place, Value::Boolean(false))?;
     let done = put_in(&mut inner, steps, what);
-    items.replace(place, inner);
+    items.replace(place, inner)?;
     done
 }
 
