@@ -29,18 +29,18 @@ pub struct Paused {
 
 impl Execution {
     // The end by this outcome.
-    fn ended(self, outcome: Outcome) -> Turn<Paused>
-        ensures { result ≡ Ends outcome (take self.variables.states self.variables.values) }
+    fn ended(self, outcome: Outcome) -> Result<Turn<Paused>, NoMemory>
+        ensures { IfOk result (λ turn. turn ≡ Ends outcome (take self.variables.states self.variables.values)) }
     {
-        Turn::Ends {
+        Ok(Turn::Ends {
             outcome,
-            state: self.variables.into_state(),
-        }
+            state: self.variables.into_state()?,
+        })
     }
 
     // The end by an error of the language.
-    fn failed(self, alloc: Global, error: LanguageError) -> Turn<Paused>
-        ensures { result ≡ Ends (Raised (number_of error) []) (take self.variables.states self.variables.values) }
+    fn failed(self, alloc: Global, error: LanguageError) -> Result<Turn<Paused>, NoMemory>
+        ensures { IfOk result (λ turn. turn ≡ Ends (Raised (number_of error) []) (take self.variables.states self.variables.values)) }
     {
         self.ended(error.raised(alloc))
     }
@@ -61,11 +61,11 @@ pub(crate) fn run(
 {
     loop {
         let Some(instruction) = code.get(place) else {
-            return Ok(execution.failed(alloc, LanguageError::Unhandled));
+            return execution.failed(alloc, LanguageError::Unhandled);
         };
         match execution.step(alloc, limit, instruction, place) {
             Ok(Move::Goes(next)) => place = next,
-            Ok(Move::Ends(outcome)) => return Ok(execution.ended(outcome)),
+            Ok(Move::Ends(outcome)) => return execution.ended(outcome),
             Ok(Move::Asks(callee, procedure, arguments)) => {
                 return Ok(Turn::Asks {
                     callee,
@@ -75,7 +75,7 @@ pub(crate) fn run(
                     paused: Paused { place, execution },
                 });
             }
-            Err(NoValue::Raises(error)) => return Ok(execution.failed(alloc, error)),
+            Err(NoValue::Raises(error)) => return execution.failed(alloc, error),
             Err(NoValue::NoMemory) => return Err(AllocError),
         }
     }
@@ -104,7 +104,7 @@ pub(crate) fn resume(
     };
     match execution.reply(alloc, limit, asking, place, reply) {
         Ok(next) => run(alloc, limit, code, execution, next),
-        Err(NoValue::Raises(error)) => Ok(execution.failed(alloc, error)),
+        Err(NoValue::Raises(error)) => execution.failed(alloc, error),
         Err(NoValue::NoMemory) => Err(AllocError),
     }
 }

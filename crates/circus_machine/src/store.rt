@@ -174,11 +174,11 @@ impl Variables {
     }
 
     /// The state, without the other variables.
-    pub fn into_state(mut self) -> State
-        ensures { result ≡ take self.states self.values }
+    pub fn into_state(mut self) -> Result<State, NoMemory>
+        ensures { IfOk result (λ state. state ≡ take self.states self.values) }
     {
-        self.values.truncate(self.states);
-        self.values
+        self.values.truncate(self.states)?;
+        Ok(self.values)
     }
 
     // The variable at a place. It takes no memory.

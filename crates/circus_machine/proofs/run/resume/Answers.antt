@@ -1,5 +1,6 @@
 use Rattle.std.proofs.Common.{◌≡◌, ℕ, IfOk, Err, [], ◌∷◌, map, Some, slice_get, option_map, option_copied, sym, ap, subst, ◌∙◌}
 use Rattle.std.proofs.lemmas.Option.{slice_get-map}
+use Rattle.std.proofs.lemmas.Result.{IfOk-weaker}
 use Rattle.circus_value.specs.declared.outcome.Outcome.TheVariants.{Raised}
 use Rattle.circus_model.specs.LanguageError.{number_of}
 use Rattle.circus_model.specs.Gives.{Gives}
@@ -44,6 +45,7 @@ returns-in-Err-Raises c = λ flow awaits.
     let here : slice_get code at ≡ Some (act_of (I.Ask asking)) = slice_get-map act_of c.args.code.now at ∙ ap (option_map act_of) (sym c.get.ensures ∙ ap option_copied c.in-Some-Ask.is) ∙ ap (λ i. Some (act_of i)) c.in-Some-Ask.field-0-is in
     let same = some_same _ _ (sym awaits.stands ∙ here) in
     let (kept, fails_so) = subst (λ f. Does (beside {A = ℕ}) (replied limit states at asking.into (map catch_of asking.catches) asking.skip reply) (Err f) old new) c.in-Err-Raises.field-0-is c.in-Err-Raises.ensures in
-    gives_end (Awaits limit states code (λ replies. flow (reply ∷ replies))) limit states (flow (reply ∷ [])) c.failed.result new kept (Raised (number_of c.in-Err-Raises.error) [])
-    (subst (Follows limit states code (flow (reply ∷ []))) (ap (after_reply limit states at reply (going old [])) same ∙ fails_so []) (awaits.goes reply []))
+    IfOk-weaker c.failed.result _ _
+    (λ turn. gives_end (Awaits limit states code (λ replies. flow (reply ∷ replies))) limit states (flow (reply ∷ [])) turn new kept (Raised (number_of c.in-Err-Raises.error) [])
+    (subst (Follows limit states code (flow (reply ∷ []))) (ap (after_reply limit states at reply (going old [])) same ∙ fails_so []) (awaits.goes reply [])))
     c.failed.ensures

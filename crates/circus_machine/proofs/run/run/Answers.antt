@@ -1,5 +1,6 @@
 use Rattle.std.proofs.Common.{◌≡◌, [], ◌∷◌, take, Ok, Err, Some, None, slice_get, option_map, option_copied, length, refl, sym, ap, subst, ◌∙◌, arith}
 use Rattle.std.proofs.lemmas.Option.{slice_get-map, slice_get_within}
+use Rattle.std.proofs.lemmas.Result.{IfOk-weaker}
 use Rattle.circus_value.specs.declared.outcome.Outcome.TheVariants.{Raised}
 use Rattle.circus_model.specs.LanguageError.{number_of}
 use Rattle.circus_model.specs.NextTurn as next_turn
@@ -18,8 +19,9 @@ returns-in_default c = λ flow start.
     let e = c.loop-instruction.execution in
     let none : slice_get code c.loop-instruction.place ≡ None =
     slice_get-map act_of c.args.code.now c.loop-instruction.place ∙ ap (option_map act_of) (sym c.get.ensures ∙ ap option_copied c.in_default.is) in
-    gives_behind (Awaits c.args.limit states code flow) c.args.limit states (flow []) c.failed.result e c.loop-instruction.invariant.states (going e [])
-    (past c.args.limit states code (flow []) c.loop-instruction.place (going e []) none (c.loop-instruction.invariant.comes flow start [])) refl c.failed.ensures
+    IfOk-weaker c.failed.result _ _
+    (λ turn. gives_behind (Awaits c.args.limit states code flow) c.args.limit states (flow []) turn e c.loop-instruction.invariant.states (going e [])
+    (past c.args.limit states code (flow []) c.loop-instruction.place (going e []) none (c.loop-instruction.invariant.comes flow start [])) refl) c.failed.ensures
 
 pub step-requires-clause-place : goal.step-requires-clause-place
 step-requires-clause-place c =
@@ -61,9 +63,10 @@ returns-in-Ok-Ends c = λ flow start.
     let same = c.loop-instruction.invariant.states in
     let here : slice_get code at ≡ Some a = slice_get-map act_of c.args.code.now at ∙ ap (option_map act_of) (sym c.get.ensures ∙ ap option_copied c.in-Some.is) in
     let (kept, moves) = subst (λ m. Moves c.args.limit e.variables.states a at (Ok m) e c.step.new.self) c.in-Ok-Ends.field-0-is c.in-Ok-Ends.ensures.moves in
-    gives_end (Awaits c.args.limit states code flow) c.args.limit states (flow []) c.ended.result c.step.new.self (kept ∙ same) c.in-Ok-Ends.outcome
+    IfOk-weaker c.ended.result _ _
+    (λ turn. gives_end (Awaits c.args.limit states code flow) c.args.limit states (flow []) turn c.step.new.self (kept ∙ same) c.in-Ok-Ends.outcome
     (by_move c.args.limit states code (flow []) a at (going e []) (ends c.in-Ok-Ends.outcome c.step.new.self.variables.values) here
-    (ap (λ n. act c.args.limit n a at (going e [])) (sym same) ∙ moves []) (c.loop-instruction.invariant.comes flow start []))
+    (ap (λ n. act c.args.limit n a at (going e [])) (sym same) ∙ moves []) (c.loop-instruction.invariant.comes flow start [])))
     c.ended.ensures
 
 pub returns-in-Err-Raises : goal.returns-in-Err-Raises
@@ -76,9 +79,10 @@ returns-in-Err-Raises c = λ flow start.
     let same = c.loop-instruction.invariant.states in
     let here : slice_get code at ≡ Some a = slice_get-map act_of c.args.code.now at ∙ ap (option_map act_of) (sym c.get.ensures ∙ ap option_copied c.in-Some.is) in
     let (kept, moves) = subst (λ m. Moves c.args.limit e.variables.states a at (Err m) e c.step.new.self) c.in-Err-Raises.field-0-is c.in-Err-Raises.ensures.moves in
-    gives_end (Awaits c.args.limit states code flow) c.args.limit states (flow []) c.failed-in-Err-Raises.result c.step.new.self (kept ∙ same) (Raised (number_of c.in-Err-Raises.error) [])
+    IfOk-weaker c.failed-in-Err-Raises.result _ _
+    (λ turn. gives_end (Awaits c.args.limit states code flow) c.args.limit states (flow []) turn c.step.new.self (kept ∙ same) (Raised (number_of c.in-Err-Raises.error) [])
     (by_move c.args.limit states code (flow []) a at (going e []) (fails c.in-Err-Raises.error c.step.new.self.variables.values) here
-    (ap (λ n. act c.args.limit n a at (going e [])) (sym same) ∙ moves []) (c.loop-instruction.invariant.comes flow start []))
+    (ap (λ n. act c.args.limit n a at (going e [])) (sym same) ∙ moves []) (c.loop-instruction.invariant.comes flow start [])))
     c.failed-in-Err-Raises.ensures
 
 pub returns-in-Ok-Asks : goal.returns-in-Ok-Asks
