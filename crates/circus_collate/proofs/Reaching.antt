@@ -9,7 +9,7 @@ use Rattle.std.proofs.lemmas.List.{take_all, take-append-drop}
 use Rattle.std.proofs.lemmas.List.Folds.{find-append}
 use Rattle.circus_value.specs.Among.{is_among}
 use Rattle.circus_collate.specs.declared.giving.Said.{Said}
-use Rattle.circus_collate.specs.Giving.{first_place, is_from, passes_at, first_from, counts, votes, have_equal, has_majority, has_number, majority, reached, at_least}
+use Rattle.circus_collate.specs.Giving.{first_place, is_from, passes_at, first_from, counts, votes, have_equal, has_majority, has_number, majority, reached, at_least, IsOfEquals}
 use Rattle.circus_collate.proofs.Places.{IsFirst, first_place-is, first_place-only, first_place-none, both_pass}
 use Rattle.circus_collate.proofs.Counting.{count_by-le-among, count_by-some}
 use Rattle.circus_collate.proofs.Later.{parts_of, votes-append, votes-congr}
@@ -67,31 +67,36 @@ module _ {V : Type 0} (eq : V → V → Bool) where
       by node None is e among = absurd (false≢true (sym (ap (λ o. option_map_or (eq v) o false) is) ∙ e))
       by node (Some w) is e among = (node, w, is, sym (ap (λ o. option_map_or (eq v) o false) is) ∙ e, among)
 
-  counts_at : (nodes : List ℕ) (said : List (Said V)) (node : ℕ) (v : V) (s : SaidAt said node v) → list_any (λ n. n == node) nodes ≡ true → counts (λ _. nodes) said s.place ≡ true
+  counts_at : (expected : V → List ℕ) (said : List (Said V)) (node : ℕ) (v : V) (s : SaidAt said node v) → list_any (λ n. n == node) (expected s.arrival.value) ≡ true
+      → counts expected said s.place ≡ true
   unfolding counts
-  counts_at nodes said node v s among =
+  counts_at expected said node v s among =
       let same : s.arrival.node ≡ node = eqb-true s.arrival.node node s.node_is in
-      ap (λ o. option_map_or (λ (x : Said V). is_among nodes x.node && not (list_any (is_from x.node) (take s.place said))) o false) s.at
-      ∙ (λ j. is_among nodes (same j) && not (list_any (is_from (same j)) (take s.place said)))
+      ap (λ o. option_map_or (λ (x : Said V). is_among (expected x.value) x.node && not (list_any (is_from x.node) (take s.place said))) o false) s.at
+      ∙ (λ j. is_among (expected s.arrival.value) (same j) && not (list_any (is_from (same j)) (take s.place said)))
       ∙ (λ j. among j && not (s.none_before j))
 
   some_of : {o : Option ℕ} → (o ≡ None → ⊥) → IsSome o
   some_of {o = None} h = absurd (h refl)
   some_of {o = Some k} h = refl
 
-  pub majority_given : IsEquivalence eq → (nodes : List ℕ) (said : List (Said V)) (v : V) → length nodes < 2 * votes eq said nodes v → IsSome (majority eq (λ _. nodes) said)
+  pub majority_given : IsEquivalence eq → (expected : V → List ℕ) (said : List (Said V)) (v : V) → IsOfEquals eq expected
+      → length (expected v) < 2 * votes eq said (expected v) v → IsSome (majority eq expected said)
   unfolding majority has_majority
-  majority_given laws nodes said v many = some_of (λ none.
-      let (node, w, first, same, among) = voted said nodes v (omega arith) in
+  majority_given laws expected said v equals many = some_of (λ none.
+      let (node, w, first, same, among) = voted said (expected v) v (omega arith) in
       let s = said_at said node w first in
-      let more = votes-congr eq laws said nodes v w same in
-      let most : ltb (length nodes) (2 * votes eq said nodes s.arrival.value) ≡ true =
-      lt-ltb (length nodes) (2 * votes eq said nodes s.arrival.value) (omega (arith, many, more, ap (votes eq said nodes) s.value_is)) in
-      let has : has_majority eq (λ _. nodes) said s.place ≡ true = ap (λ o. option_map_or (λ (x : Said V). ltb (length nodes) (2 * votes eq said nodes x.value)) o false) s.at ∙ most in
-      false≢true (sym (first_place-none (λ k. counts (λ _. nodes) said k && has_majority eq (λ _. nodes) said k) (length said) none s.place (below_at said s.place s.arrival s.at))
-      ∙ both_pass (counts_at nodes said node w s among) has))
-
-  -- ---- a value comes to a number of votes by an arrival that counts
+      let x : V = s.arrival.value in
+      let equal : eq v x ≡ true = subst (λ y. eq v y ≡ true) (sym s.value_is) same in
+      let nodes : expected v ≡ expected x = equals v x equal in
+      let more = votes-congr eq laws said (expected v) v x equal in
+      let most : ltb (length (expected x)) (2 * votes eq said (expected x) x) ≡ true =
+      lt-ltb (length (expected x)) (2 * votes eq said (expected x) x) (omega (arith, many, more, ap length nodes, ap (λ ns. votes eq said ns x) nodes)) in
+      let has : has_majority eq expected said s.place ≡ true =
+      ap (λ o. option_map_or (λ (y : Said V). ltb (length (expected y.value)) (2 * votes eq said (expected y.value) y.value)) o false) s.at ∙ most in
+      let among_these = subst (λ ns. list_any (λ n. n == node) ns ≡ true) nodes among in
+      false≢true (sym (first_place-none (λ k. counts expected said k && has_majority eq expected said k) (length said) none s.place (below_at said s.place s.arrival s.at))
+      ∙ both_pass (counts_at expected said node w s among_these) has))
 
   -- what a node said first, with one more arrival
   more_from : (before : List (Said V)) (s : Said V) (node : ℕ) (w : V) → first_from (before ++ s ∷ []) node ≡ Some w
@@ -138,72 +143,81 @@ module _ {V : Type 0} (eq : V → V → Bool) where
       (x, at, ap (λ k. take k (y ∷ xs)) next ∙ ap (λ l. y ∷ l) more)
 
   -- the arrival counts, and brings its value to a number
-  record Brings (nodes : List ℕ) (said : List (Said V)) (number place : ℕ) : Type 0 where
+  record Brings (expected : V → List ℕ) (said : List (Said V)) (number place : ℕ) : Type 0 where
     within : place < length said
-    counted : counts (λ _. nodes) said place ≡ true
-    numbered : has_number eq (λ _. nodes) said number place ≡ true
+    counted : counts expected said place ≡ true
+    numbered : has_number eq expected said number place ≡ true
 
   -- an arrival that brings a value to a number counts, and has that value
-  bringing : IsEquivalence eq → (nodes : List ℕ) (said : List (Said V)) (number : ℕ) (v : V) (m : ℕ) (s : Said V) → slice_get said m ≡ Some s → take (m + 1) said ≡ take m said ++ s ∷ []
-      → m < length said → votes eq (take m said) nodes v < number → number ≤ votes eq (take (m + 1) said) nodes v → Brings nodes said number m
+  bringing : IsEquivalence eq → (expected : V → List ℕ) (said : List (Said V)) (number : ℕ) (v : V) (m : ℕ) (s : Said V) → IsOfEquals eq expected
+      → slice_get said m ≡ Some s → take (m + 1) said ≡ take m said ++ s ∷ [] → m < length said
+      → votes eq (take m said) (expected v) v < number → number ≤ votes eq (take (m + 1) said) (expected v) v → Brings expected said number m
   unfolding counts has_number
-  bringing laws nodes said number v m s at more inside few many = by (is_among nodes s.node) refl (list_any (is_from s.node) (take m said)) refl (eq v s.value) refl
+  bringing laws expected said number v m s equals at more inside few many =
+      by (is_among (expected v) s.node) refl (list_any (is_from s.node) (take m said)) refl (eq v s.value) refl
     where
-      fails : (is_among nodes s.node ≡ true → list_any (is_from s.node) (take m said) ≡ false → eq v s.value ≡ true → ⊥) → Brings nodes said number m
-      fails never = absurd (omega (arith, few, many, ap (λ l. votes eq l nodes v) more, no_more_votes (take m said) s nodes v never))
+      fails : (is_among (expected v) s.node ≡ true → list_any (is_from s.node) (take m said) ≡ false → eq v s.value ≡ true → ⊥) → Brings expected said number m
+      fails never = absurd (omega (arith, few, many, ap (λ l. votes eq l (expected v) v) more, no_more_votes (take m said) s (expected v) v never))
 
-      by : (a : Bool) → is_among nodes s.node ≡ a → (b : Bool) → list_any (is_from s.node) (take m said) ≡ b → (c : Bool) → eq v s.value ≡ c → Brings nodes said number m
+      brings : is_among (expected s.value) s.node ≡ true → list_any (is_from s.node) (take m said) ≡ false → number ≤ votes eq (take (m + 1) said) (expected s.value) s.value
+          → Brings expected said number m
+      brings among before enough = record {
+        within = inside;
+        counted = ap (λ o. option_map_or (λ (x : Said V). is_among (expected x.value) x.node && not (list_any (is_from x.node) (take m said))) o false) at ∙ (λ j. among j && not (before j));
+        numbered = ap (λ o. option_map_or (λ (x : Said V). leb number (votes eq (take (m + 1) said) (expected x.value) x.value)) o false) at
+            ∙ le-leb number (votes eq (take (m + 1) said) (expected s.value) s.value) enough;
+      }
+
+      by : (a : Bool) → is_among (expected v) s.node ≡ a → (b : Bool) → list_any (is_from s.node) (take m said) ≡ b → (c : Bool) → eq v s.value ≡ c → Brings expected said number m
       by false among b before c same = fails (λ p q r. false≢true (sym among ∙ p))
       by true among true before c same = fails (λ p q r. false≢true (sym q ∙ before))
       by true among false before false same = fails (λ p q r. false≢true (sym same ∙ r))
-      by true among false before true same = record {
-        within = inside;
-        counted = ap (λ o. option_map_or (λ (x : Said V). is_among nodes x.node && not (list_any (is_from x.node) (take m said))) o false) at ∙ (λ j. among j && not (before j));
-        numbered = ap (λ o. option_map_or (λ (x : Said V). leb number (votes eq (take (m + 1) said) nodes x.value)) o false) at
-            ∙ le-leb number (votes eq (take (m + 1) said) nodes s.value) (omega (arith, many, votes-congr eq laws (take (m + 1) said) nodes v s.value same));
-      }
+      by true among false before true same =
+          let nodes : expected v ≡ expected s.value = equals v s.value same in
+          brings (subst (λ ns. is_among ns s.node ≡ true) nodes among) before
+          (omega (arith, many, votes-congr eq laws (take (m + 1) said) (expected v) v s.value same, ap (λ ns. votes eq (take (m + 1) said) ns s.value) nodes))
 
   no_votes : (nodes : List ℕ) (v : V) → 0 < votes eq [] nodes v → ⊥
   unfolding first_from
   no_votes nodes v some = let (node, w, first, same, among) = voted [] nodes v some in cc
 
   -- a value that has so many votes among the first arrivals was brought to them by one of these
-  brought : IsEquivalence eq → (nodes : List ℕ) (said : List (Said V)) (number : ℕ) (v : V) → 1 ≤ number → (arrivals : ℕ) → number ≤ votes eq (take arrivals said) nodes v
-      → (place : ℕ) × (place < arrivals) × Brings nodes said number place
-  brought laws nodes said number v some zero many = absurd (no_votes nodes v (omega arith))
-  brought laws nodes said number v some (suc m) many =
+  brought : IsEquivalence eq → (expected : V → List ℕ) (said : List (Said V)) (number : ℕ) (v : V) → IsOfEquals eq expected → 1 ≤ number → (arrivals : ℕ) → number ≤ votes eq (take arrivals said) (expected v) v
+      → (place : ℕ) × (place < arrivals) × Brings expected said number place
+  brought laws expected said number v equals some zero many = absurd (no_votes (expected v) v (omega arith))
+  brought laws expected said number v equals some (suc m) many =
       ⊎_elim
-      (λ inside. ⊎_elim (λ few. here inside few) (λ enough. earlier (brought laws nodes said number v some m enough)) (cases_lt (votes eq (take m said) nodes v) number))
+      (λ inside. ⊎_elim (λ few. here inside few) (λ enough. earlier (brought laws expected said number v equals some m enough)) (cases_lt (votes eq (take m said) (expected v) v) number))
       (λ past.
       let same : take (suc m) said ≡ take m said = take_all (suc m) said (omega arith) ∙ sym (take_all m said past) in
-      earlier (brought laws nodes said number v some m (omega (arith, many, ap (λ l. votes eq l nodes v) same))))
+      earlier (brought laws expected said number v equals some m (omega (arith, many, ap (λ l. votes eq l (expected v) v) same))))
       (cases_lt m (length said))
     where
-      earlier : (place : ℕ) × (place < m) × Brings nodes said number place → (place : ℕ) × (place < suc m) × Brings nodes said number place
+      earlier : (place : ℕ) × (place < m) × Brings expected said number place → (place : ℕ) × (place < suc m) × Brings expected said number place
       earlier (place, less, brings) = (place, omega arith, brings)
 
-      here : m < length said → votes eq (take m said) nodes v < number → (place : ℕ) × (place < suc m) × Brings nodes said number place
+      here : m < length said → votes eq (take m said) (expected v) v < number → (place : ℕ) × (place < suc m) × Brings expected said number place
       here inside few =
           let (s, at, more) = one_more said m inside in
           let next : suc m ≡ m + 1 = omega arith in
-          (m, omega arith, bringing laws nodes said number v m s at more inside few (omega (arith, many, ap (λ k. votes eq (take k said) nodes v) next)))
+          (m, omega arith, bringing laws expected said number v m s equals at more inside few (omega (arith, many, ap (λ k. votes eq (take k said) (expected v) v) next)))
 
   -- the first arrival that brings a value to a number, where there is one
-  reached_by : IsEquivalence eq → (nodes : List ℕ) (said : List (Said V)) (number : ℕ) (v : V) → 1 ≤ number → (arrivals : ℕ) → number ≤ votes eq (take arrivals said) nodes v
-      → (last : ℕ) × (reached eq (λ _. nodes) said number ≡ Some last) × (last < arrivals)
+  reached_by : IsEquivalence eq → (expected : V → List ℕ) (said : List (Said V)) (number : ℕ) (v : V) → IsOfEquals eq expected → 1 ≤ number → (arrivals : ℕ) → number ≤ votes eq (take arrivals said) (expected v) v
+      → (last : ℕ) × (reached eq expected said number ≡ Some last) × (last < arrivals)
   unfolding reached
-  reached_by laws nodes said number v some arrivals many =
-      let (place, less, brings) = brought laws nodes said number v some arrivals many in
-      by place less brings (first_place (λ k. counts (λ _. nodes) said k && has_number eq (λ _. nodes) said number k) (length said)) refl
+  reached_by laws expected said number v equals some arrivals many =
+      let (place, less, brings) = brought laws expected said number v equals some arrivals many in
+      by place less brings (first_place (λ k. counts expected said k && has_number eq expected said number k) (length said)) refl
     where
-      by : (place : ℕ) → place < arrivals → Brings nodes said number place → (o : Option ℕ)
-          → first_place (λ k. counts (λ _. nodes) said k && has_number eq (λ _. nodes) said number k) (length said) ≡ o
-          → (last : ℕ) × (first_place (λ k. counts (λ _. nodes) said k && has_number eq (λ _. nodes) said number k) (length said) ≡ Some last) × (last < arrivals)
+      by : (place : ℕ) → place < arrivals → Brings expected said number place → (o : Option ℕ)
+          → first_place (λ k. counts expected said k && has_number eq expected said number k) (length said) ≡ o
+          → (last : ℕ) × (first_place (λ k. counts expected said k && has_number eq expected said number k) (length said) ≡ Some last) × (last < arrivals)
       by place less brings None is =
-          absurd (false≢true (sym (first_place-none (λ k. counts (λ _. nodes) said k && has_number eq (λ _. nodes) said number k) (length said) is place brings.within)
+          absurd (false≢true (sym (first_place-none (λ k. counts expected said k && has_number eq expected said number k) (length said) is place brings.within)
           ∙ both_pass brings.counted brings.numbered))
       by place less brings (Some last) is =
-          let first = first_place-is (λ k. counts (λ _. nodes) said k && has_number eq (λ _. nodes) said number k) (length said) last is in
+          let first = first_place-is (λ k. counts expected said k && has_number eq expected said number k) (length said) last is in
           (last, is, ⊎_elim (λ sooner. absurd (false≢true (sym (first.before place sooner) ∙ both_pass brings.counted brings.numbered))) (λ not_sooner. omega arith) (cases_lt place last))
 
   equal_to_itself : IsEquivalence eq → (said : List (Said V)) (place : ℕ) (s : Said V) → slice_get said place ≡ Some s → have_equal eq said place place ≡ true
@@ -217,23 +231,23 @@ module _ {V : Type 0} (eq : V → V → Bool) where
   counted_at expected said place e =
       let (s, at, passes) = some_at said (λ x. is_among (expected x.value) x.node && not (list_any (is_from x.node) (take place said))) place e in (s, at)
 
-  reached_first : (nodes : List ℕ) (said : List (Said V)) (number last : ℕ) → reached eq (λ _. nodes) said number ≡ Some last
-      → IsFirst (λ k. counts (λ _. nodes) said k && has_number eq (λ _. nodes) said number k) last (length said)
+  reached_first : (expected : V → List ℕ) (said : List (Said V)) (number last : ℕ) → reached eq expected said number ≡ Some last
+      → IsFirst (λ k. counts expected said k && has_number eq expected said number k) last (length said)
   unfolding reached
-  reached_first nodes said number last e = first_place-is (λ k. counts (λ _. nodes) said k && has_number eq (λ _. nodes) said number k) (length said) last e
+  reached_first expected said number last e = first_place-is (λ k. counts expected said k && has_number eq expected said number k) (length said) last e
 
-  pub number_given : IsEquivalence eq → (nodes : List ℕ) (said : List (Said V)) (number : ℕ) (v : V) → 1 ≤ number → number ≤ votes eq said nodes v → IsSome (at_least eq (λ _. nodes) said number)
+  pub number_given : IsEquivalence eq → (expected : V → List ℕ) (said : List (Said V)) (number : ℕ) (v : V) → IsOfEquals eq expected → 1 ≤ number → number ≤ votes eq said (expected v) v → IsSome (at_least eq expected said number)
   unfolding at_least
-  number_given laws nodes said number v some many = some_of (λ none.
-      let (last, reach, within) = reached_by laws nodes said number v some (length said) (omega (arith, many, ap (λ l. votes eq l nodes v) (take_all (length said) said (omega arith)))) in
-      by last reach (sym (ap (λ o. option_and_then (λ m. first_place (λ k. counts (λ _. nodes) said k && have_equal eq said m k) (length said)) o) reach) ∙ none))
+  number_given laws expected said number v equals some many = some_of (λ none.
+      let (last, reach, within) = reached_by laws expected said number v equals some (length said) (omega (arith, many, ap (λ l. votes eq l (expected v) v) (take_all (length said) said (omega arith)))) in
+      by last reach (sym (ap (λ o. option_and_then (λ m. first_place (λ k. counts expected said k && have_equal eq said m k) (length said)) o) reach) ∙ none))
     where
-      by : (last : ℕ) → reached eq (λ _. nodes) said number ≡ Some last → first_place (λ k. counts (λ _. nodes) said k && have_equal eq said last k) (length said) ≡ None → ⊥
+      by : (last : ℕ) → reached eq expected said number ≡ Some last → first_place (λ k. counts expected said k && have_equal eq said last k) (length said) ≡ None → ⊥
       by last reach none =
-          let first = reached_first nodes said number last reach in
-          let (counts_here, numbered) = parts_of (counts (λ _. nodes) said last) (has_number eq (λ _. nodes) said number last) first.here in
-          let (s, at) = counted_at (λ _. nodes) said last counts_here in
-          false≢true (sym (first_place-none (λ k. counts (λ _. nodes) said k && have_equal eq said last k) (length said) none last first.below)
+          let first = reached_first expected said number last reach in
+          let (counts_here, numbered) = parts_of (counts expected said last) (has_number eq expected said number last) first.here in
+          let (s, at) = counted_at expected said last counts_here in
+          false≢true (sym (first_place-none (λ k. counts expected said k && have_equal eq said last k) (length said) none last first.below)
           ∙ both_pass counts_here (equal_to_itself laws said last s at))
 
   -- ---- the votes of a value that came to a number
@@ -268,7 +282,7 @@ module _ {V : Type 0} (eq : V → V → Bool) where
       let (s, found, passes) = some_at said (λ y. eq t.value y.value) place same in
       (t, s, record { last_at = at; place_at = found; same = passes; many = leb-true number (votes eq (take (last + 1) said) (expected t.value) t.value) many })
 
-  pub number_votes : IsEquivalence eq → (expected : V → List ℕ) (said : List (Said V)) (number place : ℕ) → ((v w : V) → eq v w ≡ true → expected v ≡ expected w)
+  pub number_votes : IsEquivalence eq → (expected : V → List ℕ) (said : List (Said V)) (number place : ℕ) → IsOfEquals eq expected
       → at_least eq expected said number ≡ Some place
       → (s : Said V) × (slice_get said place ≡ Some s) × (counts expected said place ≡ true) × (number ≤ votes eq said (expected s.value) s.value)
   number_votes laws expected said number place respects e =
@@ -282,19 +296,20 @@ module _ {V : Type 0} (eq : V → V → Bool) where
       let asked = ap (λ nodes. votes eq said nodes s.value) (respects t.value s.value n.same) in
       (s, n.place_at, counts_here, omega (arith, n.many, all, whole, moved, asked))
 
-  pub number_earliest : IsEquivalence eq → (nodes : List ℕ) (said : List (Said V)) (number place arrivals : ℕ) (s : Said V) (v : V) → 1 ≤ number
-      → at_least eq (λ _. nodes) said number ≡ Some place → slice_get said place ≡ Some s
-      → number ≤ votes eq (take arrivals said) nodes v → number ≤ votes eq (take arrivals said) nodes s.value
+  pub number_earliest : IsEquivalence eq → (expected : V → List ℕ) (said : List (Said V)) (number place arrivals : ℕ) (s : Said V) (v : V) → IsOfEquals eq expected → 1 ≤ number
+      → at_least eq expected said number ≡ Some place → slice_get said place ≡ Some s
+      → number ≤ votes eq (take arrivals said) (expected v) v → number ≤ votes eq (take arrivals said) (expected s.value) s.value
   unfolding reached
-  number_earliest laws nodes said number place arrivals s v some e is many =
-      let r = reaching eq (λ _. nodes) said number place e in
-      let (last, reach, within) = reached_by laws nodes said number v some arrivals many in
-      let only = first_place-only (λ k. counts (λ _. nodes) said k && has_number eq (λ _. nodes) said number k) (length said) r.last r.reach in
+  number_earliest laws expected said number place arrivals s v equals some e is many =
+      let r = reaching eq expected said number place e in
+      let (last, reach, within) = reached_by laws expected said number v equals some arrivals many in
+      let only = first_place-only (λ k. counts expected said k && has_number eq expected said number k) (length said) r.last r.reach in
       let same : last ≡ r.last = cc in
-      let (counts_there, enough) = parts_of (counts (λ _. nodes) said r.last) (has_number eq (λ _. nodes) said number r.last) r.reach.here in
-      let (counts_here, equal) = parts_of (counts (λ _. nodes) said place) (have_equal eq said r.last place) r.first_equal.here in
-      let (t, s', n) = numbered_at (λ _. nodes) said number place r.last enough equal in
+      let (counts_there, enough) = parts_of (counts expected said r.last) (has_number eq expected said number r.last) r.reach.here in
+      let (counts_here, equal) = parts_of (counts expected said place) (have_equal eq said r.last place) r.first_equal.here in
+      let (t, s', n) = numbered_at expected said number place r.last enough equal in
       let value : s' ≡ s = cc in
-      let up = votes_prefix said nodes t.value (r.last + 1) arrivals (omega (arith, within, same)) in
-      let moved = votes-congr eq laws (take arrivals said) nodes t.value s'.value n.same in
-      omega (arith, n.many, up, moved, ap (λ (x : Said V). votes eq (take arrivals said) nodes x.value) value)
+      let up = votes_prefix said (expected t.value) t.value (r.last + 1) arrivals (omega (arith, within, same)) in
+      let moved = votes-congr eq laws (take arrivals said) (expected t.value) t.value s'.value n.same in
+      let asked = ap (λ nodes. votes eq (take arrivals said) nodes s'.value) (equals t.value s'.value n.same) in
+      omega (arith, n.many, up, moved, asked, ap (λ (x : Said V). votes eq (take arrivals said) (expected x.value) x.value) value)

@@ -1,5 +1,5 @@
 -- Which value is taken from what several nodes said, in order of arrival.
-use Rattle.std.specs.Prelude.{ℕ, zero, suc, ◌+◌, ◌*◌, Bool, true, false, not, ◌&&◌, ◌||◌, ◌==◌, nat_lt, nat_le, if◌then◌else◌, List, length, take, count_by, find, Option, None, Some, is_none, option_map, option_and_then, slice_get}
+use Rattle.std.specs.Prelude.{◌≡◌, ℕ, zero, suc, ◌+◌, ◌*◌, Bool, true, false, not, ◌&&◌, ◌||◌, ◌==◌, nat_lt, nat_le, if◌then◌else◌, List, length, take, count_by, find, Option, None, Some, is_none, option_map, option_and_then, slice_get}
 use Rattle.std.specs.List.{list_any, list_all}
 use Rattle.std.specs.Option.{option_map_or}
 use Rattle.circus_value.specs.Among.{is_among}
@@ -49,6 +49,10 @@ module _ {V : Type 0} where
     -- the first place with another value than place 0 has
     unfoldable pub first_difference : List (Said V) → Option ℕ
     first_difference said = first_place (λ place. not (have_equal said 0 place)) (length said)
+
+    -- the same nodes are expected to say equal values
+    abbrev pub IsOfEquals : (V → List ℕ) → Type 0
+    IsOfEquals expected = (v w : V) → eq v w ≡ true → expected v ≡ expected w
 
     -- `expected` has the nodes that are expected to say a value
     module _ (expected : V → List ℕ) (said : List (Said V)) where

@@ -14,26 +14,31 @@ pub fn given_values_were_said<V: Eq>()
 {}
 
 /// Under `Majority` and `AtLeast` a value is given exactly where more than half of those that are expected to say
-/// it, or so many of them, said it first. The one that is given is the first that counts of its value.
+/// it, or so many of them, said it first. The one that is given is the first that counts of its value. Who is expected
+/// may depend on the value, where equal values are expected of the same nodes.
 pub fn values_are_given_by_votes<V: Eq>()
     ensures majority { (expected : V → List ℕ) (said : List (Arrival V)) (place : ℕ) → giving.majority V.eq expected said ≡ Some place
         → (s : Arrival V) × (slice_get said place ≡ Some s) × (giving.counts expected said place ≡ true)
         × (length (expected s.value) < 2 * giving.votes V.eq said (expected s.value) s.value) }
-    ensures number { (expected : V → List ℕ) (said : List (Arrival V)) (number place : ℕ) → ((v w : V) → V.eq v w ≡ true → expected v ≡ expected w)
+    ensures number { (expected : V → List ℕ) (said : List (Arrival V)) (number place : ℕ) → giving.IsOfEquals V.eq expected
         → giving.at_least V.eq expected said number ≡ Some place
         → (s : Arrival V) × (slice_get said place ≡ Some s) × (giving.counts expected said place ≡ true)
         × (number ≤ giving.votes V.eq said (expected s.value) s.value) }
 
     // A value that has the votes is not passed over.
-    ensures some_majority { (nodes : List ℕ) (said : List (Arrival V)) (value : V)
-        → length nodes < 2 * giving.votes V.eq said nodes value → IsSome (giving.majority V.eq (λ _. nodes) said) }
-    ensures some_number { (nodes : List ℕ) (said : List (Arrival V)) (number : ℕ) (value : V) → 1 ≤ number
-        → number ≤ giving.votes V.eq said nodes value → IsSome (giving.at_least V.eq (λ _. nodes) said number) }
+    ensures some_majority { (expected : V → List ℕ) (said : List (Arrival V)) (value : V) → giving.IsOfEquals V.eq expected
+        → length (expected value) < 2 * giving.votes V.eq said (expected value) value
+        → IsSome (giving.majority V.eq expected said) }
+    ensures some_number { (expected : V → List ℕ) (said : List (Arrival V)) (number : ℕ) (value : V)
+        → giving.IsOfEquals V.eq expected → 1 ≤ number
+        → number ≤ giving.votes V.eq said (expected value) value → IsSome (giving.at_least V.eq expected said number) }
 
     // Of two values that were said so often, the one that came to it first is given.
-    ensures earliest { (nodes : List ℕ) (said : List (Arrival V)) (number place arrivals : ℕ) (s : Arrival V) (value : V) → 1 ≤ number
-        → giving.at_least V.eq (λ _. nodes) said number ≡ Some place → slice_get said place ≡ Some s
-        → number ≤ giving.votes V.eq (take arrivals said) nodes value → number ≤ giving.votes V.eq (take arrivals said) nodes s.value }
+    ensures earliest { (expected : V → List ℕ) (said : List (Arrival V)) (number place arrivals : ℕ) (s : Arrival V) (value : V)
+        → giving.IsOfEquals V.eq expected → 1 ≤ number
+        → giving.at_least V.eq expected said number ≡ Some place → slice_get said place ≡ Some s
+        → number ≤ giving.votes V.eq (take arrivals said) (expected value) value
+        → number ≤ giving.votes V.eq (take arrivals said) (expected s.value) s.value }
 {}
 
 /// Where all that was said is equal, no collator differs.

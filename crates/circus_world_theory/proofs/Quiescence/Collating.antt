@@ -120,8 +120,8 @@ module _ {V : Type 0} (eq : V → V → Bool) (laws : IsEquivalence eq) (nodes :
     all_given K.First down within = first_given
     all_given K.Watchdog down within = first_given
     all_given K.Unanimous down within = unanimous_given down
-    all_given K.Majority down within = (let many = votes_all in let some = all.some in majority_given eq laws nodes said first_said.0.value (omega (arith, many, some)))
-    all_given (K.AtLeast number) down within = (let many = votes_all in number_given eq laws nodes said number first_said.0.value within.0 (omega (arith, many, within.1)))
+    all_given K.Majority down within = (let many = votes_all in let some = all.some in majority_given eq laws (λ _. nodes) said first_said.0.value (λ v w h. refl) (omega (arith, many, some)))
+    all_given (K.AtLeast number) down within = (let many = votes_all in number_given eq laws (λ _. nodes) said number first_said.0.value (λ v w h. refl) within.0 (omega (arith, many, within.1)))
 
 -- ---- where the nodes that are expected depend on the value, but are the same for all that was said
 

@@ -19,10 +19,11 @@ pub returns-clause-number : goal.returns-clause-number
 returns-clause-number g c expected said number place respects e = number_votes g.V.PartialEq.eq g.met.V.Eq.laws expected said number place respects e
 
 pub returns-clause-some_majority : goal.returns-clause-some_majority
-returns-clause-some_majority g c nodes said v many = majority_given g.V.PartialEq.eq g.met.V.Eq.laws nodes said v many
+returns-clause-some_majority g c expected said v equals many = majority_given g.V.PartialEq.eq g.met.V.Eq.laws expected said v equals many
 
 pub returns-clause-some_number : goal.returns-clause-some_number
-returns-clause-some_number g c nodes said number v some many = number_given g.V.PartialEq.eq g.met.V.Eq.laws nodes said number v some many
+returns-clause-some_number g c expected said number v equals some many = number_given g.V.PartialEq.eq g.met.V.Eq.laws expected said number v equals some many
 
 pub returns-clause-earliest : goal.returns-clause-earliest
-returns-clause-earliest g c nodes said number place arrivals s v some e is many = number_earliest g.V.PartialEq.eq g.met.V.Eq.laws nodes said number place arrivals s v some e is many
+returns-clause-earliest g c expected said number place arrivals s v equals some e is many =
+    number_earliest g.V.PartialEq.eq g.met.V.Eq.laws expected said number place arrivals s v equals some e is many
