@@ -21,6 +21,7 @@ mod PlacesFound
 mod ProceduresFound
 mod Progressing
 mod Reaching
+mod ReachingByImports
 mod ReadModules
 mod RegularShapes
 pub mod SameLeast

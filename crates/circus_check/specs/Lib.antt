@@ -1,5 +1,6 @@
 pub mod Naming
 pub mod Reach
+pub mod ReachByImports
 pub mod Scope
 pub mod Faults
 pub mod Plain

@@ -1,5 +1,5 @@
 // What holds of every list of modules.
-ghost use Rattle.std.specs.Prelude.{◌≡◌, ℕ, List, [], None};
+ghost use Rattle.std.specs.Prelude.{◌≡◌, ◌↔◌, ℕ, true, List, [], None};
 ghost use Rattle.std.specs.List.{AllByRecursion};
 ghost use Rattle.circus_fault.specs.Least.{least_from};
 ghost use Rattle.circus_resolve.specs.Causes.{rank};
@@ -9,6 +9,8 @@ ghost use Rattle.circus_lang.specs.ModuleTree.{ModuleTree};
 ghost use Rattle.circus_check.specs.Faults.{faults};
 ghost use Rattle.circus_check.specs.Meaning.{modules_meant};
 ghost use Rattle.circus_check.specs.Plain.{all, AreInOrder, HaveSameLeast};
+ghost use Rattle.circus_check.specs.Reach.{reaches};
+ghost use Rattle.circus_check.specs.ReachByImports.{ReachesByImports};
 ghost use Rattle.circus_check.specs.Read.{IsRead};
 ghost use Rattle.circus_check.specs.TextOrder.{AreModulesOf};
 ghost use Rattle.circus_check.specs.WellFormed.{AreWellFormed};
@@ -25,6 +27,11 @@ pub fn least_is_of_all()
 pub fn faultless_are_well_formed()
     ensures { (interfaces : List Interface) (modules : List ModuleTree) → AllByRecursion Obeys interfaces → AllByRecursion IsRead modules
         → faults interfaces modules ≡ [] → AreWellFormed interfaces (modules_meant interfaces modules 0 modules) }
+{}
+
+/// A module reaches another one where its imports, and theirs, come to it, step by step.
+pub fn reach_is_by_imports()
+    ensures { (modules : List ModuleTree) (i j : ℕ) → (reaches modules i j ≡ true) ↔ ReachesByImports modules i j }
 {}
 
 /// Modules that stand one behind the other in a text are in order: what is wrong in a body stands behind all that is

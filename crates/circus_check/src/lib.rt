@@ -26,4 +26,5 @@ pub use checked::{
 pub use checking::check;
 pub use laws::{
     faultless_are_well_formed, least_is_of_all, least_is_of_all_in_a_text, modules_are_in_order,
+    reach_is_by_imports,
 };
