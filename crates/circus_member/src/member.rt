@@ -7,7 +7,7 @@ ghost use Rattle.circus_member_step.specs.Step as step;
 ghost use Rattle.circus_member_step.specs.Happening.{IsHome, CanHappen};
 ghost use Rattle.circus_member_step.specs.GoneOn.{HasGoneOn};
 ghost use Rattle.circus_member_step.specs.Seen.Sound.{IsRested};
-ghost use Rattle.circus_performing.specs.Record.{behaviour};
+ghost use Rattle.circus_performing.specs.Record.{behaviour, IsRecord};
 
 use crate::doing::Doing;
 use circus_collate::Views;
@@ -128,7 +128,8 @@ impl<M: Module> Member<M> {
 
     /// What the member did. It takes no memory.
     pub fn record(&self) -> &MemberRecord
-        ensures { result.now ≡ self.now.performing.kept }
+        ensures value { result.now ≡ self.now.performing.kept }
+        ensures kept { let p = self.now.performing in IsRecord (behaviour M.declared M.turn M.first p.hosted) p.began p.kept }
     {
         self.performer.record()
     }

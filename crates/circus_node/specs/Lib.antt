@@ -1,5 +1,6 @@
 pub mod Node
 pub mod NodeState
+pub mod Recorded
 pub mod Making
 pub mod Sending
 pub mod Step

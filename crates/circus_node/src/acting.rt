@@ -7,6 +7,7 @@ ghost use Rattle.circus_ring.specs.TableFields.{IsTable};
 ghost use Rattle.circus_member_step.specs.Happening.{CanHappen};
 ghost use Rattle.circus_node.specs.NodeState.{member as hosting, ringmaster};
 ghost use Rattle.circus_node.specs.Making as making;
+ghost use Rattle.circus_node.specs.Recorded.{IsRecorded};
 ghost use Rattle.circus_node.specs.Booting as booting;
 ghost use Rattle.circus_accepting.specs.Accepting.{IsMemberOf};
 ghost use Rattle.circus_node.specs.Seen.Kept.{IsRingOf, IsActing, MayStand};
@@ -245,7 +246,8 @@ impl<M: Module> Acting<M> {
 
     /// What the member did. `None` exactly at the Ringmaster's node. It takes no memory.
     pub fn record(&self) -> Option<&MemberRecord>
-        ensures { option_copied result ≡ record_of self.now }
+        ensures value { option_copied result ≡ record_of self.now }
+        ensures kept { IsRecorded M.declared M.turn M.first self.now }
     {
         match &self.role {
             Role::Member(member) => Some(member.record()),

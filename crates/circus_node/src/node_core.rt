@@ -10,6 +10,7 @@ ghost use Rattle.circus_node.specs.Step as step;
 ghost use Rattle.circus_node.specs.Trace as trace;
 ghost use Rattle.circus_node.specs.Trace.{Trace, StandsFor, effects_in, effects_at_boot};
 ghost use Rattle.circus_node.specs.Node.{IsNodeOf, GoToOthers};
+ghost use Rattle.circus_node.specs.Recorded.{IsRecorded};
 ghost use Rattle.circus_node.specs.Seen.Kept.{IsActing};
 ghost use Rattle.circus_node.specs.Seen.StationOf.{node_of, IsStation};
 ghost use Rattle.circus_node.specs.NodeState.{member_record as record_of, ring_views as views_of};
@@ -123,7 +124,8 @@ impl<M: Module> NodeCore<M> {
 
     /// What the member did. `None` exactly at the Ringmaster's node. It takes no memory.
     pub fn member_record(&self) -> Option<&MemberRecord>
-        ensures { option_copied result ≡ record_of self.now.acting }
+        ensures value { option_copied result ≡ record_of self.now.acting }
+        ensures kept { IsRecorded M.declared M.turn M.first self.now.acting }
     {
         self.acting.record()
     }

@@ -4,6 +4,8 @@ ghost use Rattle.circus_collate.specs.Deployment.{IsDeployment};
 ghost use Rattle.circus_schedule.specs.Meaning.{NamesBelow};
 ghost use Rattle.circus_node.specs.NodeState.{member_record as record_of, ring_views as views_of};
 ghost use Rattle.circus_node.specs.Booting.{AreOfTroupes};
+ghost use Rattle.circus_node.specs.Recorded.{IsRecorded};
+ghost use Rattle.circus_world.specs.WorldState.{Standing};
 ghost use Rattle.circus_world.specs.Legal as legal;
 ghost use Rattle.circus_world.specs.Legal.{refusal};
 ghost use Rattle.circus_world.specs.Course as course;
@@ -170,7 +172,9 @@ impl<M: Module> World<M> {
     /// takes no memory.
     pub fn kept(&self, node: u16) -> Option<&MemberRecord>
         requires { node < length self.now.nodes }
-        ensures { option_copied result ≡ option_and_then (λ s. record_of s.node.acting) (slice_get self.now.nodes node) }
+        ensures value { option_copied result ≡ option_and_then (λ s. record_of s.node.acting) (slice_get self.now.nodes node) }
+        ensures kept { (s : Standing M) → slice_get self.now.nodes node ≡ Some s
+            → IsRecorded M.declared M.turn M.first s.node.acting }
     {
         self.core(node).member_record()
     }
