@@ -6,19 +6,17 @@ use Rattle.std.proofs.lemmas.Option.{same_Some, slice_get_past}
 use Rattle.circus_value.proofs.PartLemmas.{slice_get-append_left, slice_get-append_right}
 use Rattle.circus_value.specs.ShapeTree.{ShapeTree}
 use Rattle.circus_value.specs.ShapeOf.{tree_of}
-use Rattle.circus_value.specs.Among.{is_among}
 use Rattle.circus_type.specs.declared.measuring.Measure.{Measure}
 use Rattle.circus_type.specs.Seen.Measured.{measure_of}
 use Rattle.circus_resolve.specs.Scope.{Standing, a_type}
 use Rattle.circus_idl.specs.Meaning.{standing_for}
-use Rattle.circus_body.specs.Context.{Reported, Offered}
+use Rattle.circus_body.specs.Context.{Offered}
 use Rattle.circus_idl.specs.declared.interface.DeclaredType.{DeclaredType}
-use Rattle.circus_idl.specs.declared.interface.DeclaredError.{DeclaredError}
 use Rattle.circus_idl.specs.declared.interface.Procedure.{Procedure}
 use Rattle.circus_idl.specs.declared.interface.Interface.{Interface}
 use Rattle.circus_check.specs.declared.known.Known.{Known}
 use Rattle.circus_check.specs.Seen.Known.{TellsInterface}
-use Rattle.circus_check.specs.Scope.{types_behind, shape_or, error_of, errors_behind, offered_by, offered_behind}
+use Rattle.circus_check.specs.Scope.{types_behind, shape_or, offered_by, offered_behind}
 
 -- the sizes stay those of the types
 pub sizes_more : (bs : List ℕ) (s : ShapeTree) (size : Measure) (types types' : List ℕ → Standing) (sizes sizes' : List ℕ → Measure) → size ≡ measure_of s
@@ -29,18 +27,6 @@ sizes_more bs s size types types' sizes sizes' size_is types_are sizes_are befor
     more : (b : Bool) (x : Standing) → cond b (measure_of s) (measure_of (shape_or x)) ≡ measure_of (shape_or (cond b (a_type s) x))
     more true x = refl
     more false x = refl
-
--- where nothing is reported no error is
-pub none_reported : (numbers : List ℕ) → numbers ≡ [] → (es : List DeclaredError) (earlier : List ℕ → Option Reported) → errors_behind numbers es earlier ≡ earlier
-none_reported numbers none [] earlier = refl
-none_reported numbers none (e ∷ es) earlier =
-    ap (λ ns. errors_behind numbers es (cond (is_among ns e.number) (standing_for e.name (Some (error_of e)) earlier) earlier)) none ∙ none_reported numbers none es earlier
-
--- one error more, which is reported or not
-pub errors_step : (numbers : List ℕ) (e : DeclaredError) (es : List DeclaredError) (earlier later : List ℕ → Option Reported) (whole : List ℕ → Option Reported) (b : Bool) → is_among numbers e.number ≡ b
-    → later ≡ cond b (standing_for e.name (Some (error_of e)) earlier) earlier → errors_behind numbers (e ∷ es) earlier ≡ whole → errors_behind numbers es later ≡ whole
-errors_step numbers e es earlier later whole b is later_is before =
-    ap (errors_behind numbers es) (later_is ∙ ap (λ c. cond c (standing_for e.name (Some (error_of e)) earlier) earlier) (sym is)) ∙ before
 
 -- one type more
 pub types_step : (t : DeclaredType) (ts : List DeclaredType) (earlier later : List ℕ → Standing) (whole : List ℕ → Standing) → later ≡ standing_for t.name (a_type (tree_of t.shape)) earlier

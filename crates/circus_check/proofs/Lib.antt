@@ -24,6 +24,7 @@ mod Reaching
 mod ReachingByImports
 mod ReadModules
 mod RegularShapes
+mod ReportsFound
 pub mod SameLeast
 mod Standings
 mod Surrounded

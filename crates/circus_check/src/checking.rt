@@ -80,6 +80,7 @@ pub fn check(
 }
 
 fn known_all(alloc: Global, interfaces: &[Interface]) -> Result<Vec<Known<'_>>, NoMemory>
+    requires { AllByRecursion Obeys interfaces.now }
     ensures { IfOk result (λ known. AreTold known.items interfaces.now) }
 {
     let mut known = Vec::new(alloc);

@@ -1,14 +1,13 @@
 // Interfaces as their names are found.
-ghost use Rattle.std.specs.Prelude.{◌≡◌, IfOk};
-ghost use Rattle.circus_body.specs.Seen.Named.{offered_as};
-ghost use Rattle.circus_check.specs.Scope.{offered_by};
-ghost use Rattle.circus_check.specs.Seen.Known.{TellsInterface, TellsNothing};
+ghost use Rattle.std.specs.Prelude.{IfOk, OnOk};
+ghost use Rattle.circus_idl.specs.Obeys.{Obeys};
+ghost use Rattle.circus_check.specs.Seen.Known.{TellsInterface, TellsNothing, TellApart, AddsError, OffersOver};
 
 use circus_body::{Offered, OfferedProcedures, Reported};
-use circus_idl::{Interface, Procedure};
+use circus_idl::{ErrorsByNumber, Interface, Procedure};
 use circus_resolve::Types;
 use circus_type::{Measure, shape_measure};
-use circus_value::{NoMemory, is_among};
+use circus_value::NoMemory;
 use std::alloc::Global;
 use std::collections::BTreeMap;
 
@@ -42,8 +41,10 @@ impl<'s> Known<'s> {
 
     /// The types, errors and procedures of an interface by their names, or `NoMemory`.
     pub fn of(alloc: Global, interface: &'s Interface) -> Result<Self, NoMemory>
+        requires { Obeys interface.now }
         ensures { IfOk result (λ known. TellsInterface known interface.now) }
     {
+        let errors = ErrorsByNumber::new(alloc, interface.errors.as_slice())?;
         let mut known = Known::nothing(alloc);
         known.order = interface.procedures.as_slice();
         for declared in interface.types.as_slice() {
@@ -52,7 +53,7 @@ impl<'s> Known<'s> {
             known.sizes.insert(name, shape_measure(&declared.shape))?;
         }
         for procedure in interface.procedures.as_slice() {
-            let offered = offered(alloc, interface, procedure)?;
+            let offered = offered(alloc, &errors, procedure)?;
             known
                 .procedures
                 .table
@@ -62,25 +63,36 @@ impl<'s> Known<'s> {
     }
 }
 
-// A procedure as those know it who call it.
+// Adds the error of a number to those that a procedure reports, where there is one.
+fn put_error<'s>(
+    reported: &mut BTreeMap<&'s [u8], Reported<'s>>,
+    errors: &ErrorsByNumber<'s>,
+    number: u16,
+) -> Result<(), NoMemory>
+    ensures { OnOk result (AddsError errors.now.errors.now number reported.old reported.new) }
+{
+    if let Some(error) = errors.error(number) {
+        let values = Reported {
+            number: error.number,
+            values: &error.arguments,
+        };
+        reported.insert(error.name.as_slice(), values)?;
+    }
+    Ok(())
+}
+
+// A procedure that reports some of these errors, as those know it who call it.
 fn offered<'s>(
     alloc: Global,
-    interface: &'s Interface,
+    errors: &ErrorsByNumber<'s>,
     procedure: &'s Procedure,
 ) -> Result<Offered<'s>, NoMemory>
-    ensures { IfOk result (λ offered. offered_as offered ≡ offered_by interface.now procedure.now) }
+    requires { TellApart errors.now.errors.now }
+    ensures { IfOk result (OffersOver errors.now.errors.now procedure.now) }
 {
     let mut reported = BTreeMap::new(alloc);
-    if !procedure.reports.is_empty() {
-        for error in interface.errors.as_slice() {
-            if is_among(procedure.reports.as_slice(), error.number) {
-                let values = Reported {
-                    number: error.number,
-                    values: &error.arguments,
-                };
-                reported.insert(error.name.as_slice(), values)?;
-            }
-        }
+    for number in procedure.reports.as_slice() {
+        put_error(&mut reported, errors, *number)?;
     }
     Ok(Offered {
         number: procedure.number,

@@ -1,7 +1,9 @@
 use Rattle.std.proofs.Common.{◌≡◌, ◌∷◌, [], ◌∙◌, refl, ap, subst, arith, length, length-append, Some}
 use Rattle.std.specs.Prelude.{slice_get}
 use Rattle.std.proofs.lemmas.Option.{slice_get_read}
+use Rattle.circus_idl.specs.Obeys.{Obeys}
 use Rattle.circus_check.proofs.KnownTables.{told_more}
+use Rattle.circus_check.proofs.Named.{at_place}
 use Rattle.circus_check.proofs.checking.known_all.Goals as goal
 
 pub loop-interface-preserved : goal.loop-interface-preserved
@@ -17,3 +19,9 @@ loop-interface-preserved c =
       as_many = omega (arith, ap length more, length-append known (k ∷ []), before.as_many);
       each = λ n t j here at. told_more known k interfaces i there c.in_ok-of.ensures before.each n t j (subst (λ xs. slice_get xs n ≡ Some t) more here) at;
     }
+
+pub of-requires : goal.of-requires
+of-requires c =
+    let interfaces = c.args.interfaces.now in
+    at_place Obeys interfaces c.loop-interface.interface-index c.interface-item.result c.requires
+    (slice_get_read interfaces (length interfaces) c.loop-interface.interface-index c.interface-item.result refl c.loop-interface-test.true c.interface-item.is)

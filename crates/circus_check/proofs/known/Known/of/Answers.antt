@@ -13,8 +13,9 @@ use Rattle.circus_body.specs.Seen.Named.{offered_as, offered_in}
 use Rattle.circus_idl.specs.Meaning.{standing_for}
 use Rattle.circus_check.specs.Scope.{types_behind, types_among, shape_or, offered_behind}
 use Rattle.circus_check.specs.Scope as scope
-use Rattle.circus_check.specs.Seen.Known.{size_named}
+use Rattle.circus_check.specs.Seen.Known.{TellApart, size_named, offered_over}
 use Rattle.circus_check.proofs.KnownTables.{types_step, sizes_more, offers_step}
+use Rattle.circus_check.proofs.ReportsFound.{tell_apart}
 use Rattle.circus_check.proofs.Tables.{put_by}
 use Rattle.circus_check.proofs.known.Known.of.Goals as goal
 
@@ -69,11 +70,12 @@ loop-procedure-preserved c =
     let interface = c.args.interface.now in
     let whole = scope.offered_in interface in
     let o = offered_as c.in_ok-offered.offered in
-    let put = put_by (option_map offered_as) c.as_slice.result.now old.procedures.table c.insert-in-loop-procedure.new.self c.in_ok-offered.offered c.in_ok-insert-3.ensures.updates ∙ ap (λ n. standing_for n (Some o) (offered_in old.procedures)) c.as_slice.ensures in
+    let over = c.in_ok-offered.ensures ∙ ap (λ es. offered_over es p) (c.in_ok-errors.ensures ∙ c.as_slice.ensures) in
+    let put = put_by (option_map offered_as) c.as_slice-in-loop-procedure.result.now old.procedures.table c.insert-in-loop-procedure.new.self c.in_ok-offered.offered c.in_ok-insert-3.ensures.updates ∙ ap (λ n. standing_for n (Some o) (offered_in old.procedures)) c.as_slice-in-loop-procedure.ensures in
     record {
       types = before.types;
       sizes = before.sizes;
-      offers = offers_step interface p rest (offered_in old.procedures) _ whole o c.in_ok-offered.ensures put (subst (λ ps. offered_behind interface ps (offered_in old.procedures) ≡ whole) (drop_more items i p c.loop-procedure-test.true c.procedure-item.is) before.offers);
+      offers = offers_step interface p rest (offered_in old.procedures) _ whole o over put (subst (λ ps. offered_behind interface ps (offered_in old.procedures) ≡ whole) (drop_more items i p c.loop-procedure-test.true c.procedure-item.is) before.offers);
       order = before.order;
     }
 
@@ -84,3 +86,7 @@ returns c = record {
   offers_are = ap (λ ps. offered_behind c.args.interface.now ps (offered_in c.loop-procedure.known.procedures)) (sym (drop_all c.loop-procedure.procedure-index c.as_slice-procedure-items.result.now c.loop-procedure-test.false)) ∙ c.loop-procedure.invariant.offers;
   order_is = c.loop-procedure.invariant.order;
 }
+
+pub offered-requires : goal.offered-requires
+offered-requires c =
+    subst TellApart (sym (c.in_ok-errors.ensures ∙ c.as_slice.ensures)) (tell_apart c.args.interface.now c.requires)
