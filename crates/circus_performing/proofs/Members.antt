@@ -18,6 +18,7 @@ use Rattle.circus_record.specs.declared.record.AskRecord.{AskRecord}
 use Rattle.circus_record.specs.declared.record.RunRecord.{RunRecord}
 use Rattle.circus_record.specs.declared.record.MemberRecord.{MemberRecord}
 use Rattle.circus_performing.specs.declared.start.RunStart.{RunStart}
+use Rattle.circus_performing.specs.declared.performer.Held.{Held}
 use Rattle.circus_performing.specs.Performing.{Performing, state_after, clock_after, replies_of, last_of, front_of, is_active, is_fetching, active_record, begun, refusal, made_ask, with_ask, with_refusal, ended_run, gone_on, with_run, most_turns, last_count, answered_ask, with_reply, entered, answered}
 use Rattle.circus_performing.specs.Record.{start_of, turns, HasMade, IsIdle, IsPerforming, IsRecord}
 use Rattle.circus_performing.specs.Acts.{CanEnter, CanAnswer}
@@ -31,6 +32,14 @@ pub answered_same : {A E : Type 0} (r : Result A E) (one other : A) → one ≡ 
 answered_same r one other e h = subst (λ x. IfOk r (λ p. p ≡ x)) e h
 
 -- members that have kept the same are equal
+-- what is seen of what stands in the box
+abbrev pub performer_of : {M P : Type 0} → Held M P → Performing M
+performer_of h = record { hosted = h.hosted; began = h.began; kept = h.kept }
+
+-- and with a run behind the others
+abbrev pub performer_with : {M P : Type 0} → Held M P → RunRecord → Performing M
+performer_with h run = record { hosted = h.hosted; began = h.began; kept = with_run h.kept run }
+
 pub member_same : {M : Type 0} (hosted : M) (began : List ValueTree) (kept other : MemberRecord) → kept ≡ other → let x : Performing M = record { hosted = hosted; began = began; kept = kept } in let y : Performing M = record { hosted = hosted; began = began; kept = other } in x ≡ y
 member_same hosted began kept other e = λ j. record { hosted = hosted; began = began; kept = e j }
 

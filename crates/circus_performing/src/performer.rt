@@ -8,7 +8,7 @@ ghost use Rattle.circus_performing.specs.Record.{behaviour, IsRecord};
 ghost use Rattle.circus_performing.specs.Seen.UnderWay.{IsMember, IsNext};
 
 use crate::RunStart;
-use crate::record::{active_record, is_fetching, with_run};
+use crate::record::{add_run, is_fetching, make_active};
 use crate::run::{
     Asked, begun, current_clock, ended_run, refusal, refused_run, replied_run, waiting_run,
 };
@@ -25,22 +25,32 @@ use std::mem;
 /// see the module, the state with which the member became active, and the record.
 pub struct Performer<M: Module> {
     alloc: Global,
+    held: Box<Held<M>>,
+}
+
+// What it has, in a box, so that a step moves a word (docs/PROOFS.md, "Speed").
+struct Held<M: Module> {
     hosted: M,
     began: State,
     kept: MemberRecord,
     paused: Option<M::Paused>,
 }
 
-// Written out, so that dropping one is one step of a proof (docs/PROOFS.md, "Cost").
-impl<M: Module> Drop for Performer<M> {
+impl<M: Module> Drop for Held<M> {
     fn drop(self) {
-        let Performer {
-            alloc: _,
+        let Held {
             hosted: _,
             began: _,
             kept: _,
             paused: _,
         } = self;
+    }
+}
+
+// Written out, so that dropping one is one step of a proof (docs/PROOFS.md, "Cost").
+impl<M: Module> Drop for Performer<M> {
+    fn drop(self) {
+        let Performer { alloc: _, held: _ } = self;
     }
 }
 
@@ -54,18 +64,16 @@ impl<M: Module> Model for Performer<M> {
 
     ghost coded = { member_code M.code };
 
-    ghost view = { λ a. record { hosted = a.hosted; began = a.began; kept = a.kept } };
+    ghost view = { λ a. let h = a.held.value in record { hosted = h.hosted; began = h.began; kept = h.kept } };
 
-    ghost invariant = { λ a. IsMember (M.stands a.hosted) (behaviour M.declared M.turn M.first a.hosted) a.began a.kept a.paused };
+    ghost invariant = { λ a. let h = a.held.value in IsMember (M.stands h.hosted) (behaviour M.declared M.turn M.first h.hosted) h.began h.kept h.paused };
 }
 
 // A member as one of its runs goes on. The record has the runs before it.
 #[derive(Drop)]
-struct Going<M> {
+struct Going<M: Module> {
     alloc: Global,
-    hosted: M,
-    began: State,
-    kept: MemberRecord,
+    held: Box<Held<M>>,
     run: RunRecord,
 }
 
@@ -97,12 +105,15 @@ impl<M: Module> Performer<M> {
             runs: ListOf::new(alloc),
             state,
         };
-        Ok(Performer {
-            alloc,
+        let held = Held {
             hosted,
             began,
             kept,
             paused: None,
+        };
+        Ok(Performer {
+            alloc,
+            held: Box::new(alloc, held)?,
         })
     }
 
@@ -110,7 +121,7 @@ impl<M: Module> Performer<M> {
     pub fn signature(&self) -> &Signature
         ensures { result.now ≡ M.declared self.now.hosted }
     {
-        self.hosted.signature()
+        self.held.hosted.signature()
     }
 
     /// What the member did. It takes no memory.
@@ -118,7 +129,7 @@ impl<M: Module> Performer<M> {
         ensures value { result.now ≡ self.now.kept }
         ensures kept { IsRecord (behaviour M.declared M.turn M.first self.now.hosted) self.now.began self.now.kept }
     {
-        &self.kept
+        &self.held.kept
     }
 
     /// The ask for whose reply its run waits. `None` exactly where it performs no run. It takes no memory.
@@ -134,21 +145,23 @@ impl<M: Module> Performer<M> {
     pub fn last_run(&self) -> Option<&RunRecord>
         ensures { option_copied result ≡ performing.last_of self.now.kept.runs }
     {
-        self.kept.runs.as_slice().last()
+        self.held.kept.runs.as_slice().last()
     }
 
     /// The member is told to join its troupe. It takes no memory.
     pub fn join(&mut self)
         ensures { self.new ≡ record self.old { kept = performing.told_to_join self.old.kept } }
     {
-        self.kept.phase = self.kept.phase.join();
+        let held = &mut *self.held;
+        held.kept.phase = held.kept.phase.join();
     }
 
     /// The Ringmaster has answered its Join. It takes no memory.
     pub fn take_in(&mut self, table: &Table)
         ensures { self.new ≡ record self.old { kept = performing.taken_in table.now self.old.kept } }
     {
-        self.kept.phase = self.kept.phase.table(table);
+        let held = &mut *self.held;
+        held.kept.phase = held.kept.phase.table(table);
     }
 
     /// Where the member fetches a state, it has this one, and is active from the count on; else nothing changes.
@@ -157,7 +170,7 @@ impl<M: Module> Performer<M> {
         requires { IsState (M.declared self.hosted) state }
         ensures { IfOk result (λ p. p ≡ performing.activated step state count self) }
     {
-        if !is_fetching(self.kept.phase) {
+        if !is_fetching(self.held.kept.phase) {
             return Ok(self);
         }
         self.made_active(state, count, step)
@@ -168,21 +181,12 @@ impl<M: Module> Performer<M> {
         requires fetching { performing.is_fetching self.kept.phase ≡ true }
         ensures { IfOk result (λ p. p ≡ performing.made_active step state count self) }
     {
-        let Performer {
-            alloc,
-            hosted,
-            began: _,
-            kept,
-            paused: _,
-        } = self;
-        let kept = active_record(kept, state.copy()?, count, step);
-        Ok(Performer {
-            alloc,
-            hosted,
-            began: state,
-            kept,
-            paused: None,
-        })
+        let Performer { alloc, mut held } = self;
+        let inside = &mut *held;
+        make_active(&mut inside.kept, state.copy()?, count, step);
+        inside.began = state;
+        inside.paused = None;
+        Ok(Performer { alloc, held })
     }
 
     /// Enters the next run in a step, and goes on until the module asks for a reply that isn't given at once, or the run
@@ -192,20 +196,16 @@ impl<M: Module> Performer<M> {
         requires { CanEnter (M.declared self.hosted) start self.kept }
         ensures { IfOk result (λ p. p ≡ record self { kept = performing.entered (M.turn self.hosted) step start self.kept }) }
     {
-        let Performer {
-            alloc,
-            hosted,
-            began,
-            mut kept,
-            paused: _,
-        } = self;
-        let state = mem::replace(&mut kept.state, Values::new(alloc));
-        let turn = hosted.start(state, start.procedure, &start.arguments)?;
+        let Performer { alloc, mut held } = self;
+        let inside = &mut *held;
+        inside.paused = None;
+        let state = mem::replace(&mut inside.kept.state, Values::new(alloc));
+        let turn = inside
+            .hosted
+            .start(state, start.procedure, &start.arguments)?;
         let going = Going {
             alloc,
-            hosted,
-            began,
-            kept,
+            held,
             run: begun(alloc, start, step),
         };
         going.on(turn, step)
@@ -217,23 +217,18 @@ impl<M: Module> Performer<M> {
         requires { CanAnswer (M.declared self.hosted) reply self.kept }
         ensures { IfOk result (λ p. p ≡ record self { kept = performing.answered (M.turn self.hosted) self.began step reply clock self.kept }) }
     {
-        let Performer {
-            alloc,
-            hosted,
-            began,
-            mut kept,
-            paused,
-        } = self;
-        let Some(paused) = paused else { unreachable!() };
-        let Some(run) = kept.runs.pop() else {
+        let Performer { alloc, mut held } = self;
+        let inside = &mut *held;
+        let Some(paused) = inside.paused.take() else {
             unreachable!()
         };
-        let turn = hosted.resume(paused, &reply)?;
+        let Some(run) = inside.kept.runs.pop() else {
+            unreachable!()
+        };
+        let turn = inside.hosted.resume(paused, &reply)?;
         let going = Going {
             alloc,
-            hosted,
-            began,
-            kept,
+            held,
             run: replied_run(run, reply, clock, step)?,
         };
         going.on(turn, step)
@@ -243,19 +238,17 @@ impl<M: Module> Performer<M> {
 impl<M: Module> Going<M> {
     // Goes on in a step as far as the run can.
     fn on(self, turn: Turn<M::Paused>, step: u64) -> Result<Performer<M>, NoMemory>
-        requires next { IsNext (behaviour M.declared M.turn M.first self.hosted) self.began self.kept step self.run }
-        requires gives { let state = performing.state_after self.began self.kept.runs in let replies = performing.replies_of self.run.asks in Gives (λ paused. M.stands self.hosted paused state self.run.procedure self.run.arguments replies) (M.turn self.hosted state self.run.procedure self.run.arguments replies) turn }
-        ensures { IfOk result (λ p. p ≡ record {
-          hosted = self.hosted;
-          began = self.began;
-          kept = performing.with_run self.kept (performing.gone_on step (M.turn self.hosted (performing.state_after self.began self.kept.runs) self.run.procedure self.run.arguments) performing.most_turns self.run);
+        requires next { let h = self.held.value in IsNext (behaviour M.declared M.turn M.first h.hosted) h.began h.kept step self.run }
+        requires gives { let h = self.held.value in let state = performing.state_after h.began h.kept.runs in let replies = performing.replies_of self.run.asks in Gives (λ paused. M.stands h.hosted paused state self.run.procedure self.run.arguments replies) (M.turn h.hosted state self.run.procedure self.run.arguments replies) turn }
+        ensures { let h = self.held.value in IfOk result (λ p. p ≡ record {
+          hosted = h.hosted;
+          began = h.began;
+          kept = performing.with_run h.kept (performing.gone_on step (M.turn h.hosted (performing.state_after h.began h.kept.runs) self.run.procedure self.run.arguments) performing.most_turns self.run);
         }) }
     {
         let Going {
             alloc,
-            hosted,
-            began,
-            kept,
+            held,
             mut run,
         } = self;
         let mut turn = turn;
@@ -263,13 +256,7 @@ impl<M: Module> Going<M> {
             match turn {
                 Turn::Ends { outcome, state } => {
                     let run = ended_run(run, outcome, state, step)?;
-                    let going = Going {
-                        alloc,
-                        hosted,
-                        began,
-                        kept,
-                        run,
-                    };
+                    let going = Going { alloc, held, run };
                     return going.rest(None);
                 }
                 Turn::Asks {
@@ -288,14 +275,12 @@ impl<M: Module> Going<M> {
                     if !is_spent(current_clock(&run)) {
                         let going = Going {
                             alloc,
-                            hosted,
-                            began,
-                            kept,
+                            held,
                             run: waiting_run(run, asked, step)?,
                         };
                         return going.rest(Some(paused));
                     }
-                    turn = hosted.resume(paused, &refusal(alloc))?;
+                    turn = held.hosted.resume(paused, &refusal(alloc))?;
                     run = refused_run(alloc, run, asked, step)?;
                 }
             }
@@ -304,23 +289,17 @@ impl<M: Module> Going<M> {
 
     // The member once its run rests.
     fn rest(self, paused: Option<M::Paused>) -> Result<Performer<M>, NoMemory>
-        requires { IsMember (M.stands self.hosted) (behaviour M.declared M.turn M.first self.hosted) self.began (performing.with_run self.kept self.run) paused }
-        ensures { IfOk result (λ p. p ≡ record { hosted = self.hosted; began = self.began; kept = performing.with_run self.kept self.run }) }
+        requires { let h = self.held.value in IsMember (M.stands h.hosted) (behaviour M.declared M.turn M.first h.hosted) h.began (performing.with_run h.kept self.run) paused }
+        ensures { let h = self.held.value in IfOk result (λ p. p ≡ record { hosted = h.hosted; began = h.began; kept = performing.with_run h.kept self.run }) }
     {
         let Going {
             alloc,
-            hosted,
-            began,
-            kept,
+            mut held,
             run,
         } = self;
-        let kept = with_run(alloc, kept, run)?;
-        Ok(Performer {
-            alloc,
-            hosted,
-            began,
-            kept,
-            paused,
-        })
+        let inside = &mut *held;
+        inside.paused = paused;
+        add_run(alloc, &mut inside.kept, run)?;
+        Ok(Performer { alloc, held })
     }
 }

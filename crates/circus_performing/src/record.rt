@@ -1,5 +1,5 @@
 // What becomes of a member's record.
-ghost use Rattle.std.specs.Prelude.{◌≡◌, IfOk};
+ghost use Rattle.std.specs.Prelude.{◌≡◌, IfOk, OnOk};
 ghost use Rattle.circus_performing.specs.Performing as performing;
 
 use circus_record::{MemberRecord, RunRecord};
@@ -14,18 +14,15 @@ pub(crate) fn is_fetching(phase: Joiner) -> bool
     matches!(phase, Joiner::Fetching(_))
 }
 
-/// The record once the member is active from a count on, with a state.
-pub(crate) fn active_record(kept: MemberRecord, state: State, count: u32, step: u64) -> MemberRecord
-    ensures { result ≡ performing.active_record step state count kept }
+/// The record becomes that of a member which is active from a count on, with a state.
+pub(crate) fn make_active(kept: &mut MemberRecord, state: State, count: u32, step: u64)
+    ensures { kept.new ≡ performing.active_record step state count kept.old }
 {
-    MemberRecord {
-        phase: Joiner::Active(count),
-        from: count,
-        active_at: step,
-        count,
-        runs: kept.runs,
-        state,
-    }
+    kept.phase = Joiner::Active(count);
+    kept.from = count;
+    kept.active_at = step;
+    kept.count = count;
+    kept.state = state;
 }
 
 // A run's state: that after it, or that of its last ask.
@@ -49,17 +46,15 @@ fn next_count(outcome: &Option<Outcome>, count: u32) -> u32
     }
 }
 
-/// The record with a run behind the others.
-pub(crate) fn with_run(
+/// The record gets a run behind the others. After `NoMemory` it may have changed.
+pub(crate) fn add_run(
     alloc: Global,
-    kept: MemberRecord,
+    kept: &mut MemberRecord,
     run: RunRecord,
-) -> Result<MemberRecord, NoMemory>
-    ensures { IfOk result (λ more. more ≡ performing.with_run kept run) }
+) -> Result<(), NoMemory>
+    ensures { OnOk result (kept.new ≡ performing.with_run kept.old run) }
 {
-    let mut kept = kept;
     kept.state = state_by(alloc, &run)?;
     kept.count = next_count(&run.outcome, kept.count);
-    kept.runs.push(run)?;
-    Ok(kept)
+    kept.runs.push(run)
 }
