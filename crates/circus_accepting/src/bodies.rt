@@ -30,7 +30,8 @@ pub(crate) fn values_at(
     if message.len() - at > most {
         return Ok(None);
     }
-    match read_values(alloc, message, at, shapes) {
+    let bytes = message.joined()?;
+    match read_values(alloc, &bytes.as_slice(), at, shapes) {
         Ok((values, end)) => Ok((end == message.len()).then_some(values)),
         Err(ExternalFault::NoMemory) => Err(NoMemory {}),
         Err(_) => Ok(None),

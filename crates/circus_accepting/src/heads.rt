@@ -6,7 +6,7 @@ ghost use Rattle.circus_ring.specs.TableFields.{IsTable};
 ghost use Rattle.circus_accepting.specs.Headers as headers;
 
 use circus_collate::Table;
-use circus_header::{Call, HeaderFault, ReturnHeader, read_call_parts, read_return_parts};
+use circus_header::{Call, HeaderFault, ReturnHeader, read_call, read_return};
 use circus_ring::read_table;
 use circus_value::{NoMemory, Parts};
 use std::alloc::Global;
@@ -17,7 +17,8 @@ pub(crate) fn call_in(alloc: Global, message: &Parts) -> Result<Option<(Call, us
     ensures one { IfOk result (λ call. IfSome call (λ read. IsCall read.0)) }
     ensures within { IfOk result (λ call. IfSome call (λ read. read.1 ≤ length message.now)) }
 {
-    found(read_call_parts(alloc, message))
+    let bytes = message.joined()?;
+    found(read_call(alloc, bytes.as_slice()))
 }
 
 /// The header of the return that a message is, and how many bytes it has. `None` where the message is no return.
@@ -28,7 +29,8 @@ pub(crate) fn return_in(
     ensures read { IfOk result (λ header. header ≡ headers.return_in message.now) }
     ensures within { IfOk result (λ header. IfSome header (λ read. read.1 ≤ length message.now)) }
 {
-    found(read_return_parts(alloc, message))
+    let bytes = message.joined()?;
+    found(read_return(alloc, bytes.as_slice()))
 }
 
 /// The table that the bytes of a message from a place on are, which are joined. `None` where they are no table.
