@@ -1,5 +1,7 @@
 // The text of a world (docs/FORMATS.md, "Report").
-ghost use Rattle.std.specs.Prelude.{◌≡◌, ◌++◌, ◌<◌, [], length, slice_get, Some, All, IsAscii, IfOk, OnOk, string_bytes};
+ghost use Rattle.std.specs.Prelude.{◌≡◌, ◌++◌, ◌<◌, [], length, codes, slice_get, Some, All, IsAscii, IfOk, OnOk, string_bytes};
+ghost use Rattle.hex.specs.Hex.{encode_lower};
+ghost use Rattle.circus_record.specs.Line.{line};
 ghost use Rattle.circus_record.specs.Naming.{host_name, names_of};
 ghost use Rattle.circus_world.specs.WorldState.{Standing};
 ghost use Rattle.circus_report.specs.Report as report;
@@ -10,6 +12,7 @@ use circus_model::Module;
 use circus_record::{MemberText, Naming, ProgramNames};
 use circus_value::{ListOf, Name, NoMemory, Octets};
 use circus_world::{Sent, World};
+use itoa::Buffer;
 use std::alloc::Global;
 
 /// The first line of a report.
@@ -25,7 +28,7 @@ pub fn show_sent(
     requires { All (λ h. IsAscii (host_name h)) deployment.now.nodes }
     ensures { IfOk result (λ text. text ≡ report.sent_line (names_of deployment.now.nodes []) number sent.now) }
 {
-    let mut text = String::new(alloc);
+    let mut text = String::with_capacity(alloc, room_for(sent))?;
     let names = ProgramNames::new(deployment.nodes.as_slice(), &[]);
     append_sent(alloc, &mut text, &names, number, sent)?;
     Ok(ListOf::of(text.into_bytes()))
@@ -66,6 +69,11 @@ pub fn show_rest<M: Module>(
     Ok(ListOf::of(text.into_bytes()))
 }
 
+// About how many bytes the line of a datagram has: two for each of its own, and what stands before them.
+fn room_for(sent: &Sent) -> usize {
+    sent.bytes.len().saturating_mul(2).saturating_add(96)
+}
+
 // Adds the line of a datagram.
 fn append_sent<N: Naming>(
     alloc: Global,
@@ -76,13 +84,44 @@ fn append_sent<N: Naming>(
 ) -> Result<(), NoMemory>
     ensures { OnOk result (string_bytes text.new ≡ string_bytes text.old ++ report.sent_line (N.names names.now) number sent.now) }
 {
-    let step = sent.step;
-    let from = names.node(usize::from(sent.from));
-    let to = names.node(usize::from(sent.to));
+    append_sender(text, names, number, sent)?;
+    append_content(alloc, text, names, sent)
+}
+
+// Adds when a datagram was sent, and by whom.
+fn append_sender<N: Naming>(
+    text: &mut String,
+    names: &N,
+    number: u64,
+    sent: &Sent,
+) -> Result<(), NoMemory>
+    ensures { OnOk result (string_bytes text.new ≡ string_bytes text.old ++ report.sent_head (N.names names.now) number sent.now) }
+{
+    let mut digits = Buffer::new();
+    text.push_str("datagram ")?;
+    text.push_str(digits.format(number))?;
+    text.push_str(" step ")?;
+    text.push_str(digits.format(sent.step))?;
+    text.push_str(" from ")?;
+    text.push_str(names.node(usize::from(sent.from)))
+}
+
+// Adds to whom it was sent, and its bytes.
+fn append_content<N: Naming>(
+    alloc: Global,
+    text: &mut String,
+    names: &N,
+    sent: &Sent,
+) -> Result<(), NoMemory>
+    ensures { OnOk result (string_bytes text.new ≡ string_bytes text.old
+        ++ line (codes " to " ++ (N.names names.now).node sent.now.to ++ codes " " ++ encode_lower sent.now.bytes)) }
+{
     let bytes = hex::encode(alloc, sent.bytes.as_slice())?;
-    write!(text, "datagram {number} step {step} from {from}")?;
-    writeln!(text, " to {to} {bytes}")?;
-    Ok(())
+    text.push_str(" to ")?;
+    text.push_str(names.node(usize::from(sent.to)))?;
+    text.push_str(" ")?;
+    text.push_str(bytes.as_str())?;
+    text.push_str("\n")
 }
 
 // Adds the lines of datagrams, the first of which has number 0.
