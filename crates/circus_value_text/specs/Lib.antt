@@ -1,0 +1,4 @@
+pub mod Reading
+pub mod Stopping
+pub mod WordReading
+pub mod Seen
