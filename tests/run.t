@@ -221,3 +221,11 @@ The procedures of a module may stand in another order than in its interface.
   ask 1 to Wheel index 1 procedure 2 arguments [499999] state []
   reply 1 clock 2,0 raised 60005 []
   end 0 clock 2,0 returned [] state []
+
+What is large is shared as long as nobody changes it: 100,000 copies of 15,000 items, and 2,000 calls, each with 32,768 items
+of its own.
+
+  $ circus run copies.circus | tail -1
+  end 0 clock 0,0 returned [] state [15000]
+  $ circus run locals.circus | tail -1
+  end 0 clock 2000,0 returned [] state [10000]
