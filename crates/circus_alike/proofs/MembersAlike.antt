@@ -20,10 +20,10 @@ use Rattle.circus_member_rules.specs.declared.place.Beginning.{Beginning}
 use Rattle.circus_member_rules.specs.declared.place.Beginning.TheVariants.{Founder, Spare}
 use Rattle.circus_member_rules.specs.declared.occurrence.Occurrence.{Occurrence}
 use Rattle.circus_member_rules.specs.declared.occurrence.Occurrence.TheVariants as comes
-use Rattle.circus_member_step.specs.MemberState.{MemberState, Doing, adding}
+use Rattle.circus_member_rules.specs.MemberState.{MemberState, Doing, adding}
 use Rattle.circus_member_rules.specs.Rules as rules
-use Rattle.circus_member_step.specs.Step as step
-use Rattle.circus_member_step.specs.Step.{starting}
+use Rattle.circus_member_rules.specs.Step as step
+use Rattle.circus_member_rules.specs.Step.{starting}
 use Rattle.circus_alike.specs.Alike.{declared_of, turn_of, first_of, member_as, doing_as}
 
 module _ {M : Type 0} (declared : M → Signature) (turn : M → List ValueTree → ℕ → List ValueTree → List Outcome → NextTurn) (first : M → List ValueTree) where

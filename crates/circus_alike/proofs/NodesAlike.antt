@@ -21,14 +21,14 @@ use Rattle.circus_member_rules.specs.declared.occurrence.Occurrence.{Occurrence}
 use Rattle.circus_member_rules.specs.declared.occurrence.Occurrence.TheVariants as comes
 use Rattle.circus_member_rules.specs.declared.occurrence.Purpose.{Purpose}
 use Rattle.circus_member_rules.specs.declared.occurrence.Purpose.TheVariants as for
-use Rattle.circus_member_step.specs.MemberState.{MemberState, Doing}
-use Rattle.circus_member_step.specs.Step as member_step
+use Rattle.circus_member_rules.specs.MemberState.{MemberState, Doing}
+use Rattle.circus_member_rules.specs.Step as member_step
 use Rattle.circus_node.specs.declared.event.Event.{Event}
 use Rattle.circus_node.specs.declared.event.Event.TheVariants.{Datagram, Tick, Down, Join}
 use Rattle.circus_node.specs.declared.event.Give.{Give}
 use Rattle.circus_node.specs.NodeState.{NodeState, Acting, member, ringmaster}
-use Rattle.circus_accepting.specs.Accepting as accepting
-use Rattle.circus_accepting.specs.Headers.{return_in}
+use Rattle.circus_node.specs.Accepting as accepting
+use Rattle.circus_node.specs.Headers.{return_in}
 use Rattle.circus_node.specs.Making as making
 use Rattle.circus_node.specs.Making.{Made, consequences, a_drop}
 use Rattle.circus_node.specs.Sending.{Sending, sent, spent, gives_of, all_handed}

@@ -7,7 +7,7 @@ use Rattle.circus_model.specs.Behaviour.{Behaviour}
 use Rattle.circus_model.specs.declared.signature.Signature.{Signature}
 use Rattle.circus_performing.specs.Performing.{Performing}
 use Rattle.circus_performing.specs.Record.{behaviour}
-use Rattle.circus_member_step.specs.MemberState.{MemberState, Doing}
+use Rattle.circus_member_rules.specs.MemberState.{MemberState, Doing}
 use Rattle.circus_node.specs.NodeState.{NodeState, Acting, member, ringmaster}
 use Rattle.circus_node.specs.Making.{Made}
 use Rattle.circus_node.specs.Step.{Ended}

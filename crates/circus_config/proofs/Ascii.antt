@@ -49,7 +49,7 @@ use Rattle.circus_config.specs.Told.{interface_cause, interface_told, module_nam
 use Rattle.circus_config.specs.Reading.{name_faults, interfaces_faults, read_faults}
 use Rattle.circus_config.specs.Checking.{checked_faults}
 use Rattle.circus_config.specs.Program.{IsFile, IsProgramOf, IsAnswerTo, IsRefused}
-use Rattle.circus_lines.proofs.Words.{word_ascii}
+use Rattle.circus_text.proofs.Words.{word_ascii}
 use Rattle.circus_config.proofs.Rules.{clean_of, all_obey}
 
 -- ---- names of modules

@@ -1,7 +1,7 @@
 -- What is found of modules and of the deployment over them.
 use Rattle.std.proofs.Common.{◌≡◌, ℕ, ◌⊎◌, inl, inr, List, [], ◌++◌, map, refl, sym, ◌∙◌, ap, subst, Option, Some, None}
 use Rattle.std.specs.Prelude.{option_map}
-use Rattle.circus_lines.specs.Lines.{line_of}
+use Rattle.circus_text.specs.Lines.{line_of}
 use Rattle.circus_fault.specs.declared.fault.Fault.{Fault}
 use Rattle.circus_fault.specs.Least.{lesser, least_from}
 use Rattle.circus_fault.proofs.LeastIs.{joined, least_joined}

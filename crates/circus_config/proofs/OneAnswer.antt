@@ -4,7 +4,7 @@ use Rattle.circus_text.specs.declared.token.Token.{Token}
 use Rattle.circus_text.specs.declared.lex_fault.LexFault.{LexFault}
 use Rattle.circus_text.specs.Division.{AreTokensOf, IsAnswer}
 use Rattle.circus_text.proofs.Divisions.{answer_one}
-use Rattle.circus_lines.specs.Lines.{line_of}
+use Rattle.circus_text.specs.Lines.{line_of}
 use Rattle.circus_syntax.specs.InterfaceTree.{InterfaceTree}
 use Rattle.circus_syntax.specs.Reader.{Reader, open_at}
 use Rattle.circus_expression.specs.Ending.{Are}

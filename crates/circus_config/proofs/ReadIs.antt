@@ -6,7 +6,7 @@ use Rattle.circus_text.specs.declared.token.Token.{Token}
 use Rattle.circus_text.specs.Form.{longest_text}
 use Rattle.circus_text.specs.Token.{IsTokenIn}
 use Rattle.circus_text.specs.Division.{AreTokensOf}
-use Rattle.circus_lines.specs.Lines.{line_of}
+use Rattle.circus_text.specs.Lines.{line_of}
 use Rattle.circus_syntax.specs.declared.stopping.Stop.{Stop}
 use Rattle.circus_syntax.specs.declared.stopping.StopCause.{StopCause}
 use Rattle.circus_syntax.specs.declared.stopping.StopCause.TheVariants.{Unexpected, TooDeep}

@@ -7,7 +7,7 @@ use Rattle.circus_text.specs.declared.lex_fault.LexFault.{LexFault}
 use Rattle.circus_text.specs.declared.lex_fault.LexFault.TheVariants as lexical
 use Rattle.circus_text.specs.Form.{longest_text}
 use Rattle.circus_text.specs.Division.{AreTokensOf, IsAnswer}
-use Rattle.circus_lines.specs.Lines.{line_of}
+use Rattle.circus_text.specs.Lines.{line_of}
 use Rattle.circus_syntax.specs.declared.stopping.Stop.{Stop}
 use Rattle.circus_syntax.specs.declared.stopping.StopCause.{StopCause}
 use Rattle.circus_syntax.specs.declared.stopping.StopCause.TheVariants.{Unexpected, TooDeep}

@@ -1,7 +1,7 @@
 // The least of the faults of a pass, which are found one by one, and the refusal for it.
 ghost use Rattle.std.specs.Prelude.{◌≡◌, ◌≤◌, length, Some, None};
 ghost use Rattle.circus_text.specs.Form.{longest_text};
-ghost use Rattle.circus_lines.specs.Lines.{line_of};
+ghost use Rattle.circus_text.specs.Lines.{line_of};
 ghost use Rattle.circus_fault.specs.Least.{is_before, lesser, least_from, faults_if};
 ghost use Rattle.circus_fault.specs.Stopping.{cause_of, stop_faults};
 ghost use Rattle.circus_config.specs.declared.program_fault.ProgramCause.TheVariants.{Syntax, Deep};
@@ -10,8 +10,8 @@ ghost use Rattle.circus_config.specs.Rank.{rank_of};
 ghost use Rattle.circus_config.specs.Seen.{fault_of, kept};
 
 use crate::{ProgramCause, ProgramFault};
-use circus_lines::line_at;
 use circus_syntax::{Stop, StopCause};
+use circus_text::line_at;
 
 /// A fault at a place of a file, counted in bytes.
 #[derive(Drop)]

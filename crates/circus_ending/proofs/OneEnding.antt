@@ -10,16 +10,16 @@ use Rattle.circus_text.proofs.Divisions.{answer_one}
 use Rattle.circus_placing.specs.declared.placing.Machine.{Machine}
 use Rattle.circus_placing.specs.declared.placing.Placing.{Placing}
 use Rattle.circus_placing.specs.ConditionTree.{ConditionTree, tree_of}
-use Rattle.circus_placing_text.specs.declared.place_fault.PlaceCause.{PlaceCause}
-use Rattle.circus_placing_text.specs.declared.place_fault.PlaceFault.{PlaceFault}
-use Rattle.circus_placing_text.specs.declared.place_fault.PlaceFault.TheVariants.{Refused, NoMemory}
-use Rattle.circus_placing_text.specs.Grammar.{IsPlacing}
-use Rattle.circus_placing_text.specs.Written.{PlacingTree}
-use Rattle.circus_placing_text.specs.Means.{Means}
-use Rattle.circus_placing_text.specs.ReadAs.{placed, IsReadAs, IsRefused}
-use Rattle.circus_placing_text.proofs.Whole.{placing_one}
-use Rattle.circus_placing_text.proofs.ReadIs.{accepted}
-use Rattle.circus_placing_text.proofs.OneAnswer.{one_answer}
+use Rattle.circus_placing.specs.declared.place_fault.PlaceCause.{PlaceCause}
+use Rattle.circus_placing.specs.declared.place_fault.PlaceFault.{PlaceFault}
+use Rattle.circus_placing.specs.declared.place_fault.PlaceFault.TheVariants.{Refused, NoMemory}
+use Rattle.circus_placing.specs.Grammar.{IsPlacing}
+use Rattle.circus_placing.specs.Written.{PlacingTree}
+use Rattle.circus_placing.specs.Means.{Means}
+use Rattle.circus_placing.specs.ReadAs.{placed, IsReadAs, IsRefused}
+use Rattle.circus_placing.proofs.Whole.{placing_one}
+use Rattle.circus_placing.proofs.ReadIs.{accepted}
+use Rattle.circus_placing.proofs.OneAnswer.{one_answer}
 use Rattle.circus_place.specs.Choice.{IsChoice, Satisfies, kept_by, is_before, IsBest}
 use Rattle.circus_place.specs.Value.{does_hold}
 use Rattle.circus_ending.specs.declared.status.Status.TheVariants.{Done, BadPlacing}

@@ -3,10 +3,10 @@ use Rattle.std.specs.Prelude.{ℕ, ◌+◌, ◌≡◌, ◌⊎◌, List, [], ◌�
 use Rattle.std.specs.Fmt.{decimal}
 use Rattle.circus_placing.specs.declared.placing.Machine.{Machine}
 use Rattle.circus_placing.specs.declared.placing.Placing.{Placing}
-use Rattle.circus_placing_text.specs.declared.place_fault.PlaceCause.{PlaceCause}
-use Rattle.circus_placing_text.specs.declared.place_fault.PlaceCause.TheVariants.{BadCharacter, OpenString, LongNumber, Syntax, Deep, UnknownName, Repeated, OutOfRange, TooLarge, TooMany}
-use Rattle.circus_placing_text.specs.declared.place_fault.PlaceFault.TheVariants.{Refused}
-use Rattle.circus_placing_text.specs.ReadAs.{IsReadAs, IsRefused}
+use Rattle.circus_placing.specs.declared.place_fault.PlaceCause.{PlaceCause}
+use Rattle.circus_placing.specs.declared.place_fault.PlaceCause.TheVariants.{BadCharacter, OpenString, LongNumber, Syntax, Deep, UnknownName, Repeated, OutOfRange, TooLarge, TooMany}
+use Rattle.circus_placing.specs.declared.place_fault.PlaceFault.TheVariants.{Refused}
+use Rattle.circus_placing.specs.ReadAs.{IsReadAs, IsRefused}
 use Rattle.circus_place.specs.Choice.{IsChoice, Satisfies, kept_by, IsBest}
 use Rattle.circus_ending.specs.declared.status.Status.TheVariants.{Done, BadPlacing, NoPlacement}
 use Rattle.circus_ending.specs.Ending.{Ending}

@@ -1,1 +1,3 @@
+mod Looking
+mod Learning
 pub mod Writing

@@ -1,2 +1,4 @@
+pub mod Notices
+pub mod Knowing
 pub mod Asking
 pub mod Seen

@@ -41,12 +41,12 @@ use Rattle.circus_member_rules.specs.declared.occurrence.Occurrence.TheVariants 
 use Rattle.circus_member_rules.specs.declared.occurrence.Purpose.{Purpose}
 use Rattle.circus_member_rules.specs.declared.occurrence.Purpose.TheVariants as for
 use Rattle.circus_member_rules.specs.OpenAsks.{asking_of}
-use Rattle.circus_member_step.specs.Happening.{IsHome}
-use Rattle.circus_member_step.specs.MemberState.{MemberState}
-use Rattle.circus_accepting.specs.Accepting as accepting
-use Rattle.circus_accepting.specs.Accepting.{accepted_call, accepted_table, accepted_state, imported, recorded_ask, called_by}
-use Rattle.circus_accepting.specs.Bodies.{outcome_at}
-use Rattle.circus_accepting.specs.Headers.{return_in}
+use Rattle.circus_member_rules.specs.Happening.{IsHome}
+use Rattle.circus_member_rules.specs.MemberState.{MemberState}
+use Rattle.circus_node.specs.Accepting as accepting
+use Rattle.circus_node.specs.Accepting.{accepted_call, accepted_table, accepted_state, imported, recorded_ask, called_by}
+use Rattle.circus_node.specs.Bodies.{outcome_at}
+use Rattle.circus_node.specs.Headers.{return_in}
 use Rattle.circus_member_theory.proofs.Accepting.Taken.{imported_as, called_open}
 use Rattle.circus_limits.specs.Limits.{limit_of}
 use Rattle.circus_world_theory.proofs.Border.Makers.{IsIn, IsAmong}

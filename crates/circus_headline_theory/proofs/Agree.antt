@@ -29,7 +29,7 @@ use Rattle.circus_member_rules.specs.declared.place.Place.{Place}
 use Rattle.circus_member_rules.specs.declared.occurrence.AskName.{AskName}
 use Rattle.circus_member_rules.specs.declared.occurrence.Occurrence.{Occurrence}
 use Rattle.circus_member_rules.specs.declared.occurrence.Occurrence.TheVariants as comes
-use Rattle.circus_member_step.specs.Step.{start_by_call, is_join}
+use Rattle.circus_member_rules.specs.Step.{start_by_call, is_join}
 use Rattle.circus_timely.specs.First.{at_end, or_else, first_given}
 use Rattle.circus_timely.specs.Past.{Past, booted, followed, now, Rises, known, down, said, is_outside, is_asking, is_done, taken_in, phase, fetched}
 use Rattle.circus_timely.specs.Timely.{given_value, ShowsAnswer, IsMain, has_ended, is_free_for, may_start, may_answer, collated_call, collated_reply, name_of, IsTimely}

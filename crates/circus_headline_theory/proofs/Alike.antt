@@ -21,7 +21,7 @@ use Rattle.circus_performing.specs.Record.{count_after}
 use Rattle.circus_member_rules.specs.Messages.{reply_message, stale_message, before_message}
 use Rattle.circus_member_rules.specs.declared.occurrence.AskName.{AskName}
 use Rattle.circus_member_rules.specs.declared.place.Place.{Place}
-use Rattle.circus_member_step.specs.Step.{reply_of_run}
+use Rattle.circus_member_rules.specs.Step.{reply_of_run}
 use Rattle.circus_timely.specs.Past.{Past, now, Rises, phase, required}
 use Rattle.circus_member_theory.proofs.Timely.Firsts.{same_first}
 use Rattle.circus_timely.specs.Asks.{is_new, is_waiting, as_made, asks_from, asks_of, knows, first_calls, calls_behind, open_asks, new_asks}

@@ -21,12 +21,12 @@ use Rattle.circus_member_rules.specs.declared.place.Beginning.{Beginning}
 use Rattle.circus_member_rules.specs.declared.place.Place.{Place}
 use Rattle.circus_member_rules.specs.declared.occurrence.AskName.{AskName}
 use Rattle.circus_member_rules.specs.declared.occurrence.Occurrence.{Occurrence}
-use Rattle.circus_member_step.specs.Happening.{IsHome}
-use Rattle.circus_member_step.specs.MemberState.{Doing}
-use Rattle.circus_member_step.proofs.Entering.{HasValue, with_entered, with_answered}
-use Rattle.circus_member_step.proofs.Starting.{IsSoundNow}
-use Rattle.circus_member_step.proofs.Writing.{one_is_performing}
-use Rattle.circus_accepting.specs.Accepting.{imported, recorded_ask}
+use Rattle.circus_member_rules.specs.Happening.{IsHome}
+use Rattle.circus_member_rules.specs.MemberState.{Doing}
+use Rattle.circus_member_rules.proofs.Entering.{HasValue, with_entered, with_answered}
+use Rattle.circus_member_rules.proofs.Starting.{IsSoundNow}
+use Rattle.circus_member_rules.proofs.Writing.{one_is_performing}
+use Rattle.circus_node.specs.Accepting.{imported, recorded_ask}
 use Rattle.circus_member_theory.proofs.Accepting.Taken.{imported_as}
 use Rattle.circus_timely.specs.Past.{Past, followed}
 use Rattle.circus_member_theory.specs.Living.{MayLive, kept_after}

@@ -31,10 +31,10 @@ use Rattle.circus_member_rules.specs.declared.occurrence.Effect.TheVariants as e
 use Rattle.circus_member_rules.specs.declared.occurrence.Occurrence.{Occurrence}
 use Rattle.circus_member_rules.specs.declared.occurrence.Occurrence.TheVariants as occurs
 use Rattle.circus_member_rules.specs.declared.occurrence.Purpose.{Purpose}
-use Rattle.circus_member_step.specs.Happening.{IsHome, CanHappen}
-use Rattle.circus_member_step.specs.MemberState.{MemberState}
-use Rattle.circus_accepting.specs.Accepting as accepting
-use Rattle.circus_accepting.specs.Accepting.{troupe_at, imported, recorded_ask, called_by}
+use Rattle.circus_member_rules.specs.Happening.{IsHome, CanHappen}
+use Rattle.circus_member_rules.specs.MemberState.{MemberState}
+use Rattle.circus_node.specs.Accepting as accepting
+use Rattle.circus_node.specs.Accepting.{troupe_at, imported, recorded_ask, called_by}
 use Rattle.circus_node.specs.Booting.{beginning_in, home_in, home_of, made_at_boot, fresh_wire}
 use Rattle.circus_node.specs.Booting as booting
 use Rattle.circus_node.specs.NodeState.{Acting, member, ringmaster, NodeState}

@@ -15,7 +15,7 @@ use Rattle.circus_member_rules.specs.declared.place.Beginning.{Beginning}
 use Rattle.circus_member_rules.specs.declared.place.Place.{Place}
 use Rattle.circus_member_rules.specs.declared.occurrence.AskName.{AskName}
 use Rattle.circus_member_rules.specs.declared.occurrence.Occurrence.{Occurrence}
-use Rattle.circus_member_step.specs.Happening.{IsHome}
+use Rattle.circus_member_rules.specs.Happening.{IsHome}
 use Rattle.circus_timely.specs.Past.{Past, followed, now, Rises}
 use Rattle.circus_member_theory.specs.Living.{MayLive, kept_after, phase_at_boot}
 use Rattle.circus_timely.specs.Asks.{calls_behind, open_asks}

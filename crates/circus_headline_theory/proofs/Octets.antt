@@ -62,8 +62,8 @@ use Rattle.circus_member_rules.specs.declared.occurrence.Effect.TheVariants as m
 use Rattle.circus_member_rules.specs.declared.occurrence.Purpose.{Purpose}
 use Rattle.circus_member_rules.specs.declared.place.Beginning.{Beginning}
 use Rattle.circus_member_rules.specs.declared.place.Place.{Place}
-use Rattle.circus_member_step.specs.Step.{reply_of_run}
-use Rattle.circus_accepting.specs.Accepting.{troupe_at, accepted_request}
+use Rattle.circus_member_rules.specs.Step.{reply_of_run}
+use Rattle.circus_node.specs.Accepting.{troupe_at, accepted_request}
 use Rattle.circus_member_theory.proofs.Accepting.Arguments.{values_octets}
 use Rattle.circus_member_theory.proofs.Accepting.Octets.{word_octets, fields_octets}
 use Rattle.circus_member_theory.proofs.Accepting.Options.{before_some, passes_some}
@@ -83,7 +83,7 @@ use Rattle.circus_talks.specs.Histories.{beginning_of, acts_of}
 use Rattle.circus_node.specs.Trace.{effects_in}
 use Rattle.circus_talks.proofs.Boots.{world_stands}
 use Rattle.circus_talks.proofs.Worlds.{Stands, IsGiven, at_pair, lawful_at}
-use Rattle.circus_standing.specs.Messages.{IsReplyOf, IsTrueReply, IsTrueState}
+use Rattle.circus_truth.specs.Messages.{IsReplyOf, IsTrueReply, IsTrueState}
 use Rattle.circus_truth.specs.Truth.{IsTrueReturn}
 use Rattle.circus_timely.specs.Past.{Past}
 use Rattle.circus_member_theory.specs.Living.{after, phase_at_boot, MayLive}

@@ -28,7 +28,7 @@ use Rattle.circus_performing.proofs.Ends.{last_more}
 use Rattle.circus_member_rules.specs.declared.place.Place.{Place}
 use Rattle.circus_member_rules.specs.declared.occurrence.AskName.{AskName}
 use Rattle.circus_member_rules.specs.declared.occurrence.Occurrence.TheVariants as comes
-use Rattle.circus_member_step.specs.Step.{start_by_call, is_join}
+use Rattle.circus_member_rules.specs.Step.{start_by_call, is_join}
 use Rattle.circus_timely.specs.First.{at_end, or_else, first_given}
 use Rattle.circus_timely.specs.Past.{Past, booted, followed, now, known, down, said, is_outside, is_asking, taken_in, phase, fetched}
 use Rattle.circus_member_theory.specs.Living.{phase_at_boot}

@@ -41,9 +41,9 @@ use Rattle.circus_member_rules.specs.declared.occurrence.Occurrence.{Occurrence}
 use Rattle.circus_member_rules.specs.declared.occurrence.Occurrence.TheVariants as occurs
 use Rattle.circus_member_rules.specs.declared.occurrence.Purpose.{Purpose}
 use Rattle.circus_member_rules.specs.declared.occurrence.Purpose.TheVariants as for
-use Rattle.circus_accepting.specs.Accepting.{imported, recorded_ask}
-use Rattle.circus_accepting.specs.Bodies.{outcome_at}
-use Rattle.circus_accepting.specs.Headers.{return_in}
+use Rattle.circus_node.specs.Accepting.{imported, recorded_ask}
+use Rattle.circus_node.specs.Bodies.{outcome_at}
+use Rattle.circus_node.specs.Headers.{return_in}
 use Rattle.circus_world_theory.proofs.Border.Makers.{IsIn, IsAmong, among_all, in_both, in_flat_map}
 use Rattle.circus_talks.specs.Histories.{beginning_of}
 use Rattle.circus_talks.specs.NodeActs.{with_all, came_by, coming}

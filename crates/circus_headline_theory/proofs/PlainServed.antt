@@ -6,7 +6,7 @@ use Rattle.circus_collate.specs.declared.deployment.Troupe.{Troupe}
 use Rattle.circus_model.specs.Behaviour.{Behaviour, IsModule}
 use Rattle.circus_outside.specs.declared.link.TakenFrom.{TakenFrom}
 use Rattle.circus_record.specs.declared.record.MemberRecord.{MemberRecord}
-use Rattle.circus_accepting.specs.Accepting.{troupe_at}
+use Rattle.circus_node.specs.Accepting.{troupe_at}
 use Rattle.circus_node.specs.Booting.{CanBoot}
 use Rattle.circus_node.specs.Booting as booting
 use Rattle.circus_node.specs.NodeState.{NodeState, member_record}
@@ -14,7 +14,7 @@ use Rattle.circus_node.specs.Step.{Ended}
 use Rattle.circus_node.specs.declared.event.Outputs.{Outputs}
 use Rattle.circus_alike.specs.Alike.{declared_of, turn_of, first_of, node_as, ended_as}
 use Rattle.circus_alike.proofs.NodesAlike.{node_booted_as}
-use Rattle.circus_log.specs.Serving.{Served, Progress, on, spent, happened_by, served}
+use Rattle.circus_serve.specs.Serving.{Served, Progress, on, spent, happened_by, served}
 use Rattle.circus_served.specs.Alike.{served_as, progress_as}
 use Rattle.circus_served.proofs.ServingAlike.{serving_as, record_as}
 use Rattle.circus_world_theory.proofs.Lawful as lawful

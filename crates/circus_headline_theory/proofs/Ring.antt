@@ -28,7 +28,7 @@ use Rattle.circus_wire.proofs.Performing.{came_tells}
 use Rattle.circus_member_rules.specs.declared.occurrence.Effect.{Effect}
 use Rattle.circus_member_rules.specs.declared.occurrence.Effect.TheVariants as makes
 use Rattle.circus_member_rules.specs.declared.occurrence.Purpose.{Purpose}
-use Rattle.circus_accepting.specs.Accepting.{accepted_request}
+use Rattle.circus_node.specs.Accepting.{accepted_request}
 use Rattle.circus_node.specs.Booting.{home_of, made_at_boot, fresh_wire}
 use Rattle.circus_node.specs.Booting as booting
 use Rattle.circus_node.specs.Making.{Made, hears, by_ring, performs, a_drop, table_message}

@@ -15,7 +15,7 @@ use Rattle.circus_outside.specs.declared.link.TakenFrom.TheVariants.{From, Nothi
 use Rattle.circus_record.specs.declared.record.MemberRecord.{MemberRecord}
 use Rattle.circus_performing.specs.Record.{behaviour}
 use Rattle.circus_wire.specs.Wire.{IsOther}
-use Rattle.circus_accepting.specs.Accepting.{troupe_at}
+use Rattle.circus_node.specs.Accepting.{troupe_at}
 use Rattle.circus_member_rules.specs.declared.occurrence.Difference.{Difference}
 use Rattle.circus_node.specs.declared.event.Event.{Event}
 use Rattle.circus_node.specs.declared.event.Event.TheVariants.{Datagram, Tick, Down, Join}
@@ -29,10 +29,10 @@ use Rattle.circus_node.specs.Step as step
 use Rattle.circus_node.specs.Trace as trace
 use Rattle.circus_node.specs.Trace.{Trace, StandsFor, effects_in, effects_at_boot}
 use Rattle.circus_node.proofs.NodeLemmas.{boot_is_of, step_is_of}
-use Rattle.circus_log.specs.declared.happening.Happening.{Happening}
-use Rattle.circus_log.specs.declared.happening.Happening.TheVariants.{Booted, Stepped, Foreign}
-use Rattle.circus_log.specs.Happened.{peer_at}
-use Rattle.circus_log.specs.Serving.{Served, Progress, on, spent, happened_by, and_then, concluded, with_foreign, is_spare, at_boot, event_comes, suspected, all_declared, comes, took, all_took, begun, served}
+use Rattle.circus_serve.specs.declared.happening.Happening.{Happening}
+use Rattle.circus_serve.specs.declared.happening.Happening.TheVariants.{Booted, Stepped, Foreign}
+use Rattle.circus_serve.specs.Happened.{peer_at}
+use Rattle.circus_serve.specs.Serving.{Served, Progress, on, spent, happened_by, and_then, concluded, with_foreign, is_spare, at_boot, event_comes, suspected, all_declared, comes, took, all_took, begun, served}
 use Rattle.circus_serve.proofs.EventLemmas.{peer_is_other}
 use Rattle.circus_serve.proofs.SuspectLemmas.{suspects_others}
 use Rattle.circus_world_theory.specs.NodeLives.{IsOfBytes}

@@ -19,12 +19,12 @@ use Rattle.circus_member_rules.specs.declared.place.Beginning.TheVariants.{Found
 use Rattle.circus_member_rules.specs.declared.place.Place.{Place}
 use Rattle.circus_member_rules.specs.declared.occurrence.Occurrence.{Occurrence}
 use Rattle.circus_member_rules.specs.declared.occurrence.Occurrence.TheVariants as comes
-use Rattle.circus_member_step.specs.Happening.{IsHome}
-use Rattle.circus_member_step.specs.MemberState.{MemberState, Doing}
-use Rattle.circus_member_step.specs.Step.{is_join, handled}
-use Rattle.circus_member_step.proofs.Entering.{HasValue, with_answered}
-use Rattle.circus_member_step.proofs.Starting.{IsSoundNow}
-use Rattle.circus_member_step.proofs.Writing.{one_is_performing}
+use Rattle.circus_member_rules.specs.Happening.{IsHome}
+use Rattle.circus_member_rules.specs.MemberState.{MemberState, Doing}
+use Rattle.circus_member_rules.specs.Step.{is_join, handled}
+use Rattle.circus_member_rules.proofs.Entering.{HasValue, with_answered}
+use Rattle.circus_member_rules.proofs.Starting.{IsSoundNow}
+use Rattle.circus_member_rules.proofs.Writing.{one_is_performing}
 use Rattle.circus_member_theory.proofs.Resting.{at_boot}
 use Rattle.circus_timely.specs.Past.{Past, booted, followed, phase, fetched}
 use Rattle.circus_timely.specs.First.{or_else, first_given}

@@ -15,7 +15,7 @@ use Rattle.circus_record.specs.Naming.{Names}
 use Rattle.circus_record.specs.MemberText.{member_lines}
 use Rattle.circus_performing.specs.Performing.{is_active}
 use Rattle.circus_value.specs.Among.{is_among}
-use Rattle.circus_accepting.specs.Accepting.{troupe_at, is_root}
+use Rattle.circus_node.specs.Accepting.{troupe_at, is_root}
 use Rattle.circus_world_theory.specs.Done.{IsDone}
 use Rattle.circus_node.specs.NodeState.{member_record, ring_views}
 use Rattle.circus_world.specs.declared.sent.Sent.{Sent}
@@ -23,7 +23,7 @@ use Rattle.circus_world.specs.WorldState.{WorldState, Standing}
 use Rattle.circus_report.specs.Report.{first_line, sent_lines}
 use Rattle.circus_report.specs.ViewLines.{ringmaster_line, views_lines}
 use Rattle.circus_sample.specs.Summary.{count_line}
-use Rattle.circus_standing.specs.Stands.{Stands}
+use Rattle.circus_truth.specs.Stands.{Stands}
 
 -- a node: the record of its member, none at the Ringmaster's, and the step in which it crashed
 pub record NodeFacts : Type 0 where

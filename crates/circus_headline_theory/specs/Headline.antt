@@ -7,7 +7,7 @@ use Rattle.circus_model.specs.Agree.{IsAt}
 use Rattle.circus_model.specs.Behaviour.{Behaviour}
 use Rattle.circus_record.specs.declared.record.MemberRecord.{MemberRecord}
 use Rattle.circus_member_rules.specs.Rules.{ringmaster}
-use Rattle.circus_accepting.specs.Accepting.{troupe_at}
+use Rattle.circus_node.specs.Accepting.{troupe_at}
 use Rattle.circus_schedule.specs.declared.line.Line.{Line}
 use Rattle.circus_world.specs.Lines.{IsBetween}
 use Rattle.circus_world.specs.declared.sent.Sent.{Sent}

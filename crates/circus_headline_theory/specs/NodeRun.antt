@@ -25,9 +25,9 @@ use Rattle.circus_member_rules.specs.declared.occurrence.Occurrence.{Occurrence}
 use Rattle.circus_member_rules.specs.declared.occurrence.Occurrence.TheVariants as occurs
 use Rattle.circus_member_rules.specs.declared.occurrence.Purpose.{Purpose}
 use Rattle.circus_member_rules.specs.declared.occurrence.Purpose.TheVariants as for
-use Rattle.circus_accepting.specs.Accepting.{accepted_call, accepted_table, accepted_state, imported, recorded_ask}
-use Rattle.circus_accepting.specs.Bodies.{outcome_at}
-use Rattle.circus_accepting.specs.Headers.{return_in}
+use Rattle.circus_node.specs.Accepting.{accepted_call, accepted_table, accepted_state, imported, recorded_ask}
+use Rattle.circus_node.specs.Bodies.{outcome_at}
+use Rattle.circus_node.specs.Headers.{return_in}
 use Rattle.circus_node.specs.Booting.{beginning_in, home_in}
 use Rattle.circus_node.specs.declared.event.Event.{Event}
 use Rattle.circus_node.specs.declared.event.Event.TheVariants as comes
@@ -45,7 +45,7 @@ use Rattle.circus_headline_theory.specs.Trace.{made_of, told_of, acts_of, heard_
 use Rattle.circus_node.specs.Trace.{Trace}
 
 -- ---- what is accepted, by the record of the member in the end: an ask of a name is looked up there, and not among the asks that are
--- open then, as where a node decides it (circus_accepting/specs/Accepting.antt)
+-- open then, as where a node decides it (circus_node/specs/Accepting.antt)
 
 -- a reply to an ask of a name: a count for each module, and an outcome of what the ask called
 abbrev pub accepted_reply : Deployment → Signature → MemberRecord → AskName → List ℕ → ℕ → List ℕ → Option Reply

@@ -17,7 +17,7 @@ use Rattle.circus_wire.specs.declared.delivery.Heard.TheVariants.{Dropped, Taken
 use Rattle.circus_member_rules.specs.declared.occurrence.Effect.{Effect}
 use Rattle.circus_member_rules.specs.declared.occurrence.Effect.TheVariants as makes
 use Rattle.circus_member_rules.specs.declared.occurrence.Purpose.{Purpose}
-use Rattle.circus_accepting.specs.Accepting.{accepted_request}
+use Rattle.circus_node.specs.Accepting.{accepted_request}
 use Rattle.circus_node.specs.Making.{table_message}
 use Rattle.circus_node.specs.declared.event.Event.{Event}
 use Rattle.circus_node.specs.declared.event.Event.TheVariants as comes

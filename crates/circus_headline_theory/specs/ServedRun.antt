@@ -9,8 +9,8 @@ use Rattle.circus_outside.specs.declared.link.TakenFrom.TheVariants.{From, Nothi
 use Rattle.circus_record.specs.declared.record.MemberRecord.{MemberRecord}
 use Rattle.circus_node.specs.Trace as trace
 use Rattle.circus_node.specs.Trace.{Trace}
-use Rattle.circus_log.specs.declared.happening.Happening.{Happening}
-use Rattle.circus_log.specs.declared.happening.Happening.TheVariants.{Booted, Stepped, Foreign}
+use Rattle.circus_serve.specs.declared.happening.Happening.{Happening}
+use Rattle.circus_serve.specs.declared.happening.Happening.TheVariants.{Booted, Stepped, Foreign}
 use Rattle.circus_headline_theory.specs.Trace.{now}
 use Rattle.circus_headline_theory.specs.NodeRun.{IsNodeRun}
 

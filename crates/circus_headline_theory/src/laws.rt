@@ -9,7 +9,7 @@ ghost use Rattle.circus_headline_theory.specs.Facts.{facts_of};
 ghost use Rattle.circus_headline_theory.specs.Coming.{NodesLive, NodesSendWhatTheyGive};
 ghost use Rattle.circus_headline_theory.specs.Coming.{NodesGetWhatLinesGive};
 ghost use Rattle.circus_headline_theory.specs.Headline.{Headline};
-ghost use Rattle.circus_accepting.specs.Accepting.{troupe_at};
+ghost use Rattle.circus_node.specs.Accepting.{troupe_at};
 ghost use Rattle.circus_collate.specs.declared.deployment.Troupe.{Troupe};
 ghost use Rattle.circus_record.specs.declared.record.MemberRecord.{MemberRecord};
 ghost use Rattle.circus_performing.specs.Record.{behaviour};
@@ -26,7 +26,7 @@ ghost use Rattle.circus_alike.specs.Alike.{declared_of, turn_of, first_of};
 ghost use Rattle.circus_outside.specs.declared.link.TakenFrom.{TakenFrom};
 ghost use Rattle.circus_node.specs.Booting as booting;
 ghost use Rattle.circus_node.specs.declared.event.Outputs.{Outputs};
-ghost use Rattle.circus_log.specs.Serving.{Served, on, happened_by, served};
+ghost use Rattle.circus_serve.specs.Serving.{Served, on, happened_by, served};
 ghost use Rattle.circus_headline_theory.specs.ServedRun.{IsOfOctets, IsServedRun, IsServedSoFar};
 
 use circus_model::Module;

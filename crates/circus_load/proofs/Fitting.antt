@@ -17,7 +17,7 @@ use Rattle.circus_model.specs.Lawful.{import_of}
 use Rattle.circus_model.specs.declared.signature.Import.{Import}
 use Rattle.circus_modules.specs.Signatures.{implemented}
 use Rattle.circus_modules.specs.Behaviours.{behaviour_of, program_of}
-use Rattle.circus_accepting.specs.Accepting.{is_root}
+use Rattle.circus_node.specs.Accepting.{is_root}
 use Rattle.circus_node.specs.Booting.{IsOfTroupe, AreOfTroupes}
 
 -- what an image at a place is the image of

@@ -22,14 +22,14 @@ use Rattle.circus_member_rules.specs.declared.place.Place.{Place}
 use Rattle.circus_member_rules.specs.declared.place.Beginning.{Beginning}
 use Rattle.circus_member_rules.specs.declared.place.Beginning.TheVariants.{Founder, Spare}
 use Rattle.circus_member_rules.specs.declared.occurrence.AskName.{AskName}
-use Rattle.circus_member_step.specs.MemberState.{MemberState, Doing}
+use Rattle.circus_member_rules.specs.MemberState.{MemberState, Doing}
 use Rattle.circus_member_rules.specs.Callable.{IsReply}
 use Rattle.circus_member_rules.specs.Rules.{is_settled, stays_open}
-use Rattle.circus_member_step.specs.Step.{waits, performer_at_boot, entered, main_start, before_any, starts_at_boot}
-use Rattle.circus_member_step.specs.Happening.{IsHome}
-use Rattle.circus_member_step.specs.Seen.Sound.{IsHeld, IsOpenAsk, AreNamed, IsSound, MayStart, IsRested}
-use Rattle.circus_member_step.proofs.Starting.{sound_entered}
-use Rattle.circus_member_step.proofs.Unsettled.{entered_left}
+use Rattle.circus_member_rules.specs.Step.{waits, performer_at_boot, entered, main_start, before_any, starts_at_boot}
+use Rattle.circus_member_rules.specs.Happening.{IsHome}
+use Rattle.circus_member_rules.specs.Seen.Sound.{IsHeld, IsOpenAsk, AreNamed, IsSound, MayStart, IsRested}
+use Rattle.circus_member_rules.proofs.Starting.{sound_entered}
+use Rattle.circus_member_rules.proofs.Unsettled.{entered_left}
 
 none_named : AreNamed []
 unfolding IsDistinct

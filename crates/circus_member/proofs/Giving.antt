@@ -8,11 +8,11 @@ use Rattle.circus_record.specs.declared.record.MemberRecord.{MemberRecord}
 use Rattle.circus_performing.specs.Performing.{open_ask, is_active}
 use Rattle.circus_performing.specs.Record.{IsRecord}
 use Rattle.circus_member_rules.specs.declared.occurrence.Effect.{Effect}
-use Rattle.circus_member_step.specs.MemberState.{Doing, adding}
+use Rattle.circus_member_rules.specs.MemberState.{Doing, adding}
 use Rattle.circus_member_rules.specs.Rules.{snapshots_owed}
-use Rattle.circus_member_step.specs.Step.{is_idle, given_states}
-use Rattle.circus_member_step.proofs.Starting.{and_right, none_from_test}
-use Rattle.circus_member_step.proofs.Writing.{none_is_idle}
+use Rattle.circus_member_rules.specs.Step.{is_idle, given_states}
+use Rattle.circus_member_rules.proofs.Starting.{and_right, none_from_test}
+use Rattle.circus_member_rules.proofs.Writing.{none_is_idle}
 
 module _ {M : Type 0} (d : Doing M) where
   pub not_idle : is_idle d.member.performing.kept ≡ false → d ≡ given_states d

@@ -12,11 +12,11 @@ use Rattle.circus_performing.specs.declared.start.RunStart.{RunStart}
 use Rattle.circus_performing.specs.Performing.{Performing}
 use Rattle.circus_performing.specs.Record.{behaviour}
 use Rattle.circus_gather.specs.Gathering.{Gathered}
-use Rattle.circus_member_step.specs.MemberState.{Doing}
-use Rattle.circus_member_step.specs.Step.{is_idle, start_by_call, next_start, given_states, entered, starting}
-use Rattle.circus_member_step.specs.Seen.Sound.{MayStart}
-use Rattle.circus_member_step.proofs.Starting.{next_is_ready, may_start, IsSoundNow, sound_given, sound_entered}
-use Rattle.circus_member_step.proofs.Enough.{any_held, held_by, start_by, given_gathered, given_performing, next_is_idle, fewer_started, none_started, once_started, same_starting, less_enough}
+use Rattle.circus_member_rules.specs.MemberState.{Doing}
+use Rattle.circus_member_rules.specs.Step.{is_idle, start_by_call, next_start, given_states, entered, starting}
+use Rattle.circus_member_rules.specs.Seen.Sound.{MayStart}
+use Rattle.circus_member_rules.proofs.Starting.{next_is_ready, may_start, IsSoundNow, sound_given, sound_entered}
+use Rattle.circus_member_rules.proofs.Enough.{any_held, held_by, start_by, given_gathered, given_performing, next_is_idle, fewer_started, none_started, once_started, same_starting, less_enough}
 
 -- how many starts may follow
 abbrev pub starts_left : {M : Type 0} → Doing M → ℕ

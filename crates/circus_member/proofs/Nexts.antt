@@ -10,9 +10,9 @@ use Rattle.circus_gather.specs.Gathering.{call_to_start}
 use Rattle.circus_performing.specs.Performing.{open_ask}
 use Rattle.circus_member_rules.specs.declared.occurrence.AskName.{AskName}
 use Rattle.circus_member_rules.specs.OpenAsks.{asking_of}
-use Rattle.circus_member_step.specs.MemberState.{MemberState}
+use Rattle.circus_member_rules.specs.MemberState.{MemberState}
 use Rattle.circus_member_rules.specs.Rules.{value_of_ask}
-use Rattle.circus_member_step.specs.Step.{name_of_last, is_idle, value_of_open, next_start}
+use Rattle.circus_member_rules.specs.Step.{name_of_last, is_idle, value_of_open, next_start}
 
 module _ {M : Type 0} (m : MemberState M) where
   -- the value of an ask by its name

@@ -19,16 +19,16 @@ use Rattle.circus_performing.proofs.Records.{performing_has_one}
 use Rattle.circus_member_rules.specs.declared.occurrence.AskName.{AskName}
 use Rattle.circus_member_rules.specs.declared.occurrence.Effect.{Effect}
 use Rattle.circus_member_rules.specs.OpenAsks.{with_ask}
-use Rattle.circus_member_step.specs.MemberState.{MemberState, Doing}
+use Rattle.circus_member_rules.specs.MemberState.{MemberState, Doing}
 use Rattle.circus_member_rules.specs.Messages.{reply_message}
 use Rattle.circus_member_rules.specs.Rules.{index_of_last, answers, answers_of_run, calls_of_ask}
-use Rattle.circus_member_step.specs.Step.{name_of_last, asking_begun, reply_of_run, opened_by_view, opened_ask, ended_run, opened_last, ended_last, after_turns}
+use Rattle.circus_member_rules.specs.Step.{name_of_last, asking_begun, reply_of_run, opened_by_view, opened_ask, ended_run, opened_last, ended_last, after_turns}
 use Rattle.circus_member_rules.specs.Callable.{MayCall, IsReply}
-use Rattle.circus_member_step.specs.Seen.Sound.{IsRunOf, HasTurned}
-use Rattle.circus_member_step.proofs.Homes.{may_call, slice_get_none}
-use Rattle.circus_member_step.proofs.Runs.{few_asks}
-use Rattle.circus_member_step.proofs.Writing.{CanWrite, writable_ask, one_is_performing, ask_is_lawful, last_has_ended, reply_is}
-use Rattle.circus_member_step.proofs.Turned.{IsAsking, asking_now}
+use Rattle.circus_member_rules.specs.Seen.Sound.{IsRunOf, HasTurned}
+use Rattle.circus_member_rules.proofs.Homes.{may_call, slice_get_none}
+use Rattle.circus_member_rules.proofs.Runs.{few_asks}
+use Rattle.circus_member_rules.proofs.Writing.{CanWrite, writable_ask, one_is_performing, ask_is_lawful, last_has_ended, reply_is}
+use Rattle.circus_member_rules.proofs.Turned.{IsAsking, asking_now}
 
 module _ {M : Type 0} (b : Behaviour) (lawful : IsModule b) (m : MemberState M) (h : HasTurned b m) (r : IsRecord b m.performing.began m.performing.kept) where
   -- the last run

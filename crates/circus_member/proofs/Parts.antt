@@ -2,14 +2,14 @@
 use Rattle.std.proofs.Common.{◌≡◌, List, Ok, Err, subst, ◌∙◌}
 use Rattle.std.specs.Prelude.{Result, IfOk, OnOk}
 use Rattle.circus_value.specs.declared.caller.Caller.{Caller}
-use Rattle.circus_known.specs.Knowing.{Knowing}
+use Rattle.circus_fanout.specs.Knowing.{Knowing}
 use Rattle.circus_gather.specs.Gathering.{Gathered}
 use Rattle.circus_fanout.specs.Asking.{Asking}
 use Rattle.circus_performing.specs.Performing.{Performing}
 use Rattle.circus_member_rules.specs.declared.place.Place.{Place}
 use Rattle.circus_member_rules.specs.declared.occurrence.AskName.{AskName}
 use Rattle.circus_member_rules.specs.declared.occurrence.Effect.{Effect}
-use Rattle.circus_member_step.specs.MemberState.{Doing}
+use Rattle.circus_member_rules.specs.MemberState.{Doing}
 
 abbrev pub doing_of : {M : Type 0} → Place → Knowing → Gathered → Performing M → List (AskName × Asking) → List Caller → List Effect → Doing M
 doing_of place known gathered performing asks requests effects =

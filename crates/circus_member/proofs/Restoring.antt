@@ -3,9 +3,9 @@ use Rattle.std.proofs.Common.{◌≡◌, ℕ, Bool, true, false, cond, if◌then
 use Rattle.circus_value.specs.ValueTree.{ValueTree}
 use Rattle.circus_gather.specs.Gathering.{with_first}
 use Rattle.circus_performing.specs.Performing.{Performing, is_fetching, made_active, activated}
-use Rattle.circus_member_step.specs.MemberState.{MemberState, Doing, behind}
+use Rattle.circus_member_rules.specs.MemberState.{MemberState, Doing, behind}
 use Rattle.circus_member_rules.specs.Rules.{active_call, before_answers}
-use Rattle.circus_member_step.specs.Step.{restored, begun}
+use Rattle.circus_member_rules.specs.Step.{restored, begun}
 
 module _ {M : Type 0} (d : Doing M) (at : ℕ) (state : List ValueTree) (count : ℕ) where
   by_phase : (t : Bool) → is_fetching d.member.performing.kept.phase ≡ t → behind d (restored at d.member state count) ≡ behind d (if t then record { member = record d.member { performing = made_active at state count d.member.performing; gathered = with_first d.member.gathered count }; effects = active_call d.member.place d.member.known count ++ before_answers d.member.gathered count } else record { member = d.member; effects = [] })

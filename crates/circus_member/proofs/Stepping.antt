@@ -9,15 +9,15 @@ use Rattle.circus_performing.specs.Record.{behaviour}
 use Rattle.circus_member_rules.specs.declared.closing.Concern.{Concern}
 use Rattle.circus_member_rules.specs.declared.occurrence.AskName.{AskName}
 use Rattle.circus_member_rules.specs.declared.occurrence.Occurrence.{Occurrence}
-use Rattle.circus_member_step.specs.MemberState.{MemberState, Doing, behind}
+use Rattle.circus_member_rules.specs.MemberState.{MemberState, Doing, behind}
 use Rattle.circus_member_rules.specs.Rules.{concern_of}
-use Rattle.circus_member_step.specs.Step.{handled, executed, closed_by, looked_up, stepped}
-use Rattle.circus_member_step.specs.GoneOn.{HasGoneOn}
-use Rattle.circus_member_step.specs.Seen.Sound.{IsSound, IsRested}
-use Rattle.circus_member_step.proofs.Starting.{IsSoundNow, sound_executed}
-use Rattle.circus_member_step.proofs.Resting.{rested}
-use Rattle.circus_member_step.proofs.Unsettled.{waited_by, closed_same}
-use Rattle.circus_member_step.proofs.Done.{executed_done, still_done}
+use Rattle.circus_member_rules.specs.Step.{handled, executed, closed_by, looked_up, stepped}
+use Rattle.circus_member_rules.specs.GoneOn.{HasGoneOn}
+use Rattle.circus_member_rules.specs.Seen.Sound.{IsSound, IsRested}
+use Rattle.circus_member_rules.proofs.Starting.{IsSoundNow, sound_executed}
+use Rattle.circus_member_rules.proofs.Resting.{rested}
+use Rattle.circus_member_rules.proofs.Unsettled.{waited_by, closed_same}
+use Rattle.circus_member_rules.proofs.Done.{executed_done, still_done}
 
 module _ {M : Type 0} (declared : M → Signature) (turn : M → List ValueTree → ℕ → List ValueTree → List Outcome → NextTurn) (first : M → List ValueTree) (at : ℕ) (o : Occurrence) (m : MemberState M) where
   -- what happens is handled, goes on, and is closed

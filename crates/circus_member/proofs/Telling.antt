@@ -5,19 +5,19 @@ use Rattle.circus_header.specs.declared.call.Request.{Request}
 use Rattle.circus_collate.specs.declared.view.View.{View}
 use Rattle.circus_collate.specs.declared.table.Table.{Table}
 use Rattle.circus_model.specs.declared.signature.Signature.{Signature}
-use Rattle.circus_known.specs.Knowing.{Knowing, is_newer, told as with_view_told}
+use Rattle.circus_fanout.specs.Knowing.{Knowing, is_newer, told as with_view_told}
 use Rattle.circus_fanout.specs.Asking.{Asking}
 use Rattle.circus_performing.specs.Performing.{Performing}
 use Rattle.circus_member_rules.specs.declared.occurrence.AskName.{AskName}
 use Rattle.circus_member_rules.specs.declared.place.Place.{Place}
 use Rattle.circus_member_rules.specs.declared.occurrence.Effect.{Effect}
-use Rattle.circus_member_step.specs.MemberState.{Doing, adding, behind}
+use Rattle.circus_member_rules.specs.MemberState.{Doing, adding, behind}
 use Rattle.circus_member_rules.specs.Rules.{with_new_view, calls_for_a_new_view, givers, state_request, state_requests}
-use Rattle.circus_member_step.specs.Step.{answered_by_ring, known_by_table, kept_by_table, is_taken_in, told, seen_by, with_record}
+use Rattle.circus_member_rules.specs.Step.{answered_by_ring, known_by_table, kept_by_table, is_taken_in, told, seen_by, with_record}
 use Rattle.circus_member_rules.specs.Callable.{AllMayCall}
-use Rattle.circus_member_step.specs.Happening.{IsHome}
-use Rattle.circus_member_step.specs.Seen.Sound.{AreOpen}
-use Rattle.circus_member_step.proofs.Homes.{HaveIncarnations, home_with, ring_views, told_as_many, told_incarnations, ring_down, told_down, all_may_call}
+use Rattle.circus_member_rules.specs.Happening.{IsHome}
+use Rattle.circus_member_rules.specs.Seen.Sound.{AreOpen}
+use Rattle.circus_member_rules.proofs.Homes.{HaveIncarnations, home_with, ring_views, told_as_many, told_incarnations, ring_down, told_down, all_may_call}
 
 -- those that are down stay so
 pub table_down : (k : Knowing) (request : Request) (view : View) → (known_by_table k request view).down ≡ k.down

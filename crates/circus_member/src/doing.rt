@@ -5,25 +5,22 @@ ghost use Rattle.circus_header.specs.CallFields.{IsIncarnation};
 ghost use Rattle.circus_model.specs.Lawful.{IsState};
 ghost use Rattle.circus_performing.specs.Performing as performing;
 ghost use Rattle.circus_performing.specs.Record.{behaviour};
-ghost use Rattle.circus_member_step.specs.MemberState.{behind};
+ghost use Rattle.circus_member_rules.specs.MemberState.{behind};
 ghost use Rattle.circus_member_rules.specs.Rules as rules;
-ghost use Rattle.circus_member_step.specs.Step as step;
+ghost use Rattle.circus_member_rules.specs.Step as step;
 ghost use Rattle.circus_member_rules.specs.Callable.{AreViews, AllMayCall, AreReplies, AreHosts};
-ghost use Rattle.circus_member_step.specs.Happening.{IsHome, CanHappen};
-ghost use Rattle.circus_member_step.specs.Seen.Sound.{AreOpen, IsSound, HasTurned, MayStart};
+ghost use Rattle.circus_member_rules.specs.Happening.{IsHome, CanHappen};
+ghost use Rattle.circus_member_rules.specs.Seen.Sound.{AreOpen, IsSound, HasTurned, MayStart};
 
 use circus_collate::{Table, View};
-use circus_fanout::Fanout;
+use circus_fanout::{Fanout, Known};
 use circus_gather::Gather;
 use circus_header::{CallHeader, Reply, Request};
-use circus_known::Known;
 use circus_member_rules::{
     AskName, Concern, Difference, Effects, Occurrence, OpenAsks, Place, answer_all, ask_for_states,
-    begin_at, body_of, calls_of_ask, close_by, givers, look_up, reply_message, request_to_ring,
-    take_call, take_state_request, tell_gone, value_of_ask,
-};
-use circus_member_step::{
-    header_of_ask, index_of_last, is_idle, name_of_last, name_of_open, reply_of_run, start_of_call,
+    begin_at, body_of, calls_of_ask, close_by, givers, header_of_ask, index_of_last, is_idle,
+    look_up, name_of_last, name_of_open, reply_message, reply_of_run, request_to_ring,
+    start_of_call, take_call, take_state_request, tell_gone, value_of_ask,
 };
 use circus_model::Module;
 use circus_performing::{Performer, RunStart};
@@ -46,7 +43,7 @@ pub(crate) struct Doing<M: Module> {
 }
 
 impl<M: Module> Model for Doing<M> {
-    ghost use Rattle.circus_member_step.specs.MemberState.{Doing};
+    ghost use Rattle.circus_member_rules.specs.MemberState.{Doing};
     ghost use Rattle.circus_member.specs.Seen.StateCode.{doing_code};
 
     ghost Value = { Doing M };

@@ -3,21 +3,21 @@ ghost use Rattle.std.specs.Prelude.{◌≡◌, ◌≤◌, length, [], IfOk, opti
 ghost use Rattle.circus_limits.specs.Limits.{most_modules};
 ghost use Rattle.circus_fanout.specs.Asking.{Asking};
 ghost use Rattle.circus_member_rules.specs.OpenAsks.{asking_of};
-ghost use Rattle.circus_member_step.specs.Step as step;
-ghost use Rattle.circus_member_step.specs.Happening.{IsHome, CanHappen};
-ghost use Rattle.circus_member_step.specs.GoneOn.{HasGoneOn};
-ghost use Rattle.circus_member_step.specs.Seen.Sound.{IsRested};
+ghost use Rattle.circus_member_rules.specs.Step as step;
+ghost use Rattle.circus_member_rules.specs.Happening.{IsHome, CanHappen};
+ghost use Rattle.circus_member_rules.specs.GoneOn.{HasGoneOn};
+ghost use Rattle.circus_member_rules.specs.Seen.Sound.{IsRested};
 ghost use Rattle.circus_performing.specs.Record.{behaviour, IsRecord};
 
 use crate::doing::Doing;
 use circus_collate::Views;
+use circus_fanout::Known;
 use circus_gather::Gather;
 use circus_header::CallHeader;
-use circus_known::Known;
 use circus_member_rules::{
-    AskName, Beginning, Difference, Effects, Occurrence, OpenAsks, Place, concern_of,
+    AskName, Beginning, Difference, Effects, Occurrence, OpenAsks, Place, concern_of, main_start,
+    name_of_open,
 };
-use circus_member_step::{main_start, name_of_open};
 use circus_model::{Module, Signature};
 use circus_performing::Performer;
 use circus_record::MemberRecord;
@@ -52,9 +52,9 @@ impl<M: Module> Drop for Member<M> {
 }
 
 impl<M: Module> Model for Member<M> {
-    ghost use Rattle.circus_member_step.specs.MemberState.{MemberState};
+    ghost use Rattle.circus_member_rules.specs.MemberState.{MemberState};
     ghost use Rattle.circus_member.specs.Seen.StateCode.{state_code};
-    ghost use Rattle.circus_member_step.specs.Seen.Sound.{IsRested};
+    ghost use Rattle.circus_member_rules.specs.Seen.Sound.{IsRested};
     ghost use Rattle.circus_performing.specs.Record.{behaviour};
 
     ghost Value = { MemberState M };

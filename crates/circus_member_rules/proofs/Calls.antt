@@ -7,8 +7,8 @@ use Rattle.circus_header.specs.declared.call.CallHeader.{CallHeader}
 use Rattle.circus_collate.specs.declared.view.View.{View}
 use Rattle.circus_collate.specs.declared.view.Entry.{Entry}
 use Rattle.circus_collate.specs.Expecting.{has_node}
-use Rattle.circus_known.specs.Knowing.{Knowing, is_due as is_wanted, due_of, due_from, lookups}
-use Rattle.circus_known.specs.declared.known.Want.{Want}
+use Rattle.circus_fanout.specs.Knowing.{Knowing, is_due as is_wanted, due_of, due_from, lookups}
+use Rattle.circus_fanout.specs.declared.known.Want.{Want}
 use Rattle.circus_fanout.specs.Asking.{Asking, calls_for_a_view, is_due, send_to, next}
 use Rattle.circus_fanout.specs.declared.asked.Asked.{Asked}
 use Rattle.circus_fanout.specs.declared.send.Send.{Send}

@@ -18,7 +18,7 @@ use Rattle.circus_record.specs.declared.record.RunRecord.{RunRecord}
 use Rattle.circus_record.specs.declared.record.MemberRecord.{MemberRecord}
 use Rattle.circus_performing.specs.Performing.{last_of}
 use Rattle.circus_collate.specs.declared.view.View.{View}
-use Rattle.circus_known.specs.Knowing.{Knowing}
+use Rattle.circus_fanout.specs.Knowing.{Knowing}
 use Rattle.circus_fanout.specs.Asking.{Asking}
 use Rattle.circus_fanout.specs.declared.send.Next.{Next}
 use Rattle.circus_fanout.specs.declared.send.Next.TheVariants as next

@@ -3,3 +3,7 @@ pub mod OpenAsks
 pub mod Rules
 pub mod Callable
 pub mod Seen
+pub mod MemberState
+pub mod Step
+pub mod Happening
+pub mod GoneOn

@@ -19,8 +19,8 @@ use Rattle.circus_collate.specs.declared.collating.Collated.TheVariants.{Waiting
 use Rattle.circus_collate.specs.Expecting.{has_node}
 use Rattle.circus_record.specs.declared.record.MemberRecord.{MemberRecord}
 use Rattle.circus_transfer.specs.Snapshot.{snapshot_bytes}
-use Rattle.circus_known.specs.Knowing.{Knowing}
-use Rattle.circus_known.specs.Knowing as knowing
+use Rattle.circus_fanout.specs.Knowing.{Knowing}
+use Rattle.circus_fanout.specs.Knowing as knowing
 use Rattle.circus_gather.specs.Gathering.{Gathered}
 use Rattle.circus_gather.specs.Gathering as gathering
 use Rattle.circus_gather.specs.declared.added.Added.{Added}

@@ -1,2 +1,3 @@
--- How code is seen: codes of what is kept. No public call cites these.
+-- How code is seen: codes of what is kept, and what code keeps true. No public call cites these.
 pub mod AsksCode
+pub mod Sound

@@ -7,9 +7,9 @@ ghost use Rattle.circus_member_rules.specs.Callable.{AreReplies, MayAnswer};
 
 use crate::messages::{before_message, reply_message, stale_message};
 use crate::{Effect, Effects};
+use circus_fanout::Known;
 use circus_gather::{Added, Gather};
 use circus_header::CallHeader;
-use circus_known::Known;
 use circus_value::{Caller, Callers, Duplicate, Message, NoMemory, Parts};
 use std::alloc::Global;
 

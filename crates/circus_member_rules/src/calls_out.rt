@@ -8,9 +8,8 @@ ghost use Rattle.circus_member_rules.specs.Callable.{AreViews, MayCall, CallsAVi
 use crate::messages::ask_message;
 use crate::{AskName, Difference, Effect, Effects, Purpose};
 use circus_collate::{Collated, Said, View};
-use circus_fanout::{Fanout, Next, Send, Watched};
+use circus_fanout::{Fanout, Known, Next, Send, Watched};
 use circus_header::{CallHeader, Reply};
-use circus_known::Known;
 use circus_value::{Duplicate, NoMemory};
 use std::alloc::Global;
 

@@ -5,7 +5,7 @@ ghost use Rattle.circus_member_rules.specs.Rules as rules;
 
 use crate::open_asks::OpenAsks;
 use crate::{AskName, Occurrence};
-use circus_known::Known;
+use circus_fanout::Known;
 
 /// What a step concerns of the asks, besides the one that waited for its value.
 #[derive(Clone, Copy, Drop)]

@@ -2,15 +2,15 @@
 ghost use Rattle.std.specs.Prelude.{◌≡◌, ◌≤◌, ◌++◌, length, map, All, OnOk, IfOk};
 ghost use Rattle.circus_header.specs.CallFields.{IsRequest, IsModule, IsIncarnation};
 ghost use Rattle.circus_limits.specs.Limits.{most_modules};
-ghost use Rattle.circus_known.specs.Knowing as knowing;
+ghost use Rattle.circus_fanout.specs.Knowing as knowing;
 ghost use Rattle.circus_member_rules.specs.Rules as rules;
 ghost use Rattle.circus_member_rules.specs.Callable.{AreHosts};
 
 use crate::messages::{fetch_message, request_message};
 use crate::{Effect, Effects, Place, Purpose};
 use circus_collate::{Entry, Since, View};
+use circus_fanout::Known;
 use circus_header::Request;
-use circus_known::Known;
 use circus_value::{ListOf, NoMemory, Nodes, is_among};
 use std::alloc::Global;
 

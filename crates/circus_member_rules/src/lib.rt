@@ -4,6 +4,11 @@
 //! made of calls that come in, `calls_out` what of asks, `open_asks` those that aren't closed, `closing` which of them a
 //! step closes, and `joining` what is asked of the Ringmaster and of other members. `arguments` says what bytes spell, and
 //! `messages` has the bytes that are sent.
+//!
+//! A step of a member of a troupe, plainly: its state, what happens to it, and what it is behind that.
+//!
+//! `specs/Step.antt` says what a step is, rule by rule, and `specs/Seen/Sound.antt` what every step keeps; the proofs are of
+//! these alone. `running` has what a member's record shows of its runs.
 #![tactic(auto)]
 
 mod arguments;
@@ -15,6 +20,7 @@ mod messages;
 mod occurrence;
 mod open_asks;
 mod place;
+mod running;
 
 pub use arguments::arguments_in;
 pub use calls_in::{answer_all, begin_at, take_call, take_state_request};
@@ -25,3 +31,7 @@ pub use messages::{body_of, reply_message};
 pub use occurrence::{AskName, Difference, Effect, Effects, Occurrence, Purpose};
 pub use open_asks::OpenAsks;
 pub use place::{Beginning, Place};
+pub use running::{
+    header_of_ask, index_of_last, is_idle, main_start, name_of_last, name_of_open, reply_of_run,
+    start_of_call,
+};

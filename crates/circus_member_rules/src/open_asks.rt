@@ -10,9 +10,8 @@ ghost use Rattle.circus_member_rules.specs.Callable.{AreViews, MayCall, AllMayCa
 use crate::calls_out::{is_settled, replied, stale, view_calls};
 use crate::{AskName, Difference, Effects};
 use circus_collate::View;
-use circus_fanout::Fanout;
+use circus_fanout::{Fanout, Known};
 use circus_header::Reply;
-use circus_known::Known;
 use circus_value::NoMemory;
 use indexmap::IndexMap;
 use std::alloc::Global;

@@ -23,8 +23,8 @@ use Rattle.circus_member_rules.specs.declared.occurrence.Occurrence.{Occurrence}
 use Rattle.circus_member_rules.specs.declared.occurrence.Occurrence.TheVariants as comes
 use Rattle.circus_member_rules.specs.OpenAsks.{asking_of}
 use Rattle.circus_member_rules.specs.Rules.{difference_by, difference_told}
-use Rattle.circus_member_step.specs.MemberState.{MemberState}
-use Rattle.circus_member_step.specs.Step.{difference}
+use Rattle.circus_member_rules.specs.MemberState.{MemberState}
+use Rattle.circus_member_rules.specs.Step.{difference}
 use Rattle.circus_truth.specs.Truth.{reply_to, Answers, IsTrueAsking, IsTrueMember, IsTrueOccurrence}
 use Rattle.circus_member_theory.proofs.Accepting.Entries.{ask_found}
 

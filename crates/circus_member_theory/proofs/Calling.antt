@@ -17,7 +17,7 @@ use Rattle.circus_model.specs.Behaviour.{Behaviour}
 use Rattle.circus_model.specs.Agree.{IsAt, AreModules, Agree}
 use Rattle.circus_model.specs.Execution.{history_of}
 use Rattle.circus_model.specs.History.{clock_before}
-use Rattle.circus_known.specs.Knowing.{Knowing}
+use Rattle.circus_fanout.specs.Knowing.{Knowing}
 use Rattle.circus_fanout.specs.Asking.{Asking, calls_for_a_view, is_due, send_to, next}
 use Rattle.circus_fanout.specs.declared.asked.Asked.{Asked}
 use Rattle.circus_fanout.specs.declared.send.Send.{Send}

@@ -25,7 +25,7 @@ use Rattle.circus_model.specs.Execution.{history_of}
 use Rattle.circus_model.specs.History.{run_at, state_after}
 use Rattle.circus_record.specs.declared.record.AskRecord.{AskRecord}
 use Rattle.circus_record.specs.declared.record.MemberRecord.{MemberRecord}
-use Rattle.circus_known.specs.Knowing.{Knowing}
+use Rattle.circus_fanout.specs.Knowing.{Knowing}
 use Rattle.circus_gather.specs.declared.held.HeldCall.{HeldCall}
 use Rattle.circus_gather.specs.Gathering.{call_to_start}
 use Rattle.circus_fanout.specs.Asking.{Asking, answer}
@@ -39,16 +39,16 @@ use Rattle.circus_member_rules.specs.OpenAsks.{asking_of}
 use Rattle.circus_member_rules.specs.Messages.{arguments_in}
 use Rattle.circus_member_rules.specs.Rules.{answer_in, value_of_ask, snapshots_owed, clock_at_entry}
 use Rattle.circus_member_rules.specs.Rules as rules
-use Rattle.circus_member_step.specs.MemberState.{MemberState, Doing, adding}
-use Rattle.circus_member_step.specs.Step.{name_of_last, is_idle, start_by_call, after_turns, value_of_open, given_states, next_start, answered_by, answered_open, entered, starting, executed}
-use Rattle.circus_member_step.specs.Seen.Sound.{IsSound, MayStart}
-use Rattle.circus_member_step.proofs.Sound.{sound_requests}
-use Rattle.circus_member_step.proofs.Turned.{IsTurned, sound_after_turns, same_hosted}
-use Rattle.circus_member_step.proofs.Entering.{with_entered, turned_by_start, HasValue, has_value, with_answered, turned_by_reply}
-use Rattle.circus_member_step.proofs.Writing.{one_is_performing}
-use Rattle.circus_member_step.proofs.Starting.{none_from_test, given_is_chosen, IsReady, next_is_ready, may_start, IsSoundNow}
-use Rattle.circus_standing.specs.Stands.{Stands}
-use Rattle.circus_standing.specs.Messages.{IsTrueState}
+use Rattle.circus_member_rules.specs.MemberState.{MemberState, Doing, adding}
+use Rattle.circus_member_rules.specs.Step.{name_of_last, is_idle, start_by_call, after_turns, value_of_open, given_states, next_start, answered_by, answered_open, entered, starting, executed}
+use Rattle.circus_member_rules.specs.Seen.Sound.{IsSound, MayStart}
+use Rattle.circus_member_rules.proofs.Sound.{sound_requests}
+use Rattle.circus_member_rules.proofs.Turned.{IsTurned, sound_after_turns, same_hosted}
+use Rattle.circus_member_rules.proofs.Entering.{with_entered, turned_by_start, HasValue, has_value, with_answered, turned_by_reply}
+use Rattle.circus_member_rules.proofs.Writing.{one_is_performing}
+use Rattle.circus_member_rules.proofs.Starting.{none_from_test, given_is_chosen, IsReady, next_is_ready, may_start, IsSoundNow}
+use Rattle.circus_truth.specs.Stands.{Stands}
+use Rattle.circus_truth.specs.Messages.{IsTrueState}
 use Rattle.circus_member_theory.proofs.Histories.{takes, clock_counts, asked_run}
 use Rattle.circus_member_theory.proofs.Standing.{open_is, entered_stands, answered_stands, idle_is}
 use Rattle.circus_member_theory.proofs.Accepting.Arguments.{arguments_read}

@@ -29,7 +29,7 @@ use Rattle.circus_model.specs.Execution.{history_of}
 use Rattle.circus_model.specs.History.{run_at, state_after}
 use Rattle.circus_model.proofs.Logging.{some_and}
 use Rattle.circus_record.specs.declared.record.MemberRecord.{MemberRecord}
-use Rattle.circus_known.specs.Knowing.{Knowing, is_newer, told, declared}
+use Rattle.circus_fanout.specs.Knowing.{Knowing, is_newer, told, declared}
 use Rattle.circus_gather.specs.declared.added.Added.{Added}
 use Rattle.circus_gather.specs.declared.added.Added.TheVariants as added
 use Rattle.circus_gather.specs.declared.held.HeldCall.{HeldCall}
@@ -47,17 +47,17 @@ use Rattle.circus_member_rules.specs.Messages.{reply_message, stale_message, bef
 use Rattle.circus_member_rules.specs.Rules.{answer, answers, answer_at_once, call_for, call_again, after_stale, is_to, calls_for_a_new_view, seen_by_ask, with_new_view, request_call, request_to_ring, ringmaster, givers, state_request, state_requests, active_call, before_answers, gone_from}
 use Rattle.circus_member_rules.specs.Callable.{MayAnswer}
 use Rattle.circus_member_rules.proofs.Returns.{may_answer}
-use Rattle.circus_member_step.specs.MemberState.{MemberState, Doing}
-use Rattle.circus_member_step.specs.Step as step
-use Rattle.circus_member_step.specs.Step.{is_join, is_taken_in, answered_by_ring, known_by_table, kept_by_table, handled}
-use Rattle.circus_member_step.specs.Happening.{CanHappen}
-use Rattle.circus_member_step.specs.Seen.Sound.{IsOpenAsk, IsSound}
-use Rattle.circus_member_step.proofs.Named.{names_decide, All-changed_at}
-use Rattle.circus_member_step.proofs.Homes.{told_as_many, told_incarnations, ring_views, called_views, declared_views, home_with, are_views, may_call}
-use Rattle.circus_member_step.proofs.Held.{called_same}
-use Rattle.circus_member_step.proofs.Sound.{sound_known}
-use Rattle.circus_standing.specs.Stands.{Stands}
-use Rattle.circus_standing.specs.Messages.{IsReplyOf, IsTrueReply, IsTrueState}
+use Rattle.circus_member_rules.specs.MemberState.{MemberState, Doing}
+use Rattle.circus_member_rules.specs.Step as step
+use Rattle.circus_member_rules.specs.Step.{is_join, is_taken_in, answered_by_ring, known_by_table, kept_by_table, handled}
+use Rattle.circus_member_rules.specs.Happening.{CanHappen}
+use Rattle.circus_member_rules.specs.Seen.Sound.{IsOpenAsk, IsSound}
+use Rattle.circus_member_rules.proofs.Named.{names_decide, All-changed_at}
+use Rattle.circus_member_rules.proofs.Homes.{told_as_many, told_incarnations, ring_views, called_views, declared_views, home_with, are_views, may_call}
+use Rattle.circus_member_rules.proofs.Held.{called_same}
+use Rattle.circus_member_rules.proofs.Sound.{sound_known}
+use Rattle.circus_truth.specs.Stands.{Stands}
+use Rattle.circus_truth.specs.Messages.{IsReplyOf, IsTrueReply, IsTrueState}
 use Rattle.circus_truth.specs.Proper.{AreProper}
 use Rattle.circus_truth.specs.Truth.{IsLong, Answers, IsTrueAsking, IsCalled, IsTrueKept, IsFetch, IsTrueMember, IsTrueOccurrence, IsOtherReturn, IsTrueEffect}
 use Rattle.circus_member_theory.proofs.Standing.{active_stands}

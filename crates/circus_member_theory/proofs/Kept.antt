@@ -3,7 +3,7 @@ use Rattle.std.specs.Prelude.{ℕ, List, All}
 use Rattle.circus_value.specs.ValueTree.{ValueTree}
 use Rattle.circus_value.specs.declared.caller.Caller.{Caller}
 use Rattle.circus_model.specs.declared.history.Run.{Run}
-use Rattle.circus_member_step.specs.MemberState.{Doing}
+use Rattle.circus_member_rules.specs.MemberState.{Doing}
 use Rattle.circus_truth.specs.Truth.{IsTrueMember, IsTrueEffect}
 
 -- the member is a true one, and so are its effects

@@ -16,7 +16,7 @@ use Rattle.circus_model.specs.Behaviour.{Behaviour, IsModule}
 use Rattle.circus_record.specs.declared.record.AskRecord.{AskRecord}
 use Rattle.circus_record.specs.declared.record.RunRecord.{RunRecord}
 use Rattle.circus_gather.specs.declared.held.HeldCall.{HeldCall}
-use Rattle.circus_known.specs.Knowing.{Knowing}
+use Rattle.circus_fanout.specs.Knowing.{Knowing}
 use Rattle.circus_gather.specs.Gathering.{answer_to, with_start, with_first}
 use Rattle.circus_gather.specs.Gathering as gathering
 use Rattle.circus_fanout.specs.Asking.{Asking}
@@ -34,17 +34,17 @@ use Rattle.circus_member_rules.specs.declared.occurrence.Occurrence.{Occurrence}
 use Rattle.circus_member_rules.specs.declared.occurrence.Occurrence.TheVariants as comes
 use Rattle.circus_member_rules.specs.Callable.{IsReply}
 use Rattle.circus_member_rules.specs.Rules.{is_settled, stays_open, active_call, before_answers, snapshots_owed}
-use Rattle.circus_member_step.specs.MemberState.{MemberState, Doing, adding}
-use Rattle.circus_member_step.specs.Step.{name_of_last, asking_begun, is_idle, start_by_call, main_start, answered_by_ring, with_record, opened_by_view, opened_ask, ended_run, after_turns, value_of_open, given_states, next_start, answered_by, answered_open, entered, starting, executed, closed, looked_up, stepped, handled, waits, performer_at_boot, before_any, starts_at_boot, booted}
-use Rattle.circus_member_step.specs.GoneOn.{HasGoneOn}
-use Rattle.circus_member_step.specs.Happening.{IsHome, CanHappen}
-use Rattle.circus_member_step.specs.Seen.Sound.{IsHeld, IsOpenAsk, AreNamed, IsSound, MayStart, IsRested}
-use Rattle.circus_member_step.proofs.Homes.{told_as_many, ring_views, called_views, declared_views}
-use Rattle.circus_member_step.proofs.Handled.{sound_asked, sound_fetched, sound_replied, sound_before, sound_stale, sound_told, sound_declared, sound_joins, sound_restored}
-use Rattle.circus_member_step.proofs.Starting.{IsSoundNow, sound_entered, sound_executed}
-use Rattle.circus_member_step.proofs.Resting.{rested}
-use Rattle.circus_member_step.proofs.Unsettled.{entered_left}
-use Rattle.circus_member_step.proofs.Done.{executed_done, still_done}
+use Rattle.circus_member_rules.specs.MemberState.{MemberState, Doing, adding}
+use Rattle.circus_member_rules.specs.Step.{name_of_last, asking_begun, is_idle, start_by_call, main_start, answered_by_ring, with_record, opened_by_view, opened_ask, ended_run, after_turns, value_of_open, given_states, next_start, answered_by, answered_open, entered, starting, executed, closed, looked_up, stepped, handled, waits, performer_at_boot, before_any, starts_at_boot, booted}
+use Rattle.circus_member_rules.specs.GoneOn.{HasGoneOn}
+use Rattle.circus_member_rules.specs.Happening.{IsHome, CanHappen}
+use Rattle.circus_member_rules.specs.Seen.Sound.{IsHeld, IsOpenAsk, AreNamed, IsSound, MayStart, IsRested}
+use Rattle.circus_member_rules.proofs.Homes.{told_as_many, ring_views, called_views, declared_views}
+use Rattle.circus_member_rules.proofs.Handled.{sound_asked, sound_fetched, sound_replied, sound_before, sound_stale, sound_told, sound_declared, sound_joins, sound_restored}
+use Rattle.circus_member_rules.proofs.Starting.{IsSoundNow, sound_entered, sound_executed}
+use Rattle.circus_member_rules.proofs.Resting.{rested}
+use Rattle.circus_member_rules.proofs.Unsettled.{entered_left}
+use Rattle.circus_member_rules.proofs.Done.{executed_done, still_done}
 use Rattle.circus_member_theory.specs.Ranges.{InRange}
 
 -- ---- what stays in a step

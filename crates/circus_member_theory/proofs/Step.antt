@@ -13,7 +13,7 @@ use Rattle.circus_model.specs.NextTurn.{NextTurn}
 use Rattle.circus_model.specs.Behaviour.{Behaviour, IsModule}
 use Rattle.circus_model.specs.Agree.{IsAt, IsRoot, AreModules, Agree}
 use Rattle.circus_model.specs.Execution.{history_of}
-use Rattle.circus_known.specs.Knowing as knowing
+use Rattle.circus_fanout.specs.Knowing as knowing
 use Rattle.circus_gather.specs.declared.held.HeldCall.{HeldCall}
 use Rattle.circus_fanout.specs.Asking.{Asking}
 use Rattle.circus_performing.specs.Record.{behaviour}
@@ -24,10 +24,10 @@ use Rattle.circus_member_rules.specs.declared.place.Place.{Place}
 use Rattle.circus_member_rules.specs.declared.place.Beginning.{Beginning}
 use Rattle.circus_member_rules.specs.declared.place.Beginning.TheVariants.{Founder, Spare}
 use Rattle.circus_member_rules.specs.Rules.{ringmaster, stays_open, lookup_call, lookups}
-use Rattle.circus_member_step.specs.MemberState.{MemberState, Doing}
-use Rattle.circus_member_step.specs.Step.{waits, main_start, handled, entered, executed, closed, looked_up, stepped, starts_at_boot, booted}
-use Rattle.circus_member_step.specs.Happening.{IsHome, CanHappen}
-use Rattle.circus_member_step.specs.Seen.Sound.{IsRested}
+use Rattle.circus_member_rules.specs.MemberState.{MemberState, Doing}
+use Rattle.circus_member_rules.specs.Step.{waits, main_start, handled, entered, executed, closed, looked_up, stepped, starts_at_boot, booted}
+use Rattle.circus_member_rules.specs.Happening.{IsHome, CanHappen}
+use Rattle.circus_member_rules.specs.Seen.Sound.{IsRested}
 use Rattle.circus_member_theory.proofs.Histories.{runs_are_few, main_run}
 use Rattle.circus_member_theory.proofs.Standing.{founder_stands}
 use Rattle.circus_truth.specs.Proper.{AreProper}

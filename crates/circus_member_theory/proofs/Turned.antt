@@ -31,16 +31,16 @@ use Rattle.circus_member_rules.specs.declared.occurrence.AskName.{AskName}
 use Rattle.circus_member_rules.specs.declared.occurrence.Effect.{Effect}
 use Rattle.circus_member_rules.specs.Messages.{reply_message}
 use Rattle.circus_member_rules.specs.Rules.{index_of_last, answer, answers_of_run, calls_of_ask}
-use Rattle.circus_member_step.specs.MemberState.{MemberState, Doing}
-use Rattle.circus_member_step.specs.Step.{name_of_last, header_of_ask, asking_begun, reply_of_run, opened_by_view, opened_ask, ended_run, after_turns}
-use Rattle.circus_member_step.specs.Seen.Sound.{IsRunOf}
-use Rattle.circus_member_step.proofs.Named.{names_decide, All-opened_at}
-use Rattle.circus_member_step.proofs.Homes.{are_views, may_call}
-use Rattle.circus_member_step.proofs.Held.{All-passed}
-use Rattle.circus_member_step.proofs.Writing.{last_has_ended, one_is_performing, reply_is}
-use Rattle.circus_member_step.proofs.Turned.{IsTurned, asking_now}
-use Rattle.circus_standing.specs.Stands.{IsPerformed}
-use Rattle.circus_standing.specs.Messages.{IsAskAt, AsksSo, IsReplyOf}
+use Rattle.circus_member_rules.specs.MemberState.{MemberState, Doing}
+use Rattle.circus_member_rules.specs.Step.{name_of_last, header_of_ask, asking_begun, reply_of_run, opened_by_view, opened_ask, ended_run, after_turns}
+use Rattle.circus_member_rules.specs.Seen.Sound.{IsRunOf}
+use Rattle.circus_member_rules.proofs.Named.{names_decide, All-opened_at}
+use Rattle.circus_member_rules.proofs.Homes.{are_views, may_call}
+use Rattle.circus_member_rules.proofs.Held.{All-passed}
+use Rattle.circus_member_rules.proofs.Writing.{last_has_ended, one_is_performing, reply_is}
+use Rattle.circus_member_rules.proofs.Turned.{IsTurned, asking_now}
+use Rattle.circus_truth.specs.Stands.{IsPerformed}
+use Rattle.circus_truth.specs.Messages.{IsAskAt, AsksSo, IsReplyOf}
 use Rattle.circus_truth.specs.Proper.{AreProper}
 use Rattle.circus_truth.specs.Truth.{Answers, IsNamed, IsCalled, IsTrueKept}
 use Rattle.circus_member_theory.proofs.Standing.{IsOpenOf, open_is, last_performed}

@@ -10,7 +10,7 @@ ghost use Rattle.circus_gather.specs.declared.held.HeldCall.{HeldCall};
 ghost use Rattle.circus_header.specs.declared.call.Request.TheVariants as request;
 ghost use Rattle.circus_member_rules.specs.declared.place.Beginning.{Beginning};
 ghost use Rattle.circus_member_rules.specs.declared.place.Place.{Place};
-ghost use Rattle.circus_member_step.specs.Step.{is_join, is_lookup};
+ghost use Rattle.circus_member_rules.specs.Step.{is_join, is_lookup};
 ghost use Rattle.circus_performing.specs.Performing.{is_active, is_fetching};
 ghost use Rattle.circus_timely.specs.Past.{Past};
 ghost use Rattle.circus_timely.specs.Starts.{AreEnteredByCalls};

@@ -16,9 +16,9 @@ use Rattle.circus_model.specs.Lawful.{arguments_fit}
 use Rattle.circus_model.specs.declared.signature.Signature.{Signature}
 use Rattle.circus_member_rules.specs.declared.place.Place.{Place}
 use Rattle.circus_member_rules.specs.Callable.{AreHosts}
-use Rattle.circus_member_step.specs.Happening.{IsHome}
+use Rattle.circus_member_rules.specs.Happening.{IsHome}
 use Rattle.circus_node.specs.declared.home.Home.{Home}
-use Rattle.circus_accepting.specs.Accepting.{troupe_at}
+use Rattle.circus_node.specs.Accepting.{troupe_at}
 use Rattle.circus_node.specs.Booting.{home_in, home_of, IsOfTroupe, CanBoot}
 use Rattle.circus_node.specs.Seen.Kept.{MayStand}
 

@@ -1,3 +1,5 @@
+mod HeadLemmas
+mod BodyLemmas
 pub mod ViewLemmas
 pub mod SendLemmas
 pub mod RingLemmas

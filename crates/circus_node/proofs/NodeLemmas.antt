@@ -18,7 +18,7 @@ use Rattle.circus_wire.specs.declared.delivery.Heard.TheVariants.{Dropped, Taken
 use Rattle.circus_wire.specs.Wire.{Remains, after_datagram, heard_from, all_ticked, stopped_at}
 use Rattle.circus_member_rules.specs.declared.occurrence.Occurrence.{Occurrence}
 use Rattle.circus_member_rules.specs.declared.occurrence.Purpose.{Purpose}
-use Rattle.circus_member_step.specs.MemberState.{MemberState}
+use Rattle.circus_member_rules.specs.MemberState.{MemberState}
 use Rattle.circus_node.specs.declared.event.Event.{Event}
 use Rattle.circus_node.specs.declared.event.Event.TheVariants.{Datagram, Tick, Down, Join}
 use Rattle.circus_node.specs.declared.event.Give.{Give}
@@ -26,7 +26,7 @@ use Rattle.circus_node.specs.declared.event.Outputs.{Outputs}
 use Rattle.circus_node.specs.declared.acting.Consequences.{Consequences}
 use Rattle.circus_node.specs.NodeState.{NodeState, Acting, member, ringmaster, member_record, ring_views}
 use Rattle.circus_node.specs.Node.{IsNodeOf, GoToOthers}
-use Rattle.circus_accepting.specs.Accepting.{troupe_at, accepted}
+use Rattle.circus_node.specs.Accepting.{troupe_at, accepted}
 use Rattle.circus_node.specs.Making.{Made, hears, learns_down, is_told_to_join, happens, refused}
 use Rattle.circus_node.specs.Sending.{Sending, sent, spent}
 use Rattle.circus_node.specs.declared.event.StepFault.{StepFault}

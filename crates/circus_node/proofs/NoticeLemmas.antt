@@ -6,9 +6,9 @@ use Rattle.circus_header.specs.declared.call.Request.{Request}
 use Rattle.circus_gather.specs.Gathering.{answer_to}
 use Rattle.circus_gather.specs.declared.added.Added.{Added}
 use Rattle.circus_gather.specs.declared.added.Added.TheVariants as added
-use Rattle.circus_known.specs.Knowing.{Knowing, at_boot, after, known_by, looked_up}
-use Rattle.circus_known.specs.Knowing as knowing
-use Rattle.circus_known.specs.Notices.{Notice, Told, Answered, Notices, none_yet, more}
+use Rattle.circus_fanout.specs.Knowing.{Knowing, at_boot, after, known_by, looked_up}
+use Rattle.circus_fanout.specs.Knowing as knowing
+use Rattle.circus_fanout.specs.Notices.{Notice, Told, Answered, Notices, none_yet, more}
 use Rattle.circus_value.specs.ValueTree.{ValueTree}
 use Rattle.circus_model.specs.Behaviour.{Behaviour}
 use Rattle.circus_performing.specs.Performing.{is_fetching}
@@ -16,9 +16,9 @@ use Rattle.circus_member_rules.specs.declared.occurrence.Occurrence.{Occurrence}
 use Rattle.circus_member_rules.specs.declared.occurrence.Occurrence.TheVariants as comes
 use Rattle.circus_member_rules.specs.declared.place.Place.{Place}
 use Rattle.circus_member_rules.specs.declared.place.Beginning.{Beginning}
-use Rattle.circus_member_step.specs.MemberState.{MemberState, Doing}
+use Rattle.circus_member_rules.specs.MemberState.{MemberState, Doing}
 use Rattle.circus_member_rules.specs.Rules.{ringmaster, wanted_by_call}
-use Rattle.circus_member_step.specs.Step.{is_lookup, known_by_table, handled}
+use Rattle.circus_member_rules.specs.Step.{is_lookup, known_by_table, handled}
 use Rattle.circus_node.specs.Noticing.{noticed_by_call, noticed_by_table, notices_of, with_all, noticed, Happenings, after_step, after_all, noticed_by_all, member_at_boot}
 use Rattle.circus_node.proofs.ViewLemmas.{with_state, executed_knows, booted_knows}
 

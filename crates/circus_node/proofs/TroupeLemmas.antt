@@ -11,7 +11,7 @@ use Rattle.circus_model.specs.NextTurn.{NextTurn}
 use Rattle.circus_model.specs.Behaviour.{Behaviour}
 use Rattle.circus_model.specs.declared.signature.Signature.{Signature}
 use Rattle.circus_performing.specs.Record.{behaviour}
-use Rattle.circus_accepting.specs.Accepting.{troupe_at}
+use Rattle.circus_node.specs.Accepting.{troupe_at}
 use Rattle.circus_node.specs.Booting.{CanBoot, AreOfTroupes, IsHosted, declared_at}
 
 is_there : {X : Type 0} (xs : List X) (i : ℕ) → i < length xs → is_some (slice_get xs i) ≡ true

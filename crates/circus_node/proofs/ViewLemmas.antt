@@ -12,7 +12,7 @@ use Rattle.circus_ring.specs.RingTable.{boot_views}
 use Rattle.circus_ring.proofs.Booting.{length_boot}
 use Rattle.circus_gather.specs.Gathering as gathering
 use Rattle.circus_gather.specs.declared.held.HeldCall.{HeldCall}
-use Rattle.circus_known.specs.Knowing.{Knowing, at_boot}
+use Rattle.circus_fanout.specs.Knowing.{Knowing, at_boot}
 use Rattle.circus_model.specs.NextTurn.{NextTurn}
 use Rattle.circus_model.specs.declared.signature.Signature.{Signature}
 use Rattle.circus_record.specs.declared.record.RunRecord.{RunRecord}
@@ -24,11 +24,11 @@ use Rattle.circus_member_rules.specs.declared.occurrence.Occurrence.{Occurrence}
 use Rattle.circus_member_rules.specs.declared.occurrence.Occurrence.TheVariants as comes
 use Rattle.circus_member_rules.specs.declared.place.Place.{Place}
 use Rattle.circus_member_rules.specs.declared.place.Beginning.{Beginning}
-use Rattle.circus_member_step.specs.MemberState.{MemberState, Doing, adding}
+use Rattle.circus_member_rules.specs.MemberState.{MemberState, Doing, adding}
 use Rattle.circus_member_rules.specs.Rules.{snapshots_owed, active_call, before_answers}
-use Rattle.circus_member_step.specs.Step.{name_of_last, asking_begun, with_record, opened_by_view, opened_ask, ended_run, is_idle, after_turns, given_states, value_of_open, next_start, start_of_call, main_start, answered_by, answered_open, entered, starting, executed, handled, told, restored, stepped, before_any, performer_at_boot, starts_at_boot, booted}
-use Rattle.circus_accepting.specs.Accepting.{IsMemberOf}
-use Rattle.circus_member_step.proofs.Homes.{told_as_many, ring_views, called_views, declared_views}
+use Rattle.circus_member_rules.specs.Step.{name_of_last, asking_begun, with_record, opened_by_view, opened_ask, ended_run, is_idle, after_turns, given_states, value_of_open, next_start, start_of_call, main_start, answered_by, answered_open, entered, starting, executed, handled, told, restored, stepped, before_any, performer_at_boot, starts_at_boot, booted}
+use Rattle.circus_node.specs.Accepting.{IsMemberOf}
+use Rattle.circus_member_rules.proofs.Homes.{told_as_many, ring_views, called_views, declared_views}
 
 -- what holds of each case holds
 by_option : {A B : Type 0} (P : B → Type 0) (f : A → B) (o : Option A) (d : B) → ((x : A) → P (f x)) → P d → P (option_map_or f o d)

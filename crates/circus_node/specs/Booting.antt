@@ -17,12 +17,12 @@ use Rattle.circus_performing.specs.Record.{behaviour}
 use Rattle.circus_wire.specs.Wire as wire
 use Rattle.circus_member_rules.specs.declared.place.Beginning.{Beginning}
 use Rattle.circus_member_rules.specs.declared.place.Beginning.TheVariants.{Founder, Spare}
-use Rattle.circus_member_step.specs.Step as member_step
+use Rattle.circus_member_rules.specs.Step as member_step
 use Rattle.circus_node.specs.declared.home.Home.{Home}
 use Rattle.circus_node.specs.declared.event.Outputs.{Outputs}
 use Rattle.circus_node.specs.declared.event.StepFault.{StepFault}
 use Rattle.circus_node.specs.NodeState.{NodeState, member, ringmaster}
-use Rattle.circus_accepting.specs.Accepting.{troupe_at, is_root}
+use Rattle.circus_node.specs.Accepting.{troupe_at, is_root}
 use Rattle.circus_limits.specs.Limits.{limit_of}
 use Rattle.circus_node.specs.Making.{Made, consequences, nothing}
 use Rattle.circus_node.specs.Step.{Ended, IsEnded, concluded}

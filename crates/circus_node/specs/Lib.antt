@@ -1,3 +1,7 @@
+pub mod Headers
+pub mod Bodies
+pub mod Accepting
+pub mod Seen
 pub mod Node
 pub mod NodeState
 pub mod Recorded
@@ -7,4 +11,3 @@ pub mod Step
 pub mod Booting
 pub mod Trace
 pub mod Noticing
-pub mod Seen

@@ -21,12 +21,12 @@ use Rattle.circus_member_rules.specs.declared.occurrence.Effect.{Effect}
 use Rattle.circus_member_rules.specs.declared.occurrence.Difference.{Difference}
 use Rattle.circus_member_rules.specs.declared.occurrence.Occurrence.{Occurrence}
 use Rattle.circus_member_rules.specs.declared.occurrence.Occurrence.TheVariants as comes
-use Rattle.circus_member_step.specs.MemberState.{MemberState}
+use Rattle.circus_member_rules.specs.MemberState.{MemberState}
 use Rattle.circus_member_rules.specs.Rules.{answer}
-use Rattle.circus_member_step.specs.Step as member_step
+use Rattle.circus_member_rules.specs.Step as member_step
 use Rattle.circus_node.specs.declared.acting.Consequences.{Consequences}
 use Rattle.circus_node.specs.NodeState.{Acting, member, ringmaster}
-use Rattle.circus_accepting.specs.Accepting.{accepted, accepted_request}
+use Rattle.circus_node.specs.Accepting.{accepted, accepted_request}
 
 -- the member or the Ringmaster afterwards, and what comes of it
 pub record Made (M : Type 0) : Type 0 where

@@ -4,7 +4,7 @@ use Rattle.circus_collate.specs.declared.deployment.Deployment.{Deployment}
 use Rattle.circus_wire.specs.Wire.{IsOther}
 use Rattle.circus_node.specs.declared.event.Give.{Give}
 use Rattle.circus_node.specs.NodeState.{NodeState, member_record, ring_views}
-use Rattle.circus_accepting.specs.Accepting.{troupe_at}
+use Rattle.circus_node.specs.Accepting.{troupe_at}
 
 module _ {M : Type 0} where
   -- it is the node of this number of a program: it has a pair with each other one, and is a member where it hosts one, else

@@ -6,7 +6,7 @@ use Rattle.circus_record.specs.declared.record.MemberRecord.{MemberRecord}
 use Rattle.circus_ring.specs.RingTable.{Kept}
 use Rattle.circus_wire.specs.Wire.{WireState}
 use Rattle.circus_member_rules.specs.declared.occurrence.Purpose.{Purpose}
-use Rattle.circus_member_step.specs.MemberState.{MemberState}
+use Rattle.circus_member_rules.specs.MemberState.{MemberState}
 
 -- what a node does: it hosts a member, or it is the Ringmaster's
 pub data Acting (M : Type 0) : Type 0 where

@@ -6,15 +6,15 @@ use Rattle.circus_header.specs.declared.call.Request.{Request}
 use Rattle.circus_gather.specs.Gathering.{answer_to}
 use Rattle.circus_gather.specs.declared.added.Added.{Added}
 use Rattle.circus_gather.specs.declared.added.Added.TheVariants as added
-use Rattle.circus_known.specs.Notices.{Notice, Told, Declared, Wanted, LookedUp, Answered, Notices, more}
+use Rattle.circus_fanout.specs.Notices.{Notice, Told, Declared, Wanted, LookedUp, Answered, Notices, more}
 use Rattle.circus_model.specs.Behaviour.{Behaviour}
 use Rattle.circus_member_rules.specs.declared.occurrence.Occurrence.{Occurrence}
 use Rattle.circus_member_rules.specs.declared.occurrence.Occurrence.TheVariants as comes
 use Rattle.circus_member_rules.specs.declared.place.Place.{Place}
 use Rattle.circus_member_rules.specs.declared.place.Beginning.{Beginning}
-use Rattle.circus_member_step.specs.MemberState.{MemberState}
+use Rattle.circus_member_rules.specs.MemberState.{MemberState}
 use Rattle.circus_member_rules.specs.Rules.{ringmaster}
-use Rattle.circus_member_step.specs.Step.{is_lookup, stepped, booted}
+use Rattle.circus_member_rules.specs.Step.{is_lookup, stepped, booted}
 
 -- a call that is held wants its client's view
 abbrev pub noticed_by_call : Added → CallHeader → List Notice

@@ -4,7 +4,7 @@ ghost use Rattle.circus_value.specs.Among.{is_among};
 ghost use Rattle.circus_collate.specs.declared.deployment.Host.{Host as Hosting};
 ghost use Rattle.circus_node.specs.Booting as booting;
 
-use circus_accepting::troupe_at;
+use crate::troupe_at;
 use circus_collate::{Deployment, Host, Troupe};
 use circus_member_rules::{Beginning, Place};
 use circus_value::{ListOf, NoMemory, is_among};

@@ -5,17 +5,31 @@
 //! member or the Ringmaster, and what it makes of what happens; `home` says which of them it is. `sending` hands what is
 //! made to the pairs, and `station` has these. `laws` has what holds of nodes at boot, and of a member over every list of
 //! what happens to it.
+//!
+//! Which messages a node accepts, and what happens to its member by each of them.
+//!
+//! `accepting` tests what a member hears, of `calls_accepted` and `returns_accepted`, by the headers that `heads` reads and
+//! the values that `bodies` reads; `program` says what a node knows of the program.
 #![tactic(auto)]
 
+mod accepting;
 mod acting;
+mod bodies;
+mod calls_accepted;
 mod event;
+mod heads;
 mod home;
 mod laws;
 mod node_core;
+mod program;
+mod returns_accepted;
 mod sending;
 mod station;
 
+pub use accepting::accept;
+pub use calls_accepted::accept_request;
 pub use circus_member_rules::Difference;
 pub use event::{Differences, Event, Give, Gives, Outputs, StepFault};
 pub use laws::{all_nodes_may_boot, members_know_what_they_noticed};
 pub use node_core::NodeCore;
+pub use program::troupe_at;

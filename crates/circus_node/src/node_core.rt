@@ -18,9 +18,8 @@ ghost use Rattle.circus_node.specs.NodeState.{member_record as record_of, ring_v
 use crate::acting::{Acting, Consequences};
 use crate::home::home_of;
 use crate::station::Station;
-use crate::{Event, Gives, Outputs, StepFault};
+use crate::{Event, Gives, Outputs, StepFault, troupe_at};
 use bytes::Bytes;
-use circus_accepting::troupe_at;
 use circus_collate::{Deployment, Views};
 use circus_model::Module;
 use circus_record::MemberRecord;

@@ -16,10 +16,10 @@ use Rattle.circus_node.specs.declared.event.Event.{Event}
 use Rattle.circus_node.specs.declared.event.Event.TheVariants.{Datagram, Tick, Down, Join}
 use Rattle.circus_node.specs.declared.event.Give.{Give}
 use Rattle.circus_node.specs.NodeState.{NodeState, member_record, ring_views}
-use Rattle.circus_accepting.specs.Accepting.{troupe_at}
+use Rattle.circus_node.specs.Accepting.{troupe_at}
 use Rattle.circus_report.specs.ViewLines.{ringmaster_line, views_lines}
-use Rattle.circus_log.specs.declared.happening.Happening.{Happening}
-use Rattle.circus_log.specs.declared.happening.Happening.TheVariants.{Booted, Stepped, Foreign}
+use Rattle.circus_serve.specs.declared.happening.Happening.{Happening}
+use Rattle.circus_serve.specs.declared.happening.Happening.TheVariants.{Booted, Stepped, Foreign}
 use Rattle.circus_serve.specs.Recorded.{Recorded}
 
 -- what comes to the node

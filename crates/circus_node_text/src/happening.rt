@@ -1,13 +1,13 @@
 // The lines of what happened to a node (docs/FORMATS.md, "Node record").
 ghost use Rattle.std.specs.Prelude.{◌≡◌, ◌+◌, ◌<◌, ◌≤◌, List, ◌∷◌, ◌++◌, IfOk, OnOk, string_bytes};
 ghost use Rattle.std.specs.List.{flat_map};
-ghost use Rattle.circus_log.specs.declared.happening.Happening.{Happening as Happens};
+ghost use Rattle.circus_serve.specs.declared.happening.Happening.{Happening as Happens};
 ghost use Rattle.circus_node_text.specs.NodeText.{event_text, event_line, give_line, foreign_line, happened_lines};
 
 use crate::differ::DifferLines;
-use circus_log::Happening;
 use circus_node::{Event, Give};
 use circus_record::Naming;
+use circus_serve::Happening;
 use circus_value::NoMemory;
 use std::alloc::Global;
 

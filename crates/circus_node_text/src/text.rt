@@ -8,10 +8,9 @@ ghost use Rattle.circus_report.specs.ViewLines.{ringmaster_line, views_lines};
 ghost use Rattle.circus_node_text.specs.NodeText.{node_lines, node_text};
 
 use crate::happening::append_happened;
-use circus_accepting::troupe_at;
 use circus_collate::Deployment;
 use circus_model::Module;
-use circus_node::NodeCore;
+use circus_node::{NodeCore, troupe_at};
 use circus_record::{MemberText, Naming, ProgramNames};
 use circus_report::{RingmasterLine, ViewsText};
 use circus_serve::NodeRecord;

@@ -1,10 +1,10 @@
 -- A text that is put piece by piece.
 use Rattle.std.proofs.Common.{◌≡◌, ℕ, Option, List, [], ◌++◌, refl, sym, subst, ◌∙◌, append_assoc, append-nil, Result, Ok, Err}
-use Rattle.circus_running.specs.declared.running.RunFault.{RunFault}
-use Rattle.circus_running.specs.declared.running.RunFault.TheVariants as fault
-use Rattle.circus_running.specs.Writing.{Writes, WritesPart}
-use Rattle.circus_running.specs.Run.{IsPut}
-use Rattle.circus_running.proofs.ToldLemmas.{told_more-nil, Writes-joined, WritesPart-longer, WritesPart-joined}
+use Rattle.circus_report.specs.declared.running.RunFault.{RunFault}
+use Rattle.circus_report.specs.declared.running.RunFault.TheVariants as fault
+use Rattle.circus_report.specs.Writing.{Writes, WritesPart}
+use Rattle.circus_report.specs.Run.{IsPut}
+use Rattle.circus_report.proofs.ToldLemmas.{told_more-nil, Writes-joined, WritesPart-longer, WritesPart-joined}
 
 -- a beginning of the text is written, behind which this is left
 pub record IsBegun (whole left : List ℕ) (old now : Option (List ℕ)) : Type 0 where

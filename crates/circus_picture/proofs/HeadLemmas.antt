@@ -1,4 +1,4 @@
--- Headers that are read are those of the plain reader (the same lemmas as in circus_accepting, which keeps them to itself).
+-- Headers that are read are those of the plain reader (the same lemmas as in circus_node, which keeps them to itself).
 use Rattle.std.proofs.Common.{◌≡◌, ℕ, ◌+◌, ◌<◌, ◌≤◌, inl, inr, Bool, true, false, ◌&&◌, List, [], length, drop, Option, Some, None, Result, Ok, Err, refl, sym, ap, ◌∙◌}
 use Rattle.std.proofs.lemmas.Bool.{le-leb, lt-leb}
 use Rattle.std.specs.Prelude.{nat_le, option_map, IfOk, if◌then◌else◌}
@@ -19,7 +19,7 @@ use Rattle.circus_collate.specs.declared.table.Table.{Table}
 use Rattle.circus_ring.specs.TableFields.{tables, IsTableRead}
 use Rattle.circus_ring.specs.Seen.TableLayout.{table_layout}
 use Rattle.circus_ring.proofs.Tabling.{under_tables, whole as with_length, as_answer, not_refused}
-use Rattle.circus_accepting.specs.Headers.{first_number, in_range, read_by, whole, call_in, return_in, table_in}
+use Rattle.circus_node.specs.Headers.{first_number, in_range, read_by, whole, call_in, return_in, table_in}
 
 -- ---- numbers
 

@@ -15,7 +15,7 @@ use Rattle.circus_header.specs.declared.answer.ReturnHeader.TheVariants.{Reply, 
 use Rattle.circus_collate.specs.declared.table.Table as tables
 use Rattle.circus_idl.specs.declared.interface.Procedure.{Procedure}
 use Rattle.circus_record.specs.Naming.{Names}
-use Rattle.circus_accepting.specs.Headers.{call_in, return_in, table_in}
+use Rattle.circus_node.specs.Headers.{call_in, return_in, table_in}
 
 -- the procedure of a number
 abbrev pub numbered : ℕ → List Procedure → Option Procedure

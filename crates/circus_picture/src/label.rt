@@ -1,7 +1,7 @@
 // What datagrams are called (docs/FORMATS.md, "Pictures").
 ghost use Rattle.std.specs.Prelude.{◌≡◌, ◌≢◌, ◌≤◌, length, string_bytes, Err, IfOk, IfSome};
 ghost use Rattle.std.specs.Result.{result_ok};
-ghost use Rattle.circus_accepting.specs.Headers as headers;
+ghost use Rattle.circus_node.specs.Headers as headers;
 ghost use Rattle.circus_segment.specs.Seen.Pieces.{piece};
 ghost use Rattle.circus_picture.specs.Label as spec;
 

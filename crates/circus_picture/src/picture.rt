@@ -3,7 +3,7 @@ ghost use Rattle.std.specs.Prelude.{◌≡◌, ◌+◌, ◌<◌, ℕ, List, [], 
 ghost use Rattle.std.specs.List.{flat_map};
 ghost use Rattle.circus_outside.specs.Faults.{Rose};
 ghost use Rattle.circus_record.specs.Naming.{host_name, names_of};
-ghost use Rattle.circus_running.specs.Run.{IsPut};
+ghost use Rattle.circus_report.specs.Run.{IsPut};
 ghost use Rattle.circus_schedule.specs.declared.line.Line.{Line as Stepped};
 ghost use Rattle.circus_picture.specs.Deeds.{Deed as Done};
 ghost use Rattle.circus_picture.specs.Rows as rows;
@@ -19,7 +19,7 @@ use circus_collate::Host;
 use circus_model::Module;
 use circus_outside::Sink;
 use circus_record::{Naming, ProgramNames};
-use circus_running::{RunFault, put_lines};
+use circus_report::{RunFault, put_lines};
 use circus_value::{ListOf, Name, NoMemory, Octets};
 use circus_world::{Line, World};
 use std::alloc::Global;

@@ -13,4 +13,4 @@ mod search;
 mod test;
 
 pub use choice::{Placement, place};
-pub use circus_placing_text::{PlaceCause, PlaceFault, read_place};
+pub use circus_placing::{PlaceCause, PlaceFault, read_place};

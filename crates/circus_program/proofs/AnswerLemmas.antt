@@ -16,7 +16,7 @@ use Rattle.circus_program.specs.declared.shown.Shown.TheVariants.{Report, Pictur
 use Rattle.circus_program.specs.Answer.{Due, IsDueOfReplay, IsDueOfProgram, IsDue, AreFetchedOf, AsksFirstOf, AsksOnly}
 use Rattle.circus_program.specs.Seen.Built.{IsDueOfCommand, file_form}
 use Rattle.circus_program.specs.Seen.Step.{due_of, LacksNone, IsLackNoted, IsDueBehind, IsStepBehind, IsStepOfProgram, IsStepOfReplay, IsStepOfFile}
-use Rattle.circus_running.proofs.ToldLemmas.{told_more-twice}
+use Rattle.circus_report.proofs.ToldLemmas.{told_more-twice}
 
 -- nothing was fetched
 pub fetched-none : (shelf : Option (List ℕ → Option (List ℕ))) (names : List (List ℕ)) → AreFetchedOf shelf names []

@@ -14,7 +14,7 @@ use Rattle.circus_world.specs.WorldState.{WorldState}
 use Rattle.circus_world.specs.Legal.{refusal}
 use Rattle.circus_world.specs.Course.{Stepped, stepped}
 use Rattle.circus_world.specs.Lines.{Lead}
-use Rattle.circus_running.specs.Run.{beginning, sent_from}
+use Rattle.circus_report.specs.Run.{beginning, sent_from}
 use Rattle.circus_picture.specs.Picture.{procedures_in, picture_text}
 use Rattle.circus_config.specs.declared.plan.Plan.{Plan}
 use Rattle.circus_ending.specs.declared.status.Status.TheVariants.{Done}

@@ -17,11 +17,11 @@ use Rattle.circus_world.specs.WorldState.{WorldState}
 use Rattle.circus_world.specs.Legal.{refusal}
 use Rattle.circus_world.specs.Course.{stepped}
 use Rattle.circus_report.specs.Report.{rest_text}
-use Rattle.circus_running.specs.declared.running.RunFault.{RunFault}
-use Rattle.circus_running.specs.declared.running.RunFault.TheVariants as fault
-use Rattle.circus_running.specs.Run.{beginning, sent_from, IsRun, IsCounted}
-use Rattle.circus_running.specs.Run as run
-use Rattle.circus_running.specs.Writing.{Writes, WritesPart}
+use Rattle.circus_report.specs.declared.running.RunFault.{RunFault}
+use Rattle.circus_report.specs.declared.running.RunFault.TheVariants as fault
+use Rattle.circus_report.specs.Run.{beginning, sent_from, IsRun, IsCounted}
+use Rattle.circus_report.specs.Run as run
+use Rattle.circus_report.specs.Writing.{Writes, WritesPart}
 use Rattle.circus_ending.specs.declared.status.Status.{Status}
 use Rattle.circus_ending.specs.declared.status.Status.TheVariants.{Done, SinkFault, NoMemory}
 use Rattle.circus_ending.specs.Ending.{Ending}
@@ -29,7 +29,7 @@ use Rattle.circus_ending.specs.Spent.{spent}
 use Rattle.circus_program.specs.Replay.{cause_text, refused, behind, replayed, replayed_whole}
 use Rattle.circus_program.specs.Seen.Put.{IsPutEnd}
 use Rattle.circus_program.specs.Seen.Ended.{IsEndedBy}
-use Rattle.circus_running.proofs.ToldLemmas.{WritesPart-none}
+use Rattle.circus_report.proofs.ToldLemmas.{WritesPart-none}
 use Rattle.circus_program.proofs.ReplaysAlike.{whole_as}
 use Rattle.circus_program.proofs.OneLine.{replayed_stepped, replayed_spent, replayed_refused}
 use Rattle.circus_program.proofs.Pieces.{IsBegun, begun-none, begun-as, begun-more, part-left, part-next, put-left}

@@ -11,7 +11,7 @@ use Rattle.circus_world.specs.declared.cause.LineCause.{LineCause}
 use Rattle.circus_world.specs.WorldState.{WorldState}
 use Rattle.circus_world.specs.Legal.{refusal}
 use Rattle.circus_world.specs.Course.{Stepped, stepped}
-use Rattle.circus_running.specs.Run.{sent_from}
+use Rattle.circus_report.specs.Run.{sent_from}
 use Rattle.circus_ending.specs.Ending.{Ending}
 use Rattle.circus_ending.specs.Spent.{spent}
 use Rattle.circus_simulated.specs.Booted.{after_step}

@@ -7,7 +7,7 @@ use Rattle.std.proofs.lemmas.Fmt.{decimal_injective}
 use Rattle.std.proofs.lemmas.Option.{none-some, same_Some}
 use Rattle.circus_config.specs.declared.plan.Plan.{Plan}
 use Rattle.circus_config.specs.Program.{IsProgramOf, IsPlan}
-use Rattle.circus_log.specs.Outside.{Tells}
+use Rattle.circus_serve.specs.Outside.{Tells}
 use Rattle.circus_ending.specs.declared.status.Status.{Status}
 use Rattle.circus_ending.specs.declared.status.Status.TheVariants.{Done, BadSchedule, ShelfFault, Spent}
 use Rattle.circus_ending.specs.declared.one_file.OneFile.TheVariants.{Stubs, Run, Place}

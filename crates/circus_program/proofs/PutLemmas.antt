@@ -5,13 +5,13 @@ use Rattle.circus_ending.specs.declared.status.Status.{Status}
 use Rattle.circus_ending.specs.declared.status.Status.TheVariants.{Done, BadCommandLine, BadProgram, BadSchedule, ShelfFault, SinkFault, LinkFault, NoMemory, Spent, NotBuilt, Unsettled, BadPlacing, NoPlacement}
 use Rattle.circus_ending.specs.Status.{code_of, is_end}
 use Rattle.circus_outside.specs.Faults.{Rose}
-use Rattle.circus_running.specs.Writing.{Writes, WritesPart}
+use Rattle.circus_report.specs.Writing.{Writes, WritesPart}
 use Rattle.circus_program.specs.declared.answer.Step.{Step}
 use Rattle.circus_program.specs.declared.answer.Step.TheVariants.{Finish, Lack, Replay, Serve}
 use Rattle.circus_ending.specs.Ending.{Ending}
 use Rattle.circus_ending.specs.Seen.Ending.{ending_of}
 use Rattle.circus_config.specs.declared.plan.Plan.{Plan}
-use Rattle.circus_log.specs.Outside.{Tells}
+use Rattle.circus_serve.specs.Outside.{Tells}
 use Rattle.circus_simulated.specs.Seen.Simulated.{world_of}
 use Rattle.circus_served.specs.NodeEnds.{IsEndOfServing}
 use Rattle.circus_program.specs.Answer.{AsksForNode, finish, Finishes, Lacks, IsText, IsDue, WasLast, shelf_fault}
@@ -19,7 +19,7 @@ use Rattle.circus_program.specs.Seen.Put.{IsPut, IsFinished, IsAnswer}
 use Rattle.circus_record.specs.Naming.{names_of}
 use Rattle.circus_program.specs.Seen.Ready.{end_of_ready}
 use Rattle.circus_program.specs.Seen.Step.{due_of, IsWrittenOf, IsPutStep, IsServing, Stands, IsLackNoted}
-use Rattle.circus_running.proofs.ToldLemmas.{WritesPart-all}
+use Rattle.circus_report.proofs.ToldLemmas.{WritesPart-all}
 use Rattle.circus_program.proofs.ReplayEnds.{end_by_is_end}
 use Rattle.circus_program.proofs.DueKinds.{never_linked, serves_asked}
 

@@ -16,7 +16,7 @@ use Rattle.circus_world.specs.Course.{Stepped, stepped}
 use Rattle.circus_world.specs.Alike.{world_as, step_as}
 use Rattle.circus_world.proofs.WorldsAlike.{refusal_as, world_stepped_as}
 use Rattle.circus_settle.proofs.Alike.{rest_as}
-use Rattle.circus_running.specs.Run.{beginning, sent_from}
+use Rattle.circus_report.specs.Run.{beginning, sent_from}
 use Rattle.circus_ending.specs.declared.status.Status.TheVariants.{Done}
 use Rattle.circus_ending.specs.Ending.{Ending}
 use Rattle.circus_simulated.specs.Booted.{after_step}

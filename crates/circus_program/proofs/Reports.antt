@@ -26,7 +26,7 @@ use Rattle.circus_world.specs.Course.{Stepped, stepped}
 use Rattle.circus_world.specs.Lines.{Leads, Lead}
 use Rattle.circus_world.proofs.LineLemmas.{sent_stays, deployment_stays}
 use Rattle.circus_report.specs.Report.{first_line, sent_line, sent_lines, rest_text, report_text}
-use Rattle.circus_running.specs.Run.{beginning, sent_from}
+use Rattle.circus_report.specs.Run.{beginning, sent_from}
 use Rattle.circus_config.specs.declared.plan.Plan.{Plan}
 use Rattle.circus_ending.specs.declared.status.Status.TheVariants.{Done, BadSchedule, Spent}
 use Rattle.circus_ending.specs.Ending.{Ending}

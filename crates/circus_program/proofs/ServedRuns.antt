@@ -8,7 +8,7 @@ use Rattle.circus_model.specs.Agree.{IsAt}
 use Rattle.circus_model.specs.Behaviour.{Behaviour}
 use Rattle.circus_record.specs.Naming.{names_of}
 use Rattle.circus_record.specs.declared.record.MemberRecord.{MemberRecord}
-use Rattle.circus_accepting.specs.Accepting.{troupe_at}
+use Rattle.circus_node.specs.Accepting.{troupe_at}
 use Rattle.circus_node.specs.Booting.{CanBoot}
 use Rattle.circus_node.specs.Booting as booting
 use Rattle.circus_node.specs.NodeState.{NodeState, member_record}
@@ -17,10 +17,10 @@ use Rattle.circus_node.specs.declared.event.Outputs.{Outputs}
 use Rattle.circus_alike.specs.Alike.{declared_of, turn_of, first_of}
 use Rattle.circus_outside.specs.Link.{Taken, failed, taken_of}
 use Rattle.circus_outside.specs.declared.link.TakenFrom.{TakenFrom}
-use Rattle.circus_log.specs.declared.happening.Happening.{Happening}
-use Rattle.circus_log.specs.Happened.{given_in}
-use Rattle.circus_log.specs.Serving.{Progress, happened_by, served}
-use Rattle.circus_log.specs.Outside.{Tells, IsAsked}
+use Rattle.circus_serve.specs.declared.happening.Happening.{Happening}
+use Rattle.circus_serve.specs.Happened.{given_in}
+use Rattle.circus_serve.specs.Serving.{Progress, happened_by, served}
+use Rattle.circus_serve.specs.Outside.{Tells, IsAsked}
 use Rattle.circus_serve.specs.Recorded.{Recorded}
 use Rattle.circus_serve.specs.Answers.{asked, IsServed, IsPartGiven}
 use Rattle.circus_config.specs.declared.plan.Plan.{Plan}

@@ -8,9 +8,9 @@ use Rattle.circus_model.specs.declared.signature.Signature.{Signature}
 use Rattle.circus_record.specs.Naming.{Names, names_of}
 use Rattle.circus_schedule.specs.declared.line.Line.{Line}
 use Rattle.circus_world.specs.WorldState.{WorldState}
-use Rattle.circus_running.specs.declared.running.RunFault.{RunFault}
-use Rattle.circus_running.specs.declared.running.RunFault.TheVariants as fault
-use Rattle.circus_running.proofs.ToldLemmas.{WritesPart-none}
+use Rattle.circus_report.specs.declared.running.RunFault.{RunFault}
+use Rattle.circus_report.specs.declared.running.RunFault.TheVariants as fault
+use Rattle.circus_report.proofs.ToldLemmas.{WritesPart-none}
 use Rattle.circus_ending.specs.declared.status.Status.{Status}
 use Rattle.circus_ending.specs.Ending.{Ending}
 use Rattle.circus_ending.specs.Spent.{spent}

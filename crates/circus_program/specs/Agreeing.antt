@@ -8,7 +8,7 @@ use Rattle.circus_schedule.specs.Answer.{IsAnswer}
 use Rattle.circus_config.specs.declared.plan.Plan.{Plan}
 use Rattle.circus_config.specs.Program.{IsProgramOf, IsPlan}
 use Rattle.circus_load.specs.Loaded.{behaviours_in}
-use Rattle.circus_running.specs.Writing.{Writes}
+use Rattle.circus_report.specs.Writing.{Writes}
 use Rattle.circus_headline_theory.specs.Facts.{Facts, sent_text, report_of, summary_of, settled_of}
 use Rattle.circus_headline_theory.specs.Headline.{Headline}
 use Rattle.circus_ending.specs.declared.status.Status.TheVariants.{Done}

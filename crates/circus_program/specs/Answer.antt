@@ -10,13 +10,13 @@ use Rattle.circus_program.specs.declared.shown.Shown.TheVariants.{Report, Pictur
 use Rattle.circus_program.specs.Replay.{IsEndOfReplay}
 use Rattle.circus_config.specs.declared.plan.Plan.{Plan}
 use Rattle.circus_config.specs.Program.{IsProgramOf}
-use Rattle.circus_running.specs.Writing.{Writes, WritesPart}
+use Rattle.circus_report.specs.Writing.{Writes, WritesPart}
 use Rattle.circus_ending.specs.declared.one_file.OneFile.{OneFile}
 use Rattle.circus_ending.specs.declared.one_file.OneFile.TheVariants.{Stubs, Run, Place}
 use Rattle.circus_ending.specs.Refusal.{IsGood, IsEndOfRefused}
 use Rattle.circus_ending.specs.OneFile.{IsEndOf}
 use Rattle.circus_record.specs.Line.{line}
-use Rattle.circus_log.specs.Outside.{Tells}
+use Rattle.circus_serve.specs.Outside.{Tells}
 use Rattle.circus_simulated.specs.Sample.{sample_of}
 use Rattle.circus_simulated.specs.Schedule.{schedule_of}
 use Rattle.circus_simulated.specs.Settle.{settle_of}

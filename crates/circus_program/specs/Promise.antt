@@ -20,7 +20,7 @@ use Rattle.circus_world_theory.specs.Enough.{all_segments, AreOnce}
 use Rattle.circus_world_theory.specs.Quiet.{IsDelivery, IsQuiet}
 use Rattle.circus_config.specs.declared.plan.Plan.{Plan}
 use Rattle.circus_load.specs.Loaded.{behaviours_in, hosted_by}
-use Rattle.circus_running.specs.Writing.{Writes}
+use Rattle.circus_report.specs.Writing.{Writes}
 use Rattle.circus_simulated.specs.Booted.{names_in}
 use Rattle.circus_program.specs.Last.{IsReplay}
 use Rattle.circus_program.specs.Worlds.{AreLed, AskToSimulate, IsOfWorld, IsSpentAtBoot, sent_text}

@@ -22,7 +22,7 @@ use Rattle.circus_world.specs.WorldState.{WorldState}
 use Rattle.circus_world.specs.Legal.{refusal}
 use Rattle.circus_world.specs.Course.{stepped}
 use Rattle.circus_report.specs.Report.{rest_text}
-use Rattle.circus_running.specs.Run.{beginning, sent_from}
+use Rattle.circus_report.specs.Run.{beginning, sent_from}
 use Rattle.circus_picture.specs.Picture.{procedures_in, picture_text}
 use Rattle.circus_ending.specs.declared.status.Status.TheVariants.{Done, BadSchedule}
 use Rattle.circus_ending.specs.Ending.{Ending}

@@ -6,7 +6,7 @@ use Rattle.circus_world.specs.WorldState.{WorldState}
 use Rattle.circus_report.specs.Report.{report_text}
 use Rattle.circus_sample.specs.Summary.{summary}
 use Rattle.circus_config.specs.declared.plan.Plan.{Plan}
-use Rattle.circus_running.specs.Writing.{Writes}
+use Rattle.circus_report.specs.Writing.{Writes}
 use Rattle.circus_ending.specs.declared.status.Status.TheVariants.{Done}
 use Rattle.circus_simulated.specs.Booted.{names_in}
 use Rattle.circus_simulated.specs.Sample.{sample_of}

@@ -5,16 +5,16 @@ use Rattle.circus_model.specs.Agree.{IsAt}
 use Rattle.circus_model.specs.Behaviour.{Behaviour}
 use Rattle.circus_record.specs.Naming.{names_of}
 use Rattle.circus_record.specs.declared.record.MemberRecord.{MemberRecord}
-use Rattle.circus_accepting.specs.Accepting.{troupe_at}
+use Rattle.circus_node.specs.Accepting.{troupe_at}
 use Rattle.circus_node.specs.NodeState.{NodeState, member_record}
 use Rattle.circus_node.specs.declared.event.Outputs.{Outputs}
 use Rattle.circus_alike.specs.Alike.{declared_of, turn_of}
 use Rattle.circus_outside.specs.Link.{Taken, failed, taken_of}
 use Rattle.circus_outside.specs.declared.link.TakenFrom.{TakenFrom}
-use Rattle.circus_log.specs.declared.happening.Happening.{Happening}
-use Rattle.circus_log.specs.Happened.{given_in}
-use Rattle.circus_log.specs.Serving.{happened_by, served}
-use Rattle.circus_log.specs.Outside.{Tells, IsAsked}
+use Rattle.circus_serve.specs.declared.happening.Happening.{Happening}
+use Rattle.circus_serve.specs.Happened.{given_in}
+use Rattle.circus_serve.specs.Serving.{happened_by, served}
+use Rattle.circus_serve.specs.Outside.{Tells, IsAsked}
 use Rattle.circus_serve.specs.Recorded.{Recorded}
 use Rattle.circus_serve.specs.Answers.{asked, IsServed}
 use Rattle.circus_node_text.specs.NodeText.{node_text}

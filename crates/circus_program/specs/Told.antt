@@ -1,6 +1,6 @@
 -- What is told of a call: its words, and what the shelf, the sink and the link tell before it and after it.
 use Rattle.std.specs.Prelude.{ℕ, Option, List}
-use Rattle.circus_log.specs.Outside.{Tells}
+use Rattle.circus_serve.specs.Outside.{Tells}
 
 -- what was so before a call, and is so after it
 pub record Change (A : Type 0) : Type 0 where

@@ -4,7 +4,7 @@ ghost use Rattle.circus_outside.specs.Faults.{Rose};
 ghost use Rattle.circus_outside.specs.Sink.{HasGivenOn};
 ghost use Rattle.circus_ending.specs.Status.{is_end};
 ghost use Rattle.circus_ending.specs.Seen.Ending.{ending_of};
-ghost use Rattle.circus_log.specs.Outside.{tells_of};
+ghost use Rattle.circus_serve.specs.Outside.{tells_of};
 ghost use Rattle.circus_program.specs.Answer.{AsksForNode, AsksOnly, shelf_fault};
 ghost use Rattle.circus_program.specs.Answered.{IsAnswered, IsBrokenOff};
 ghost use Rattle.circus_program.specs.Seen.Planned.{PlansOf};

@@ -17,7 +17,7 @@ use circus_ending::Status;
 use circus_model::Module;
 use circus_outside::Sink;
 use circus_picture::{ModuleProcedures, put_picture};
-use circus_running::RunFault;
+use circus_report::RunFault;
 use circus_schedule::Line;
 use circus_simulated::Simulated;
 use circus_world::{World, WorldFault};

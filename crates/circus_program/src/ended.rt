@@ -8,7 +8,7 @@ use crate::schedule_refused::illegal;
 use circus_collate::Hosts;
 use circus_ending::{Status, spent};
 use circus_outside::Sink;
-use circus_running::RunFault;
+use circus_report::RunFault;
 use std::alloc::Global;
 
 /// What lines come to that end at the line of this number.

@@ -12,7 +12,7 @@ ghost use Rattle.circus_program.specs.Agreeing.{IsAgreed, IsAgreedSoFar, ArePlan
 ghost use Rattle.circus_config.specs.Program.{IsPlan};
 ghost use Rattle.circus_program.specs.Promise.{KeepsPromise, IsKept, IsKeptSoFar, enough_deliveries};
 ghost use Rattle.circus_program.specs.ServedRuns.{IsServedRunOf, WasServedSoFar, WasSpentAtBoot};
-ghost use Rattle.circus_log.specs.Outside.{Tells};
+ghost use Rattle.circus_serve.specs.Outside.{Tells};
 ghost use Rattle.circus_served.specs.NodeEnds.{IsEndOfServing};
 ghost use Rattle.circus_program.specs.Replayed.{AreShort, IsReplayed};
 ghost use Rattle.circus_program.specs.Worlds.{AreLed, IsReported, IsCutByRefusal, IsCutBySpending, IsSpentAtBoot, IsPictured, AskForRecords, AskToSimulate, IsOfWorld};

@@ -3,7 +3,7 @@ ghost use Rattle.circus_program.specs.Seen.Put.{IsPut, IsPutIfEnd};
 
 use circus_ending::{Ending, Status};
 use circus_outside::Sink;
-use circus_running::{PutFault, put_lines};
+use circus_report::{PutFault, put_lines};
 use circus_value::NoMemory;
 
 /// Puts the text of an end, if memory sufficed for it, and answers its status where all of it was taken.

@@ -16,7 +16,7 @@ use circus_config::ModuleNames;
 use circus_ending::Status;
 use circus_model::Module;
 use circus_outside::Sink;
-use circus_running::Running;
+use circus_report::Running;
 use circus_schedule::Line;
 use circus_simulated::Simulated;
 use std::alloc::Global;

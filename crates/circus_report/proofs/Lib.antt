@@ -1,1 +1,5 @@
 pub mod LinesAdded
+pub mod PutLemmas
+pub mod SentLines
+pub mod StepLemmas
+pub mod ToldLemmas

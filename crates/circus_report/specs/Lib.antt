@@ -1,2 +1,4 @@
 pub mod Report
 pub mod ViewLines
+pub mod Run
+pub mod Writing

@@ -22,14 +22,14 @@ use Rattle.circus_node.specs.declared.event.StepFault.TheVariants as refused
 use Rattle.circus_node.specs.Node.{IsNodeOf}
 use Rattle.circus_node.specs.NodeState.{NodeState}
 use Rattle.circus_node.specs.Step as step
-use Rattle.circus_log.specs.declared.happening.Happening.{Happening}
-use Rattle.circus_log.specs.declared.happening.Happening.TheVariants.{Booted, Stepped, Foreign}
+use Rattle.circus_serve.specs.declared.happening.Happening.{Happening}
+use Rattle.circus_serve.specs.declared.happening.Happening.TheVariants.{Booted, Stepped, Foreign}
 use Rattle.circus_serve.specs.declared.fault.ServeFault.{ServeFault}
 use Rattle.circus_serve.specs.declared.fault.ServeFault.TheVariants as fault
-use Rattle.circus_log.specs.Happened.{peer_at, gives_in, all_given, given_in}
-use Rattle.circus_log.specs.Serving.{Served, Progress, on, spent, happened_by, concluded, with_foreign, is_spare, at_boot, event_comes, suspected, suspects_in, comes, begun}
-use Rattle.circus_log.specs.Outside.{Tells, IsAsked}
-use Rattle.circus_log.specs.Giving.{giving, AreGiven}
+use Rattle.circus_serve.specs.Happened.{peer_at, gives_in, all_given, given_in}
+use Rattle.circus_serve.specs.Serving.{Served, Progress, on, spent, happened_by, concluded, with_foreign, is_spare, at_boot, event_comes, suspected, suspects_in, comes, begun}
+use Rattle.circus_serve.specs.Outside.{Tells, IsAsked}
+use Rattle.circus_serve.specs.Giving.{giving, AreGiven}
 use Rattle.circus_serve.specs.Seen.Asking.{HasGiven}
 use Rattle.circus_serve.specs.Seen.Counting.{ServeCounts}
 use Rattle.circus_serve.specs.Seen.Faults.{of_link, of_step}

@@ -2,10 +2,10 @@
 use Rattle.std.proofs.Common.{◌≡◌, ℕ, List, [], ◌∷◌, ◌++◌, Result, Ok, Err, refl, sym, ap, ◌∙◌, append_assoc}
 use Rattle.circus_serve.specs.declared.fault.ServeFault.{ServeFault}
 use Rattle.circus_serve.specs.declared.fault.ServeFault.TheVariants as fault
-use Rattle.circus_log.specs.Outside.{Tells, IsAsked}
-use Rattle.circus_log.specs.Giving.{giving, IsPart}
+use Rattle.circus_serve.specs.Outside.{Tells, IsAsked}
+use Rattle.circus_serve.specs.Giving.{giving, IsPart}
 use Rattle.circus_serve.specs.Seen.Asking.{HasGiven}
-use Rattle.circus_log.proofs.AskedLemmas.{told_none, asked_then}
+use Rattle.circus_serve.proofs.AskedLemmas.{told_none, asked_then}
 
 -- nothing was asked for
 pub asked_none : (old new : Tells) → new.bound ≡ old.bound → new.taken ≡ old.taken → new.given ≡ old.given → IsAsked old new (giving [])

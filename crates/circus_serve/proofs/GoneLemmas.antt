@@ -8,13 +8,13 @@ use Rattle.circus_collate.proofs.Going.{front}
 use Rattle.circus_model.specs.NextTurn.{NextTurn}
 use Rattle.circus_model.specs.declared.signature.Signature.{Signature}
 use Rattle.circus_node.specs.declared.event.Event.TheVariants.{Down}
-use Rattle.circus_log.specs.declared.happening.Happening.{Happening}
+use Rattle.circus_serve.specs.declared.happening.Happening.{Happening}
 use Rattle.circus_serve.specs.declared.fault.ServeFault.{ServeFault}
 use Rattle.circus_serve.specs.declared.fault.ServeFault.TheVariants as fault
-use Rattle.circus_log.specs.Happened.{given_in}
-use Rattle.circus_log.specs.Serving.{Served, Progress, on, spent, happened_by, and_then, event_comes, all_declared}
-use Rattle.circus_log.specs.Outside.{Tells}
-use Rattle.circus_log.specs.Giving.{IsPart}
+use Rattle.circus_serve.specs.Happened.{given_in}
+use Rattle.circus_serve.specs.Serving.{Served, Progress, on, spent, happened_by, and_then, event_comes, all_declared}
+use Rattle.circus_serve.specs.Outside.{Tells}
+use Rattle.circus_serve.specs.Giving.{IsPart}
 use Rattle.circus_serve.specs.Seen.Asking.{HasGiven}
 use Rattle.circus_serve.specs.declared.serving.Serving.{Serving}
 use Rattle.circus_serve.specs.Seen.Going.{served_of, GoesTo, HasGone}

@@ -14,10 +14,10 @@ use Rattle.circus_node.specs.declared.event.Event.{Event}
 use Rattle.circus_node.specs.declared.event.Event.TheVariants.{Datagram, Tick, Down}
 use Rattle.circus_node.specs.declared.event.Give.{Give}
 use Rattle.circus_node.specs.Step as step
-use Rattle.circus_log.specs.declared.happening.Happening.{Happening}
-use Rattle.circus_log.specs.declared.happening.Happening.TheVariants.{Stepped, Foreign}
-use Rattle.circus_log.specs.Happened.{port_of, peer_at, gives_in, given_in}
-use Rattle.circus_log.specs.Serving.{Served, Progress, on, spent, happened_by, and_then, concluded, event_comes, all_declared, suspected, comes, took, all_took, with_foreign}
+use Rattle.circus_serve.specs.declared.happening.Happening.{Happening}
+use Rattle.circus_serve.specs.declared.happening.Happening.TheVariants.{Stepped, Foreign}
+use Rattle.circus_serve.specs.Happened.{port_of, peer_at, gives_in, given_in}
+use Rattle.circus_serve.specs.Serving.{Served, Progress, on, spent, happened_by, and_then, concluded, event_comes, all_declared, suspected, comes, took, all_took, with_foreign}
 
 pub given_in-append : (d : Deployment) (xs ys : List Happening) → given_in d (xs ++ ys) ≡ given_in d xs ++ given_in d ys
 given_in-append d xs ys =

@@ -1,3 +1,7 @@
+pub mod AskedLemmas
+mod RunLemmas
+pub mod SpareLemmas
+mod TakesLemmas
 pub mod EventLemmas
 pub mod GivenLemmas
 pub mod GoneLemmas

@@ -14,16 +14,16 @@ use Rattle.circus_outside.specs.declared.link.LinkFault.TheVariants as link
 use Rattle.circus_outside.specs.declared.link.TakenFrom.{TakenFrom}
 use Rattle.circus_node.specs.declared.event.Give.{Give}
 use Rattle.circus_node.specs.NodeState.{NodeState}
-use Rattle.circus_log.specs.declared.happening.Happening.{Happening}
+use Rattle.circus_serve.specs.declared.happening.Happening.{Happening}
 use Rattle.circus_serve.specs.declared.fault.ServeFault.{ServeFault}
 use Rattle.circus_serve.specs.declared.fault.ServeFault.TheVariants as fault
-use Rattle.circus_log.specs.Happened.{port_of, given_in}
-use Rattle.circus_log.specs.Serving.{Served, Progress, on, spent, happened_by, and_then, begun, took, all_took, served}
-use Rattle.circus_log.specs.Outside.{Tells, IsAsked}
-use Rattle.circus_log.specs.Giving.{giving, IsPart}
+use Rattle.circus_serve.specs.Happened.{port_of, given_in}
+use Rattle.circus_serve.specs.Serving.{Served, Progress, on, spent, happened_by, and_then, begun, took, all_took, served}
+use Rattle.circus_serve.specs.Outside.{Tells, IsAsked}
+use Rattle.circus_serve.specs.Giving.{giving, IsPart}
 use Rattle.circus_serve.specs.Seen.Counting.{ServeCounts}
 use Rattle.circus_serve.specs.Seen.Faults.{of_link}
-use Rattle.circus_log.proofs.AskedLemmas.{told_none, told_then, asked_then}
+use Rattle.circus_serve.proofs.AskedLemmas.{told_none, told_then, asked_then}
 use Rattle.circus_serve.specs.declared.serving.Serving.{Serving}
 use Rattle.circus_serve.specs.Answers.{asked, WasServed, IsServed, IsPartGiven, IsAnswer}
 use Rattle.circus_serve.specs.Seen.Going.{served_of, HasGone}

@@ -17,7 +17,7 @@ use Rattle.circus_node.specs.NodeState.{NodeState}
 use Rattle.circus_node.specs.Making.{hears, learns_down, is_told_to_join}
 use Rattle.circus_node.specs.Sending.{Sending, sent, spent, gives_of, all_handed}
 use Rattle.circus_node.specs.Step as step
-use Rattle.circus_log.specs.Serving.{Served, suspected, suspects_in}
+use Rattle.circus_serve.specs.Serving.{Served, suspected, suspects_in}
 
 module _ {P : Type 0} (w : WireState P) where
   -- the node at a place among the others is another one

@@ -9,12 +9,12 @@ use Rattle.circus_outside.specs.Link.{Taken, failed, taken_of}
 use Rattle.circus_outside.specs.declared.link.TakenFrom.{TakenFrom}
 use Rattle.circus_node.specs.declared.event.Give.{Give}
 use Rattle.circus_node.specs.NodeState.{NodeState}
-use Rattle.circus_log.specs.declared.happening.Happening.{Happening}
+use Rattle.circus_serve.specs.declared.happening.Happening.{Happening}
 use Rattle.circus_serve.specs.declared.fault.ServeFault.{ServeFault}
 use Rattle.circus_serve.specs.declared.fault.ServeFault.TheVariants as fault
-use Rattle.circus_log.specs.Happened.{port_of, given_in}
-use Rattle.circus_log.specs.Serving.{Served, Progress, on, spent, happened_by, served}
-use Rattle.circus_log.specs.Outside.{Tells, Asked, IsAsked}
+use Rattle.circus_serve.specs.Happened.{port_of, given_in}
+use Rattle.circus_serve.specs.Serving.{Served, Progress, on, spent, happened_by, served}
+use Rattle.circus_serve.specs.Outside.{Tells, Asked, IsAsked}
 use Rattle.circus_serve.specs.Recorded.{Recorded}
 
 -- the node's port alone was bound, and this was taken and given

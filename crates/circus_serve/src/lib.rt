@@ -1,12 +1,22 @@
 //! A node that is served over a link: its real datagrams, its time, and what happened to it.
 //!
-//! `record` serves a node and has its record, or a fault of `fault`. `serving` has the node meanwhile. What happens to a node is
-//! said by `circus_log`.
+//! `record` serves a node and has its record, or a fault of `fault`; `serving` has the node meanwhile. `happening` says what
+//! happens to it, and `log` has what happened so far: the plain run of the node over what the link tells, and what it gives to
+//! the link. `peers` says which node a port is of, and `giving` gives to the link. `laws` has what holds of every record.
 #![tactic(auto)]
 
 mod fault;
+mod giving;
+mod happening;
+mod laws;
+mod log;
+mod peers;
 mod record;
 mod serving;
 
 pub use fault::ServeFault;
+pub use happening::{Happening, Happenings};
+pub use laws::{events_are_the_nodes, records_have_all_takes, spares_are_told_to_join};
+pub use log::Log;
+pub use peers::{peer_at, port_of};
 pub use record::{NodeRecord, serve};

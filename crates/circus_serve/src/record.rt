@@ -3,13 +3,12 @@ ghost use Rattle.std.specs.Prelude.{◌≡◌, ◌<◌, IsErrOf};
 ghost use Rattle.circus_outside.specs.Faults.{Rose};
 ghost use Rattle.circus_collate.specs.Deployment.{IsDeployment};
 ghost use Rattle.circus_node.specs.Node.{IsNodeOf};
-ghost use Rattle.circus_log.specs.Outside.{tells_of};
+ghost use Rattle.circus_serve.specs.Outside.{tells_of};
 ghost use Rattle.circus_serve.specs.Answers.{IsAnswer};
 
-use crate::ServeFault;
 use crate::serving::Serving;
+use crate::{Happenings, ServeFault, port_of};
 use circus_collate::Deployment;
-use circus_log::{Happenings, port_of};
 use circus_model::Module;
 use circus_node::{Gives, NodeCore};
 use circus_outside::Link;

@@ -4,14 +4,13 @@ ghost use Rattle.circus_collate.specs.Deployment.{IsDeployment};
 ghost use Rattle.circus_wire.specs.Wire.{IsOther};
 ghost use Rattle.circus_node.specs.Node.{IsNodeOf};
 ghost use Rattle.circus_node.specs.Step.{CanCome};
-ghost use Rattle.circus_log.specs.Outside.{tells_of};
-ghost use Rattle.circus_log.specs.Serving as model;
+ghost use Rattle.circus_serve.specs.Outside.{tells_of};
+ghost use Rattle.circus_serve.specs.Serving as model;
 ghost use Rattle.circus_serve.specs.Seen.Counting.{ServeCounts};
 ghost use Rattle.circus_serve.specs.Seen.Going.{served_of, HasGone};
 
-use crate::ServeFault;
+use crate::{Log, ServeFault, peer_at};
 use circus_collate::Deployment;
-use circus_log::{Log, peer_at};
 use circus_model::Module;
 use circus_node::{Event, Gives, NodeCore, Outputs};
 use circus_outside::{Link, TakenFrom};

@@ -10,9 +10,9 @@ use Rattle.circus_outside.specs.declared.link.TakenFrom.{TakenFrom}
 use Rattle.circus_node.specs.declared.event.Give.{Give}
 use Rattle.circus_node.specs.NodeState.{NodeState}
 use Rattle.circus_alike.specs.Alike.{declared_of, turn_of, node_as}
-use Rattle.circus_log.specs.Happened.{given_in}
-use Rattle.circus_log.specs.Serving.{Progress, on, spent, happened_by, served}
-use Rattle.circus_log.specs.Outside.{Tells}
+use Rattle.circus_serve.specs.Happened.{given_in}
+use Rattle.circus_serve.specs.Serving.{Progress, on, spent, happened_by, served}
+use Rattle.circus_serve.specs.Outside.{Tells}
 use Rattle.circus_serve.specs.Recorded.{Recorded}
 use Rattle.circus_serve.specs.Answers.{WasServed, IsServed, IsSpent, IsPartGiven, HasTakeFailed, HasGiveFailed, HasBindFailed}
 use Rattle.circus_served.specs.Alike.{served_as, progress_as, recorded_as}

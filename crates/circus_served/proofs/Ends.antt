@@ -16,7 +16,7 @@ use Rattle.circus_node.specs.Booting.{IsBooted}
 use Rattle.circus_alike.specs.Alike.{declared_of, turn_of, node_as}
 use Rattle.circus_serve.specs.declared.fault.ServeFault.{ServeFault}
 use Rattle.circus_serve.specs.declared.fault.ServeFault.TheVariants as serve_fault
-use Rattle.circus_log.specs.Outside.{Tells}
+use Rattle.circus_serve.specs.Outside.{Tells}
 use Rattle.circus_serve.specs.Recorded.{Recorded}
 use Rattle.circus_serve.specs.Answers.{IsAnswer}
 use Rattle.circus_config.specs.declared.plan.Plan.{Plan}

@@ -18,8 +18,8 @@ use Rattle.circus_node.specs.NodeState.{NodeState, Acting, member, ringmaster, m
 use Rattle.circus_node.specs.Step as step
 use Rattle.circus_alike.specs.Alike.{declared_of, turn_of, acting_as, node_as, ended_as}
 use Rattle.circus_alike.proofs.NodesAlike.{node_stepped_as}
-use Rattle.circus_log.specs.Happened.{peer_at}
-use Rattle.circus_log.specs.Serving.{Served, Progress, on, spent, is_outside, is_spare, at_boot, and_then, concluded, suspects_in, with_foreign, event_comes, suspected, all_declared, comes, took, all_took, begun, served}
+use Rattle.circus_serve.specs.Happened.{peer_at}
+use Rattle.circus_serve.specs.Serving.{Served, Progress, on, spent, is_outside, is_spare, at_boot, and_then, concluded, suspects_in, with_foreign, event_comes, suspected, all_declared, comes, took, all_took, begun, served}
 use Rattle.circus_served.specs.Alike.{served_as, progress_as}
 
 module _ {M : Type 0} (declared : M → Signature) (turn : M → List ValueTree → ℕ → List ValueTree → List Outcome → NextTurn) (first : M → List ValueTree) where

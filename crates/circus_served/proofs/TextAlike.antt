@@ -10,7 +10,7 @@ use Rattle.circus_record.specs.Line.{line}
 use Rattle.circus_record.specs.MemberText.{member_lines}
 use Rattle.circus_record.specs.Naming.{Names}
 use Rattle.circus_report.specs.ViewLines.{ringmaster_line, views_lines}
-use Rattle.circus_accepting.specs.Accepting.{troupe_at}
+use Rattle.circus_node.specs.Accepting.{troupe_at}
 use Rattle.circus_node.specs.NodeState.{Acting, member, ringmaster, ring_views}
 use Rattle.circus_alike.specs.Alike.{acting_as}
 use Rattle.circus_serve.specs.Recorded.{Recorded}

@@ -6,7 +6,7 @@ use Rattle.circus_model.specs.NextTurn.{NextTurn}
 use Rattle.circus_model.specs.Behaviour.{Behaviour}
 use Rattle.circus_model.specs.declared.signature.Signature.{Signature}
 use Rattle.circus_alike.specs.Alike.{node_as}
-use Rattle.circus_log.specs.Serving.{Served, Progress, on, spent}
+use Rattle.circus_serve.specs.Serving.{Served, Progress, on, spent}
 use Rattle.circus_serve.specs.Recorded.{Recorded}
 
 module _ {M : Type 0} (declared : M → Signature) (turn : M → List ValueTree → ℕ → List ValueTree → List Outcome → NextTurn) (first : M → List ValueTree) where

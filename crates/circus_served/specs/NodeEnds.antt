@@ -15,7 +15,7 @@ use Rattle.circus_node.specs.declared.event.Give.{Give}
 use Rattle.circus_node.specs.NodeState.{NodeState}
 use Rattle.circus_node.specs.Step.{Ended}
 use Rattle.circus_node.specs.Booting as booting
-use Rattle.circus_log.specs.Outside.{Tells}
+use Rattle.circus_serve.specs.Outside.{Tells}
 use Rattle.circus_serve.specs.Recorded.{Recorded}
 use Rattle.circus_serve.specs.Answers.{IsServed, IsSpent, HasBindFailed, HasTakeFailed, HasGiveFailed}
 use Rattle.circus_node_text.specs.NodeText.{node_text}

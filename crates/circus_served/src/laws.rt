@@ -5,7 +5,7 @@ ghost use Rattle.circus_outside.specs.declared.link.TakenFrom.{TakenFrom};
 ghost use Rattle.circus_node.specs.declared.event.Give.{Give};
 ghost use Rattle.circus_node.specs.NodeState.{NodeState};
 ghost use Rattle.circus_alike.specs.Alike.{declared_of, turn_of, node_as};
-ghost use Rattle.circus_log.specs.Serving.{served};
+ghost use Rattle.circus_serve.specs.Serving.{served};
 ghost use Rattle.circus_served.specs.Alike.{progress_as};
 
 use circus_model::Module;

@@ -9,7 +9,7 @@ ghost use Rattle.circus_ending.specs.Status.{is_end};
 ghost use Rattle.circus_ending.specs.Seen.Ending.{ending_of};
 ghost use Rattle.circus_served.specs.NodeEnds.{done_end, IsEndOfBooted, IsEndOfServing};
 ghost use Rattle.circus_served.specs.Seen.Ended.{EndsSo};
-ghost use Rattle.circus_log.specs.Outside.{tells_of};
+ghost use Rattle.circus_serve.specs.Outside.{tells_of};
 
 use circus_collate::Deployment;
 use circus_config::{ModuleNames, Plan};

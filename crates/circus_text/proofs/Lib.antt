@@ -5,3 +5,4 @@ pub mod TokensLie
 mod Scanning
 pub mod Spaced
 mod Answered
+pub mod Words

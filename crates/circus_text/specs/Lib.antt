@@ -3,3 +3,4 @@ pub mod Form
 pub mod Front
 pub mod Token
 pub mod Division
+pub mod Lines

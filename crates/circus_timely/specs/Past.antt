@@ -17,7 +17,7 @@ use Rattle.circus_member_rules.specs.declared.occurrence.AskName.{AskName}
 use Rattle.circus_member_rules.specs.declared.occurrence.Occurrence.{Occurrence}
 use Rattle.circus_member_rules.specs.declared.occurrence.Occurrence.TheVariants as comes
 use Rattle.circus_member_rules.specs.OpenAsks.{is_name}
-use Rattle.circus_member_step.specs.Step.{is_join}
+use Rattle.circus_member_rules.specs.Step.{is_join}
 
 -- oldest first, each with its step; boot is step 0
 pub data Past : Type 0 where

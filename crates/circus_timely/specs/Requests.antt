@@ -19,7 +19,7 @@ use Rattle.circus_member_rules.specs.declared.occurrence.Occurrence.TheVariants 
 use Rattle.circus_member_rules.specs.declared.occurrence.Purpose.{Purpose}
 use Rattle.circus_member_rules.specs.declared.occurrence.Purpose.TheVariants as for
 use Rattle.circus_member_rules.specs.Rules.{ringmaster, request_call, state_requests, lookup_call}
-use Rattle.circus_member_step.specs.Step.{is_lookup}
+use Rattle.circus_member_rules.specs.Step.{is_lookup}
 use Rattle.circus_timely.specs.Past.{Past, booted, followed, known, down, required, phase}
 use Rattle.circus_timely.specs.Returns.{is_before, reply_by}
 

@@ -9,7 +9,7 @@ use Rattle.circus_record.specs.declared.record.MemberRecord.{MemberRecord}
 use Rattle.circus_gather.specs.Gathering.{index_of}
 use Rattle.circus_gather.specs.declared.held.HeldCall.{HeldCall}
 use Rattle.circus_member_rules.specs.Messages.{reply_message, stale_message, before_message}
-use Rattle.circus_member_step.specs.Step.{reply_of_run}
+use Rattle.circus_member_rules.specs.Step.{reply_of_run}
 use Rattle.circus_timely.specs.Past.{Past, now, required, phase}
 use Rattle.circus_timely.specs.First.{first_given}
 

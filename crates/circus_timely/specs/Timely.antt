@@ -23,7 +23,7 @@ use Rattle.circus_performing.specs.Performing.{is_active, clock_after, last_coun
 use Rattle.circus_performing.specs.Record.{start_of}
 use Rattle.circus_member_rules.specs.declared.place.Place.{Place}
 use Rattle.circus_member_rules.specs.declared.occurrence.AskName.{AskName}
-use Rattle.circus_member_step.specs.Step.{start_by_call}
+use Rattle.circus_member_rules.specs.Step.{start_by_call}
 use Rattle.circus_timely.specs.Past.{Past, now, known, down, required, arrived, said, phase, fetched}
 use Rattle.circus_timely.specs.First.{first_given}
 

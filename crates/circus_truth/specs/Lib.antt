@@ -1,2 +1,4 @@
+pub mod Stands
+pub mod Messages
 pub mod Proper
 pub mod Truth

@@ -27,9 +27,9 @@ use Rattle.circus_member_rules.specs.declared.occurrence.Occurrence.{Occurrence}
 use Rattle.circus_member_rules.specs.declared.occurrence.Occurrence.TheVariants as comes
 use Rattle.circus_member_rules.specs.OpenAsks.{asking_of}
 use Rattle.circus_member_rules.specs.Messages.{ask_message, request_message, fetch_message, reply_message, stale_message, before_message}
-use Rattle.circus_member_step.specs.MemberState.{MemberState}
-use Rattle.circus_standing.specs.Stands.{Stands}
-use Rattle.circus_standing.specs.Messages.{IsAskAt, AsksSo, IsTrueCall, IsReplyOf, IsTrueReply, IsTrueState}
+use Rattle.circus_member_rules.specs.MemberState.{MemberState}
+use Rattle.circus_truth.specs.Stands.{Stands}
+use Rattle.circus_truth.specs.Messages.{IsAskAt, AsksSo, IsTrueCall, IsReplyOf, IsTrueReply, IsTrueState}
 
 -- the reply that an ask has in the history
 abbrev pub reply_to : Ask → Reply

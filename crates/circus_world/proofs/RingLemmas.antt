@@ -4,7 +4,7 @@ use Rattle.std.specs.Prelude.{IsSome, slice_get, option_map, option_and_then}
 use Rattle.circus_collate.specs.Deployment.{IsDeployment}
 use Rattle.circus_collate.specs.declared.deployment.Deployment.{Deployment}
 use Rattle.circus_collate.specs.declared.deployment.Host.{Host}
-use Rattle.circus_accepting.specs.Accepting.{troupe_at}
+use Rattle.circus_node.specs.Accepting.{troupe_at}
 use Rattle.circus_node.specs.NodeState.{NodeState, ring_views}
 use Rattle.circus_world.specs.WorldState.{WorldState, Standing}
 use Rattle.circus_world.specs.Seen.Sound.{IsSound}

@@ -18,7 +18,7 @@ use Rattle.circus_wire.specs.declared.delivery.Heard.TheVariants as heard
 use Rattle.circus_wire.specs.Wire.{heard_from}
 use Rattle.circus_wire.specs.WireActs.{WireActs}
 use Rattle.circus_member_rules.specs.declared.occurrence.Purpose.{Purpose}
-use Rattle.circus_accepting.specs.Accepting.{troupe_at}
+use Rattle.circus_node.specs.Accepting.{troupe_at}
 use Rattle.circus_node.specs.declared.event.Event.{Event}
 use Rattle.circus_node.specs.declared.event.Event.TheVariants as comes
 use Rattle.circus_node.specs.NodeState.{NodeState}

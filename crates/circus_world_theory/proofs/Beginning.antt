@@ -25,9 +25,9 @@ use Rattle.circus_wire.specs.WireActs.{WireActs, begun}
 use Rattle.circus_member_rules.specs.declared.occurrence.Purpose.{Purpose}
 use Rattle.circus_member_rules.specs.declared.occurrence.Effect.{Effect}
 use Rattle.circus_member_rules.specs.declared.occurrence.Effect.TheVariants as made
-use Rattle.circus_member_step.specs.Step as member_step
-use Rattle.circus_member_step.specs.Seen.Sound.{IsRested}
-use Rattle.circus_accepting.specs.Accepting.{troupe_at}
+use Rattle.circus_member_rules.specs.Step as member_step
+use Rattle.circus_member_rules.specs.Seen.Sound.{IsRested}
+use Rattle.circus_node.specs.Accepting.{troupe_at}
 use Rattle.circus_node.specs.declared.event.Outputs.{Outputs}
 use Rattle.circus_node.specs.Booting.{AreOfTroupes, IsHosted, home_in, home_of, made_at_boot, member_at_boot, booted, fresh_wire}
 use Rattle.circus_node.specs.NodeState.{NodeState}

@@ -11,7 +11,7 @@ use Rattle.circus_model.specs.Behaviour.{Behaviour, IsModule}
 use Rattle.circus_model.specs.Agree.{AreModules, Agree}
 use Rattle.circus_model.specs.declared.signature.Signature.{Signature}
 use Rattle.circus_performing.specs.Record.{behaviour}
-use Rattle.circus_accepting.specs.Accepting.{troupe_at}
+use Rattle.circus_node.specs.Accepting.{troupe_at}
 use Rattle.circus_node.specs.Booting.{AreOfTroupes}
 use Rattle.circus_node.specs.NodeState.{Acting, member, ringmaster, member_record}
 use Rattle.circus_schedule.specs.declared.line.Line.{Line}

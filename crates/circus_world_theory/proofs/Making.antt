@@ -27,11 +27,11 @@ use Rattle.circus_member_rules.specs.declared.occurrence.Effect.{Effect}
 use Rattle.circus_member_rules.specs.declared.occurrence.Effect.TheVariants as made
 use Rattle.circus_member_rules.specs.declared.occurrence.Occurrence.{Occurrence}
 use Rattle.circus_member_rules.specs.declared.occurrence.Occurrence.TheVariants as comes
-use Rattle.circus_member_step.specs.MemberState.{MemberState}
-use Rattle.circus_member_step.specs.Step.{stepped}
-use Rattle.circus_member_step.specs.Happening.{CanHappen}
-use Rattle.circus_member_step.specs.Seen.Sound.{IsRested}
-use Rattle.circus_accepting.specs.Accepting.{accepted, accepted_request}
+use Rattle.circus_member_rules.specs.MemberState.{MemberState}
+use Rattle.circus_member_rules.specs.Step.{stepped}
+use Rattle.circus_member_rules.specs.Happening.{CanHappen}
+use Rattle.circus_member_rules.specs.Seen.Sound.{IsRested}
+use Rattle.circus_node.specs.Accepting.{accepted, accepted_request}
 use Rattle.circus_node.specs.NodeState.{Acting, member, ringmaster}
 use Rattle.circus_node.specs.Making.{Made, happens, unchanged, refused, arrives_at_ring, by_ring, hears, learns_down, is_told_to_join, performs, table_message, a_drop}
 use Rattle.circus_truth.specs.Proper.{AreProper}

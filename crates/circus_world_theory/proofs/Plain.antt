@@ -8,12 +8,12 @@ use Rattle.circus_model.specs.Agree.{IsAt}
 use Rattle.circus_model.specs.Execution.{history_of}
 use Rattle.circus_record.specs.declared.record.MemberRecord.{MemberRecord}
 use Rattle.circus_performing.specs.Performing.{is_active}
-use Rattle.circus_accepting.specs.Accepting.{troupe_at}
+use Rattle.circus_node.specs.Accepting.{troupe_at}
 use Rattle.circus_node.specs.NodeState.{member_record}
 use Rattle.circus_schedule.specs.declared.line.Line.{Line}
 use Rattle.circus_world.specs.WorldState.{WorldState, Standing}
 use Rattle.circus_world.specs.Alike.{standing_as}
-use Rattle.circus_standing.specs.Stands.{Stands}
+use Rattle.circus_truth.specs.Stands.{Stands}
 use Rattle.circus_world_theory.specs.Worlds.{IsPlainWorldOf}
 use Rattle.circus_world_theory.specs.Agreeing.{RecordsStand}
 use Rattle.circus_world_theory.proofs.Theorem.{records_stand}

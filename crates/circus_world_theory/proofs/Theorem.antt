@@ -21,7 +21,7 @@ use Rattle.circus_wire.specs.WireActs.{WireActs}
 use Rattle.circus_member_rules.specs.declared.occurrence.AskName.{AskName}
 use Rattle.circus_member_rules.specs.declared.occurrence.Purpose.{Purpose}
 use Rattle.circus_member_rules.specs.declared.occurrence.Purpose.TheVariants as for
-use Rattle.circus_accepting.specs.Accepting.{troupe_at}
+use Rattle.circus_node.specs.Accepting.{troupe_at}
 use Rattle.circus_node.specs.declared.event.Event.{Event}
 use Rattle.circus_node.specs.declared.event.Event.TheVariants as comes
 use Rattle.circus_node.specs.NodeState.{Acting, member, ringmaster, member_record}
@@ -32,8 +32,8 @@ use Rattle.circus_world.specs.WorldState.{WorldState, Standing, is_live}
 use Rattle.circus_talks.specs.Histories.{beginning_of, acts_of, comes_by, delivery}
 use Rattle.circus_talks.proofs.Boots.{world_stands}
 use Rattle.circus_talks.proofs.Worlds.{Stands}
-use Rattle.circus_standing.specs.Stands as standing
-use Rattle.circus_standing.specs.Messages.{IsAskAt, IsTrueState}
+use Rattle.circus_truth.specs.Stands as standing
+use Rattle.circus_truth.specs.Messages.{IsAskAt, IsTrueState}
 use Rattle.circus_truth.specs.Truth.{IsTrueReturn, IsTrueCallFor}
 use Rattle.circus_world_theory.specs.Worlds.{IsWorldOf}
 use Rattle.circus_world_theory.specs.Agreeing.{RecordsStand, AsksAreTrue, ReturnsAreTrue, OthersCiteNothing, NoneDiffer, IsTrueAsk, IsTrueReplyTo, IsTrueSnapshot, CitesNothing, HasCalled, HasReturned}

@@ -15,9 +15,9 @@ use Rattle.circus_performing.specs.Record.{behaviour}
 use Rattle.circus_member_rules.specs.declared.occurrence.Purpose.{Purpose}
 use Rattle.circus_member_rules.specs.declared.occurrence.Effect.{Effect}
 use Rattle.circus_member_rules.specs.declared.occurrence.Effect.TheVariants as made
-use Rattle.circus_member_step.specs.MemberState.{MemberState}
-use Rattle.circus_member_step.specs.Seen.Sound.{IsRested}
-use Rattle.circus_accepting.specs.Accepting.{IsMemberOf}
+use Rattle.circus_member_rules.specs.MemberState.{MemberState}
+use Rattle.circus_member_rules.specs.Seen.Sound.{IsRested}
+use Rattle.circus_node.specs.Accepting.{IsMemberOf}
 use Rattle.circus_node.specs.Making.{Made}
 use Rattle.circus_node.specs.NodeState.{Acting, member, ringmaster}
 use Rattle.circus_truth.specs.Truth.{IsTrueMember, IsTrueCallFor, IsOtherReturn, IsTrueReturn}

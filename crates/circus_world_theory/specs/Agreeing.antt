@@ -26,7 +26,7 @@ use Rattle.circus_member_rules.specs.declared.occurrence.AskName.{AskName}
 use Rattle.circus_member_rules.specs.declared.occurrence.Purpose.{Purpose}
 use Rattle.circus_member_rules.specs.declared.occurrence.Purpose.TheVariants as for
 use Rattle.circus_member_rules.specs.Messages.{ask_message, reply_message, stale_message, before_message}
-use Rattle.circus_accepting.specs.Accepting.{troupe_at}
+use Rattle.circus_node.specs.Accepting.{troupe_at}
 use Rattle.circus_node.specs.NodeState.{member_record}
 use Rattle.circus_node.specs.Step as node_step
 use Rattle.circus_node.specs.declared.event.Event.{Event}
@@ -35,8 +35,8 @@ use Rattle.circus_node.specs.NodeState.{NodeState}
 use Rattle.circus_schedule.specs.declared.line.Line.{Line}
 use Rattle.circus_world.specs.WorldState.{WorldState, Standing}
 use Rattle.circus_talks.specs.Histories.{beginning_of, comes_by}
-use Rattle.circus_standing.specs.Stands.{Stands}
-use Rattle.circus_standing.specs.Messages.{IsTrueCall, IsTrueReply, IsTrueState}
+use Rattle.circus_truth.specs.Stands.{Stands}
+use Rattle.circus_truth.specs.Messages.{IsTrueCall, IsTrueReply, IsTrueState}
 
 -- ---- records
 

@@ -9,8 +9,8 @@ use Rattle.circus_model.specs.declared.signature.Signature.{Signature}
 use Rattle.circus_wire.specs.Wire.{heard_from}
 use Rattle.circus_member_rules.specs.declared.occurrence.Occurrence.{Occurrence}
 use Rattle.circus_member_rules.specs.declared.occurrence.Occurrence.TheVariants as occurs
-use Rattle.circus_member_step.specs.MemberState.{MemberState}
-use Rattle.circus_accepting.specs.Accepting.{accepted}
+use Rattle.circus_member_rules.specs.MemberState.{MemberState}
+use Rattle.circus_node.specs.Accepting.{accepted}
 use Rattle.circus_node.specs.declared.event.Event.{Event}
 use Rattle.circus_node.specs.declared.event.Event.TheVariants as comes
 use Rattle.circus_node.specs.NodeState.{Acting, member, ringmaster, NodeState}

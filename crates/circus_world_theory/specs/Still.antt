@@ -10,10 +10,10 @@ use Rattle.circus_member_rules.specs.declared.occurrence.Purpose.{Purpose}
 use Rattle.circus_member_rules.specs.declared.occurrence.Purpose.TheVariants as for
 use Rattle.circus_member_rules.specs.declared.place.Beginning.{Beginning}
 use Rattle.circus_member_rules.specs.declared.place.Beginning.TheVariants.{Founder, Spare}
-use Rattle.circus_member_step.specs.MemberState.{MemberState}
+use Rattle.circus_member_rules.specs.MemberState.{MemberState}
 use Rattle.circus_node.specs.Booting.{beginning_in}
 use Rattle.circus_node.specs.NodeState.{member}
-use Rattle.circus_accepting.specs.Accepting.{troupe_at}
+use Rattle.circus_node.specs.Accepting.{troupe_at}
 use Rattle.circus_ring.specs.RingTable.{boot_views}
 use Rattle.circus_transfer.specs.declared.joiner.Joiner.{Joiner}
 use Rattle.circus_transfer.specs.declared.joiner.Joiner.TheVariants.{Outside, Active}

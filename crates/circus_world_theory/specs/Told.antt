@@ -17,8 +17,8 @@ use Rattle.circus_wire.specs.WireActs.{WireActs}
 use Rattle.circus_member_rules.specs.OpenAsks.{asking_of}
 use Rattle.circus_member_rules.specs.declared.occurrence.Purpose.{Purpose}
 use Rattle.circus_member_rules.specs.declared.occurrence.Purpose.TheVariants as for
-use Rattle.circus_member_step.specs.GoneOn.{HasGoneOn}
-use Rattle.circus_member_step.specs.MemberState.{MemberState}
+use Rattle.circus_member_rules.specs.GoneOn.{HasGoneOn}
+use Rattle.circus_member_rules.specs.MemberState.{MemberState}
 use Rattle.circus_node.specs.NodeState.{member}
 use Rattle.circus_world.specs.WorldState.{WorldState, Standing}
 use Rattle.circus_world_theory.specs.Agreeing.{HasCalled, HasCalledFor, HasReturned}

@@ -11,7 +11,7 @@ use circus_load::{Loaded, load};
 use circus_machine::{Tally, TextModule};
 use circus_model::Module;
 use circus_outside::{Failing, MemSink};
-use circus_running::Running;
+use circus_report::Running;
 use circus_value::NoMemory;
 use circus_world::{Line, World};
 use std::alloc::Global;

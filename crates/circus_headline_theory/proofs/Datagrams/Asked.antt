@@ -20,7 +20,7 @@ use Rattle.circus_model.specs.Execution.{is_spent}
 use Rattle.circus_record.specs.declared.record.AskRecord.{AskRecord}
 use Rattle.circus_record.specs.declared.record.MemberRecord.{MemberRecord}
 use Rattle.circus_record.specs.declared.record.RunRecord.{RunRecord}
-use Rattle.circus_known.specs.Knowing.{Knowing}
+use Rattle.circus_fanout.specs.Knowing.{Knowing}
 use Rattle.circus_fanout.specs.Asking.{Asking, is_due, send_to, calls_for_a_view, with_view, with_reply, with_before, with_stale, next}
 use Rattle.circus_fanout.specs.declared.asked.Asked.{Asked}
 use Rattle.circus_fanout.specs.declared.send.Next.TheVariants as N
@@ -33,7 +33,7 @@ use Rattle.circus_member_rules.specs.declared.occurrence.Occurrence.TheVariants 
 use Rattle.circus_member_rules.specs.Messages.{ask_message}
 use Rattle.circus_member_rules.specs.OpenAsks.{is_name, asking_of, with_ask, with_asking}
 use Rattle.circus_member_rules.specs.Rules.{call_of_ask, call_for, call_again, after_stale, is_to, seen_by_ask, with_new_view, calls_for_view, calls_for_a_new_view, stays_open, incarnation_of, calls_of_ask}
-use Rattle.circus_member_step.proofs.Named.{All-opened_at, All-changed_at}
+use Rattle.circus_member_rules.proofs.Named.{All-opened_at, All-changed_at}
 use Rattle.circus_talks.proofs.Worlds.{get_same}
 use Rattle.circus_timely.specs.Past.{Past, booted, followed, now, known, down, is_newer, Rises}
 use Rattle.circus_timely.specs.Asks.{is_new, as_made, asks_from, asks_of, knows, opened_one, first_calls, asks_behind, calls_behind, new_asks, waits_then, open_asks, calls_owed}

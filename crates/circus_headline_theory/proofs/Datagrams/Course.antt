@@ -26,15 +26,15 @@ use Rattle.circus_wire.specs.declared.delivery.Heard.{Heard}
 use Rattle.circus_wire.specs.declared.delivery.Heard.TheVariants.{Dropped, Taken, Called, Returned}
 use Rattle.circus_member_rules.specs.declared.place.Beginning as beginnings
 use Rattle.circus_member_rules.specs.declared.place.Place.{Place}
-use Rattle.circus_known.specs.Knowing.{Knowing}
+use Rattle.circus_fanout.specs.Knowing.{Knowing}
 use Rattle.circus_member_rules.specs.declared.occurrence.Effect.{Effect}
 use Rattle.circus_member_rules.specs.declared.occurrence.Effect.TheVariants as made
 use Rattle.circus_member_rules.specs.declared.occurrence.Occurrence.{Occurrence}
 use Rattle.circus_member_rules.specs.declared.occurrence.Occurrence.TheVariants as occurs
 use Rattle.circus_member_rules.specs.declared.occurrence.Purpose.{Purpose}
-use Rattle.circus_member_step.specs.MemberState.{MemberState}
-use Rattle.circus_member_step.specs.Step as member_step
-use Rattle.circus_accepting.specs.Accepting.{accepted}
+use Rattle.circus_member_rules.specs.MemberState.{MemberState}
+use Rattle.circus_member_rules.specs.Step as member_step
+use Rattle.circus_node.specs.Accepting.{accepted}
 use Rattle.circus_node.specs.Booting.{beginning_in, home_in}
 use Rattle.circus_node.specs.NodeState.{Acting, member, ringmaster, NodeState}
 use Rattle.circus_node.specs.Making.{happens, refused, hears}

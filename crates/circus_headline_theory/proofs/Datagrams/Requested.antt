@@ -25,7 +25,7 @@ use Rattle.circus_member_rules.specs.declared.occurrence.Effect.TheVariants as m
 use Rattle.circus_member_rules.specs.declared.occurrence.Occurrence.{Occurrence}
 use Rattle.circus_member_rules.specs.declared.occurrence.Occurrence.TheVariants as comes
 use Rattle.circus_member_rules.specs.Rules.{ringmaster, request_call, performs_any, may_give, givers, state_request, state_requests, lookup_call}
-use Rattle.circus_member_step.specs.Step.{is_join}
+use Rattle.circus_member_rules.specs.Step.{is_join}
 use Rattle.circus_timely.specs.Past.{Past, booted, followed, now, known, down, is_asking, is_done, taken_in, phase}
 use Rattle.circus_timely.specs.Requests.{to_ring, answers_lookup, gone_from, gone, for_what_came, wanted, is_due, due_from, due, is_unanswered, lookups, requests_owed}
 use Rattle.circus_world_theory.proofs.Border.Makers.{IsIn, in_both}

@@ -21,7 +21,7 @@ use Rattle.circus_member_rules.specs.declared.occurrence.Effect.{Effect}
 use Rattle.circus_member_rules.specs.declared.occurrence.Effect.TheVariants as made
 use Rattle.circus_member_rules.specs.declared.occurrence.Occurrence.TheVariants as comes
 use Rattle.circus_member_rules.specs.Messages.{reply_message, stale_message, before_message}
-use Rattle.circus_member_step.specs.Step.{reply_of_run}
+use Rattle.circus_member_rules.specs.Step.{reply_of_run}
 use Rattle.circus_timely.specs.Past.{Past, booted, followed, now, required, phase}
 use Rattle.circus_timely.specs.First.{at_end, or_else, first_given}
 use Rattle.circus_timely.specs.Made.{is_caller, returns_to, asks, requests, callers}

@@ -25,7 +25,7 @@ use Rattle.circus_wire.specs.declared.delivery.Heard.TheVariants.{Dropped, Taken
 use Rattle.circus_member_rules.specs.declared.occurrence.Effect.{Effect}
 use Rattle.circus_member_rules.specs.declared.occurrence.Effect.TheVariants as made
 use Rattle.circus_member_rules.specs.declared.occurrence.Purpose.{Purpose}
-use Rattle.circus_accepting.specs.Accepting.{accepted_request}
+use Rattle.circus_node.specs.Accepting.{accepted_request}
 use Rattle.circus_member_rules.specs.Rules.{answer}
 use Rattle.circus_node.specs.Booting.{home_of, made_at_boot, fresh_wire}
 use Rattle.circus_node.specs.Booting as booting

@@ -16,7 +16,7 @@ use Rattle.circus_model.proofs.Threads.{are_modules}
 use Rattle.circus_performing.specs.Record.{behaviour}
 use Rattle.circus_wire.specs.WireActs.{WireActs, begun}
 use Rattle.circus_member_rules.specs.declared.occurrence.Purpose.{Purpose}
-use Rattle.circus_accepting.specs.Accepting.{troupe_at}
+use Rattle.circus_node.specs.Accepting.{troupe_at}
 use Rattle.circus_node.specs.Booting.{beginning_in, home_in}
 use Rattle.circus_node.specs.Booting as booting
 use Rattle.circus_node.specs.declared.event.Event.{Event}

@@ -27,10 +27,10 @@ use Rattle.circus_member_rules.specs.declared.occurrence.Effect.{Effect}
 use Rattle.circus_member_rules.specs.declared.occurrence.Occurrence.{Occurrence}
 use Rattle.circus_member_rules.specs.declared.occurrence.Occurrence.TheVariants as comes
 use Rattle.circus_member_rules.specs.Rules.{answer, answers, active_call, before_answers}
-use Rattle.circus_member_step.specs.Happening.{IsHome}
-use Rattle.circus_member_step.specs.MemberState.{MemberState, Doing}
-use Rattle.circus_member_step.specs.Step.{is_idle, handled}
-use Rattle.circus_member_step.proofs.Writing.{one_is_performing}
+use Rattle.circus_member_rules.specs.Happening.{IsHome}
+use Rattle.circus_member_rules.specs.MemberState.{MemberState, Doing}
+use Rattle.circus_member_rules.specs.Step.{is_idle, handled}
+use Rattle.circus_member_rules.proofs.Writing.{one_is_performing}
 use Rattle.circus_timely.specs.Past.{Past, followed, now, phase}
 use Rattle.circus_timely.specs.First.{at_end, or_else}
 use Rattle.circus_member_theory.specs.Living.{phase_at_boot, after, MayLive}

@@ -13,9 +13,9 @@ use Rattle.circus_member_rules.specs.declared.occurrence.Occurrence.{Occurrence}
 use Rattle.circus_member_rules.specs.declared.occurrence.Occurrence.TheVariants as comes
 use Rattle.circus_member_rules.specs.Messages.{stale_message, before_message}
 use Rattle.circus_member_rules.specs.Rules.{answers, answer_at_once, wanted_by_call, stale_answers, active_call, before_answers}
-use Rattle.circus_member_step.specs.MemberState.{MemberState, Doing}
-use Rattle.circus_member_step.specs.Step as step
-use Rattle.circus_member_step.specs.Step.{handled}
+use Rattle.circus_member_rules.specs.MemberState.{MemberState, Doing}
+use Rattle.circus_member_rules.specs.Step as step
+use Rattle.circus_member_rules.specs.Step.{handled}
 use Rattle.circus_headline_theory.proofs.Owed.Handling.{due, neither}
 
 pub all_stay : {X : Type 0} (xs : List X) → filter (λ x. true) xs ≡ xs

@@ -9,11 +9,11 @@ use Rattle.circus_model.specs.Behaviour.{IsModule}
 use Rattle.circus_performing.specs.Record.{behaviour}
 use Rattle.circus_member_rules.specs.declared.place.Place.{Place}
 use Rattle.circus_member_rules.specs.declared.place.Beginning.{Beginning}
-use Rattle.circus_member_step.specs.Happening.{IsHome}
-use Rattle.circus_member_step.specs.MemberState.{Doing}
-use Rattle.circus_member_step.specs.Seen.Sound.{IsSound}
-use Rattle.circus_member_step.specs.Step.{main_start, entered, starts_at_boot, booted}
-use Rattle.circus_member_step.proofs.Starting.{IsSoundNow}
+use Rattle.circus_member_rules.specs.Happening.{IsHome}
+use Rattle.circus_member_rules.specs.MemberState.{Doing}
+use Rattle.circus_member_rules.specs.Seen.Sound.{IsSound}
+use Rattle.circus_member_rules.specs.Step.{main_start, entered, starts_at_boot, booted}
+use Rattle.circus_member_rules.proofs.Starting.{IsSoundNow}
 use Rattle.circus_member_theory.proofs.Resting.{at_boot, sound_at_boot, may_begin, boot_rests}
 use Rattle.circus_world_theory.proofs.Border.Going.{begun}
 use Rattle.circus_headline_theory.proofs.Owed.Going.{Keeps, entered_keeps}

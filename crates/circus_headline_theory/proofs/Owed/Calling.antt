@@ -22,8 +22,8 @@ use Rattle.circus_model.specs.Behaviour.{Behaviour, IsModule}
 use Rattle.circus_record.specs.declared.record.AskRecord.{AskRecord}
 use Rattle.circus_record.specs.declared.record.MemberRecord.{MemberRecord}
 use Rattle.circus_record.specs.declared.record.RunRecord.{RunRecord}
-use Rattle.circus_known.specs.Knowing as knowing
-use Rattle.circus_known.specs.Knowing.{Knowing}
+use Rattle.circus_fanout.specs.Knowing as knowing
+use Rattle.circus_fanout.specs.Knowing.{Knowing}
 use Rattle.circus_gather.specs.Gathering.{Gathered, answer_to, with_first, stale_answers as stale_callers, before_answers as callers_before}
 use Rattle.circus_fanout.specs.Asking.{Asking, calls_for_a_view, next}
 use Rattle.circus_fanout.specs.declared.send.Next.{Next}
@@ -42,11 +42,11 @@ use Rattle.circus_member_rules.specs.Messages.{stale_message, before_message}
 use Rattle.circus_member_rules.specs.OpenAsks.{is_name, asking_of, with_asking}
 use Rattle.circus_member_rules.specs.Rules as rules
 use Rattle.circus_member_rules.specs.Rules.{ringmaster, answer, request_call, request_to_ring, message_at_once, call_of_ask, call_for, call_again, after_stale, is_to, calls_for_view, calls_for_a_new_view, with_new_view, givers, state_request, state_requests, gone_from, gone_call, lookup_call, active_call, before_answers, stays_open, index_of_last}
-use Rattle.circus_member_step.specs.Happening.{IsHome}
-use Rattle.circus_member_step.specs.MemberState.{MemberState, Doing}
-use Rattle.circus_member_step.specs.Step as step
-use Rattle.circus_member_step.specs.Step.{name_of_last, known_by_table, is_taken_in, kept_by_table, handled, waits}
-use Rattle.circus_member_step.proofs.Writing.{one_is_performing, none_is_idle}
+use Rattle.circus_member_rules.specs.Happening.{IsHome}
+use Rattle.circus_member_rules.specs.MemberState.{MemberState, Doing}
+use Rattle.circus_member_rules.specs.Step as step
+use Rattle.circus_member_rules.specs.Step.{name_of_last, known_by_table, is_taken_in, kept_by_table, handled, waits}
+use Rattle.circus_member_rules.proofs.Writing.{one_is_performing, none_is_idle}
 use Rattle.circus_member_theory.proofs.Resting.{at_boot}
 use Rattle.circus_world_theory.proofs.Border.Going.{begun}
 use Rattle.circus_timely.specs.Past as past

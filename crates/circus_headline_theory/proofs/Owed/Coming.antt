@@ -21,9 +21,9 @@ use Rattle.circus_performing.proofs.Records.{fetching_is_inactive}
 use Rattle.circus_member_rules.specs.declared.occurrence.Occurrence.{Occurrence}
 use Rattle.circus_member_rules.specs.declared.occurrence.Occurrence.TheVariants as comes
 use Rattle.circus_member_rules.specs.Rules.{answer_at_once, wanted_by_call, active_call, before_answers}
-use Rattle.circus_member_step.specs.MemberState.{MemberState, Doing}
-use Rattle.circus_member_step.specs.Step.{is_join, kept_by_table, handled}
-use Rattle.circus_member_step.specs.Seen.Sound.{IsSound}
+use Rattle.circus_member_rules.specs.MemberState.{MemberState, Doing}
+use Rattle.circus_member_rules.specs.Step.{is_join, kept_by_table, handled}
+use Rattle.circus_member_rules.specs.Seen.Sound.{IsSound}
 use Rattle.circus_member_theory.specs.Ranges.{InRange}
 use Rattle.circus_timely.specs.Past.{Past, followed, required, is_asking, taken_in as way_in, phase, fetched}
 use Rattle.circus_member_theory.proofs.Timely.Phases.{once_told, once_tabled}

@@ -18,7 +18,7 @@ use Rattle.circus_model.proofs.Lookups.{at_end}
 use Rattle.circus_record.specs.declared.record.AskRecord.{AskRecord}
 use Rattle.circus_record.specs.declared.record.MemberRecord.{MemberRecord}
 use Rattle.circus_record.specs.declared.record.RunRecord.{RunRecord}
-use Rattle.circus_known.specs.Knowing.{Knowing}
+use Rattle.circus_fanout.specs.Knowing.{Knowing}
 use Rattle.circus_fanout.specs.Asking.{Asking, is_watchdog, differs, with_reply, with_before, with_stale, with_view}
 use Rattle.circus_fanout.specs.declared.send.Watched.TheVariants.{Quiet, Differs}
 use Rattle.circus_member_rules.specs.declared.place.Place.{Place}
@@ -28,8 +28,8 @@ use Rattle.circus_member_rules.specs.declared.occurrence.Occurrence.{Occurrence}
 use Rattle.circus_member_rules.specs.declared.occurrence.Occurrence.TheVariants as comes
 use Rattle.circus_member_rules.specs.OpenAsks.{is_name, asking_of, with_ask, with_asking}
 use Rattle.circus_member_rules.specs.Rules.{difference_of, difference_told, difference_by, after_stale, is_to, seen_by_ask, with_new_view, stays_open}
-use Rattle.circus_member_step.specs.Seen.Sound.{AreNamed}
-use Rattle.circus_member_step.proofs.Named.{names_decide, All-opened_at, named-opened, named-changed, named-filtered}
+use Rattle.circus_member_rules.specs.Seen.Sound.{AreNamed}
+use Rattle.circus_member_rules.proofs.Named.{names_decide, All-opened_at, named-opened, named-changed, named-filtered}
 use Rattle.circus_timely.specs.Past.{Past, booted, followed, now, Rises, is_newer, known, said}
 use Rattle.circus_member_theory.proofs.Timely.Replies.{said_none, names_turned}
 use Rattle.circus_timely.specs.Returns.{run_of}

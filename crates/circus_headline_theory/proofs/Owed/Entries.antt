@@ -21,10 +21,10 @@ use Rattle.circus_performing.proofs.Ends.{last_more, latest_more}
 use Rattle.circus_performing.proofs.Records.{with_answer, answered_is}
 use Rattle.circus_member_rules.specs.declared.place.Place.{Place}
 use Rattle.circus_member_rules.specs.declared.occurrence.AskName.{AskName}
-use Rattle.circus_member_step.specs.MemberState.{Doing}
-use Rattle.circus_member_step.proofs.Entering.{HasValue, with_entered, with_answered}
-use Rattle.circus_member_step.proofs.Starting.{IsSoundNow}
-use Rattle.circus_member_step.proofs.Writing.{one_is_performing}
+use Rattle.circus_member_rules.specs.MemberState.{Doing}
+use Rattle.circus_member_rules.proofs.Entering.{HasValue, with_entered, with_answered}
+use Rattle.circus_member_rules.proofs.Starting.{IsSoundNow}
+use Rattle.circus_member_rules.proofs.Writing.{one_is_performing}
 use Rattle.circus_timely.specs.Asks.{as_made, asks_from, asks_of}
 use Rattle.circus_headline_theory.proofs.Owed.Going.{behaves}
 

@@ -19,15 +19,15 @@ use Rattle.circus_performing.specs.Performing.{open_ask, last_of, gone_on, begun
 use Rattle.circus_performing.specs.Record.{behaviour, start_of, turns}
 use Rattle.circus_performing.proofs.Ends.{last_more}
 use Rattle.circus_performing.proofs.Records.{with_answer, answered_is}
-use Rattle.circus_member_step.specs.MemberState.{Doing}
-use Rattle.circus_member_step.specs.Step.{name_of_last, asking_begun, opened_by_view, opened_ask, ended_run, after_turns, is_idle, value_of_open, next_start, given_states, start_of_call, answered_by, answered_open, entered, starting, executed}
-use Rattle.circus_member_step.specs.Seen.Sound.{MayStart, IsRunOf}
-use Rattle.circus_member_step.proofs.Enough.{given_performing, next_is_idle}
-use Rattle.circus_member_step.proofs.Entering.{HasValue, has_value, with_entered, with_answered, turned_by_start, turned_by_reply}
-use Rattle.circus_member_step.proofs.Homes.{slice_get_none}
-use Rattle.circus_member_step.proofs.Starting.{IsSoundNow, next_is_ready, may_start, sound_given, sound_entered, sound_answered}
-use Rattle.circus_member_step.proofs.Turned.{IsTurned, asking_now}
-use Rattle.circus_member_step.proofs.Writing.{one_is_performing}
+use Rattle.circus_member_rules.specs.MemberState.{Doing}
+use Rattle.circus_member_rules.specs.Step.{name_of_last, asking_begun, opened_by_view, opened_ask, ended_run, after_turns, is_idle, value_of_open, next_start, given_states, start_of_call, answered_by, answered_open, entered, starting, executed}
+use Rattle.circus_member_rules.specs.Seen.Sound.{MayStart, IsRunOf}
+use Rattle.circus_member_rules.proofs.Enough.{given_performing, next_is_idle}
+use Rattle.circus_member_rules.proofs.Entering.{HasValue, has_value, with_entered, with_answered, turned_by_start, turned_by_reply}
+use Rattle.circus_member_rules.proofs.Homes.{slice_get_none}
+use Rattle.circus_member_rules.proofs.Starting.{IsSoundNow, next_is_ready, may_start, sound_given, sound_entered, sound_answered}
+use Rattle.circus_member_rules.proofs.Turned.{IsTurned, asking_now}
+use Rattle.circus_member_rules.proofs.Writing.{one_is_performing}
 use Rattle.circus_world_theory.proofs.Border.Going.{with_given}
 
 -- an idle member that has given states owes none

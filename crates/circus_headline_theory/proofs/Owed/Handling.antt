@@ -14,8 +14,8 @@ use Rattle.circus_header.specs.declared.answer.Reply.{Reply}
 use Rattle.circus_collate.specs.Expecting.{has_node}
 use Rattle.circus_collate.specs.declared.table.Table.{Table}
 use Rattle.circus_collate.specs.declared.view.View.{View}
-use Rattle.circus_known.specs.Knowing as knowing
-use Rattle.circus_known.specs.Knowing.{Knowing, is_newer, declared as declared_of}
+use Rattle.circus_fanout.specs.Knowing as knowing
+use Rattle.circus_fanout.specs.Knowing.{Knowing, is_newer, declared as declared_of}
 use Rattle.circus_gather.specs.Gathering.{Gathered, index_of, reply_of, answer_to, is_held, is_stale, is_before, with_first}
 use Rattle.circus_gather.specs.declared.added.Added.{Added}
 use Rattle.circus_gather.specs.declared.added.Added.TheVariants as added
@@ -32,9 +32,9 @@ use Rattle.circus_member_rules.specs.declared.occurrence.Occurrence.TheVariants 
 use Rattle.circus_member_rules.specs.Messages.{reply_message, stale_message, before_message}
 use Rattle.circus_member_rules.specs.OpenAsks.{asking_of}
 use Rattle.circus_member_rules.specs.Rules.{ringmaster, answer, request_call, request_to_ring, message_at_once, answer_at_once, wanted_by_call, call_of_ask, call_for, call_again, is_to, calls_for_view, calls_for_a_new_view, givers, state_request, state_requests, gone_from, gone_call, lookup_call, lookups, active_call, before_answers}
-use Rattle.circus_member_step.specs.MemberState.{MemberState, Doing}
-use Rattle.circus_member_step.specs.Step as step
-use Rattle.circus_member_step.specs.Step.{known_by_table, is_taken_in, handled}
+use Rattle.circus_member_rules.specs.MemberState.{MemberState, Doing}
+use Rattle.circus_member_rules.specs.Step as step
+use Rattle.circus_member_rules.specs.Step.{known_by_table, is_taken_in, handled}
 use Rattle.circus_timely.specs.Made.{is_caller}
 use Rattle.circus_headline_theory.proofs.Owed.Callers.{returned, is_from, filter_no, filter_twice, returned-append, none_mapped, none_flat_mapped, returned_passed}
 use Rattle.circus_headline_theory.proofs.Owed.Waiting.{IsQuiet, Waits, HasReply}

@@ -21,12 +21,12 @@ use Rattle.circus_performing.specs.Record.{behaviour, start_of, turns}
 use Rattle.circus_performing.proofs.Ends.{front_more}
 use Rattle.circus_performing.proofs.Records.{none_is_some, with_answer, answered_is}
 use Rattle.circus_member_rules.specs.Rules.{index_of_last}
-use Rattle.circus_member_step.specs.MemberState.{Doing}
-use Rattle.circus_member_step.specs.Step.{reply_of_run, ended_run}
-use Rattle.circus_member_step.specs.Seen.Sound.{MayStart}
-use Rattle.circus_member_step.proofs.Entering.{HasValue, with_entered, with_answered}
-use Rattle.circus_member_step.proofs.Starting.{IsSoundNow}
-use Rattle.circus_member_step.proofs.Writing.{one_is_performing, none_is_idle}
+use Rattle.circus_member_rules.specs.MemberState.{Doing}
+use Rattle.circus_member_rules.specs.Step.{reply_of_run, ended_run}
+use Rattle.circus_member_rules.specs.Seen.Sound.{MayStart}
+use Rattle.circus_member_rules.proofs.Entering.{HasValue, with_entered, with_answered}
+use Rattle.circus_member_rules.proofs.Starting.{IsSoundNow}
+use Rattle.circus_member_rules.proofs.Writing.{one_is_performing, none_is_idle}
 use Rattle.circus_performing.proofs.Ends.{last_more}
 use Rattle.circus_headline_theory.proofs.Owed.Going.{behaves, Keeps}
 

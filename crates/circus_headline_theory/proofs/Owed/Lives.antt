@@ -11,11 +11,11 @@ use Rattle.circus_member_rules.specs.declared.place.Place.{Place}
 use Rattle.circus_member_rules.specs.declared.place.Beginning.{Beginning}
 use Rattle.circus_member_rules.specs.declared.place.Beginning.TheVariants.{Founder, Spare}
 use Rattle.circus_member_rules.specs.declared.occurrence.Occurrence.{Occurrence}
-use Rattle.circus_member_step.specs.Happening.{IsHome, CanHappen}
-use Rattle.circus_member_step.specs.MemberState.{MemberState, Doing}
-use Rattle.circus_member_step.specs.Step.{is_idle, handled, executed}
-use Rattle.circus_member_step.proofs.Resting.{rested}
-use Rattle.circus_member_step.proofs.Starting.{IsSoundNow, sound_executed}
+use Rattle.circus_member_rules.specs.Happening.{IsHome, CanHappen}
+use Rattle.circus_member_rules.specs.MemberState.{MemberState, Doing}
+use Rattle.circus_member_rules.specs.Step.{is_idle, handled, executed}
+use Rattle.circus_member_rules.proofs.Resting.{rested}
+use Rattle.circus_member_rules.proofs.Starting.{IsSoundNow, sound_executed}
 use Rattle.circus_member_theory.proofs.Resting.{sound_once_handled, at_boot}
 use Rattle.circus_timely.specs.Past.{Past, booted, followed, now, Rises}
 use Rattle.circus_headline_theory.proofs.Owed.Booting.{sound_booted, booted_keeps}

@@ -23,12 +23,12 @@ use Rattle.circus_performing.specs.declared.start.RunStart.{RunStart}
 use Rattle.circus_performing.specs.Performing.{is_active, open_ask, state_after, gone_on, begun, most_turns}
 use Rattle.circus_performing.specs.Record.{behaviour, count_after, start_of, turns}
 use Rattle.circus_performing.proofs.Records.{with_answer, answered_is}
-use Rattle.circus_member_step.specs.MemberState.{MemberState, Doing}
-use Rattle.circus_member_step.specs.Step.{is_idle, opened_by_view, ended_run, name_of_last, asking_begun}
-use Rattle.circus_member_step.specs.Seen.Sound.{MayStart}
-use Rattle.circus_member_step.proofs.Entering.{HasValue, with_entered, with_answered}
-use Rattle.circus_member_step.proofs.Starting.{IsSoundNow, and_right, none_from_test}
-use Rattle.circus_member_step.proofs.Writing.{one_is_performing, none_is_idle}
+use Rattle.circus_member_rules.specs.MemberState.{MemberState, Doing}
+use Rattle.circus_member_rules.specs.Step.{is_idle, opened_by_view, ended_run, name_of_last, asking_begun}
+use Rattle.circus_member_rules.specs.Seen.Sound.{MayStart}
+use Rattle.circus_member_rules.proofs.Entering.{HasValue, with_entered, with_answered}
+use Rattle.circus_member_rules.proofs.Starting.{IsSoundNow, and_right, none_from_test}
+use Rattle.circus_member_rules.proofs.Writing.{one_is_performing, none_is_idle}
 use Rattle.circus_world_theory.proofs.Border.Going.{with_given}
 use Rattle.circus_timely.specs.Past.{Past, now}
 use Rattle.circus_timely.specs.Made.{is_caller}

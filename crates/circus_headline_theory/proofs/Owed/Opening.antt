@@ -29,11 +29,11 @@ use Rattle.circus_member_rules.specs.declared.occurrence.AskName.{AskName}
 use Rattle.circus_member_rules.specs.declared.occurrence.Effect.{Effect}
 use Rattle.circus_member_rules.specs.OpenAsks.{with_ask}
 use Rattle.circus_member_rules.specs.Rules.{answer, answers, call_of_ask, calls_of_ask, index_of_last}
-use Rattle.circus_member_step.specs.MemberState.{MemberState, Doing}
-use Rattle.circus_member_step.specs.Step.{name_of_last, asking_begun, opened_by_view, ended_run}
-use Rattle.circus_member_step.proofs.Entering.{HasValue, with_entered, with_answered}
-use Rattle.circus_member_step.proofs.Starting.{IsSoundNow}
-use Rattle.circus_member_step.proofs.Writing.{one_is_performing}
+use Rattle.circus_member_rules.specs.MemberState.{MemberState, Doing}
+use Rattle.circus_member_rules.specs.Step.{name_of_last, asking_begun, opened_by_view, ended_run}
+use Rattle.circus_member_rules.proofs.Entering.{HasValue, with_entered, with_answered}
+use Rattle.circus_member_rules.proofs.Starting.{IsSoundNow}
+use Rattle.circus_member_rules.proofs.Writing.{one_is_performing}
 use Rattle.circus_timely.specs.Asks.{is_of_ask, as_made, opened_one, first_calls}
 use Rattle.circus_headline_theory.proofs.Owed.Distinct.{All-without_last, All-last}
 use Rattle.circus_headline_theory.proofs.Owed.Entries.{open_part, asks_in, HasMore, entered_more, answered_more}

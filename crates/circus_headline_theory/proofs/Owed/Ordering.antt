@@ -17,8 +17,8 @@ use Rattle.circus_collate.specs.declared.view.View.{View}
 use Rattle.circus_model.specs.Behaviour.{IsModule}
 use Rattle.circus_model.specs.NextTurn.{NextTurn}
 use Rattle.circus_model.specs.declared.signature.Signature.{Signature}
-use Rattle.circus_known.specs.Knowing as knowing
-use Rattle.circus_known.specs.Knowing.{Knowing}
+use Rattle.circus_fanout.specs.Knowing as knowing
+use Rattle.circus_fanout.specs.Knowing.{Knowing}
 use Rattle.circus_gather.specs.Gathering as gathering
 use Rattle.circus_gather.specs.declared.held.HeldCall.{HeldCall}
 use Rattle.circus_fanout.specs.Asking.{Asking, calls_for_a_view, next}
@@ -34,8 +34,8 @@ use Rattle.circus_member_rules.specs.declared.occurrence.Occurrence.{Occurrence}
 use Rattle.circus_member_rules.specs.declared.occurrence.Occurrence.TheVariants as comes
 use Rattle.circus_member_rules.specs.declared.occurrence.Effect.TheVariants as made
 use Rattle.circus_member_rules.specs.OpenAsks.{asking_of}
-use Rattle.circus_member_step.specs.Happening.{IsHome}
-use Rattle.circus_member_step.specs.MemberState.{MemberState, Doing}
+use Rattle.circus_member_rules.specs.Happening.{IsHome}
+use Rattle.circus_member_rules.specs.MemberState.{MemberState, Doing}
 use Rattle.circus_record.specs.declared.record.AskRecord.{AskRecord}
 use Rattle.circus_record.specs.declared.record.MemberRecord.{MemberRecord}
 use Rattle.circus_record.specs.declared.record.RunRecord.{RunRecord}
@@ -44,8 +44,8 @@ use Rattle.circus_gather.specs.Gathering.{index_of, is_of_index, reply_of, answe
 use Rattle.circus_performing.specs.Performing.{made_ask, answered_ask}
 use Rattle.circus_member_rules.specs.Messages.{reply_message, stale_message, before_message}
 use Rattle.circus_member_rules.specs.Rules.{ringmaster, answer, answers, request_call, request_to_ring, message_at_once, call_of_ask, call_for, call_again, calls_for_view, calls_for_a_new_view, is_to, givers, state_request, state_requests, gone_from, gone_call, lookup_call, active_call, before_answers, answers_of_run}
-use Rattle.circus_member_step.specs.Step.{reply_of_run, known_by_table, is_taken_in, kept_by_table, handled}
-use Rattle.circus_member_step.proofs.Concerned.{all_of}
+use Rattle.circus_member_rules.specs.Step.{reply_of_run, known_by_table, is_taken_in, kept_by_table, handled}
+use Rattle.circus_member_rules.proofs.Concerned.{all_of}
 use Rattle.circus_timely.specs.Past.{Past, booted, followed, now, known, down}
 use Rattle.circus_member_theory.specs.Living.{phase_at_boot, after, kept_after, MayLive}
 use Rattle.circus_timely.specs.Asks.{is_of_ask, is_new, knows, first_calls}

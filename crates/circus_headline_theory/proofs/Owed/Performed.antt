@@ -31,13 +31,13 @@ use Rattle.circus_performing.proofs.Records.{none_is_some, with_answer, answered
 use Rattle.circus_member_rules.specs.declared.occurrence.AskName.{AskName}
 use Rattle.circus_member_rules.specs.declared.occurrence.Effect.{Effect}
 use Rattle.circus_member_rules.specs.Rules.{answers, calls_of_ask, answers_of_run, index_of_last}
-use Rattle.circus_member_step.specs.MemberState.{MemberState, Doing}
-use Rattle.circus_member_step.specs.Step.{is_idle, name_of_last, asking_begun, opened_by_view, ended_run, reply_of_run}
-use Rattle.circus_member_step.specs.Seen.Sound.{MayStart}
-use Rattle.circus_member_step.proofs.Entering.{HasValue, with_entered, with_answered}
-use Rattle.circus_member_step.proofs.Starting.{IsSoundNow, and_right, none_from_test}
-use Rattle.circus_member_step.proofs.Turned.{IsTurned}
-use Rattle.circus_member_step.proofs.Writing.{one_is_performing, none_is_idle}
+use Rattle.circus_member_rules.specs.MemberState.{MemberState, Doing}
+use Rattle.circus_member_rules.specs.Step.{is_idle, name_of_last, asking_begun, opened_by_view, ended_run, reply_of_run}
+use Rattle.circus_member_rules.specs.Seen.Sound.{MayStart}
+use Rattle.circus_member_rules.proofs.Entering.{HasValue, with_entered, with_answered}
+use Rattle.circus_member_rules.proofs.Starting.{IsSoundNow, and_right, none_from_test}
+use Rattle.circus_member_rules.proofs.Turned.{IsTurned}
+use Rattle.circus_member_rules.proofs.Writing.{one_is_performing, none_is_idle}
 use Rattle.circus_model.proofs.Lookups.{at_end}
 use Rattle.circus_world_theory.proofs.Border.Going.{with_given}
 use Rattle.circus_timely.specs.Asks.{as_made, first_calls}

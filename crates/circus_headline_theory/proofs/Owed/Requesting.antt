@@ -19,9 +19,9 @@ use Rattle.circus_transfer.specs.declared.joiner.Joiner.{Joiner}
 use Rattle.circus_model.specs.declared.signature.Signature.{Signature}
 use Rattle.circus_model.specs.NextTurn.{NextTurn}
 use Rattle.circus_model.specs.Behaviour.{IsModule}
-use Rattle.circus_known.specs.Knowing as knowing
-use Rattle.circus_known.specs.Knowing.{Knowing, with_want}
-use Rattle.circus_known.specs.declared.known.Want.{Want}
+use Rattle.circus_fanout.specs.Knowing as knowing
+use Rattle.circus_fanout.specs.Knowing.{Knowing, with_want}
+use Rattle.circus_fanout.specs.declared.known.Want.{Want}
 use Rattle.circus_gather.specs.Gathering.{index_of, reply_of, answer_to, with_first, stale_answers as stale_callers, before_answers as callers_before}
 use Rattle.circus_gather.specs.declared.added.Added.TheVariants as added
 use Rattle.circus_gather.specs.declared.held.HeldCall.{HeldCall}
@@ -42,11 +42,11 @@ use Rattle.circus_member_rules.specs.Messages.{reply_message, stale_message, bef
 use Rattle.circus_member_rules.specs.OpenAsks.{asking_of}
 use Rattle.circus_member_rules.specs.Rules.{ringmaster, answer, answers, request_call, request_to_ring, message_at_once, answer_at_once, wanted_by_call, call_of_ask, calls_of_ask, call_for, call_again, is_to, calls_for_view, calls_for_a_new_view, givers, state_request, state_requests, gone_from as gone_by, gone_call, lookup_call, active_call, before_answers, snapshots_owed, answers_of_run, index_of_last}
 use Rattle.circus_member_rules.specs.Rules as rules
-use Rattle.circus_member_step.specs.Happening.{IsHome}
-use Rattle.circus_member_step.specs.MemberState.{MemberState, Doing}
-use Rattle.circus_member_step.specs.Step as step
-use Rattle.circus_member_step.specs.Step.{is_lookup, is_join, known_by_table, answered_by_ring, is_taken_in, kept_by_table, handled, reply_of_run, name_of_last, asking_begun, opened_by_view, ended_run, is_idle}
-use Rattle.circus_member_step.proofs.Homes.{told_down, ring_down, ring_views, called_views, declared_views}
+use Rattle.circus_member_rules.specs.Happening.{IsHome}
+use Rattle.circus_member_rules.specs.MemberState.{MemberState, Doing}
+use Rattle.circus_member_rules.specs.Step as step
+use Rattle.circus_member_rules.specs.Step.{is_lookup, is_join, known_by_table, answered_by_ring, is_taken_in, kept_by_table, handled, reply_of_run, name_of_last, asking_begun, opened_by_view, ended_run, is_idle}
+use Rattle.circus_member_rules.proofs.Homes.{told_down, ring_down, ring_views, called_views, declared_views}
 use Rattle.circus_member_theory.proofs.Resting.{at_boot}
 use Rattle.circus_world_theory.proofs.Border.Going.{begun}
 use Rattle.circus_timely.specs.Past as past

@@ -25,9 +25,9 @@ use Rattle.circus_member_rules.specs.declared.occurrence.Occurrence.{Occurrence}
 use Rattle.circus_member_rules.specs.declared.occurrence.Occurrence.TheVariants as comes
 use Rattle.circus_member_rules.specs.Messages.{reply_message, stale_message, before_message}
 use Rattle.circus_member_rules.specs.Rules.{lookups}
-use Rattle.circus_member_step.specs.Happening.{IsHome}
-use Rattle.circus_member_step.specs.MemberState.{MemberState, Doing}
-use Rattle.circus_member_step.specs.Step.{stepped}
+use Rattle.circus_member_rules.specs.Happening.{IsHome}
+use Rattle.circus_member_rules.specs.MemberState.{MemberState, Doing}
+use Rattle.circus_member_rules.specs.Step.{stepped}
 use Rattle.circus_timely.specs.Past.{Past, booted, followed, now, required, phase}
 use Rattle.circus_timely.specs.First.{at_end, or_else}
 use Rattle.circus_timely.specs.Made.{is_caller, returns_to, at_most_one, asks, AreDistinct}

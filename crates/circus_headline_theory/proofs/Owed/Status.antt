@@ -19,8 +19,8 @@ use Rattle.circus_performing.specs.Record.{IsRecord}
 use Rattle.circus_performing.proofs.Ends.{front_more}
 use Rattle.circus_performing.proofs.Records.{none_is_some}
 use Rattle.circus_member_rules.specs.Messages.{reply_message, stale_message, before_message}
-use Rattle.circus_member_step.specs.Step.{reply_of_run}
-use Rattle.circus_member_step.proofs.Writing.{one_is_performing, none_is_idle}
+use Rattle.circus_member_rules.specs.Step.{reply_of_run}
+use Rattle.circus_member_rules.proofs.Writing.{one_is_performing, none_is_idle}
 use Rattle.circus_timely.specs.Past.{Past, now, required, phase}
 use Rattle.circus_timely.specs.Returns.{first_of, run_of, was_started, has_ended, is_stale, is_before, reply_by, return_at}
 use Rattle.circus_headline_theory.proofs.Owed.Grown.{EndsAt, Grown, AreGrown}

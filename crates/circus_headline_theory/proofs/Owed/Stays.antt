@@ -9,10 +9,10 @@ use Rattle.circus_model.specs.Behaviour.{IsModule}
 use Rattle.circus_record.specs.declared.record.MemberRecord.{MemberRecord}
 use Rattle.circus_performing.specs.Record.{behaviour}
 use Rattle.circus_performing.proofs.Records.{answered_is}
-use Rattle.circus_member_step.specs.MemberState.{MemberState, Doing}
-use Rattle.circus_member_step.proofs.Entering.{HasValue, with_answered}
-use Rattle.circus_member_step.proofs.Starting.{IsSoundNow}
-use Rattle.circus_member_step.proofs.Writing.{one_is_performing}
+use Rattle.circus_member_rules.specs.MemberState.{MemberState, Doing}
+use Rattle.circus_member_rules.proofs.Entering.{HasValue, with_answered}
+use Rattle.circus_member_rules.proofs.Starting.{IsSoundNow}
+use Rattle.circus_member_rules.proofs.Writing.{one_is_performing}
 use Rattle.circus_headline_theory.proofs.Owed.Going.{behaves, Keeps}
 
 -- what a member knows, requires and has become, but for its runs

@@ -13,9 +13,9 @@ use Rattle.circus_member_rules.specs.declared.place.Place.{Place}
 use Rattle.circus_member_rules.specs.declared.place.Beginning.{Beginning}
 use Rattle.circus_member_rules.specs.declared.occurrence.Occurrence.{Occurrence}
 use Rattle.circus_member_rules.specs.declared.occurrence.Occurrence.TheVariants as comes
-use Rattle.circus_member_step.specs.Happening.{IsHome}
-use Rattle.circus_member_step.specs.MemberState.{MemberState}
-use Rattle.circus_member_step.specs.Step as step
+use Rattle.circus_member_rules.specs.Happening.{IsHome}
+use Rattle.circus_member_rules.specs.MemberState.{MemberState}
+use Rattle.circus_member_rules.specs.Step as step
 use Rattle.circus_timely.specs.Past.{Past, booted, followed, now, Rises}
 use Rattle.circus_member_theory.specs.Living.{after, kept_after, MayLive}
 use Rattle.circus_timely.specs.Asks.{is_waiting, asks_of, new_asks}

@@ -6,8 +6,8 @@ use Rattle.std.proofs.lemmas.Bool.{eq-eqb, ne_eqb}
 use Rattle.std.proofs.lemmas.Bool.Decides.{eqb_tells}
 use Rattle.circus_value.specs.Among.{is_among}
 use Rattle.circus_collate.specs.declared.view.View.{View}
-use Rattle.circus_known.specs.declared.known.Want.{Want}
-use Rattle.circus_known.specs.Knowing.{with_want, asked_all}
+use Rattle.circus_fanout.specs.declared.known.Want.{Want}
+use Rattle.circus_fanout.specs.Knowing.{with_want, asked_all}
 
 -- the wants of as many troupes as there are views, the first having this number
 abbrev pub wants_of : (ℕ → Want) → ℕ → List View → List Want

@@ -31,7 +31,7 @@ use Rattle.circus_member_rules.specs.declared.occurrence.Purpose.{Purpose}
 use Rattle.circus_member_rules.specs.declared.occurrence.Purpose.TheVariants as for
 use Rattle.circus_member_rules.specs.Messages.{ask_message, request_message, fetch_message, reply_message, stale_message, before_message}
 use Rattle.circus_member_rules.specs.Rules.{ringmaster, incarnation_of}
-use Rattle.circus_member_step.specs.Step.{is_join, reply_of_run}
+use Rattle.circus_member_rules.specs.Step.{is_join, reply_of_run}
 use Rattle.circus_timely.specs.Past.{Past, booted, followed, now, known, down, required, phase}
 use Rattle.circus_timely.specs.Asks.{knows, open_asks}
 use Rattle.circus_timely.specs.Made.{asks, requests}

@@ -19,7 +19,7 @@ use Rattle.circus_wire.specs.WireStanding.{pair_of}
 use Rattle.circus_wire.specs.declared.delivery.Heard.{Heard}
 use Rattle.circus_wire.specs.declared.delivery.Heard.TheVariants.{Called}
 use Rattle.circus_member_rules.specs.declared.occurrence.Purpose.{Purpose}
-use Rattle.circus_accepting.specs.Accepting.{accepted_request}
+use Rattle.circus_node.specs.Accepting.{accepted_request}
 use Rattle.circus_node.specs.Booting.{CanBoot}
 use Rattle.circus_node.specs.Booting as booting
 use Rattle.circus_node.specs.Making.{table_message}

@@ -10,8 +10,8 @@ use Rattle.circus_model.specs.Execution.{history_of}
 use Rattle.circus_model.specs.declared.signature.Signature.{Signature}
 use Rattle.circus_record.specs.declared.record.MemberRecord.{MemberRecord}
 use Rattle.circus_performing.specs.Performing.{is_active}
-use Rattle.circus_standing.specs.Stands.{Stands}
-use Rattle.circus_accepting.specs.Accepting.{troupe_at}
+use Rattle.circus_truth.specs.Stands.{Stands}
+use Rattle.circus_node.specs.Accepting.{troupe_at}
 use Rattle.circus_node.specs.NodeState.{member_record}
 use Rattle.circus_node.specs.Step as node_step
 use Rattle.circus_node.specs.declared.event.Event.{Event}

@@ -11,8 +11,8 @@ use Rattle.circus_member_rules.specs.declared.place.Beginning.{Beginning}
 use Rattle.circus_member_rules.specs.declared.occurrence.Difference.{Difference}
 use Rattle.circus_member_rules.specs.declared.occurrence.Effect.{Effect}
 use Rattle.circus_member_rules.specs.declared.occurrence.Occurrence.{Occurrence}
-use Rattle.circus_member_step.specs.MemberState.{Doing}
-use Rattle.circus_member_step.specs.Step as step
+use Rattle.circus_member_rules.specs.MemberState.{Doing}
+use Rattle.circus_member_rules.specs.Step as step
 use Rattle.circus_timely.specs.Past.{Past, booted, followed}
 use Rattle.circus_member_theory.specs.Living.{after}
 

@@ -1,6 +1,6 @@
 // What holds of all that nodes make and tell.
 ghost use Rattle.std.specs.Prelude.{◌≡◌, ℕ, ◌<◌, List, length, map, Option, Some, Ok, slice_get};
-ghost use Rattle.circus_accepting.specs.Accepting.{troupe_at};
+ghost use Rattle.circus_node.specs.Accepting.{troupe_at};
 ghost use Rattle.circus_collate.specs.declared.deployment.Deployment.{Deployment};
 ghost use Rattle.circus_collate.specs.declared.deployment.Troupe.{Troupe};
 ghost use Rattle.circus_node.specs.declared.event.Event.{Event};

@@ -3,8 +3,8 @@ use Rattle.std.specs.Prelude.{List, refl}
 use Rattle.std.specs.Coded.{Coded, code_by, coded×, coded_list}
 use Rattle.circus_value.specs.declared.caller.Caller.{Caller}
 use Rattle.circus_value.specs.contracts.caller.Caller as caller_model
-use Rattle.circus_known.specs.Knowing.{Knowing}
-use Rattle.circus_known.specs.contracts.known.Known as known_model
+use Rattle.circus_fanout.specs.Knowing.{Knowing}
+use Rattle.circus_fanout.specs.contracts.known.Known as known_model
 use Rattle.circus_gather.specs.Gathering.{Gathered}
 use Rattle.circus_gather.specs.Seen.GatheredCode.{gathered_code}
 use Rattle.circus_fanout.specs.Asking.{Asking}
@@ -15,7 +15,7 @@ use Rattle.circus_member_rules.specs.contracts.place.Place as place_model
 use Rattle.circus_member_rules.specs.declared.occurrence.AskName.{AskName}
 use Rattle.circus_member_rules.specs.declared.occurrence.Effect.{Effect}
 use Rattle.circus_member_rules.specs.contracts.occurrence.Effect as effect_model
-use Rattle.circus_member_step.specs.MemberState.{MemberState, Doing}
+use Rattle.circus_member_rules.specs.MemberState.{MemberState, Doing}
 use Rattle.circus_member_rules.specs.Seen.AsksCode.{asks_code}
 
 abbrev pub state_code : {M : Type 0} → Coded M → Coded (MemberState M)

@@ -19,7 +19,7 @@ use Rattle.circus_header.proofs.Accepting.{front, mapped, ends_with}
 use Rattle.circus_header.proofs.Standing.{drop-prefix}
 use Rattle.circus_header.proofs.Calls.{under_calls}
 use Rattle.circus_member_rules.specs.Messages.{ask_message, request_message, fetch_message}
-use Rattle.circus_accepting.specs.Headers.{whole, call_in}
+use Rattle.circus_node.specs.Headers.{whole, call_in}
 use Rattle.circus_member_theory.proofs.Accepting.Heads.{reads, read_back, IsRead, whole_read}
 
 -- ---- any call

@@ -33,12 +33,12 @@ use Rattle.circus_member_rules.specs.declared.occurrence.Occurrence.{Occurrence}
 use Rattle.circus_member_rules.specs.declared.occurrence.Occurrence.TheVariants as comes
 use Rattle.circus_member_rules.specs.declared.occurrence.Purpose.{Purpose}
 use Rattle.circus_member_rules.specs.declared.occurrence.Purpose.TheVariants as for
-use Rattle.circus_member_step.specs.Happening.{IsReplyTo, CanHappen}
-use Rattle.circus_member_step.specs.MemberState.{MemberState}
-use Rattle.circus_accepting.specs.Bodies.{values_at, outcome_at, restored_in}
-use Rattle.circus_accepting.specs.Headers.{call_in, return_in}
-use Rattle.circus_accepting.specs.Seen.Can.{HasArguments}
-use Rattle.circus_accepting.specs.Accepting.{IsMemberOf, is_root, unpacks, called_by, imported, taken_call, accepted_call, taken_reply, taken_answer, accepted_answer, accepted}
+use Rattle.circus_member_rules.specs.Happening.{IsReplyTo, CanHappen}
+use Rattle.circus_member_rules.specs.MemberState.{MemberState}
+use Rattle.circus_node.specs.Bodies.{values_at, outcome_at, restored_in}
+use Rattle.circus_node.specs.Headers.{call_in, return_in}
+use Rattle.circus_node.specs.Seen.Can.{HasArguments}
+use Rattle.circus_node.specs.Accepting.{IsMemberOf, is_root, unpacks, called_by, imported, taken_call, accepted_call, taken_reply, taken_answer, accepted_answer, accepted}
 use Rattle.circus_member_theory.proofs.Accepting.Calls.{call_is_one}
 use Rattle.circus_member_theory.proofs.Accepting.Fitting.{are_at, found_fit, found_within, outcome_found_fits, state_found}
 use Rattle.circus_member_theory.proofs.Accepting.Options.{before_some, seen_some}

@@ -7,7 +7,7 @@ use Rattle.std.proofs.lemmas.Map.Views.{Contains-from_lookup}
 use Rattle.circus_fanout.specs.Asking.{Asking}
 use Rattle.circus_member_rules.specs.declared.occurrence.AskName.{AskName}
 use Rattle.circus_member_rules.specs.OpenAsks.{asking_of}
-use Rattle.circus_member_step.proofs.Named.{names_decide}
+use Rattle.circus_member_rules.proofs.Named.{names_decide}
 
 -- an open ask of a name
 pub ask_found : (P : AskName × Asking → Type 0) (asks : List (AskName × Asking)) (name : AskName) (a : Asking) → All P asks → asking_of asks name ≡ Some a → P (name, a)

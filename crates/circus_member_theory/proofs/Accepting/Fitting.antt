@@ -25,7 +25,7 @@ use Rattle.circus_model.specs.Lawful.{IsState, outcome_fits, is_raised_by_langua
 use Rattle.circus_model.specs.declared.signature.Signature.{Signature}
 use Rattle.circus_model.specs.declared.signature.ProcedureShape.{ProcedureShape}
 use Rattle.circus_model.specs.declared.signature.ErrorShape.{ErrorShape}
-use Rattle.circus_accepting.specs.Bodies.{found_whole, values_at, raised_shapes, raised_values, outcome_by, outcome_at, counted_state, restored_in}
+use Rattle.circus_node.specs.Bodies.{found_whole, values_at, raised_shapes, raised_values, outcome_by, outcome_at, counted_state, restored_in}
 use Rattle.circus_member_theory.proofs.Accepting.Options.{before_some, seen_some}
 
 -- ---- what was found whole

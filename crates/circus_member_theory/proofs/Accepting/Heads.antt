@@ -16,7 +16,7 @@ use Rattle.circus_header.specs.Seen.Layout.{Size, of_word, of_long, field_of, si
 use Rattle.circus_header.specs.declared.header_fault.HeaderFault.{HeaderFault}
 use Rattle.circus_header.specs.declared.header_fault.HeaderFault.TheVariants.{BadField}
 use Rattle.circus_header.proofs.Accepting.{Accepts, accepts_field}
-use Rattle.circus_accepting.specs.Headers.{first_number, in_range, read_by, whole}
+use Rattle.circus_node.specs.Headers.{first_number, in_range, read_by, whole}
 
 -- ---- what is written is read
 

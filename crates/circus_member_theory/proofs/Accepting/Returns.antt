@@ -13,7 +13,7 @@ use Rattle.circus_header.proofs.Accepting.{front, ends_with}
 use Rattle.circus_header.proofs.Standing.{drop-prefix}
 use Rattle.circus_header.proofs.Returns.{under_returns}
 use Rattle.circus_member_rules.specs.Messages.{outcome_spelling, reply_message, stale_message, before_message}
-use Rattle.circus_accepting.specs.Headers.{whole, return_in}
+use Rattle.circus_node.specs.Headers.{whole, return_in}
 use Rattle.circus_member_theory.proofs.Accepting.Heads.{reads, read_back, IsRead, whole_read}
 
 return_read : (message : List ℕ) (read : ReturnHeader × ℕ) → return_in message ≡ Some read → IsRead return_layout has_rest message read

@@ -18,7 +18,7 @@ use Rattle.circus_header.specs.declared.answer.ReturnHeader.TheVariants.{Table}
 use Rattle.circus_transfer.specs.Snapshot.{fields_of, snapshot_fields, snapshot_values, snapshot_bytes}
 use Rattle.circus_transfer.proofs.Fields.{admits}
 use Rattle.circus_member_rules.specs.Messages.{stale_message, before_message}
-use Rattle.circus_accepting.specs.Bodies.{found_whole, counted_state, restored_in}
+use Rattle.circus_node.specs.Bodies.{found_whole, counted_state, restored_in}
 
 snapshot_admitted : (variables : List Shape) (state : List ValueTree) (count : ℕ) → all_fit variables state ≡ true → count < 2 ^ 32
     → fields_admit (snapshot_fields variables) (snapshot_values count state) ≡ true

@@ -7,7 +7,7 @@ use Rattle.circus_collate.specs.declared.table.Table.{Table}
 use Rattle.circus_ring.specs.TableFields.{tables}
 use Rattle.circus_ring.specs.Seen.TableLayout.{table_layout}
 use Rattle.circus_ring.proofs.Tabling.{under_tables}
-use Rattle.circus_accepting.specs.Headers.{read_by, whole, table_at}
+use Rattle.circus_node.specs.Headers.{read_by, whole, table_at}
 use Rattle.circus_member_theory.proofs.Accepting.Heads.{read_back, whole_read}
 use Rattle.circus_member_theory.proofs.Accepting.Options.{seen_some}
 

@@ -24,9 +24,9 @@ use Rattle.circus_member_rules.specs.OpenAsks.{asking_of}
 use Rattle.circus_member_rules.specs.declared.occurrence.AskName.{AskName}
 use Rattle.circus_member_rules.specs.declared.occurrence.Occurrence.{Occurrence}
 use Rattle.circus_member_rules.specs.declared.occurrence.Occurrence.TheVariants as comes
-use Rattle.circus_member_step.specs.MemberState.{MemberState}
-use Rattle.circus_accepting.specs.Headers.{return_in, table_at}
-use Rattle.circus_accepting.specs.Accepting.{is_host_of, is_root, unpacks, is_in_order, may_ask, taken_ask, taken_fetch, recorded_ask, called_by, imported, outcome_of, taken_reply, may_tell, taken_table, accepted_table}
+use Rattle.circus_member_rules.specs.MemberState.{MemberState}
+use Rattle.circus_node.specs.Headers.{return_in, table_at}
+use Rattle.circus_node.specs.Accepting.{is_host_of, is_root, unpacks, is_in_order, may_ask, taken_ask, taken_fetch, recorded_ask, called_by, imported, outcome_of, taken_reply, may_tell, taken_table, accepted_table}
 use Rattle.circus_member_theory.proofs.Accepting.Options.{before_some, seen_some}
 use Rattle.circus_member_theory.proofs.Accepting.Tables.{table_is_one}
 

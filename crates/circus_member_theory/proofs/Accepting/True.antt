@@ -13,10 +13,10 @@ use Rattle.circus_performing.specs.Record.{behaviour}
 use Rattle.circus_wire.specs.declared.delivery.Heard.TheVariants as hears
 use Rattle.circus_member_rules.specs.declared.occurrence.Occurrence.{Occurrence}
 use Rattle.circus_member_rules.specs.declared.occurrence.Purpose.{Purpose}
-use Rattle.circus_member_step.specs.MemberState.{MemberState}
+use Rattle.circus_member_rules.specs.MemberState.{MemberState}
 use Rattle.circus_truth.specs.Proper.{AreProper}
 use Rattle.circus_truth.specs.Truth.{IsTrueMember, IsTrueOccurrence, IsTrueCallFor, IsTrueReturn}
-use Rattle.circus_accepting.specs.Accepting.{accepted}
+use Rattle.circus_node.specs.Accepting.{accepted}
 use Rattle.circus_member_theory.proofs.Accepting.TrueCalls.{called_true}
 use Rattle.circus_member_theory.proofs.Accepting.TrueReturns.{returned_true}
 

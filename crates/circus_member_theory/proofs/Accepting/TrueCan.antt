@@ -35,14 +35,14 @@ use Rattle.circus_member_rules.specs.declared.occurrence.Occurrence.{Occurrence}
 use Rattle.circus_member_rules.specs.declared.occurrence.Occurrence.TheVariants as comes
 use Rattle.circus_member_rules.specs.declared.occurrence.Purpose.{Purpose}
 use Rattle.circus_member_rules.specs.declared.occurrence.Purpose.TheVariants as for
-use Rattle.circus_member_step.specs.Happening.{CanHappen}
-use Rattle.circus_member_step.specs.MemberState.{MemberState}
+use Rattle.circus_member_rules.specs.Happening.{CanHappen}
+use Rattle.circus_member_rules.specs.MemberState.{MemberState}
 use Rattle.circus_truth.specs.Proper.{IsProperProcedure, AreProper}
 use Rattle.circus_truth.specs.Truth.{IsTrueCallFor, IsTrueReturn}
 use Rattle.circus_member_theory.proofs.Histories.{takes, answers}
-use Rattle.circus_accepting.specs.Bodies.{restored_in}
-use Rattle.circus_accepting.specs.Headers.{return_in}
-use Rattle.circus_accepting.specs.Accepting.{IsMemberOf, taken_answer, accepted}
+use Rattle.circus_node.specs.Bodies.{restored_in}
+use Rattle.circus_node.specs.Headers.{return_in}
+use Rattle.circus_node.specs.Accepting.{IsMemberOf, taken_answer, accepted}
 use Rattle.circus_member_theory.proofs.Accepting.Arguments.{values_octets}
 use Rattle.circus_member_theory.proofs.Accepting.Calls.{ask_no_fetch}
 use Rattle.circus_member_theory.proofs.Accepting.Can.{AreHeardOctets, accepted_can}

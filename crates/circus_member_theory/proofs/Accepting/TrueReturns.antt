@@ -33,14 +33,14 @@ use Rattle.circus_member_rules.specs.declared.occurrence.Occurrence.{Occurrence}
 use Rattle.circus_member_rules.specs.declared.occurrence.Occurrence.TheVariants as comes
 use Rattle.circus_member_rules.specs.declared.occurrence.Purpose.{Purpose}
 use Rattle.circus_member_rules.specs.declared.occurrence.Purpose.TheVariants as for
-use Rattle.circus_member_step.specs.MemberState.{MemberState}
-use Rattle.circus_standing.specs.Messages.{IsAskAt, IsTrueCall, IsTrueReply, IsTrueState}
+use Rattle.circus_member_rules.specs.MemberState.{MemberState}
+use Rattle.circus_truth.specs.Messages.{IsAskAt, IsTrueCall, IsTrueReply, IsTrueState}
 use Rattle.circus_truth.specs.Proper.{IsProperProcedure, AreProper}
 use Rattle.circus_truth.specs.Truth.{reply_to, Answers, IsNamed, IsTrueAsking, IsTrueMember, IsTrueOccurrence, IsAskMessage, IsTrueCallFor, IsReplyMessage, IsStateMessage, IsTrueReturn}
 use Rattle.circus_member_theory.proofs.Histories.{runs_are_few, state_is as state_of, answers, true_reply_is}
-use Rattle.circus_accepting.specs.Bodies.{outcome_at, restored_in}
-use Rattle.circus_accepting.specs.Headers.{return_in}
-use Rattle.circus_accepting.specs.Accepting.{imported, called_by, outcome_of, taken_reply, taken_answer, accepted_answer, accepted_table, accepted_state, accepted_return}
+use Rattle.circus_node.specs.Bodies.{outcome_at, restored_in}
+use Rattle.circus_node.specs.Headers.{return_in}
+use Rattle.circus_node.specs.Accepting.{imported, called_by, outcome_of, taken_reply, taken_answer, accepted_answer, accepted_table, accepted_state, accepted_return}
 use Rattle.circus_member_theory.proofs.Accepting.Calls.{ask_header, ask_no_fetch, fetch_troupe}
 use Rattle.circus_member_theory.proofs.Accepting.Entries.{ask_found}
 use Rattle.circus_member_theory.proofs.Accepting.Options.{before_some, seen_some}

@@ -25,13 +25,13 @@ use Rattle.circus_performing.proofs.Records.{none_is_some, performing_has_one, w
 use Rattle.circus_member_rules.specs.declared.place.Place.{Place}
 use Rattle.circus_member_rules.specs.OpenAsks.{asking_of}
 use Rattle.circus_member_rules.specs.Rules.{index_of_last, value_of_ask, snapshots_owed}
-use Rattle.circus_member_step.specs.MemberState.{MemberState, Doing, adding}
-use Rattle.circus_member_step.specs.Step.{name_of_last, is_idle, start_by_call, main_start, next_start, value_of_open, given_states, answered_by, answered_open, entered, starting, executed}
-use Rattle.circus_member_step.specs.Seen.Sound.{MayStart}
-use Rattle.circus_member_step.proofs.Writing.{one_is_performing, none_is_idle}
-use Rattle.circus_member_step.proofs.Entering.{with_entered, turned_by_start, has_value, with_answered, turned_by_reply}
-use Rattle.circus_member_step.proofs.Starting.{next_is_ready, may_start, IsSoundNow, sound_given, sound_entered, sound_answered}
-use Rattle.circus_member_step.proofs.Enough.{next_is_idle, start_by}
+use Rattle.circus_member_rules.specs.MemberState.{MemberState, Doing, adding}
+use Rattle.circus_member_rules.specs.Step.{name_of_last, is_idle, start_by_call, main_start, next_start, value_of_open, given_states, answered_by, answered_open, entered, starting, executed}
+use Rattle.circus_member_rules.specs.Seen.Sound.{MayStart}
+use Rattle.circus_member_rules.proofs.Writing.{one_is_performing, none_is_idle}
+use Rattle.circus_member_rules.proofs.Entering.{with_entered, turned_by_start, has_value, with_answered, turned_by_reply}
+use Rattle.circus_member_rules.proofs.Starting.{next_is_ready, may_start, IsSoundNow, sound_given, sound_entered, sound_answered}
+use Rattle.circus_member_rules.proofs.Enough.{next_is_idle, start_by}
 use Rattle.circus_timely.specs.Past.{Past, now, Rises, phase}
 use Rattle.circus_timely.specs.First.{first_given}
 use Rattle.circus_timely.specs.Timely.{ShowsAnswer, collated_call, is_free_for, may_answer}

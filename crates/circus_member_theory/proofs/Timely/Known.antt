@@ -9,8 +9,8 @@ use Rattle.circus_transfer.specs.declared.joiner.Joiner.{Joiner}
 use Rattle.circus_transfer.specs.declared.joiner.Joiner.TheVariants.{Outside, Asking, Fetching, Active}
 use Rattle.circus_transfer.specs.Joining.{after_join, after_table, after_state}
 use Rattle.circus_record.specs.declared.record.MemberRecord.{MemberRecord}
-use Rattle.circus_known.specs.Knowing.{Knowing}
-use Rattle.circus_known.specs.Knowing as knowing
+use Rattle.circus_fanout.specs.Knowing.{Knowing}
+use Rattle.circus_fanout.specs.Knowing as knowing
 use Rattle.circus_gather.specs.declared.added.Added.{Added}
 use Rattle.circus_gather.specs.declared.added.Added.TheVariants as added
 use Rattle.circus_gather.specs.declared.held.HeldCall.{HeldCall}
@@ -20,9 +20,9 @@ use Rattle.circus_performing.proofs.Records.{still_inactive_joining, still_inact
 use Rattle.circus_member_rules.specs.declared.occurrence.Occurrence.{Occurrence}
 use Rattle.circus_member_rules.specs.declared.occurrence.Occurrence.TheVariants as comes
 use Rattle.circus_member_rules.specs.Rules.{wanted_by_call, active_call, before_answers}
-use Rattle.circus_member_step.specs.MemberState.{MemberState, Doing}
-use Rattle.circus_member_step.specs.Step.{is_join, answered_by_ring, handled}
-use Rattle.circus_member_step.proofs.Homes.{ring_views, ring_down, called_views, declared_views, told_down}
+use Rattle.circus_member_rules.specs.MemberState.{MemberState, Doing}
+use Rattle.circus_member_rules.specs.Step.{is_join, answered_by_ring, handled}
+use Rattle.circus_member_rules.proofs.Homes.{ring_views, ring_down, called_views, declared_views, told_down}
 use Rattle.circus_member_theory.specs.Ranges.{InRange}
 use Rattle.circus_timely.specs.Past.{Past, booted, followed, is_newer, with_view, known, down, required, arrived, is_asking, taken_in as way_in, phase, fetched}
 use Rattle.circus_timely.specs.First.{first_given}

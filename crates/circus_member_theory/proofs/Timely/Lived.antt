@@ -24,11 +24,11 @@ use Rattle.circus_member_rules.specs.declared.place.Beginning.{Beginning}
 use Rattle.circus_member_rules.specs.declared.place.Beginning.TheVariants.{Founder, Spare}
 use Rattle.circus_member_rules.specs.declared.occurrence.AskName.{AskName}
 use Rattle.circus_member_rules.specs.declared.occurrence.Occurrence.{Occurrence}
-use Rattle.circus_member_step.specs.MemberState.{MemberState, Doing}
-use Rattle.circus_member_step.specs.Step.{before_any, main_start, handled, entered, executed, stepped, starts_at_boot}
-use Rattle.circus_member_step.specs.Happening.{IsHome, CanHappen}
-use Rattle.circus_member_step.specs.Seen.Sound.{IsRested}
-use Rattle.circus_member_step.proofs.Enough.{none_given}
+use Rattle.circus_member_rules.specs.MemberState.{MemberState, Doing}
+use Rattle.circus_member_rules.specs.Step.{before_any, main_start, handled, entered, executed, stepped, starts_at_boot}
+use Rattle.circus_member_rules.specs.Happening.{IsHome, CanHappen}
+use Rattle.circus_member_rules.specs.Seen.Sound.{IsRested}
+use Rattle.circus_member_rules.proofs.Enough.{none_given}
 use Rattle.circus_member_theory.specs.Ranges.{InRange}
 use Rattle.circus_member_theory.proofs.Resting.{sound_once_handled, step_rests, boot_rests, at_boot, sound_at_boot, may_begin}
 use Rattle.circus_timely.specs.Past.{Past, booted, followed, now, Rises, fetched}

@@ -12,7 +12,7 @@ use Rattle.circus_performing.specs.Performing.{last_of, open_ask, last_count, st
 use Rattle.circus_performing.specs.Record.{HasEnded, IsPerforming, IsRecord}
 use Rattle.circus_performing.proofs.Ends.{last_more}
 use Rattle.circus_performing.proofs.Records.{none_is_some, performing_has_one}
-use Rattle.circus_member_step.specs.Step.{name_of_last}
+use Rattle.circus_member_rules.specs.Step.{name_of_last}
 use Rattle.circus_member_theory.proofs.Timely.Runs.{named}
 
 -- an ask without a reply is the last one of the last run

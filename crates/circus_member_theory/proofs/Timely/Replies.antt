@@ -20,14 +20,14 @@ use Rattle.circus_collate.specs.Expecting.{expected_nodes}
 use Rattle.circus_collate.specs.Collating.{collated}
 use Rattle.circus_transfer.specs.declared.joiner.Joiner.{Joiner}
 use Rattle.circus_record.specs.declared.record.AskRecord.{AskRecord}
-use Rattle.circus_known.specs.Knowing.{Knowing}
+use Rattle.circus_fanout.specs.Knowing.{Knowing}
 use Rattle.circus_fanout.specs.Asking.{Asking, index_of, with_view, with_reply, with_before, with_stale}
 use Rattle.circus_member_rules.specs.declared.place.Place.{Place}
 use Rattle.circus_member_rules.specs.declared.occurrence.AskName.{AskName}
 use Rattle.circus_member_rules.specs.declared.occurrence.Occurrence.TheVariants as comes
 use Rattle.circus_member_rules.specs.OpenAsks.{is_name, asking_of, with_ask, with_asking}
 use Rattle.circus_member_rules.specs.Rules.{answer_in, value_of_ask, after_stale, seen_by_ask, with_new_view}
-use Rattle.circus_member_step.proofs.Named.{names_decide, names_are, lookup-kept, opened_there}
+use Rattle.circus_member_rules.proofs.Named.{names_decide, names_are, lookup-kept, opened_there}
 use Rattle.circus_timely.specs.Past.{Past, booted, followed, now, Rises, known, down, reply_said, said}
 use Rattle.circus_timely.specs.Timely.{given_value, collated_reply, may_answer}
 use Rattle.circus_member_theory.proofs.Timely.Firsts.{none_earlier}

@@ -15,7 +15,7 @@ use Rattle.circus_model.proofs.Lookups.{within}
 use Rattle.circus_record.specs.declared.record.AskRecord.{AskRecord}
 use Rattle.circus_record.specs.declared.record.RunRecord.{RunRecord}
 use Rattle.circus_record.specs.declared.record.MemberRecord.{MemberRecord}
-use Rattle.circus_known.specs.Knowing.{is_newer}
+use Rattle.circus_fanout.specs.Knowing.{is_newer}
 use Rattle.circus_gather.specs.declared.held.HeldCall.{HeldCall}
 use Rattle.circus_gather.specs.Gathering.{Gathered, answer_to, is_held, with_first}
 use Rattle.circus_fanout.specs.Asking.{Asking}
@@ -28,12 +28,12 @@ use Rattle.circus_member_rules.specs.declared.occurrence.Occurrence.{Occurrence}
 use Rattle.circus_member_rules.specs.declared.occurrence.Occurrence.TheVariants as comes
 use Rattle.circus_member_rules.specs.OpenAsks.{asking_of}
 use Rattle.circus_member_rules.specs.Rules.{index_of_last, value_of_ask, stays_open, with_new_view, active_call, before_answers}
-use Rattle.circus_member_step.specs.MemberState.{MemberState, Doing}
-use Rattle.circus_member_step.specs.Step.{name_of_last, is_join, known_by_table, start_by_call, value_of_open, handled, closed, looked_up, waits}
-use Rattle.circus_member_step.specs.GoneOn.{HasGoneOn}
-use Rattle.circus_member_step.proofs.Held.{called_same}
-use Rattle.circus_member_step.proofs.Resting.{waiting_stays}
-use Rattle.circus_member_step.proofs.Starting.{IsSoundNow}
+use Rattle.circus_member_rules.specs.MemberState.{MemberState, Doing}
+use Rattle.circus_member_rules.specs.Step.{name_of_last, is_join, known_by_table, start_by_call, value_of_open, handled, closed, looked_up, waits}
+use Rattle.circus_member_rules.specs.GoneOn.{HasGoneOn}
+use Rattle.circus_member_rules.proofs.Held.{called_same}
+use Rattle.circus_member_rules.proofs.Resting.{waiting_stays}
+use Rattle.circus_member_rules.proofs.Starting.{IsSoundNow}
 use Rattle.circus_member_theory.specs.Ranges.{InRange}
 use Rattle.circus_member_theory.proofs.Resting.{same_handled}
 use Rattle.circus_timely.specs.Past.{Past, followed, now, Rises, phase}

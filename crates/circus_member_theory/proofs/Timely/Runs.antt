@@ -23,7 +23,7 @@ use Rattle.circus_performing.specs.Performing.{is_active, clock_after, replies_o
 use Rattle.circus_performing.specs.Record.{start_of}
 use Rattle.circus_member_rules.specs.declared.place.Place.{Place}
 use Rattle.circus_member_rules.specs.declared.occurrence.AskName.{AskName}
-use Rattle.circus_member_step.specs.Step.{start_by_call}
+use Rattle.circus_member_rules.specs.Step.{start_by_call}
 use Rattle.circus_timely.specs.Past.{Past, now, Rises, phase}
 use Rattle.circus_timely.specs.First.{first_given}
 use Rattle.circus_timely.specs.Timely.{ShowsAnswer, IsMain, collated_call, is_free_for, may_start, may_answer, IsStartedInTime}

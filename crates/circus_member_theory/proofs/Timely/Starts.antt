@@ -29,9 +29,9 @@ use Rattle.circus_member_rules.specs.Messages.{values_found}
 use Rattle.circus_member_rules.specs.declared.occurrence.Occurrence.TheVariants as comes
 use Rattle.circus_member_rules.specs.declared.place.Beginning.{Beginning}
 use Rattle.circus_member_rules.specs.declared.place.Place.{Place}
-use Rattle.circus_member_step.specs.Happening.{IsHome, IsCallTo}
-use Rattle.circus_member_step.specs.Step.{start_by_call}
-use Rattle.circus_member_step.proofs.Starting.{given_is_chosen}
+use Rattle.circus_member_rules.specs.Happening.{IsHome, IsCallTo}
+use Rattle.circus_member_rules.specs.Step.{start_by_call}
+use Rattle.circus_member_rules.proofs.Starting.{given_is_chosen}
 use Rattle.circus_timely.specs.First.{at_end, or_else, first_given}
 use Rattle.circus_timely.specs.Past.{Past, booted, followed, known, down, required, arrived, phase}
 use Rattle.circus_timely.specs.Starts.{IsUnpacked, IsCounted, IsStartOf, AreEnteredByCalls}

@@ -27,13 +27,13 @@ use Rattle.circus_performing.proofs.Records.{none_is_some, performing_has_one}
 use Rattle.circus_member_rules.specs.declared.place.Place.{Place}
 use Rattle.circus_member_rules.specs.declared.occurrence.AskName.{AskName}
 use Rattle.circus_member_rules.specs.Rules.{index_of_last}
-use Rattle.circus_member_step.specs.MemberState.{MemberState, Doing}
-use Rattle.circus_member_step.specs.Step.{name_of_last, asking_begun, reply_of_run, opened_by_view, opened_ask, ended_run, after_turns}
-use Rattle.circus_member_step.specs.Seen.Sound.{IsRunOf}
-use Rattle.circus_member_step.proofs.Named.{lookup-push}
-use Rattle.circus_member_step.proofs.Homes.{slice_get_none}
-use Rattle.circus_member_step.proofs.Writing.{one_is_performing, last_is_performed, last_has_ended}
-use Rattle.circus_member_step.proofs.Turned.{IsTurned, IsAsking, asking_now}
+use Rattle.circus_member_rules.specs.MemberState.{MemberState, Doing}
+use Rattle.circus_member_rules.specs.Step.{name_of_last, asking_begun, reply_of_run, opened_by_view, opened_ask, ended_run, after_turns}
+use Rattle.circus_member_rules.specs.Seen.Sound.{IsRunOf}
+use Rattle.circus_member_rules.proofs.Named.{lookup-push}
+use Rattle.circus_member_rules.proofs.Homes.{slice_get_none}
+use Rattle.circus_member_rules.proofs.Writing.{one_is_performing, last_is_performed, last_has_ended}
+use Rattle.circus_member_rules.proofs.Turned.{IsTurned, IsAsking, asking_now}
 use Rattle.circus_timely.specs.Past.{Past, now, Rises, known, down, arrived}
 use Rattle.circus_member_theory.proofs.Timely.Firsts.{earlier}
 use Rattle.circus_member_theory.proofs.Timely.Runs.{AsksSo, EndsNow, ended_by, may_by, RunsSo}

@@ -5,7 +5,7 @@ use Rattle.circus_collate.specs.declared.deployment.Deployment.{Deployment}
 use Rattle.circus_header.specs.declared.call.Request.{Request}
 use Rattle.circus_ring.specs.RingTable.{Kept, kept_after}
 use Rattle.circus_model.specs.declared.signature.Signature.{Signature}
-use Rattle.circus_accepting.specs.Accepting.{IsMemberOf}
+use Rattle.circus_node.specs.Accepting.{IsMemberOf}
 use Rattle.circus_node.specs.declared.home.Home.{Home}
 use Rattle.circus_node.specs.NodeState.{Acting, member, ringmaster}
 use Rattle.circus_node.specs.Booting.{home_of, IsOfTroupe}

@@ -10,7 +10,7 @@ use Rattle.circus_wire.specs.Wire.{WireState}
 use Rattle.circus_wire.specs.Seen.PeerCode.{wire_code}
 use Rattle.circus_member_rules.specs.declared.occurrence.Purpose.{Purpose}
 use Rattle.circus_member_rules.specs.contracts.occurrence.Purpose as purpose_model
-use Rattle.circus_member_step.specs.MemberState.{MemberState}
+use Rattle.circus_member_rules.specs.MemberState.{MemberState}
 use Rattle.circus_member.specs.Seen.StateCode.{state_code}
 use Rattle.circus_node.specs.NodeState.{Acting, member, ringmaster, NodeState}
 

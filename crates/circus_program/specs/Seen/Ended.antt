@@ -1,8 +1,8 @@
 -- What comes of a replay that ends before its last line.
 use Rattle.std.specs.Prelude.{◌≡◌, ℕ, Option, List}
 use Rattle.circus_record.specs.Naming.{Names}
-use Rattle.circus_running.specs.declared.running.RunFault.{RunFault}
-use Rattle.circus_running.specs.declared.running.RunFault.TheVariants as fault
+use Rattle.circus_report.specs.declared.running.RunFault.{RunFault}
+use Rattle.circus_report.specs.declared.running.RunFault.TheVariants as fault
 use Rattle.circus_ending.specs.declared.status.Status.{Status}
 use Rattle.circus_ending.specs.declared.status.Status.TheVariants.{SinkFault, NoMemory}
 use Rattle.circus_ending.specs.Spent.{spent}

@@ -9,8 +9,8 @@ use Rattle.circus_schedule.specs.declared.line.Line.{Line}
 use Rattle.circus_world.specs.WorldState.{WorldState}
 use Rattle.circus_world.specs.Legal.{refusal}
 use Rattle.circus_world.specs.Course.{stepped}
-use Rattle.circus_running.specs.declared.running.RunFault.{RunFault}
-use Rattle.circus_running.specs.declared.running.RunFault.TheVariants as fault
+use Rattle.circus_report.specs.declared.running.RunFault.{RunFault}
+use Rattle.circus_report.specs.declared.running.RunFault.TheVariants as fault
 use Rattle.circus_ending.specs.Ending.{Ending}
 use Rattle.circus_ending.specs.Spent.{spent}
 use Rattle.circus_program.specs.declared.drawing.Cut.{Cut}

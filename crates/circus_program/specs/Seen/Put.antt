@@ -7,8 +7,8 @@ use Rattle.circus_ending.specs.Status.{is_end}
 use Rattle.circus_ending.specs.Ending.{Ending}
 use Rattle.circus_ending.specs.declared.ending.Ending as coded
 use Rattle.circus_ending.specs.Seen.Ending.{ending_of}
-use Rattle.circus_running.specs.Writing.{Writes, WritesPart}
-use Rattle.circus_log.specs.Outside.{Tells}
+use Rattle.circus_report.specs.Writing.{Writes, WritesPart}
+use Rattle.circus_serve.specs.Outside.{Tells}
 use Rattle.circus_program.specs.Answer.{WritesPartOfText, WritesEnd, WritesLack}
 
 -- a text was put with this status, or a part of it, and the sink failed or there was no memory; the sink has counted so many

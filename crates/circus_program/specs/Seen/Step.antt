@@ -1,7 +1,7 @@
 -- What the code's step says, as plain data.
 use Rattle.std.specs.Prelude.{ℕ, ◌≡◌, ◌⊎◌, ◌<◌, Option, List, [], ◌∷◌, length, IsTrue}
 use Rattle.circus_outside.specs.Faults.{Rose}
-use Rattle.circus_log.specs.Outside.{Tells}
+use Rattle.circus_serve.specs.Outside.{Tells}
 use Rattle.circus_served.specs.NodeEnds.{IsEndOfServing}
 use Rattle.circus_program.specs.declared.answer.Step.{Step}
 use Rattle.circus_program.specs.declared.answer.Step.TheVariants.{Finish, Lack, Replay, Serve}

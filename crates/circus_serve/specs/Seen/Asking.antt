@@ -1,7 +1,7 @@
 -- What a link was given by a part of the code that serves, which neither binds it nor takes from it.
 use Rattle.std.specs.Prelude.{ℕ, List, Result, Ok, Err}
-use Rattle.circus_log.specs.Outside.{Tells, IsAsked}
-use Rattle.circus_log.specs.Giving.{giving, IsPart, HasLacked}
+use Rattle.circus_serve.specs.Outside.{Tells, IsAsked}
+use Rattle.circus_serve.specs.Giving.{giving, IsPart, HasLacked}
 use Rattle.circus_serve.specs.declared.fault.ServeFault.{ServeFault}
 use Rattle.circus_serve.specs.declared.fault.ServeFault.TheVariants as fault
 

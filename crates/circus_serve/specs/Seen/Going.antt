@@ -1,12 +1,12 @@
 -- How a node that is served goes on, by a part of the code.
 use Rattle.std.specs.Prelude.{◌≡◌, List, ◌++◌, Result, Ok, Err}
 use Rattle.circus_collate.specs.declared.deployment.Deployment.{Deployment}
-use Rattle.circus_log.specs.declared.happening.Happening.{Happening}
+use Rattle.circus_serve.specs.declared.happening.Happening.{Happening}
 use Rattle.circus_serve.specs.declared.fault.ServeFault.{ServeFault}
 use Rattle.circus_serve.specs.declared.fault.ServeFault.TheVariants as fault
-use Rattle.circus_log.specs.Happened.{given_in}
-use Rattle.circus_log.specs.Serving.{Served, Progress, on, spent, happened_by}
-use Rattle.circus_log.specs.Outside.{Tells}
+use Rattle.circus_serve.specs.Happened.{given_in}
+use Rattle.circus_serve.specs.Serving.{Served, Progress, on, spent, happened_by}
+use Rattle.circus_serve.specs.Outside.{Tells}
 use Rattle.circus_serve.specs.Seen.Asking.{HasGiven}
 use Rattle.circus_serve.specs.declared.serving.Serving.{Serving}
 

@@ -3,8 +3,8 @@ use Rattle.std.specs.Prelude.{List, refl}
 use Rattle.std.specs.Coded.{Coded, code_by, coded×, coded_list}
 use Rattle.circus_node.specs.NodeState.{NodeState}
 use Rattle.circus_node.specs.Seen.NodeCode.{node_code}
-use Rattle.circus_log.specs.declared.happening.Happening.{Happening}
-use Rattle.circus_log.specs.contracts.happening.Happening as happening_model
+use Rattle.circus_serve.specs.declared.happening.Happening.{Happening}
+use Rattle.circus_serve.specs.contracts.happening.Happening as happening_model
 use Rattle.circus_serve.specs.Recorded.{Recorded}
 
 abbrev pub recorded_code : {M : Type 0} → Coded M → Coded (Recorded M)

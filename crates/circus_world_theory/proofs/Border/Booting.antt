@@ -10,10 +10,10 @@ use Rattle.circus_performing.specs.declared.start.RunStart.{RunStart}
 use Rattle.circus_performing.specs.Record.{behaviour}
 use Rattle.circus_member_rules.specs.declared.place.Place.{Place}
 use Rattle.circus_member_rules.specs.declared.place.Beginning.{Beginning}
-use Rattle.circus_member_step.specs.Happening.{IsHome}
-use Rattle.circus_member_step.specs.MemberState.{MemberState, Doing}
-use Rattle.circus_member_step.specs.Step.{main_start, entered, starts_at_boot, booted}
-use Rattle.circus_member_step.proofs.Starting.{IsSoundNow, sound_entered}
+use Rattle.circus_member_rules.specs.Happening.{IsHome}
+use Rattle.circus_member_rules.specs.MemberState.{MemberState, Doing}
+use Rattle.circus_member_rules.specs.Step.{main_start, entered, starts_at_boot, booted}
+use Rattle.circus_member_rules.proofs.Starting.{IsSoundNow, sound_entered}
 use Rattle.circus_member_theory.proofs.Resting.{at_boot, sound_at_boot, may_begin}
 use Rattle.circus_world_theory.proofs.Border.Going.{begun, Keeps, entered_keeps}
 

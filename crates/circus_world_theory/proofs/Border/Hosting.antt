@@ -16,7 +16,7 @@ use Rattle.circus_collate.specs.declared.view.Entry.{Entry}
 use Rattle.circus_collate.specs.declared.view.View.{View}
 use Rattle.circus_ring.specs.RingTable.{boot_entry, boot_view, boot_views_from, boot_views}
 use Rattle.circus_member_rules.specs.declared.place.Place.{Place}
-use Rattle.circus_accepting.specs.Accepting.{troupe_at, may_belong}
+use Rattle.circus_node.specs.Accepting.{troupe_at, may_belong}
 use Rattle.circus_world_theory.proofs.Border.Reaching.{AreOf, MayBeCalled}
 
 -- a node hosts a member of a troupe

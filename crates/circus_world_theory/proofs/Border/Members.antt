@@ -17,7 +17,7 @@ use Rattle.circus_model.specs.Behaviour.{IsModule}
 use Rattle.circus_gather.specs.Gathering.{answer_to, with_first}
 use Rattle.circus_gather.specs.declared.added.Added.{Added}
 use Rattle.circus_gather.specs.declared.added.Added.TheVariants as added
-use Rattle.circus_known.specs.Knowing.{Knowing, is_newer, told, answered, declared as declared_of}
+use Rattle.circus_fanout.specs.Knowing.{Knowing, is_newer, told, answered, declared as declared_of}
 use Rattle.circus_performing.specs.Performing.{is_fetching, made_active}
 use Rattle.circus_performing.specs.Record.{behaviour}
 use Rattle.circus_wire.specs.Wire.{WireState, is_up}
@@ -29,11 +29,11 @@ use Rattle.circus_member_rules.specs.declared.occurrence.Effect.TheVariants as m
 use Rattle.circus_member_rules.specs.declared.occurrence.Occurrence.{Occurrence}
 use Rattle.circus_member_rules.specs.declared.occurrence.Occurrence.TheVariants as comes
 use Rattle.circus_member_rules.specs.Rules.{wanted_by_call, active_call, before_answers}
-use Rattle.circus_member_step.specs.Happening.{CanHappen}
-use Rattle.circus_member_step.specs.MemberState.{MemberState, Doing}
-use Rattle.circus_member_step.specs.Step.{is_lookup, handled, stepped, executed}
-use Rattle.circus_member_step.proofs.Resting.{rested}
-use Rattle.circus_member_step.proofs.Starting.{IsSoundNow, sound_executed}
+use Rattle.circus_member_rules.specs.Happening.{CanHappen}
+use Rattle.circus_member_rules.specs.MemberState.{MemberState, Doing}
+use Rattle.circus_member_rules.specs.Step.{is_lookup, handled, stepped, executed}
+use Rattle.circus_member_rules.proofs.Resting.{rested}
+use Rattle.circus_member_rules.proofs.Starting.{IsSoundNow, sound_executed}
 use Rattle.circus_node.proofs.ViewLemmas.{executed_knows}
 use Rattle.circus_talks.specs.NodeActs.{with_all}
 use Rattle.circus_talks.specs.Histories.{beginning_of}

@@ -21,7 +21,7 @@ use Rattle.circus_model.specs.NextTurn.{NextTurn}
 use Rattle.circus_model.specs.Behaviour.{IsModule}
 use Rattle.circus_record.specs.declared.record.AskRecord.{AskRecord}
 use Rattle.circus_record.specs.declared.record.RunRecord.{RunRecord}
-use Rattle.circus_known.specs.Knowing.{Knowing, is_newer, told, declared as declared_of}
+use Rattle.circus_fanout.specs.Knowing.{Knowing, is_newer, told, declared as declared_of}
 use Rattle.circus_gather.specs.Gathering.{answer_to, with_call, with_first}
 use Rattle.circus_gather.specs.Gathering as gathering
 use Rattle.circus_gather.specs.declared.added.Added.{Added}
@@ -43,16 +43,16 @@ use Rattle.circus_member_rules.specs.Messages.{reply_message, stale_message, bef
 use Rattle.circus_member_rules.specs.OpenAsks.{asking_of, with_asking}
 use Rattle.circus_member_rules.specs.Rules as rules
 use Rattle.circus_member_rules.specs.Rules.{ringmaster, answer, answers, request_to_ring, answer_at_once, wanted_by_call, call_of_ask, calls_of_ask, call_for, call_again, after_stale, is_to, calls_for_view, calls_for_a_new_view, seen_by_ask, with_new_view, may_give, givers, performs_any, state_request, state_requests, gone_from, gone_call, lookup_call, lookups, active_call, before_answers}
-use Rattle.circus_member_step.specs.Happening.{IsHome, CanHappen}
-use Rattle.circus_member_step.specs.Seen.Sound.{IsRunOf}
-use Rattle.circus_member_step.specs.MemberState.{MemberState, Doing}
-use Rattle.circus_member_step.specs.Step as step
-use Rattle.circus_member_step.specs.Step.{name_of_last, asking_begun, known_by_table, booted, answered_by_ring, is_taken_in, closed, looked_up, executed, handled, stepped, opened_by_view}
-use Rattle.circus_member_step.proofs.Named.{All-changed, All-opened, found_holds}
-use Rattle.circus_member_step.proofs.Held.{All-passed}
-use Rattle.circus_member_step.proofs.Homes.{ring_views, declared_views}
-use Rattle.circus_member_step.proofs.Starting.{IsSoundNow}
-use Rattle.circus_member_step.proofs.Turned.{IsTurned, asking_now}
+use Rattle.circus_member_rules.specs.Happening.{IsHome, CanHappen}
+use Rattle.circus_member_rules.specs.Seen.Sound.{IsRunOf}
+use Rattle.circus_member_rules.specs.MemberState.{MemberState, Doing}
+use Rattle.circus_member_rules.specs.Step as step
+use Rattle.circus_member_rules.specs.Step.{name_of_last, asking_begun, known_by_table, booted, answered_by_ring, is_taken_in, closed, looked_up, executed, handled, stepped, opened_by_view}
+use Rattle.circus_member_rules.proofs.Named.{All-changed, All-opened, found_holds}
+use Rattle.circus_member_rules.proofs.Held.{All-passed}
+use Rattle.circus_member_rules.proofs.Homes.{ring_views, declared_views}
+use Rattle.circus_member_rules.proofs.Starting.{IsSoundNow}
+use Rattle.circus_member_rules.proofs.Turned.{IsTurned, asking_now}
 use Rattle.circus_member_theory.specs.Ranges.{InRange}
 use Rattle.circus_member_theory.proofs.Resting.{sound_once_handled}
 use Rattle.circus_world.proofs.SlotLemmas.{get_set}

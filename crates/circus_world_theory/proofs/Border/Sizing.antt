@@ -23,8 +23,8 @@ use Rattle.circus_model.specs.NextTurn.{NextTurn}
 use Rattle.circus_model.specs.Behaviour.{IsModule}
 use Rattle.circus_record.specs.declared.record.AskRecord.{AskRecord}
 use Rattle.circus_record.specs.declared.record.RunRecord.{RunRecord}
-use Rattle.circus_known.specs.Knowing as knowing
-use Rattle.circus_known.specs.Knowing.{Knowing, is_newer, declared as declared_of}
+use Rattle.circus_fanout.specs.Knowing as knowing
+use Rattle.circus_fanout.specs.Knowing.{Knowing, is_newer, declared as declared_of}
 use Rattle.circus_gather.specs.Gathering.{index_of, reply_of, with_first}
 use Rattle.circus_gather.specs.Gathering as gathering
 use Rattle.circus_gather.specs.declared.added.Added.TheVariants as added
@@ -47,17 +47,17 @@ use Rattle.circus_member_rules.specs.Messages.{reply_message, stale_message, bef
 use Rattle.circus_member_rules.specs.OpenAsks.{asking_of, with_asking}
 use Rattle.circus_member_rules.specs.Rules as rules
 use Rattle.circus_member_rules.specs.Rules.{ringmaster, answer, answers, request_call, request_to_ring, answer_at_once, call_of_ask, calls_of_ask, call_for, call_again, after_stale, is_to, calls_for_view, calls_for_a_new_view, seen_by_ask, with_new_view, givers, state_request, state_requests, gone_from, gone_call, lookup_call, lookups, active_call, before_answers, snapshots_owed, index_of_last}
-use Rattle.circus_member_step.specs.Happening.{IsHome, CanHappen}
-use Rattle.circus_member_step.specs.MemberState.{MemberState, Doing}
-use Rattle.circus_member_step.specs.Seen.Sound.{IsRunOf}
-use Rattle.circus_member_step.specs.Step as step
-use Rattle.circus_member_step.specs.Step.{name_of_last, asking_begun, known_by_table, is_taken_in, is_idle, reply_of_run, closed, looked_up, executed, handled, stepped, opened_by_view, ended_run, booted}
-use Rattle.circus_member_step.proofs.Concerned.{all_of}
-use Rattle.circus_member_step.proofs.Named.{All-changed, All-opened, found_holds}
-use Rattle.circus_member_step.proofs.Held.{called_same}
-use Rattle.circus_member_step.proofs.Starting.{IsSoundNow, and_right, none_from_test}
-use Rattle.circus_member_step.proofs.Turned.{IsTurned, asking_now}
-use Rattle.circus_member_step.proofs.Writing.{last_has_ended, one_is_performing, none_is_idle, ask_is_lawful, end_is_lawful}
+use Rattle.circus_member_rules.specs.Happening.{IsHome, CanHappen}
+use Rattle.circus_member_rules.specs.MemberState.{MemberState, Doing}
+use Rattle.circus_member_rules.specs.Seen.Sound.{IsRunOf}
+use Rattle.circus_member_rules.specs.Step as step
+use Rattle.circus_member_rules.specs.Step.{name_of_last, asking_begun, known_by_table, is_taken_in, is_idle, reply_of_run, closed, looked_up, executed, handled, stepped, opened_by_view, ended_run, booted}
+use Rattle.circus_member_rules.proofs.Concerned.{all_of}
+use Rattle.circus_member_rules.proofs.Named.{All-changed, All-opened, found_holds}
+use Rattle.circus_member_rules.proofs.Held.{called_same}
+use Rattle.circus_member_rules.proofs.Starting.{IsSoundNow, and_right, none_from_test}
+use Rattle.circus_member_rules.proofs.Turned.{IsTurned, asking_now}
+use Rattle.circus_member_rules.proofs.Writing.{last_has_ended, one_is_performing, none_is_idle, ask_is_lawful, end_is_lawful}
 use Rattle.circus_member_theory.specs.Ranges.{InRange}
 use Rattle.circus_member_theory.proofs.Resting.{sound_once_handled}
 use Rattle.circus_world_theory.proofs.Border.Brief.{IsBrief, IsSmallCall, IsSmallReply, size_is, ask_brief, request_brief, fetch_brief, reply_brief, stale_brief, before_brief, snapshot_brief}

@@ -15,7 +15,7 @@ use Rattle.circus_collate.specs.Deployment.{IsDeployment}
 use Rattle.circus_collate.specs.declared.deployment.Deployment.{Deployment}
 use Rattle.circus_collate.specs.declared.table.Table.{Table}
 use Rattle.circus_collate.specs.declared.view.Entry.{Entry}
-use Rattle.circus_known.specs.Knowing.{Knowing, declared as declared_of}
+use Rattle.circus_fanout.specs.Knowing.{Knowing, declared as declared_of}
 use Rattle.circus_model.specs.declared.signature.Signature.{Signature}
 use Rattle.circus_wire.specs.declared.delivery.Heard.{Heard}
 use Rattle.circus_wire.specs.declared.delivery.Heard.TheVariants.{Dropped, Taken, Called, Returned}
@@ -24,10 +24,10 @@ use Rattle.circus_member_rules.specs.declared.occurrence.Purpose.{Purpose}
 use Rattle.circus_member_rules.specs.declared.occurrence.Purpose.TheVariants as for
 use Rattle.circus_member_rules.specs.declared.occurrence.Occurrence.{Occurrence}
 use Rattle.circus_member_rules.specs.declared.occurrence.Occurrence.TheVariants as comes
-use Rattle.circus_member_step.specs.MemberState.{MemberState}
-use Rattle.circus_accepting.specs.Headers.{call_in, return_in, table_at}
-use Rattle.circus_accepting.specs.Bodies.{restored_in}
-use Rattle.circus_accepting.specs.Accepting.{may_belong, may_ask, may_tell, are_distinct, taken_call, taken_reply, taken_answer, taken_table, accepted}
+use Rattle.circus_member_rules.specs.MemberState.{MemberState}
+use Rattle.circus_node.specs.Headers.{call_in, return_in, table_at}
+use Rattle.circus_node.specs.Bodies.{restored_in}
+use Rattle.circus_node.specs.Accepting.{may_belong, may_ask, may_tell, are_distinct, taken_call, taken_reply, taken_answer, taken_table, accepted}
 use Rattle.circus_ring.specs.RingTable.{troupe_of}
 use Rattle.circus_world_theory.proofs.Border.Hosting.{Hosts, belongs_hosts}
 use Rattle.circus_world_theory.proofs.Border.Reaching.{TellsOf}

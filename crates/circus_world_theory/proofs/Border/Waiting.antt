@@ -19,8 +19,8 @@ use Rattle.circus_model.specs.NextTurn.{NextTurn}
 use Rattle.circus_model.specs.Behaviour.{IsModule}
 use Rattle.circus_record.specs.declared.record.AskRecord.{AskRecord}
 use Rattle.circus_record.specs.declared.record.RunRecord.{RunRecord}
-use Rattle.circus_known.specs.Knowing as knowing
-use Rattle.circus_known.specs.Knowing.{Knowing, is_newer, declared as declared_of}
+use Rattle.circus_fanout.specs.Knowing as knowing
+use Rattle.circus_fanout.specs.Knowing.{Knowing, is_newer, declared as declared_of}
 use Rattle.circus_gather.specs.Gathering.{Gathered, callers, answer_to, is_held, is_of_index, is_stale, is_before, with_first}
 use Rattle.circus_gather.specs.Gathering as gathering
 use Rattle.circus_gather.specs.declared.held.HeldCall.{HeldCall}
@@ -43,13 +43,13 @@ use Rattle.circus_member_rules.specs.Messages.{reply_message, stale_message, bef
 use Rattle.circus_member_rules.specs.OpenAsks.{asking_of}
 use Rattle.circus_member_rules.specs.Rules as rules
 use Rattle.circus_member_rules.specs.Rules.{ringmaster, answers, request_call, request_to_ring, answer_at_once, call_of_ask, calls_of_ask, call_for, call_again, is_to, calls_for_view, calls_for_a_new_view, givers, state_request, state_requests, gone_from, gone_call, lookup_call, lookups, active_call, before_answers, snapshots_owed, index_of_last}
-use Rattle.circus_member_step.specs.Happening.{IsHome, CanHappen}
-use Rattle.circus_member_step.specs.MemberState.{MemberState, Doing}
-use Rattle.circus_member_step.specs.Step as step
-use Rattle.circus_member_step.specs.Step.{name_of_last, asking_begun, known_by_table, is_taken_in, is_idle, reply_of_run, closed, executed, handled, stepped, opened_by_view, ended_run, booted}
-use Rattle.circus_member_step.proofs.Concerned.{all_of}
-use Rattle.circus_member_step.proofs.Starting.{IsSoundNow}
-use Rattle.circus_member_step.proofs.Turned.{IsTurned}
+use Rattle.circus_member_rules.specs.Happening.{IsHome, CanHappen}
+use Rattle.circus_member_rules.specs.MemberState.{MemberState, Doing}
+use Rattle.circus_member_rules.specs.Step as step
+use Rattle.circus_member_rules.specs.Step.{name_of_last, asking_begun, known_by_table, is_taken_in, is_idle, reply_of_run, closed, executed, handled, stepped, opened_by_view, ended_run, booted}
+use Rattle.circus_member_rules.proofs.Concerned.{all_of}
+use Rattle.circus_member_rules.proofs.Starting.{IsSoundNow}
+use Rattle.circus_member_rules.proofs.Turned.{IsTurned}
 use Rattle.circus_member_theory.specs.Ranges.{InRange}
 use Rattle.circus_member_theory.proofs.Resting.{sound_once_handled}
 use Rattle.circus_world_theory.proofs.Border.Booting.{booted_keeps}

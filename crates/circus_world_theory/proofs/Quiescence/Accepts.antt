@@ -43,15 +43,15 @@ use Rattle.circus_member_rules.specs.Messages.{reply_message, outcome_spelling}
 use Rattle.circus_member_rules.specs.OpenAsks.{asking_of}
 use Rattle.circus_member_rules.specs.declared.occurrence.AskName.{AskName}
 use Rattle.circus_member_rules.specs.declared.occurrence.Occurrence.TheVariants as comes
-use Rattle.circus_member_step.specs.MemberState.{MemberState}
+use Rattle.circus_member_rules.specs.MemberState.{MemberState}
 use Rattle.circus_node.specs.Booting.{IsOfTroupe}
 use Rattle.circus_member_theory.proofs.Histories.{run_follows, takes, within, answers, makes, path_short, clock_length, callee_below}
-use Rattle.circus_standing.specs.Messages.{IsAskAt}
+use Rattle.circus_truth.specs.Messages.{IsAskAt}
 use Rattle.circus_truth.specs.Proper.{IsProperProcedure, AreProper}
 use Rattle.circus_truth.specs.Truth.{reply_to, IsNamed, IsAskMessage}
-use Rattle.circus_accepting.specs.Bodies.{found_whole, values_at, raised_values, outcome_by, outcome_at}
-use Rattle.circus_accepting.specs.Headers.{call_in, return_in}
-use Rattle.circus_accepting.specs.Accepting.{troupe_at, is_root, is_in_order, unpacks, imported, called_by, outcome_of, taken_ask, taken_call, taken_answer, accepted_call, accepted_answer}
+use Rattle.circus_node.specs.Bodies.{found_whole, values_at, raised_values, outcome_by, outcome_at}
+use Rattle.circus_node.specs.Headers.{call_in, return_in}
+use Rattle.circus_node.specs.Accepting.{troupe_at, is_root, is_in_order, unpacks, imported, called_by, outcome_of, taken_ask, taken_call, taken_answer, accepted_call, accepted_answer}
 use Rattle.circus_member_theory.proofs.Accepting.Arguments.{values_read}
 use Rattle.circus_member_theory.proofs.Accepting.Calls.{ask_length, ask_read, ask_body}
 use Rattle.circus_member_theory.proofs.Accepting.Options.{passes_some}

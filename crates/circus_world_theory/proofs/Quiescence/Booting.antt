@@ -21,27 +21,27 @@ use Rattle.circus_model.specs.History.{runs_of}
 use Rattle.circus_model.specs.declared.signature.Signature.{Signature}
 use Rattle.circus_record.specs.declared.record.MemberRecord.{MemberRecord}
 use Rattle.circus_record.specs.declared.record.RunRecord.{RunRecord}
-use Rattle.circus_known.specs.Knowing as knowing
-use Rattle.circus_known.specs.Knowing.{Knowing, unwanted}
-use Rattle.circus_known.specs.declared.known.Want.{Want}
+use Rattle.circus_fanout.specs.Knowing as knowing
+use Rattle.circus_fanout.specs.Knowing.{Knowing, unwanted}
+use Rattle.circus_fanout.specs.declared.known.Want.{Want}
 use Rattle.circus_gather.specs.declared.held.HeldCall.{HeldCall}
 use Rattle.circus_performing.specs.Performing.{Performing, is_active, last_count, last_of, open_ask}
 use Rattle.circus_fanout.specs.Asking.{Asking}
 use Rattle.circus_member_rules.specs.OpenAsks.{asking_of}
 use Rattle.circus_record.specs.declared.record.AskRecord.{AskRecord}
-use Rattle.circus_member_step.proofs.Entering.{with_entered}
+use Rattle.circus_member_rules.proofs.Entering.{with_entered}
 use Rattle.circus_performing.specs.Performing as performing
 use Rattle.circus_performing.specs.Record.{behaviour}
 use Rattle.circus_member_theory.proofs.Histories.{runs_are_few}
 use Rattle.circus_member_rules.specs.declared.place.Beginning.{Beginning}
 use Rattle.circus_member_rules.specs.declared.place.Beginning.TheVariants.{Founder, Spare}
 use Rattle.circus_member_rules.specs.declared.place.Place.{Place}
-use Rattle.circus_member_step.specs.Happening.{IsHome}
-use Rattle.circus_member_step.specs.MemberState.{MemberState, Doing}
-use Rattle.circus_member_step.specs.Step.{main_start, before_any, performer_at_boot, starts_at_boot, entered, booted, after_turns, opened_ask, ended_run, opened_by_view, name_of_last, asking_begun}
+use Rattle.circus_member_rules.specs.Happening.{IsHome}
+use Rattle.circus_member_rules.specs.MemberState.{MemberState, Doing}
+use Rattle.circus_member_rules.specs.Step.{main_start, before_any, performer_at_boot, starts_at_boot, entered, booted, after_turns, opened_ask, ended_run, opened_by_view, name_of_last, asking_begun}
 use Rattle.circus_member_theory.proofs.Resting.{at_boot, sound_at_boot, may_begin}
 use Rattle.circus_node.proofs.ViewLemmas.{booted_knows}
-use Rattle.circus_standing.specs.Stands.{Stands, IsIdle, IsBusy}
+use Rattle.circus_truth.specs.Stands.{Stands, IsIdle, IsBusy}
 use Rattle.circus_world_theory.specs.Still.{phase_of}
 use Rattle.circus_world_theory.proofs.Quiescence.Phases.{entered_keeps}
 use Rattle.circus_world_theory.specs.Told.{Recorded, IsOpenAt}

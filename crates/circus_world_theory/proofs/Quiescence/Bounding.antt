@@ -45,9 +45,9 @@ use Rattle.circus_member_rules.specs.declared.occurrence.Purpose.{Purpose}
 use Rattle.circus_member_rules.specs.declared.occurrence.Purpose.TheVariants as for
 use Rattle.circus_member_rules.specs.declared.occurrence.Occurrence.TheVariants as occurs
 use Rattle.circus_member_rules.specs.declared.place.Beginning.TheVariants as Begin
-use Rattle.circus_member_step.specs.MemberState.{MemberState}
+use Rattle.circus_member_rules.specs.MemberState.{MemberState}
 use Rattle.circus_transfer.specs.declared.joiner.Joiner.TheVariants.{Outside}
-use Rattle.circus_accepting.specs.Accepting.{troupe_at}
+use Rattle.circus_node.specs.Accepting.{troupe_at}
 use Rattle.circus_member_theory.proofs.Accepting.Calls.{ask_no_fetch}
 use Rattle.circus_member_theory.proofs.Accepting.TrueReturns.{answers_ask}
 use Rattle.circus_node.specs.Booting.{beginning_in}

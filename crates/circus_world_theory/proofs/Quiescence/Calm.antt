@@ -37,11 +37,11 @@ use Rattle.circus_member_rules.specs.declared.occurrence.Occurrence.{Occurrence}
 use Rattle.circus_member_rules.specs.declared.occurrence.Occurrence.TheVariants as comes
 use Rattle.circus_member_rules.specs.declared.occurrence.Purpose.{Purpose}
 use Rattle.circus_member_rules.specs.declared.occurrence.Purpose.TheVariants as for
-use Rattle.circus_member_step.specs.GoneOn.{HasGoneOn}
-use Rattle.circus_member_step.specs.Happening.{CanHappen}
-use Rattle.circus_member_step.specs.MemberState.{MemberState}
-use Rattle.circus_member_step.specs.Seen.Sound.{IsRested}
-use Rattle.circus_member_step.specs.Step.{handled, stepped}
+use Rattle.circus_member_rules.specs.GoneOn.{HasGoneOn}
+use Rattle.circus_member_rules.specs.Happening.{CanHappen}
+use Rattle.circus_member_rules.specs.MemberState.{MemberState}
+use Rattle.circus_member_rules.specs.Seen.Sound.{IsRested}
+use Rattle.circus_member_rules.specs.Step.{handled, stepped}
 use Rattle.circus_member_theory.proofs.Resting.{step_rests}
 use Rattle.circus_member_theory.specs.Ranges.{InRange}
 use Rattle.circus_talks.specs.NodeActs.{with_all}

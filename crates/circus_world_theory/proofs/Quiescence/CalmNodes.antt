@@ -45,8 +45,8 @@ use Rattle.circus_member_rules.specs.declared.occurrence.Occurrence.{Occurrence}
 use Rattle.circus_member_rules.specs.declared.occurrence.Occurrence.TheVariants as comes
 use Rattle.circus_member_rules.specs.declared.occurrence.Purpose.{Purpose}
 use Rattle.circus_member_rules.specs.declared.occurrence.Purpose.TheVariants as for
-use Rattle.circus_member_step.specs.MemberState.{MemberState}
-use Rattle.circus_accepting.specs.Accepting.{troupe_at, accepted, accepted_answer}
+use Rattle.circus_member_rules.specs.MemberState.{MemberState}
+use Rattle.circus_node.specs.Accepting.{troupe_at, accepted, accepted_answer}
 use Rattle.circus_member_theory.proofs.Accepting.Calls.{ask_no_fetch}
 use Rattle.circus_member_theory.proofs.Accepting.TrueReturns.{answers_ask}
 use Rattle.circus_node.specs.Booting.{IsOfTroupe}
@@ -71,7 +71,7 @@ use Rattle.circus_world_theory.proofs.Quiescence.Staying.{IsEntryOf, entry_there
 use Rattle.circus_world_theory.proofs.Quiescence.Stepping.{AreFirst, IsQuiet}
 use Rattle.circus_transfer.specs.declared.joiner.Joiner.{Joiner}
 use Rattle.circus_collate.specs.declared.view.View.{View}
-use Rattle.circus_member_step.specs.Seen.Sound.{IsRested}
+use Rattle.circus_member_rules.specs.Seen.Sound.{IsRested}
 
 -- ---- open asks by name
 

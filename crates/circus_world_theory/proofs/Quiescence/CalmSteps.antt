@@ -38,9 +38,9 @@ use Rattle.circus_member_rules.specs.declared.place.Place.{Place}
 use Rattle.circus_member_theory.proofs.Resting.{step_rests}
 use Rattle.circus_member_rules.specs.declared.occurrence.Purpose.{Purpose}
 use Rattle.circus_member_rules.specs.declared.occurrence.Purpose.TheVariants as for
-use Rattle.circus_member_step.specs.MemberState.{MemberState}
-use Rattle.circus_member_step.specs.Step.{stepped}
-use Rattle.circus_accepting.specs.Accepting.{troupe_at, is_root, accepted}
+use Rattle.circus_member_rules.specs.MemberState.{MemberState}
+use Rattle.circus_member_rules.specs.Step.{stepped}
+use Rattle.circus_node.specs.Accepting.{troupe_at, is_root, accepted}
 use Rattle.circus_node.specs.Booting.{IsOfTroupe}
 use Rattle.circus_node.specs.declared.event.Event.{Event}
 use Rattle.circus_node.specs.declared.event.Event.TheVariants as comes

@@ -31,10 +31,10 @@ use Rattle.circus_member_rules.specs.declared.occurrence.Purpose.TheVariants as 
 use Rattle.circus_member_rules.specs.declared.place.Beginning.TheVariants.{Founder, Spare}
 use Rattle.circus_member_rules.specs.declared.place.Place.{Place}
 use Rattle.circus_member_theory.proofs.Resting.{boot_rests}
-use Rattle.circus_member_step.specs.Happening.{IsHome}
-use Rattle.circus_member_step.specs.MemberState.{MemberState, Doing}
-use Rattle.circus_member_step.specs.Step as member_step
-use Rattle.circus_accepting.specs.Accepting.{troupe_at, is_root}
+use Rattle.circus_member_rules.specs.Happening.{IsHome}
+use Rattle.circus_member_rules.specs.MemberState.{MemberState, Doing}
+use Rattle.circus_member_rules.specs.Step as member_step
+use Rattle.circus_node.specs.Accepting.{troupe_at, is_root}
 use Rattle.circus_node.specs.NodeState.{Acting, member, ringmaster}
 use Rattle.circus_node.specs.Making.{Made}
 use Rattle.circus_node.specs.Booting.{CanBoot, IsOfTroupe, home_in, home_of, member_at_boot, made_at_boot, fresh_wire}

@@ -41,14 +41,14 @@ use Rattle.circus_performing.specs.Performing.{is_active, unanswered, last_of, o
 use Rattle.circus_performing.specs.Record.{behaviour, IsRecord}
 use Rattle.circus_performing.proofs.Ends.{last_more}
 use Rattle.circus_member_theory.proofs.Standing.{IsOpenOf, open_is}
-use Rattle.circus_member_step.specs.MemberState.{MemberState}
-use Rattle.circus_accepting.specs.Accepting.{troupe_at, is_root}
+use Rattle.circus_member_rules.specs.MemberState.{MemberState}
+use Rattle.circus_node.specs.Accepting.{troupe_at, is_root}
 use Rattle.circus_node.specs.Booting.{beginning_in}
 use Rattle.circus_member_rules.specs.declared.place.Beginning.TheVariants as Begin
 use Rattle.circus_transfer.specs.declared.joiner.Joiner.TheVariants.{Outside, Active}
 use Rattle.circus_node.specs.NodeState.{Acting, member, ringmaster, member_record}
 use Rattle.circus_schedule.specs.declared.line.Line.{Line}
-use Rattle.circus_standing.specs.Stands.{IsPerformed, IsIdle, IsBusy, IsUnderWay, Stands}
+use Rattle.circus_truth.specs.Stands.{IsPerformed, IsIdle, IsBusy, IsUnderWay, Stands}
 use Rattle.circus_talks.proofs.Boots.{world_stands}
 use Rattle.circus_world.specs.WorldState.{WorldState, Standing}
 use Rattle.circus_world.proofs.SlotLemmas.{get_there}
@@ -62,8 +62,8 @@ use Rattle.circus_collate.specs.Expecting.{expected_nodes}
 use Rattle.circus_collate.specs.declared.view.View.{View}
 use Rattle.circus_model.proofs.Paths.{one_maker}
 use Rattle.circus_gather.specs.Gathering.{is_of_index, is_known, is_counted, expected_callers, call_to_start}
-use Rattle.circus_member_step.specs.Step.{is_idle, next_start}
-use Rattle.circus_member_step.proofs.Held.{All-passed}
+use Rattle.circus_member_rules.specs.Step.{is_idle, next_start}
+use Rattle.circus_member_rules.proofs.Held.{All-passed}
 use Rattle.circus_world_theory.proofs.Saying.{return_said}
 use Rattle.circus_world_theory.proofs.Quiescence.Accepts.{both_so}
 use Rattle.circus_world_theory.proofs.Quiescence.CalmSteps.{AnyCall, EarlyReturn}
@@ -71,8 +71,8 @@ use Rattle.circus_world_theory.proofs.Quiescence.Starting.{IsLike, expected_foun
 use Rattle.circus_gather.specs.Gathering.{reply_of}
 use Rattle.circus_member_rules.specs.OpenAsks.{asking_of}
 use Rattle.circus_member_rules.specs.Rules.{value_of_ask}
-use Rattle.circus_member_step.specs.Seen.Sound.{IsHeld}
-use Rattle.circus_member_step.specs.Step.{name_of_last, value_of_open}
+use Rattle.circus_member_rules.specs.Seen.Sound.{IsHeld}
+use Rattle.circus_member_rules.specs.Step.{name_of_last, value_of_open}
 use Rattle.circus_member_theory.proofs.Histories.{takes, index_is, callee_below}
 use Rattle.circus_member_theory.proofs.Accepting.Options.{passes_some}
 use Rattle.circus_world_theory.proofs.Quiescence.CalmNodes.{open_so as open_asking}
@@ -85,7 +85,7 @@ use Rattle.circus_gather.specs.declared.held.HeldCall.{HeldCall}
 use Rattle.circus_member_rules.specs.Messages.{ask_message}
 use Rattle.circus_member_rules.specs.declared.occurrence.AskName.{AskName}
 use Rattle.circus_member_rules.specs.declared.occurrence.Purpose.TheVariants as for
-use Rattle.circus_standing.specs.Messages.{IsAskAt, AsksSo}
+use Rattle.circus_truth.specs.Messages.{IsAskAt, AsksSo}
 use Rattle.circus_truth.specs.Truth.{reply_to, Answers, IsTrueAsking, IsCalled}
 use Rattle.circus_talks.specs.Histories.{beginning_of}
 use Rattle.circus_member_theory.proofs.Accepting.Calls.{ask_header}

@@ -14,7 +14,7 @@ use Rattle.circus_model.specs.NextTurn.{NextTurn}
 use Rattle.circus_model.specs.declared.signature.Signature.{Signature}
 use Rattle.circus_record.specs.declared.record.AskRecord.{AskRecord}
 use Rattle.circus_record.specs.declared.record.RunRecord.{RunRecord}
-use Rattle.circus_known.specs.Knowing.{Knowing}
+use Rattle.circus_fanout.specs.Knowing.{Knowing}
 use Rattle.circus_gather.specs.declared.held.HeldCall.{HeldCall}
 use Rattle.circus_gather.specs.Gathering.{call_to_start, answered_by_end}
 use Rattle.circus_gather.specs.Gathering as gathering
@@ -29,8 +29,8 @@ use Rattle.circus_member_rules.specs.declared.occurrence.Effect.{Effect}
 use Rattle.circus_member_rules.specs.declared.occurrence.Effect.TheVariants as made
 use Rattle.circus_member_rules.specs.Messages.{reply_message}
 use Rattle.circus_member_rules.specs.Rules.{calls_of_ask, index_of_last, answers, snapshots_owed}
-use Rattle.circus_member_step.specs.MemberState.{Doing}
-use Rattle.circus_member_step.specs.Step.{name_of_last, asking_begun, is_idle, reply_of_run, with_record, opened_by_view, opened_ask, ended_run, after_turns, value_of_open, given_states, next_start, answered_by, answered_open, entered, start_of_call, starting, executed}
+use Rattle.circus_member_rules.specs.MemberState.{Doing}
+use Rattle.circus_member_rules.specs.Step.{name_of_last, asking_begun, is_idle, reply_of_run, with_record, opened_by_view, opened_ask, ended_run, after_turns, value_of_open, given_states, next_start, answered_by, answered_open, entered, start_of_call, starting, executed}
 
 -- ---- lists of numbers
 

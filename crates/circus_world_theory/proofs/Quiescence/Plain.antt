@@ -9,7 +9,7 @@ use Rattle.circus_model.specs.Behaviour.{Behaviour}
 use Rattle.circus_model.specs.Execution.{history_of}
 use Rattle.circus_model.specs.declared.signature.Signature.{Signature}
 use Rattle.circus_record.specs.declared.record.MemberRecord.{MemberRecord}
-use Rattle.circus_accepting.specs.Accepting.{is_root}
+use Rattle.circus_node.specs.Accepting.{is_root}
 use Rattle.circus_node.specs.NodeState.{member_record}
 use Rattle.circus_alike.specs.Alike.{declared_of}
 use Rattle.circus_schedule.specs.declared.line.Line.{Line}

@@ -34,10 +34,10 @@ use Rattle.circus_member_rules.specs.Messages.{ask_message}
 use Rattle.circus_member_rules.specs.declared.occurrence.Occurrence.{Occurrence}
 use Rattle.circus_member_rules.specs.declared.occurrence.Purpose.{Purpose}
 use Rattle.circus_member_rules.specs.declared.occurrence.Purpose.TheVariants as for
-use Rattle.circus_member_step.specs.MemberState.{MemberState}
-use Rattle.circus_member_step.specs.Step.{stepped}
-use Rattle.circus_accepting.specs.Headers.{call_in}
-use Rattle.circus_accepting.specs.Accepting.{troupe_at, accepted, accepted_request, taken_request}
+use Rattle.circus_member_rules.specs.MemberState.{MemberState}
+use Rattle.circus_member_rules.specs.Step.{stepped}
+use Rattle.circus_node.specs.Headers.{call_in}
+use Rattle.circus_node.specs.Accepting.{troupe_at, accepted, accepted_request, taken_request}
 use Rattle.circus_member_theory.proofs.Accepting.Calls.{ask_read}
 use Rattle.circus_node.specs.declared.event.Event.{Event}
 use Rattle.circus_node.specs.declared.event.Event.TheVariants as comes

@@ -25,9 +25,9 @@ use Rattle.circus_member_rules.specs.Messages.{fetch_message}
 use Rattle.circus_member_rules.specs.declared.occurrence.AskName.{AskName}
 use Rattle.circus_member_rules.specs.declared.occurrence.Purpose.{Purpose}
 use Rattle.circus_member_rules.specs.declared.occurrence.Purpose.TheVariants as for
-use Rattle.circus_member_step.specs.Happening.{IsHome}
-use Rattle.circus_member_step.specs.Step as member_step
-use Rattle.circus_accepting.specs.Accepting.{troupe_at}
+use Rattle.circus_member_rules.specs.Happening.{IsHome}
+use Rattle.circus_member_rules.specs.Step as member_step
+use Rattle.circus_node.specs.Accepting.{troupe_at}
 use Rattle.circus_member_theory.proofs.Accepting.Calls.{ask_no_fetch}
 use Rattle.circus_node.specs.NodeState.{NodeState, Acting, member}
 use Rattle.circus_node.specs.Making.{Made}

@@ -36,11 +36,11 @@ use Rattle.circus_member_rules.specs.declared.occurrence.Effect.{Effect}
 use Rattle.circus_member_rules.specs.declared.occurrence.Effect.TheVariants as made
 use Rattle.circus_member_rules.specs.declared.occurrence.Occurrence.{Occurrence}
 use Rattle.circus_member_rules.specs.declared.occurrence.Occurrence.TheVariants as comes
-use Rattle.circus_member_step.specs.Happening.{CanHappen}
-use Rattle.circus_member_step.specs.MemberState.{MemberState}
-use Rattle.circus_member_step.specs.Step.{stepped}
-use Rattle.circus_accepting.specs.Headers.{call_in, return_in}
-use Rattle.circus_accepting.specs.Accepting.{accepted, taken_ask, taken_call, taken_answer, taken_reply}
+use Rattle.circus_member_rules.specs.Happening.{CanHappen}
+use Rattle.circus_member_rules.specs.MemberState.{MemberState}
+use Rattle.circus_member_rules.specs.Step.{stepped}
+use Rattle.circus_node.specs.Headers.{call_in, return_in}
+use Rattle.circus_node.specs.Accepting.{accepted, taken_ask, taken_call, taken_answer, taken_reply}
 use Rattle.circus_member_theory.proofs.Accepting.Calls.{ask_length, ask_read, ask_body, ask_no_fetch}
 use Rattle.circus_member_theory.proofs.Accepting.Options.{seen_some}
 use Rattle.circus_member_theory.proofs.Accepting.Returns.{reply_length, reply_read}

@@ -12,7 +12,7 @@ use Rattle.circus_collate.specs.Expecting.{expected_nodes, performs}
 use Rattle.circus_collate.specs.Giving.{is_from, given}
 use Rattle.circus_collate.specs.Collating.{answer, collated}
 use Rattle.circus_fanout.specs.Asking.{Asking, index_of}
-use Rattle.circus_known.specs.Knowing.{Knowing}
+use Rattle.circus_fanout.specs.Knowing.{Knowing}
 use Rattle.circus_member_rules.specs.Rules.{answer_in, value_of_ask}
 use Rattle.circus_collate.specs.declared.kind.Kind.{Kind}
 use Rattle.circus_collate.specs.declared.view.Entry.{Entry}

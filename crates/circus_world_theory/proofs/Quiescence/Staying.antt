@@ -23,7 +23,7 @@ use Rattle.circus_model.specs.Behaviour.{Behaviour, IsModule}
 use Rattle.circus_record.specs.declared.record.AskRecord.{AskRecord}
 use Rattle.circus_record.specs.declared.record.RunRecord.{RunRecord}
 use Rattle.circus_record.specs.declared.record.MemberRecord.{MemberRecord}
-use Rattle.circus_known.specs.Knowing.{Knowing}
+use Rattle.circus_fanout.specs.Knowing.{Knowing}
 use Rattle.circus_gather.specs.Gathering.{Gathered, is_of_index, reply_of, answered_by_end}
 use Rattle.circus_gather.specs.declared.held.HeldCall.{HeldCall}
 use Rattle.circus_fanout.specs.Asking.{Asking, with_view, calls_for_a_view, send_to, is_due}
@@ -40,16 +40,16 @@ use Rattle.circus_member_rules.specs.Callable.{IsReply}
 use Rattle.circus_member_rules.specs.OpenAsks.{asking_of, with_ask}
 use Rattle.circus_member_rules.specs.Messages.{ask_message, reply_message}
 use Rattle.circus_member_rules.specs.Rules.{answers_of_run, calls_of_ask, call_of_ask, header_now, index_of_last, snapshots_owed}
-use Rattle.circus_member_step.specs.MemberState.{MemberState, Doing}
-use Rattle.circus_member_step.specs.Step.{name_of_last, asking_begun, is_idle, reply_of_run, opened_by_view, ended_run, executed}
-use Rattle.circus_member_step.specs.Seen.Sound.{IsRunOf, MayStart}
-use Rattle.circus_member_step.proofs.Entering.{HasValue, with_entered, with_answered, turned_by_start, turned_by_reply}
-use Rattle.circus_member_step.proofs.Held.{All-passed}
-use Rattle.circus_member_step.proofs.Homes.{slice_get_none}
-use Rattle.circus_member_step.proofs.Named.{lookup-push, opened_there}
-use Rattle.circus_member_step.proofs.Starting.{IsSoundNow}
-use Rattle.circus_member_step.proofs.Turned.{IsTurned}
-use Rattle.circus_member_step.proofs.Writing.{one_is_performing, none_is_idle, last_has_ended, reply_is}
+use Rattle.circus_member_rules.specs.MemberState.{MemberState, Doing}
+use Rattle.circus_member_rules.specs.Step.{name_of_last, asking_begun, is_idle, reply_of_run, opened_by_view, ended_run, executed}
+use Rattle.circus_member_rules.specs.Seen.Sound.{IsRunOf, MayStart}
+use Rattle.circus_member_rules.proofs.Entering.{HasValue, with_entered, with_answered, turned_by_start, turned_by_reply}
+use Rattle.circus_member_rules.proofs.Held.{All-passed}
+use Rattle.circus_member_rules.proofs.Homes.{slice_get_none}
+use Rattle.circus_member_rules.proofs.Named.{lookup-push, opened_there}
+use Rattle.circus_member_rules.proofs.Starting.{IsSoundNow}
+use Rattle.circus_member_rules.proofs.Turned.{IsTurned}
+use Rattle.circus_member_rules.proofs.Writing.{one_is_performing, none_is_idle, last_has_ended, reply_is}
 use Rattle.circus_world_theory.proofs.Quiescence.Phases.{with_given, behaves, Keeps, executed_keeps}
 use Rattle.circus_world_theory.specs.Told.{Recorded, IsOpenAt}
 use Rattle.circus_world_theory.proofs.Quiescence.Evolving.{Named, Grows, entered_grows, answered_grows}

@@ -20,9 +20,9 @@ use Rattle.circus_model.specs.declared.signature.Signature.{Signature}
 use Rattle.circus_record.specs.declared.record.MemberRecord.{MemberRecord}
 use Rattle.circus_model.specs.NextTurn.{NextTurn}
 use Rattle.circus_model.specs.Behaviour.{IsModule}
-use Rattle.circus_known.specs.declared.known.Want.{Want}
-use Rattle.circus_known.specs.Knowing as knowing
-use Rattle.circus_known.specs.Knowing.{Knowing}
+use Rattle.circus_fanout.specs.declared.known.Want.{Want}
+use Rattle.circus_fanout.specs.Knowing as knowing
+use Rattle.circus_fanout.specs.Knowing.{Knowing}
 use Rattle.circus_gather.specs.Gathering.{index_of, reply_of, answer_to, is_held}
 use Rattle.circus_gather.specs.declared.added.Added.{Added}
 use Rattle.circus_gather.specs.declared.added.Added.TheVariants as A
@@ -39,13 +39,13 @@ use Rattle.circus_member_rules.specs.OpenAsks.{is_name, asking_of, with_asking}
 use Rattle.circus_member_rules.specs.Messages.{reply_message}
 use Rattle.circus_member_rules.specs.Rules as rules
 use Rattle.circus_member_rules.specs.Rules.{ringmaster, answer_at_once, wanted_by_call, lookups, lookup_call, stays_open}
-use Rattle.circus_member_step.specs.Happening.{CanHappen}
-use Rattle.circus_member_step.specs.MemberState.{MemberState, Doing}
-use Rattle.circus_member_step.specs.Step.{waits, executed, handled, stepped}
-use Rattle.circus_member_step.proofs.Handled.{sound_asked, sound_replied}
-use Rattle.circus_member_step.proofs.Named.{lookup-kept}
-use Rattle.circus_member_step.proofs.Resting.{waiting_stays}
-use Rattle.circus_member_step.proofs.Starting.{IsSoundNow}
+use Rattle.circus_member_rules.specs.Happening.{CanHappen}
+use Rattle.circus_member_rules.specs.MemberState.{MemberState, Doing}
+use Rattle.circus_member_rules.specs.Step.{waits, executed, handled, stepped}
+use Rattle.circus_member_rules.proofs.Handled.{sound_asked, sound_replied}
+use Rattle.circus_member_rules.proofs.Named.{lookup-kept}
+use Rattle.circus_member_rules.proofs.Resting.{waiting_stays}
+use Rattle.circus_member_rules.proofs.Starting.{IsSoundNow}
 use Rattle.circus_node.proofs.ViewLemmas.{executed_knows}
 use Rattle.circus_world_theory.specs.Told.{Recorded, IsOpenAt}
 use Rattle.circus_world_theory.proofs.Quiescence.Evolving.{Named}

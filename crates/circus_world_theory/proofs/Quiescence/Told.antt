@@ -17,7 +17,7 @@ use Rattle.circus_model.specs.declared.signature.Signature.{Signature}
 use Rattle.circus_gather.specs.Gathering.{callers}
 use Rattle.circus_gather.specs.declared.held.HeldCall.{HeldCall}
 use Rattle.circus_performing.specs.Record.{behaviour}
-use Rattle.circus_member_step.specs.MemberState.{MemberState}
+use Rattle.circus_member_rules.specs.MemberState.{MemberState}
 use Rattle.circus_node.specs.NodeState.{member}
 use Rattle.circus_schedule.specs.declared.line.Line.{Line}
 use Rattle.circus_world.specs.WorldState.{WorldState, Standing}

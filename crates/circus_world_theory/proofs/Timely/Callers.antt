@@ -30,10 +30,10 @@ use Rattle.circus_member_rules.specs.declared.occurrence.Purpose.{Purpose}
 use Rattle.circus_member_rules.specs.declared.occurrence.Purpose.TheVariants as for
 use Rattle.circus_member_rules.specs.declared.occurrence.Effect.{Effect}
 use Rattle.circus_member_rules.specs.declared.occurrence.Effect.TheVariants as made
-use Rattle.circus_member_step.specs.MemberState.{MemberState}
-use Rattle.circus_accepting.specs.Bodies.{restored_in}
-use Rattle.circus_accepting.specs.Headers.{call_in, return_in, table_at}
-use Rattle.circus_accepting.specs.Accepting.{may_ask, taken_call, accepted_call, taken_reply, taken_answer, accepted_answer, may_tell, taken_table, accepted_table, accepted}
+use Rattle.circus_member_rules.specs.MemberState.{MemberState}
+use Rattle.circus_node.specs.Bodies.{restored_in}
+use Rattle.circus_node.specs.Headers.{call_in, return_in, table_at}
+use Rattle.circus_node.specs.Accepting.{may_ask, taken_call, accepted_call, taken_reply, taken_answer, accepted_answer, may_tell, taken_table, accepted_table, accepted}
 use Rattle.circus_node.specs.declared.event.Give.{Give}
 use Rattle.circus_node.specs.Sending.{Sending, sent, spent, gives_of, is_sendable, handed, next_handed, all_handed}
 use Rattle.circus_timely.specs.Past.{Past, booted, followed}

@@ -28,10 +28,10 @@ use Rattle.circus_member_rules.specs.declared.occurrence.Occurrence.{Occurrence}
 use Rattle.circus_member_rules.specs.declared.occurrence.Occurrence.TheVariants as comes
 use Rattle.circus_member_rules.specs.declared.occurrence.Purpose.TheVariants as for
 use Rattle.circus_member_rules.specs.declared.occurrence.Purpose.{Purpose}
-use Rattle.circus_member_step.specs.MemberState.{MemberState}
-use Rattle.circus_accepting.specs.Accepting.{taken_call, accepted_call, taken_reply, taken_answer, accepted_answer, accepted}
-use Rattle.circus_accepting.specs.Bodies.{found_whole, counted_state, restored_in}
-use Rattle.circus_accepting.specs.Headers.{call_in, return_in}
+use Rattle.circus_member_rules.specs.MemberState.{MemberState}
+use Rattle.circus_node.specs.Accepting.{taken_call, accepted_call, taken_reply, taken_answer, accepted_answer, accepted}
+use Rattle.circus_node.specs.Bodies.{found_whole, counted_state, restored_in}
+use Rattle.circus_node.specs.Headers.{call_in, return_in}
 use Rattle.circus_member_theory.specs.Ranges.{InRange}
 use Rattle.circus_member_theory.proofs.Accepting.Can.{AreHeardOctets}
 use Rattle.circus_member_theory.proofs.Accepting.Fitting.{is_whole}

@@ -1,8 +1,8 @@
 use Rattle.std.proofs.Common.{◌≡◌, ℕ, List, ◌⊎◌, inl, inr, subst}
-use Rattle.circus_placing_text.specs.declared.place_fault.PlaceCause.{PlaceCause}
-use Rattle.circus_placing_text.specs.declared.place_fault.PlaceFault.{PlaceFault}
-use Rattle.circus_placing_text.specs.declared.place_fault.PlaceFault.TheVariants.{Refused, NoMemory}
-use Rattle.circus_placing_text.specs.ReadAs.{IsRefused}
+use Rattle.circus_placing.specs.declared.place_fault.PlaceCause.{PlaceCause}
+use Rattle.circus_placing.specs.declared.place_fault.PlaceFault.{PlaceFault}
+use Rattle.circus_placing.specs.declared.place_fault.PlaceFault.TheVariants.{Refused, NoMemory}
+use Rattle.circus_placing.specs.ReadAs.{IsRefused}
 use Rattle.circus_ending.proofs.placed.placed.Goals as goal
 
 is_refused : (text : List ℕ) (fault : PlaceFault) (number : ℕ) (cause : PlaceCause) → fault ≡ Refused number cause → (fault ≡ NoMemory) ⊎ IsRefused text fault → IsRefused text (Refused number cause)

@@ -2,9 +2,9 @@ use Rattle.std.proofs.Common.{◌≡◌, List, Option, sym, ap, subst, ◌∙◌
 use Rattle.std.specs.Option.{option_to_list}
 use Rattle.circus_member_rules.specs.declared.occurrence.Effect.{Effect}
 use Rattle.circus_member_rules.specs.declared.occurrence.Difference.{Difference}
-use Rattle.circus_member_step.specs.MemberState.{MemberState}
-use Rattle.circus_member_step.specs.Happening.{CanHappen}
-use Rattle.circus_accepting.specs.Accepting.{IsMemberOf}
+use Rattle.circus_member_rules.specs.MemberState.{MemberState}
+use Rattle.circus_member_rules.specs.Happening.{CanHappen}
+use Rattle.circus_node.specs.Accepting.{IsMemberOf}
 use Rattle.circus_node.specs.declared.acting.Consequences.{Consequences}
 use Rattle.circus_node.specs.NodeState.{Acting, member}
 use Rattle.circus_node.specs.Making.{consequences, happens}

@@ -2,7 +2,7 @@ use Rattle.std.proofs.Common.{◌+◌, ◌++◌, length, map, sym, ap, subst, ap
 use Rattle.circus_picture.specs.Rows.{left_rows}
 use Rattle.circus_picture.specs.Picture.{beginning, middle}
 use Rattle.circus_picture.specs.Seen.Drawing.{scene_of}
-use Rattle.circus_running.specs.Run.{IsPut}
+use Rattle.circus_report.specs.Run.{IsPut}
 use Rattle.circus_picture.proofs.KeptLemmas.{kept-in}
 use Rattle.circus_picture.proofs.Begun.{begun-none, begun-as, begun-more, begun-put, begun-stopped}
 use Rattle.circus_picture.proofs.picture.put_parts.Goals as goal

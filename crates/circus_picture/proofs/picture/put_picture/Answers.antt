@@ -1,7 +1,7 @@
 use Rattle.std.proofs.Common.{◌≡◌, List, length, ap, subst, ◌∙◌, ℕ}
 use Rattle.circus_collate.specs.declared.deployment.Host.{Host}
 use Rattle.circus_record.specs.Naming.{names_of}
-use Rattle.circus_running.specs.Run.{IsPut}
+use Rattle.circus_report.specs.Run.{IsPut}
 use Rattle.circus_picture.specs.Deeds.{deeds_of}
 use Rattle.circus_picture.specs.Rows.{Scene, left_below}
 use Rattle.circus_picture.proofs.SceneLemmas.{scene-is, picture-is}

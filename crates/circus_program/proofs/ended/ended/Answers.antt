@@ -1,6 +1,6 @@
 use Rattle.std.proofs.Common.{sym, subst, []}
 use Rattle.circus_record.specs.Naming.{names_of}
-use Rattle.circus_running.specs.declared.running.RunFault.{RunFault}
+use Rattle.circus_report.specs.declared.running.RunFault.{RunFault}
 use Rattle.circus_ending.specs.Spent.{spent}
 use Rattle.circus_program.specs.Replay.{cause_text, refused}
 use Rattle.circus_program.specs.Seen.Ended.{IsEndedBy}

@@ -7,8 +7,8 @@ use Rattle.circus_schedule.specs.declared.line.Line.{Line}
 use Rattle.circus_schedule.specs.declared.line.Line.TheVariants.{Deliver}
 use Rattle.circus_schedule.specs.Meaning.{NamesBelow}
 use Rattle.circus_report.specs.Report.{rest_text}
-use Rattle.circus_running.specs.Run.{IsPut}
-use Rattle.circus_running.specs.Writing.{Writes}
+use Rattle.circus_report.specs.Run.{IsPut}
+use Rattle.circus_report.specs.Writing.{Writes}
 use Rattle.circus_ending.specs.declared.status.Status.TheVariants.{Done}
 use Rattle.circus_program.specs.Replay.{replayed}
 use Rattle.circus_program.specs.Seen.Put.{IsPutEnd}

@@ -2,7 +2,7 @@ use Rattle.std.proofs.Common.{◌≡◌, None, ℕ, ap, subst}
 use Rattle.circus_machine.specs.declared.text.TextModule.{TextModule}
 use Rattle.circus_record.specs.Naming.{names_of}
 use Rattle.circus_world.specs.WorldState.{WorldState}
-use Rattle.circus_running.specs.Run.{beginning}
+use Rattle.circus_report.specs.Run.{beginning}
 use Rattle.circus_simulated.specs.Seen.Simulated.{world_of}
 use Rattle.circus_program.specs.Replay.{replayed}
 use Rattle.circus_program.specs.Seen.Put.{IsPutEnd}

@@ -5,7 +5,7 @@ use Rattle.circus_outside.specs.Told.{told_more}
 use Rattle.circus_outside.specs.declared.link.TakenFrom.{TakenFrom}
 use Rattle.circus_node.specs.Node.{IsNodeOf}
 use Rattle.circus_serve.specs.declared.fault.ServeFault.{ServeFault}
-use Rattle.circus_log.specs.Outside.{Tells, tells_of}
+use Rattle.circus_serve.specs.Outside.{Tells, tells_of}
 use Rattle.circus_serve.specs.Seen.Faults.{of_link}
 use Rattle.circus_serve.specs.declared.serving.Serving.{Serving}
 use Rattle.circus_serve.specs.Recorded.{Recorded}

@@ -1,6 +1,6 @@
 use Rattle.std.proofs.Common.{◌≡◌}
 use Rattle.circus_node.specs.Node.{IsNodeOf}
-use Rattle.circus_log.specs.Outside.{tells_of}
+use Rattle.circus_serve.specs.Outside.{tells_of}
 use Rattle.circus_serve.proofs.ServedLemmas.{HasServed}
 use Rattle.circus_serve.proofs.record.serve.Given as goal
 

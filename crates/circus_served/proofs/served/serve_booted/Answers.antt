@@ -1,7 +1,7 @@
 use Rattle.circus_record.specs.Naming.{names_of}
 use Rattle.circus_outside.specs.Faults.{Rose}
 use Rattle.std.specs.Prelude.{IsErrOf}
-use Rattle.circus_log.specs.Outside.{Tells, tells_of}
+use Rattle.circus_serve.specs.Outside.{Tells, tells_of}
 use Rattle.circus_serve.specs.declared.fault.ServeFault.TheVariants.{LinkFailed}
 use Rattle.circus_served.proofs.Ends.{ends_answered, rose_if_failed}
 use Rattle.circus_served.proofs.served.serve_booted.Goals as goal

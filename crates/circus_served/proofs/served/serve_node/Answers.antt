@@ -8,7 +8,7 @@ use Rattle.circus_machine.specs.declared.text.TextModule.{TextModule}
 use Rattle.circus_node.specs.declared.event.StepFault.{StepFault}
 use Rattle.circus_node.specs.Booting.{AreOfTroupes, IsBooted}
 use Rattle.circus_load.proofs.Named.{nodes_ascii}
-use Rattle.circus_log.specs.Outside.{Tells, tells_of}
+use Rattle.circus_serve.specs.Outside.{Tells, tells_of}
 use Rattle.circus_load.specs.Seen.Behaving.{declared, turn, first}
 use Rattle.circus_served.proofs.Ends.{served_ends, none_ends, spent_is_end, spent_no_fault, no_end}
 use Rattle.circus_served.proofs.served.serve_node.Goals as goal

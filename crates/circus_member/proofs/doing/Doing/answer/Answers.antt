@@ -2,11 +2,11 @@ use Rattle.std.proofs.Common.{◌≡◌, sym, subst, ap, ◌∙◌, Some}
 use Rattle.std.specs.Prelude.{IfOk}
 use Rattle.circus_model.specs.Behaviour.{IsModule}
 use Rattle.circus_performing.specs.Record.{behaviour}
-use Rattle.circus_member_step.specs.Step.{value_of_open, after_turns, answered_by}
-use Rattle.circus_member_step.specs.Seen.Sound.{IsSound, HasTurned}
+use Rattle.circus_member_rules.specs.Step.{value_of_open, after_turns, answered_by}
+use Rattle.circus_member_rules.specs.Seen.Sound.{IsSound, HasTurned}
 use Rattle.circus_member.proofs.Parts.{doing_of, all_goes_on}
-use Rattle.circus_member_step.proofs.Turned.{has_turned}
-use Rattle.circus_member_step.proofs.Entering.{has_value, can_answer, with_answered, turned_by_reply}
+use Rattle.circus_member_rules.proofs.Turned.{has_turned}
+use Rattle.circus_member_rules.proofs.Entering.{has_value, can_answer, with_answered, turned_by_reply}
 use Rattle.circus_member.proofs.doing.Doing.answer.Goals as goal
 
 pub answer-requires : goal.answer-requires

@@ -1,7 +1,7 @@
 use Rattle.std.proofs.Common.{◌≡◌, refl, sym, subst, ap, ◌∙◌}
 use Rattle.std.specs.Prelude.{IfOk}
 use Rattle.std.specs.Option.{option_map_or}
-use Rattle.circus_member_step.specs.Step.{answered_by}
+use Rattle.circus_member_rules.specs.Step.{answered_by}
 use Rattle.circus_member.proofs.doing.Doing.answer_open.Goals as goal
 
 pub same-self : goal.same-self

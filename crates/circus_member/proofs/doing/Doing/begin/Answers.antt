@@ -1,7 +1,7 @@
 use Rattle.std.proofs.Common.{sym, subst, ap, ◌∙◌, ◌++◌, append_assoc, arith}
 use Rattle.circus_member_rules.specs.Rules.{before_answers}
-use Rattle.circus_member_step.specs.Step.{begun}
-use Rattle.circus_member_step.specs.Happening.{IsHome}
+use Rattle.circus_member_rules.specs.Step.{begun}
+use Rattle.circus_member_rules.specs.Happening.{IsHome}
 use Rattle.circus_member.proofs.Parts.{doing_of, both_ok}
 use Rattle.circus_member.proofs.doing.Doing.begin.Goals as goal
 

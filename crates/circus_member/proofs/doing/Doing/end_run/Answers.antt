@@ -5,9 +5,9 @@ use Rattle.circus_gather.specs.Gathering.{reply_of}
 use Rattle.circus_performing.specs.Performing.{open_ask}
 use Rattle.circus_performing.specs.Record.{behaviour}
 use Rattle.circus_member_rules.specs.Rules.{index_of_last, answers}
-use Rattle.circus_member_step.specs.Step.{ended_last}
+use Rattle.circus_member_rules.specs.Step.{ended_last}
 use Rattle.circus_member_rules.specs.Callable.{IsReply}
-use Rattle.circus_member_step.specs.Seen.Sound.{HasTurned}
+use Rattle.circus_member_rules.specs.Seen.Sound.{HasTurned}
 use Rattle.circus_member.proofs.Parts.{doing_of}
 use Rattle.circus_member.proofs.Opening.{ended_reply, none_ended, ended_so}
 use Rattle.circus_member.proofs.doing.Doing.end_run.Goals as goal

@@ -4,11 +4,11 @@ use Rattle.circus_model.specs.Behaviour.{IsModule}
 use Rattle.circus_gather.specs.Gathering.{with_start}
 use Rattle.circus_performing.specs.Acts.{CanEnter}
 use Rattle.circus_performing.specs.Record.{behaviour}
-use Rattle.circus_member_step.specs.Step.{after_turns, entered}
-use Rattle.circus_member_step.specs.Seen.Sound.{IsSound, HasTurned, MayStart}
+use Rattle.circus_member_rules.specs.Step.{after_turns, entered}
+use Rattle.circus_member_rules.specs.Seen.Sound.{IsSound, HasTurned, MayStart}
 use Rattle.circus_member.proofs.Parts.{doing_of, all_goes_on}
-use Rattle.circus_member_step.proofs.Turned.{has_turned}
-use Rattle.circus_member_step.proofs.Entering.{with_entered, turned_by_start}
+use Rattle.circus_member_rules.proofs.Turned.{has_turned}
+use Rattle.circus_member_rules.proofs.Entering.{with_entered, turned_by_start}
 use Rattle.circus_member.proofs.doing.Doing.enter.Goals as goal
 
 pub enter-requires : goal.enter-requires

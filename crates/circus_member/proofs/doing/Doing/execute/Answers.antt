@@ -1,11 +1,11 @@
 use Rattle.std.proofs.Common.{sym, subst, ap, ◌∙◌}
 use Rattle.circus_model.specs.Behaviour.{IsModule}
 use Rattle.circus_performing.specs.Record.{behaviour}
-use Rattle.circus_member_step.specs.MemberState.{Doing}
-use Rattle.circus_member_step.specs.Step.{starting}
-use Rattle.circus_member_step.specs.Seen.Sound.{IsSound}
-use Rattle.circus_member_step.proofs.Starting.{sound_answered}
-use Rattle.circus_member_step.proofs.Enough.{held_by}
+use Rattle.circus_member_rules.specs.MemberState.{Doing}
+use Rattle.circus_member_rules.specs.Step.{starting}
+use Rattle.circus_member_rules.specs.Seen.Sound.{IsSound}
+use Rattle.circus_member_rules.proofs.Starting.{sound_answered}
+use Rattle.circus_member_rules.proofs.Enough.{held_by}
 use Rattle.circus_member.proofs.Going.{Goes, goes_sound, goes_may, went_sound, went_same, went_fewer, went_so_far}
 use Rattle.circus_member.proofs.doing.Doing.execute.Goals as goal
 

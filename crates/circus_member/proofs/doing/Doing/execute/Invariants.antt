@@ -1,8 +1,8 @@
 use Rattle.std.proofs.Common.{◌≡◌}
 use Rattle.circus_performing.specs.Record.{behaviour}
-use Rattle.circus_member_step.specs.Step.{starting, executed}
-use Rattle.circus_member_step.specs.Seen.Sound.{IsSound}
-use Rattle.circus_member_step.proofs.Enough.{held_by}
+use Rattle.circus_member_rules.specs.Step.{starting, executed}
+use Rattle.circus_member_rules.specs.Seen.Sound.{IsSound}
+use Rattle.circus_member_rules.proofs.Enough.{held_by}
 use Rattle.circus_member.proofs.Going.{starts_left}
 use Rattle.circus_member.proofs.doing.Doing.execute.Given as goal
 

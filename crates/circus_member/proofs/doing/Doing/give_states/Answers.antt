@@ -3,7 +3,7 @@ use Rattle.circus_value.specs.Fits.{all_fit}
 use Rattle.circus_transfer.specs.Snapshot.{snapshot_bytes}
 use Rattle.circus_performing.specs.Record.{behaviour}
 use Rattle.circus_member_rules.specs.Rules.{answers}
-use Rattle.circus_member_step.specs.Step.{given_states}
+use Rattle.circus_member_rules.specs.Step.{given_states}
 use Rattle.circus_member.proofs.Parts.{doing_of}
 use Rattle.circus_member.proofs.Giving.{nobody_waits, not_idle, states_given, idle_state}
 use Rattle.circus_member.proofs.doing.Doing.give_states.Goals as goal

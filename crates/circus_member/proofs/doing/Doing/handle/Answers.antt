@@ -3,11 +3,11 @@ use Rattle.std.proofs.lemmas.Result.{IfOk-weaker}
 use Rattle.circus_model.specs.Behaviour.{IsModule}
 use Rattle.circus_performing.specs.Record.{behaviour}
 use Rattle.circus_member_rules.specs.declared.occurrence.Difference.{Difference}
-use Rattle.circus_member_step.specs.MemberState.{Doing, behind}
-use Rattle.circus_member_step.specs.Step.{replied}
-use Rattle.circus_member_step.specs.Seen.Sound.{IsSound}
-use Rattle.circus_member_step.proofs.Homes.{are_views, all_may_call}
-use Rattle.circus_member_step.proofs.Handled.{sound_asked, sound_fetched, sound_replied, sound_stale, sound_before, sound_told, sound_declared, sound_joins}
+use Rattle.circus_member_rules.specs.MemberState.{Doing, behind}
+use Rattle.circus_member_rules.specs.Step.{replied}
+use Rattle.circus_member_rules.specs.Seen.Sound.{IsSound}
+use Rattle.circus_member_rules.proofs.Homes.{are_views, all_may_call}
+use Rattle.circus_member_rules.proofs.Handled.{sound_asked, sound_fetched, sound_replied, sound_stale, sound_before, sound_told, sound_declared, sound_joins}
 use Rattle.circus_member.proofs.Parts.{goes_on}
 use Rattle.circus_member.proofs.doing.Doing.handle.Goals as goal
 

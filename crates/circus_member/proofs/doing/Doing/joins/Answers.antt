@@ -1,7 +1,7 @@
 use Rattle.std.proofs.Common.{ap, ◌∙◌}
 use Rattle.std.proofs.lemmas.Result.{on_ok_weaker}
-use Rattle.circus_member_step.specs.MemberState.{behind}
-use Rattle.circus_member_step.specs.Step.{joins}
+use Rattle.circus_member_rules.specs.MemberState.{behind}
+use Rattle.circus_member_rules.specs.Step.{joins}
 use Rattle.circus_member.proofs.Parts.{doing_of}
 use Rattle.circus_member.proofs.doing.Doing.joins.Goals as goal
 

@@ -2,14 +2,14 @@ use Rattle.std.proofs.Common.{sym, subst, ap, ◌∙◌, ◌++◌, length}
 use Rattle.std.specs.Prelude.{slice_get}
 use Rattle.std.proofs.lemmas.Option.{none-some, same_Some}
 use Rattle.circus_header.specs.CallFields.{IsIncarnation}
-use Rattle.circus_known.specs.Knowing.{told, is_newer}
-use Rattle.circus_member_step.specs.Step.{seen_by}
+use Rattle.circus_fanout.specs.Knowing.{told, is_newer}
+use Rattle.circus_member_rules.specs.Step.{seen_by}
 use Rattle.circus_member_rules.specs.Rules.{with_new_view, calls_for_a_new_view}
 use Rattle.circus_member_rules.specs.Callable.{AllMayCall}
-use Rattle.circus_member_step.specs.Happening.{IsHome}
-use Rattle.circus_member_step.specs.Seen.Sound.{AreOpen}
+use Rattle.circus_member_rules.specs.Happening.{IsHome}
+use Rattle.circus_member_rules.specs.Seen.Sound.{AreOpen}
 use Rattle.circus_member.proofs.Parts.{doing_of, both_ok}
-use Rattle.circus_member_step.proofs.Homes.{ring_newer, newer_there}
+use Rattle.circus_member_rules.proofs.Homes.{ring_newer, newer_there}
 use Rattle.circus_member.proofs.Telling.{known_already, known_newly, table_may_call}
 use Rattle.circus_member.proofs.doing.Doing.know.Goals as goal
 

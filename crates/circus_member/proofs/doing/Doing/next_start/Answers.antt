@@ -2,8 +2,8 @@ use Rattle.std.proofs.Common.{if◌then◌else◌, Some, None, sym, ap, ◌∙�
 use Rattle.std.specs.Prelude.{option_map, option_copied}
 use Rattle.circus_gather.specs.Gathering.{call_to_start}
 use Rattle.circus_model.specs.declared.signature.Signature.{Signature}
-use Rattle.circus_member_step.specs.MemberState.{Doing}
-use Rattle.circus_member_step.specs.Step.{start_by_call, next_start}
+use Rattle.circus_member_rules.specs.MemberState.{Doing}
+use Rattle.circus_member_rules.specs.Step.{start_by_call, next_start}
 use Rattle.circus_member.proofs.Parts.{doing_of}
 use Rattle.circus_member.proofs.Nexts.{next_given}
 use Rattle.circus_member.proofs.doing.Doing.next_start.Goals as goal

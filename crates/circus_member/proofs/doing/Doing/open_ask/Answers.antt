@@ -6,12 +6,12 @@ use Rattle.circus_model.specs.Behaviour.{IsModule}
 use Rattle.circus_fanout.specs.declared.send.Send.{Send}
 use Rattle.circus_fanout.specs.Asking.{begun, with_view, calls_for_a_view}
 use Rattle.circus_performing.specs.Record.{behaviour}
-use Rattle.circus_member_step.specs.Step.{name_of_last, header_of_ask, opened_last}
+use Rattle.circus_member_rules.specs.Step.{name_of_last, header_of_ask, opened_last}
 use Rattle.circus_member_rules.specs.Callable.{MayCall, HasFewAsks}
-use Rattle.circus_member_step.specs.Seen.Sound.{HasTurned}
+use Rattle.circus_member_rules.specs.Seen.Sound.{HasTurned}
 use Rattle.circus_member_rules.proofs.Calls.{by_the_view}
-use Rattle.circus_member_step.proofs.Homes.{are_views}
-use Rattle.circus_member_step.proofs.Runs.{few_asks}
+use Rattle.circus_member_rules.proofs.Homes.{are_views}
+use Rattle.circus_member_rules.proofs.Runs.{few_asks}
 use Rattle.circus_member.proofs.Parts.{doing_of}
 use Rattle.circus_member.proofs.Opening.{turned_few, written_ask, may_call_asked, no_run, no_ask, no_view, opened_so}
 use Rattle.circus_member.proofs.doing.Doing.open_ask.Goals as goal

@@ -5,12 +5,12 @@ use Rattle.circus_model.specs.Lawful.{IsState}
 use Rattle.circus_model.specs.Behaviour.{IsModule}
 use Rattle.circus_performing.specs.Performing.{is_fetching}
 use Rattle.circus_performing.specs.Record.{behaviour}
-use Rattle.circus_member_step.specs.MemberState.{Doing, behind}
-use Rattle.circus_member_step.specs.Step.{restored}
-use Rattle.circus_member_step.specs.Happening.{IsHome}
-use Rattle.circus_member_step.specs.Seen.Sound.{IsSound}
+use Rattle.circus_member_rules.specs.MemberState.{Doing, behind}
+use Rattle.circus_member_rules.specs.Step.{restored}
+use Rattle.circus_member_rules.specs.Happening.{IsHome}
+use Rattle.circus_member_rules.specs.Seen.Sound.{IsSound}
 use Rattle.circus_member.proofs.Parts.{doing_of, all_goes_on}
-use Rattle.circus_member_step.proofs.Handled.{sound_restored}
+use Rattle.circus_member_rules.proofs.Handled.{sound_restored}
 use Rattle.circus_member.proofs.Restoring.{not_restored, restored_so, active_hosted, restored_hosted}
 use Rattle.circus_member.proofs.doing.Doing.restored.Goals as goal
 

@@ -2,10 +2,10 @@ use Rattle.std.proofs.Common.{sym, subst, ap, ◌∙◌, ◌++◌, [], map, if�
 use Rattle.std.proofs.lemmas.Result.{on_ok_weaker}
 use Rattle.circus_header.specs.CallFields.{IsModule}
 use Rattle.circus_member_rules.specs.Rules.{givers, state_request}
-use Rattle.circus_member_step.specs.Step.{is_taken_in, told}
-use Rattle.circus_member_step.specs.MemberState.{behind}
-use Rattle.circus_member_step.specs.Happening.{IsHome}
-use Rattle.circus_member_step.specs.Seen.Sound.{AreOpen}
+use Rattle.circus_member_rules.specs.Step.{is_taken_in, told}
+use Rattle.circus_member_rules.specs.MemberState.{behind}
+use Rattle.circus_member_rules.specs.Happening.{IsHome}
+use Rattle.circus_member_rules.specs.Seen.Sound.{AreOpen}
 use Rattle.circus_member.proofs.Parts.{doing_of}
 use Rattle.circus_member.proofs.Telling.{told_all}
 use Rattle.circus_member.proofs.doing.Doing.told.Goals as goal

@@ -1,8 +1,8 @@
 use Rattle.std.proofs.Common.{Some, None, ap, ◌∙◌}
 use Rattle.std.specs.Prelude.{option_and_then}
-use Rattle.circus_member_step.specs.MemberState.{Doing}
+use Rattle.circus_member_rules.specs.MemberState.{Doing}
 use Rattle.circus_member_rules.specs.Rules.{value_of_ask}
-use Rattle.circus_member_step.specs.Step.{value_of_open}
+use Rattle.circus_member_rules.specs.Step.{value_of_open}
 use Rattle.circus_member.proofs.Parts.{doing_of}
 use Rattle.circus_member.proofs.Nexts.{value_named}
 use Rattle.circus_member.proofs.doing.Doing.value_of_open.Goals as goal

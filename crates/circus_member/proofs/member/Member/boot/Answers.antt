@@ -1,9 +1,9 @@
 use Rattle.std.proofs.Common.{◌≡◌, [], sym, subst, ap, ◌∙◌}
 use Rattle.circus_model.specs.Behaviour.{IsModule}
 use Rattle.circus_performing.specs.Record.{behaviour}
-use Rattle.circus_member_step.specs.MemberState.{Doing}
-use Rattle.circus_member_step.specs.Step.{entered, main_start}
-use Rattle.circus_member_step.specs.Seen.Sound.{IsSound, MayStart, IsRested}
+use Rattle.circus_member_rules.specs.MemberState.{Doing}
+use Rattle.circus_member_rules.specs.Step.{entered, main_start}
+use Rattle.circus_member_rules.specs.Seen.Sound.{IsSound, MayStart, IsRested}
 use Rattle.circus_member.proofs.Boot.{at_boot, sound_at_boot, may_begin, rested_before, rested_entered}
 use Rattle.circus_member.proofs.member.Member.boot.Goals as goal
 

@@ -1,12 +1,12 @@
 use Rattle.std.proofs.Common.{sym, subst, ap, ◌∙◌}
 use Rattle.circus_model.specs.Behaviour.{IsModule}
 use Rattle.circus_performing.specs.Record.{behaviour}
-use Rattle.circus_member_step.specs.MemberState.{MemberState, Doing}
-use Rattle.circus_member_step.specs.Step.{difference}
-use Rattle.circus_member_step.specs.Happening.{CanHappen}
-use Rattle.circus_member_step.specs.GoneOn.{HasGoneOn}
-use Rattle.circus_member_step.specs.Seen.Sound.{IsSound, IsRested}
-use Rattle.circus_member_step.proofs.Unsettled.{waited_by}
+use Rattle.circus_member_rules.specs.MemberState.{MemberState, Doing}
+use Rattle.circus_member_rules.specs.Step.{difference}
+use Rattle.circus_member_rules.specs.Happening.{CanHappen}
+use Rattle.circus_member_rules.specs.GoneOn.{HasGoneOn}
+use Rattle.circus_member_rules.specs.Seen.Sound.{IsSound, IsRested}
+use Rattle.circus_member_rules.proofs.Unsettled.{waited_by}
 use Rattle.circus_member.proofs.Stepping.{Goes, few_views, ends_so, rests, has_gone_on}
 use Rattle.circus_member.proofs.member.Member.step.Goals as goal
 

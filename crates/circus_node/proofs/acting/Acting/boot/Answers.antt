@@ -6,10 +6,10 @@ use Rattle.circus_collate.specs.declared.view.View.{View}
 use Rattle.circus_ring.specs.RingTable.{Kept, boot_views}
 use Rattle.circus_model.specs.NextTurn.{NextTurn}
 use Rattle.circus_model.specs.declared.signature.Signature.{Signature}
-use Rattle.circus_member_step.specs.Happening.{IsHome}
+use Rattle.circus_member_rules.specs.Happening.{IsHome}
 use Rattle.circus_member_rules.specs.declared.occurrence.Effect.{Effect}
-use Rattle.circus_member_step.specs.MemberState.{MemberState}
-use Rattle.circus_member_step.specs.Step as member_step
+use Rattle.circus_member_rules.specs.MemberState.{MemberState}
+use Rattle.circus_member_rules.specs.Step as member_step
 use Rattle.circus_node.specs.declared.home.Home.{Home}
 use Rattle.circus_node.specs.declared.acting.Consequences.{Consequences}
 use Rattle.circus_node.specs.NodeState.{Acting, member, ringmaster}

@@ -9,11 +9,11 @@ use Rattle.circus_ring.specs.RingTable.{Kept}
 use Rattle.circus_wire.specs.declared.delivery.Heard.{Heard}
 use Rattle.circus_member_rules.specs.declared.occurrence.Occurrence.{Occurrence}
 use Rattle.circus_member_rules.specs.declared.occurrence.Purpose.{Purpose}
-use Rattle.circus_member_step.specs.MemberState.{MemberState}
-use Rattle.circus_member_step.specs.Happening.{CanHappen}
+use Rattle.circus_member_rules.specs.MemberState.{MemberState}
+use Rattle.circus_member_rules.specs.Happening.{CanHappen}
 use Rattle.circus_node.specs.declared.acting.Consequences.{Consequences}
 use Rattle.circus_node.specs.NodeState.{Acting, member, ringmaster}
-use Rattle.circus_accepting.specs.Accepting.{accepted, IsMemberOf}
+use Rattle.circus_node.specs.Accepting.{accepted, IsMemberOf}
 use Rattle.circus_node.specs.Making.{Made, refused, happens, arrives}
 use Rattle.circus_node.specs.Seen.ActingOf.{acting_of}
 use Rattle.circus_node.specs.Seen.Kept.{IsActing}

@@ -2,7 +2,7 @@ use Rattle.std.proofs.Common.{refl, ap, ◌∙◌}
 use Rattle.std.specs.Prelude.{slice_get, option_map, option_and_then}
 use Rattle.std.proofs.lemmas.Result.{err_from_is_err_and}
 use Rattle.circus_performing.specs.Record.{behaviour}
-use Rattle.circus_accepting.specs.Accepting.{troupe_at}
+use Rattle.circus_node.specs.Accepting.{troupe_at}
 use Rattle.circus_node.specs.Booting.{booted}
 use Rattle.circus_node.proofs.SendLemmas.{lost_memory}
 use Rattle.circus_node.proofs.TroupeLemmas.{hosted_can_boot}

@@ -1,11 +1,11 @@
 use Rattle.std.proofs.Common.{◌≡◌, ◌∙◌, [], true, false, ap, sym, subst, Ok, Err}
 use Rattle.std.proofs.lemmas.Result.{err_from_is_err_and}
 use Rattle.circus_node.specs.declared.event.Event.TheVariants.{Join}
-use Rattle.circus_log.specs.Outside.{Tells, tells_of}
-use Rattle.circus_log.specs.Serving.{Served, Progress, on, comes, begun}
+use Rattle.circus_serve.specs.Outside.{Tells, tells_of}
+use Rattle.circus_serve.specs.Serving.{Served, Progress, on, comes, begun}
 use Rattle.circus_serve.specs.Seen.Counting.{ServeCounts}
 use Rattle.circus_serve.specs.Seen.Faults.{of_link}
-use Rattle.circus_log.proofs.SpareLemmas.{begun_so}
+use Rattle.circus_serve.proofs.SpareLemmas.{begun_so}
 use Rattle.circus_serve.specs.declared.serving.Serving.{Serving}
 use Rattle.circus_serve.specs.Seen.Going.{served_of, HasGone}
 use Rattle.circus_serve.proofs.EventLemmas.{if_fault, count_at_fault, then_counts, boot_lacking, boot_so, boot_noted}

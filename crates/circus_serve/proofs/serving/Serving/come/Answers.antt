@@ -3,8 +3,8 @@ use Rattle.std.proofs.lemmas.Result.{err_from_is_err_and, IfOk-weaker}
 use Rattle.circus_wire.specs.Wire.{IsOther}
 use Rattle.circus_node.specs.Node.{IsNodeOf}
 use Rattle.circus_node.specs.NodeState.{NodeState}
-use Rattle.circus_log.specs.Outside.{Tells, tells_of}
-use Rattle.circus_log.specs.Serving.{Served, event_comes, suspected, all_declared, comes}
+use Rattle.circus_serve.specs.Outside.{Tells, tells_of}
+use Rattle.circus_serve.specs.Serving.{Served, event_comes, suspected, all_declared, comes}
 use Rattle.circus_serve.specs.Seen.Counting.{ServeCounts}
 use Rattle.circus_serve.specs.declared.serving.Serving.{Serving}
 use Rattle.circus_serve.specs.Seen.Going.{served_of, HasGone}

@@ -2,8 +2,8 @@ use Rattle.std.proofs.Common.{ℕ, ◌≡◌, ◌∙◌, ap, sym, subst, refl, E
 use Rattle.std.proofs.lemmas.Result.{err_from_is_err_and}
 use Rattle.std.proofs.lemmas.List.{get_or_default}
 use Rattle.circus_node.specs.Node.{IsNodeOf}
-use Rattle.circus_log.specs.Outside.{Tells, tells_of}
-use Rattle.circus_log.specs.Serving.{Served, all_declared}
+use Rattle.circus_serve.specs.Outside.{Tells, tells_of}
+use Rattle.circus_serve.specs.Serving.{Served, all_declared}
 use Rattle.circus_serve.specs.Seen.Counting.{ServeCounts}
 use Rattle.circus_serve.specs.declared.serving.Serving.{Serving}
 use Rattle.circus_serve.specs.Seen.Going.{served_of, HasGone}

@@ -1,6 +1,6 @@
 use Rattle.std.proofs.Common.{◌≡◌}
 use Rattle.circus_node.specs.Node.{IsNodeOf}
-use Rattle.circus_log.specs.Outside.{tells_of}
+use Rattle.circus_serve.specs.Outside.{tells_of}
 use Rattle.circus_serve.specs.Seen.Going.{served_of}
 use Rattle.circus_serve.proofs.GoneLemmas.{HasDeclared}
 use Rattle.circus_serve.proofs.serving.Serving.declare_all.Given as goal

@@ -5,8 +5,8 @@ use Rattle.circus_outside.specs.declared.link.TakenFrom.TheVariants.{From}
 use Rattle.circus_node.specs.declared.event.Event.TheVariants.{Datagram}
 use Rattle.circus_node.specs.Node.{IsNodeOf}
 use Rattle.circus_serve.specs.declared.fault.ServeFault.TheVariants as fault
-use Rattle.circus_log.specs.Outside.{Tells, tells_of}
-use Rattle.circus_log.specs.Serving.{Served, Progress, on, comes, took, with_foreign}
+use Rattle.circus_serve.specs.Outside.{Tells, tells_of}
+use Rattle.circus_serve.specs.Serving.{Served, Progress, on, comes, took, with_foreign}
 use Rattle.circus_serve.specs.Seen.Counting.{ServeCounts}
 use Rattle.circus_serve.specs.declared.serving.Serving.{Serving}
 use Rattle.circus_serve.specs.Seen.Going.{served_of, HasGone}

@@ -2,8 +2,8 @@ use Rattle.std.proofs.Common.{ℕ, ◌≡◌, ◌∙◌, ap, sym, subst, refl, E
 use Rattle.std.proofs.lemmas.Result.{err_from_is_err_and}
 use Rattle.circus_node.specs.declared.event.Outputs.{Outputs}
 use Rattle.circus_serve.specs.declared.fault.ServeFault.TheVariants as fault
-use Rattle.circus_log.specs.Outside.{Tells, tells_of}
-use Rattle.circus_log.specs.Serving.{Served, event_comes}
+use Rattle.circus_serve.specs.Outside.{Tells, tells_of}
+use Rattle.circus_serve.specs.Serving.{Served, event_comes}
 use Rattle.circus_serve.specs.Seen.Counting.{ServeCounts}
 use Rattle.circus_serve.specs.Seen.Faults.{of_link, of_step}
 use Rattle.circus_serve.specs.declared.serving.Serving.{Serving}

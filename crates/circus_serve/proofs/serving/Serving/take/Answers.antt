@@ -2,8 +2,8 @@ use Rattle.std.proofs.Common.{sym, subst}
 use Rattle.std.proofs.lemmas.Result.{IfOk-weaker}
 use Rattle.circus_outside.specs.declared.link.TakenFrom.{TakenFrom}
 use Rattle.circus_node.specs.Node.{IsNodeOf}
-use Rattle.circus_log.specs.Outside.{Tells, tells_of}
-use Rattle.circus_log.specs.Serving.{Served, took}
+use Rattle.circus_serve.specs.Outside.{Tells, tells_of}
+use Rattle.circus_serve.specs.Serving.{Served, took}
 use Rattle.circus_serve.specs.Seen.Going.{served_of, HasGone}
 use Rattle.circus_serve.proofs.SuspectLemmas.{own_node}
 use Rattle.circus_serve.proofs.serving.Serving.take.Goals as goal

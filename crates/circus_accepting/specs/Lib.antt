@@ -1,4 +1,0 @@
-pub mod Headers
-pub mod Bodies
-pub mod Accepting
-pub mod Seen

@@ -1,2 +1,0 @@
--- What code knows of what was accepted. No public call cites this.
-pub mod Can

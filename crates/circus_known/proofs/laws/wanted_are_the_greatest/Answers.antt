@@ -1,5 +1,0 @@
-use Rattle.circus_known.proofs.Learning.{wanted_greatest}
-use Rattle.circus_known.proofs.laws.wanted_are_the_greatest.Goals as goal
-
-pub returns : goal.returns
-returns c = wanted_greatest

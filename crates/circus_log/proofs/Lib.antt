@@ -1,4 +1,0 @@
-pub mod AskedLemmas
-mod RunLemmas
-pub mod SpareLemmas
-mod TakesLemmas

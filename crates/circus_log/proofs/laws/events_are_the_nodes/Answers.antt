@@ -1,5 +1,0 @@
-use Rattle.circus_log.proofs.RunLemmas.{run_of_all}
-use Rattle.circus_log.proofs.laws.events_are_the_nodes.Goals as goal
-
-pub returns : goal.returns
-returns g c d own booted gives takes last is = run_of_all g.M.Module.declared g.M.Module.turn d own booted gives takes last is

@@ -1,5 +1,0 @@
-pub mod Happened
-pub mod Running
-pub mod Serving
-pub mod Outside
-pub mod Giving

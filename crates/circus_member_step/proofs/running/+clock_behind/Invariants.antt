@@ -1,5 +1,0 @@
-use Rattle.std.proofs.Common.{length}
-use Rattle.circus_member_step.proofs.running.+clock_behind.Given as goal
-
-abbrev pub decreases-clock_behind : goal.decreases-clock_behind
-decreases-clock_behind l = length l.asks.now

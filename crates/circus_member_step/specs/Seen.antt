@@ -1,2 +1,0 @@
--- What holds of a member behind each step.
-pub mod Sound

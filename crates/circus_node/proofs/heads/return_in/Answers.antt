@@ -1,0 +1,11 @@
+use Rattle.std.proofs.Common.{ap, ◌∙◌}
+use Rattle.circus_node.specs.Headers.{return_in}
+use Rattle.circus_node.proofs.HeadLemmas.{found_is, return_in_is}
+use Rattle.circus_node.proofs.heads.return_in.Goals as goal
+
+pub returns-clause-read : goal.returns-clause-read
+returns-clause-read c =
+    found_is c.found.result c.read_return.result _ c.found.ensures.found c.found.ensures.made
+    (λ made.
+    return_in_is c.as_slice.result.now c.read_return.result c.read_return.ensures made
+    ∙ ap return_in (c.as_slice.ensures ∙ c.in_ok-bytes.ensures))

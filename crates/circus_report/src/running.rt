@@ -1,0 +1,171 @@
+// A replay that writes its report as it goes.
+ghost use Rattle.std.specs.Prelude.{◌≡◌, ◌<◌, ◌≤◌, [], All, IsAscii, IfOk, OnOk, IsErrOf, length};
+ghost use Rattle.circus_outside.specs.Faults.{Rose};
+ghost use Rattle.circus_record.specs.Naming.{host_name, names_of};
+ghost use Rattle.circus_schedule.specs.Meaning.{NamesBelow};
+ghost use Rattle.circus_report.specs.Report.{rest_text};
+ghost use Rattle.circus_report.specs.Run as run;
+
+use crate::put::{PutFault, put_line, put_lines};
+use crate::{REPORT, show_rest, show_sent};
+use circus_model::Module;
+use circus_outside::Sink;
+use circus_value::{ListOf, Name, NoMemory};
+use circus_world::{Line, LineCause, World, WorldFault};
+use std::alloc::Global;
+use std::marker::Model;
+use thiserror::Error;
+
+/// Why a replay ends before its last line.
+#[derive(Clone, Copy, Debug, PartialEq, Eq, Drop, Error)]
+pub enum RunFault {
+    /// The sink refused a piece. What was put in the call is a beginning of what it would have put.
+    #[error("the sink failed")]
+    SinkFailed,
+
+    /// The line may not be stepped. Nothing was put in the call.
+    #[error("the line may not be stepped")]
+    Illegal(LineCause),
+
+    /// The first node has no number left for a call to the second. Nothing was put in the call.
+    #[error("node {0} has no number left for node {1}")]
+    Spent(u16, u16),
+
+    /// Memory ran out. What was put in the call is a beginning of what it would have put.
+    #[error("out of memory")]
+    NoMemory,
+}
+
+impl From<NoMemory> for RunFault {
+    ghost use Rattle.std.specs.Prelude.{◌≡◌};
+    ghost use Rattle.circus_report.specs.declared.running.RunFault.TheVariants.{NoMemory};
+
+    ghost from_gives = { λ _ fault. fault ≡ NoMemory };
+
+    fn from(_refused: NoMemory) -> Self {
+        RunFault::NoMemory
+    }
+}
+
+impl From<PutFault> for RunFault {
+    ghost use Rattle.std.specs.Prelude.{◌≡◌};
+    ghost use Rattle.circus_report.specs.Run.{fault_of};
+
+    ghost from_gives = { λ from fault. fault ≡ fault_of from };
+
+    fn from(fault: PutFault) -> Self {
+        match fault {
+            PutFault::Sink => RunFault::SinkFailed,
+            PutFault::Memory => RunFault::NoMemory,
+        }
+    }
+}
+
+/// A replay whose report is written up to what was sent so far (docs/FORMATS.md, "Report"). Clauses see the world that it
+/// keeps.
+#[derive(Drop)]
+pub struct Running<M: Module> {
+    world: World<M>,
+}
+
+impl<M: Module> Model for Running<M> {
+    ghost use Rattle.circus_world.specs.WorldState.{WorldState};
+    ghost use Rattle.circus_world.specs.Seen.WorldCode.{world_code};
+
+    ghost Value = { WorldState M };
+
+    ghost coded = { world_code M.code };
+
+    ghost view = { λ a. a.world };
+}
+
+impl<M: Module> Running<M> {
+    /// Puts the report's first line and the lines of what was sent at boot. The world is one that has just booted.
+    ///
+    /// `SinkFailed` only where the sink's count of faults rose, and `NoMemory`; after both, what was put is a beginning of
+    /// these lines.
+    pub fn begin<K: Sink>(alloc: Global, world: World<M>, sink: &mut K) -> Result<Self, RunFault>
+        requires { All (λ h. IsAscii (host_name h)) world.deployment.nodes }
+        ensures put { run.IsPut (run.beginning world) (K.written sink.old) (K.written sink.new) result }
+        ensures same { IfOk result (λ running. running ≡ world) }
+        ensures rose { IsErrOf result RunFault.SinkFailed → Rose (K.faults sink.old) (K.faults sink.new) }
+        ensures count { OnOk result (K.faults sink.new ≡ K.faults sink.old) }
+    {
+        put_line(sink, REPORT.as_bytes())?;
+        put_sent(alloc, &world, 0, sink)?;
+        Ok(Running { world })
+    }
+
+    /// Steps a line, and puts exactly the lines of what was sent in it, before it returns. Its conditions are those of
+    /// `World::step`.
+    ///
+    /// `Illegal` and `Spent` as `World::step` answers them, where nothing was put; `SinkFailed` only where the sink's count of
+    /// faults rose, and `NoMemory`.
+    pub fn line<K: Sink>(self, alloc: Global, line: &Line, sink: &mut K) -> Result<Self, RunFault>
+        requires ascii { All (λ h. IsAscii (host_name h)) self.deployment.nodes }
+        requires named { NamesBelow (length self.nodes) line.now }
+        requires few { self.steps < 18446744073709551615 }
+        ensures run { run.IsRun M.declared M.turn line.now self (K.written sink.old) (K.written sink.new) result }
+        ensures rose { IsErrOf result RunFault.SinkFailed → Rose (K.faults sink.old) (K.faults sink.new) }
+        ensures count { run.IsCounted result (K.faults sink.old) (K.faults sink.new) }
+    {
+        let before = self.world.sent().len();
+        let world = match self.world.step(line) {
+            Ok(world) => world,
+            Err(WorldFault::Illegal(_, cause)) => return Err(RunFault::Illegal(cause)),
+            Err(WorldFault::NoMemory) => return Err(RunFault::NoMemory),
+            Err(WorldFault::Spent(node, peer)) => return Err(RunFault::Spent(node, peer)),
+        };
+        put_sent(alloc, &world, before, sink)?;
+        Ok(Running { world })
+    }
+
+    /// Puts the lines behind those of what was sent, by the names of the modules in module order.
+    ///
+    /// `SinkFailed` only where the sink's count of faults rose, and `NoMemory`; after both, what was put is a beginning of
+    /// these lines.
+    pub fn finish<K: Sink>(
+        self,
+        alloc: Global,
+        names: &ListOf<Name>,
+        sink: &mut K,
+    ) -> Result<(), RunFault>
+        requires nodes { All (λ h. IsAscii (host_name h)) self.deployment.nodes }
+        requires modules { All IsAscii names.now }
+        ensures put { run.IsPut (rest_text (names_of self.deployment.nodes names.now) self) (K.written sink.old) (K.written sink.new) result }
+        ensures rose { IsErrOf result RunFault.SinkFailed → Rose (K.faults sink.old) (K.faults sink.new) }
+        ensures count { OnOk result (K.faults sink.new ≡ K.faults sink.old) }
+    {
+        let rest = show_rest(alloc, &self.world, names)?;
+        put_lines(sink, rest.as_slice())?;
+        Ok(())
+    }
+
+    /// The world that it keeps. It takes no memory.
+    pub fn world(&self) -> &World<M>
+        ensures { result.now ≡ self.now }
+    {
+        &self.world
+    }
+}
+
+// Puts the lines of what was sent, from this number on.
+fn put_sent<M: Module, K: Sink>(
+    alloc: Global,
+    world: &World<M>,
+    from: usize,
+    sink: &mut K,
+) -> Result<(), RunFault>
+    requires ascii { All (λ h. IsAscii (host_name h)) world.now.deployment.nodes }
+    requires within { from ≤ length world.now.sent }
+    ensures put { run.IsPut (run.sent_from from world.now) (K.written sink.old) (K.written sink.new) result }
+    ensures rose { IsErrOf result RunFault.SinkFailed → Rose (K.faults sink.old) (K.faults sink.new) }
+    ensures count { OnOk result (K.faults sink.new ≡ K.faults sink.old) }
+{
+    let sent = world.sent().as_slice();
+    for number in from..sent.len() {
+        let line = show_sent(alloc, world.deployment(), number as u64, &sent[number])?;
+        put_line(sink, line.as_slice())?;
+    }
+    Ok(())
+}

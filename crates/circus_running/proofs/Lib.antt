@@ -1,4 +1,0 @@
-pub mod PutLemmas
-pub mod SentLines
-pub mod StepLemmas
-pub mod ToldLemmas
