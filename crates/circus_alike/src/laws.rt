@@ -22,5 +22,6 @@ pub fn steps_depend_on_behaviours<M: Module>()
 pub fn boots_depend_on_behaviours<M: Module>()
     ensures { (d : Deployed) (hosted : Option M) (node : ℕ)
         → ended_as M.declared M.turn M.first (booted M.declared M.turn M.first d hosted node)
-        ≡ booted declared_of turn_of first_of d (option_map (behaviour M.declared M.turn M.first) hosted) node }
+        ≡ booted declared_of turn_of first_of d
+        (option_map (behaviour M.declared M.turn M.first) hosted) node }
 {}

@@ -12,7 +12,9 @@ ghost use Rattle.circus_body.specs.Regular.{IsWholeContext, StatementsAreOfBytes
 /// Statements without a fault mean such as are well formed, by the shapes of the variables and by what the procedures
 /// take, give and report that may be named.
 pub fn faultless_are_well_formed()
-    ensures { (variables : List ShapeTree) (context : Context) → IsWholeContext variables context → (ss : StatementTrees) → StatementsAreOfBytes ss
+    ensures { (variables : List ShapeTree) (context : Context) → IsWholeContext variables context
+        → (ss : StatementTrees) → StatementsAreOfBytes ss
         → all_faults context ss ≡ []
-        → AreTyped variables (Takes context) (Reports context) (shapes_of context.own.results) (IsReported context.own) (statement_trees (all_do context ss)) }
+        → AreTyped variables (Takes context) (Reports context) (shapes_of context.own.results)
+        (IsReported context.own) (statement_trees (all_do context ss)) }
 {}

@@ -42,8 +42,11 @@ pub fn resolve_statements(
     found: &mut Findings,
     statements: &Statements,
 ) -> Result<CheckedStatements, NoMemory>
-    ensures found { OnOk result (found.new ≡ with_faults found.old (faults.all_faults (context_as context.now) (s.statement_trees statements.now))) }
-    ensures meant { IfOk result (λ made. made ≡ meaning.all_do (context_as context.now) (s.statement_trees statements.now)) }
+    ensures found { OnOk result
+        (found.new ≡ with_faults found.old
+        (faults.all_faults (context_as context.now) (s.statement_trees statements.now))) }
+    ensures meant { IfOk result (λ made.
+        made ≡ meaning.all_do (context_as context.now) (s.statement_trees statements.now)) }
 {
     let mut made = CheckedStatements::new(alloc);
     for statement in statements.as_slice() {
@@ -60,8 +63,11 @@ fn resolved(
     found: &mut Findings,
     statement: &Statement,
 ) -> Result<CheckedStatement, NoMemory>
-    ensures found { OnOk result (found.new ≡ with_faults found.old (faults.faults (context_as context.now) (tree_of statement.now))) }
-    ensures meant { IfOk result (λ made. checked.tree_of made ≡ meaning.does (context_as context.now) (tree_of statement.now)) }
+    ensures found { OnOk result
+        (found.new ≡ with_faults found.old
+        (faults.faults (context_as context.now) (tree_of statement.now))) }
+    ensures meant { IfOk result (λ made.
+        checked.tree_of made ≡ meaning.does (context_as context.now) (tree_of statement.now)) }
 {
     match &statement.kind {
         StatementKind::Assign(place, expression) => {
@@ -92,8 +98,14 @@ fn assigned(
     place: &PlaceText,
     value: &Expression,
 ) -> Result<CheckedStatement, NoMemory>
-    ensures found { OnOk result (found.new ≡ with_faults found.old (faults.faults (context_as context.now) (s.assign 0 (expression.place_of place.now) (expression.tree_of value.now)))) }
-    ensures meant { IfOk result (λ made. checked.tree_of made ≡ meaning.does (context_as context.now) (s.assign 0 (expression.place_of place.now) (expression.tree_of value.now))) }
+    ensures found { OnOk result
+        (found.new ≡ with_faults found.old
+        (faults.faults (context_as context.now)
+        (s.assign 0 (expression.place_of place.now) (expression.tree_of value.now)))) }
+    ensures meant { IfOk result (λ made.
+        checked.tree_of made
+        ≡ meaning.does (context_as context.now)
+        (s.assign 0 (expression.place_of place.now) (expression.tree_of value.now))) }
 {
     let place = resolve_place(alloc, context.scope, found, place)?;
     let one = resolve(alloc, context.scope, found, value)?;
@@ -109,8 +121,12 @@ fn tested(
     found: &mut Findings,
     condition: &Expression,
 ) -> Result<CheckedExpression, NoMemory>
-    ensures found { OnOk result (found.new ≡ with_faults found.old (faults.tested (context_as context.now) (expression.tree_of condition.now))) }
-    ensures meant { IfOk result (λ made. checked_expression.tree_of made ≡ meant (context_as context.now).scope (expression.tree_of condition.now)) }
+    ensures found { OnOk result
+        (found.new ≡ with_faults found.old
+        (faults.tested (context_as context.now) (expression.tree_of condition.now))) }
+    ensures meant { IfOk result (λ made.
+        checked_expression.tree_of made
+        ≡ meant (context_as context.now).scope (expression.tree_of condition.now)) }
 {
     let one = resolve(alloc, context.scope, found, condition)?;
     found.want_truth(one.sort, condition.at);
@@ -126,8 +142,14 @@ fn only_then(
     condition: &Expression,
     statements: &Statements,
 ) -> Result<CheckedStatement, NoMemory>
-    ensures found { OnOk result (found.new ≡ with_faults found.old (faults.faults (context_as context.now) (s.only_then 0 (expression.tree_of condition.now) (s.statement_trees statements.now)))) }
-    ensures meant { IfOk result (λ made. checked.tree_of made ≡ meaning.does (context_as context.now) (s.only_then 0 (expression.tree_of condition.now) (s.statement_trees statements.now))) }
+    ensures found { OnOk result
+        (found.new ≡ with_faults found.old
+        (faults.faults (context_as context.now)
+        (s.only_then 0 (expression.tree_of condition.now) (s.statement_trees statements.now)))) }
+    ensures meant { IfOk result (λ made.
+        checked.tree_of made
+        ≡ meaning.does (context_as context.now)
+        (s.only_then 0 (expression.tree_of condition.now) (s.statement_trees statements.now))) }
 {
     let condition = tested(alloc, context, found, condition)?;
     let statements = resolve_statements(alloc, context, found, statements)?;
@@ -145,8 +167,16 @@ fn then_else(
     statements: &Statements,
     others: &Statements,
 ) -> Result<CheckedStatement, NoMemory>
-    ensures found { OnOk result (found.new ≡ with_faults found.old (faults.faults (context_as context.now) (s.then_else 0 (expression.tree_of condition.now) (s.statement_trees statements.now) (s.statement_trees others.now)))) }
-    ensures meant { IfOk result (λ made. checked.tree_of made ≡ meaning.does (context_as context.now) (s.then_else 0 (expression.tree_of condition.now) (s.statement_trees statements.now) (s.statement_trees others.now))) }
+    ensures found { OnOk result
+        (found.new ≡ with_faults found.old
+        (faults.faults (context_as context.now)
+        (s.then_else 0 (expression.tree_of condition.now) (s.statement_trees statements.now)
+        (s.statement_trees others.now)))) }
+    ensures meant { IfOk result (λ made.
+        checked.tree_of made
+        ≡ meaning.does (context_as context.now)
+        (s.then_else 0 (expression.tree_of condition.now) (s.statement_trees statements.now)
+        (s.statement_trees others.now))) }
 {
     let condition = tested(alloc, context, found, condition)?;
     let statements = resolve_statements(alloc, context, found, statements)?;
@@ -163,8 +193,14 @@ fn repeated(
     condition: &Expression,
     statements: &Statements,
 ) -> Result<CheckedStatement, NoMemory>
-    ensures found { OnOk result (found.new ≡ with_faults found.old (faults.faults (context_as context.now) (s.while 0 (expression.tree_of condition.now) (s.statement_trees statements.now)))) }
-    ensures meant { IfOk result (λ made. checked.tree_of made ≡ meaning.does (context_as context.now) (s.while 0 (expression.tree_of condition.now) (s.statement_trees statements.now))) }
+    ensures found { OnOk result
+        (found.new ≡ with_faults found.old
+        (faults.faults (context_as context.now)
+        (s.while 0 (expression.tree_of condition.now) (s.statement_trees statements.now)))) }
+    ensures meant { IfOk result (λ made.
+        checked.tree_of made
+        ≡ meaning.does (context_as context.now)
+        (s.while 0 (expression.tree_of condition.now) (s.statement_trees statements.now))) }
 {
     let condition = tested(alloc, context, found, condition)?;
     let statements = resolve_statements(alloc, context, found, statements)?;
@@ -180,8 +216,14 @@ fn appended(
     item: &Expression,
     place: &PlaceText,
 ) -> Result<CheckedStatement, NoMemory>
-    ensures found { OnOk result (found.new ≡ with_faults found.old (faults.faults (context_as context.now) (s.append 0 (expression.tree_of item.now) (expression.place_of place.now)))) }
-    ensures meant { IfOk result (λ made. checked.tree_of made ≡ meaning.does (context_as context.now) (s.append 0 (expression.tree_of item.now) (expression.place_of place.now))) }
+    ensures found { OnOk result
+        (found.new ≡ with_faults found.old
+        (faults.faults (context_as context.now)
+        (s.append 0 (expression.tree_of item.now) (expression.place_of place.now)))) }
+    ensures meant { IfOk result (λ made.
+        checked.tree_of made
+        ≡ meaning.does (context_as context.now)
+        (s.append 0 (expression.tree_of item.now) (expression.place_of place.now))) }
 {
     let one = resolve(alloc, context.scope, found, item)?;
     let at = place.name.at;
@@ -209,8 +251,11 @@ fn given(
     at: u32,
     items: &Expressions,
 ) -> Result<CheckedStatement, NoMemory>
-    ensures found { OnOk result (found.new ≡ with_faults found.old (faults.faults (context_as context.now) (s.return at items.now))) }
-    ensures meant { IfOk result (λ made. checked.tree_of made ≡ meaning.does (context_as context.now) (s.return 0 items.now)) }
+    ensures found { OnOk result
+        (found.new ≡ with_faults found.old
+        (faults.faults (context_as context.now) (s.return at items.now))) }
+    ensures meant { IfOk result (λ made.
+        checked.tree_of made ≡ meaning.does (context_as context.now) (s.return 0 items.now)) }
 {
     let slots = results_of(Some(context.own));
     Ok(CheckedStatement::Return(list(alloc, context, found, slots, at, items)?))
@@ -224,8 +269,12 @@ fn raised(
     name: &Named,
     items: &Expressions,
 ) -> Result<CheckedStatement, NoMemory>
-    ensures found { OnOk result (found.new ≡ with_faults found.old (faults.faults (context_as context.now) (s.raise 0 name.now items.now))) }
-    ensures meant { IfOk result (λ made. checked.tree_of made ≡ meaning.does (context_as context.now) (s.raise 0 name.now items.now)) }
+    ensures found { OnOk result
+        (found.new ≡ with_faults found.old
+        (faults.faults (context_as context.now) (s.raise 0 name.now items.now))) }
+    ensures meant { IfOk result (λ made.
+        checked.tree_of made
+        ≡ meaning.does (context_as context.now) (s.raise 0 name.now items.now)) }
 {
     let error = error_of(found, Some(context.own), name);
     let values = list(alloc, context, found, values_of(error), name.at, items)?;
@@ -241,8 +290,14 @@ fn asked(
     found: &mut Findings,
     call: &CallText,
 ) -> Result<CheckedStatement, NoMemory>
-    ensures found { OnOk result (found.new ≡ with_faults found.old (faults.faults (context_as context.now) (s.call 0 (call_of call.now) (s.handler_trees call.now.handlers)))) }
-    ensures meant { IfOk result (λ made. checked.tree_of made ≡ meaning.does (context_as context.now) (s.call 0 (call_of call.now) (s.handler_trees call.now.handlers))) }
+    ensures found { OnOk result
+        (found.new ≡ with_faults found.old
+        (faults.faults (context_as context.now)
+        (s.call 0 (call_of call.now) (s.handler_trees call.now.handlers)))) }
+    ensures meant { IfOk result (λ made.
+        checked.tree_of made
+        ≡ meaning.does (context_as context.now)
+        (s.call 0 (call_of call.now) (s.handler_trees call.now.handlers))) }
 {
     let (callee, offered) = called(found, context, &call.module, &call.procedure);
     let slots = arguments_of(offered);
@@ -282,8 +337,12 @@ fn results(
     slots: Slots<'_>,
     into: &Option<IntoText>,
 ) -> Result<CheckedPlaces, NoMemory>
-    ensures found { OnOk result (found.new ≡ with_faults found.old (faults.results_faults (context_as context.now) (slots_as slots.entry) (option_map into_of into.now))) }
-    ensures meant { IfOk result (λ made. made ≡ meaning.into_meant (context_as context.now) (option_map into_of into.now)) }
+    ensures found { OnOk result
+        (found.new ≡ with_faults found.old
+        (faults.results_faults (context_as context.now) (slots_as slots.entry)
+        (option_map into_of into.now))) }
+    ensures meant { IfOk result (λ made.
+        made ≡ meaning.into_meant (context_as context.now) (option_map into_of into.now)) }
 {
     match into {
         Some(into) => places(alloc, context, found, slots, into.at, &into.places),
@@ -301,8 +360,13 @@ fn places(
     at: u32,
     places: &PlaceTexts,
 ) -> Result<CheckedPlaces, NoMemory>
-    ensures found { OnOk result (found.new ≡ with_faults found.old (faults.into_faults (context_as context.now) (slots_as slots.entry) at (Some (map expression.place_of places.now)))) }
-    ensures meant { IfOk result (λ made. made ≡ meaning.places_meant (context_as context.now) (Some (map expression.place_of places.now))) }
+    ensures found { OnOk result
+        (found.new ≡ with_faults found.old
+        (faults.into_faults (context_as context.now) (slots_as slots.entry) at
+        (Some (map expression.place_of places.now)))) }
+    ensures meant { IfOk result (λ made.
+        made ≡ meaning.places_meant (context_as context.now)
+        (Some (map expression.place_of places.now))) }
 {
     want_number(found, slots, places.len(), at);
     each_place(alloc, context, found, slots, places)
@@ -316,8 +380,13 @@ fn each_place(
     slots: Slots<'_>,
     places: &PlaceTexts,
 ) -> Result<CheckedPlaces, NoMemory>
-    ensures found { OnOk result (found.new ≡ with_faults found.old (faults.places_faults (context_as context.now) (slots_as slots.entry) 0 (map expression.place_of places.now))) }
-    ensures meant { IfOk result (λ made. made ≡ map (place_meant (context_as context.now).scope) (map expression.place_of places.now)) }
+    ensures found { OnOk result
+        (found.new ≡ with_faults found.old
+        (faults.places_faults (context_as context.now) (slots_as slots.entry) 0
+        (map expression.place_of places.now))) }
+    ensures meant { IfOk result (λ made.
+        made ≡ map (place_meant (context_as context.now).scope)
+        (map expression.place_of places.now)) }
 {
     let mut made = CheckedPlaces::new(alloc);
     for (number, place) in places.as_slice().iter().enumerate() {
@@ -335,9 +404,15 @@ fn filled(
     shape: Option<&Shape>,
     place: &PlaceText,
 ) -> Result<CheckedPlace, NoMemory>
-    ensures found { OnOk result (found.new ≡ with_faults found.old (place_faults (context_as context.now).scope (expression.place_of place.now)
-        ++ wanted_alike (option_map sort_of (shape_as shape.entry)) (option_map sort_of (place_shape (context_as context.now).scope (expression.place_of place.now))) place.now.name.at)) }
-    ensures meant { IfOk result (λ made. made ≡ place_meant (context_as context.now).scope (expression.place_of place.now)) }
+    ensures found { OnOk result
+        (found.new ≡ with_faults found.old
+        (place_faults (context_as context.now).scope (expression.place_of place.now)
+        ++ wanted_alike (option_map sort_of (shape_as shape.entry))
+        (option_map sort_of
+        (place_shape (context_as context.now).scope (expression.place_of place.now)))
+        place.now.name.at)) }
+    ensures meant { IfOk result (λ made.
+        made ≡ place_meant (context_as context.now).scope (expression.place_of place.now)) }
 {
     let one = resolve_place(alloc, context.scope, found, place)?;
     found.want_alike(
@@ -357,8 +432,13 @@ fn handlers_of(
     offered: Option<&Offered<'_>>,
     handlers: &Handlers,
 ) -> Result<CheckedHandlers, NoMemory>
-    ensures found { OnOk result (found.new ≡ with_faults found.old (faults.handlers_faults (context_as context.now) (known_offer offered.entry) (s.handler_trees handlers.now))) }
-    ensures meant { IfOk result (λ made. made ≡ meaning.all_handle (context_as context.now) (known_offer offered.entry) (s.handler_trees handlers.now)) }
+    ensures found { OnOk result
+        (found.new ≡ with_faults found.old
+        (faults.handlers_faults (context_as context.now) (known_offer offered.entry)
+        (s.handler_trees handlers.now))) }
+    ensures meant { IfOk result (λ made.
+        made ≡ meaning.all_handle (context_as context.now) (known_offer offered.entry)
+        (s.handler_trees handlers.now)) }
 {
     let mut made = CheckedHandlers::new(alloc);
     for (place, handler) in handlers.as_slice().iter().enumerate() {
@@ -382,9 +462,12 @@ fn handled_error<'c>(
     offered: Option<&Offered<'c>>,
     error: &Option<Named>,
 ) -> (Option<u16>, Slots<'c>)
-    ensures found { found.new ≡ with_faults found.old (faults.handled_error_faults (known_offer offered.entry) error.now) }
+    ensures found { found.new
+        ≡ with_faults found.old
+        (faults.handled_error_faults (known_offer offered.entry) error.now) }
     ensures error { result.0 ≡ meaning.handled_meant (known_offer offered.entry) error.now }
-    ensures values { slots_as result.1 ≡ faults.handled_values (known_offer offered.entry) error.now }
+    ensures values { slots_as result.1
+        ≡ faults.handled_values (known_offer offered.entry) error.now }
 {
     match error {
         Some(name) => {
@@ -404,8 +487,13 @@ fn handler_places(
     at: u32,
     list: &Option<PlaceTexts>,
 ) -> Result<CheckedPlaces, NoMemory>
-    ensures found { OnOk result (found.new ≡ with_faults found.old (faults.into_faults (context_as context.now) (slots_as slots.entry) at (option_map (map expression.place_of) list.now))) }
-    ensures meant { IfOk result (λ made. made ≡ meaning.places_meant (context_as context.now) (option_map (map expression.place_of) list.now)) }
+    ensures found { OnOk result
+        (found.new ≡ with_faults found.old
+        (faults.into_faults (context_as context.now) (slots_as slots.entry) at
+        (option_map (map expression.place_of) list.now))) }
+    ensures meant { IfOk result (λ made.
+        made ≡ meaning.places_meant (context_as context.now)
+        (option_map (map expression.place_of) list.now)) }
 {
     match list {
         Some(list) => places(alloc, context, found, slots, at, list),
@@ -423,8 +511,14 @@ fn handled(
     offered: Option<&Offered<'_>>,
     handler: &Handler,
 ) -> Result<CheckedHandler, NoMemory>
-    ensures found { OnOk result (found.new ≡ with_faults found.old (one_handler_faults (context_as context.now) (known_offer offered.entry) (handler_of handler.now))) }
-    ensures meant { IfOk result (λ made. checked.handler_of made ≡ one_handler_meant (context_as context.now) (known_offer offered.entry) (handler_of handler.now)) }
+    ensures found { OnOk result
+        (found.new ≡ with_faults found.old
+        (one_handler_faults (context_as context.now) (known_offer offered.entry)
+        (handler_of handler.now))) }
+    ensures meant { IfOk result (λ made.
+        checked.handler_of made
+        ≡ one_handler_meant (context_as context.now) (known_offer offered.entry)
+        (handler_of handler.now)) }
 {
     let (error, slots) = handled_error(found, offered, &handler.error);
     let places = handler_places(alloc, context, found, slots, handler.at, &handler.places)?;

@@ -24,9 +24,14 @@ pub fn called<'m, 't>(
     module: &Named,
     procedure: &Named,
 ) -> (u16, Option<&'m Offered<'t>>)
-    ensures found { found.new ≡ with_faults found.old (faults.called_faults ((context_as context.now).called module.now.name) module.now procedure.now) }
-    ensures number { result.0 ≡ meaning.module_number ((context_as context.now).called module.now.name) }
-    ensures offered { known_offer result.1 ≡ faults.offered_by ((context_as context.now).called module.now.name) procedure.now.name }
+    ensures found { found.new
+        ≡ with_faults found.old
+        (faults.called_faults
+        ((context_as context.now).called module.now.name) module.now procedure.now) }
+    ensures number { result.0
+        ≡ meaning.module_number ((context_as context.now).called module.now.name) }
+    ensures offered { known_offer result.1
+        ≡ faults.offered_by ((context_as context.now).called module.now.name) procedure.now.name }
 {
     let Some(callee) = context.imported.get(module.name.as_slice()).copied() else {
         found.note(true, module.at, CheckCause::Unknown);
@@ -66,8 +71,10 @@ pub fn error_of<'c>(
     offered: Option<&Offered<'c>>,
     name: &Named,
 ) -> Option<Reported<'c>>
-    ensures found { found.new ≡ with_faults found.old (faults.error_faults (known_offer offered.entry) name.now) }
-    ensures error { option_map reported_as result ≡ faults.reported_by (known_offer offered.entry) name.now }
+    ensures found { found.new
+        ≡ with_faults found.old (faults.error_faults (known_offer offered.entry) name.now) }
+    ensures error { option_map reported_as result
+        ≡ faults.reported_by (known_offer offered.entry) name.now }
 {
     let error = offered?.reported(name.name.as_slice());
     found.note(error.is_none(), name.at, CheckCause::Unknown);
@@ -96,7 +103,8 @@ pub fn number_of(error: Option<Reported<'_>>) -> u16
 
 /// So many items where so many are wanted.
 pub fn want_number(found: &mut Findings, slots: Slots<'_>, count: usize, at: u32)
-    ensures { found.new ≡ with_faults found.old (faults.number_faults (slots_as slots.entry) count at) }
+    ensures { found.new
+        ≡ with_faults found.old (faults.number_faults (slots_as slots.entry) count at) }
 {
     if let Slots::ForFields(fields) = slots {
         found.note(count != field_count(fields), at, CheckCause::Mistyped);
@@ -109,7 +117,8 @@ pub fn sequence_of<'s>(
     shape: Option<&'s Shape>,
     at: u32,
 ) -> (u16, Option<&'s Shape>)
-    ensures found { found.new ≡ with_faults found.old (faults.sequence_faults (shape_as shape.entry) at) }
+    ensures found { found.new
+        ≡ with_faults found.old (faults.sequence_faults (shape_as shape.entry) at) }
     ensures bound { result.0 ≡ meaning.bound_of (shape_as shape.entry) }
     ensures items { shape_as result.1 ≡ faults.item_shape (shape_as shape.entry) }
 {
@@ -133,8 +142,12 @@ pub fn list(
     at: u32,
     items: &Expressions,
 ) -> Result<CheckedExpressions, NoMemory>
-    ensures found { OnOk result (found.new ≡ with_faults found.old (faults.list_faults (context_as context.now) (slots_as slots.entry) at items.now)) }
-    ensures meant { IfOk result (λ trees. trees ≡ each_meant (context_as context.now).scope (slots_as slots.entry) 0 (expression_trees items.now)) }
+    ensures found { OnOk result
+        (found.new ≡ with_faults found.old
+        (faults.list_faults (context_as context.now) (slots_as slots.entry) at items.now)) }
+    ensures meant { IfOk result (λ trees.
+        trees ≡ each_meant (context_as context.now).scope (slots_as slots.entry) 0
+        (expression_trees items.now)) }
 {
     want_number(found, slots, items.len(), at);
     resolve_each(alloc, context.scope, found, slots, items)

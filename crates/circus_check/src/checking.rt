@@ -65,12 +65,19 @@ pub fn check(
 
     // No rule is broken, and each module is answered as what it means.
     ensures faultless { OnOk result (faults interfaces (map module_of modules) ≡ []) }
-    ensures meant { IfOk result (λ checked. map module_as checked.modules ≡ modules_meant interfaces (map module_of modules) 0 (map module_of modules)) }
+    ensures meant { IfOk result (λ checked.
+        map module_as checked.modules
+        ≡ modules_meant interfaces (map module_of modules) 0 (map module_of modules)) }
     ensures same { IfOk result (λ checked. checked.interfaces ≡ interfaces) }
-    ensures well_formed { IfOk result (λ checked. AreWellFormed checked.interfaces (map module_as checked.modules)) }
+    ensures well_formed { IfOk result (λ checked.
+        AreWellFormed checked.interfaces (map module_as checked.modules)) }
 
     // The fault is the least of all.
-    ensures err { IfErr result (λ e. (e ≡ CheckFault.NoMemory) ⊎ ((f : Fault CheckCause) × (least_from rank None (faults interfaces (map module_of modules)) ≡ Some f) × (e ≡ answer_of interfaces (map module_of modules) f))) }
+    ensures err { IfErr result (λ e.
+        (e ≡ CheckFault.NoMemory)
+        ⊎ ((f : Fault CheckCause)
+        × (least_from rank None (faults interfaces (map module_of modules)) ≡ Some f)
+        × (e ≡ answer_of interfaces (map module_of modules) f))) }
 {
     let resolved = resolved(alloc, interfaces.as_slice(), modules.as_slice())?;
     Ok(Checked {
@@ -98,8 +105,14 @@ fn resolved(
     requires obey { AllByRecursion Obeys interfaces.now }
     requires few { length interfaces.now ≤ most_interfaces }
     ensures faultless { OnOk result (faults interfaces.now (map module_of modules.now) ≡ []) }
-    ensures meant { IfOk result (λ made. map module_as made ≡ modules_meant interfaces.now (map module_of modules.now) 0 (map module_of modules.now)) }
-    ensures err { IfErr result (λ e. (e ≡ CheckFault.NoMemory) ⊎ ((f : Fault CheckCause) × (least_from rank None (faults interfaces.now (map module_of modules.now)) ≡ Some f) × (e ≡ answer_of interfaces.now (map module_of modules.now) f))) }
+    ensures meant { IfOk result (λ made.
+        map module_as made
+        ≡ modules_meant interfaces.now (map module_of modules.now) 0 (map module_of modules.now)) }
+    ensures err { IfErr result (λ e.
+        (e ≡ CheckFault.NoMemory)
+        ⊎ ((f : Fault CheckCause)
+        × (least_from rank None (faults interfaces.now (map module_of modules.now)) ≡ Some f)
+        × (e ≡ answer_of interfaces.now (map module_of modules.now) f))) }
 {
     let no_fields = Fields::new(alloc);
     let naming = Naming::new(alloc, interfaces, modules)?;
@@ -117,9 +130,18 @@ fn resolved_among<'p, 's>(
     requires few { length naming.now.interfaces.now ≤ most_interfaces }
     requires none { no_fields.now ≡ [] }
     requires told { AreTold known.now naming.now.interfaces.now }
-    ensures faultless { OnOk result (faults naming.now.interfaces.now (map module_of naming.now.modules.now) ≡ []) }
-    ensures meant { IfOk result (λ made. map module_as made ≡ modules_meant naming.now.interfaces.now (map module_of naming.now.modules.now) 0 (map module_of naming.now.modules.now)) }
-    ensures err { IfErr result (λ e. (e ≡ CheckFault.NoMemory) ⊎ ((f : Fault CheckCause) × (least_from rank None (faults naming.now.interfaces.now (map module_of naming.now.modules.now)) ≡ Some f) × (e ≡ answer_of naming.now.interfaces.now (map module_of naming.now.modules.now) f))) }
+    ensures faultless { OnOk result
+        (faults naming.now.interfaces.now (map module_of naming.now.modules.now) ≡ []) }
+    ensures meant { IfOk result (λ made.
+        map module_as made
+        ≡ modules_meant naming.now.interfaces.now (map module_of naming.now.modules.now) 0
+        (map module_of naming.now.modules.now)) }
+    ensures err { IfErr result (λ e.
+        (e ≡ CheckFault.NoMemory)
+        ⊎ ((f : Fault CheckCause)
+        × (least_from rank None
+        (faults naming.now.interfaces.now (map module_of naming.now.modules.now)) ≡ Some f)
+        × (e ≡ answer_of naming.now.interfaces.now (map module_of naming.now.modules.now) f))) }
 {
     let nothing = Known::nothing(alloc);
     let main = Offered {
@@ -146,9 +168,16 @@ fn resolved_among<'p, 's>(
 fn resolved_modules(program: &Program<'_, '_>) -> Result<Progress, NoMemory>
     requires program { IsProgram program.now }
     requires few { length (interfaces_in program.now) ≤ most_interfaces }
-    ensures found { IfOk result (λ progress. progress.best.fault ≡ least_from rank None (faults (interfaces_in program.now) (modules_in program.now))) }
-    ensures shared { IfOk result (λ progress. AreShares progress.shares.items (modules_in program.now)) }
-    ensures meant { IfOk result (λ progress. IfNone progress.best.fault (map module_as progress.made ≡ modules_meant (interfaces_in program.now) (modules_in program.now) 0 (modules_in program.now))) }
+    ensures found { IfOk result (λ progress.
+        progress.best.fault
+        ≡ least_from rank None (faults (interfaces_in program.now) (modules_in program.now))) }
+    ensures shared { IfOk result (λ progress.
+        AreShares progress.shares.items (modules_in program.now)) }
+    ensures meant { IfOk result (λ progress.
+        IfNone progress.best.fault
+        (map module_as progress.made
+        ≡ modules_meant (interfaces_in program.now) (modules_in program.now) 0
+        (modules_in program.now))) }
 {
     let mut progress = Progress {
         made: ResolvedModules::new(program.alloc),
@@ -200,10 +229,17 @@ fn module<'p, 's>(
     requires program { IsProgram program.now }
     requires few { length (interfaces_in program.now) ≤ most_interfaces }
     requires own { IsOwn program.now own.now }
-    requires shared { option_map shared_as shared ≡ shared_at (modules_in program.now) own.now.number }
+    requires shared { option_map shared_as shared
+        ≡ shared_at (modules_in program.now) own.now.number }
     ensures found { OnOk result ((found : Faults) → best.old.fault ≡ least_from rank None found
-        → best.new.fault ≡ least_from rank best.old.fault (module_faults (interfaces_in program.now) (modules_in program.now) own.now.number (module_of own.now.text.now) found)) }
-    ensures meant { IfOk result (λ made. IfNone best.new.fault (module_as made ≡ module_meant (interfaces_in program.now) (modules_in program.now) own.now.number (module_of own.now.text.now))) }
+        → best.new.fault
+        ≡ least_from rank best.old.fault
+        (module_faults (interfaces_in program.now) (modules_in program.now) own.now.number
+        (module_of own.now.text.now) found)) }
+    ensures meant { IfOk result (λ made.
+        IfNone best.new.fault
+        (module_as made ≡ module_meant (interfaces_in program.now)
+        (modules_in program.now) own.now.number (module_of own.now.text.now))) }
 {
     let mut parts = 0;
     check_head(program, best, own, shared, &mut parts)?;
@@ -237,7 +273,8 @@ fn interface_number(naming: &Naming<'_>, text: &ModuleText) -> Option<u16>
 
 fn import_numbers(program: &Program<'_, '_>, own: &Own<'_, '_>) -> Result<Numbers, NoMemory>
     requires { own.now.number ≤ most_modules }
-    ensures { IfOk result (λ numbers. numbers ≡ import_numbers (modules_in program.now) own.now.number own.now.text.now.imports) }
+    ensures { IfOk result (λ numbers.
+        numbers ≡ import_numbers (modules_in program.now) own.now.number own.now.text.now.imports) }
 {
     let mut numbers = Numbers::new(program.alloc);
     for name in own.text.imports.as_slice() {
@@ -255,7 +292,8 @@ fn answer(
 ) -> Result<CheckFault, NoMemory>
     requires program { IsProgram program.now }
     requires shared { AreShares shares.now (modules_in program.now) }
-    ensures { IfOk result (λ e. e ≡ answer_of (interfaces_in program.now) (modules_in program.now) fault) }
+    ensures { IfOk result (λ e.
+        e ≡ answer_of (interfaces_in program.now) (modules_in program.now) fault) }
 {
     let place = u64::from(fault.place);
     Ok(match fault.cause {
@@ -275,7 +313,10 @@ fn answer(
 // Which module the root whose name stands at the place shares, with which other root.
 fn shared(program: &Program<'_, '_>, place: u32, shares: &[Option<Shared>]) -> CheckFault
     requires { AreShares shares.now (modules_in program.now) }
-    ensures { result ≡ shared_told place (shares_at (modules_in program.now) place 0 (take (suc most_modules) (modules_in program.now))) }
+    ensures { result
+        ≡ shared_told place
+        (shares_at (modules_in program.now) place 0
+        (take (suc most_modules) (modules_in program.now))) }
 {
     for (number, text) in program.naming.modules.iter().enumerate() {
         if text.name.at == place {
@@ -301,7 +342,10 @@ fn lacked<'s>(
     text: &ModuleText,
 ) -> Result<Option<&'s Procedure>, NoMemory>
     requires { IsProgram program.now }
-    ensures { IfOk result (λ found. option_map (λ p. p.now) found ≡ lacking (implemented_by (interfaces_in program.now) text.now.interface) (module_of text.now).procedures) }
+    ensures { IfOk result (λ found.
+        option_map (λ p. p.now) found
+        ≡ lacking (implemented_by (interfaces_in program.now) text.now.interface)
+        (module_of text.now).procedures) }
 {
     match program.order(text) {
         Some(order) => Ok(lacking(program.alloc, order, text.procedures.as_slice())?),
@@ -312,7 +356,10 @@ fn lacked<'s>(
 // What the module whose name stands at the place lacks.
 fn missing(program: &Program<'_, '_>, place: u32) -> Result<CheckFault, NoMemory>
     requires { IsProgram program.now }
-    ensures { IfOk result (λ e. e ≡ missing_at place (lacks (interfaces_in program.now) place (take (suc most_modules) (modules_in program.now)))) }
+    ensures { IfOk result (λ e.
+        e ≡ missing_at place
+        (lacks (interfaces_in program.now) place
+        (take (suc most_modules) (modules_in program.now)))) }
 {
     for (number, text) in program.naming.modules.iter().enumerate() {
         if number <= MOST_MODULES && text.name.at == place {

@@ -84,7 +84,8 @@ impl<'p, 's> Program<'p, 's> {
     // That of the module of a number.
     fn implemented(&self, number: usize) -> Option<&'p Known<'s>>
         requires { IsProgram self.now }
-        ensures { IsTableAt (interfaces_in self.now) (slice_get (modules_in self.now) number) result }
+        ensures { IsTableAt (interfaces_in self.now)
+            (slice_get (modules_in self.now) number) result }
     {
         match self.naming.modules.get(number) {
             Some(module) => self.interface(&module.interface),
@@ -95,7 +96,8 @@ impl<'p, 's> Program<'p, 's> {
     /// The procedures of the interface of a module, in order, where it is known.
     pub fn order(&self, text: &ModuleText) -> Option<&'s [Procedure]>
         requires { IsProgram self.now }
-        ensures { list_now result ≡ order_of (implemented_by (interfaces_in self.now) text.now.interface) }
+        ensures { list_now result
+            ≡ order_of (implemented_by (interfaces_in self.now) text.now.interface) }
     {
         match &text.interface {
             Some(name) => match self.named(name) {
@@ -109,7 +111,8 @@ impl<'p, 's> Program<'p, 's> {
     // That of an import of a module.
     fn imported(&self, importing: usize, name: &Named) -> Option<&'p Known<'s>>
         requires { IsProgram self.now }
-        ensures { IsImported (interfaces_in self.now) (modules_in self.now) (Some (import_of (modules_in self.now) importing name.now)) (Some result) }
+        ensures { IsImported (interfaces_in self.now) (modules_in self.now)
+            (Some (import_of (modules_in self.now) importing name.now)) (Some result) }
     {
         match self.naming.import(importing, name) {
             Import::Good(number) => self.implemented(number),
@@ -126,7 +129,9 @@ impl<'p, 's> Program<'p, 's> {
     ) -> Result<BTreeMap<&'s [u8], Option<&'p Known<'s>>>, NoMemory>
         requires { IsProgram self.now }
         ensures { IfOk result (λ imported. (name : List ℕ)
-            → IsImported (interfaces_in self.now) (modules_in self.now) (import_named (modules_in self.now) importing imports.now name) (get_by (λ k. slice_cmp nat_cmp name k.now) imported)) }
+            → IsImported (interfaces_in self.now) (modules_in self.now)
+            (import_named (modules_in self.now) importing imports.now name)
+            (get_by (λ k. slice_cmp nat_cmp name k.now) imported)) }
     {
         let mut imported = BTreeMap::new(self.alloc);
         for name in imports {
@@ -161,8 +166,12 @@ fn check_name(
     own: &Own<'_, '_>,
     shared: Option<Shared>,
 )
-    requires { option_map shared_as shared ≡ shared_at (map module_of naming.now.modules.now) own.now.number }
-    ensures { best.new.fault ≡ least_from rank best.old.fault (faults.name_faults (map module_of naming.now.modules.now) own.now.number (module_of own.now.text.now)) }
+    requires { option_map shared_as shared
+        ≡ shared_at (map module_of naming.now.modules.now) own.now.number }
+    ensures { best.new.fault
+        ≡ least_from rank best.old.fault
+        (faults.name_faults (map module_of naming.now.modules.now) own.now.number
+        (module_of own.now.text.now)) }
 {
     let name = &own.text.name;
     let first = naming.module(name).unwrap_or(own.number);
@@ -173,7 +182,9 @@ fn check_name(
 
 // The interface that a module names.
 fn check_interface(naming: &Naming<'_>, best: &mut Best<CheckCause>, name: &Option<Named>)
-    ensures { best.new.fault ≡ least_from rank best.old.fault (faults.interface_faults naming.now.interfaces.now name.now) }
+    ensures { best.new.fault
+        ≡ least_from rank best.old.fault
+        (faults.interface_faults naming.now.interfaces.now name.now) }
 {
     if let Some(name) = name {
         let known = naming.interface(name);
@@ -182,7 +193,9 @@ fn check_interface(naming: &Naming<'_>, best: &mut Best<CheckCause>, name: &Opti
 }
 
 fn check_imports(naming: &Naming<'_>, best: &mut Best<CheckCause>, number: usize, names: &[Named])
-    ensures { best.new.fault ≡ least_from rank best.old.fault (faults.imports_faults (map module_of naming.now.modules.now) number names.now) }
+    ensures { best.new.fault
+        ≡ least_from rank best.old.fault
+        (faults.imports_faults (map module_of naming.now.modules.now) number names.now) }
 {
     for name in names {
         match naming.import(number, name) {
@@ -198,7 +211,9 @@ fn procedure_names<'a>(
     alloc: Global,
     procedures: &'a [ProcedureText],
 ) -> Result<Names<'a>, NoMemory>
-    ensures { IfOk result (λ names. (name : List ℕ) → holds_name names name ≡ faults.has_procedure (map procedure_of procedures.now) name) }
+    ensures { IfOk result (λ names.
+        (name : List ℕ) → holds_name names name
+        ≡ faults.has_procedure (map procedure_of procedures.now) name) }
 {
     let mut names = Names::new(alloc);
     for procedure in procedures {
@@ -213,7 +228,9 @@ pub fn lacking<'p>(
     order: &'p [Procedure],
     procedures: &[ProcedureText],
 ) -> Result<Option<&'p Procedure>, NoMemory>
-    ensures { IfOk result (λ found. option_map (λ p. p.now) found ≡ faults.lacking_of order.now (map procedure_of procedures.now)) }
+    ensures { IfOk result (λ found.
+        option_map (λ p. p.now) found
+        ≡ faults.lacking_of order.now (map procedure_of procedures.now)) }
 {
     let names = procedure_names(alloc, procedures)?;
     for procedure in order {
@@ -226,7 +243,9 @@ pub fn lacking<'p>(
 
 /// Adds the names of fields to those that stand before.
 pub fn also_fields<'a>(names: &mut Names<'a>, fields: &'a Fields) -> Result<(), NoMemory>
-    ensures { OnOk result (holds_name names.new ≡ faults.also_fields (field_trees fields.now) (holds_name names.old)) }
+    ensures { OnOk result
+        (holds_name names.new
+        ≡ faults.also_fields (field_trees fields.now) (holds_name names.old)) }
 {
     for field in fields.as_slice() {
         also(names, &field.name)?;
@@ -253,7 +272,9 @@ fn check_missing(
     best: &mut Best<CheckCause>,
     own: &Own<'_, '_>,
 ) -> Result<(), NoMemory>
-    ensures { OnOk result (best.new.fault ≡ least_from rank best.old.fault (missing_among (list_now own.now.order) (module_of own.now.text.now))) }
+    ensures { OnOk result
+        (best.new.fault ≡ least_from rank best.old.fault
+        (missing_among (list_now own.now.order) (module_of own.now.text.now))) }
 {
     if let Some(order) = own.order {
         let missing = lacking(alloc, order, own.text.procedures.as_slice())?;
@@ -273,9 +294,18 @@ fn check_state<'p, 's>(
     requires own { IsOwn program.now own.now }
     requires first { parts.old ≡ 0 }
     ensures found { OnOk result (best.new.fault ≡ least_from rank best.old.fault
-        (faults.variables_faults written_out (unknown_in own.now.types) (form_in own.now.types) 0 (faults.parameters_of (implemented_by (interfaces_in program.now) own.now.text.now.interface)) (map variable_of own.now.text.now.variables)
-        ++ faults.state_faults (unknown_in own.now.types) (form_in own.now.types) (faults.parameters_of (implemented_by (interfaces_in program.now) own.now.text.now.interface)) (module_of own.now.text.now))) }
-    ensures counted { OnOk result (parts.new ≡ min (faults.variables_parts written_out (form_in own.now.types) 0 (map variable_of own.now.text.now.variables)) (1 + most_parts)) }
+        (faults.variables_faults written_out (unknown_in own.now.types) (form_in own.now.types) 0
+        (faults.parameters_of
+        (implemented_by (interfaces_in program.now) own.now.text.now.interface))
+        (map variable_of own.now.text.now.variables)
+        ++ faults.state_faults (unknown_in own.now.types) (form_in own.now.types)
+        (faults.parameters_of
+        (implemented_by (interfaces_in program.now) own.now.text.now.interface))
+        (module_of own.now.text.now))) }
+    ensures counted { OnOk result
+        (parts.new ≡ min
+        (faults.variables_parts written_out (form_in own.now.types) 0
+        (map variable_of own.now.text.now.variables)) (1 + most_parts)) }
 {
     let alloc = program.alloc;
     let list = own.text.variables.as_slice();
@@ -295,11 +325,16 @@ pub fn check_head<'p, 's>(
 ) -> Result<(), NoMemory>
     requires program { IsProgram program.now }
     requires own { IsOwn program.now own.now }
-    requires shared { option_map shared_as shared ≡ shared_at (modules_in program.now) own.now.number }
+    requires shared { option_map shared_as shared
+        ≡ shared_at (modules_in program.now) own.now.number }
     requires first { parts.old ≡ 0 }
     ensures found { OnOk result (best.new.fault ≡ least_from rank best.old.fault
-        (faults.head_faults (interfaces_in program.now) (modules_in program.now) own.now.number (module_of own.now.text.now))) }
-    ensures counted { OnOk result (parts.new ≡ min (faults.variables_parts written_out (form_in own.now.types) 0 (map variable_of own.now.text.now.variables)) (1 + most_parts)) }
+        (faults.head_faults (interfaces_in program.now) (modules_in program.now) own.now.number
+        (module_of own.now.text.now))) }
+    ensures counted { OnOk result
+        (parts.new ≡ min
+        (faults.variables_parts written_out (form_in own.now.types) 0
+        (map variable_of own.now.text.now.variables)) (1 + most_parts)) }
 {
     let naming = program.naming;
     check_name(naming, best, own, shared);

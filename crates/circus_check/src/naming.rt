@@ -70,7 +70,8 @@ impl<'s> Naming<'s> {
 
     /// What the name of an import stands for where the module of this number imports it.
     pub fn import(&self, importing: usize, name: &Named) -> Import
-        ensures { import_as result ≡ import_of (map module_of self.now.modules.now) importing name.now }
+        ensures { import_as result
+            ≡ import_of (map module_of self.now.modules.now) importing name.now }
     {
         let Some(number) = self.module(name) else {
             return Import::NoModule;
@@ -98,7 +99,8 @@ pub fn first_place<'a>(names: &mut Names<'a>, name: &'a Name, place: usize) -> R
 }
 
 fn module_numbers(alloc: Global, modules: &[ModuleText]) -> Result<Names<'_>, NoMemory>
-    ensures { IfOk result (λ numbers. (name : List ℕ) → known_of numbers name ≡ module_named (map module_of modules.now) name) }
+    ensures { IfOk result (λ numbers.
+        (name : List ℕ) → known_of numbers name ≡ module_named (map module_of modules.now) name) }
 {
     let mut numbers = Names::new(alloc);
     for (number, module) in modules.iter().enumerate() {
@@ -108,7 +110,8 @@ fn module_numbers(alloc: Global, modules: &[ModuleText]) -> Result<Names<'_>, No
 }
 
 fn interface_numbers(alloc: Global, interfaces: &[Interface]) -> Result<Names<'_>, NoMemory>
-    ensures { IfOk result (λ numbers. (name : List ℕ) → known_of numbers name ≡ interface_named interfaces.now name) }
+    ensures { IfOk result (λ numbers.
+        (name : List ℕ) → known_of numbers name ≡ interface_named interfaces.now name) }
 {
     let mut numbers = Names::new(alloc);
     for (number, interface) in interfaces.iter().enumerate() {

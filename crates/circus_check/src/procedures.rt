@@ -48,7 +48,8 @@ struct SoFar<'a> {
 
 // The names of the state.
 fn state_names<'a>(alloc: Global, state: &'a [VariableText]) -> Result<Names<'a>, NoMemory>
-    ensures { IfOk result (λ names. holds_name names ≡ faults.also_variables (map variable_of state.now) no_name) }
+    ensures { IfOk result (λ names.
+        holds_name names ≡ faults.also_variables (map variable_of state.now) no_name) }
 {
     let mut names = Names::new(alloc);
     for variable in state {
@@ -59,7 +60,9 @@ fn state_names<'a>(alloc: Global, state: &'a [VariableText]) -> Result<Names<'a>
 
 // The names of the arguments.
 fn argument_names<'a>(alloc: Global, offered: Option<&Offered<'a>>) -> Result<Names<'a>, NoMemory>
-    ensures { IfOk result (λ names. holds_name names ≡ faults.also_fields (faults.arguments_of (known_offer offered.entry)) no_name) }
+    ensures { IfOk result (λ names.
+        holds_name names
+        ≡ faults.also_fields (faults.arguments_of (known_offer offered.entry)) no_name) }
 {
     let mut names = Names::new(alloc);
     if let Some(offered) = offered {
@@ -76,7 +79,9 @@ fn offered<'p, 's>(
 ) -> Option<&'p Offered<'s>>
     requires program { IsProgram program.now }
     requires own { IsOwn program.now own.now }
-    ensures { known_offer result ≡ offered_here (implemented_by (interfaces_in program.now) own.now.text.now.interface) name.now }
+    ensures { known_offer result
+        ≡ offered_here (implemented_by (interfaces_in program.now) own.now.text.now.interface)
+        name.now }
 {
     match own.order {
         None => Some(program.main),
@@ -98,14 +103,26 @@ fn head<'p, 's>(
 ) -> Result<Option<&'p Offered<'s>>, NoMemory>
     requires program { IsProgram program.now }
     requires own { IsOwn program.now own.now }
-    requires state { holds_name so_far.old.state ≡ faults.also_variables (map variable_of own.now.text.now.variables) no_name }
+    requires state { holds_name so_far.old.state
+        ≡ faults.also_variables (map variable_of own.now.text.now.variables) no_name }
     ensures found { OnOk result ((before : ℕ) → parts.old ≡ min before (1 + most_parts)
-        → best.new.fault ≡ least_from rank best.old.fault (faults.procedure_faults (interfaces_in program.now) (modules_in program.now) own.now.number (module_of own.now.text.now) before (holds_name so_far.old.procedures) (procedure_of procedure.now))) }
+        → best.new.fault
+        ≡ least_from rank best.old.fault
+        (faults.procedure_faults (interfaces_in program.now) (modules_in program.now) own.now.number
+        (module_of own.now.text.now) before (holds_name so_far.old.procedures)
+        (procedure_of procedure.now))) }
     ensures counted { OnOk result ((before : ℕ) → parts.old ≡ min before (1 + most_parts)
-        → parts.new ≡ min (faults.variables_parts written_out (form_in own.now.types) before (map variable_of procedure.now.variables)) (1 + most_parts)) }
-    ensures added { OnOk result (holds_name so_far.new.procedures ≡ also_name procedure.now.name.name (holds_name so_far.old.procedures)) }
+        → parts.new ≡ min
+        (faults.variables_parts written_out (form_in own.now.types) before
+        (map variable_of procedure.now.variables)) (1 + most_parts)) }
+    ensures added { OnOk result
+        (holds_name so_far.new.procedures
+        ≡ also_name procedure.now.name.name (holds_name so_far.old.procedures)) }
     ensures same { OnOk result (so_far.new.state ≡ so_far.old.state) }
-    ensures offered { IfOk result (λ offers. known_offer offers ≡ offered_here (implemented_by (interfaces_in program.now) own.now.text.now.interface) procedure.now.name.name) }
+    ensures offered { IfOk result (λ offers.
+        known_offer offers
+        ≡ offered_here (implemented_by (interfaces_in program.now) own.now.text.now.interface)
+        procedure.now.name.name) }
 {
     let alloc = program.alloc;
     let name = &procedure.name;
@@ -140,8 +157,13 @@ fn statements<'s>(
     locals: &Fields,
     procedure: &ProcedureText,
 ) -> Result<CheckedStatements, NoMemory>
-    ensures found { OnOk result (best.new.fault ≡ least_from rank best.old.fault (all_faults (context_around around.now own.now (field_trees locals.now)) (statement_trees procedure.now.statements))) }
-    ensures meant { IfOk result (λ made. made ≡ all_do (context_around around.now own.now (field_trees locals.now)) (statement_trees procedure.now.statements)) }
+    ensures found { OnOk result
+        (best.new.fault ≡ least_from rank best.old.fault
+        (all_faults (context_around around.now own.now (field_trees locals.now))
+        (statement_trees procedure.now.statements))) }
+    ensures meant { IfOk result (λ made.
+        made ≡ all_do (context_around around.now own.now (field_trees locals.now))
+        (statement_trees procedure.now.statements)) }
 {
     let scope = around.scope(alloc, own.arguments, locals)?;
     resolved(alloc, best, &scope, &around.callees, own, procedure)
@@ -156,8 +178,13 @@ fn resolved<'c, 'm, 's>(
     own: &'c Offered<'s>,
     procedure: &ProcedureText,
 ) -> Result<CheckedStatements, NoMemory>
-    ensures found { OnOk result (best.new.fault ≡ least_from rank best.old.fault (all_faults (context_with scope.now imported.now own.now) (statement_trees procedure.now.statements))) }
-    ensures meant { IfOk result (λ made. made ≡ all_do (context_with scope.now imported.now own.now) (statement_trees procedure.now.statements)) }
+    ensures found { OnOk result
+        (best.new.fault ≡ least_from rank best.old.fault
+        (all_faults (context_with scope.now imported.now own.now)
+        (statement_trees procedure.now.statements))) }
+    ensures meant { IfOk result (λ made.
+        made ≡ all_do (context_with scope.now imported.now own.now)
+        (statement_trees procedure.now.statements)) }
 {
     let context = Context {
         scope,
@@ -183,10 +210,24 @@ fn body<'s>(
     text: &ProcedureText,
 ) -> Result<Option<CheckedBody>, NoMemory>
     requires own { IsOwn program.now own.now }
-    requires around { IfNone best.old.fault (IsAround program.now own.now (field_trees (faults.fields_of (form_in own.now.types) (module_of own.now.text.now).variables)) around.now) }
-    requires offers { Some (offered_as offers.now) ≡ faults.offered (interfaces_in program.now) (modules_in program.now) own.now.number (module_of own.now.text.now) (procedure_of text.now) }
-    ensures found { OnOk result (best.new.fault ≡ least_from rank best.old.fault (unless_kept best.old.fault (faults.body_faults (interfaces_in program.now) (modules_in program.now) own.now.number (module_of own.now.text.now) (procedure_of text.now)))) }
-    ensures meant { IfOk result (λ body. IfNone best.new.fault (option_map body_as body ≡ Some (meaning.body_meant (interfaces_in program.now) (modules_in program.now) own.now.number (module_of own.now.text.now) (procedure_of text.now)))) }
+    requires around { IfNone best.old.fault
+        (IsAround program.now own.now
+        (field_trees (faults.fields_of (form_in own.now.types)
+        (module_of own.now.text.now).variables)) around.now) }
+    requires offers { Some (offered_as offers.now)
+        ≡ faults.offered (interfaces_in program.now) (modules_in program.now) own.now.number
+        (module_of own.now.text.now) (procedure_of text.now) }
+    ensures found { OnOk result
+        (best.new.fault ≡ least_from rank best.old.fault
+        (unless_kept best.old.fault
+        (faults.body_faults (interfaces_in program.now) (modules_in program.now) own.now.number
+        (module_of own.now.text.now) (procedure_of text.now)))) }
+    ensures meant { IfOk result (λ body.
+        IfNone best.new.fault
+        (option_map body_as body
+        ≡ Some (meaning.body_meant (interfaces_in program.now)
+        (modules_in program.now) own.now.number (module_of own.now.text.now)
+        (procedure_of text.now)))) }
 {
     if best.fault.is_some() {
         return Ok(None);
@@ -211,16 +252,35 @@ fn procedure<'p, 's>(
 ) -> Result<Option<CheckedBody>, NoMemory>
     requires program { IsProgram program.now }
     requires own { IsOwn program.now own.now }
-    requires names { holds_name so_far.old.state ≡ faults.also_variables (map variable_of own.now.text.now.variables) no_name }
-    requires around { IfNone best.old.fault (IsAround program.now own.now (field_trees (faults.fields_of (form_in own.now.types) (module_of own.now.text.now).variables)) around.now) }
+    requires names { holds_name so_far.old.state
+        ≡ faults.also_variables (map variable_of own.now.text.now.variables) no_name }
+    requires around { IfNone best.old.fault
+        (IsAround program.now own.now
+        (field_trees (faults.fields_of (form_in own.now.types)
+        (module_of own.now.text.now).variables)) around.now) }
     requires small { parts.old ≤ 1 + most_parts }
-    ensures found { OnOk result ((found : Faults) (before : ℕ) → best.old.fault ≡ least_from rank None found → parts.old ≡ min before (1 + most_parts)
-        → best.new.fault ≡ least_from rank best.old.fault (faults.whole_procedure (interfaces_in program.now) (modules_in program.now) own.now.number (module_of own.now.text.now) found before (holds_name so_far.old.procedures) (procedure_of text.now))) }
+    ensures found { OnOk result
+        ((found : Faults) (before : ℕ) → best.old.fault ≡ least_from rank None found
+        → parts.old ≡ min before (1 + most_parts)
+        → best.new.fault
+        ≡ least_from rank best.old.fault
+        (faults.whole_procedure (interfaces_in program.now) (modules_in program.now) own.now.number
+        (module_of own.now.text.now) found before (holds_name so_far.old.procedures)
+        (procedure_of text.now))) }
     ensures counted { OnOk result ((before : ℕ) → parts.old ≡ min before (1 + most_parts)
-        → parts.new ≡ min (faults.variables_parts written_out (form_in own.now.types) before (map variable_of text.now.variables)) (1 + most_parts)) }
-    ensures added { OnOk result (holds_name so_far.new.procedures ≡ also_name text.now.name.name (holds_name so_far.old.procedures)) }
+        → parts.new ≡ min
+        (faults.variables_parts written_out (form_in own.now.types) before
+        (map variable_of text.now.variables)) (1 + most_parts)) }
+    ensures added { OnOk result
+        (holds_name so_far.new.procedures
+        ≡ also_name text.now.name.name (holds_name so_far.old.procedures)) }
     ensures same { OnOk result (so_far.new.state ≡ so_far.old.state) }
-    ensures meant { IfOk result (λ body. IfNone best.new.fault (option_map body_as body ≡ Some (meaning.body_meant (interfaces_in program.now) (modules_in program.now) own.now.number (module_of own.now.text.now) (procedure_of text.now)))) }
+    ensures meant { IfOk result (λ body.
+        IfNone best.new.fault
+        (option_map body_as body
+        ≡ Some (meaning.body_meant (interfaces_in program.now)
+        (modules_in program.now) own.now.number (module_of own.now.text.now)
+        (procedure_of text.now)))) }
 {
     let offers = head(program, best, own, parts, so_far, text)?;
     match offers {
@@ -231,7 +291,8 @@ fn procedure<'p, 's>(
 
 // The place of a procedure among those of its interface; without one it is where the procedure is written.
 fn place_in(own: &Own<'_, '_>, places: &Names<'_>, text: &ProcedureText, written: usize) -> usize
-    requires { (name : List ℕ) → known_of places.now name ≡ place_named (list_now own.now.order) name }
+    requires { (name : List ℕ)
+        → known_of places.now name ≡ place_named (list_now own.now.order) name }
     ensures { result ≡ place_for (list_now own.now.order) text.now.name.name written }
 {
     match own.order {
@@ -242,7 +303,8 @@ fn place_in(own: &Own<'_, '_>, places: &Names<'_>, text: &ProcedureText, written
 
 // The first place of each name among the procedures of an interface.
 fn places<'a>(alloc: Global, order: Option<&'a [Procedure]>) -> Result<Names<'a>, NoMemory>
-    ensures { IfOk result (λ places. (name : List ℕ) → known_of places name ≡ place_named (list_now order.entry) name) }
+    ensures { IfOk result (λ places.
+        (name : List ℕ) → known_of places name ≡ place_named (list_now order.entry) name) }
 {
     let mut places = Names::new(alloc);
     if let Some(procedures) = order {
@@ -294,12 +356,21 @@ pub fn check_procedures<'p, 's>(
 ) -> Result<CheckedBodies, NoMemory>
     requires program { IsProgram program.now }
     requires own { IsOwn program.now own.now }
-    requires state { IfNone best.old.fault (state.now ≡ faults.fields_of (form_in own.now.types) (module_of own.now.text.now).variables) }
+    requires state { IfNone best.old.fault
+        (state.now ≡ faults.fields_of (form_in own.now.types)
+        (module_of own.now.text.now).variables) }
     requires small { parts.old ≤ 1 + most_parts }
-    ensures found { OnOk result ((found : Faults) (so_far : ℕ) → best.old.fault ≡ least_from rank None found → parts.old ≡ min so_far (1 + most_parts)
-        → best.new.fault ≡ least_from rank best.old.fault (faults.procedures_faults (interfaces_in program.now) (modules_in program.now) own.now.number (module_of own.now.text.now) found so_far no_name (module_of own.now.text.now).procedures)) }
+    ensures found { OnOk result
+        ((found : Faults) (so_far : ℕ) → best.old.fault ≡ least_from rank None found
+        → parts.old ≡ min so_far (1 + most_parts)
+        → best.new.fault
+        ≡ least_from rank best.old.fault
+        (faults.procedures_faults (interfaces_in program.now)
+        (modules_in program.now) own.now.number (module_of own.now.text.now) found so_far no_name
+        (module_of own.now.text.now).procedures)) }
     ensures meant { IfOk result (λ bodies. IfNone best.new.fault (map body_as bodies
-        ≡ (meaning.module_meant (interfaces_in program.now) (modules_in program.now) own.now.number (module_of own.now.text.now)).bodies)) }
+        ≡ (meaning.module_meant (interfaces_in program.now) (modules_in program.now) own.now.number
+        (module_of own.now.text.now)).bodies)) }
 {
     let alloc = program.alloc;
     let places = places(alloc, own.order)?;

@@ -32,7 +32,8 @@ fn good_imports(
     importing: usize,
     imports: &[Named],
 ) -> Result<ListOf<usize>, NoMemory>
-    ensures { IfOk result (λ numbers. numbers ≡ import_numbers (map module_of naming.now.modules.now) importing imports.now) }
+    ensures { IfOk result (λ numbers.
+        numbers ≡ import_numbers (map module_of naming.now.modules.now) importing imports.now) }
 {
     let mut numbers = ListOf::new(alloc);
     for name in imports {
@@ -91,7 +92,8 @@ impl Reach {
         imports: &[Named],
     ) -> Result<(), NoMemory>
         requires told { Tells self.old (map module_of naming.now.modules.now) }
-        requires its { imports.now ≡ imports_of (slice_get (map module_of naming.now.modules.now) (length self.old.rows)) }
+        requires its { imports.now
+            ≡ imports_of (slice_get (map module_of naming.now.modules.now) (length self.old.rows)) }
         ensures told { OnOk result (Tells self.new (map module_of naming.now.modules.now)) }
         ensures more { OnOk result (length self.new.rows ≡ length self.old.rows + 1) }
     {
@@ -103,7 +105,10 @@ impl Reach {
 
     // What a module reaches that has these good imports.
     fn row(&self, alloc: Global, number: usize, goods: &[usize]) -> Result<ListOf<bool>, NoMemory>
-        ensures { IfOk result (λ row. (to : ℕ) → row_says (Some row) to ≡ ((number == to) || (nat_lt to number && list_any (λ k. says self.now k to) goods.now))) }
+        ensures { IfOk result (λ row.
+            (to : ℕ) → row_says (Some row) to
+            ≡ ((number == to) ||
+            (nat_lt to number && list_any (λ k. says self.now k to) goods.now))) }
     {
         let mut row = ListOf::new(alloc);
         for to in 0..number {
@@ -135,7 +140,8 @@ impl Reach {
     pub fn shared(&self, naming: &Naming<'_>, second: usize) -> Option<Shared>
         requires told { Tells self.now (map module_of naming.now.modules.now) }
         requires there { (second < length self.now.rows) × (length self.now.rows ≤ 64) }
-        ensures { option_map shared_as result ≡ shared_at (map module_of naming.now.modules.now) second }
+        ensures { option_map shared_as result
+            ≡ shared_at (map module_of naming.now.modules.now) second }
     {
         if !is_root(naming, second) {
             return None;

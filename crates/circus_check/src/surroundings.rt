@@ -40,8 +40,11 @@ fn put<'v>(
     behind: u16,
     fields: &'v Fields,
 ) -> Result<u16, NoMemory>
-    ensures added { OnOk result (variable_in variables.new ≡ variables_behind behind (field_trees fields.now) (variable_in variables.old)) }
-    ensures places { IfOk result (λ place. place ≡ min (places_behind behind (field_trees fields.now)) 65535) }
+    ensures added { OnOk result
+        (variable_in variables.new
+        ≡ variables_behind behind (field_trees fields.now) (variable_in variables.old)) }
+    ensures places { IfOk result (λ place.
+        place ≡ min (places_behind behind (field_trees fields.now)) 65535) }
 {
     let mut place = behind;
     for field in fields.as_slice() {
@@ -81,7 +84,8 @@ fn imported_types<'m, 's>(
     own: &'m Own<'_, 's>,
 ) -> Result<BTreeMap<&'m [u8], Option<&'m Types<'s>>>, NoMemory>
     requires { IsOwn program.now own.now }
-    ensures { IfOk result (λ types. (name : List ℕ) → types_in types name ≡ types_had own.now name) }
+    ensures { IfOk result (λ types.
+        (name : List ℕ) → types_in types name ≡ types_had own.now name) }
 {
     let mut imported = BTreeMap::new(program.alloc);
     for name in own.text.imports.as_slice() {
@@ -94,7 +98,8 @@ fn imported_types<'m, 's>(
 // The number of an import, or 0 where it isn't a good one.
 fn import_number(naming: &Naming<'_>, importing: usize, name: &Named) -> u16
     requires { importing ≤ most_modules }
-    ensures { result ≡ number_or (import_of (map module_of naming.now.modules.now) importing name.now) }
+    ensures { result
+        ≡ number_or (import_of (map module_of naming.now.modules.now) importing name.now) }
 {
     match naming.import(importing, name) {
         Import::Good(number) => number as u16,
@@ -106,8 +111,12 @@ fn import_number(naming: &Naming<'_>, importing: usize, name: &Named) -> u16
 // The module of an import, as statements call it.
 fn callee<'m, 's>(program: &Program<'_, 's>, own: &'m Own<'_, 's>, name: &Named) -> Callee<'m, 's>
     requires few { own.now.number ≤ most_modules }
-    requires imported { IsImported (interfaces_in program.now) (modules_in program.now) (Some (import_of (modules_in program.now) own.now.number name.now)) (interface_in own.now.types (Some name.now.name)) }
-    ensures { called_or (Some result) ≡ called_by (interfaces_in program.now) (modules_in program.now) (Some (import_of (modules_in program.now) own.now.number name.now)) }
+    requires imported { IsImported (interfaces_in program.now) (modules_in program.now)
+        (Some (import_of (modules_in program.now) own.now.number name.now))
+        (interface_in own.now.types (Some name.now.name)) }
+    ensures { called_or (Some result)
+        ≡ called_by (interfaces_in program.now) (modules_in program.now)
+        (Some (import_of (modules_in program.now) own.now.number name.now)) }
 {
     Callee {
         number: import_number(program.naming, own.number, name),
@@ -121,8 +130,10 @@ fn callees<'m, 's>(
     own: &'m Own<'_, 's>,
 ) -> Result<BTreeMap<&'m [u8], Callee<'m, 's>>, NoMemory>
     requires { IsOwn program.now own.now }
-    ensures { IfOk result (λ callees. (name : List ℕ) → called_or (get_by (λ k. slice_cmp nat_cmp name k.now) callees)
-        ≡ called_by (interfaces_in program.now) (modules_in program.now) (import_named (modules_in program.now) own.now.number own.now.text.now.imports name)) }
+    ensures { IfOk result (λ callees.
+        (name : List ℕ) → called_or (get_by (λ k. slice_cmp nat_cmp name k.now) callees)
+        ≡ called_by (interfaces_in program.now) (modules_in program.now)
+        (import_named (modules_in program.now) own.now.number own.now.text.now.imports name)) }
 {
     let mut callees = BTreeMap::new(program.alloc);
     for name in own.text.imports.as_slice() {

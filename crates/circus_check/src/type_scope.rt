@@ -43,7 +43,9 @@ impl<'p, 's> TypeScope<'p, 's> {
 
     // The shape that a name stands for.
     fn found(&self, name: &TypeName) -> Option<&'s Shape>
-        ensures { shape_as result ≡ shape_among name.now.name.name (known_in (interface_in self.now (module_name name.now))) }
+        ensures { shape_as result
+            ≡ shape_among name.now.name.name
+            (known_in (interface_in self.now (module_name name.now))) }
     {
         match self.interface(name) {
             Some(known) => known.types.table.get(name.name.name.as_slice()).copied(),

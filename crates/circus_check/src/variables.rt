@@ -37,8 +37,11 @@ fn meet<'a>(
     names: &mut Names<'a>,
     name: &'a Named,
 ) -> Result<(), NoMemory>
-    ensures found { OnOk result (best.new.fault ≡ least_from rank best.old.fault (repeated_name of_type (either (holds_name outer.now) (holds_name names.old)) name.now)) }
-    ensures added { OnOk result (holds_name names.new ≡ also_name name.now.name (holds_name names.old)) }
+    ensures found { OnOk result
+        (best.new.fault ≡ least_from rank best.old.fault
+        (repeated_name of_type (either (holds_name outer.now) (holds_name names.old)) name.now)) }
+    ensures added { OnOk result
+        (holds_name names.new ≡ also_name name.now.name (holds_name names.old)) }
 {
     let outside = outer.get(name.name.as_slice()).is_some();
     let earlier = names.insert(name.name.as_slice(), 0)?;
@@ -56,9 +59,15 @@ pub fn variables<'a>(
     parts: &mut u32,
     list: &'a [VariableText],
 ) -> Result<(), NoMemory>
-    ensures found { OnOk result (best.new.fault ≡ least_from rank best.old.fault (variables_faults cut_off (unknown_in scope.now) (size_in scope.now) parts.old (either (holds_name outer.now) (holds_name names.old)) (map variable_of list.now))) }
-    ensures counted { OnOk result (parts.new ≡ variables_parts cut_off (size_in scope.now) parts.old (map variable_of list.now)) }
-    ensures names { OnOk result (holds_name names.new ≡ also_variables (map variable_of list.now) (holds_name names.old)) }
+    ensures found { OnOk result
+        (best.new.fault ≡ least_from rank best.old.fault
+        (variables_faults cut_off (unknown_in scope.now) (size_in scope.now) parts.old
+        (either (holds_name outer.now) (holds_name names.old)) (map variable_of list.now))) }
+    ensures counted { OnOk result
+        (parts.new ≡ variables_parts cut_off (size_in scope.now) parts.old
+        (map variable_of list.now)) }
+    ensures names { OnOk result
+        (holds_name names.new ≡ also_variables (map variable_of list.now) (holds_name names.old)) }
 {
     for variable in list {
         meet(best, outer, names, &variable.name)?;
@@ -74,7 +83,9 @@ fn are_plain(
     outer: &Names<'_>,
     list: &[VariableText],
 ) -> Result<bool, NoMemory>
-    ensures { IfOk result (λ plain. plain ≡ is_clean (plain_faults (unknown_in scope.now) (holds_name outer.now) (map variable_of list.now))) }
+    ensures { IfOk result (λ plain.
+        plain ≡ is_clean
+        (plain_faults (unknown_in scope.now) (holds_name outer.now) (map variable_of list.now))) }
 {
     let mut own: Best<CheckCause> = Best { fault: None };
     let mut names = Names::new(alloc);
@@ -88,7 +99,9 @@ fn are_plain(
 // The bytes of the zero values of variables together, with a number that stops above the limit.
 fn zero_bytes(scope: &TypeScope<'_, '_>, list: &[VariableText]) -> u32
     requires { AreSized scope.now }
-    ensures { result ≡ min (zero_size_of (fields_of (form_in scope.now) (map variable_of list.now))) (1 + most_zero_bytes) }
+    ensures { result
+        ≡ min (zero_size_of (fields_of (form_in scope.now) (map variable_of list.now)))
+        (1 + most_zero_bytes) }
 {
     let mut bytes: u32 = 0;
     for variable in list {
@@ -109,7 +122,11 @@ pub fn state_size(
 ) -> Result<(), NoMemory>
     requires { AreSized scope.now }
     ensures { OnOk result (best.new.fault ≡ least_from rank best.old.fault
-        (faults_if (is_clean (plain_faults (unknown_in scope.now) (holds_name outer.now) (map variable_of list.now)) && nat_lt most_zero_bytes (zero_size_of (fields_of (form_in scope.now) (map variable_of list.now)))) name.now.at TooLarge)) }
+        (faults_if (is_clean
+        (plain_faults (unknown_in scope.now) (holds_name outer.now) (map variable_of list.now)) &&
+        nat_lt most_zero_bytes
+        (zero_size_of (fields_of (form_in scope.now) (map variable_of list.now)))) name.now.at
+        TooLarge)) }
 {
     let plain = are_plain(alloc, scope, outer, list)?;
     let large = zero_bytes(scope, list) > MOST_ZERO_BYTES;
@@ -123,7 +140,8 @@ pub fn fields(
     scope: &TypeScope<'_, '_>,
     list: &[VariableText],
 ) -> Result<Fields, NoMemory>
-    ensures { IfOk result (λ fields. fields ≡ fields_of (form_in scope.now) (map variable_of list.now)) }
+    ensures { IfOk result (λ fields.
+        fields ≡ fields_of (form_in scope.now) (map variable_of list.now)) }
 {
     let mut fields = Fields::new(alloc);
     for variable in list {

@@ -68,7 +68,8 @@ impl Expected<'_> {
     }
 
     fn is_at(&self, entry: &Entry, node: u16) -> bool
-        ensures { result ≡ (expecting.performs entry.now.since self.now.index && (entry.now.node == node)) }
+        ensures { result
+            ≡ (expecting.performs entry.now.since self.now.index && (entry.now.node == node)) }
     {
         self.expects(entry) && entry.node == node
     }

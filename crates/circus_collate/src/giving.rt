@@ -194,7 +194,9 @@ pub(crate) fn all_have_said<V>(said: &[Said<V>], down: &Nodes, expected: &Expect
 
 // Whether a member isn't expected, is down, or has said something.
 fn is_done<V>(said: &[Said<V>], down: &Nodes, expected: &Expected<'_>, entry: &Entry) -> bool
-    ensures { result ≡ (not (performs entry.now.since expected.now.index) || (is_among down.now entry.now.node || list_any (giving.is_from entry.now.node) said.now)) }
+    ensures { result
+        ≡ (not (performs entry.now.since expected.now.index) ||
+        (is_among down.now entry.now.node || list_any (giving.is_from entry.now.node) said.now)) }
 {
     !expected.expects(entry) || is_among(down.as_slice(), entry.node) || has_said(said, entry.node)
 }

@@ -9,7 +9,8 @@ ghost use Rattle.circus_collate.specs.declared.collating.Collated.TheVariants as
 
 /// A value that a collator gives is one that was said (docs/PROTOCOL.md, "Collators").
 pub fn given_values_were_said<V: Eq>()
-    ensures { (expected : V → List ℕ) (said : List (Arrival V)) (collator : Collator) (down : List ℕ) (place : ℕ)
+    ensures { (expected : V → List ℕ) (said : List (Arrival V)) (collator : Collator)
+        (down : List ℕ) (place : ℕ)
         → giving.given V.eq expected said collator down ≡ Some place → place < length said }
 {}
 
@@ -17,24 +18,31 @@ pub fn given_values_were_said<V: Eq>()
 /// it, or so many of them, said it first. The one that is given is the first that counts of its value. Who is expected
 /// may depend on the value, where equal values are expected of the same nodes.
 pub fn values_are_given_by_votes<V: Eq>()
-    ensures majority { (expected : V → List ℕ) (said : List (Arrival V)) (place : ℕ) → giving.majority V.eq expected said ≡ Some place
-        → (s : Arrival V) × (slice_get said place ≡ Some s) × (giving.counts expected said place ≡ true)
+    ensures majority { (expected : V → List ℕ) (said : List (Arrival V)) (place : ℕ)
+        → giving.majority V.eq expected said ≡ Some place
+        → (s : Arrival V) × (slice_get said place ≡ Some s)
+        × (giving.counts expected said place ≡ true)
         × (length (expected s.value) < 2 * giving.votes V.eq said (expected s.value) s.value) }
-    ensures number { (expected : V → List ℕ) (said : List (Arrival V)) (number place : ℕ) → giving.IsOfEquals V.eq expected
+    ensures number { (expected : V → List ℕ) (said : List (Arrival V)) (number place : ℕ)
+        → giving.IsOfEquals V.eq expected
         → giving.at_least V.eq expected said number ≡ Some place
-        → (s : Arrival V) × (slice_get said place ≡ Some s) × (giving.counts expected said place ≡ true)
+        → (s : Arrival V) × (slice_get said place ≡ Some s)
+        × (giving.counts expected said place ≡ true)
         × (number ≤ giving.votes V.eq said (expected s.value) s.value) }
 
     // A value that has the votes is not passed over.
-    ensures some_majority { (expected : V → List ℕ) (said : List (Arrival V)) (value : V) → giving.IsOfEquals V.eq expected
+    ensures some_majority { (expected : V → List ℕ) (said : List (Arrival V)) (value : V)
+        → giving.IsOfEquals V.eq expected
         → length (expected value) < 2 * giving.votes V.eq said (expected value) value
         → IsSome (giving.majority V.eq expected said) }
     ensures some_number { (expected : V → List ℕ) (said : List (Arrival V)) (number : ℕ) (value : V)
         → giving.IsOfEquals V.eq expected → 1 ≤ number
-        → number ≤ giving.votes V.eq said (expected value) value → IsSome (giving.at_least V.eq expected said number) }
+        → number ≤ giving.votes V.eq said (expected value) value
+        → IsSome (giving.at_least V.eq expected said number) }
 
     // Of two values that were said so often, the one that came to it first is given.
-    ensures earliest { (expected : V → List ℕ) (said : List (Arrival V)) (number place arrivals : ℕ) (s : Arrival V) (value : V)
+    ensures earliest { (expected : V → List ℕ) (said : List (Arrival V)) (number place arrivals : ℕ)
+        (s : Arrival V) (value : V)
         → giving.IsOfEquals V.eq expected → 1 ≤ number
         → giving.at_least V.eq expected said number ≡ Some place → slice_get said place ≡ Some s
         → number ≤ giving.votes V.eq (take arrivals said) (expected value) value
@@ -50,7 +58,8 @@ pub fn equal_values_do_not_differ<V: Eq>()
 
 /// More that is said later never takes a given value back, but for `Unanimous`.
 pub fn given_values_stay<V: Eq>()
-    ensures { (nodes down : List ℕ) (said later : List (Arrival V)) (collator : Collator) (place : ℕ) → collator ≢ kind.Unanimous
+    ensures { (nodes down : List ℕ) (said later : List (Arrival V)) (collator : Collator)
+        (place : ℕ) → collator ≢ kind.Unanimous
         → collating.collated V.eq nodes down said collator ≡ answers.Answer place
         → collating.collated V.eq nodes down (said ++ later) collator ≡ answers.Answer place }
 {}

@@ -58,15 +58,25 @@ pub fn plan(
     requires few { length interfaces ≤ most_interfaces }
     requires read { AllByRecursion IsRead (program_of text).modules }
     requires written { IsDeploymentText text.deployment }
-    ensures faultless { IfOk result (λ plan. looked_faults interfaces (program_of text).modules (length bytes.now) text.deployment ≡ []) }
+    ensures faultless { IfOk result (λ plan.
+        looked_faults interfaces (program_of text).modules (length bytes.now) text.deployment
+        ≡ []) }
     ensures same { IfOk result (λ plan. plan.checked.interfaces ≡ interfaces) }
-    ensures modules { IfOk result (λ plan. map module_as plan.checked.modules ≡ modules_meant interfaces (program_of text).modules 0 (program_of text).modules) }
-    ensures well_formed { IfOk result (λ plan. AreWellFormed plan.checked.interfaces (map module_as plan.checked.modules)) }
+    ensures modules { IfOk result (λ plan.
+        map module_as plan.checked.modules
+        ≡ modules_meant interfaces (program_of text).modules 0 (program_of text).modules) }
+    ensures well_formed { IfOk result (λ plan.
+        AreWellFormed plan.checked.interfaces (map module_as plan.checked.modules)) }
     ensures names { IfOk result (λ plan. plan.names ≡ module_names (program_of text).modules) }
-    ensures deployment { IfOk result (λ plan. plan.deployment ≡ deployment_meant (program_of text).modules (format_number text.format) text.deployment) }
+    ensures deployment { IfOk result (λ plan.
+        plan.deployment ≡ deployment_meant (program_of text).modules
+        (format_number text.format) text.deployment) }
     ensures obeys { IfOk result (λ plan. IsDeployment plan.deployment) }
     ensures roots { IfOk result HaveTheirRoots }
-    ensures err { IfErr result (λ e. (e ≡ ProgramFault.NoMemory) ⊎ IsAnswerTo bytes.now (looked_faults interfaces (program_of text).modules (length bytes.now) text.deployment) e) }
+    ensures err { IfErr result (λ e.
+        (e ≡ ProgramFault.NoMemory)
+        ⊎ IsAnswerTo bytes.now
+        (looked_faults interfaces (program_of text).modules (length bytes.now) text.deployment) e) }
 {
     let ProgramText {
         format,

@@ -30,8 +30,11 @@ fn name<'a>(
     number: usize,
     text: &'a InterfaceText,
 ) -> Result<(), NoMemory>
-    ensures found { OnOk result (kept least.new ≡ least_from rank_of (kept least.old) (name_faults (known_of names.old) number (interface_of text.now))) }
-    ensures added { OnOk result (known_of names.new ≡ also text.now.name.name number (known_of names.old)) }
+    ensures found { OnOk result
+        (kept least.new ≡ least_from rank_of (kept least.old)
+        (name_faults (known_of names.old) number (interface_of text.now))) }
+    ensures added { OnOk result
+        (known_of names.new ≡ also text.now.name.name number (known_of names.old)) }
 {
     let earlier = names.insert(text.name.name.as_slice(), number)?;
     least.note(earlier.is_some(), text.name.at, ProgramCause::Repeated);
@@ -51,8 +54,12 @@ fn rules(
     stop: &Option<Stop>,
     text: &InterfaceText,
 ) -> Result<(), NoMemory>
-    ensures found { OnOk result (kept least.new ≡ least_from rank_of (kept least.old) (map interface_told (idl.read_faults stop.now (interface_of text.now)))) }
-    ensures meant { OnOk result (IfNone least.new.found ((i : Interface) × (made.new ≡ made.old ++ i ∷ []) × Means (interface_of text.now) i)) }
+    ensures found { OnOk result
+        (kept least.new ≡ least_from rank_of (kept least.old)
+        (map interface_told (idl.read_faults stop.now (interface_of text.now)))) }
+    ensures meant { OnOk result
+        (IfNone least.new.found
+        ((i : Interface) × (made.new ≡ made.old ++ i ∷ []) × Means (interface_of text.now) i)) }
 {
     match circus_idl::check_interface(alloc, text, stop) {
         Ok(interface) => {
@@ -72,8 +79,10 @@ pub fn interfaces(
     texts: &[InterfaceText],
     stop: &Option<Stop>,
 ) -> Result<(Least, Interfaces), NoMemory>
-    ensures found { IfOk result (λ read. kept read.0 ≡ least_from rank_of None (read_faults stop.now (map interface_of texts.now))) }
-    ensures means { IfOk result (λ read. IfNone read.0.found (EachMeans (map interface_of texts.now) read.1)) }
+    ensures found { IfOk result (λ read.
+        kept read.0 ≡ least_from rank_of None (read_faults stop.now (map interface_of texts.now))) }
+    ensures means { IfOk result (λ read.
+        IfNone read.0.found (EachMeans (map interface_of texts.now) read.1)) }
 {
     let mut least = Least::of_stop(stop);
     let mut names = Names::new(alloc);

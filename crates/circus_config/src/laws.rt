@@ -10,12 +10,16 @@ ghost use Rattle.circus_config.specs.Program.{IsProgramOf, SaysSame, IsRefused};
 
 /// A file means one program, or is refused with one line and one cause, and not both.
 pub fn one_answer()
-    ensures program { (text : List ℕ) (plan other : Plan) → IsProgramOf text plan → IsProgramOf text other → SaysSame plan other }
-    ensures refusal { (text : List ℕ) (one other : ProgramFault) → IsRefused text one → IsRefused text other → one ≡ other }
-    ensures either { (text : List ℕ) (plan : Plan) (refusal : ProgramFault) → IsProgramOf text plan → IsRefused text refusal → ⊥ }
+    ensures program { (text : List ℕ) (plan other : Plan) → IsProgramOf text plan
+        → IsProgramOf text other → SaysSame plan other }
+    ensures refusal { (text : List ℕ) (one other : ProgramFault) → IsRefused text one
+        → IsRefused text other → one ≡ other }
+    ensures either { (text : List ℕ) (plan : Plan) (refusal : ProgramFault) → IsProgramOf text plan
+        → IsRefused text refusal → ⊥ }
 {}
 
 /// The fault that is answered is one of all, and none of them is before it.
 pub fn answer_is_least()
-    ensures { (faults : List (Fault ProgramCause)) (fault : Fault ProgramCause) → least_from rank_of None faults ≡ Some fault → IsLeast rank_of fault faults }
+    ensures { (faults : List (Fault ProgramCause)) (fault : Fault ProgramCause)
+        → least_from rank_of None faults ≡ Some fault → IsLeast rank_of fault faults }
 {}

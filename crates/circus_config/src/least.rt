@@ -83,7 +83,8 @@ impl Least {
 
     /// Finds a fault at the place, if it is one.
     pub fn note(&mut self, is_fault: bool, place: u32, cause: ProgramCause)
-        ensures { kept self.new ≡ least_from rank_of (kept self.old) (faults_if is_fault place cause) }
+        ensures { kept self.new
+            ≡ least_from rank_of (kept self.old) (faults_if is_fault place cause) }
     {
         if is_fault {
             self.keep(Found::at(u64::from(place), cause));

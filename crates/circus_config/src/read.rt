@@ -55,7 +55,8 @@ fn read_tokens(alloc: Global, bytes: &[u8], found: &[Token]) -> Result<Plan, Pro
     requires tokens { AreTokensOf bytes.now found.now }
     requires each { All (IsTokenIn bytes.now) found.now }
     ensures ok { IfOk result (IsProgramOf bytes.now) }
-    ensures well_formed { IfOk result (λ plan. AreWellFormed plan.checked.interfaces (map module_as plan.checked.modules)) }
+    ensures well_formed { IfOk result (λ plan.
+        AreWellFormed plan.checked.interfaces (map module_as plan.checked.modules)) }
     ensures deployed { IfOk result (λ plan. IsDeployment plan.deployment) }
     ensures roots { IfOk result HaveTheirRoots }
     ensures err { IfErr result (λ e. (e ≡ ProgramFault.NoMemory) ⊎ IsRefused bytes.now e) }
@@ -87,7 +88,8 @@ pub fn read_program(alloc: Global, bytes: &[u8]) -> Result<Plan, ProgramFault>
 // Reads the tokens, where the file has them.
 fn read_lexed(alloc: Global, bytes: &[u8]) -> Result<Plan, ProgramFault>
     ensures ok { IfOk result (IsProgramOf bytes.now) }
-    ensures well_formed { IfOk result (λ plan. AreWellFormed plan.checked.interfaces (map module_as plan.checked.modules)) }
+    ensures well_formed { IfOk result (λ plan.
+        AreWellFormed plan.checked.interfaces (map module_as plan.checked.modules)) }
     ensures deployed { IfOk result (λ plan. IsDeployment plan.deployment) }
     ensures roots { IfOk result HaveTheirRoots }
     ensures err { IfErr result (λ e. (e ≡ ProgramFault.NoMemory) ⊎ IsRefused bytes.now e) }

@@ -35,7 +35,8 @@ fn answer(
     lacks: Option<&Named>,
     fault: Fault<Cause>,
 ) -> Result<DeploymentFault, NoMemory>
-    ensures { IfOk result (λ e. e ≡ answer_of (option_map (λ (n : Named). n.name) (option_copied lacks.entry)) fault) }
+    ensures { IfOk result (λ e.
+        e ≡ answer_of (option_map (λ (n : Named). n.name) (option_copied lacks.entry)) fault) }
 {
     let place = u64::from(fault.place);
     Ok(match fault.cause {
@@ -48,7 +49,8 @@ fn answer(
 }
 
 fn name_of(alloc: Global, lacks: Option<&Named>) -> Result<Name, NoMemory>
-    ensures { IfOk result (λ name. name ≡ unwrap_or (option_map (λ (n : Named). n.name) (option_copied lacks.entry)) []) }
+    ensures { IfOk result (λ name.
+        name ≡ unwrap_or (option_map (λ (n : Named). n.name) (option_copied lacks.entry)) []) }
 {
     match lacks {
         Some(named) => named.name.copy(),
@@ -92,17 +94,27 @@ pub fn check(
     format: u8,
     end: u32,
 ) -> Result<Deployment, DeploymentFault>
-    ensures faultless { IfOk result (λ d. deployment_faults (map module_of modules.now) end text.now ≡ []) }
-    ensures meant { IfOk result (λ d. d ≡ deployment_meant (map module_of modules.now) format text.now) }
+    ensures faultless { IfOk result (λ d.
+        deployment_faults (map module_of modules.now) end text.now ≡ []) }
+    ensures meant { IfOk result (λ d.
+        d ≡ deployment_meant (map module_of modules.now) format text.now) }
 
     // Over at most 32 modules of different names, a deployment as it is written obeys the rules of deployments.
-    ensures deployment { (format ≡ 1) ⊎ (format ≡ 2) → length modules.now ≤ 32 → AreDistinct (map (λ (m : ModuleTree). m.name.name) (map module_of modules.now))
+    ensures deployment { (format ≡ 1) ⊎ (format ≡ 2) → length modules.now ≤ 32
+        → AreDistinct (map (λ (m : ModuleTree). m.name.name) (map module_of modules.now))
         → IsDeploymentText text.now → IfOk result IsDeployment }
 
     // A troupe is a root exactly where its module is one.
-    ensures roots { IfOk result (λ d. map (λ (t : Troupe). t.root) d.troupes ≡ map (λ (m : ModuleTree). m.root) (map module_of modules.now)) }
-    ensures err { IfErr result (λ e. (e ≡ DeploymentFault.NoMemory) ⊎ ((f : Fault Cause) × (least_from rank_of None (deployment_faults (map module_of modules.now) end text.now) ≡ Some f)
-        × (e ≡ answer_of (lacking (troupe_numbers text.now.troupes) (map module_of modules.now)) f))) }
+    ensures roots { IfOk result (λ d.
+        map (λ (t : Troupe). t.root) d.troupes
+        ≡ map (λ (m : ModuleTree). m.root) (map module_of modules.now)) }
+    ensures err { IfErr result (λ e.
+        (e ≡ DeploymentFault.NoMemory)
+        ⊎ ((f : Fault Cause)
+        × (least_from rank_of None (deployment_faults (map module_of modules.now) end text.now)
+        ≡ Some f)
+        × (e ≡ answer_of
+        (lacking (troupe_numbers text.now.troupes) (map module_of modules.now)) f))) }
 {
     let mut best: Best<Cause> = Best { fault: None };
     let numbers = module_numbers(alloc, modules)?;

@@ -32,7 +32,8 @@ fn kind(text: KindText) -> Kind
 
 // A node that hosts a member of this module.
 fn host(name: &Named, port: Numeral, hosted: Option<u16>) -> Result<Host, NoMemory>
-    ensures { IfOk result (λ host. host ≡ host_meant hosted (record { name = name.now; port = port })) }
+    ensures { IfOk result (λ host.
+        host ≡ host_meant hosted (record { name = name.now; port = port })) }
 {
     Ok(Host {
         name: name.name.copy()?,
@@ -63,7 +64,8 @@ fn add_spares(
     spares: &Option<HostTexts>,
     hosted: Option<u16>,
 ) -> Result<(), NoMemory>
-    ensures { OnOk result (nodes.new ≡ nodes.old ++ map (host_meant hosted) (unwrap_or spares.now [])) }
+    ensures { OnOk result
+        (nodes.new ≡ nodes.old ++ map (host_meant hosted) (unwrap_or spares.now [])) }
 {
     match spares {
         Some(hosts) => add_hosts(nodes, hosts.as_slice(), hosted),
@@ -82,7 +84,8 @@ fn add_troupe(nodes: &mut Hosts, modules: &Names, troupe: &TroupeText) -> Result
 }
 
 fn add_troupes(nodes: &mut Hosts, modules: &Names, troupes: &[TroupeText]) -> Result<(), NoMemory>
-    ensures { OnOk result (nodes.new ≡ nodes.old ++ flat_map (hosts_meant (known_of modules.now)) troupes.now) }
+    ensures { OnOk result
+        (nodes.new ≡ nodes.old ++ flat_map (hosts_meant (known_of modules.now)) troupes.now) }
 {
     for troupe in troupes {
         add_troupe(nodes, modules, troupe)?;
@@ -145,7 +148,8 @@ fn numbers_from(alloc: Global, first: u16, count: usize) -> Result<Nodes, NoMemo
 
 fn troupe(alloc: Global, text: &ModuleText, found: &NumberedTroupe) -> Result<Troupe, NoMemory>
     requires { found.now.first + length (hosts_of found.now.troupe.now) ≤ most_nodes }
-    ensures { IfOk result (λ made. made ≡ troupe_meant (module_of text.now) (numbered_as found.now)) }
+    ensures { IfOk result (λ made.
+        made ≡ troupe_meant (module_of text.now) (numbered_as found.now)) }
 {
     let troupe = found.troupe;
     let members = troupe.members.len();
@@ -164,9 +168,12 @@ fn troupe_at<'n, 't>(
     numbered: &'n [NumberedTroupe<'t>],
     text: &ModuleText,
 ) -> Option<&'n NumberedTroupe<'t>>
-    requires { AllByRecursion (λ (n : NumberedTroupe). n.first + length (hosts_of n.troupe.now) ≤ most_nodes) numbered.now }
-    ensures found { option_map numbered_as (option_copied result) ≡ troupe_at (map numbered_as numbered.now) (known_of numbers.now text.now.name.name) }
-    ensures few { IfSome result (λ n. n.now.first + length (hosts_of n.now.troupe.now) ≤ most_nodes) }
+    requires { AllByRecursion (λ (n : NumberedTroupe).
+        n.first + length (hosts_of n.troupe.now) ≤ most_nodes) numbered.now }
+    ensures found { option_map numbered_as (option_copied result)
+        ≡ troupe_at (map numbered_as numbered.now) (known_of numbers.now text.now.name.name) }
+    ensures few { IfSome result (λ n.
+        n.now.first + length (hosts_of n.now.troupe.now) ≤ most_nodes) }
 {
     match numbers.get(text.name.name.as_slice()) {
         Some(number) => numbered.get(number),
@@ -181,8 +188,11 @@ pub fn troupes(
     numbers: &Names,
     numbered: &[NumberedTroupe],
 ) -> Result<Troupes, NoMemory>
-    requires { AllByRecursion (λ (n : NumberedTroupe). n.first + length (hosts_of n.troupe.now) ≤ most_nodes) numbered.now }
-    ensures { IfOk result (λ made. made ≡ troupes_meant (map numbered_as numbered.now) (known_of numbers.now) (map module_of modules.now)) }
+    requires { AllByRecursion (λ (n : NumberedTroupe).
+        n.first + length (hosts_of n.troupe.now) ≤ most_nodes) numbered.now }
+    ensures { IfOk result (λ made.
+        made ≡ troupes_meant (map numbered_as numbered.now) (known_of numbers.now)
+        (map module_of modules.now)) }
 {
     let mut troupes = Troupes::new(alloc);
     for text in modules {

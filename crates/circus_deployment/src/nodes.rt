@@ -42,8 +42,11 @@ impl<'a> SeenNodes<'a> {
         name: &'a Named,
         port: Numeral,
     ) -> Result<(), NoMemory>
-        ensures found { OnOk result (best.new.fault ≡ least_from rank_of best.old.fault (node_faults (before_of self.old) name.now port)) }
-        ensures behind { OnOk result (before_of self.new ≡ behind_node (before_of self.old) name.now port) }
+        ensures found { OnOk result
+            (best.new.fault ≡ least_from rank_of best.old.fault
+            (node_faults (before_of self.old) name.now port)) }
+        ensures behind { OnOk result
+            (before_of self.new ≡ behind_node (before_of self.old) name.now port) }
     {
         let earlier = self.names.insert(name.name.as_slice(), 0)?;
         let is_new = self.ports.insert(port.value)?;
@@ -56,8 +59,11 @@ impl<'a> SeenNodes<'a> {
     }
 
     fn nodes(&mut self, best: &mut Best<Cause>, hosts: &'a [HostText]) -> Result<(), NoMemory>
-        ensures found { OnOk result (best.new.fault ≡ least_from rank_of best.old.fault (nodes_faults (before_of self.old) hosts.now)) }
-        ensures behind { OnOk result (before_of self.new ≡ behind_nodes (before_of self.old) hosts.now) }
+        ensures found { OnOk result
+            (best.new.fault ≡ least_from rank_of best.old.fault
+            (nodes_faults (before_of self.old) hosts.now)) }
+        ensures behind { OnOk result
+            (before_of self.new ≡ behind_nodes (before_of self.old) hosts.now) }
     {
         for host in hosts {
             self.node(best, &host.name, host.port)?;
@@ -71,8 +77,11 @@ impl<'a> SeenNodes<'a> {
         best: &mut Best<Cause>,
         spares: &'a Option<HostTexts>,
     ) -> Result<(), NoMemory>
-        ensures found { OnOk result (best.new.fault ≡ least_from rank_of best.old.fault (nodes_faults (before_of self.old) (unwrap_or spares.now []))) }
-        ensures behind { OnOk result (before_of self.new ≡ behind_nodes (before_of self.old) (unwrap_or spares.now [])) }
+        ensures found { OnOk result
+            (best.new.fault ≡ least_from rank_of best.old.fault
+            (nodes_faults (before_of self.old) (unwrap_or spares.now []))) }
+        ensures behind { OnOk result
+            (before_of self.new ≡ behind_nodes (before_of self.old) (unwrap_or spares.now [])) }
     {
         match spares {
             Some(hosts) => self.nodes(best, hosts.as_slice()),
@@ -82,8 +91,11 @@ impl<'a> SeenNodes<'a> {
 
     // The nodes of a troupe.
     fn hosts(&mut self, best: &mut Best<Cause>, troupe: &'a TroupeText) -> Result<(), NoMemory>
-        ensures found { OnOk result (best.new.fault ≡ least_from rank_of best.old.fault (nodes_faults (before_of self.old) (hosts_of troupe.now))) }
-        ensures behind { OnOk result (before_of self.new ≡ behind_nodes (before_of self.old) (hosts_of troupe.now)) }
+        ensures found { OnOk result
+            (best.new.fault ≡ least_from rank_of best.old.fault
+            (nodes_faults (before_of self.old) (hosts_of troupe.now))) }
+        ensures behind { OnOk result
+            (before_of self.new ≡ behind_nodes (before_of self.old) (hosts_of troupe.now)) }
     {
         self.nodes(best, troupe.members.as_slice())?;
         self.spares(best, &troupe.spares)?;
@@ -91,7 +103,9 @@ impl<'a> SeenNodes<'a> {
     }
 
     fn troupes(&mut self, best: &mut Best<Cause>, troupes: &'a [TroupeText]) -> Result<(), NoMemory>
-        ensures { OnOk result (best.new.fault ≡ least_from rank_of best.old.fault (nodes_faults (before_of self.old) (flat_map hosts_of troupes.now))) }
+        ensures { OnOk result
+            (best.new.fault ≡ least_from rank_of best.old.fault
+            (nodes_faults (before_of self.old) (flat_map hosts_of troupes.now))) }
     {
         for troupe in troupes {
             self.hosts(best, troupe)?;
@@ -106,7 +120,9 @@ pub fn check_nodes(
     best: &mut Best<Cause>,
     text: &DeploymentText,
 ) -> Result<(), NoMemory>
-    ensures { OnOk result (best.new.fault ≡ least_from rank_of best.old.fault (nodes_faults no_nodes (nodes_of text.now))) }
+    ensures { OnOk result
+        (best.new.fault ≡ least_from rank_of best.old.fault
+        (nodes_faults no_nodes (nodes_of text.now))) }
 {
     let mut seen = SeenNodes::new(alloc);
     seen.node(best, &text.ringmaster.name, text.ringmaster.port)?;

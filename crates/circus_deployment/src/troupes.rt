@@ -29,7 +29,8 @@ fn needed(best: &mut Best<Cause>, kind: KindText)
 
 // A founder that is one too many, if there is one.
 fn crowd(best: &mut Best<Cause>, host: Option<&HostText>)
-    ensures { best.new.fault ≡ least_from rank_of best.old.fault (crowd_faults (option_copied host.entry)) }
+    ensures { best.new.fault
+        ≡ least_from rank_of best.old.fault (crowd_faults (option_copied host.entry)) }
 {
     if let Some(host) = host {
         best.note(true, host.name.at, Cause::TooMany);
@@ -43,8 +44,11 @@ fn troupe<'a>(
     number: usize,
     text: &'a TroupeText,
 ) -> Result<(), NoMemory>
-    ensures found { OnOk result (best.new.fault ≡ least_from rank_of best.old.fault (troupe_faults (known_of modules.now) (known_of troupes.old) text.now)) }
-    ensures added { OnOk result (known_of troupes.new ≡ also text.now.name.name number (known_of troupes.old)) }
+    ensures found { OnOk result
+        (best.new.fault ≡ least_from rank_of best.old.fault
+        (troupe_faults (known_of modules.now) (known_of troupes.old) text.now)) }
+    ensures added { OnOk result
+        (known_of troupes.new ≡ also text.now.name.name number (known_of troupes.old)) }
 {
     let name = text.name.name.as_slice();
     let earlier = troupes.insert(name, number)?;
@@ -64,7 +68,9 @@ pub fn check_troupes<'a>(
     modules: &Names,
     texts: &'a [TroupeText],
 ) -> Result<Names<'a>, NoMemory>
-    ensures found { OnOk result (best.new.fault ≡ least_from rank_of best.old.fault (troupes_faults (known_of modules.now) nobody 0 texts.now)) }
+    ensures found { OnOk result
+        (best.new.fault ≡ least_from rank_of best.old.fault
+        (troupes_faults (known_of modules.now) nobody 0 texts.now)) }
     ensures numbered { IfOk result (λ troupes. known_of troupes ≡ troupe_numbers texts.now) }
 {
     let mut troupes = Names::new(alloc);
@@ -76,7 +82,8 @@ pub fn check_troupes<'a>(
 
 /// The numbers of modules by their names.
 pub fn module_numbers(alloc: Global, modules: &[ModuleText]) -> Result<Names<'_>, NoMemory>
-    ensures { IfOk result (λ numbers. known_of numbers ≡ module_numbers (map module_of modules.now)) }
+    ensures { IfOk result (λ numbers.
+        known_of numbers ≡ module_numbers (map module_of modules.now)) }
 {
     let mut numbers = Names::new(alloc);
     for (number, text) in modules.iter().enumerate() {
@@ -87,7 +94,8 @@ pub fn module_numbers(alloc: Global, modules: &[ModuleText]) -> Result<Names<'_>
 
 /// The name of the first module that has no troupe.
 pub fn lacking<'a>(modules: &'a [ModuleText], troupes: &Names) -> Option<&'a Named>
-    ensures { option_map (λ (n : Named). n.name) (option_copied result) ≡ lacking (known_of troupes.now) (map module_of modules.now) }
+    ensures { option_map (λ (n : Named). n.name) (option_copied result)
+        ≡ lacking (known_of troupes.now) (map module_of modules.now) }
 {
     for text in modules {
         if troupes.get(text.name.name.as_slice()).is_none() {

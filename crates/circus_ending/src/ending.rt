@@ -27,7 +27,8 @@ impl Ending {
 
     /// The end whose text is this line.
     pub fn of_line(alloc: Global, status: Status, line: &str) -> Result<Self, NoMemory>
-        ensures text { IfOk result (λ ending. ending_of ending ≡ record { status = status; text = line.now }) }
+        ensures text { IfOk result (λ ending.
+            ending_of ending ≡ record { status = status; text = line.now }) }
         ensures status { IfOk result (λ ending. ending.status ≡ status) }
     {
         Ok(Ending::of(status, String::from_str(alloc, line)?))

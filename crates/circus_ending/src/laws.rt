@@ -6,5 +6,6 @@ ghost use Rattle.circus_ending.specs.OneFile.{IsEndOf};
 
 /// A command comes to one end of its file.
 pub fn one_end()
-    ensures { (command : OneFile) (bytes : List ℕ) (one other : Ending) → IsEndOf command bytes one → IsEndOf command bytes other → one ≡ other }
+    ensures { (command : OneFile) (bytes : List ℕ) (one other : Ending) → IsEndOf command bytes one
+        → IsEndOf command bytes other → one ≡ other }
 {}

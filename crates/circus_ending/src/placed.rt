@@ -35,7 +35,9 @@ fn cause_text(cause: PlaceCause) -> &'static str
 
 // Adds where a text is refused.
 fn append_place(text: &mut String, number: u32) -> Result<(), NoMemory>
-    ensures { OnOk result (string_bytes text.new ≡ string_bytes text.old ++ (codes "place line " ++ decimal number ++ codes ": ")) }
+    ensures { OnOk result
+        (string_bytes text.new
+        ≡ string_bytes text.old ++ (codes "place line " ++ decimal number ++ codes ": ")) }
 {
     write!(text, "place line {number}: ")?;
     Ok(())
@@ -43,7 +45,8 @@ fn append_place(text: &mut String, number: u32) -> Result<(), NoMemory>
 
 // Adds where a text is refused, and why.
 fn append_refusal(text: &mut String, number: u32, cause: PlaceCause) -> Result<(), NoMemory>
-    ensures { OnOk result (string_bytes text.new ≡ string_bytes text.old ++ refused_text number cause) }
+    ensures { OnOk result
+        (string_bytes text.new ≡ string_bytes text.old ++ refused_text number cause) }
 {
     append_place(text, number)?;
     text.push_str(cause_text(cause))?;
@@ -53,7 +56,8 @@ fn append_refusal(text: &mut String, number: u32, cause: PlaceCause) -> Result<(
 
 // The end of a placing whose text is refused.
 fn refusal(alloc: Global, number: u32, cause: PlaceCause) -> Result<Ending, NoMemory>
-    ensures ending { IfOk result (λ ending. ending_of ending ≡ record { status = BadPlacing; text = refused_text number cause }) }
+    ensures ending { IfOk result (λ ending.
+        ending_of ending ≡ record { status = BadPlacing; text = refused_text number cause }) }
     ensures status { IfOk result (λ ending. IsTrue (is_end ending.status)) }
 {
     let mut text = String::new(alloc);
@@ -64,7 +68,8 @@ fn refusal(alloc: Global, number: u32, cause: PlaceCause) -> Result<Ending, NoMe
 // Adds the line of a member.
 fn append_member(text: &mut String, member: usize, machine: &Machine) -> Result<(), NoMemory>
     requires { IsAscii machine.now.name }
-    ensures { OnOk result (string_bytes text.new ≡ string_bytes text.old ++ member_line member machine.now.name) }
+    ensures { OnOk result
+        (string_bytes text.new ≡ string_bytes text.old ++ member_line member machine.now.name) }
 {
     let name = name_text(&machine.name);
     writeln!(text, "member {member} {name}")?;
@@ -76,7 +81,8 @@ fn append_members(text: &mut String, machines: &[Machine], chosen: &[u16]) -> Re
     requires named { All (λ m. IsAscii m.name) machines.now }
     requires inside { All (λ number. number < length machines.now) chosen.now }
     requires few { length chosen.now ≤ 5 }
-    ensures { OnOk result (string_bytes text.new ≡ string_bytes text.old ++ member_lines machines.now 1 chosen.now) }
+    ensures { OnOk result
+        (string_bytes text.new ≡ string_bytes text.old ++ member_lines machines.now 1 chosen.now) }
 {
     let mut member = 1;
     for number in chosen {
@@ -92,7 +98,9 @@ fn choice(alloc: Global, placing: &Placing, chosen: &Placement) -> Result<Ending
     requires inside { All (λ number. number < length placing.now.machines) chosen.now.members }
     requires few { length chosen.now.members ≤ 5 }
     requires kept { chosen.now.kept ≡ kept_by placing.now chosen.now.members }
-    ensures ending { IfOk result (λ ending. ending_of ending ≡ record { status = Done; text = choice_text placing.now chosen.now.members }) }
+    ensures ending { IfOk result (λ ending.
+        ending_of ending
+        ≡ record { status = Done; text = choice_text placing.now chosen.now.members }) }
     ensures status { IfOk result (λ ending. IsTrue (is_end ending.status)) }
 {
     let mut text = String::new(alloc);
@@ -108,7 +116,8 @@ fn choice(alloc: Global, placing: &Placing, chosen: &Placement) -> Result<Ending
 
 // Adds how many members are kept.
 fn append_kept(text: &mut String, kept: u16) -> Result<(), NoMemory>
-    ensures { OnOk result (string_bytes text.new ≡ string_bytes text.old ++ line (codes "kept " ++ decimal kept)) }
+    ensures { OnOk result
+        (string_bytes text.new ≡ string_bytes text.old ++ line (codes "kept " ++ decimal kept)) }
 {
     writeln!(text, "kept {kept}")?;
     Ok(())

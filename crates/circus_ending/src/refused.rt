@@ -24,7 +24,10 @@ fn append_shared(
     requires shared { IsAscii shared.now }
     requires first { IsAscii first.now }
     requires second { IsAscii second.now }
-    ensures { OnOk result (string_bytes text.new ≡ string_bytes text.old ++ (codes "shared " ++ shared.now ++ codes " " ++ first.now ++ codes " " ++ second.now)) }
+    ensures { OnOk result
+        (string_bytes text.new
+        ≡ string_bytes text.old
+        ++ (codes "shared " ++ shared.now ++ codes " " ++ first.now ++ codes " " ++ second.now)) }
 {
     let shared = name_text(shared);
     let first = name_text(first);
@@ -36,7 +39,8 @@ fn append_shared(
 // Adds what is lacking.
 fn append_missing(text: &mut String, name: &Name) -> Result<(), NoMemory>
     requires { IsAscii name.now }
-    ensures { OnOk result (string_bytes text.new ≡ string_bytes text.old ++ (codes "missing " ++ name.now)) }
+    ensures { OnOk result
+        (string_bytes text.new ≡ string_bytes text.old ++ (codes "missing " ++ name.now)) }
 {
     let name = name_text(name);
     write!(text, "missing {name}")?;
@@ -69,7 +73,9 @@ fn append_cause(text: &mut String, cause: &ProgramCause) -> Result<(), NoMemory>
 
 // Adds the line of a refusal.
 fn append_line(text: &mut String, number: u32) -> Result<(), NoMemory>
-    ensures { OnOk result (string_bytes text.new ≡ string_bytes text.old ++ (codes "program line " ++ decimal number ++ codes ": ")) }
+    ensures { OnOk result
+        (string_bytes text.new
+        ≡ string_bytes text.old ++ (codes "program line " ++ decimal number ++ codes ": ")) }
 {
     write!(text, "program line {number}: ")?;
     Ok(())
@@ -78,7 +84,8 @@ fn append_line(text: &mut String, number: u32) -> Result<(), NoMemory>
 // The end of a program that is refused.
 fn refused(alloc: Global, number: u32, cause: &ProgramCause) -> Result<Ending, NoMemory>
     requires { AllByRecursion IsAscii (names_in cause.now) }
-    ensures ending { IfOk result (λ ending. ending_of ending ≡ record { status = BadProgram; text = refused_text number cause.now }) }
+    ensures ending { IfOk result (λ ending.
+        ending_of ending ≡ record { status = BadProgram; text = refused_text number cause.now }) }
     ensures status { IfOk result (λ ending. ending.status ≡ BadProgram) }
 {
     let mut text = String::new(alloc);
@@ -92,7 +99,8 @@ fn refused(alloc: Global, number: u32, cause: &ProgramCause) -> Result<Ending, N
 pub fn plan_of(alloc: Global, bytes: &[u8]) -> Result<Result<Plan, Ending>, NoMemory>
     ensures program { IfOk result (λ read. IfOk read (IsProgramOf bytes.now)) }
     ensures plan { IfOk result (λ read. IfOk read IsPlan) }
-    ensures refused { IfOk result (λ read. IfErr read (λ ending. IsEndOfRefused bytes.now (ending_of ending))) }
+    ensures refused { IfOk result (λ read.
+        IfErr read (λ ending. IsEndOfRefused bytes.now (ending_of ending))) }
     ensures status { IfOk result (λ read. IfErr read (λ ending. IsTrue (is_end ending.status))) }
 {
     match read_program(alloc, bytes) {

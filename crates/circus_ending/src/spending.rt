@@ -14,7 +14,8 @@ use std::alloc::Global;
 /// `NoMemory` is the one fault.
 pub fn spent(alloc: Global, hosts: &Hosts, node: u16, peer: u16) -> Result<Ending, NoMemory>
     requires { All (λ h. IsAscii (host_name h)) hosts.now }
-    ensures ending { IfOk result (λ ending. ending_of ending ≡ spent_end (names_of hosts.now []) (node, peer)) }
+    ensures ending { IfOk result (λ ending.
+        ending_of ending ≡ spent_end (names_of hosts.now []) (node, peer)) }
     ensures status { IfOk result (λ ending. ending.status ≡ Status.Spent) }
 {
     let names = ProgramNames::new(hosts.as_slice(), &[]);

@@ -54,7 +54,8 @@ fn stubs_lines(alloc: Global, plan: &Plan) -> Result<Octets, NoMemory>
 
 /// What comes of a program whose stubs are shown.
 pub fn stubs(alloc: Global, bytes: &[u8]) -> Result<Ending, NoMemory>
-    ensures ending { IfOk result (λ ending. IsEndOfProgram stubs_lines bytes.now (ending_of ending)) }
+    ensures ending { IfOk result (λ ending.
+        IsEndOfProgram stubs_lines bytes.now (ending_of ending)) }
     ensures status { IfOk result (λ ending. IsTrue (is_end ending.status)) }
 {
     match plan_of(alloc, bytes)? {

@@ -31,7 +31,8 @@ pub(crate) fn evaluate<'a>(
     variables: &'a Values,
     expression: &CheckedExpression,
 ) -> Result<Got<'a>, NoValue>
-    ensures { Gives got_as result (evaluating.evaluate limit variables.now (tree_of expression.now)) }
+    ensures { Gives got_as result
+        (evaluating.evaluate limit variables.now (tree_of expression.now)) }
 {
     use CheckedExpression::*;
     match expression {
@@ -71,7 +72,10 @@ pub fn truth_in(
     variables: &Values,
     expression: &CheckedExpression,
 ) -> Result<bool, NoValue>
-    ensures { Gives (λ truth. truth) result (and_then (evaluating.evaluate limit variables.now (tree_of expression.now)) (λ x. Ok (got.truth_of x))) }
+    ensures { Gives (λ truth.
+        truth) result (and_then
+        (evaluating.evaluate limit variables.now (tree_of expression.now)) (λ x.
+        Ok (got.truth_of x))) }
 {
     Ok(evaluate(alloc, limit, variables, expression)?.is_true())
 }
@@ -84,7 +88,9 @@ fn number_in(
     variables: &Values,
     expression: &CheckedExpression,
 ) -> Result<i64, NoValue>
-    ensures { Gives (λ number. number) result (and_then (evaluating.evaluate limit variables.now (tree_of expression.now)) got.number_of) }
+    ensures { Gives (λ number.
+        number) result (and_then
+        (evaluating.evaluate limit variables.now (tree_of expression.now)) got.number_of) }
 {
     evaluate(alloc, limit, variables, expression)?.number()
 }
@@ -98,7 +104,8 @@ pub fn given_in(
     variables: &Values,
     expression: &CheckedExpression,
 ) -> Result<Given, NoValue>
-    ensures { Gives given_as result (evaluating.evaluate limit variables.now (tree_of expression.now)) }
+    ensures { Gives given_as result
+        (evaluating.evaluate limit variables.now (tree_of expression.now)) }
 {
     Ok(evaluate(alloc, limit, variables, expression)?.apart()?)
 }
@@ -111,7 +118,8 @@ fn value_in(
     variables: &Values,
     expression: &CheckedExpression,
 ) -> Result<Value, NoValue>
-    ensures { Gives values.tree_of result (and_then (evaluating.evaluate limit variables.now (tree_of expression.now)) got.value_of) }
+    ensures { Gives values.tree_of result
+        (and_then (evaluating.evaluate limit variables.now (tree_of expression.now)) got.value_of) }
 {
     match given_in(alloc, limit, variables, expression)? {
         Given::Number(_) => Err(NoValue::Raises(LanguageError::Range)),
@@ -129,7 +137,9 @@ fn decided(
     left: &CheckedOperand,
     right: &CheckedOperand,
 ) -> Result<Got<'static>, NoValue>
-    ensures { Gives got_as result (evaluating.unless_decided decides (evaluating.evaluate limit variables.now left.now) (evaluating.evaluate limit variables.now right.now)) }
+    ensures { Gives got_as result
+        (evaluating.unless_decided decides (evaluating.evaluate limit variables.now left.now)
+        (evaluating.evaluate limit variables.now right.now)) }
 {
     if truth_in(alloc, limit, variables, left.expression())? == decides {
         return Ok(Got::truth(decides));
@@ -144,7 +154,8 @@ fn denied(
     variables: &Values,
     operand: &CheckedOperand,
 ) -> Result<Got<'static>, NoValue>
-    ensures { Gives got_as result (evaluating.evaluate limit variables.now (e.negation operand.now)) }
+    ensures { Gives got_as result
+        (evaluating.evaluate limit variables.now (e.negation operand.now)) }
 {
     Ok(Got::truth(!truth_in(alloc, limit, variables, operand.expression())?))
 }
@@ -158,7 +169,8 @@ fn compared_whole(
     left: &CheckedOperand,
     right: &CheckedOperand,
 ) -> Result<Got<'static>, NoValue>
-    ensures { Gives got_as result (evaluating.evaluate limit variables.now (e.equal left.now right.now)) }
+    ensures { Gives got_as result
+        (evaluating.evaluate limit variables.now (e.equal left.now right.now)) }
 {
     let one = evaluate(alloc, limit, variables, left.expression())?;
     let two = evaluate(alloc, limit, variables, right.expression())?;
@@ -174,7 +186,8 @@ fn compared(
     left: &CheckedOperand,
     right: &CheckedOperand,
 ) -> Result<Got<'static>, NoValue>
-    ensures { Gives got_as result (evaluating.evaluate limit variables.now (e.compare order left.now right.now)) }
+    ensures { Gives got_as result
+        (evaluating.evaluate limit variables.now (e.compare order left.now right.now)) }
 {
     let one = number_in(alloc, limit, variables, left.expression())?;
     let two = number_in(alloc, limit, variables, right.expression())?;
@@ -190,7 +203,8 @@ fn calculated(
     left: &CheckedOperand,
     right: &CheckedOperand,
 ) -> Result<Got<'static>, NoValue>
-    ensures { Gives got_as result (evaluating.evaluate limit variables.now (e.calculate calculation left.now right.now)) }
+    ensures { Gives got_as result
+        (evaluating.evaluate limit variables.now (e.calculate calculation left.now right.now)) }
 {
     let one = number_in(alloc, limit, variables, left.expression())?;
     let two = number_in(alloc, limit, variables, right.expression())?;
@@ -218,7 +232,11 @@ fn append_text(
     bytes: &mut Octets,
     expression: &CheckedExpression,
 ) -> Result<(), NoValue>
-    ensures { Gives (λ _. bytes.new) result (and_then (and_then (evaluating.evaluate limit variables.now (tree_of expression.now)) got.bytes_of) (λ more. Ok (bytes.old ++ more))) }
+    ensures { Gives (λ _.
+        bytes.new) result
+        (and_then (and_then
+        (evaluating.evaluate limit variables.now (tree_of expression.now)) got.bytes_of) (λ more.
+        Ok (bytes.old ++ more))) }
 {
     let text = evaluate(alloc, limit, variables, expression)?;
     bytes.append(text.bytes()?)?;
@@ -233,7 +251,8 @@ fn joined(
     left: &CheckedOperand,
     right: &CheckedOperand,
 ) -> Result<Got<'static>, NoValue>
-    ensures { Gives got_as result (evaluating.evaluate limit variables.now (e.join left.now right.now)) }
+    ensures { Gives got_as result
+        (evaluating.evaluate limit variables.now (e.join left.now right.now)) }
 {
     let mut bytes = ListOf::new(alloc);
     append_text(alloc, limit, variables, &mut bytes, left.expression())?;
@@ -250,7 +269,8 @@ fn stands(
     arm: u16,
     operand: &CheckedOperand,
 ) -> Result<Got<'static>, NoValue>
-    ensures { Gives got_as result (evaluating.evaluate limit variables.now (e.is_arm arm operand.now)) }
+    ensures { Gives got_as result
+        (evaluating.evaluate limit variables.now (e.is_arm arm operand.now)) }
 {
     let choice = evaluate(alloc, limit, variables, operand.expression())?;
     Ok(Got::truth(choice.stands_at(arm)))
@@ -263,7 +283,8 @@ fn length(
     variables: &Values,
     operand: &CheckedOperand,
 ) -> Result<Got<'static>, NoValue>
-    ensures { Gives got_as result (evaluating.evaluate limit variables.now (e.length_of operand.now)) }
+    ensures { Gives got_as result
+        (evaluating.evaluate limit variables.now (e.length_of operand.now)) }
 {
     let items = evaluate(alloc, limit, variables, operand.expression())?;
     items.length()
@@ -278,7 +299,8 @@ fn chosen(
     arm: u16,
     operand: &CheckedOperand,
 ) -> Result<Got<'static>, NoValue>
-    ensures { Gives got_as result (evaluating.evaluate limit variables.now (e.arm arm operand.now)) }
+    ensures { Gives got_as result
+        (evaluating.evaluate limit variables.now (e.arm arm operand.now)) }
 {
     let value = value_in(alloc, limit, variables, operand.expression())?;
     made(Value::Choice(arm, Chosen::new(alloc, value)?), limit)
@@ -292,7 +314,8 @@ fn converted(
     kind: NumberKind,
     operand: &CheckedOperand,
 ) -> Result<Got<'static>, NoValue>
-    ensures { Gives got_as result (evaluating.evaluate limit variables.now (e.convert kind operand.now)) }
+    ensures { Gives got_as result
+        (evaluating.evaluate limit variables.now (e.convert kind operand.now)) }
 {
     let number = number_in(alloc, limit, variables, operand.expression())?;
     Ok(Got::Made(as_kind(kind, number)?))
@@ -308,7 +331,9 @@ pub fn evaluate_all(
     variables: &Values,
     expressions: &CheckedExpressions,
 ) -> Result<Values, NoValue>
-    ensures { Gives (λ values. values) result (evaluating.evaluate_all limit variables.now (expression_trees expressions.now)) }
+    ensures { Gives (λ values.
+        values) result (evaluating.evaluate_all limit variables.now
+        (expression_trees expressions.now)) }
 {
     let mut values = Values::new(alloc);
     for expression in expressions.as_slice() {
@@ -325,7 +350,9 @@ fn read<'a>(
     variables: &'a Values,
     place: &CheckedPlace,
 ) -> Result<Got<'a>, NoValue>
-    ensures { Gives got_as result (evaluating.evaluate limit variables.now (e.read place.now.variable (suffix_trees place.now.suffixes))) }
+    ensures { Gives got_as result
+        (evaluating.evaluate limit variables.now
+        (e.read place.now.variable (suffix_trees place.now.suffixes))) }
 {
     let variable = variables.get(usize::from(place.variable));
     let mut part = variable.ok_or(LanguageError::WrongChoice)?;
@@ -363,7 +390,9 @@ pub fn steps_of(
     variables: &Values,
     suffixes: &CheckedSuffixes,
 ) -> Result<ListOf<Step>, NoValue>
-    ensures { Gives (λ steps. map step_as steps) result (evaluating.steps_of limit variables.now (suffix_trees suffixes.now)) }
+    ensures { Gives (λ steps.
+        map step_as steps) result
+        (evaluating.steps_of limit variables.now (suffix_trees suffixes.now)) }
 {
     let mut steps = ListOf::new(alloc);
     for suffix in suffixes.as_slice() {

@@ -93,7 +93,8 @@ pub(crate) fn is_ordered(order: Order, one: i64, two: i64) -> bool
 /// 4,294,967,295, INTEGER -32,768 to 32,767, and LONG INTEGER -2,147,483,648 to 2,147,483,647
 /// (docs/LANGUAGE.md, "Executions"). It takes no memory.
 pub fn as_kind(kind: NumberKind, number: i64) -> Result<Value, LanguageError>
-    ensures { MatchResult result (λ value. got.as_kind kind number ≡ Ok (tree_of value)) (λ error. got.as_kind kind number ≡ Err error) }
+    ensures { MatchResult result (λ value. got.as_kind kind number ≡ Ok (tree_of value)) (λ error.
+        got.as_kind kind number ≡ Err error) }
 {
     let value = match kind {
         NumberKind::Cardinal => u16::try_from(number).ok().map(Value::Cardinal),

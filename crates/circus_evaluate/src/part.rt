@@ -23,7 +23,9 @@ pub enum Step {
 
 /// The part of a value that a step leads to. It takes no memory.
 pub(crate) fn part_by(value: &Value, step: Step) -> Result<&Value, LanguageError>
-    ensures { MatchResult result (λ part. parts.part_by (step_as step) (tree_of value.now) ≡ Ok (tree_of part.now)) (λ error. parts.part_by (step_as step) (tree_of value.now) ≡ Err error) }
+    ensures { MatchResult result (λ part.
+        parts.part_by (step_as step) (tree_of value.now) ≡ Ok (tree_of part.now)) (λ error.
+        parts.part_by (step_as step) (tree_of value.now) ≡ Err error) }
 {
     match step {
         Step::Field(place) => match value {
@@ -43,7 +45,9 @@ pub(crate) fn part_by(value: &Value, step: Step) -> Result<&Value, LanguageError
 
 // The item under a subscript.
 fn item_under(items: &Values, subscript: i64) -> Result<&Value, LanguageError>
-    ensures { MatchResult result (λ part. parts.item_under subscript (value_trees items.now) ≡ Ok (tree_of part.now)) (λ error. parts.item_under subscript (value_trees items.now) ≡ Err error) }
+    ensures { MatchResult result (λ part.
+        parts.item_under subscript (value_trees items.now) ≡ Ok (tree_of part.now)) (λ error.
+        parts.item_under subscript (value_trees items.now) ≡ Err error) }
 {
     if subscript < 0 {
         Err(LanguageError::Index)
@@ -55,7 +59,10 @@ fn item_under(items: &Values, subscript: i64) -> Result<&Value, LanguageError>
 // The item at a place, or what is raised where there is none.
 #[tactic(auto, using(crate::proofs::Items::list_of_trees))]
 fn item(items: &Values, place: u64, missing: LanguageError) -> Result<&Value, LanguageError>
-    ensures { MatchResult result (λ part. ok_or (slice_get (parts.list_of (value_trees items.now)) place) missing ≡ Ok (tree_of part.now)) (λ error. ok_or (slice_get (parts.list_of (value_trees items.now)) place) missing ≡ Err error) }
+    ensures { MatchResult result (λ part.
+        ok_or (slice_get (parts.list_of (value_trees items.now)) place) missing
+        ≡ Ok (tree_of part.now)) (λ error.
+        ok_or (slice_get (parts.list_of (value_trees items.now)) place) missing ≡ Err error) }
 {
     items.get(place as usize).ok_or(missing)
 }
@@ -64,7 +71,9 @@ fn item(items: &Values, place: u64, missing: LanguageError) -> Result<&Value, La
 /// or not below the length, and `WrongChoice` for an arm that isn't chosen, or a value that has no such part
 /// (docs/LANGUAGE.md, "Executions"). It takes no memory.
 pub fn part_at<'v>(value: &'v Value, steps: &[Step]) -> Result<&'v Value, LanguageError>
-    ensures { MatchResult result (λ part. parts.part_at (map step_as steps.now) (tree_of value.now) ≡ Ok (tree_of part.now)) (λ error. parts.part_at (map step_as steps.now) (tree_of value.now) ≡ Err error) }
+    ensures { MatchResult result (λ part.
+        parts.part_at (map step_as steps.now) (tree_of value.now) ≡ Ok (tree_of part.now)) (λ error.
+        parts.part_at (map step_as steps.now) (tree_of value.now) ≡ Err error) }
 {
     let mut part = value;
     for step in steps {
@@ -109,7 +118,8 @@ impl Put {
 #[cycle(putting)]
 #[tactic(auto, using(crate::proofs::PutLemmas::record_put, crate::proofs::PutLemmas::array_put_under, crate::proofs::PutLemmas::sequence_put_under))]
 pub(crate) fn put_in(value: &mut Value, steps: &[Step], what: Put) -> Result<(), NoMemory>
-    ensures { OnOk result (tree_of value.new ≡ with_put (map step_as steps.now) what (tree_of value.old)) }
+    ensures { OnOk result
+        (tree_of value.new ≡ with_put (map step_as steps.now) what (tree_of value.old)) }
 {
     let Some((step, rest)) = steps.split_first() else {
         return put_here(value, what);
@@ -142,7 +152,8 @@ pub(crate) fn put_in(value: &mut Value, steps: &[Step], what: Put) -> Result<(),
 // Puts something into the item under a subscript.
 #[cycle(putting)]
 fn put_under(items: &mut Values, subscript: i64, steps: &[Step], what: Put) -> Result<(), NoMemory>
-    ensures { OnOk result (items.new ≡ with_put_under (map step_as steps.now) what subscript items.old) }
+    ensures { OnOk result
+        (items.new ≡ with_put_under (map step_as steps.now) what subscript items.old) }
 {
     if subscript < 0 {
         return Ok(());

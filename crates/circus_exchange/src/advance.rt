@@ -32,7 +32,9 @@ impl Advance {
         stopped: bool,
         segment: &Segment<'_>,
     ) -> Result<Datagrams, NoMemory>
-        ensures { IfOk result (λ datagrams. datagrams ≡ acknowledged stopped (piece segment.now) (self.is_new && (self.count == segment.now.total)) self.count) }
+        ensures { IfOk result (λ datagrams.
+            datagrams ≡ acknowledged stopped (piece segment.now)
+            (self.is_new && (self.count == segment.now.total)) self.count) }
     {
         let mut datagrams = Datagrams::new(alloc);
         let is_owed = segment.control == PLEASE_ACKNOWLEDGE

@@ -85,7 +85,8 @@ impl Exchange {
     #[tactic(auto, unfolding(crate::specs::Exchange::sends_at_once))]
     fn sends_at_once(&self) -> bool
         ensures value { result ≡ sends_at_once self.now }
-        ensures room { result ≡ true → (self.now.in_flight < window) × (self.now.sent ≡ self.now.next) }
+        ensures room { result ≡ true
+            → (self.now.in_flight < window) × (self.now.sent ≡ self.now.next) }
     {
         self.in_flight < WINDOW && self.sent == self.next
     }
@@ -115,7 +116,8 @@ impl Exchange {
         requires long { length message ≤ LONGEST }
         requires number { self.old.next < never_used }
         requires fresh { map.get self.old.calls.progress self.old.next ≡ None }
-        ensures datagrams { IfOk result (λ datagrams. datagrams ≡ datagrams_of_call self.old message) }
+        ensures datagrams { IfOk result (λ datagrams.
+            datagrams ≡ datagrams_of_call self.old message) }
         ensures state { OnOk result (self.new ≡ called self.old message) }
         ensures err { OnErr result (self.new ≡ self.old) }
     {
@@ -131,8 +133,17 @@ impl Exchange {
     // Notes that a call was handed over, which is sent at once or not, where no other call waited or one did.
     fn count_call(&mut self, at_once: bool, idle: bool)
         requires number { self.old.next < never_used }
-        requires at_once { at_once ≡ true → (self.old.in_flight < window) × (self.old.sent ≡ self.old.next) }
-        ensures { self.new ≡ record self.old { next = self.old.next + 1; sent = if at_once then self.old.sent + 1 else self.old.sent; in_flight = if at_once then self.old.in_flight + 1 else self.old.in_flight; ticks = if idle then 0 else self.old.ticks } }
+        requires at_once { at_once ≡ true
+            → (self.old.in_flight < window) × (self.old.sent ≡ self.old.next) }
+        ensures { self.new
+            ≡ record self.old {
+              next = self.old.next + 1;
+              sent = if at_once then self.old.sent + 1
+                  else self.old.sent;
+              in_flight = if at_once then self.old.in_flight + 1
+                  else self.old.in_flight;
+              ticks = if idle then 0 else self.old.ticks;
+            } }
     {
         if at_once {
             self.sent += 1;
@@ -154,7 +165,8 @@ impl Exchange {
     ) -> Result<Datagrams, NoMemory>
         requires long { length message ≤ LONGEST }
         requires fresh { map.get self.old.returns.progress call ≡ None }
-        ensures datagrams { IfOk result (λ datagrams. datagrams ≡ datagrams_of_return self.old call message) }
+        ensures datagrams { IfOk result (λ datagrams.
+            datagrams ≡ datagrams_of_return self.old call message) }
         ensures state { OnOk result (self.new ≡ returned self.old call message) }
         ensures err { OnErr result (self.new ≡ self.old) }
     {
@@ -221,7 +233,8 @@ impl Exchange {
         in_flight: u32,
         datagrams: &mut Datagrams,
     ) -> Result<(), NoMemory>
-        ensures { OnOk result (datagrams.new ≡ datagrams.old ++ datagrams_let_go self.now in_flight) }
+        ensures { OnOk result
+            (datagrams.new ≡ datagrams.old ++ datagrams_let_go self.now in_flight) }
     {
         if !self.lets_go(in_flight) {
             return Ok(());
@@ -296,8 +309,10 @@ impl Exchange {
         datagram: &Bytes,
     ) -> Result<Taken, NoMemory>
         requires { reading datagram.now ≡ Ok (piece segment.now) }
-        ensures datagrams { IfOk result (λ t. t.datagrams ≡ datagrams_after self.old (piece segment.now)) }
-        ensures arrived { IfOk result (λ t. t.arrived ≡ arrived_after self.old (piece segment.now)) }
+        ensures datagrams { IfOk result (λ t.
+            t.datagrams ≡ datagrams_after self.old (piece segment.now)) }
+        ensures arrived { IfOk result (λ t.
+            t.arrived ≡ arrived_after self.old (piece segment.now)) }
         ensures dropped { IfOk result (λ t. t.dropped ≡ not (takes self.old (piece segment.now))) }
         ensures state { OnOk result (self.new ≡ after self.old (piece segment.now)) }
         ensures err { OnErr result (self.new ≡ self.old) }
@@ -325,8 +340,11 @@ impl Exchange {
         datagram: &Bytes,
     ) -> Result<(Datagrams, Arrived), NoMemory>
         requires { reading datagram.now ≡ Ok (piece segment.now) }
-        ensures datagrams { IfOk result (λ t. t.0 ≡ datagrams_of_taken self.old (piece segment.now)) }
-        ensures arrived { IfOk result (λ t. t.1 ≡ (if is_acknowledgement (piece segment.now) then Nothing else arrived_of_taken self.old (piece segment.now))) }
+        ensures datagrams { IfOk result (λ t.
+            t.0 ≡ datagrams_of_taken self.old (piece segment.now)) }
+        ensures arrived { IfOk result (λ t.
+            t.1 ≡ (if is_acknowledgement (piece segment.now) then Nothing
+            else arrived_of_taken self.old (piece segment.now))) }
         ensures state { OnOk result (self.new ≡ after_taken self.old (piece segment.now)) }
         ensures err { OnErr result (self.new ≡ self.old) }
     {
@@ -354,7 +372,8 @@ impl Exchange {
     ) -> Result<Datagrams, NoMemory>
         requires acknowledgement { is_acknowledgement (piece segment.now) ≡ true }
         requires call { segment.now.kind ≡ 0 }
-        ensures datagrams { IfOk result (λ datagrams. datagrams ≡ datagrams_of_taken self.old (piece segment.now)) }
+        ensures datagrams { IfOk result (λ datagrams.
+            datagrams ≡ datagrams_of_taken self.old (piece segment.now)) }
         ensures state { OnOk result (self.new ≡ after_taken self.old (piece segment.now)) }
         ensures err { OnErr result (self.new ≡ self.old) }
     {
@@ -392,7 +411,8 @@ impl Exchange {
         requires total { segment.now.total ≤ most_segments 2 }
         requires part { part ≡ segment.now.part.now }
         requires short { length part ≤ part_size }
-        ensures datagrams { IfOk result (λ t. t.0 ≡ datagrams_of_taken self.old (piece segment.now)) }
+        ensures datagrams { IfOk result (λ t.
+            t.0 ≡ datagrams_of_taken self.old (piece segment.now)) }
         ensures arrived { IfOk result (λ t. t.1 ≡ arrived_of_taken self.old (piece segment.now)) }
         ensures state { OnOk result (self.new ≡ after_taken self.old (piece segment.now)) }
         ensures err { OnErr result (self.new ≡ self.old) }
@@ -424,7 +444,8 @@ impl Exchange {
         requires total { segment.now.total ≤ most_segments 2 }
         requires part { part ≡ segment.now.part.now }
         requires short { length part ≤ part_size }
-        ensures datagrams { IfOk result (λ t. t.0 ≡ datagrams_of_taken self.old (piece segment.now)) }
+        ensures datagrams { IfOk result (λ t.
+            t.0 ≡ datagrams_of_taken self.old (piece segment.now)) }
         ensures arrived { IfOk result (λ t. t.1 ≡ arrived_of_taken self.old (piece segment.now)) }
         ensures state { OnOk result (self.new ≡ after_taken self.old (piece segment.now)) }
         ensures err { OnErr result (self.new ≡ self.old) }

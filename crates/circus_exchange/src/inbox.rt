@@ -89,7 +89,8 @@ impl Inbox {
         requires within { segment.now.number ≤ segment.now.total }
         ensures is_new { result.is_new ≡ is_new self.now (piece segment.now) }
         ensures count { result.count ≡ count_with self.now (piece segment.now) }
-        ensures completes { (result.is_new && (result.count == segment.now.total)) ≡ completes self.now (piece segment.now) }
+        ensures completes { (result.is_new && (result.count == segment.now.total))
+            ≡ completes self.now (piece segment.now) }
     {
         let known = self.known(segment);
         let parts = self.parts.of(segment.call);
@@ -113,8 +114,12 @@ impl Inbox {
         requires part { part.now ≡ segment.now.part.now }
         requires short { length part.now ≤ part_size }
         requires total { segment.now.total ≤ most_segments 2 }
-        requires completes { (advance.is_new && (advance.count == segment.now.total)) ≡ completes self.now (piece segment.now) }
-        ensures { IfOk result (λ message. message ≡ (if completes self.now (piece segment.now) then Some (joined (data_with self.now (piece segment.now)) segment.now.total) else None)) }
+        requires completes { (advance.is_new && (advance.count == segment.now.total))
+            ≡ completes self.now (piece segment.now) }
+        ensures { IfOk result (λ message.
+            message ≡ (if completes self.now (piece segment.now)
+            then Some (joined (data_with self.now (piece segment.now)) segment.now.total)
+            else None)) }
     {
         if !advance.completes(segment) {
             return Ok(None);
@@ -126,7 +131,8 @@ impl Inbox {
         requires part { part.now ≡ segment.now.part.now }
         requires short { length part.now ≤ part_size }
         requires total { segment.now.total ≤ most_segments 2 }
-        ensures { IfOk result (λ message. message ≡ joined (data_with self.now (piece segment.now)) segment.now.total) }
+        ensures { IfOk result (λ message.
+            message ≡ joined (data_with self.now (piece segment.now)) segment.now.total) }
     {
         let parts = self.parts.of(segment.call);
         let mut message = Parts::new(alloc);
@@ -182,7 +188,9 @@ fn has(known: Progress, parts: Option<&Series<Part>>, number: u16) -> bool
 
 // Whether a segment has data that is not there yet.
 fn is_new(known: Progress, parts: Option<&Series<Part>>, segment: &Segment<'_>) -> bool
-    ensures { result ≡ (has_data (piece segment.now) && not (is_there known (option_copied parts.entry) segment.now.number)) }
+    ensures { result
+        ≡ (has_data (piece segment.now) && not
+        (is_there known (option_copied parts.entry) segment.now.number)) }
 {
     segment.has_data() && !has(known, parts, segment.number)
 }
@@ -194,7 +202,8 @@ fn has_with(
     segment: &Segment<'_>,
     number: u16,
 ) -> bool
-    ensures { result ≡ (is_there known (option_copied parts.entry) number || number == segment.now.number) }
+    ensures { result
+        ≡ (is_there known (option_copied parts.entry) number || number == segment.now.number) }
 {
     has(known, parts, number) || number == segment.number
 }
@@ -202,7 +211,10 @@ fn has_with(
 // How many segments are there with one, from the first on without a gap.
 fn count_with(known: Progress, parts: Option<&Series<Part>>, segment: &Segment<'_>) -> u16
     requires { known.count ≤ segment.now.total }
-    ensures { result ≡ front (λ number. is_there known (option_copied parts.entry) number || number == segment.now.number) segment.now.total }
+    ensures { result
+        ≡ front (λ number.
+        is_there known (option_copied parts.entry) number || number == segment.now.number)
+        segment.now.total }
 {
     let mut count = known.count;
     while count < segment.total && has_with(known, parts, segment, count + 1) {
@@ -226,7 +238,9 @@ fn data_with(
 ) -> Result<Bytes, NoMemory>
     requires part { part.now ≡ segment.now.part.now }
     requires short { length part.now ≤ part_size }
-    ensures value { IfOk result (λ bytes. bytes ≡ (if number == segment.now.number then segment.now.part.now else unwrap_or (part_of (option_copied parts.entry) number) [])) }
+    ensures value { IfOk result (λ bytes.
+        bytes ≡ (if number == segment.now.number then segment.now.part.now
+        else unwrap_or (part_of (option_copied parts.entry) number) [])) }
     ensures short { IfOk result (λ bytes. length bytes ≤ part_size) }
 {
     if number == segment.number {

@@ -158,7 +158,10 @@ impl Outbox {
         cut: &Cut<'_>,
         datagrams: &mut Datagrams,
     ) -> Result<(), NoMemory>
-        ensures { OnOk result (datagrams.new ≡ datagrams.old ++ reminder_of cut.now.format cut.now.kind cut.now.call cut.now.message.now (map.get self.now.progress cut.now.call)) }
+        ensures { OnOk result
+            (datagrams.new ≡ datagrams.old
+            ++ reminder_of cut.now.format cut.now.kind cut.now.call cut.now.message.now
+            (map.get self.now.progress cut.now.call)) }
     {
         let Some(progress) = self.progress_of(cut.call) else {
             return Ok(());
@@ -194,7 +197,8 @@ impl Outbox {
         limit: u64,
         datagrams: &mut Datagrams,
     ) -> Result<(), NoMemory>
-        ensures { OnOk result (datagrams.new ≡ datagrams.old ++ reminders self.now format kind limit) }
+        ensures { OnOk result
+            (datagrams.new ≡ datagrams.old ++ reminders self.now format kind limit) }
     {
         for (number, message) in self.messages.iter() {
             if u64::from(*number) >= limit {

@@ -85,7 +85,8 @@ impl<V: Drop> Series<V> {
 
 // The place of a number in a row that begins at a first number, if it stands there.
 fn place_in<V>(first: u32, row: &[V], number: u32) -> Option<usize>
-    ensures { MatchOption result (IsOff first (length row.now) number) (λ place. (number ≡ first + place) × (place < length row.now)) }
+    ensures { MatchOption result (IsOff first (length row.now) number) (λ place.
+        (number ≡ first + place) × (place < length row.now)) }
 {
     let place = number.checked_sub(first)? as usize;
     if place < row.len() { Some(place) } else { None }
@@ -107,9 +108,14 @@ fn put_off_row<V: Drop>(
     value: V,
 ) -> Result<(), NoMemory>
     requires { IsOff first (length row.old.items) number }
-    ensures ok { OnOk result (seen first row.new.items others.new.entries ≡ map.insert (seen first row.old.items others.old.entries) number value) }
-    ensures err { OnErr result (seen first row.new.items others.new.entries ≡ seen first row.old.items others.old.entries) }
-    ensures known { IsSome (map.get (seen first row.old.items others.old.entries) number) → IsOk result }
+    ensures ok { OnOk result
+        (seen first row.new.items others.new.entries
+        ≡ map.insert (seen first row.old.items others.old.entries) number value) }
+    ensures err { OnErr result
+        (seen first row.new.items others.new.entries
+        ≡ seen first row.old.items others.old.entries) }
+    ensures known { IsSome (map.get (seen first row.old.items others.old.entries) number)
+        → IsOk result }
 {
     if !follows(first, row, others, number) {
         return put_other(others, number, value);
@@ -140,7 +146,8 @@ fn put_other<V: Drop>(others: &mut BTreeMap<u32, V>, number: u32, value: V) -> R
 
 // Moves the values of the numbers that follow a row into it, as far as there is memory.
 fn gather<V: Drop>(first: u32, row: &mut Vec<V>, others: &mut BTreeMap<u32, V>)
-    ensures { seen first row.new.items others.new.entries ≡ seen first row.old.items others.old.entries }
+    ensures { seen first row.new.items others.new.entries
+        ≡ seen first row.old.items others.old.entries }
 {
     while !others.is_empty() && row.reserve(1).is_ok() {
         let Some(number) = number_behind(first, row) else {

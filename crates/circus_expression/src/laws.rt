@@ -20,31 +20,37 @@ pub fn expressions_are_read()
 pub fn read_is_an_expression()
     ensures { (levels : ℕ) (all rest : List Placed) (w : Written) (end : ℕ) → AreTokens all
         → chained levels Chain.Expression (open_at all end) ≡ (w, open_at rest end)
-        → (own : List Placed) × (all ≡ own ++ rest) × Are spelling IsWritten own w × AreWithin levels (spelling w) }
+        → (own : List Placed) × (all ≡ own ++ rest) × Are spelling IsWritten own w
+        × AreWithin levels (spelling w) }
 {}
 
 /// Where reading stops and nothing is too deep, the tokens so far begin an expression, and none goes on with the next
 /// one.
 pub fn stops_at_the_unexpected()
-    ensures { (levels : ℕ) (all left : List Placed) (w : Written) (stop : Stop) (end : ℕ) → AreTokens all
+    ensures { (levels : ℕ) (all left : List Placed) (w : Written) (stop : Stop) (end : ℕ)
+        → AreTokens all
         → chained levels Chain.Expression (open_at all end)
         ≡ (w, record { rest = left; end = end; stop = Some stop })
-        → stop.cause ≡ StopCause.Unexpected → IsUnexpected spelling IsWritten all left × (stop.place ≡ place_in left end) }
+        → stop.cause ≡ StopCause.Unexpected
+        → IsUnexpected spelling IsWritten all left × (stop.place ≡ place_in left end) }
 {}
 
 /// Where reading stops and a level is too many, the tokens so far begin an expression with the next one too, and in each
 /// such expression that one stands too deep.
 pub fn stops_at_the_too_deep()
-    ensures { (levels : ℕ) (all left : List Placed) (w : Written) (stop : Stop) (end : ℕ) → AreTokens all
+    ensures { (levels : ℕ) (all left : List Placed) (w : Written) (stop : Stop) (end : ℕ)
+        → AreTokens all
         → chained levels Chain.Expression (open_at all end)
         ≡ (w, record { rest = left; end = end; stop = Some stop })
-        → stop.cause ≡ StopCause.TooDeep → IsTooDeep spelling IsWritten levels all left × (stop.place ≡ place_in left end) }
+        → stop.cause ≡ StopCause.TooDeep
+        → IsTooDeep spelling IsWritten levels all left × (stop.place ≡ place_in left end) }
 {}
 
 /// Where reading stops, the tree is that of an expression which the tokens so far begin. What it has besides them stands
 /// at the place of the stop.
 pub fn a_stop_is_filled_in()
-    ensures { (levels : ℕ) (all left : List Placed) (w : Written) (stop : Stop) (end : ℕ) → AreTokens all
+    ensures { (levels : ℕ) (all left : List Placed) (w : Written) (stop : Stop) (end : ℕ)
+        → AreTokens all
         → chained levels Chain.Expression (open_at all end)
         ≡ (w, record { rest = left; end = end; stop = Some stop })
         → IsFilledIn spelling IsWritten levels all left stop.place w }

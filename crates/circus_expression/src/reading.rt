@@ -20,14 +20,17 @@ use circus_value::NoMemory;
 /// Reads an expression of at most so many levels, or stops: `TooDeep` at the first token that opens one too
 /// many, and at the first other token with which no expression goes on (docs/LANGUAGE.md, "Expressions").
 pub fn expression_text(reader: &mut Reader<'_>, levels: u8) -> Result<Expression, NoMemory>
-    ensures { IfOk result (λ read. shown stands_for (chained levels Chain.Expression reader.old) ≡ (tree_of read, reader.new)) }
+    ensures { IfOk result (λ read.
+        shown stands_for (chained levels Chain.Expression reader.old)
+        ≡ (tree_of read, reader.new)) }
 {
     chain(reader, Chain::Expression, levels)
 }
 
 #[cycle(reading)]
 fn chain(reader: &mut Reader<'_>, of: Chain, levels: u8) -> Result<Expression, NoMemory>
-    ensures { IfOk result (λ read. shown stands_for (chained levels of reader.old) ≡ (tree_of read, reader.new)) }
+    ensures { IfOk result (λ read.
+        shown stands_for (chained levels of reader.old) ≡ (tree_of read, reader.new)) }
 {
     let left = operand(reader, of, levels)?;
     match operator(reader, of) {
@@ -46,7 +49,8 @@ fn linked(
     levels: u8,
 ) -> Result<Expression, NoMemory>
     requires { next_operator (operators of) (next reader.old) ≡ Some joint }
-    ensures { IfOk result (λ read. shown (leaning (tree_of left)) (links levels of reader.old) ≡ (tree_of read, reader.new)) }
+    ensures { IfOk result (λ read.
+        shown (leaning (tree_of left)) (links levels of reader.old) ≡ (tree_of read, reader.new)) }
 {
     let at = left.at;
     let left = Operand::new(reader.alloc(), left)?;
@@ -69,7 +73,9 @@ fn further_linked(
     levels: u8,
 ) -> Result<Expression, NoMemory>
     requires { next_operator (operators of) (next reader.old) ≡ Some joint }
-    ensures { IfOk result (λ read. shown (leaning (tree_of left)) (further_links levels of reader.old) ≡ (tree_of read, reader.new)) }
+    ensures { IfOk result (λ read.
+        shown (leaning (tree_of left)) (further_links levels of reader.old)
+        ≡ (tree_of read, reader.new)) }
 {
     if levels == 0 {
         return stop_linked(reader, left, of);
@@ -79,7 +85,8 @@ fn further_linked(
 
 #[cycle(reading)]
 fn operand(reader: &mut Reader<'_>, of: Chain, levels: u8) -> Result<Expression, NoMemory>
-    ensures { IfOk result (λ read. shown stands_for (operand levels of reader.old) ≡ (tree_of read, reader.new)) }
+    ensures { IfOk result (λ read.
+        shown stands_for (operand levels of reader.old) ≡ (tree_of read, reader.new)) }
 {
     match of {
         Chain::Expression => chain(reader, Chain::Conjunct, levels),
@@ -91,7 +98,8 @@ fn operand(reader: &mut Reader<'_>, of: Chain, levels: u8) -> Result<Expression,
 
 #[cycle(reading)]
 fn negated(reader: &mut Reader<'_>, levels: u8) -> Result<Expression, NoMemory>
-    ensures { IfOk result (λ read. shown stands_for (negated levels reader.old) ≡ (tree_of read, reader.new)) }
+    ensures { IfOk result (λ read.
+        shown stands_for (negated levels reader.old) ≡ (tree_of read, reader.new)) }
 {
     if !reader.sees_word(b"NOT") {
         return relation(reader, levels);
@@ -111,7 +119,8 @@ fn negated(reader: &mut Reader<'_>, levels: u8) -> Result<Expression, NoMemory>
 
 #[cycle(reading)]
 fn relation(reader: &mut Reader<'_>, levels: u8) -> Result<Expression, NoMemory>
-    ensures { IfOk result (λ read. shown stands_for (relation levels reader.old) ≡ (tree_of read, reader.new)) }
+    ensures { IfOk result (λ read.
+        shown stands_for (relation levels reader.old) ≡ (tree_of read, reader.new)) }
 {
     let left = chain(reader, Chain::Sum, levels)?;
     related(reader, left, levels)
@@ -120,7 +129,9 @@ fn relation(reader: &mut Reader<'_>, levels: u8) -> Result<Expression, NoMemory>
 // What stands behind the first sum of a relation, joined to it.
 #[cycle(reading)]
 fn related(reader: &mut Reader<'_>, left: Expression, levels: u8) -> Result<Expression, NoMemory>
-    ensures { IfOk result (λ read. shown (related_tree (tree_of left)) (related_within levels reader.old) ≡ (tree_of read, reader.new)) }
+    ensures { IfOk result (λ read.
+        shown (related_tree (tree_of left)) (related_within levels reader.old)
+        ≡ (tree_of read, reader.new)) }
 {
     if reader.sees_word(b"IS") {
         return arm_test(reader, left);
@@ -139,7 +150,10 @@ fn compared(
     joint: Operator,
     levels: u8,
 ) -> Result<Expression, NoMemory>
-    ensures { IfOk result (λ read. shown (λ w. joined joint (tree_of left) (stands_for w)) (chained levels Chain.Sum (skipped_by reader.old.stop reader.old.rest reader.old.end)) ≡ (tree_of read, reader.new)) }
+    ensures { IfOk result (λ read.
+        shown (λ w. joined joint (tree_of left) (stands_for w))
+        (chained levels Chain.Sum (skipped_by reader.old.stop reader.old.rest reader.old.end))
+        ≡ (tree_of read, reader.new)) }
 {
     let at = left.at;
     let left = Operand::new(reader.alloc(), left)?;
@@ -150,7 +164,8 @@ fn compared(
 
 #[cycle(reading)]
 fn factor(reader: &mut Reader<'_>, levels: u8) -> Result<Expression, NoMemory>
-    ensures { IfOk result (λ read. shown stands_for (factor levels reader.old) ≡ (tree_of read, reader.new)) }
+    ensures { IfOk result (λ read.
+        shown stands_for (factor levels reader.old) ≡ (tree_of read, reader.new)) }
 {
     if !reader.sees_sign(b"-") {
         return primary(reader, levels);
@@ -170,7 +185,8 @@ fn factor(reader: &mut Reader<'_>, levels: u8) -> Result<Expression, NoMemory>
 
 #[cycle(reading)]
 fn primary(reader: &mut Reader<'_>, levels: u8) -> Result<Expression, NoMemory>
-    ensures { IfOk result (λ read. shown stands_for (primary levels reader.old) ≡ (tree_of read, reader.new)) }
+    ensures { IfOk result (λ read.
+        shown stands_for (primary levels reader.old) ≡ (tree_of read, reader.new)) }
 {
     let at = reader.place();
     let kind = primary_kind(reader, levels)?;
@@ -179,7 +195,9 @@ fn primary(reader: &mut Reader<'_>, levels: u8) -> Result<Expression, NoMemory>
 
 #[cycle(reading)]
 fn primary_kind(reader: &mut Reader<'_>, levels: u8) -> Result<ExpressionKind, NoMemory>
-    ensures { IfOk result (λ kind. shown stands_for (primary levels reader.old) ≡ (expression (place reader.old) (kind_tree kind), reader.new)) }
+    ensures { IfOk result (λ kind.
+        shown stands_for (primary levels reader.old)
+        ≡ (expression (place reader.old) (kind_tree kind), reader.new)) }
 {
     match primary_start(reader) {
         PrimaryStart::Number => Ok(ExpressionKind::Number(reader.number().value)),
@@ -200,7 +218,9 @@ fn primary_kind(reader: &mut Reader<'_>, levels: u8) -> Result<ExpressionKind, N
 
 #[cycle(reading)]
 fn length(reader: &mut Reader<'_>, levels: u8) -> Result<ExpressionKind, NoMemory>
-    ensures { IfOk result (λ kind. shown stands_for (length_primary levels reader.old) ≡ (expression (place reader.old) (kind_tree kind), reader.new)) }
+    ensures { IfOk result (λ kind.
+        shown stands_for (length_primary levels reader.old)
+        ≡ (expression (place reader.old) (kind_tree kind), reader.new)) }
 {
     if levels == 0 {
         return Ok(stop(reader, StopCause::TooDeep)?.kind);
@@ -213,7 +233,8 @@ fn length(reader: &mut Reader<'_>, levels: u8) -> Result<ExpressionKind, NoMemor
 // What stands in the parentheses behind LENGTH.
 #[cycle(reading)]
 fn measured(reader: &mut Reader<'_>, levels: u8) -> Result<Expression, NoMemory>
-    ensures { IfOk result (λ read. shown stands_for (required_argument levels reader.old) ≡ (tree_of read, reader.new)) }
+    ensures { IfOk result (λ read.
+        shown stands_for (required_argument levels reader.old) ≡ (tree_of read, reader.new)) }
 {
     if reader.sees_sign(b"(") {
         enclosed(reader, levels)
@@ -225,7 +246,8 @@ fn measured(reader: &mut Reader<'_>, levels: u8) -> Result<Expression, NoMemory>
 // An expression in parentheses, which are a level.
 #[cycle(reading)]
 fn enclosed(reader: &mut Reader<'_>, levels: u8) -> Result<Expression, NoMemory>
-    ensures { IfOk result (λ read. shown stands_for (argument levels reader.old) ≡ (tree_of read, reader.new)) }
+    ensures { IfOk result (λ read.
+        shown stands_for (argument levels reader.old) ≡ (tree_of read, reader.new)) }
 {
     if levels == 0 {
         return stop(reader, StopCause::TooDeep);
@@ -238,7 +260,9 @@ fn enclosed(reader: &mut Reader<'_>, levels: u8) -> Result<Expression, NoMemory>
 
 #[cycle(reading)]
 fn named(reader: &mut Reader<'_>, levels: u8) -> Result<ExpressionKind, NoMemory>
-    ensures { IfOk result (λ kind. shown stands_for (named_primary levels reader.old) ≡ (expression (place reader.old) (kind_tree kind), reader.new)) }
+    ensures { IfOk result (λ kind.
+        shown stands_for (named_primary levels reader.old)
+        ≡ (expression (place reader.old) (kind_tree kind), reader.new)) }
 {
     let name = reader.name()?;
     if reader.sees_sign(b"#") {
@@ -254,7 +278,9 @@ fn named(reader: &mut Reader<'_>, levels: u8) -> Result<ExpressionKind, NoMemory
 // What stands behind a name, where a dot follows it.
 #[cycle(reading)]
 fn dotted(reader: &mut Reader<'_>, name: Named, levels: u8) -> Result<ExpressionKind, NoMemory>
-    ensures { IfOk result (λ kind. shown (λ behind. stands_for (named name behind)) (dotted levels reader.old) ≡ (expression name.at (kind_tree kind), reader.new)) }
+    ensures { IfOk result (λ kind.
+        shown (λ behind. stands_for (named name behind)) (dotted levels reader.old)
+        ≡ (expression name.at (kind_tree kind), reader.new)) }
 {
     reader.sign(b".");
     let second = reader.name()?;
@@ -274,7 +300,9 @@ fn dotted(reader: &mut Reader<'_>, name: Named, levels: u8) -> Result<Expression
 // What stands behind the name of a type: a hash, and a label, an arm with its value, or items.
 #[cycle(reading)]
 fn built(reader: &mut Reader<'_>, of: TypeName, levels: u8) -> Result<ExpressionKind, NoMemory>
-    ensures { IfOk result (λ kind. shown (λ made. stands_for (built of made)) (built_behind levels reader.old) ≡ (expression (type_place of) (kind_tree kind), reader.new)) }
+    ensures { IfOk result (λ kind.
+        shown (λ made. stands_for (built of made)) (built_behind levels reader.old)
+        ≡ (expression (type_place of) (kind_tree kind), reader.new)) }
 {
     reader.sign(b"#");
     if reader.sees_sign(b"[") {
@@ -291,7 +319,8 @@ fn built(reader: &mut Reader<'_>, of: TypeName, levels: u8) -> Result<Expression
 
 /// Reads a place of at most so many levels, or stops as `expression_text` does.
 pub fn place_text(reader: &mut Reader<'_>, levels: u8) -> Result<PlaceText, NoMemory>
-    ensures { IfOk result (λ read. shown place_stands_for (read_place levels reader.old) ≡ (place_of read, reader.new)) }
+    ensures { IfOk result (λ read.
+        shown place_stands_for (read_place levels reader.old) ≡ (place_of read, reader.new)) }
 {
     let name = reader.name()?;
     let suffixes = any_suffixes(reader, levels)?;
@@ -300,7 +329,8 @@ pub fn place_text(reader: &mut Reader<'_>, levels: u8) -> Result<PlaceText, NoMe
 
 #[cycle(reading)]
 fn any_suffixes(reader: &mut Reader<'_>, levels: u8) -> Result<Suffixes, NoMemory>
-    ensures { IfOk result (λ read. shown suffixes_stand_for (any levels reader.old) ≡ (read, reader.new)) }
+    ensures { IfOk result (λ read.
+        shown suffixes_stand_for (any levels reader.old) ≡ (read, reader.new)) }
 {
     let mut suffixes = Suffixes::new(reader.alloc());
     if !sees_suffix(reader) {
@@ -313,7 +343,9 @@ fn any_suffixes(reader: &mut Reader<'_>, levels: u8) -> Result<Suffixes, NoMemor
 // A suffix, and those that follow it.
 #[cycle(reading)]
 fn one_suffix(reader: &mut Reader<'_>, into: &mut Suffixes, levels: u8) -> Result<(), NoMemory>
-    ensures { OnOk result (shown (λ ss. into.old ++ suffixes_stand_for ss) (suffixes levels reader.old) ≡ (into.new, reader.new)) }
+    ensures { OnOk result
+        (shown (λ ss. into.old ++ suffixes_stand_for ss) (suffixes levels reader.old)
+        ≡ (into.new, reader.new)) }
 {
     if reader.sees_sign(b"[") {
         into.push(Suffix::Subscript(subscript(reader, levels)?))?;
@@ -331,7 +363,9 @@ fn further_suffixes(
     into: &mut Suffixes,
     levels: u8,
 ) -> Result<(), NoMemory>
-    ensures { OnOk result (shown (λ ss. into.old ++ suffixes_stand_for ss) (further levels reader.old) ≡ (into.new, reader.new)) }
+    ensures { OnOk result
+        (shown (λ ss. into.old ++ suffixes_stand_for ss) (further levels reader.old)
+        ≡ (into.new, reader.new)) }
 {
     if !sees_suffix(reader) {
         return Ok(());
@@ -346,7 +380,8 @@ fn further_suffixes(
 
 #[cycle(reading)]
 fn subscript(reader: &mut Reader<'_>, levels: u8) -> Result<Expression, NoMemory>
-    ensures { IfOk result (λ read. shown stands_for (subscripted levels reader.old) ≡ (tree_of read, reader.new)) }
+    ensures { IfOk result (λ read.
+        shown stands_for (subscripted levels reader.old) ≡ (tree_of read, reader.new)) }
 {
     if levels == 0 {
         return stop(reader, StopCause::TooDeep);
@@ -360,7 +395,8 @@ fn subscript(reader: &mut Reader<'_>, levels: u8) -> Result<Expression, NoMemory
 /// Reads a list of expressions in brackets, which are a level, or stops as `expression_text` does.
 #[cycle(reading)]
 pub fn list_text(reader: &mut Reader<'_>, levels: u8) -> Result<Expressions, NoMemory>
-    ensures { IfOk result (λ read. shown (map stands_for) (list levels reader.old) ≡ (read, reader.new)) }
+    ensures { IfOk result (λ read.
+        shown (map stands_for) (list levels reader.old) ≡ (read, reader.new)) }
 {
     if levels == 0 {
         reader.stop_here(StopCause::TooDeep);
@@ -374,7 +410,8 @@ pub fn list_text(reader: &mut Reader<'_>, levels: u8) -> Result<Expressions, NoM
 
 #[cycle(reading)]
 fn items(reader: &mut Reader<'_>, levels: u8) -> Result<Expressions, NoMemory>
-    ensures { IfOk result (λ read. shown (map stands_for) (items_within levels reader.old) ≡ (read, reader.new)) }
+    ensures { IfOk result (λ read.
+        shown (map stands_for) (items_within levels reader.old) ≡ (read, reader.new)) }
 {
     let mut items = Expressions::new(reader.alloc());
     if reader.sees_sign(b"]") {
@@ -396,7 +433,8 @@ fn join(
     left: Operand,
     right: Expression,
 ) -> Result<Expression, NoMemory>
-    ensures { IfOk result (λ made. tree_of made ≡ expression at (binary joint left (tree_of right))) }
+    ensures { IfOk result (λ made.
+        tree_of made ≡ expression at (binary joint left (tree_of right))) }
 {
     let right = Operand::new(reader.alloc(), right)?;
     Ok(Expression {
@@ -407,7 +445,9 @@ fn join(
 
 // IS and the name of an arm.
 fn arm_test(reader: &mut Reader<'_>, left: Expression) -> Result<Expression, NoMemory>
-    ensures { IfOk result (λ read. shown (λ arm. expression left.at (is_arm (tree_of left) arm)) (behind (word (codes "IS")) name reader.old) ≡ (tree_of read, reader.new)) }
+    ensures { IfOk result (λ read.
+        shown (λ arm. expression left.at (is_arm (tree_of left) arm))
+        (behind (word (codes "IS")) name reader.old) ≡ (tree_of read, reader.new)) }
 {
     let at = left.at;
     let operand = Operand::new(reader.alloc(), left)?;
@@ -421,7 +461,8 @@ fn arm_test(reader: &mut Reader<'_>, left: Expression) -> Result<Expression, NoM
 
 // Stops where a further operator of the chain would be a level too many.
 fn stop_linked(reader: &mut Reader<'_>, left: Expression, of: Chain) -> Result<Expression, NoMemory>
-    ensures { IfOk result (λ read. shown (leaning (tree_of left)) (no_further of reader.old) ≡ (tree_of read, reader.new)) }
+    ensures { IfOk result (λ read.
+        shown (leaning (tree_of left)) (no_further of reader.old) ≡ (tree_of read, reader.new)) }
 {
     let at = left.at;
     let left = Operand::new(reader.alloc(), left)?;
@@ -431,7 +472,8 @@ fn stop_linked(reader: &mut Reader<'_>, left: Expression, of: Chain) -> Result<E
 
 // Stops here, and fills in for an expression.
 fn stop(reader: &mut Reader<'_>, cause: StopCause) -> Result<Expression, NoMemory>
-    ensures { IfOk result (λ made. shown stands_for (stopped cause filled reader.old) ≡ (tree_of made, reader.new)) }
+    ensures { IfOk result (λ made.
+        shown stands_for (stopped cause filled reader.old) ≡ (tree_of made, reader.new)) }
 {
     reader.stop_here(cause);
     let name = reader.name()?;

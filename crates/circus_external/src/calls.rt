@@ -27,15 +27,21 @@ pub fn read(
 ) -> Result<(Value, usize), ExternalFault>
     requires { at ≤ length bytes.now }
     // What is read is spelled there.
-    ensures value { IfOk result (λ r. IsReadAt (shapes.tree_of shape.now) (values.tree_of r.0) bytes.now at r.1) }
+    ensures value { IfOk result (λ r.
+        IsReadAt (shapes.tree_of shape.now) (values.tree_of r.0) bytes.now at r.1) }
 
     // A fault is that of the bytes from the place on.
-    ensures short { (place : ℕ) → result ≡ Err (ExternalFault.Short place) → is_proper (shapes.tree_of shape.now) ≡ true
+    ensures short { (place : ℕ) → result ≡ Err (ExternalFault.Short place)
+        → is_proper (shapes.tree_of shape.now) ≡ true
         → From (IsShort (fit.fits (shapes.tree_of shape.now)) pieces (drop at bytes.now)) at place }
-    ensures not_a_value { (place : ℕ) → result ≡ Err (ExternalFault.NotAValue place) → is_proper (shapes.tree_of shape.now) ≡ true
-        → From (IsNotAValue (fit.fits (shapes.tree_of shape.now)) pieces (drop at bytes.now)) at place }
-    ensures bad_pad { (place : ℕ) → result ≡ Err (ExternalFault.BadPad place) → is_proper (shapes.tree_of shape.now) ≡ true
-        → From (IsBadPad (fit.fits (shapes.tree_of shape.now)) pieces (drop at bytes.now)) at place }
+    ensures not_a_value { (place : ℕ) → result ≡ Err (ExternalFault.NotAValue place)
+        → is_proper (shapes.tree_of shape.now) ≡ true
+        → From (IsNotAValue (fit.fits (shapes.tree_of shape.now)) pieces (drop at bytes.now)) at
+        place }
+    ensures bad_pad { (place : ℕ) → result ≡ Err (ExternalFault.BadPad place)
+        → is_proper (shapes.tree_of shape.now) ≡ true
+        → From (IsBadPad (fit.fits (shapes.tree_of shape.now)) pieces (drop at bytes.now)) at
+        place }
 
     // No other answer is given.
     ensures only { (answer : Answer ValueTree) → is_proper (shapes.tree_of shape.now) ≡ true
@@ -43,7 +49,8 @@ pub fn read(
         → Gives values.tree_of bytes.now result answer }
 
     // Which answer it is.
-    ensures exact { Gives values.tree_of bytes.now result (pure.reading (shapes.tree_of shape.now) at (drop at bytes.now)) }
+    ensures exact { Gives values.tree_of bytes.now result
+        (pure.reading (shapes.tree_of shape.now) at (drop at bytes.now)) }
 {
     read_from(alloc, &bytes, at, shape)
 }
@@ -58,15 +65,21 @@ pub fn read_parts(
 ) -> Result<(Value, usize), ExternalFault>
     requires { at ≤ length parts.now }
     // What is read is spelled there.
-    ensures value { IfOk result (λ r. IsReadAt (shapes.tree_of shape.now) (values.tree_of r.0) parts.now at r.1) }
+    ensures value { IfOk result (λ r.
+        IsReadAt (shapes.tree_of shape.now) (values.tree_of r.0) parts.now at r.1) }
 
     // A fault is that of the bytes from the place on.
-    ensures short { (place : ℕ) → result ≡ Err (ExternalFault.Short place) → is_proper (shapes.tree_of shape.now) ≡ true
+    ensures short { (place : ℕ) → result ≡ Err (ExternalFault.Short place)
+        → is_proper (shapes.tree_of shape.now) ≡ true
         → From (IsShort (fit.fits (shapes.tree_of shape.now)) pieces (drop at parts.now)) at place }
-    ensures not_a_value { (place : ℕ) → result ≡ Err (ExternalFault.NotAValue place) → is_proper (shapes.tree_of shape.now) ≡ true
-        → From (IsNotAValue (fit.fits (shapes.tree_of shape.now)) pieces (drop at parts.now)) at place }
-    ensures bad_pad { (place : ℕ) → result ≡ Err (ExternalFault.BadPad place) → is_proper (shapes.tree_of shape.now) ≡ true
-        → From (IsBadPad (fit.fits (shapes.tree_of shape.now)) pieces (drop at parts.now)) at place }
+    ensures not_a_value { (place : ℕ) → result ≡ Err (ExternalFault.NotAValue place)
+        → is_proper (shapes.tree_of shape.now) ≡ true
+        → From (IsNotAValue (fit.fits (shapes.tree_of shape.now)) pieces (drop at parts.now)) at
+        place }
+    ensures bad_pad { (place : ℕ) → result ≡ Err (ExternalFault.BadPad place)
+        → is_proper (shapes.tree_of shape.now) ≡ true
+        → From (IsBadPad (fit.fits (shapes.tree_of shape.now)) pieces (drop at parts.now)) at
+        place }
 
     // No other answer is given.
     ensures only { (answer : Answer ValueTree) → is_proper (shapes.tree_of shape.now) ≡ true
@@ -74,7 +87,8 @@ pub fn read_parts(
         → Gives values.tree_of parts.now result answer }
 
     // The answer of `read`.
-    ensures exact { Gives values.tree_of parts.now result (pure.reading (shapes.tree_of shape.now) at (drop at parts.now)) }
+    ensures exact { Gives values.tree_of parts.now result
+        (pure.reading (shapes.tree_of shape.now) at (drop at parts.now)) }
 {
     prove!(at <= parts.len());
     read_from(alloc, parts, at, shape)

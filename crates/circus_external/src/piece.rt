@@ -13,7 +13,8 @@ use std::alloc::Global;
 /// fewer than two bytes are left.
 pub fn read_word<S: ByteSource>(source: &S, at: usize) -> Result<(u16, usize), ExternalFault>
     requires { at ≤ length (S.octets source.now) }
-    ensures { Gives (λ n. n) (S.octets source.now) result (word_read at (drop at (S.octets source.now))) }
+    ensures { Gives (λ n.
+        n) (S.octets source.now) result (word_read at (drop at (S.octets source.now))) }
 {
     match word_at(source, at) {
         Some(number) => Ok((number, at + 2)),
@@ -24,7 +25,8 @@ pub fn read_word<S: ByteSource>(source: &S, at: usize) -> Result<(u16, usize), E
 /// The number of two words at a place, and the place behind it. `Short` where fewer than four bytes are left.
 pub fn read_long<S: ByteSource>(source: &S, at: usize) -> Result<(u32, usize), ExternalFault>
     requires { at ≤ length (S.octets source.now) }
-    ensures { Gives (λ n. n) (S.octets source.now) result (long_read at (drop at (S.octets source.now))) }
+    ensures { Gives (λ n.
+        n) (S.octets source.now) result (long_read at (drop at (S.octets source.now))) }
 {
     match long_at(source, at) {
         Some(number) => Ok((number, at + 4)),
@@ -41,7 +43,9 @@ pub fn read_content<S: ByteSource>(
     number: u16,
 ) -> Result<(Octets, usize), ExternalFault>
     requires { at ≤ length (S.octets source.now) }
-    ensures { Gives (λ octets. octets) (S.octets source.now) result (content_read number at (drop at (S.octets source.now))) }
+    ensures { Gives (λ octets.
+        octets) (S.octets source.now) result
+        (content_read number at (drop at (S.octets source.now))) }
 {
     let len = usize::from(number);
     let padded = len + len % 2;

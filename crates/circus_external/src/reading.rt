@@ -23,7 +23,8 @@ pub fn read_from<S: ByteSource>(
     shape: &Shape,
 ) -> Result<(Value, usize), ExternalFault>
     requires { at ≤ length (S.octets source.now) }
-    ensures { Gives values.tree_of (S.octets source.now) result (reading (shapes.tree_of shape.now) at (drop at (S.octets source.now))) }
+    ensures { Gives values.tree_of (S.octets source.now) result
+        (reading (shapes.tree_of shape.now) at (drop at (S.octets source.now))) }
 {
     match shape {
         Shape::Boolean => read_truth(source, at),
@@ -66,7 +67,8 @@ pub fn read_from<S: ByteSource>(
 
 fn read_truth<S: ByteSource>(source: &S, at: usize) -> Result<(Value, usize), ExternalFault>
     requires { at ≤ length (S.octets source.now) }
-    ensures { Gives values.tree_of (S.octets source.now) result (one_word truth_of at (drop at (S.octets source.now))) }
+    ensures { Gives values.tree_of (S.octets source.now) result
+        (one_word truth_of at (drop at (S.octets source.now))) }
 {
     match read_word(source, at)? {
         (0, next) => Ok((Value::Boolean(false), next)),
@@ -81,7 +83,8 @@ fn read_label<S: ByteSource>(
     labels: &[Label],
 ) -> Result<(Value, usize), ExternalFault>
     requires { at ≤ length (S.octets source.now) }
-    ensures { Gives values.tree_of (S.octets source.now) result (one_word (label_of labels.now) at (drop at (S.octets source.now))) }
+    ensures { Gives values.tree_of (S.octets source.now) result
+        (one_word (label_of labels.now) at (drop at (S.octets source.now))) }
 {
     let (number, next) = read_word(source, at)?;
     if has_label(labels, number) {
@@ -97,7 +100,8 @@ fn read_text<S: ByteSource>(
     at: usize,
 ) -> Result<(Octets, usize), ExternalFault>
     requires { at ≤ length (S.octets source.now) }
-    ensures { Gives (λ octets. octets) (S.octets source.now) result (text_read at (drop at (S.octets source.now))) }
+    ensures { Gives (λ octets.
+        octets) (S.octets source.now) result (text_read at (drop at (S.octets source.now))) }
 {
     let (number, next) = read_word(source, at)?;
     read_content(alloc, source, next, number)
@@ -113,7 +117,9 @@ fn read_items<S: ByteSource>(
     shape: &Shape,
 ) -> Result<(Values, usize), ExternalFault>
     requires { at ≤ length (S.octets source.now) }
-    ensures { Gives (λ ts. ts) (S.octets source.now) result (items_read (reading (shapes.tree_of shape.now)) count at (drop at (S.octets source.now))) }
+    ensures { Gives (λ ts.
+        ts) (S.octets source.now) result
+        (items_read (reading (shapes.tree_of shape.now)) count at (drop at (S.octets source.now))) }
 {
     let mut items = Values::new(alloc);
     let mut place = at;
@@ -135,7 +141,10 @@ fn read_sequence<S: ByteSource>(
     shape: &Shape,
 ) -> Result<(Values, usize), ExternalFault>
     requires { at ≤ length (S.octets source.now) }
-    ensures { Gives (λ ts. ts) (S.octets source.now) result (sequence_read (reading (shapes.tree_of shape.now)) bound at (drop at (S.octets source.now))) }
+    ensures { Gives (λ ts.
+        ts) (S.octets source.now) result
+        (sequence_read (reading (shapes.tree_of shape.now)) bound at
+        (drop at (S.octets source.now))) }
 {
     let (count, next) = read_word(source, at)?;
     if count > bound {
@@ -154,7 +163,9 @@ pub fn read_fields<S: ByteSource>(
     fields: &Fields,
 ) -> Result<(Values, usize), ExternalFault>
     requires { at ≤ length (S.octets source.now) }
-    ensures { Gives (λ ts. ts) (S.octets source.now) result (fields_reading (field_trees fields.now) at (drop at (S.octets source.now))) }
+    ensures { Gives (λ ts.
+        ts) (S.octets source.now) result
+        (fields_reading (field_trees fields.now) at (drop at (S.octets source.now))) }
 {
     let mut items = Values::new(alloc);
     let mut place = at;
@@ -175,7 +186,8 @@ fn read_choice<S: ByteSource>(
     arms: &Arms,
 ) -> Result<(Value, usize), ExternalFault>
     requires { at ≤ length (S.octets source.now) }
-    ensures { Gives values.tree_of (S.octets source.now) result (choice_read (arm_trees arms.now) at (drop at (S.octets source.now))) }
+    ensures { Gives values.tree_of (S.octets source.now) result
+        (choice_read (arm_trees arms.now) at (drop at (S.octets source.now))) }
 {
     let (number, next) = read_word(source, at)?;
     match arms.shape_of(number) {

@@ -46,7 +46,8 @@ impl ByteSource for Parts {
 /// fewer than two bytes stand from there on.
 pub fn word_at<S: ByteSource>(source: &S, at: usize) -> Option<u16>
     ensures value { result ≡ first_word (drop at (S.octets source.now)) }
-    ensures stands { IfSome result (λ n. drop at (S.octets source.now) ≡ word n ++ drop (at + 2) (S.octets source.now)) }
+    ensures stands { IfSome result (λ n.
+        drop at (S.octets source.now) ≡ word n ++ drop (at + 2) (S.octets source.now)) }
     ensures short { IfNone result (length (S.octets source.now) < at + 2) }
     ensures behind { OnSome result (at + 2 < 2 ^ 64) }
 {
@@ -62,7 +63,8 @@ pub fn word_at<S: ByteSource>(source: &S, at: usize) -> Option<u16>
 /// exactly where fewer than four bytes stand from there on.
 pub fn long_at<S: ByteSource>(source: &S, at: usize) -> Option<u32>
     ensures value { result ≡ first_long (drop at (S.octets source.now)) }
-    ensures stands { IfSome result (λ n. drop at (S.octets source.now) ≡ long n ++ drop (at + 4) (S.octets source.now)) }
+    ensures stands { IfSome result (λ n.
+        drop at (S.octets source.now) ≡ long n ++ drop (at + 4) (S.octets source.now)) }
     ensures short { IfNone result (length (S.octets source.now) < at + 4) }
     ensures behind { OnSome result (at + 4 < 2 ^ 64) }
 {

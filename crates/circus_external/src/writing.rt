@@ -78,7 +78,8 @@ fn spell_count(count: usize, out: &mut Message) -> Result<(), NoMemory>
 }
 
 fn spell_text(bytes: &[u8], out: &mut Message) -> Result<(), NoMemory>
-    ensures { OnOk result (out.new ≡ out.old ++ joined (number (word (length bytes.now)) ∷ contents bytes.now)) }
+    ensures { OnOk result
+        (out.new ≡ out.old ++ joined (number (word (length bytes.now)) ∷ contents bytes.now)) }
 {
     spell_count(bytes.len(), out)?;
     write_content(bytes, out)

@@ -59,8 +59,10 @@ impl Fanout {
         view: &View,
         down: &Nodes,
     ) -> Result<(Fanout, Sends), NoMemory>
-        ensures fanout { IfOk result (λ begun. begun.0 ≡ asking.with_view view.now down.now (asking.begun header body kind)) }
-        ensures sends { IfOk result (λ begun. begun.1 ≡ asking.calls_for_a_view view.now down.now []) }
+        ensures fanout { IfOk result (λ begun.
+            begun.0 ≡ asking.with_view view.now down.now (asking.begun header body kind)) }
+        ensures sends { IfOk result (λ begun.
+            begun.1 ≡ asking.calls_for_a_view view.now down.now []) }
     {
         let mut fanout = Fanout {
             alloc,
@@ -78,7 +80,8 @@ impl Fanout {
     /// last answer is that its view was older and that this view satisfies. After `NoMemory` nothing has changed.
     pub fn new_view(&mut self, view: &View, down: &Nodes) -> Result<Sends, NoMemory>
         ensures kept { OnOk result (self.new ≡ asking.with_view view.now down.now self.old) }
-        ensures sends { IfOk result (λ sends. sends ≡ asking.calls_for_a_view view.now down.now self.old.asked) }
+        ensures sends { IfOk result (λ sends.
+            sends ≡ asking.calls_for_a_view view.now down.now self.old.asked) }
         ensures refused { OnErr result (self.new ≡ self.old) }
     {
         let sends = calls_for_a_view(self.alloc, view, down, self.asked.as_slice())?;
@@ -90,7 +93,8 @@ impl Fanout {
     /// changed.
     pub fn replied(&mut self, node: u16, reply: Reply) -> Result<Watched, NoMemory>
         ensures kept { OnOk result (self.new ≡ asking.with_reply node reply self.old) }
-        ensures watched { IfOk result (λ watched. watched ≡ asking.watched self.old.kind self.old.said reply) }
+        ensures watched { IfOk result (λ watched.
+            watched ≡ asking.watched self.old.kind self.old.said reply) }
         ensures refused { OnErr result (self.new ≡ self.old) }
     {
         let watched = watched(self.kind, self.said.as_slice(), &reply);

@@ -77,14 +77,16 @@ impl<C: Cause> Best<C> {
 
     /// Whether nothing was found.
     pub fn is_clean(&self) -> bool
-        ensures { (faults : List (Fault C)) → self.now.fault ≡ least_from C.rank None faults → result ≡ is_clean faults }
+        ensures { (faults : List (Fault C)) → self.now.fault ≡ least_from C.rank None faults
+            → result ≡ is_clean faults }
     {
         self.fault.is_none()
     }
 
     /// Finds what was found apart.
     pub fn join(&mut self, other: Best<C>)
-        ensures { (faults : List (Fault C)) → other.fault ≡ least_from C.rank None faults → self.new.fault ≡ least_from C.rank self.old.fault faults }
+        ensures { (faults : List (Fault C)) → other.fault ≡ least_from C.rank None faults
+            → self.new.fault ≡ least_from C.rank self.old.fault faults }
     {
         if let Some(fault) = other.fault {
             self.keep(fault);
@@ -93,7 +95,8 @@ impl<C: Cause> Best<C> {
 
     /// Finds a fault at the place, if it is one.
     pub fn note(&mut self, is_fault: bool, place: u32, cause: C)
-        ensures { self.new.fault ≡ least_from C.rank self.old.fault (faults_if is_fault place cause) }
+        ensures { self.new.fault
+            ≡ least_from C.rank self.old.fault (faults_if is_fault place cause) }
     {
         if is_fault {
             self.keep(Fault { place, cause });

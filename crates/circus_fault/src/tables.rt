@@ -60,7 +60,8 @@ impl NumberSet {
     /// Adds a number, and answers whether it is new.
     pub fn insert(&mut self, number: u64) -> Result<bool, NoMemory>
         ensures new { IfOk result (λ new. new ≡ not (holds_number self.old number)) }
-        ensures added { OnOk result (holds_number self.new ≡ also_number number (holds_number self.old)) }
+        ensures added { OnOk result
+            (holds_number self.new ≡ also_number number (holds_number self.old)) }
     {
         Ok(self.set.insert(number)?)
     }

@@ -21,20 +21,23 @@ pub fn programs_are_read()
 pub fn read_is_a_program()
     ensures { (all left : List Placed) (w : WrittenProgram) (end : ℕ) → AreTokens all
         → program most_levels (open_at all end) ≡ (w, open_at left end)
-        → (left ≡ []) × Are spelling_program IsProgram all w × AreWithin most_levels (spelling_program w) }
+        → (left ≡ []) × Are spelling_program IsProgram all w
+        × AreWithin most_levels (spelling_program w) }
 {}
 
 /// Tokens have one tree.
 pub fn one_program()
     ensures { (all : List Placed) (w other : WrittenProgram)
-        → Are spelling_program IsProgram all w → Are spelling_program IsProgram all other → w ≡ other }
+        → Are spelling_program IsProgram all w → Are spelling_program IsProgram all other
+        → w ≡ other }
 {}
 
 /// Where reading stops and nothing is too deep, the tokens so far begin a program, and none goes on with the next one; at
 /// the end of the text they are none.
 pub fn stops_at_the_unexpected()
     ensures { (all left : List Placed) (w : WrittenProgram) (stop : Stop) (end : ℕ) → AreTokens all
-        → program most_levels (open_at all end) ≡ (w, record { rest = left; end = end; stop = Some stop })
+        → program most_levels (open_at all end)
+        ≡ (w, record { rest = left; end = end; stop = Some stop })
         → stop.cause ≡ StopCause.Unexpected
         → IsUnexpected spelling_program IsProgram all left × (stop.place ≡ place_in left end) }
 {}
@@ -43,15 +46,18 @@ pub fn stops_at_the_unexpected()
 /// program that one stands too deep.
 pub fn stops_at_the_too_deep()
     ensures { (all left : List Placed) (w : WrittenProgram) (stop : Stop) (end : ℕ) → AreTokens all
-        → program most_levels (open_at all end) ≡ (w, record { rest = left; end = end; stop = Some stop })
+        → program most_levels (open_at all end)
+        ≡ (w, record { rest = left; end = end; stop = Some stop })
         → stop.cause ≡ StopCause.TooDeep
-        → IsTooDeep spelling_program IsProgram most_levels all left × (stop.place ≡ place_in left end) }
+        → IsTooDeep spelling_program IsProgram most_levels all left
+        × (stop.place ≡ place_in left end) }
 {}
 
 /// Where reading stops, the tree is that of a program which the tokens so far begin. What it has besides them stands at the
 /// place of the stop.
 pub fn a_stop_is_filled_in()
     ensures { (all left : List Placed) (w : WrittenProgram) (stop : Stop) (end : ℕ) → AreTokens all
-        → program most_levels (open_at all end) ≡ (w, record { rest = left; end = end; stop = Some stop })
+        → program most_levels (open_at all end)
+        ≡ (w, record { rest = left; end = end; stop = Some stop })
         → IsFilledIn spelling_program IsProgram most_levels all left stop.place w }
 {}

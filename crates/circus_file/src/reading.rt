@@ -18,7 +18,8 @@ use circus_value::NoMemory;
 /// on, or at the end of the text, and as `TooDeep` at the token that opens level 65. What a stop cuts is filled in, whose
 /// places are that of the stop (docs/LANGUAGE.md, "Program files"). `NoMemory` is the only fault.
 pub fn program(reader: &mut Reader<'_>) -> Result<ProgramText, NoMemory>
-    ensures { IfOk result (λ read. shown program_stands_for (program most_levels reader.old) ≡ (program_of read, reader.new)) }
+    ensures { IfOk result (λ read.
+        shown program_stands_for (program most_levels reader.old) ≡ (program_of read, reader.new)) }
 {
     let format = heading(reader);
     let interfaces = interfaces(reader)?;
@@ -56,7 +57,8 @@ fn format_number(reader: &mut Reader<'_>) -> Format
 }
 
 fn interfaces(reader: &mut Reader<'_>) -> Result<InterfaceTexts, NoMemory>
-    ensures { IfOk result (λ read. interfaces most_levels reader.old ≡ (map interface_of read, reader.new)) }
+    ensures { IfOk result (λ read.
+        interfaces most_levels reader.old ≡ (map interface_of read, reader.new)) }
 {
     let mut interfaces = InterfaceTexts::new(reader.alloc());
     while reader.sees_name() {
@@ -66,7 +68,9 @@ fn interfaces(reader: &mut Reader<'_>) -> Result<InterfaceTexts, NoMemory>
 }
 
 fn modules(reader: &mut Reader<'_>) -> Result<ModuleTexts, NoMemory>
-    ensures { IfOk result (λ read. shown (map module_stands_for) (modules most_levels reader.old) ≡ (map module_of read, reader.new)) }
+    ensures { IfOk result (λ read.
+        shown (map module_stands_for) (modules most_levels reader.old)
+        ≡ (map module_of read, reader.new)) }
 {
     let mut modules = ModuleTexts::new(reader.alloc());
     while begins_module(reader) {

@@ -75,7 +75,9 @@ impl Gather {
         sender: Caller,
     ) -> Result<Added, NoMemory>
         ensures answer { IfOk result (λ added. added ≡ gathering.answer_to self.old header) }
-        ensures kept { OnOk result (self.new ≡ gathering.with_call self.old (record { header = header; body = body; sender = sender })) }
+        ensures kept { OnOk result
+            (self.new ≡ gathering.with_call self.old
+            (record { header = header; body = body; sender = sender })) }
         ensures refused { OnErr result (self.new ≡ self.old) }
     {
         let added = self.answer_to(&header)?;
@@ -129,7 +131,8 @@ impl Gather {
         views: &Views,
         down: &Nodes,
     ) -> Result<Option<&HeldCall>, NoMemory>
-        ensures { IfOk result (λ call. option_copied call ≡ gathering.call_to_start self.now views.now down.now kind index) }
+        ensures { IfOk result (λ call.
+            option_copied call ≡ gathering.call_to_start self.now views.now down.now kind index) }
     {
         let nobody = View {
             troupe: 0,
@@ -155,7 +158,8 @@ impl Gather {
     /// counts as not ended.
     pub fn finish(&mut self, index: u32, reply: Reply) -> Result<Callers, NoMemory>
         requires { gathering.reply_of self.old index ≡ None }
-        ensures callers { IfOk result (λ callers. callers ≡ gathering.answered_by_end self.old index) }
+        ensures callers { IfOk result (λ callers.
+            callers ≡ gathering.answered_by_end self.old index) }
         ensures kept { OnOk result (self.new ≡ gathering.with_end self.old index reply) }
         ensures refused { OnErr result (self.new ≡ self.old) }
     {
@@ -169,7 +173,8 @@ impl Gather {
     /// Takes a state request of an incarnation, and says who is told that a later view is required, in order of
     /// arrival. After `NoMemory` the request counts as not arrived.
     pub fn require(&mut self, incarnation: u32) -> Result<Callers, NoMemory>
-        ensures callers { IfOk result (λ callers. callers ≡ gathering.stale_answers self.old incarnation) }
+        ensures callers { IfOk result (λ callers.
+            callers ≡ gathering.stale_answers self.old incarnation) }
         ensures kept { OnOk result (self.new ≡ gathering.with_required self.old incarnation) }
         ensures refused { OnErr result (self.new ≡ self.old) }
     {
@@ -187,7 +192,8 @@ impl Gather {
     /// Notes that the member is active from an index on, and says who is told that their calls are before it, in
     /// order of arrival. After `NoMemory` the member counts as not active.
     pub fn activate(&mut self, from: u32) -> Result<Callers, NoMemory>
-        ensures callers { IfOk result (λ callers. callers ≡ gathering.before_answers self.old from) }
+        ensures callers { IfOk result (λ callers.
+            callers ≡ gathering.before_answers self.old from) }
         ensures kept { OnOk result (self.new ≡ gathering.with_first self.old from) }
         ensures refused { OnErr result (self.new ≡ self.old) }
     {
@@ -217,7 +223,8 @@ fn given_call<'a>(
     down: &Nodes,
     said: &[Said<CallValue<'a>>],
 ) -> Option<&'a HeldCall>
-    ensures { option_copied result ≡ gathering.given_call callers.now.views.now down.now kind said.now }
+    ensures { option_copied result
+        ≡ gathering.given_call callers.now.views.now down.now kind said.now }
 {
     let place = given(kind, callers, down, said)?;
     let said = said.get(place)?;

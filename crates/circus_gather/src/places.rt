@@ -22,7 +22,9 @@ pub(crate) fn note(
     index: u32,
     place: usize,
 ) -> Result<(), NoMemory>
-    ensures ok { OnOk result ((q : ℕ) → slots_seen.found places.new.entries q ≡ slots_seen.found places.old.entries q ++ (if nat_eq index q then place ∷ [] else [])) }
+    ensures ok { OnOk result
+        ((q : ℕ) → slots_seen.found places.new.entries q
+        ≡ slots_seen.found places.old.entries q ++ (if nat_eq index q then place ∷ [] else [])) }
     ensures err { OnErr result (places.new.entries ≡ places.old.entries) }
 {
     match places.get_mut(&index) {
@@ -34,7 +36,9 @@ pub(crate) fn note(
 // Notes the slot of the first call of an index.
 fn begin(alloc: Global, places: &mut Places, index: u32, place: usize) -> Result<(), NoMemory>
     requires { slots_seen.found places.old.entries index ≡ [] }
-    ensures ok { OnOk result ((q : ℕ) → slots_seen.found places.new.entries q ≡ slots_seen.found places.old.entries q ++ (if nat_eq index q then place ∷ [] else [])) }
+    ensures ok { OnOk result
+        ((q : ℕ) → slots_seen.found places.new.entries q
+        ≡ slots_seen.found places.old.entries q ++ (if nat_eq index q then place ∷ [] else [])) }
     ensures err { OnErr result (places.new.entries ≡ places.old.entries) }
 {
     let mut of_index = ListOf::new(alloc);
@@ -46,7 +50,9 @@ fn begin(alloc: Global, places: &mut Places, index: u32, place: usize) -> Result
 /// Takes out the slots of an index.
 pub(crate) fn take(alloc: Global, places: &mut Places, index: u32) -> ListOf<usize>
     ensures taken { result ≡ slots_seen.found places.old.entries index }
-    ensures left { (q : ℕ) → slots_seen.found places.new.entries q ≡ (if nat_eq index q then [] else slots_seen.found places.old.entries q) }
+    ensures left { (q : ℕ)
+        → slots_seen.found places.new.entries q
+        ≡ (if nat_eq index q then [] else slots_seen.found places.old.entries q) }
 {
     match places.swap_remove(&index) {
         Some(of_index) => of_index,
@@ -61,7 +67,10 @@ pub(crate) fn places_without(
     slots: &[Option<HeldCall>],
     group: Group,
 ) -> Result<Places, NoMemory>
-    ensures { IfOk result (λ places. (q : ℕ) → slots_seen.found places.entries q ≡ slots_seen.places_from (gathering.is_of_index «module» q) 0 (filter (stays «module» group) slots.now)) }
+    ensures { IfOk result (λ places.
+        (q : ℕ) → slots_seen.found places.entries q
+        ≡ slots_seen.places_from (gathering.is_of_index «module» q) 0
+        (filter (stays «module» group) slots.now)) }
 {
     let mut places = IndexMap::new(alloc);
     let mut place = 0;

@@ -80,7 +80,8 @@ pub(crate) fn empty(slots: &mut Vec<Option<HeldCall>>, places: &[usize])
 
 /// Gives up the slots where no call is left.
 pub(crate) fn give_up(slots: &mut Vec<Option<HeldCall>>, places: &Places)
-    ensures { ((places.now.entries ≡ []) × (slots.new.items ≡ [])) ⊎ (slots.new.items ≡ slots.old.items) }
+    ensures { ((places.now.entries ≡ []) × (slots.new.items ≡ []))
+        ⊎ (slots.new.items ≡ slots.old.items) }
 {
     if places.is_empty() {
         slots.clear();

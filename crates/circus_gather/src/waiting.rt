@@ -57,7 +57,8 @@ impl Waiting {
 
     /// Adds a call behind the others. After `NoMemory` nothing has changed.
     pub fn push(&mut self, call: HeldCall) -> Result<(), NoMemory>
-        ensures ok { OnOk result (self.new ≡ record self.old { calls = self.old.calls ++ call ∷ [] }) }
+        ensures ok { OnOk result
+            (self.new ≡ record self.old { calls = self.old.calls ++ call ∷ [] }) }
         ensures err { OnErr result (self.new ≡ self.old) }
     {
         let index = index_of(self.module, &call.header);
@@ -70,7 +71,8 @@ impl Waiting {
 
     // The calls of an index.
     fn of_index(&self, index: u32) -> Result<Calls<'_>, NoMemory>
-        ensures { IfOk result (λ calls. calls ≡ filter (gathering.is_of_index self.now.«module» index) self.now.calls) }
+        ensures { IfOk result (λ calls.
+            calls ≡ filter (gathering.is_of_index self.now.«module» index) self.now.calls) }
     {
         match self.places.get(&index) {
             Some(places) => calls_at(self.alloc, self.slots.as_slice(), places.as_slice()),
@@ -80,7 +82,9 @@ impl Waiting {
 
     /// Who made the calls of an index, in order of arrival.
     pub fn callers_of(&self, index: u32) -> Result<Callers, NoMemory>
-        ensures { IfOk result (λ callers. callers ≡ gathering.callers (filter (gathering.is_of_index self.now.«module» index) self.now.calls)) }
+        ensures { IfOk result (λ callers.
+            callers ≡ gathering.callers
+            (filter (gathering.is_of_index self.now.«module» index) self.now.calls)) }
     {
         let calls = self.of_index(index)?;
         senders(self.alloc, calls.as_slice())
@@ -88,7 +92,11 @@ impl Waiting {
 
     /// Takes out the calls of an index.
     pub fn remove_of(&mut self, index: u32)
-        ensures { self.new ≡ record self.old { calls = filter (λ c. not (gathering.is_of_index self.old.«module» index c)) self.old.calls } }
+        ensures { self.new
+            ≡ record self.old {
+              calls = filter (λ c.
+                  not (gathering.is_of_index self.old.«module» index c)) self.old.calls;
+            } }
     {
         let places = take(self.alloc, &mut self.places, index);
         empty(&mut self.slots, places.as_slice());
@@ -97,7 +105,9 @@ impl Waiting {
 
     /// Who made the calls of a group, in order of arrival.
     pub fn callers(&self, group: Group) -> Result<Callers, NoMemory>
-        ensures { IfOk result (λ callers. callers ≡ gathering.callers (filter (is_in_group self.now.«module» group) self.now.calls)) }
+        ensures { IfOk result (λ callers.
+            callers ≡ gathering.callers
+            (filter (is_in_group self.now.«module» group) self.now.calls)) }
     {
         let calls = all_calls(self.alloc, self.slots.as_slice())?;
         callers_in(self.alloc, self.module, calls.as_slice(), group)
@@ -105,7 +115,9 @@ impl Waiting {
 
     /// Takes out the calls of a group. After `NoMemory` nothing has changed.
     pub fn remove(&mut self, group: Group) -> Result<(), NoMemory>
-        ensures ok { OnOk result (self.new ≡ record self.old { calls = filter (λ c. not (is_in_group self.old.«module» group c)) self.old.calls }) }
+        ensures ok { OnOk result
+            (self.new ≡ record self.old
+            { calls = filter (λ c. not (is_in_group self.old.«module» group c)) self.old.calls }) }
         ensures err { OnErr result (self.new ≡ self.old) }
     {
         let module = self.module;
@@ -121,7 +133,10 @@ impl Waiting {
         views: &Views,
         index: u32,
     ) -> Result<ListOf<Said<CallValue<'_>>>, NoMemory>
-        ensures { IfOk result (λ said. said ≡ map gathering.as_said (filter (gathering.is_counted self.now.«module» required views.now index) self.now.calls)) }
+        ensures { IfOk result (λ said.
+            said ≡ map gathering.as_said
+            (filter (gathering.is_counted self.now.«module» required views.now index)
+            self.now.calls)) }
     {
         let calls = self.of_index(index)?;
         counted(
@@ -153,7 +168,8 @@ fn callers_in(
     calls: &[CallValue<'_>],
     group: Group,
 ) -> Result<Callers, NoMemory>
-    ensures { IfOk result (λ callers. callers ≡ gathering.callers (filter (is_in_group «module» group) calls.now)) }
+    ensures { IfOk result (λ callers.
+        callers ≡ gathering.callers (filter (is_in_group «module» group) calls.now)) }
 {
     let mut callers = ListOf::new(alloc);
     for call in calls {
@@ -173,7 +189,9 @@ fn counted<'a>(
     views: &Views,
     index: u32,
 ) -> Result<ListOf<Said<CallValue<'a>>>, NoMemory>
-    ensures { IfOk result (λ said. said ≡ map gathering.as_said (filter (gathering.is_counted «module» required views.now index) calls.now)) }
+    ensures { IfOk result (λ said.
+        said ≡ map gathering.as_said
+        (filter (gathering.is_counted «module» required views.now index) calls.now)) }
 {
     let mut said = ListOf::new(alloc);
     for call in calls {

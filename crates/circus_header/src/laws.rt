@@ -12,18 +12,22 @@ ghost use Rattle.circus_header.specs.ReplyEquality.{reply_eq};
 
 /// Bytes have one answer, but for want of memory (docs/FORMATS.md, "Headers").
 pub fn one_answer()
-    ensures calls { (bytes : List ℕ) (a b : Result (Call × ℕ) HeaderFault) → IsAnswer calls bytes a → IsAnswer calls bytes b
+    ensures calls { (bytes : List ℕ) (a b : Result (Call × ℕ) HeaderFault) → IsAnswer calls bytes a
+        → IsAnswer calls bytes b
         → (a ≡ Err fault.NoMemory → ⊥) → (b ≡ Err fault.NoMemory → ⊥) → a ≡ b }
-    ensures returns { (bytes : List ℕ) (a b : Result (ReturnHeader × ℕ) HeaderFault) → IsAnswer returns bytes a → IsAnswer returns bytes b
+    ensures returns { (bytes : List ℕ) (a b : Result (ReturnHeader × ℕ) HeaderFault)
+        → IsAnswer returns bytes a → IsAnswer returns bytes b
         → (a ≡ Err fault.NoMemory → ⊥) → (b ≡ Err fault.NoMemory → ⊥) → a ≡ b }
 {}
 
 /// What begins with a header has that header as its answer, but for want of memory (docs/FORMATS.md,
 /// "Headers").
 pub fn headers_are_read()
-    ensures calls { (bytes : List ℕ) (call : Call) (len : ℕ) (a : Result (Call × ℕ) HeaderFault) → BeginsWith calls bytes call len
+    ensures calls { (bytes : List ℕ) (call : Call) (len : ℕ) (a : Result (Call × ℕ) HeaderFault)
+        → BeginsWith calls bytes call len
         → IsAnswer calls bytes a → (a ≡ Err fault.NoMemory → ⊥) → a ≡ Ok (call, len) }
-    ensures returns { (bytes : List ℕ) (header : ReturnHeader) (len : ℕ) (a : Result (ReturnHeader × ℕ) HeaderFault) → BeginsWith returns bytes header len
+    ensures returns { (bytes : List ℕ) (header : ReturnHeader) (len : ℕ)
+        (a : Result (ReturnHeader × ℕ) HeaderFault) → BeginsWith returns bytes header len
         → IsAnswer returns bytes a → (a ≡ Err fault.NoMemory → ⊥) → a ≡ Ok (header, len) }
 {}
 

@@ -90,7 +90,8 @@ fn push_ring(
     count: u32,
     out: &mut Message,
 ) -> Result<(), NoMemory>
-    ensures { OnOk result (Written out.old (word request ∷ word troupe ∷ word node ∷ long count ∷ []) out.new) }
+    ensures { OnOk result
+        (Written out.old (word request ∷ word troupe ∷ word node ∷ long count ∷ []) out.new) }
 {
     push_word(request, out)?;
     push_word(troupe, out)?;

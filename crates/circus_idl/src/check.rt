@@ -66,7 +66,8 @@ fn list(stop: &Option<Stop>) -> Option<u32>
 }
 
 fn start<'a>(alloc: Global, stop: &Option<Stop>) -> Draft<'a>
-    ensures found { result.scope.best.fault ≡ least_from rank_of None (stop_faults Expected Deep stop.now) }
+    ensures found { result.scope.best.fault
+        ≡ least_from rank_of None (stop_faults Expected Deep stop.now) }
     ensures cut { cut_in result.scope ≡ cut_of stop.now }
     ensures before { before_of result.scope ≡ nothing cut_off }
     ensures formed { type_form result.scope.types ≡ (λ _. boolean) }
@@ -93,8 +94,17 @@ fn start<'a>(alloc: Global, stop: &Option<Stop>) -> Draft<'a>
 }
 
 fn declare_all<'a>(draft: &mut Draft<'a>, declared: &'a [DeclaredText]) -> Result<(), NoMemory>
-    ensures found { OnOk result (draft.new.scope.best.fault ≡ least_from rank_of draft.old.scope.best.fault (declarations_faults cut_off (cut_in draft.old.scope) (before_of draft.old.scope) (map declared_of declared.now))) }
-    ensures meant { OnOk result (IfNone draft.new.scope.best.fault (drafted draft.new ≡ and_then (drafted draft.old) (declarations_meant (type_form draft.old.scope.types) (known_of draft.old.scope.errors) (map declared_of declared.now)))) }
+    ensures found { OnOk result
+        (draft.new.scope.best.fault
+        ≡ least_from rank_of draft.old.scope.best.fault
+        (declarations_faults cut_off (cut_in draft.old.scope) (before_of draft.old.scope)
+        (map declared_of declared.now))) }
+    ensures meant { OnOk result
+        (IfNone draft.new.scope.best.fault
+        (drafted draft.new
+        ≡ and_then (drafted draft.old)
+        (declarations_meant (type_form draft.old.scope.types) (known_of draft.old.scope.errors)
+        (map declared_of declared.now)))) }
 {
     for item in declared {
         draft.add(item)?;
@@ -109,8 +119,13 @@ pub fn check(
     tree: &InterfaceText,
     stop: &Option<Stop>,
 ) -> Result<Interface, IdlFault>
-    ensures ok { IfOk result (λ i. (read_faults stop.now (interface_of tree.now) ≡ []) × Means (interface_of tree.now) i) }
-    ensures err { IfErr result (λ e. (e ≡ IdlFault.NoMemory) ⊎ ((f : Fault Cause) × (least_from rank_of None (read_faults stop.now (interface_of tree.now)) ≡ Some f) × (e ≡ answer_of f))) }
+    ensures ok { IfOk result (λ i.
+        (read_faults stop.now (interface_of tree.now) ≡ []) × Means (interface_of tree.now) i) }
+    ensures err { IfErr result (λ e.
+        (e ≡ IdlFault.NoMemory)
+        ⊎ ((f : Fault Cause)
+        × (least_from rank_of None (read_faults stop.now (interface_of tree.now)) ≡ Some f)
+        × (e ≡ answer_of f))) }
 {
     let mut draft = start(alloc, stop);
     note_above(&mut draft.scope.best, GREATEST_PROGRAM, tree.number);

@@ -19,8 +19,12 @@ use circus_value::{NoMemory, Shape};
 impl<'a> Scope<'a> {
     /// Declares an error.
     pub fn error(&mut self, error: &'a ErrorText) -> Result<(), NoMemory>
-        ensures found { OnOk result (self.new.best.fault ≡ least_from rank_of self.old.best.fault (declared_faults cut_off (cut_in self.old) (before_of self.old) (an_error error.now))) }
-        ensures behind { OnOk result (before_of self.new ≡ behind cut_off (before_of self.old) (an_error error.now)) }
+        ensures found { OnOk result
+            (self.new.best.fault
+            ≡ least_from rank_of self.old.best.fault
+            (declared_faults cut_off (cut_in self.old) (before_of self.old) (an_error error.now))) }
+        ensures behind { OnOk result
+            (before_of self.new ≡ behind cut_off (before_of self.old) (an_error error.now)) }
         ensures cut { OnOk result (cut_in self.new ≡ cut_in self.old) }
         ensures types { OnOk result (self.new.types ≡ self.old.types) }
     {
@@ -35,8 +39,13 @@ impl<'a> Scope<'a> {
 
     /// Declares a procedure.
     pub fn procedure(&mut self, procedure: &'a ProcedureText) -> Result<(), NoMemory>
-        ensures found { OnOk result (self.new.best.fault ≡ least_from rank_of self.old.best.fault (declared_faults cut_off (cut_in self.old) (before_of self.old) (a_procedure procedure.now))) }
-        ensures behind { OnOk result (before_of self.new ≡ behind cut_off (before_of self.old) (a_procedure procedure.now)) }
+        ensures found { OnOk result
+            (self.new.best.fault
+            ≡ least_from rank_of self.old.best.fault
+            (declared_faults cut_off (cut_in self.old) (before_of self.old)
+            (a_procedure procedure.now))) }
+        ensures behind { OnOk result
+            (before_of self.new ≡ behind cut_off (before_of self.old) (a_procedure procedure.now)) }
         ensures cut { OnOk result (cut_in self.new ≡ cut_in self.old) }
         ensures types { OnOk result (self.new.types ≡ self.old.types) }
     {
@@ -56,12 +65,22 @@ impl<'a> Scope<'a> {
 
     /// Declares a type.
     pub fn declared_type(&mut self, name: &'a Named, shape: &'a TypeText) -> Result<(), NoMemory>
-        ensures found { OnOk result (self.new.best.fault ≡ least_from rank_of self.old.best.fault (declared_faults cut_off (cut_in self.old) (before_of self.old) (a_type name.now (tree_of shape.now)))) }
-        ensures behind { OnOk result (before_of self.new ≡ behind cut_off (before_of self.old) (a_type name.now (tree_of shape.now))) }
+        ensures found { OnOk result
+            (self.new.best.fault
+            ≡ least_from rank_of self.old.best.fault
+            (declared_faults cut_off (cut_in self.old) (before_of self.old)
+            (a_type name.now (tree_of shape.now)))) }
+        ensures behind { OnOk result
+            (before_of self.new
+            ≡ behind cut_off (before_of self.old) (a_type name.now (tree_of shape.now))) }
         ensures cut { OnOk result (cut_in self.new ≡ cut_in self.old) }
 
         // While no fault is found the type's shape is kept.
-        ensures formed { OnOk result (IfNone self.new.best.fault (type_form self.new.types ≡ standing_for name.now.name (written (type_form self.old.types) (tree_of shape.now)) (type_form self.old.types))) }
+        ensures formed { OnOk result
+            (IfNone self.new.best.fault
+            (type_form self.new.types
+            ≡ standing_for name.now.name (written (type_form self.old.types) (tree_of shape.now))
+            (type_form self.old.types))) }
     {
         meet_name(&mut self.names, &mut self.best, name)?;
         let size = self.whole(1, shape)?;
@@ -72,7 +91,9 @@ impl<'a> Scope<'a> {
 
     // What a type means, while no fault is found.
     fn shape_meant(&self, shape: &TypeText) -> Result<Option<Shape>, NoMemory>
-        ensures { IfOk result (λ meant. IfNone self.now.best.fault (tree_or meant ≡ written (type_form self.now.types) (tree_of shape.now))) }
+        ensures { IfOk result (λ meant.
+            IfNone self.now.best.fault
+            (tree_or meant ≡ written (type_form self.now.types) (tree_of shape.now))) }
     {
         match self.best.fault {
             None => Ok(Some(written(self.alloc, &self.types, shape)?)),

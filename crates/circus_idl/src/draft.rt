@@ -67,11 +67,26 @@ fn numbers_meant(alloc: Global, errors: &Names, names: &[Named]) -> Result<Numbe
 
 impl<'a> Draft<'a> {
     fn add_type(&mut self, name: &'a Named, shape: &'a TypeText) -> Result<(), NoMemory>
-        ensures found { OnOk result (self.new.scope.best.fault ≡ least_from rank_of self.old.scope.best.fault (declared_faults cut_off (cut_in self.old.scope) (before_of self.old.scope) (a_type name.now (tree_of shape.now)))) }
-        ensures behind { OnOk result (before_of self.new.scope ≡ behind cut_off (before_of self.old.scope) (a_type name.now (tree_of shape.now))) }
+        ensures found { OnOk result
+            (self.new.scope.best.fault
+            ≡ least_from rank_of self.old.scope.best.fault
+            (declared_faults cut_off (cut_in self.old.scope) (before_of self.old.scope)
+            (a_type name.now (tree_of shape.now)))) }
+        ensures behind { OnOk result
+            (before_of self.new.scope
+            ≡ behind cut_off (before_of self.old.scope) (a_type name.now (tree_of shape.now))) }
         ensures cut { OnOk result (cut_in self.new.scope ≡ cut_in self.old.scope) }
-        ensures formed { OnOk result (IfNone self.new.scope.best.fault (type_form self.new.scope.types ≡ forms_behind (type_form self.old.scope.types) (a_type name.now (tree_of shape.now)))) }
-        ensures meant { OnOk result (IfNone self.new.scope.best.fault (drafted self.new ≡ and_then (drafted self.old) (declared_meant (type_form self.old.scope.types) (known_of self.old.scope.errors) (a_type name.now (tree_of shape.now))))) }
+        ensures formed { OnOk result
+            (IfNone self.new.scope.best.fault
+            (type_form self.new.scope.types
+            ≡ forms_behind (type_form self.old.scope.types)
+            (a_type name.now (tree_of shape.now)))) }
+        ensures meant { OnOk result
+            (IfNone self.new.scope.best.fault
+            (drafted self.new
+            ≡ and_then (drafted self.old)
+            (declared_meant (type_form self.old.scope.types) (known_of self.old.scope.errors)
+            (a_type name.now (tree_of shape.now))))) }
     {
         self.scope.declared_type(name, shape)?;
         if self.scope.best.fault.is_none() {
@@ -84,11 +99,23 @@ impl<'a> Draft<'a> {
     }
 
     fn add_error(&mut self, error: &'a ErrorText) -> Result<(), NoMemory>
-        ensures found { OnOk result (self.new.scope.best.fault ≡ least_from rank_of self.old.scope.best.fault (declared_faults cut_off (cut_in self.old.scope) (before_of self.old.scope) (an_error error.now))) }
-        ensures behind { OnOk result (before_of self.new.scope ≡ behind cut_off (before_of self.old.scope) (an_error error.now)) }
+        ensures found { OnOk result
+            (self.new.scope.best.fault
+            ≡ least_from rank_of self.old.scope.best.fault
+            (declared_faults cut_off (cut_in self.old.scope) (before_of self.old.scope)
+            (an_error error.now))) }
+        ensures behind { OnOk result
+            (before_of self.new.scope
+            ≡ behind cut_off (before_of self.old.scope) (an_error error.now)) }
         ensures cut { OnOk result (cut_in self.new.scope ≡ cut_in self.old.scope) }
-        ensures formed { OnOk result (type_form self.new.scope.types ≡ type_form self.old.scope.types) }
-        ensures meant { OnOk result (IfNone self.new.scope.best.fault (drafted self.new ≡ and_then (drafted self.old) (declared_meant (type_form self.old.scope.types) (known_of self.old.scope.errors) (an_error error.now)))) }
+        ensures formed { OnOk result
+            (type_form self.new.scope.types ≡ type_form self.old.scope.types) }
+        ensures meant { OnOk result
+            (IfNone self.new.scope.best.fault
+            (drafted self.new
+            ≡ and_then (drafted self.old)
+            (declared_meant (type_form self.old.scope.types) (known_of self.old.scope.errors)
+            (an_error error.now)))) }
     {
         self.scope.error(error)?;
         if self.scope.best.fault.is_none() {
@@ -102,11 +129,23 @@ impl<'a> Draft<'a> {
     }
 
     fn add_procedure(&mut self, procedure: &'a ProcedureText) -> Result<(), NoMemory>
-        ensures found { OnOk result (self.new.scope.best.fault ≡ least_from rank_of self.old.scope.best.fault (declared_faults cut_off (cut_in self.old.scope) (before_of self.old.scope) (a_procedure procedure.now))) }
-        ensures behind { OnOk result (before_of self.new.scope ≡ behind cut_off (before_of self.old.scope) (a_procedure procedure.now)) }
+        ensures found { OnOk result
+            (self.new.scope.best.fault
+            ≡ least_from rank_of self.old.scope.best.fault
+            (declared_faults cut_off (cut_in self.old.scope) (before_of self.old.scope)
+            (a_procedure procedure.now))) }
+        ensures behind { OnOk result
+            (before_of self.new.scope
+            ≡ behind cut_off (before_of self.old.scope) (a_procedure procedure.now)) }
         ensures cut { OnOk result (cut_in self.new.scope ≡ cut_in self.old.scope) }
-        ensures formed { OnOk result (type_form self.new.scope.types ≡ type_form self.old.scope.types) }
-        ensures meant { OnOk result (IfNone self.new.scope.best.fault (drafted self.new ≡ and_then (drafted self.old) (declared_meant (type_form self.old.scope.types) (known_of self.old.scope.errors) (a_procedure procedure.now)))) }
+        ensures formed { OnOk result
+            (type_form self.new.scope.types ≡ type_form self.old.scope.types) }
+        ensures meant { OnOk result
+            (IfNone self.new.scope.best.fault
+            (drafted self.new
+            ≡ and_then (drafted self.old)
+            (declared_meant (type_form self.old.scope.types) (known_of self.old.scope.errors)
+            (a_procedure procedure.now)))) }
     {
         self.scope.procedure(procedure)?;
         if self.scope.best.fault.is_none() {
@@ -118,11 +157,25 @@ impl<'a> Draft<'a> {
 
     /// One more declaration.
     pub fn add(&mut self, declared: &'a DeclaredText) -> Result<(), NoMemory>
-        ensures found { OnOk result (self.new.scope.best.fault ≡ least_from rank_of self.old.scope.best.fault (declared_faults cut_off (cut_in self.old.scope) (before_of self.old.scope) (declared_of declared.now))) }
-        ensures behind { OnOk result (before_of self.new.scope ≡ behind cut_off (before_of self.old.scope) (declared_of declared.now)) }
+        ensures found { OnOk result
+            (self.new.scope.best.fault
+            ≡ least_from rank_of self.old.scope.best.fault
+            (declared_faults cut_off (cut_in self.old.scope) (before_of self.old.scope)
+            (declared_of declared.now))) }
+        ensures behind { OnOk result
+            (before_of self.new.scope
+            ≡ behind cut_off (before_of self.old.scope) (declared_of declared.now)) }
         ensures cut { OnOk result (cut_in self.new.scope ≡ cut_in self.old.scope) }
-        ensures formed { OnOk result (IfNone self.new.scope.best.fault (type_form self.new.scope.types ≡ forms_behind (type_form self.old.scope.types) (declared_of declared.now))) }
-        ensures meant { OnOk result (IfNone self.new.scope.best.fault (drafted self.new ≡ and_then (drafted self.old) (declared_meant (type_form self.old.scope.types) (known_of self.old.scope.errors) (declared_of declared.now)))) }
+        ensures formed { OnOk result
+            (IfNone self.new.scope.best.fault
+            (type_form self.new.scope.types
+            ≡ forms_behind (type_form self.old.scope.types) (declared_of declared.now))) }
+        ensures meant { OnOk result
+            (IfNone self.new.scope.best.fault
+            (drafted self.new
+            ≡ and_then (drafted self.old)
+            (declared_meant (type_form self.old.scope.types) (known_of self.old.scope.errors)
+            (declared_of declared.now)))) }
     {
         match declared {
             DeclaredText::Type(name, shape) => self.add_type(name, shape),
@@ -133,7 +186,9 @@ impl<'a> Draft<'a> {
 }
 
 fn procedure_meant(scope: &Scope, procedure: &ProcedureText) -> Result<Procedure, NoMemory>
-    ensures { IfOk result (λ meant. meant ≡ procedure_meant (type_form scope.now.types) (known_of scope.now.errors) procedure.now) }
+    ensures { IfOk result (λ meant.
+        meant ≡ procedure_meant (type_form scope.now.types)
+        (known_of scope.now.errors) procedure.now) }
 {
     let alloc = scope.alloc;
     Ok(Procedure {

@@ -56,7 +56,8 @@ impl<'a> ErrorsByNumber<'a> {
 }
 
 fn places_of(alloc: Global, errors: &[DeclaredError]) -> Result<BTreeMap<u16, usize>, NoMemory>
-    ensures { IfOk result (λ places. (n : ℕ) → get nat_cmp places n ≡ position_from (has_number n) 0 errors.now) }
+    ensures { IfOk result (λ places.
+        (n : ℕ) → get nat_cmp places n ≡ position_from (has_number n) 0 errors.now) }
 {
     let mut places = BTreeMap::new(alloc);
     for (place, error) in errors.iter().enumerate() {

@@ -20,8 +20,10 @@ pub fn shown_has_tokens()
 
 /// The tokens of an interface's text are that interface again: they break no rule, and mean it and no other.
 pub fn shown_is_read()
-    ensures { (i : Interface) (found : List Token) → Obeys i → AreTokensOf (spaced (lexemes i)) found
-        → (tree : InterfaceTree) × IsInterface (placed_from (spaced (lexemes i)) found 0) tree × IsWithin most_levels tree
+    ensures { (i : Interface) (found : List Token) → Obeys i
+        → AreTokensOf (spaced (lexemes i)) found
+        → (tree : InterfaceTree) × IsInterface (placed_from (spaced (lexemes i)) found 0) tree
+        × IsWithin most_levels tree
         × (interface_faults (cut_of None) tree ≡ [])
         × Means tree i × ((j : Interface) → Means tree j → j ≡ i) }
 {}

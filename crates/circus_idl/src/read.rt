@@ -47,18 +47,24 @@ pub fn read_interface(
 
     // Where reading stopped, what was read begins an interface, and none goes on with the next token.
     ensures expected { (place : ℕ) → result ≡ Err (IdlFault.Expected place) → (left : List Placed)
-        × IsUnexpected (placed_from text.now tokens.now at) left × (place ≡ place_in left (length text.now)) }
+        × IsUnexpected (placed_from text.now tokens.now at) left
+        × (place ≡ place_in left (length text.now)) }
     ensures deep { (place : ℕ) → result ≡ Err (IdlFault.Deep place) → (left : List Placed)
-        × IsTooDeep (placed_from text.now tokens.now at) left × (place ≡ place_in left (length text.now)) }
+        × IsTooDeep (placed_from text.now tokens.now at) left
+        × (place ≡ place_in left (length text.now)) }
 
     // An interface without a fault is read wherever memory suffices.
-    ensures accepts { (own rest : List Placed) (tree : InterfaceTree) → placed_from text.now tokens.now at ≡ own ++ rest
-        → IsInterface own tree → IsWithin most_levels tree → interface_faults (cut_of None) tree ≡ []
+    ensures accepts { (own rest : List Placed) (tree : InterfaceTree)
+        → placed_from text.now tokens.now at ≡ own ++ rest
+        → IsInterface own tree → IsWithin most_levels tree
+        → interface_faults (cut_of None) tree ≡ []
         → IfErr result (λ e. e ≡ IdlFault.NoMemory) }
 
     // The text of an interface that obeys the rules is read as that interface, to its end.
-    ensures again { (i : Interface) → Obeys i → text.now ≡ spaced (lexemes i) → AreTokensOf text.now tokens.now → at ≡ 0
-        → IfOk result (λ read. (read.0 ≡ i) × (read.1 ≡ length tokens.now)) × IfErr result (λ e. e ≡ IdlFault.NoMemory) }
+    ensures again { (i : Interface) → Obeys i → text.now ≡ spaced (lexemes i)
+        → AreTokensOf text.now tokens.now → at ≡ 0
+        → IfOk result (λ read. (read.0 ≡ i) × (read.1 ≡ length tokens.now))
+        × IfErr result (λ e. e ≡ IdlFault.NoMemory) }
 {
     let read = read_interface_text(alloc, text, tokens, at)?;
     let interface = check(alloc, &read.interface, &read.stop)?;

@@ -41,7 +41,9 @@ pub struct Scope<'a> {
 
 // Whether no fault stands inside of the types of fields and among their names.
 fn are_clean(alloc: Global, types: &Types, groups: &[GroupText]) -> Result<bool, NoMemory>
-    ensures { IfOk result (λ clean. clean ≡ is_clean (faults.repeated_names no_name (group_names (group_trees (map group_of groups.now)))
+    ensures { IfOk result (λ clean.
+        clean ≡ is_clean
+        (faults.repeated_names no_name (group_names (group_trees (map group_of groups.now)))
         ++ faults.inside_groups (is_known types.now) (group_trees (map group_of groups.now)))) }
 {
     let mut own: Best<Cause> = Best { fault: None };
@@ -54,9 +56,16 @@ impl<'a> Scope<'a> {
     /// A whole type that so many names share. It answers the type's size.
     pub fn whole(&mut self, count: usize, shape: &TypeText) -> Result<Measure, NoMemory>
         ensures found { OnOk result (self.new.best.fault ≡ least_from rank_of self.old.best.fault
-            (whole.whole_faults cut_off (cut_in self.old) (is_known self.old.types) (type_measure self.old.types) self.old.parts count (tree_of shape.now))) }
-        ensures others { OnOk result (self.new ≡ record self.old { best = self.new.best; parts = more_parts self.old.parts count (measured (by_name (type_measure self.old.types)) (tree_of shape.now)) }) }
-        ensures sized { IfOk result (λ measure. measure ≡ measured (by_name (type_measure self.old.types)) (tree_of shape.now)) }
+            (whole.whole_faults cut_off (cut_in self.old) (is_known self.old.types)
+            (type_measure self.old.types) self.old.parts count (tree_of shape.now))) }
+        ensures others { OnOk result
+            (self.new ≡ record self.old {
+              best = self.new.best;
+              parts = more_parts self.old.parts count
+                  (measured (by_name (type_measure self.old.types)) (tree_of shape.now));
+            }) }
+        ensures sized { IfOk result (λ measure.
+            measure ≡ measured (by_name (type_measure self.old.types)) (tree_of shape.now)) }
     {
         whole(
             self.alloc,
@@ -71,8 +80,15 @@ impl<'a> Scope<'a> {
 
     fn groups(&mut self, groups: &[GroupText]) -> Result<(), NoMemory>
         ensures found { OnOk result (self.new.best.fault ≡ least_from rank_of self.old.best.fault
-            (whole.groups_faults cut_off (cut_in self.old) (is_known self.old.types) (type_measure self.old.types) self.old.parts (group_trees (map group_of groups.now)))) }
-        ensures others { OnOk result (self.new ≡ record self.old { best = self.new.best; parts = whole.groups_parts cut_off (type_measure self.old.types) self.old.parts (group_trees (map group_of groups.now)) }) }
+            (whole.groups_faults cut_off (cut_in self.old) (is_known self.old.types)
+            (type_measure self.old.types) self.old.parts (group_trees (map group_of groups.now)))) }
+        ensures others { OnOk result
+            (self.new ≡ record self.old {
+              best = self.new.best;
+              parts = whole.groups_parts cut_off
+                  (type_measure self.old.types) self.old.parts
+                  (group_trees (map group_of groups.now));
+            }) }
     {
         for group in groups {
             self.whole(group.names.len(), &group.shape)?;
@@ -83,8 +99,14 @@ impl<'a> Scope<'a> {
     /// A list of fields, where it is written.
     pub fn fields(&mut self, fields: &Option<FieldsText>) -> Result<(), NoMemory>
         ensures found { OnOk result (self.new.best.fault ≡ least_from rank_of self.old.best.fault
-            (whole.fields_faults cut_off (cut_in self.old) (is_known self.old.types) (type_measure self.old.types) self.old.parts fields.now)) }
-        ensures others { OnOk result (self.new ≡ record self.old { best = self.new.best; parts = whole.fields_parts cut_off (type_measure self.old.types) self.old.parts fields.now }) }
+            (whole.fields_faults cut_off (cut_in self.old) (is_known self.old.types)
+            (type_measure self.old.types) self.old.parts fields.now)) }
+        ensures others { OnOk result
+            (self.new ≡ record self.old {
+              best = self.new.best;
+              parts = whole.fields_parts cut_off
+                  (type_measure self.old.types) self.old.parts fields.now;
+            }) }
     {
         if let Some(fields) = fields {
             field_names(self.alloc, &mut self.best, fields.groups.as_slice())?;
@@ -96,7 +118,8 @@ impl<'a> Scope<'a> {
     /// The arguments of a procedure together.
     pub fn together(&mut self, name: &Named, fields: &Option<FieldsText>) -> Result<(), NoMemory>
         ensures found { OnOk result (self.new.best.fault ≡ least_from rank_of self.old.best.fault
-            (whole.together_faults cut_off (cut_in self.old) (is_known self.old.types) (type_measure self.old.types) name.now fields.now)) }
+            (whole.together_faults cut_off (cut_in self.old) (is_known self.old.types)
+            (type_measure self.old.types) name.now fields.now)) }
         ensures others { OnOk result (self.new ≡ record self.old { best = self.new.best }) }
     {
         if let Some(fields) = fields {
@@ -111,7 +134,9 @@ impl<'a> Scope<'a> {
 
     /// The errors that a procedure reports.
     pub fn reports(&mut self, names: &Option<Nameds>)
-        ensures found { self.new.best.fault ≡ least_from rank_of self.old.best.fault (whole.reports_faults (known_of self.old.errors) names.now) }
+        ensures found { self.new.best.fault
+            ≡ least_from rank_of self.old.best.fault
+            (whole.reports_faults (known_of self.old.errors) names.now) }
         ensures others { self.new ≡ record self.old { best = self.new.best } }
     {
         if let Some(names) = names {
@@ -122,7 +147,8 @@ impl<'a> Scope<'a> {
 
 // Names that are those of no errors.
 fn unknown_errors(best: &mut Best<Cause>, errors: &Names, names: &[Named])
-    ensures { best.new.fault ≡ least_from rank_of best.old.fault (whole.unknown_errors (known_of errors.now) names.now) }
+    ensures { best.new.fault
+        ≡ least_from rank_of best.old.fault (whole.unknown_errors (known_of errors.now) names.now) }
 {
     for name in names {
         let known = errors.get(name.name.as_slice());

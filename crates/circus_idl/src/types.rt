@@ -77,8 +77,10 @@ impl<'a> Types<'a> {
         shape: Option<Shape>,
     ) -> Result<(), NoMemory>
         ensures known { OnOk result (is_known self.new ≡ also_name name.now (is_known self.old)) }
-        ensures sized { OnOk result (type_measure self.new ≡ standing_for name.now measure (type_measure self.old)) }
-        ensures formed { OnOk result (type_form self.new ≡ standing_for name.now (tree_or shape) (type_form self.old)) }
+        ensures sized { OnOk result
+            (type_measure self.new ≡ standing_for name.now measure (type_measure self.old)) }
+        ensures formed { OnOk result
+            (type_form self.new ≡ standing_for name.now (tree_or shape) (type_form self.old)) }
     {
         self.table.insert(name, KnownType { measure, shape })?;
         Ok(())

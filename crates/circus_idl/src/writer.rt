@@ -111,7 +111,8 @@ impl Writer {
 
     #[cycle(writing)]
     fn shape(&mut self, shape: &Shape) -> Result<(), NoMemory>
-        ensures { OnOk result (self.new ≡ self.old ++ led (shown.type_lexemes (tree_of shape.now))) }
+        ensures { OnOk result
+            (self.new ≡ self.old ++ led (shown.type_lexemes (tree_of shape.now))) }
     {
         match shape {
             Shape::Boolean => self.words(" BOOLEAN"),
@@ -141,7 +142,8 @@ impl Writer {
     }
 
     fn enumeration(&mut self, labels: &Labels) -> Result<(), NoMemory>
-        ensures { OnOk result (self.new ≡ self.old ++ led (shown.type_lexemes (enumeration labels.now))) }
+        ensures { OnOk result
+            (self.new ≡ self.old ++ led (shown.type_lexemes (enumeration labels.now))) }
     {
         self.words(" {")?;
         self.labels(labels)?;
@@ -151,7 +153,9 @@ impl Writer {
     // The number and the type of the items of an array or a sequence.
     #[cycle(writing)]
     fn items(&mut self, len: u16, shape: &Shape) -> Result<(), NoMemory>
-        ensures { OnOk result (self.new ≡ self.old ++ led (shown.items_lexemes len (shown.type_lexemes (tree_of shape.now)))) }
+        ensures { OnOk result
+            (self.new ≡ self.old
+            ++ led (shown.items_lexemes len (shown.type_lexemes (tree_of shape.now)))) }
     {
         self.numeral(u32::from(len))?;
         self.words(" OF")?;
@@ -169,7 +173,9 @@ impl Writer {
 
     #[cycle(writing)]
     fn fields_inside(&mut self, fields: &[Field]) -> Result<(), NoMemory>
-        ensures { OnOk result (self.new ≡ self.old ++ led (shown.fields_inside (field_trees (map field_of fields.now)))) }
+        ensures { OnOk result
+            (self.new ≡ self.old
+            ++ led (shown.fields_inside (field_trees (map field_of fields.now)))) }
     {
         for (place, field) in fields.iter().enumerate() {
             if place > 0 {
@@ -182,7 +188,10 @@ impl Writer {
 
     #[cycle(writing)]
     fn field(&mut self, field: &Field) -> Result<(), NoMemory>
-        ensures { OnOk result (self.new ≡ self.old ++ led (shown.field_lexemes field.now.name (shown.type_lexemes (tree_of field.now.shape)))) }
+        ensures { OnOk result
+            (self.new ≡ self.old
+            ++ led (shown.field_lexemes field.now.name
+            (shown.type_lexemes (tree_of field.now.shape)))) }
     {
         self.name(&field.name)?;
         self.words(" :")?;
@@ -200,7 +209,8 @@ impl Writer {
 
     #[cycle(writing)]
     fn arms_inside(&mut self, arms: &[Arm]) -> Result<(), NoMemory>
-        ensures { OnOk result (self.new ≡ self.old ++ led (shown.arms_inside (arm_trees (map arm_of arms.now)))) }
+        ensures { OnOk result
+            (self.new ≡ self.old ++ led (shown.arms_inside (arm_trees (map arm_of arms.now)))) }
     {
         for (place, arm) in arms.iter().enumerate() {
             if place > 0 {
@@ -213,7 +223,10 @@ impl Writer {
 
     #[cycle(writing)]
     fn arm(&mut self, arm: &Arm) -> Result<(), NoMemory>
-        ensures { OnOk result (self.new ≡ self.old ++ led (shown.arm_lexemes arm.now.name arm.now.number (shown.type_lexemes (tree_of arm.now.shape)))) }
+        ensures { OnOk result
+            (self.new ≡ self.old
+            ++ led (shown.arm_lexemes arm.now.name arm.now.number
+            (shown.type_lexemes (tree_of arm.now.shape)))) }
     {
         self.label(&arm.name, arm.number)?;
         self.words(" =>")?;
@@ -277,7 +290,8 @@ impl Writer {
     }
 
     fn types(&mut self, types: &[DeclaredType]) -> Result<(), NoMemory>
-        ensures { OnOk result (self.new ≡ self.old ++ led (flat_map shown.declared_type types.now)) }
+        ensures { OnOk result
+            (self.new ≡ self.old ++ led (flat_map shown.declared_type types.now)) }
     {
         for declared in types {
             self.declared_type(declared)?;
@@ -286,7 +300,8 @@ impl Writer {
     }
 
     fn errors(&mut self, errors: &[DeclaredError]) -> Result<(), NoMemory>
-        ensures { OnOk result (self.new ≡ self.old ++ led (flat_map shown.declared_error errors.now)) }
+        ensures { OnOk result
+            (self.new ≡ self.old ++ led (flat_map shown.declared_error errors.now)) }
     {
         for error in errors {
             self.declared_error(error)?;
@@ -300,7 +315,9 @@ impl Writer {
         procedures: &[Procedure],
         errors: &ErrorsByNumber,
     ) -> Result<(), NoMemory>
-        ensures { OnOk result (self.new ≡ self.old ++ led (flat_map (shown.declared_procedure errors.now.errors.now) procedures.now)) }
+        ensures { OnOk result
+            (self.new ≡ self.old
+            ++ led (flat_map (shown.declared_procedure errors.now.errors.now) procedures.now)) }
     {
         for procedure in procedures {
             self.procedure(procedure, errors)?;
@@ -309,7 +326,9 @@ impl Writer {
     }
 
     fn procedure(&mut self, procedure: &Procedure, errors: &ErrorsByNumber) -> Result<(), NoMemory>
-        ensures { OnOk result (self.new ≡ self.old ++ led (shown.declared_procedure errors.now.errors.now procedure.now)) }
+        ensures { OnOk result
+            (self.new ≡ self.old
+            ++ led (shown.declared_procedure errors.now.errors.now procedure.now)) }
     {
         self.name(&procedure.name)?;
         self.words(" : PROCEDURE")?;
@@ -319,7 +338,9 @@ impl Writer {
 
     #[tactic(auto, unfolding(crate::specs::Shown::signature_lexemes))]
     fn signature(&mut self, procedure: &Procedure, errors: &ErrorsByNumber) -> Result<(), NoMemory>
-        ensures { OnOk result (self.new ≡ self.old ++ led (shown.signature_lexemes errors.now.errors.now procedure.now)) }
+        ensures { OnOk result
+            (self.new ≡ self.old
+            ++ led (shown.signature_lexemes errors.now.errors.now procedure.now)) }
     {
         self.optional_fields(&procedure.arguments)?;
         self.results(&procedure.results)?;
@@ -327,7 +348,8 @@ impl Writer {
     }
 
     fn reports(&mut self, numbers: &[u16], errors: &ErrorsByNumber) -> Result<(), NoMemory>
-        ensures { OnOk result (self.new ≡ self.old ++ led (shown.reports_lexemes errors.now.errors.now numbers.now)) }
+        ensures { OnOk result
+            (self.new ≡ self.old ++ led (shown.reports_lexemes errors.now.errors.now numbers.now)) }
     {
         if numbers.is_empty() {
             return Ok(());
@@ -337,7 +359,8 @@ impl Writer {
     }
 
     fn names(&mut self, numbers: &[u16], errors: &ErrorsByNumber) -> Result<(), NoMemory>
-        ensures { OnOk result (self.new ≡ self.old ++ led (shown.names_lexemes errors.now.errors.now numbers.now)) }
+        ensures { OnOk result
+            (self.new ≡ self.old ++ led (shown.names_lexemes errors.now.errors.now numbers.now)) }
     {
         self.words(" [")?;
         self.error_names(numbers, errors)?;
@@ -345,7 +368,8 @@ impl Writer {
     }
 
     fn error_names(&mut self, numbers: &[u16], errors: &ErrorsByNumber) -> Result<(), NoMemory>
-        ensures { OnOk result (self.new ≡ self.old ++ led (shown.names_inside errors.now.errors.now numbers.now)) }
+        ensures { OnOk result
+            (self.new ≡ self.old ++ led (shown.names_inside errors.now.errors.now numbers.now)) }
     {
         for (place, number) in numbers.iter().enumerate() {
             if place > 0 {

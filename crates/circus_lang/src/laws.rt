@@ -38,7 +38,8 @@ pub fn stops_at_the_unexpected()
     ensures { (all left : List Placed) (w : WrittenModule) (stop : Stop) (end : ℕ) → AreTokens all
         → module_text most_levels (open_at all end)
         ≡ (w, record { rest = left; end = end; stop = Some stop })
-        → stop.cause ≡ StopCause.Unexpected → IsUnexpected spelling_module IsModule all left × NoneEnds all left
+        → stop.cause ≡ StopCause.Unexpected
+        → IsUnexpected spelling_module IsModule all left × NoneEnds all left
         × (stop.place ≡ place_in left end) }
 {}
 
@@ -48,7 +49,8 @@ pub fn stops_at_the_too_deep()
     ensures { (all left : List Placed) (w : WrittenModule) (stop : Stop) (end : ℕ) → AreTokens all
         → module_text most_levels (open_at all end)
         ≡ (w, record { rest = left; end = end; stop = Some stop })
-        → stop.cause ≡ StopCause.TooDeep → IsTooDeep spelling_module IsModule most_levels all left × NoneEnds all left
+        → stop.cause ≡ StopCause.TooDeep
+        → IsTooDeep spelling_module IsModule most_levels all left × NoneEnds all left
         × (stop.place ≡ place_in left end) }
 {}
 

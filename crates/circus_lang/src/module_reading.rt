@@ -21,7 +21,9 @@ pub fn begins_module(reader: &Reader<'_>) -> bool
 
 /// Reads a module or a root of at most 64 levels, or stops (docs/LANGUAGE.md, "Modules").
 pub fn module_or_root(reader: &mut Reader<'_>) -> Result<ModuleText, NoMemory>
-    ensures { IfOk result (λ read. shown module_stands_for (module_text most_levels reader.old) ≡ (module_of read, reader.new)) }
+    ensures { IfOk result (λ read.
+        shown module_stands_for (module_text most_levels reader.old)
+        ≡ (module_of read, reader.new)) }
 {
     if reader.sees_word(b"ROOT") {
         root(reader)
@@ -32,7 +34,9 @@ pub fn module_or_root(reader: &mut Reader<'_>) -> Result<ModuleText, NoMemory>
 
 // A module that implements an interface.
 fn serving(reader: &mut Reader<'_>) -> Result<ModuleText, NoMemory>
-    ensures { IfOk result (λ read. shown module_stands_for (serving_module most_levels reader.old) ≡ (module_of read, reader.new)) }
+    ensures { IfOk result (λ read.
+        shown module_stands_for (serving_module most_levels reader.old)
+        ≡ (module_of read, reader.new)) }
 {
     reader.word(b"MODULE");
     let name = reader.name()?;
@@ -53,7 +57,9 @@ fn serving(reader: &mut Reader<'_>) -> Result<ModuleText, NoMemory>
 }
 
 fn root(reader: &mut Reader<'_>) -> Result<ModuleText, NoMemory>
-    ensures { IfOk result (λ read. shown module_stands_for (root_module most_levels reader.old) ≡ (module_of read, reader.new)) }
+    ensures { IfOk result (λ read.
+        shown module_stands_for (root_module most_levels reader.old)
+        ≡ (module_of read, reader.new)) }
 {
     reader.word(b"ROOT");
     let name = reader.name()?;
@@ -94,7 +100,8 @@ fn imports(reader: &mut Reader<'_>) -> Result<Nameds, NoMemory>
 }
 
 fn variables(reader: &mut Reader<'_>) -> Result<VariableTexts, NoMemory>
-    ensures { IfOk result (λ read. variables most_levels reader.old ≡ (map variable_of read, reader.new)) }
+    ensures { IfOk result (λ read.
+        variables most_levels reader.old ≡ (map variable_of read, reader.new)) }
 {
     let mut variables = VariableTexts::new(reader.alloc());
     while reader.sees_word(b"VAR") {
@@ -104,7 +111,8 @@ fn variables(reader: &mut Reader<'_>) -> Result<VariableTexts, NoMemory>
 }
 
 fn variable(reader: &mut Reader<'_>) -> Result<VariableText, NoMemory>
-    ensures { IfOk result (λ read. variable most_levels reader.old ≡ (variable_of read, reader.new)) }
+    ensures { IfOk result (λ read.
+        variable most_levels reader.old ≡ (variable_of read, reader.new)) }
 {
     reader.word(b"VAR");
     let name = reader.name()?;
@@ -115,7 +123,9 @@ fn variable(reader: &mut Reader<'_>) -> Result<VariableText, NoMemory>
 }
 
 fn procedures(reader: &mut Reader<'_>) -> Result<ProcedureTexts, NoMemory>
-    ensures { IfOk result (λ read. shown (map procedure_stands_for) (procedures most_levels reader.old) ≡ (map procedure_of read, reader.new)) }
+    ensures { IfOk result (λ read.
+        shown (map procedure_stands_for) (procedures most_levels reader.old)
+        ≡ (map procedure_of read, reader.new)) }
 {
     let mut procedures = ProcedureTexts::new(reader.alloc());
     while reader.sees_word(b"PROCEDURE") {
@@ -125,7 +135,9 @@ fn procedures(reader: &mut Reader<'_>) -> Result<ProcedureTexts, NoMemory>
 }
 
 fn procedure(reader: &mut Reader<'_>) -> Result<ProcedureText, NoMemory>
-    ensures { IfOk result (λ read. shown procedure_stands_for (procedure most_levels reader.old) ≡ (procedure_of read, reader.new)) }
+    ensures { IfOk result (λ read.
+        shown procedure_stands_for (procedure most_levels reader.old)
+        ≡ (procedure_of read, reader.new)) }
 {
     reader.word(b"PROCEDURE");
     let name = reader.name()?;
@@ -139,7 +151,9 @@ fn procedure(reader: &mut Reader<'_>) -> Result<ProcedureText, NoMemory>
 
 // The procedure of a root.
 fn main_procedure(reader: &mut Reader<'_>) -> Result<ProcedureText, NoMemory>
-    ensures { IfOk result (λ read. shown main_stands_for (main_procedure most_levels reader.old) ≡ (procedure_of read, reader.new)) }
+    ensures { IfOk result (λ read.
+        shown main_stands_for (main_procedure most_levels reader.old)
+        ≡ (procedure_of read, reader.new)) }
 {
     let mut name = Name::new(reader.alloc());
     name.append(b"MAIN")?;
@@ -154,7 +168,9 @@ fn main_procedure(reader: &mut Reader<'_>) -> Result<ProcedureText, NoMemory>
 }
 
 fn body(reader: &mut Reader<'_>) -> Result<(VariableTexts, Statements), NoMemory>
-    ensures { IfOk result (λ read. shown body_stands_for (body most_levels reader.old) ≡ (record { variables = map variable_of read.0; statements = read.1 }, reader.new)) }
+    ensures { IfOk result (λ read.
+        shown body_stands_for (body most_levels reader.old)
+        ≡ (record { variables = map variable_of read.0; statements = read.1 }, reader.new)) }
 {
     let variables = variables(reader)?;
     let statements = statements_text(reader, b"BEGIN", MOST_LEVELS)?;

@@ -54,17 +54,21 @@ pub fn read_module(
     // many levels.
     ensures expected { (place : ℕ) → result ≡ Err (LangFault.Expected place) → (left : List Placed)
         × IsUnexpected spelling_module IsModule (placed_from text.now tokens.now at) left
-        × NoneEnds (placed_from text.now tokens.now at) left × BeginsWithin (placed_from text.now tokens.now at) left
+        × NoneEnds (placed_from text.now tokens.now at) left
+        × BeginsWithin (placed_from text.now tokens.now at) left
         × (place ≡ place_in left (length text.now)) }
     ensures deep { (place : ℕ) → result ≡ Err (LangFault.Deep place) → (left : List Placed)
         × IsTooDeep spelling_module IsModule most_levels (placed_from text.now tokens.now at) left
-        × NoneEnds (placed_from text.now tokens.now at) left × BeginsWithin (placed_from text.now tokens.now at) left
+        × NoneEnds (placed_from text.now tokens.now at) left
+        × BeginsWithin (placed_from text.now tokens.now at) left
         × (place ≡ place_in left (length text.now)) }
 
     // A module of at most 64 levels is read as its tree wherever memory suffices.
-    ensures accepts { (own rest : List Placed) (w : WrittenModule) → placed_from text.now tokens.now at ≡ own ++ rest
+    ensures accepts { (own rest : List Placed) (w : WrittenModule)
+        → placed_from text.now tokens.now at ≡ own ++ rest
         → Are spelling_module IsModule own w → AreWithin most_levels (spelling_module w)
-        → IfOk result (λ read. (module_of read.0 ≡ module_stands_for w) × (read.1 ≡ at + length own))
+        → IfOk result (λ read.
+        (module_of read.0 ≡ module_stands_for w) × (read.1 ≡ at + length own))
         × IfErr result (λ e. e ≡ LangFault.NoMemory) }
 {
     let read = read_module_text(alloc, text, tokens, at)?;

@@ -67,7 +67,10 @@ impl Body {
     ) -> Result<Turn<Paused>, NoMemory>
         requires state { size_of_values state < 4294967296 }
         requires arguments { size_of_values arguments.now < 4294967296 }
-        ensures turn { IfOk result (Gives (λ paused. bodies.Stands limit self.now.statements self.now.locals paused state arguments.now []) (bodies.next_turn limit self.now.statements self.now.locals state arguments.now [])) }
+        ensures turn { IfOk result
+            (Gives (λ paused.
+            bodies.Stands limit self.now.statements self.now.locals paused state arguments.now [])
+            (bodies.next_turn limit self.now.statements self.now.locals state arguments.now [])) }
         ensures pauses { IfOk result (bodies.Pauses limit self.now.statements self.now.locals) }
     {
         let variables = Variables::new(alloc, state, arguments, &self.locals)?;
@@ -88,8 +91,13 @@ impl Body {
         reply: &Outcome,
     ) -> Result<Turn<Paused>, NoMemory>
         requires { bodies.IsOf limit self.now.statements self.now.locals paused }
-        ensures turn { (state arguments : List ValueTree) (replies : List Ended) → bodies.Stands limit self.now.statements self.now.locals paused state arguments replies
-            → IfOk result (Gives (λ later. bodies.Stands limit self.now.statements self.now.locals later state arguments (replies ++ reply.now ∷ [])) (bodies.next_turn limit self.now.statements self.now.locals state arguments (replies ++ reply.now ∷ []))) }
+        ensures turn { (state arguments : List ValueTree) (replies : List Ended)
+            → bodies.Stands limit self.now.statements self.now.locals paused state arguments replies
+            → IfOk result (Gives (λ later.
+            bodies.Stands limit self.now.statements self.now.locals later state arguments
+            (replies ++ reply.now ∷ []))
+            (bodies.next_turn limit self.now.statements self.now.locals state arguments
+            (replies ++ reply.now ∷ []))) }
         ensures pauses { IfOk result (bodies.Pauses limit self.now.statements self.now.locals) }
     {
         resume(alloc, limit, &self.code, paused, reply)

@@ -80,7 +80,8 @@ fn append_all(
     statements: &CheckedStatements,
     code: &mut Code,
 ) -> Result<(), NoMemory>
-    ensures code { OnOk result (acts_of code.new ≡ acts_of code.old ++ codes_of (statement_trees statements.now)) }
+    ensures code { OnOk result
+        (acts_of code.new ≡ acts_of code.old ++ codes_of (statement_trees statements.now)) }
     ensures longer { length code.old ≤ length code.new }
 {
     for statement in statements.as_slice() {
@@ -92,7 +93,8 @@ fn append_all(
 // Adds the code of a statement.
 #[cycle(compiling)]
 fn append(alloc: Global, statement: &CheckedStatement, code: &mut Code) -> Result<(), NoMemory>
-    ensures code { OnOk result (acts_of code.new ≡ acts_of code.old ++ code_of (tree_of statement.now)) }
+    ensures code { OnOk result
+        (acts_of code.new ≡ acts_of code.old ++ code_of (tree_of statement.now)) }
     ensures longer { length code.old ≤ length code.new }
 {
     match statement {
@@ -133,7 +135,11 @@ fn append_branch(
     others: &CheckedStatements,
     code: &mut Code,
 ) -> Result<(), NoMemory>
-    ensures code { OnOk result (acts_of code.new ≡ acts_of code.old ++ code_of (statement.branch (expressions.tree_of condition.now) (statement_trees then.now) (statement_trees others.now))) }
+    ensures code { OnOk result
+        (acts_of code.new
+        ≡ acts_of code.old
+        ++ code_of (statement.branch (expressions.tree_of condition.now) (statement_trees then.now)
+        (statement_trees others.now))) }
     ensures longer { length code.old ≤ length code.new }
 {
     let at = code.len();
@@ -158,7 +164,11 @@ fn append_loop(
     body: &CheckedStatements,
     code: &mut Code,
 ) -> Result<(), NoMemory>
-    ensures code { OnOk result (acts_of code.new ≡ acts_of code.old ++ code_of (statement.repeat (expressions.tree_of condition.now) (statement_trees body.now))) }
+    ensures code { OnOk result
+        (acts_of code.new
+        ≡ acts_of code.old
+        ++ code_of (statement.repeat (expressions.tree_of condition.now)
+        (statement_trees body.now))) }
     ensures longer { length code.old ≤ length code.new }
 {
     let at = code.len();
@@ -171,7 +181,11 @@ fn append_loop(
 
 #[cycle(compiling)]
 fn append_call(alloc: Global, call: &CheckedCall, code: &mut Code) -> Result<(), NoMemory>
-    ensures code { OnOk result (acts_of code.new ≡ acts_of code.old ++ code_of (statement.call call.now.callee call.now.procedure call.now.arguments call.now.into (handler_trees call.now.handlers))) }
+    ensures code { OnOk result
+        (acts_of code.new
+        ≡ acts_of code.old
+        ++ code_of (statement.call call.now.callee call.now.procedure call.now.arguments
+        call.now.into (handler_trees call.now.handlers))) }
     ensures longer { length code.old ≤ length code.new }
 {
     let at = code.len();
@@ -191,8 +205,10 @@ fn append_handlers(
     code: &mut Code,
 ) -> Result<Catches, NoMemory>
     requires { length code.old ≡ at + 1 }
-    ensures code { OnOk result (acts_of code.new ≡ acts_of code.old ++ acts.handlers_code (handler_trees handlers.now)) }
-    ensures catches { IfOk result (λ catches. map catch_of catches ≡ acts.table_of 0 (handler_trees handlers.now)) }
+    ensures code { OnOk result
+        (acts_of code.new ≡ acts_of code.old ++ acts.handlers_code (handler_trees handlers.now)) }
+    ensures catches { IfOk result (λ catches.
+        map catch_of catches ≡ acts.table_of 0 (handler_trees handlers.now)) }
     ensures longer { length code.old ≤ length code.new }
 {
     let mut catches = Catches::new(alloc);
@@ -213,7 +229,10 @@ fn append_handlers(
 
 // The ask of a call.
 fn asked_with(call: &CheckedCall, catches: Catches, skip: u32) -> Result<Asking, NoMemory>
-    ensures { IfOk result (λ asking. act_of (Ask asking) ≡ acts.ask call.now.callee call.now.procedure call.now.arguments call.now.into (map catch_of catches) skip) }
+    ensures { IfOk result (λ asking.
+        act_of (Ask asking)
+        ≡ acts.ask call.now.callee call.now.procedure call.now.arguments call.now.into
+        (map catch_of catches) skip) }
 {
     Ok(Asking {
         callee: call.callee,
@@ -229,7 +248,8 @@ fn asked_with(call: &CheckedCall, catches: Catches, skip: u32) -> Result<Asking,
 #[tactic(auto, using(crate::proofs::CompilingSteps::leads_done))]
 fn lead_to_end(code: &mut Code, exits: &[usize]) -> Result<(), NoMemory>
     requires { All (λ exit. exit < length code.old) exits.now }
-    ensures code { OnOk result (acts_of code.new ≡ leading_to (length code.old) exits.now (acts_of code.old)) }
+    ensures code { OnOk result
+        (acts_of code.new ≡ leading_to (length code.old) exits.now (acts_of code.old)) }
     ensures long { length code.new ≡ length code.old }
 {
     for exit in exits {

@@ -61,7 +61,9 @@ impl Execution {
         expression: &CheckedExpression,
     ) -> Result<(), NoValue>
         requires { AreSized self.old.variables }
-        ensures does { Does nothing (meaning.stores limit self.old.variables.states place.now (changed_over change) (tree_of expression.now)) result self.old self.new }
+        ensures does { Does nothing
+            (meaning.stores limit self.old.variables.states place.now (changed_over change)
+            (tree_of expression.now)) result self.old self.new }
         ensures fewer { OnOk result (self.new.steps < self.old.steps) }
     {
         self.count()?;
@@ -77,7 +79,9 @@ impl Execution {
         condition: &CheckedExpression,
     ) -> Result<bool, NoValue>
         requires { AreSized self.old.variables }
-        ensures does { Does beside (meaning.tested limit self.old.variables.states (tree_of condition.now)) result self.old self.new }
+        ensures does { Does beside
+            (meaning.tested limit self.old.variables.states (tree_of condition.now)) result self.old
+            self.new }
         ensures fewer { OnOk result (self.new.steps < self.old.steps) }
     {
         self.count()?;
@@ -92,7 +96,9 @@ impl Execution {
         expressions: &CheckedExpressions,
     ) -> Result<Values, NoValue>
         requires { AreSized self.old.variables }
-        ensures does { Does beside (meaning.left_with limit self.old.variables.states expressions.now) result self.old self.new }
+        ensures does { Does beside
+            (meaning.left_with limit self.old.variables.states expressions.now) result self.old
+            self.new }
         ensures fewer { OnOk result (self.new.steps < self.old.steps) }
     {
         self.count()?;
@@ -111,7 +117,8 @@ impl Execution {
         expressions: &CheckedExpressions,
     ) -> Result<Values, NoValue>
         requires { AreSized self.old.variables }
-        ensures asks { HasAsked limit self.old.variables.states expressions.now result self.old self.new }
+        ensures asks { HasAsked limit self.old.variables.states expressions.now result self.old
+            self.new }
         ensures fewer { OnOk result (self.new.steps < self.old.steps) }
     {
         let arguments = self.leave(alloc, limit, expressions)?;
@@ -131,7 +138,9 @@ impl Execution {
         values: &Values,
     ) -> Result<(), NoValue>
         requires { AreSized self.old.variables }
-        ensures { Does nothing (meaning.filled limit self.old.variables.states places.now values.now) result self.old self.new }
+        ensures { Does nothing
+            (meaning.filled limit self.old.variables.states places.now values.now) result self.old
+            self.new }
     {
         let mut number = 0;
         for place in places {
@@ -158,7 +167,9 @@ impl Execution {
     ) -> Result<usize, NoValue>
         requires sized { AreSized self.old.variables }
         requires place { at < 4294967296 }
-        ensures { Does beside (acts.caught limit self.old.variables.states at (map catch_of catches.now) error values.now) result self.old self.new }
+        ensures { Does beside
+            (acts.caught limit self.old.variables.states at
+            (map catch_of catches.now) error values.now) result self.old self.new }
     {
         for catch in catches {
             if catch.is_for(error) {
@@ -181,7 +192,9 @@ impl Execution {
     ) -> Result<usize, NoValue>
         requires sized { AreSized self.old.variables }
         requires place { at < 4294967296 }
-        ensures { Does beside (acts.replied limit self.old.variables.states at asking.now.into (map catch_of asking.now.catches) asking.now.skip reply.now) result self.old self.new }
+        ensures { Does beside
+            (acts.replied limit self.old.variables.states at asking.now.into
+            (map catch_of asking.now.catches) asking.now.skip reply.now) result self.old self.new }
     {
         match reply {
             Outcome::Returned(results) => {
@@ -204,7 +217,8 @@ impl Execution {
     ) -> Result<Move, NoValue>
         requires sized { AreSized self.old.variables }
         requires place { at < 4294967296 }
-        ensures moves { Moves limit self.old.variables.states (act_of instruction.now) at result self.old self.new }
+        ensures moves { Moves limit self.old.variables.states
+            (act_of instruction.now) at result self.old self.new }
         ensures ahead { GoesAhead at result self.old self.new }
     {
         match instruction {

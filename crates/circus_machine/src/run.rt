@@ -30,7 +30,8 @@ pub struct Paused {
 impl Execution {
     // The end by this outcome.
     fn ended(self, outcome: Outcome) -> Result<Turn<Paused>, NoMemory>
-        ensures { IfOk result (λ turn. turn ≡ Ends outcome (take self.variables.states self.variables.values)) }
+        ensures { IfOk result (λ turn.
+            turn ≡ Ends outcome (take self.variables.states self.variables.values)) }
     {
         Ok(Turn::Ends {
             outcome,
@@ -40,7 +41,9 @@ impl Execution {
 
     // The end by an error of the language.
     fn failed(self, alloc: Global, error: LanguageError) -> Result<Turn<Paused>, NoMemory>
-        ensures { IfOk result (λ turn. turn ≡ Ends (Raised (number_of error) []) (take self.variables.states self.variables.values)) }
+        ensures { IfOk result (λ turn.
+            turn ≡ Ends (Raised (number_of error) [])
+            (take self.variables.states self.variables.values)) }
     {
         self.ended(error.raised(alloc))
     }
@@ -56,8 +59,12 @@ pub(crate) fn run(
 ) -> Result<Turn<Paused>, NoMemory>
     requires sized { AreSized execution.variables }
     requires short { length code.now ≤ 4294967295 }
-    ensures { (flow : List Ended → Flow Going) → ((replies : List Ended) → acts.Comes limit execution.variables.states (acts_of code.now) (flow replies) place (going execution replies))
-        → IfOk result (Gives (Awaits limit execution.variables.states (acts_of code.now) flow) (meaning.turn_by limit execution.variables.states (flow []))) }
+    ensures { (flow : List Ended → Flow Going)
+        → ((replies : List Ended)
+        → acts.Comes limit execution.variables.states (acts_of code.now) (flow replies) place
+        (going execution replies))
+        → IfOk result (Gives (Awaits limit execution.variables.states (acts_of code.now) flow)
+        (meaning.turn_by limit execution.variables.states (flow []))) }
 {
     loop {
         let Some(instruction) = code.get(place) else {
@@ -92,8 +99,12 @@ pub(crate) fn resume(
     requires sized { AreSized paused.execution.variables }
     requires short { length code.now ≤ 4294967295 }
     requires asking { StandsAtAsk (acts_of code.now) paused.place }
-    ensures { (flow : List Ended → Flow Going) → Awaits limit paused.execution.variables.states (acts_of code.now) flow paused
-        → IfOk result (Gives (Awaits limit paused.execution.variables.states (acts_of code.now) (λ replies. flow (reply.now ∷ replies))) (meaning.turn_by limit paused.execution.variables.states (flow (reply.now ∷ [])))) }
+    ensures { (flow : List Ended → Flow Going)
+        → Awaits limit paused.execution.variables.states (acts_of code.now) flow paused
+        → IfOk result (Gives
+        (Awaits limit paused.execution.variables.states (acts_of code.now) (λ replies.
+        flow (reply.now ∷ replies)))
+        (meaning.turn_by limit paused.execution.variables.states (flow (reply.now ∷ [])))) }
 {
     let Paused {
         place,

@@ -40,8 +40,13 @@ impl Change {
     // What is put where this value stands. It takes no memory.
     #[tactic(auto, using(crate::proofs::Appending::appended_fits, crate::proofs::Appending::appended_full, crate::proofs::Appending::last_size))]
     fn over(self, given: Given, old: &Value) -> Result<Put, LanguageError>
-        ensures meant { MatchResult result (λ put. changed_over self (given_as given) (tree_of old.now) ≡ Ok (put_over put (tree_of old.now))) (λ error. changed_over self (given_as given) (tree_of old.now) ≡ Err error) }
-        ensures sized { IfOk result (λ put. external_size (put_over put (tree_of old.now)) + shrinks_by put (tree_of old.now) ≡ external_size (tree_of old.now) + grows_by put) }
+        ensures meant { MatchResult result (λ put.
+            changed_over self (given_as given) (tree_of old.now)
+            ≡ Ok (put_over put (tree_of old.now))) (λ error.
+            changed_over self (given_as given) (tree_of old.now) ≡ Err error) }
+        ensures sized { IfOk result (λ put.
+            external_size (put_over put (tree_of old.now)) + shrinks_by put (tree_of old.now)
+            ≡ external_size (tree_of old.now) + grows_by put) }
     {
         match self {
             Change::Assign => Ok(Put::Whole(stored_over(given, old)?)),
@@ -61,7 +66,9 @@ impl Change {
 
 // What is stored over an old value.
 fn stored_over(given: Given, old: &Value) -> Result<Value, LanguageError>
-    ensures { MatchResult result (λ value. storing.stored_over (given_as given) (tree_of old.now) ≡ Ok (tree_of value)) (λ error. storing.stored_over (given_as given) (tree_of old.now) ≡ Err error) }
+    ensures { MatchResult result (λ value.
+        storing.stored_over (given_as given) (tree_of old.now) ≡ Ok (tree_of value)) (λ error.
+        storing.stored_over (given_as given) (tree_of old.now) ≡ Err error) }
 {
     let number = match given {
         Given::Number(number) => number,
@@ -78,7 +85,9 @@ fn stored_over(given: Given, old: &Value) -> Result<Value, LanguageError>
 
 // An item as a sequence holds it.
 fn as_item(kind: Option<NumberKind>, given: Given) -> Result<Value, LanguageError>
-    ensures { MatchResult result (λ value. storing.as_item kind (given_as given) ≡ Ok (tree_of value)) (λ error. storing.as_item kind (given_as given) ≡ Err error) }
+    ensures { MatchResult result (λ value.
+        storing.as_item kind (given_as given) ≡ Ok (tree_of value)) (λ error.
+        storing.as_item kind (given_as given) ≡ Err error) }
 {
     match (kind, given) {
         (None, Given::Whole(value)) => Ok(value),
@@ -91,7 +100,9 @@ fn as_item(kind: Option<NumberKind>, given: Given) -> Result<Value, LanguageErro
 fn resize(size: u64, grows: u64, shrinks: u64, limit: u32) -> Result<u64, LanguageError>
     requires small { size < 4294967296 }
     requires part { shrinks ≤ size }
-    ensures { MatchResult result (λ after. (after + shrinks ≡ size + grows) × (after ≤ limit)) (λ error. (error ≡ TooLong) × (limit + shrinks < size + grows)) }
+    ensures { MatchResult result (λ after.
+        (after + shrinks ≡ size + grows) × (after ≤ limit)) (λ error.
+        (error ≡ TooLong) × (limit + shrinks < size + grows)) }
 {
     let after = size.saturating_add(grows) - shrinks;
     if after <= u64::from(limit) {
@@ -141,7 +152,8 @@ impl Variables {
         requires state { size_of_values state < 4294967296 }
         requires arguments { size_of_values arguments.now < 4294967296 }
         requires locals { size_of_values locals.now < 4294967296 }
-        ensures values { IfOk result (λ variables. variables.values ≡ state ++ (arguments.now ++ locals.now)) }
+        ensures values { IfOk result (λ variables.
+            variables.values ≡ state ++ (arguments.now ++ locals.now)) }
         ensures states { IfOk result (λ variables. variables.states ≡ length state) }
         ensures sized { IfOk result AreSized }
     {
@@ -183,7 +195,9 @@ impl Variables {
 
     // The variable at a place. It takes no memory.
     fn variable(&self, index: usize) -> Result<&Value, LanguageError>
-        ensures { MatchResult result (λ value. ok_or (slice_get self.now.values index) WrongChoice ≡ Ok (tree_of value.now)) (λ error. ok_or (slice_get self.now.values index) WrongChoice ≡ Err error) }
+        ensures { MatchResult result (λ value.
+            ok_or (slice_get self.now.values index) WrongChoice ≡ Ok (tree_of value.now)) (λ error.
+            ok_or (slice_get self.now.values index) WrongChoice ≡ Err error) }
     {
         self.values.get(index).ok_or(LanguageError::WrongChoice)
     }
@@ -197,9 +211,13 @@ impl Variables {
         limit: u32,
     ) -> Result<Sizes, LanguageError>
         requires sized { AreSized self.now }
-        requires part { (t : ValueTree) → slice_get self.now.values index ≡ Some t → shrinks ≤ external_size t }
+        requires part { (t : ValueTree) → slice_get self.now.values index ≡ Some t
+            → shrinks ≤ external_size t }
         requires there { index < length self.now.values }
-        ensures { (g : ℕ) (t w : ValueTree) → grows ≡ min g (2 ^ 64 - 1) → slice_get self.now.values index ≡ Some t → external_size w + shrinks ≡ external_size t + g → Resized limit self.now index w result }
+        ensures { (g : ℕ) (t w : ValueTree) → grows ≡ min g (2 ^ 64 - 1)
+            → slice_get self.now.values index ≡ Some t
+            → external_size w + shrinks ≡ external_size t + g
+            → Resized limit self.now index w result }
     {
         let variable = resize(self.sizes.as_slice()[index], grows, shrinks, limit)?;
         let state = if index < self.states {
@@ -221,7 +239,9 @@ impl Variables {
         given: Given,
     ) -> Result<(), NoValue>
         requires { AreSized self.old }
-        ensures { Changed result (storing.stored limit self.old.states self.old.values place.now (changed_over change (given_as given))) self.old self.new }
+        ensures { Changed result
+            (storing.stored limit self.old.states self.old.values place.now
+            (changed_over change (given_as given))) self.old self.new }
     {
         let steps = steps_of(alloc, limit, &self.values, &place.suffixes)?;
         let index = usize::from(place.variable);

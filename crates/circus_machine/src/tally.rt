@@ -145,7 +145,8 @@ impl Module for Tally {
     // Nothing is paused, so nothing goes on: it ends in the first state, and raises the error of a reply that nobody
     // expected.
     fn resume(&self, _paused: Unused, _reply: &Outcome) -> Result<Turn<Unused>, NoMemory>
-        ensures { IfOk result (λ turn. turn ≡ Ends (Raised (number_of Unhandled) []) (tally.one_sum 0)) }
+        ensures { IfOk result (λ turn.
+            turn ≡ Ends (Raised (number_of Unhandled) []) (tally.one_sum 0)) }
     {
         let outcome = LanguageError::Unhandled.raised(self.alloc);
         let state = one_sum(self.alloc, 0)?;

@@ -57,7 +57,8 @@ impl TextModule {
         requires first { IsState signature first }
         requires bodies { ∥ AreBodiesOf signature signature.procedures bodies ∥₁ }
         ensures declared { IfOk result (λ m. ⟦<TextModule as Module>⟧.declared m ≡ signature) }
-        ensures turn { IfOk result (λ m. ⟦<TextModule as Module>⟧.turn m ≡ turn_with signature bodies) }
+        ensures turn { IfOk result (λ m.
+            ⟦<TextModule as Module>⟧.turn m ≡ turn_with signature bodies) }
         ensures first { IfOk result (λ m. ⟦<TextModule as Module>⟧.first m ≡ first) }
     {
         let parts = Parts {
@@ -75,8 +76,10 @@ impl TextModule {
 impl Parts {
     // The place of the procedure with a number, and its body. It takes no memory.
     fn find(&self, number: u16) -> Option<(usize, &Body)>
-        ensures { MatchOption result (body_at (modules.place_of number self.now.signature.procedures) self.now.bodies ≡ None)
-            (λ found. (modules.place_of number self.now.signature.procedures ≡ Some found.0) × (slice_get self.now.bodies found.0 ≡ Some found.1.now)) }
+        ensures { MatchOption result
+            (body_at (modules.place_of number self.now.signature.procedures) self.now.bodies ≡ None)
+            (λ found. (modules.place_of number self.now.signature.procedures ≡ Some found.0)
+            × (slice_get self.now.bodies found.0 ≡ Some found.1.now)) }
     {
         let place = place_of(self.signature.procedures.as_slice(), number)?;
         Some((place, self.bodies.get(place)?))

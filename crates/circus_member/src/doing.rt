@@ -63,11 +63,15 @@ impl<M: Module> Doing<M> {
         at: u64,
         occurrence: Occurrence,
     ) -> Result<(Self, Option<Difference>), NoMemory>
-        requires sound { IsSound (behaviour M.declared M.turn M.first self.member.performing.hosted) self.member }
+        requires sound { IsSound
+            (behaviour M.declared M.turn M.first self.member.performing.hosted) self.member }
         requires can { CanHappen (M.declared self.member.performing.hosted) self.member occurrence }
-        ensures kept { IfOk result (λ done. done.0 ≡ behind self (step.handled at occurrence self.member)) }
+        ensures kept { IfOk result (λ done.
+            done.0 ≡ behind self (step.handled at occurrence self.member)) }
         ensures told { IfOk result (λ done. done.1 ≡ step.difference occurrence self.member) }
-        ensures sound { IfOk result (λ done. IsSound (behaviour M.declared M.turn M.first done.0.member.performing.hosted) done.0.member) }
+        ensures sound { IfOk result (λ done.
+            IsSound (behaviour M.declared M.turn M.first done.0.member.performing.hosted)
+            done.0.member) }
     {
         match occurrence {
             Occurrence::Asked {
@@ -123,7 +127,8 @@ impl<M: Module> Doing<M> {
 
     fn asked(&mut self, header: CallHeader, body: Parts, sender: Caller) -> Result<(), NoMemory>
         requires { AreReplies self.old.member.gathered.replies }
-        ensures { OnOk result (self.new ≡ behind self.old (step.asked self.old.member header body sender)) }
+        ensures { OnOk result
+            (self.new ≡ behind self.old (step.asked self.old.member header body sender)) }
     {
         take_call(
             self.alloc,
@@ -138,7 +143,8 @@ impl<M: Module> Doing<M> {
 
     fn fetched(&mut self, incarnation: u32, sender: Caller) -> Result<(), NoMemory>
         requires { IsIncarnation incarnation }
-        ensures { OnOk result (self.new ≡ behind self.old (step.fetched self.old.member incarnation sender)) }
+        ensures { OnOk result
+            (self.new ≡ behind self.old (step.fetched self.old.member incarnation sender)) }
     {
         take_state_request(
             self.alloc,
@@ -156,8 +162,10 @@ impl<M: Module> Doing<M> {
         from: u16,
         reply: Reply,
     ) -> Result<(Self, Option<Difference>), NoMemory>
-        ensures kept { IfOk result (λ done. done.0 ≡ behind self (step.replied self.member name from reply)) }
-        ensures told { IfOk result (λ done. done.1 ≡ step.difference (Occurrence.Replied name from reply) self.member) }
+        ensures kept { IfOk result (λ done.
+            done.0 ≡ behind self (step.replied self.member name from reply)) }
+        ensures told { IfOk result (λ done.
+            done.1 ≡ step.difference (Occurrence.Replied name from reply) self.member) }
     {
         let difference = self.asks.replied(name, from, reply)?;
         Ok((self, difference))
@@ -172,7 +180,8 @@ impl<M: Module> Doing<M> {
     ) -> Result<(), NoMemory>
         requires asks { AllMayCall self.old.member.known self.old.member.asks }
         requires views { AreViews self.old.member.known }
-        ensures { OnOk result (self.new ≡ behind self.old (step.stale self.old.member name server from incarnation)) }
+        ensures { OnOk result
+            (self.new ≡ behind self.old (step.stale self.old.member name server from incarnation)) }
     {
         self.asks.stale(
             self.alloc,
@@ -195,10 +204,15 @@ impl<M: Module> Doing<M> {
 
     // The Ringmaster answers a request.
     fn told(&mut self, request: Request, table: Table) -> Result<(), NoMemory>
-        requires home { IsHome (M.declared self.old.member.performing.hosted) self.old.member.place self.old.member.known.views }
-        requires asks { AreOpen (M.declared self.old.member.performing.hosted) self.old.member.place.troupe (length self.old.member.known.views) self.old.member.asks }
+        requires home { IsHome
+            (M.declared self.old.member.performing.hosted) self.old.member.place
+            self.old.member.known.views }
+        requires asks { AreOpen
+            (M.declared self.old.member.performing.hosted) self.old.member.place.troupe
+            (length self.old.member.known.views) self.old.member.asks }
         requires table { IsIncarnation table.view.incarnation }
-        ensures { OnOk result (self.new ≡ behind self.old (step.told self.old.member request table)) }
+        ensures { OnOk result
+            (self.new ≡ behind self.old (step.told self.old.member request table)) }
     {
         let before = self.performer.record().phase;
         take_in(&mut self.performer, request, &table);
@@ -217,7 +231,10 @@ impl<M: Module> Doing<M> {
 
     // Those that are asked for the state, once the member was taken in.
     fn givers_once(&self, taken_in: bool, view: &View) -> Result<Nodes, NoMemory>
-        ensures { IfOk result (λ nodes. nodes ≡ (if taken_in then rules.givers self.now.member.place.node self.now.member.known.down view.now else [])) }
+        ensures { IfOk result (λ nodes.
+            nodes ≡ (if taken_in
+            then rules.givers self.now.member.place.node self.now.member.known.down view.now
+            else [])) }
     {
         if !taken_in {
             return Ok(ListOf::new(self.alloc));
@@ -227,8 +244,12 @@ impl<M: Module> Doing<M> {
 
     // The Ringmaster has answered with a view, which is known where it is newer.
     fn know(&mut self, request: Request, view: View) -> Result<(), NoMemory>
-        requires home { IsHome (M.declared self.old.member.performing.hosted) self.old.member.place self.old.member.known.views }
-        requires asks { AreOpen (M.declared self.old.member.performing.hosted) self.old.member.place.troupe (length self.old.member.known.views) self.old.member.asks }
+        requires home { IsHome
+            (M.declared self.old.member.performing.hosted) self.old.member.place
+            self.old.member.known.views }
+        requires asks { AreOpen
+            (M.declared self.old.member.performing.hosted) self.old.member.place.troupe
+            (length self.old.member.known.views) self.old.member.asks }
         requires view { IsIncarnation view.incarnation }
         ensures { OnOk result (self.new ≡ step.seen_by self.old request view) }
     {
@@ -246,7 +267,8 @@ impl<M: Module> Doing<M> {
 
     fn declared(&mut self, node: u16) -> Result<(), NoMemory>
         requires { AreHosts self.old.member.place }
-        ensures { OnOk result (self.new ≡ behind self.old (step.declared_down self.old.member node)) }
+        ensures { OnOk result
+            (self.new ≡ behind self.old (step.declared_down self.old.member node)) }
     {
         self.known.declare(node)?;
         tell_gone(
@@ -259,7 +281,9 @@ impl<M: Module> Doing<M> {
     }
 
     fn joins(&mut self) -> Result<(), NoMemory>
-        requires { IsHome (M.declared self.old.member.performing.hosted) self.old.member.place self.old.member.known.views }
+        requires { IsHome
+            (M.declared self.old.member.performing.hosted) self.old.member.place
+            self.old.member.known.views }
         ensures { OnOk result (self.new ≡ behind self.old (step.joins self.old.member)) }
     {
         self.performer.join();
@@ -269,10 +293,13 @@ impl<M: Module> Doing<M> {
 
     // A state comes: one that fetches a state has it, and is active from its count on.
     fn restored(mut self, at: u64, state: State, count: u32) -> Result<Self, NoMemory>
-        requires sound { IsSound (behaviour M.declared M.turn M.first self.member.performing.hosted) self.member }
+        requires sound { IsSound
+            (behaviour M.declared M.turn M.first self.member.performing.hosted) self.member }
         requires state { IsState (M.declared self.member.performing.hosted) state }
-        ensures kept { IfOk result (λ d. d ≡ behind self (step.restored at self.member state count)) }
-        ensures sound { IfOk result (λ d. IsSound (behaviour M.declared M.turn M.first d.member.performing.hosted) d.member) }
+        ensures kept { IfOk result (λ d.
+            d ≡ behind self (step.restored at self.member state count)) }
+        ensures sound { IfOk result (λ d.
+            IsSound (behaviour M.declared M.turn M.first d.member.performing.hosted) d.member) }
     {
         if !is_fetching(self.performer.record().phase) {
             return Ok(self);
@@ -284,7 +311,9 @@ impl<M: Module> Doing<M> {
 
     // The member is active from this call on, and tells so.
     fn begin(&mut self, count: u32) -> Result<(), NoMemory>
-        requires { IsHome (M.declared self.old.member.performing.hosted) self.old.member.place self.old.member.known.views }
+        requires { IsHome
+            (M.declared self.old.member.performing.hosted) self.old.member.place
+            self.old.member.known.views }
         ensures { OnOk result (self.new ≡ step.begun self.old count) }
     {
         let request = Request::Active(self.place.troupe, self.place.node, count);
@@ -294,7 +323,8 @@ impl<M: Module> Doing<M> {
 
     /// The execution goes on as far as it can.
     pub fn execute(self, at: u64) -> Result<Self, NoMemory>
-        requires { IsSound (behaviour M.declared M.turn M.first self.member.performing.hosted) self.member }
+        requires { IsSound
+            (behaviour M.declared M.turn M.first self.member.performing.hosted) self.member }
         ensures { IfOk result (λ d. d ≡ step.executed M.declared M.turn at self) }
     {
         let mut doing = self.answer_open(at)?;
@@ -309,7 +339,8 @@ impl<M: Module> Doing<M> {
 
     // The open ask is answered, if its collator gives a value, and the run goes on.
     fn answer_open(self, at: u64) -> Result<Self, NoMemory>
-        requires { IsSound (behaviour M.declared M.turn M.first self.member.performing.hosted) self.member }
+        requires { IsSound
+            (behaviour M.declared M.turn M.first self.member.performing.hosted) self.member }
         ensures { IfOk result (λ d. d ≡ step.answered_open M.turn at self) }
     {
         match self.value_of_open()? {
@@ -334,7 +365,8 @@ impl<M: Module> Doing<M> {
     }
 
     fn answer(mut self, reply: Reply, at: u64) -> Result<Self, NoMemory>
-        requires sound { IsSound (behaviour M.declared M.turn M.first self.member.performing.hosted) self.member }
+        requires sound { IsSound
+            (behaviour M.declared M.turn M.first self.member.performing.hosted) self.member }
         requires value { step.value_of_open self.member ≡ Some reply }
         ensures { IfOk result (λ d. d ≡ step.answered_by M.turn at self reply) }
     {
@@ -345,7 +377,8 @@ impl<M: Module> Doing<M> {
 
     /// A run is entered.
     pub fn enter(mut self, start: RunStart, at: u64) -> Result<Self, NoMemory>
-        requires sound { IsSound (behaviour M.declared M.turn M.first self.member.performing.hosted) self.member }
+        requires sound { IsSound
+            (behaviour M.declared M.turn M.first self.member.performing.hosted) self.member }
         requires may { MayStart (M.declared self.member.performing.hosted) self.member start }
         ensures { IfOk result (λ d. d ≡ step.entered M.turn at self start) }
     {
@@ -358,7 +391,9 @@ impl<M: Module> Doing<M> {
 
     // Behind turns of the last run: it asks, or has ended.
     fn after_turns(&mut self) -> Result<(), NoMemory>
-        requires { HasTurned (behaviour M.declared M.turn M.first self.old.member.performing.hosted) self.old.member }
+        requires { HasTurned
+            (behaviour M.declared M.turn M.first self.old.member.performing.hosted)
+            self.old.member }
         ensures { OnOk result (self.new ≡ step.after_turns self.old) }
     {
         if self.performer.open_ask().is_some() {
@@ -370,7 +405,9 @@ impl<M: Module> Doing<M> {
 
     // A call is sent to each entry of the view that isn't down.
     fn open_ask(&mut self) -> Result<(), NoMemory>
-        requires { HasTurned (behaviour M.declared M.turn M.first self.old.member.performing.hosted) self.old.member }
+        requires { HasTurned
+            (behaviour M.declared M.turn M.first self.old.member.performing.hosted)
+            self.old.member }
         ensures { OnOk result (self.new ≡ step.opened_last self.old) }
     {
         let Some(last) = self.performer.last_run() else {
@@ -407,7 +444,9 @@ impl<M: Module> Doing<M> {
 
     // The run has ended: its callers are answered, and its reply is kept.
     fn end_run(&mut self) -> Result<(), NoMemory>
-        requires turned { HasTurned (behaviour M.declared M.turn M.first self.old.member.performing.hosted) self.old.member }
+        requires turned { HasTurned
+            (behaviour M.declared M.turn M.first self.old.member.performing.hosted)
+            self.old.member }
         requires ended { performing.open_ask self.old.member.performing.kept ≡ None }
         ensures { OnOk result (self.new ≡ step.ended_last self.old) }
     {
@@ -441,7 +480,11 @@ impl<M: Module> Doing<M> {
 
     // How the run of the call that starts next is entered.
     fn next_start(&self) -> Result<Option<RunStart>, NoMemory>
-        ensures { IfOk result (λ start. start ≡ option_map (step.start_by_call self.now.member.place.troupe (M.declared self.now.member.performing.hosted).procedures) (step.next_start self.now.member)) }
+        ensures { IfOk result (λ start.
+            start ≡ option_map
+            (step.start_by_call self.now.member.place.troupe
+            (M.declared self.now.member.performing.hosted).procedures)
+            (step.next_start self.now.member)) }
     {
         if !is_idle(&self.performer) {
             return Ok(None);
@@ -504,7 +547,8 @@ fn hear(known: &mut Known, request: Request, troupe: u16)
 
 // It has answered the member's Join.
 fn take_in<M: Module>(performer: &mut Performer<M>, request: Request, table: &Table)
-    ensures { performer.new ≡ record performer.old { kept = step.kept_by_table performer.old.kept request table.now } }
+    ensures { performer.new
+        ≡ record performer.old { kept = step.kept_by_table performer.old.kept request table.now } }
 {
     if let Request::Join(_, _) = request {
         performer.take_in(table);

@@ -76,8 +76,12 @@ impl<M: Module> Member<M> {
         hosted: M,
     ) -> Result<(Self, Effects), NoMemory>
         requires { IsHome (M.declared hosted) place views }
-        ensures member { IfOk result (λ booted. booted.0 ≡ (step.booted M.declared M.turn M.first place views beginning hosted).member) }
-        ensures effects { IfOk result (λ booted. booted.1 ≡ (step.booted M.declared M.turn M.first place views beginning hosted).effects) }
+        ensures member { IfOk result (λ booted.
+            booted.0 ≡ (step.booted M.declared M.turn M.first place views beginning
+            hosted).member) }
+        ensures effects { IfOk result (λ booted.
+            booted.1 ≡ (step.booted M.declared M.turn M.first place views beginning
+            hosted).effects) }
     {
         let starts = starts_at_boot(beginning, &hosted);
         let start = main_start(alloc, place.troupe, views.as_slice())?;
@@ -97,8 +101,10 @@ impl<M: Module> Member<M> {
         occurrence: Occurrence,
     ) -> Result<(Self, Effects, Option<Difference>), NoMemory>
         requires { CanHappen (M.declared self.performing.hosted) self occurrence }
-        ensures member { IfOk result (λ stepped. stepped.0 ≡ (step.stepped M.declared M.turn at occurrence self).member) }
-        ensures effects { IfOk result (λ stepped. stepped.1 ≡ (step.stepped M.declared M.turn at occurrence self).effects) }
+        ensures member { IfOk result (λ stepped.
+            stepped.0 ≡ (step.stepped M.declared M.turn at occurrence self).member) }
+        ensures effects { IfOk result (λ stepped.
+            stepped.1 ≡ (step.stepped M.declared M.turn at occurrence self).effects) }
         ensures difference { IfOk result (λ stepped. stepped.2 ≡ step.difference occurrence self) }
         ensures rest { IfOk result (λ stepped. HasGoneOn stepped.0) }
     {
@@ -129,14 +135,16 @@ impl<M: Module> Member<M> {
     /// What the member did. It takes no memory.
     pub fn record(&self) -> &MemberRecord
         ensures value { result.now ≡ self.now.performing.kept }
-        ensures kept { let p = self.now.performing in IsRecord (behaviour M.declared M.turn M.first p.hosted) p.began p.kept }
+        ensures kept { let p = self.now.performing in IsRecord
+            (behaviour M.declared M.turn M.first p.hosted) p.began p.kept }
     {
         self.performer.record()
     }
 
     /// What an open ask asks. It takes no memory.
     pub fn asked(&self, name: AskName) -> Option<&CallHeader>
-        ensures { option_copied result ≡ option_map (λ (a : Asking). a.header) (asking_of self.now.asks name) }
+        ensures { option_copied result
+            ≡ option_map (λ (a : Asking). a.header) (asking_of self.now.asks name) }
     {
         Some(self.asks.get(name)?.header())
     }
@@ -166,7 +174,8 @@ impl<M: Module> Member<M> {
     }
 
     fn of(doing: Doing<M>) -> (Self, Effects)
-        requires { IsRested (behaviour M.declared M.turn M.first doing.member.performing.hosted) doing.member }
+        requires { IsRested
+            (behaviour M.declared M.turn M.first doing.member.performing.hosted) doing.member }
         ensures member { result.0 ≡ doing.member }
         ensures effects { result.1 ≡ doing.effects }
     {
@@ -212,7 +221,12 @@ fn before_any<M: Module>(
     hosted: M,
 ) -> Result<Doing<M>, NoMemory>
     requires { length views ≤ most_modules }
-    ensures { IfOk result (λ d. d ≡ record { member = step.before_any M.declared M.turn place views (step.performer_at_boot M.first beginning hosted); effects = [] }) }
+    ensures { IfOk result (λ d.
+        d ≡ record {
+          member = step.before_any M.declared M.turn place views
+              (step.performer_at_boot M.first beginning hosted);
+          effects = [];
+        }) }
 {
     let gather = Gather::new(alloc, place.troupe, 0);
     Ok(Doing {

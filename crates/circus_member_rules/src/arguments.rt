@@ -15,7 +15,8 @@ pub fn arguments_in(
     number: u16,
     body: &Parts,
 ) -> Result<Values, NoMemory>
-    ensures { IfOk result (λ values. values ≡ messages.arguments_in procedures.now number body.now) }
+    ensures { IfOk result (λ values.
+        values ≡ messages.arguments_in procedures.now number body.now) }
 {
     let Some(procedure) = procedure_numbered(procedures, number) else {
         return Ok(Values::new(alloc));

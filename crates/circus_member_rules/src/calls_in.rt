@@ -43,9 +43,15 @@ pub fn take_call(
     sender: Caller,
 ) -> Result<(), NoMemory>
     requires { AreReplies gather.old.replies }
-    ensures held { OnOk result (gather.new ≡ gathering.with_call gather.old (record { header = header; body = body; sender = sender })) }
-    ensures wanted { OnOk result (known.new ≡ rules.wanted_by_call (gathering.answer_to gather.old header) header known.old) }
-    ensures made { OnOk result (effects.new ≡ effects.old ++ rules.answer_at_once (gathering.answer_to gather.old header) sender) }
+    ensures held { OnOk result
+        (gather.new ≡ gathering.with_call gather.old
+        (record { header = header; body = body; sender = sender })) }
+    ensures wanted { OnOk result
+        (known.new ≡ rules.wanted_by_call
+        (gathering.answer_to gather.old header) header known.old) }
+    ensures made { OnOk result
+        (effects.new ≡ effects.old
+        ++ rules.answer_at_once (gathering.answer_to gather.old header) sender) }
 {
     let client = header.client;
     let incarnation = header.client_incarnation;
@@ -87,7 +93,8 @@ pub fn take_state_request(
     requires { IsIncarnation incarnation }
     ensures held { OnOk result (gather.new ≡ gathering.with_required gather.old incarnation) }
     ensures waits { OnOk result (requests.new ≡ requests.old ++ sender ∷ []) }
-    ensures made { OnOk result (effects.new ≡ effects.old ++ rules.stale_answers gather.old incarnation) }
+    ensures made { OnOk result
+        (effects.new ≡ effects.old ++ rules.stale_answers gather.old incarnation) }
 {
     let callers = gather.require(incarnation)?;
     let message = stale_message(alloc, gather.required())?;
@@ -104,7 +111,8 @@ pub fn begin_at(
     first: u32,
 ) -> Result<(), NoMemory>
     ensures held { OnOk result (gather.new ≡ gathering.with_first gather.old first) }
-    ensures made { OnOk result (effects.new ≡ effects.old ++ rules.before_answers gather.old first) }
+    ensures made { OnOk result
+        (effects.new ≡ effects.old ++ rules.before_answers gather.old first) }
 {
     let callers = gather.activate(first)?;
     let message = before_message(alloc, first)?;

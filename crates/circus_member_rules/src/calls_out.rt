@@ -74,7 +74,8 @@ pub fn calls_of_ask(
 ) -> Result<(), NoMemory>
     requires may { MayCall known.now fanout.now }
     requires views { All (λ send. IsIncarnation send.incarnation) sends.now }
-    ensures { OnOk result (effects.new ≡ effects.old ++ rules.calls_of_ask known.now name fanout.now sends.now) }
+    ensures { OnOk result
+        (effects.new ≡ effects.old ++ rules.calls_of_ask known.now name fanout.now sends.now) }
 {
     for send in sends {
         effects.push(call_of_ask(alloc, known, name, fanout, *send)?)?;
@@ -117,7 +118,8 @@ fn difference_of(
     first: &Said<Reply>,
     second: &Said<Reply>,
 ) -> Result<Difference, NoMemory>
-    ensures { IfOk result (λ difference. difference ≡ rules.difference_of name first.now second.now) }
+    ensures { IfOk result (λ difference.
+        difference ≡ rules.difference_of name first.now second.now) }
 {
     Ok(Difference {
         run: name.run,
@@ -141,8 +143,10 @@ pub(crate) fn stale(
 ) -> Result<(), NoMemory>
     requires may { MayCall known.now fanout.old }
     requires views { AreViews known.now }
-    ensures kept { OnOk result (fanout.new ≡ rules.after_stale known.now from incarnation fanout.old) }
-    ensures made { OnOk result (effects.new ≡ effects.old ++ rules.call_again known.now name from incarnation fanout.old) }
+    ensures kept { OnOk result
+        (fanout.new ≡ rules.after_stale known.now from incarnation fanout.old) }
+    ensures made { OnOk result
+        (effects.new ≡ effects.old ++ rules.call_again known.now name from incarnation fanout.old) }
 {
     let Some(view) = view_of(known, fanout) else {
         return Ok(());
@@ -162,7 +166,8 @@ fn add_call_for(
 ) -> Result<(), NoMemory>
     requires may { MayCall known.now fanout.now }
     requires view { CallsAView next }
-    ensures { OnOk result (effects.new ≡ effects.old ++ rules.call_for known.now name fanout.now next) }
+    ensures { OnOk result
+        (effects.new ≡ effects.old ++ rules.call_for known.now name fanout.now next) }
 {
     if let Next::Send(send) = next {
         effects.push(call_of_ask(alloc, known, name, fanout, send)?)?;
@@ -181,8 +186,10 @@ pub(crate) fn view_calls(
 ) -> Result<(), NoMemory>
     requires may { MayCall known.now fanout.old }
     requires view { IsIncarnation view.now.incarnation }
-    ensures kept { OnOk result ((name, fanout.new) ≡ rules.seen_by_ask known.now view.now (name, fanout.old)) }
-    ensures made { OnOk result (effects.new ≡ effects.old ++ rules.calls_by_ask known.now view.now (name, fanout.old)) }
+    ensures kept { OnOk result
+        ((name, fanout.new) ≡ rules.seen_by_ask known.now view.now (name, fanout.old)) }
+    ensures made { OnOk result
+        (effects.new ≡ effects.old ++ rules.calls_by_ask known.now view.now (name, fanout.old)) }
 {
     if fanout.header().server != view.troupe {
         return Ok(());

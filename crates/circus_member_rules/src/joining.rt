@@ -137,7 +137,8 @@ pub fn ask_for_states(
 ) -> Result<(), NoMemory>
     requires troupe { IsModule troupe }
     requires incarnation { IsIncarnation incarnation }
-    ensures { OnOk result (effects.new ≡ effects.old ++ map (rules.state_request troupe incarnation) nodes.now) }
+    ensures { OnOk result
+        (effects.new ≡ effects.old ++ map (rules.state_request troupe incarnation) nodes.now) }
 {
     for node in nodes {
         effects.push(Effect::Call {

@@ -70,8 +70,11 @@ impl OpenAsks {
         from: u16,
         reply: Reply,
     ) -> Result<Option<Difference>, NoMemory>
-        ensures kept { OnOk result (self.new ≡ with_asking name (asking.with_reply from reply) self.old) }
-        ensures told { IfOk result (λ told. told ≡ option_and_then (rules.difference_by name from reply) (asking_of self.old name)) }
+        ensures kept { OnOk result
+            (self.new ≡ with_asking name (asking.with_reply from reply) self.old) }
+        ensures told { IfOk result (λ told.
+            told ≡ option_and_then (rules.difference_by name from reply)
+            (asking_of self.old name)) }
     {
         match self.asks.get_mut(&name) {
             Some(fanout) => replied(name, fanout, from, reply),
@@ -100,8 +103,12 @@ impl OpenAsks {
     ) -> Result<(), NoMemory>
         requires asks { AllMayCall known.now self.old }
         requires views { AreViews known.now }
-        ensures kept { OnOk result (self.new ≡ with_asking name (rules.after_stale known.now from incarnation) self.old) }
-        ensures made { OnOk result (effects.new ≡ effects.old ++ option_map_or (rules.call_again known.now name from incarnation) (asking_of self.old name) []) }
+        ensures kept { OnOk result
+            (self.new ≡ with_asking name (rules.after_stale known.now from incarnation) self.old) }
+        ensures made { OnOk result
+            (effects.new ≡ effects.old
+            ++ option_map_or (rules.call_again known.now name from incarnation)
+            (asking_of self.old name) []) }
     {
         match self.asks.get_mut(&name) {
             Some(fanout) => stale(alloc, known, name, fanout, from, incarnation, effects),
@@ -120,7 +127,8 @@ impl OpenAsks {
         requires asks { AllMayCall known.now self.old }
         requires view { IsIncarnation view.now.incarnation }
         ensures kept { OnOk result (self.new ≡ rules.with_new_view known.now view.now self.old) }
-        ensures made { OnOk result (effects.new ≡ effects.old ++ rules.calls_for_a_new_view known.now view.now self.old) }
+        ensures made { OnOk result
+            (effects.new ≡ effects.old ++ rules.calls_for_a_new_view known.now view.now self.old) }
     {
         for place in 0..self.asks.len() {
             self.see_at(alloc, known, view, place, effects)?;
@@ -140,8 +148,11 @@ impl OpenAsks {
         requires place { place < length self.old }
         requires may { IfSome (slice_get self.old place) (λ e. MayCall known.now e.1) }
         requires view { IsIncarnation view.now.incarnation }
-        ensures kept { IfSome (slice_get self.old place) (λ e. OnOk result (self.new ≡ slice_set self.old place (rules.seen_by_ask known.now view.now e))) }
-        ensures made { IfSome (slice_get self.old place) (λ e. OnOk result (effects.new ≡ effects.old ++ rules.calls_by_ask known.now view.now e)) }
+        ensures kept { IfSome (slice_get self.old place) (λ e.
+            OnOk result (self.new
+            ≡ slice_set self.old place (rules.seen_by_ask known.now view.now e))) }
+        ensures made { IfSome (slice_get self.old place) (λ e.
+            OnOk result (effects.new ≡ effects.old ++ rules.calls_by_ask known.now view.now e)) }
     {
         let (name, fanout) = self.asks.pair_mut(place);
         view_calls(alloc, known, view, *name, fanout, effects)
@@ -166,7 +177,9 @@ impl OpenAsks {
     {
         self.asks.retain(
             |name: &AskName, fanout: &mut Fanout| -> bool
-                ensures { (result ≡ rules.stays_open known.entry.now (is_waiting waiting) (name.now, fanout.old)) × (fanout.new ≡ fanout.old) }
+                ensures { (result
+                    ≡ rules.stays_open known.entry.now (is_waiting waiting) (name.now, fanout.old))
+                    × (fanout.new ≡ fanout.old) }
             { stays_open(known, waiting, *name, fanout) },
         );
     }

@@ -44,7 +44,9 @@ pub fn name_of_last(kept: &MemberRecord) -> AskName
 
 /// That of the open ask, `None` where none is open. It takes no memory.
 pub fn name_of_open<M: Module>(performer: &Performer<M>) -> Option<AskName>
-    ensures { result ≡ option_map (λ _. step.name_of_last performer.now.kept) (performing.open_ask performer.now.kept) }
+    ensures { result
+        ≡ option_map (λ _.
+        step.name_of_last performer.now.kept) (performing.open_ask performer.now.kept) }
 {
     performer.open_ask()?;
     Some(name_of_last(performer.record()))

@@ -40,9 +40,12 @@ fn perform<M: Module>(
 ) -> Result<Outcome, NoMemory>
     requires agree { Agree (behaviours M.declared M.turn M.first modules.now) }
     requires few { length modules.now ≤ most_modules }
-    requires thread { IsThread (behaviours M.declared M.turn M.first modules.now) (seen (behaviours M.declared M.turn M.first modules.now) thread.old) }
+    requires thread { IsThread (behaviours M.declared M.turn M.first modules.now)
+        (seen (behaviours M.declared M.turn M.first modules.now) thread.old) }
     requires order { IsOrder (behaviours M.declared M.turn M.first modules.now) (ordered order) }
-    ensures { IfOk result (HasPerformed (behaviours M.declared M.turn M.first modules.now) thread.old order thread.new) }
+    ensures { IfOk result
+        (HasPerformed (behaviours M.declared M.turn M.first modules.now) thread.old order
+        thread.new) }
 {
     let module = &modules[usize::from(order.callee)];
     let entry = thread.clock.copy()?;
@@ -95,9 +98,12 @@ fn answer<M: Module>(
 ) -> Result<Ask, NoMemory>
     requires agree { Agree (behaviours M.declared M.turn M.first modules.now) }
     requires few { length modules.now ≤ most_modules }
-    requires thread { IsThread (behaviours M.declared M.turn M.first modules.now) (seen (behaviours M.declared M.turn M.first modules.now) thread.old) }
+    requires thread { IsThread (behaviours M.declared M.turn M.first modules.now)
+        (seen (behaviours M.declared M.turn M.first modules.now) thread.old) }
     requires order { IsOrder (behaviours M.declared M.turn M.first modules.now) (ordered order) }
-    ensures { IfOk result (HasAnswered (behaviours M.declared M.turn M.first modules.now) thread.old order state thread.new) }
+    ensures { IfOk result
+        (HasAnswered (behaviours M.declared M.turn M.first modules.now) thread.old order state
+        thread.new) }
 {
     let callee = order.callee;
     let procedure = order.procedure;
@@ -129,7 +135,15 @@ impl Order {
         procedure: u16,
         arguments: Values,
     ) -> Result<Order, NoMemory>
-        ensures { IfOk result (λ next. next ≡ record { root = self.now.root; path = self.now.path ++ number ∷ []; callee = callee; procedure = procedure; arguments = arguments }) }
+        ensures { IfOk result (λ next.
+            next ≡ record {
+              root = self.now.root;
+              path = self.now.path ++ number
+                  ∷ [];
+              callee = callee;
+              procedure = procedure;
+              arguments = arguments;
+            }) }
     {
         let mut path = self.path.copy()?;
         path.push(number)?;
@@ -147,8 +161,11 @@ impl Thread {
     // The state of a module, which its run will give back.
     fn take_state<M: Module>(&mut self, module: &M, place: u16) -> Result<State, NoMemory>
         requires { place < vec_len self.old.states }
-        ensures state { IfOk result (λ state. state ≡ unwrap_or (slice_index_or self.old.states.items place None) (M.first «module».now)) }
-        ensures states { OnOk result (self.new.states.items ≡ slice_set self.old.states.items place None) }
+        ensures state { IfOk result (λ state.
+            state ≡ unwrap_or (slice_index_or self.old.states.items place None)
+            (M.first «module».now)) }
+        ensures states { OnOk result
+            (self.new.states.items ≡ slice_set self.old.states.items place None) }
         ensures clock { self.new.clock ≡ self.old.clock }
         ensures runs { self.new.runs ≡ self.old.runs }
     {
@@ -161,7 +178,8 @@ impl Thread {
     // Keeps a copy of a module's state.
     fn keep(&mut self, place: u16, state: &State) -> Result<(), NoMemory>
         requires { place < vec_len self.old.states }
-        ensures states { OnOk result (self.new.states.items ≡ slice_set self.old.states.items place (Some state.now)) }
+        ensures states { OnOk result
+            (self.new.states.items ≡ slice_set self.old.states.items place (Some state.now)) }
         ensures clock { self.new.clock ≡ self.old.clock }
         ensures runs { self.new.runs ≡ self.old.runs }
     {
@@ -173,9 +191,13 @@ impl Thread {
     fn note(&mut self, place: u16, run: Run) -> Result<(), NoMemory>
         requires state { place < vec_len self.old.states }
         requires runs { place < vec_len self.old.runs }
-        ensures states { OnOk result (self.new.states.items ≡ slice_set self.old.states.items place (Some run.state)) }
+        ensures states { OnOk result
+            (self.new.states.items ≡ slice_set self.old.states.items place (Some run.state)) }
         ensures clock { self.new.clock ≡ self.old.clock }
-        ensures runs { OnOk result (map (λ runs. runs.items) self.new.runs.items ≡ slice_set (map (λ runs. runs.items) self.old.runs.items) place (slice_index_or (map (λ runs. runs.items) self.old.runs.items) place [] ++ run ∷ [])) }
+        ensures runs { OnOk result
+            (map (λ runs. runs.items) self.new.runs.items
+            ≡ slice_set (map (λ runs. runs.items) self.old.runs.items) place
+            (slice_index_or (map (λ runs. runs.items) self.old.runs.items) place [] ++ run ∷ [])) }
     {
         self.keep(place, &run.state)?;
         self.runs[usize::from(place)].push(run)?;
@@ -185,7 +207,9 @@ impl Thread {
 
 // A thread that has done nothing.
 fn fresh<M: Module>(alloc: Global, modules: &[M]) -> Result<Thread, NoMemory>
-    ensures { IfOk result (λ thread. seen (behaviours M.declared M.turn M.first modules.now) thread ≡ fresh (behaviours M.declared M.turn M.first modules.now)) }
+    ensures { IfOk result (λ thread.
+        seen (behaviours M.declared M.turn M.first modules.now) thread
+        ≡ fresh (behaviours M.declared M.turn M.first modules.now)) }
 {
     let mut states = Vec::new(alloc);
     let mut clock = ListOf::new(alloc);
@@ -211,7 +235,9 @@ fn runs_of_root<M: Module>(
     requires agree { Agree (behaviours M.declared M.turn M.first modules.now) }
     requires few { length modules.now ≤ most_modules }
     requires root { IsRoot (behaviours M.declared M.turn M.first modules.now) root }
-    ensures { IfOk result (λ all. map (λ runs. runs.items) all.items ≡ (thread_of (behaviours M.declared M.turn M.first modules.now) root).runs) }
+    ensures { IfOk result (λ all.
+        map (λ runs. runs.items) all.items
+        ≡ (thread_of (behaviours M.declared M.turn M.first modules.now) root).runs) }
 {
     let mut thread = fresh(alloc, modules)?;
     let main = Order {
@@ -238,7 +264,9 @@ fn append(into: &mut Vec<Run>, more: Vec<Run>) -> Result<(), NoMemory>
 // Puts the runs of each module behind those that are there.
 fn join(history: &mut [Vec<Run>], mut all: Vec<Vec<Run>>) -> Result<(), NoMemory>
     requires { vec_len all ≡ length history.old }
-    ensures { OnOk result (map (λ runs. runs.items) history.new ≡ joined (map (λ runs. runs.items) history.old) (map (λ runs. runs.items) all.items)) }
+    ensures { OnOk result
+        (map (λ runs. runs.items) history.new
+        ≡ joined (map (λ runs. runs.items) history.old) (map (λ runs. runs.items) all.items)) }
 {
     while let Some(more) = all.pop() {
         append(&mut history[all.len()], more)?;
@@ -260,7 +288,8 @@ fn listed(alloc: Global, all: Vec<Vec<Run>>) -> Result<History, NoMemory>
 pub fn run_alone<M: Module>(alloc: Global, modules: &[M]) -> Result<History, NoMemory>
     requires agree { Agree (behaviours M.declared M.turn M.first modules.now) }
     requires few { length modules.now ≤ most_modules }
-    ensures { IfOk result (λ history. history ≡ history_of (behaviours M.declared M.turn M.first modules.now)) }
+    ensures { IfOk result (λ history.
+        history ≡ history_of (behaviours M.declared M.turn M.first modules.now)) }
 {
     let mut history = fresh(alloc, modules)?.runs;
     for (place, module) in modules.iter().enumerate() {

@@ -48,7 +48,8 @@ impl LanguageError {
     /// The error that is raised under this number, if there is one.
     pub fn of_number(number: u16) -> Option<LanguageError>
         ensures error { result ≡ of_number number }
-        ensures inverse { option_map number_of result ≡ (if is_language_error number then Some number else None) }
+        ensures inverse { option_map number_of result
+            ≡ (if is_language_error number then Some number else None) }
     {
         use LanguageError::*;
         match number {

@@ -28,13 +28,17 @@ pub fn runs_follow_turns()
 /// are that run's outcome and clock at the end. Only where the thread was spent, the reply is the error for that,
 /// and the clock stays. The callee stands before the caller.
 pub fn asks_make_runs()
-    ensures answered { (program : List Behaviour) (place index number : ℕ) (caller : Run) (ask : Ask)
+    ensures answered { (program : List Behaviour) (place index number : ℕ) (caller : Run)
+        (ask : Ask)
         → Agree program → AreModules program
-        → run_at (history_of program) place index ≡ Some caller → slice_get caller.asks number ≡ Some ask
-        → IsAnswered (history_of program) caller.root (caller.path ++ number ∷ []) (clock_before caller number) ask }
+        → run_at (history_of program) place index ≡ Some caller
+        → slice_get caller.asks number ≡ Some ask
+        → IsAnswered (history_of program) caller.root (caller.path ++ number ∷ [])
+        (clock_before caller number) ask }
     ensures callee { (program : List Behaviour) (place index number : ℕ) (caller : Run) (ask : Ask)
         → Agree program → AreModules program
-        → run_at (history_of program) place index ≡ Some caller → slice_get caller.asks number ≡ Some ask
+        → run_at (history_of program) place index ≡ Some caller
+        → slice_get caller.asks number ≡ Some ask
         → ask.callee < place }
 {}
 
@@ -55,34 +59,41 @@ pub fn runs_are_asked_for()
 /// A root has one run, the first call of its thread: procedure 0 without arguments, on the empty path, at a clock of
 /// zeros.
 pub fn roots_run_once()
-    ensures { (program : List Behaviour) (root : ℕ) → Agree program → AreModules program → IsRoot program root
-        → (run : Run) × ((runs_of (history_of program) root ≡ run ∷ []) × IsMain (length program) root run) }
+    ensures { (program : List Behaviour) (root : ℕ) → Agree program → AreModules program
+        → IsRoot program root
+        → (run : Run) × ((runs_of (history_of program) root ≡ run ∷ [])
+        × IsMain (length program) root run) }
 {}
 
 /// A run's clock has a count for each module and never falls, from the end of the module's runs before on.
 pub fn clocks_never_fall()
-    ensures within { (program : List Behaviour) (place index : ℕ) (run : Run) → Agree program → AreModules program
+    ensures within { (program : List Behaviour) (place index : ℕ) (run : Run) → Agree program
+        → AreModules program
         → run_at (history_of program) place index ≡ Some run → ClockGrows (length program) run }
     ensures between { (program : List Behaviour) (place earlier later : ℕ) (one other : Run)
         → Agree program → AreModules program → earlier < later
-        → run_at (history_of program) place earlier ≡ Some one → run_at (history_of program) place later ≡ Some other
+        → run_at (history_of program) place earlier ≡ Some one
+        → run_at (history_of program) place later ≡ Some other
         → IsEarlier one.end other.entry }
 {}
 
 /// The runs of a module are all of one root's thread, and that root reaches it.
 pub fn one_root_runs_a_module()
-    ensures root { (program : List Behaviour) (place index : ℕ) (run : Run) → Agree program → AreModules program
+    ensures root { (program : List Behaviour) (place index : ℕ) (run : Run) → Agree program
+        → AreModules program
         → run_at (history_of program) place index ≡ Some run
         → IsRoot program run.root × Reaches program run.root place }
     ensures alone { (program : List Behaviour) (place index elsewhere : ℕ) (run other : Run)
         → Agree program → AreModules program
-        → run_at (history_of program) place index ≡ Some run → run_at (history_of program) place elsewhere ≡ Some other
+        → run_at (history_of program) place index ≡ Some run
+        → run_at (history_of program) place elsewhere ≡ Some other
         → run.root ≡ other.root }
 {}
 
 /// The length of a run's path and its module's number are together below the number of modules.
 pub fn paths_are_short()
-    ensures { (program : List Behaviour) (place index : ℕ) (run : Run) → Agree program → AreModules program
+    ensures { (program : List Behaviour) (place index : ℕ) (run : Run) → Agree program
+        → AreModules program
         → run_at (history_of program) place index ≡ Some run
         → length run.path + place < length program }
 {}

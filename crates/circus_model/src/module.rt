@@ -37,8 +37,11 @@ pub trait Module: Sized + Drop {
         ensures declared { IfOk result (λ copy. declared copy ≡ declared self.now) }
         ensures turn { IfOk result (λ copy. turn copy ≡ turn self.now) }
         ensures first { IfOk result (λ copy. first copy ≡ first self.now) }
-        ensures stands { IfOk result (λ copy. (paused : Self.Paused) (state : List ValueTree) (procedure : ℕ) (arguments : List ValueTree) (replies : List Ended) →
-            (stands copy paused state procedure arguments replies ↔ stands self.now paused state procedure arguments replies)) };
+        ensures stands { IfOk result (λ copy.
+            (paused : Self.Paused) (state : List ValueTree) (procedure : ℕ)
+            (arguments : List ValueTree) (replies : List Ended) →
+            (stands copy paused state procedure arguments replies
+            ↔ stands self.now paused state procedure arguments replies)) };
 
     /// The state before the first execution, or `NoMemory`.
     fn first_state(&self) -> Result<State, NoMemory>
@@ -52,23 +55,29 @@ pub trait Module: Sized + Drop {
         arguments: &Values,
     ) -> Result<Turn<Self::Paused>, NoMemory>
         requires { CanStart (declared self.now) state procedure arguments.now }
-        ensures { IfOk result (Gives (λ paused. stands self.now paused state procedure arguments.now [])
+        ensures { IfOk result
+            (Gives (λ paused. stands self.now paused state procedure arguments.now [])
             (turn self.now state procedure arguments.now [])) };
 
     /// Goes on with the reply to the last ask. After `NoMemory` the execution is gone.
     fn resume(&self, paused: Self::Paused, reply: &Outcome) -> Result<Turn<Self::Paused>, NoMemory>
-        requires { CanResume (stands self.now paused) (declared self.now) (turn self.now) reply.now }
-        ensures { (state : List ValueTree) (procedure : ℕ) (arguments : List ValueTree) (replies : List Ended) →
+        requires { CanResume (stands self.now paused) (declared self.now)
+            (turn self.now) reply.now }
+        ensures { (state : List ValueTree) (procedure : ℕ) (arguments : List ValueTree)
+            (replies : List Ended) →
             stands self.now paused state procedure arguments replies →
-            IfOk result (Gives (λ later. stands self.now later state procedure arguments (replies ++ reply.now ∷ []))
+            IfOk result (Gives (λ later.
+            stands self.now later state procedure arguments (replies ++ reply.now ∷ []))
             (turn self.now state procedure arguments (replies ++ reply.now ∷ []))) };
 
     /// The first state is one that the module may have.
     ghost first_is_state: { (m : Self) → IsState (declared m) (first m) };
 
     /// Each turn is lawful, where the start was and each reply fitted its ask.
-    ghost turns_are_lawful: { (m : Self) (state : List ValueTree) (procedure : ℕ) (arguments : List ValueTree) (replies : List Ended) →
+    ghost turns_are_lawful: { (m : Self) (state : List ValueTree) (procedure : ℕ) (arguments : List ValueTree)
+        (replies : List Ended) →
         CanStart (declared m) state procedure arguments →
         RepliesFit (declared m).imports (turn m state procedure arguments) [] replies →
-        IsLawful (declared m) procedure (length replies) (turn m state procedure arguments replies) };
+        IsLawful (declared m) procedure (length replies)
+        (turn m state procedure arguments replies) };
 }

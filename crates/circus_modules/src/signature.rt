@@ -48,7 +48,8 @@ fn import(
     implemented: &[Option<u16>],
     module: u16,
 ) -> Result<Import, NoMemory>
-    ensures { IfOk result (λ import. import ≡ means.import_of interfaces.now implemented.now «module») }
+    ensures { IfOk result (λ import.
+        import ≡ means.import_of interfaces.now implemented.now «module») }
 {
     let number = implemented.get(usize::from(module)).copied();
     Ok(Import {
@@ -63,7 +64,8 @@ fn imports(
     implemented: &[Option<u16>],
     numbers: &[u16],
 ) -> Result<Imports, NoMemory>
-    ensures { IfOk result (λ imports. imports ≡ map (means.import_of interfaces.now implemented.now) numbers.now) }
+    ensures { IfOk result (λ imports.
+        imports ≡ map (means.import_of interfaces.now implemented.now) numbers.now) }
 {
     let mut imports = Imports::new(alloc);
     for number in numbers {
@@ -80,7 +82,9 @@ pub(crate) fn signature(
     implemented: &[Option<u16>],
     module: &ResolvedModule,
 ) -> Result<Signature, NoMemory>
-    ensures { IfOk result (λ signature. signature ≡ means.signature_of limit interfaces.now implemented.now (module_as «module».now)) }
+    ensures { IfOk result (λ signature.
+        signature ≡ means.signature_of limit interfaces.now implemented.now
+        (module_as «module».now)) }
 {
     Ok(Signature {
         root: module.root,

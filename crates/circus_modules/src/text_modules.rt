@@ -65,8 +65,10 @@ fn text_modules(
     implemented: &[Option<u16>],
     modules: ResolvedModules,
 ) -> Result<Vec<TextModule>, NoMemory>
-    requires { AllByRecursion (CanBeMade limit interfaces.now implemented.now) (map module_as modules) }
-    ensures { IfOk result (λ made. behaviours ⟦<TextModule as circus_model::Module>⟧.declared ⟦<TextModule as circus_model::Module>⟧.turn ⟦<TextModule as circus_model::Module>⟧.first made.items
+    requires { AllByRecursion (CanBeMade limit interfaces.now implemented.now)
+        (map module_as modules) }
+    ensures { IfOk result (λ made.
+        behaviours ⟦<TextModule as circus_model::Module>⟧.declared ⟦<TextModule as circus_model::Module>⟧.turn ⟦<TextModule as circus_model::Module>⟧.first made.items
         ≡ map (behaviour_of limit interfaces.now implemented.now) (map module_as modules)) }
 {
     let mut made = Vec::with_capacity(alloc, modules.len())?;
@@ -88,9 +90,11 @@ pub fn modules_of(
     requires obey { AllByRecursion Obeys checked.interfaces }
     requires well_formed { AreWellFormed checked.interfaces (map module_as checked.modules) }
     ensures interfaces { IfOk result (λ made. made.0 ≡ checked.interfaces) }
-    ensures behave { IfOk result (λ made. behaviours ⟦<TextModule as circus_model::Module>⟧.declared ⟦<TextModule as circus_model::Module>⟧.turn ⟦<TextModule as circus_model::Module>⟧.first made.1.items
+    ensures behave { IfOk result (λ made.
+        behaviours ⟦<TextModule as circus_model::Module>⟧.declared ⟦<TextModule as circus_model::Module>⟧.turn ⟦<TextModule as circus_model::Module>⟧.first made.1.items
         ≡ program_of limit checked.interfaces (map module_as checked.modules)) }
-    ensures agree { IfOk result (λ made. Agree (behaviours ⟦<TextModule as circus_model::Module>⟧.declared ⟦<TextModule as circus_model::Module>⟧.turn ⟦<TextModule as circus_model::Module>⟧.first made.1.items)) }
+    ensures agree { IfOk result (λ made.
+        Agree (behaviours ⟦<TextModule as circus_model::Module>⟧.declared ⟦<TextModule as circus_model::Module>⟧.turn ⟦<TextModule as circus_model::Module>⟧.first made.1.items)) }
     ensures few { IfOk result (λ made. length made.1.items ≤ most_modules) }
 {
     let Checked {

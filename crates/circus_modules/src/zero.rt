@@ -49,7 +49,8 @@ pub(crate) fn zero_fields(alloc: Global, fields: &[Field]) -> Result<Values, NoM
 // The first arm, with its zero value.
 #[cycle(zero)]
 fn zero_choice(alloc: Global, arms: &[Arm]) -> Result<Value, NoMemory>
-    ensures { IfOk result (λ value. tree_of value ≡ written.zero_choice (arm_trees (map shapes.arm_of arms.now))) }
+    ensures { IfOk result (λ value.
+        tree_of value ≡ written.zero_choice (arm_trees (map shapes.arm_of arms.now))) }
 {
     match arms.first() {
         Some(arm) => {

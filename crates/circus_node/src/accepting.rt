@@ -24,8 +24,11 @@ pub fn accept<M: Module>(
     heard: Heard<Purpose>,
 ) -> Result<Option<Occurrence>, NoMemory>
     requires { IsMemberOf deployment.now member.now }
-    ensures accepted { IfOk result (λ accepted. accepted ≡ accepting.accepted deployment.now (M.declared member.now.performing.hosted) member.now from heard) }
-    ensures can { IfOk result (λ accepted. IfSome accepted (CanHappen (M.declared member.now.performing.hosted) member.now)) }
+    ensures accepted { IfOk result (λ accepted.
+        accepted ≡ accepting.accepted deployment.now
+        (M.declared member.now.performing.hosted) member.now from heard) }
+    ensures can { IfOk result (λ accepted.
+        IfSome accepted (CanHappen (M.declared member.now.performing.hosted) member.now)) }
 {
     match heard {
         Heard::Dropped | Heard::Taken => Ok(None),

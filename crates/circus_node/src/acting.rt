@@ -60,7 +60,8 @@ impl Consequences {
 
     // Calls and returns, and a reply that differs where there is one.
     fn of(alloc: Global, effects: Effects, difference: Option<Difference>) -> Result<Self, NoMemory>
-        ensures { IfOk result (λ came. came ≡ making.consequences effects (option_to_list difference)) }
+        ensures { IfOk result (λ came.
+            came ≡ making.consequences effects (option_to_list difference)) }
     {
         let mut differences = ListOf::new(alloc);
         if let Some(difference) = difference {
@@ -115,8 +116,12 @@ impl<M: Module> Acting<M> {
         hosted: Option<M>,
     ) -> Result<(Self, Consequences), NoMemory>
         requires { MayStand M.declared deployment.now home hosted }
-        ensures acting { IfOk result (λ booted. booted.0 ≡ (booting.made_at_boot M.declared M.turn M.first deployment.now home hosted).acting) }
-        ensures came { IfOk result (λ booted. booted.1 ≡ (booting.made_at_boot M.declared M.turn M.first deployment.now home hosted).came) }
+        ensures acting { IfOk result (λ booted.
+            booted.0 ≡ (booting.made_at_boot M.declared M.turn M.first deployment.now home
+            hosted).acting) }
+        ensures came { IfOk result (λ booted.
+            booted.1 ≡ (booting.made_at_boot M.declared M.turn M.first deployment.now home
+            hosted).came) }
         ensures kept { IfOk result (λ booted. IsActing deployment.now booted.0) }
     {
         let ring = Ring::new(alloc, deployment)?;
@@ -170,8 +175,10 @@ impl<M: Module> Acting<M> {
         heard: Heard<Purpose>,
     ) -> Result<(Self, Consequences), NoMemory>
         requires { IsActing deployment.now self }
-        ensures acting { IfOk result (λ made. made.0 ≡ (making.hears M.declared M.turn deployment.now at from heard self).acting) }
-        ensures came { IfOk result (λ made. made.1 ≡ (making.hears M.declared M.turn deployment.now at from heard self).came) }
+        ensures acting { IfOk result (λ made.
+            made.0 ≡ (making.hears M.declared M.turn deployment.now at from heard self).acting) }
+        ensures came { IfOk result (λ made.
+            made.1 ≡ (making.hears M.declared M.turn deployment.now at from heard self).came) }
         ensures kept { IfOk result (λ made. IsActing deployment.now made.0) }
     {
         match heard {
@@ -197,8 +204,10 @@ impl<M: Module> Acting<M> {
         heard: Heard<Purpose>,
     ) -> Result<(Self, Consequences), NoMemory>
         requires { IsActing deployment.now self }
-        ensures acting { IfOk result (λ made. made.0 ≡ (making.arrives M.declared M.turn deployment.now at from heard self).acting) }
-        ensures came { IfOk result (λ made. made.1 ≡ (making.arrives M.declared M.turn deployment.now at from heard self).came) }
+        ensures acting { IfOk result (λ made.
+            made.0 ≡ (making.arrives M.declared M.turn deployment.now at from heard self).acting) }
+        ensures came { IfOk result (λ made.
+            made.1 ≡ (making.arrives M.declared M.turn deployment.now at from heard self).came) }
         ensures kept { IfOk result (λ made. IsActing deployment.now made.0) }
     {
         let Acting { role } = self;
@@ -223,8 +232,10 @@ impl<M: Module> Acting<M> {
         at: u64,
         node: u16,
     ) -> Result<(Self, Consequences), NoMemory>
-        ensures acting { IfOk result (λ made. made.0 ≡ (making.learns_down M.declared M.turn at node self).acting) }
-        ensures came { IfOk result (λ made. made.1 ≡ (making.learns_down M.declared M.turn at node self).came) }
+        ensures acting { IfOk result (λ made.
+            made.0 ≡ (making.learns_down M.declared M.turn at node self).acting) }
+        ensures came { IfOk result (λ made.
+            made.1 ≡ (making.learns_down M.declared M.turn at node self).came) }
         ensures kept { (d : Deployed) → IsActing d self → IfOk result (λ made. IsActing d made.0) }
     {
         let Acting { role } = self;
@@ -238,8 +249,10 @@ impl<M: Module> Acting<M> {
 
     /// The node is told to join its troupe.
     pub fn join(self, alloc: Global, at: u64) -> Result<(Self, Consequences), NoMemory>
-        ensures acting { IfOk result (λ made. made.0 ≡ (making.is_told_to_join M.declared M.turn at self).acting) }
-        ensures came { IfOk result (λ made. made.1 ≡ (making.is_told_to_join M.declared M.turn at self).came) }
+        ensures acting { IfOk result (λ made.
+            made.0 ≡ (making.is_told_to_join M.declared M.turn at self).acting) }
+        ensures came { IfOk result (λ made.
+            made.1 ≡ (making.is_told_to_join M.declared M.turn at self).came) }
         ensures kept { (d : Deployed) → IsActing d self → IfOk result (λ made. IsActing d made.0) }
     {
         let Acting { role } = self;
@@ -281,9 +294,12 @@ fn happen<M: Module>(
     occurrence: Occurrence,
 ) -> Result<(Acting<M>, Consequences), NoMemory>
     requires { CanHappen (M.declared member.value.performing.hosted) member.value occurrence }
-    ensures acting { IfOk result (λ made. made.0 ≡ (making.happens M.declared M.turn at member.value occurrence).acting) }
-    ensures came { IfOk result (λ made. made.1 ≡ (making.happens M.declared M.turn at member.value occurrence).came) }
-    ensures kept { (d : Deployed) → IsMemberOf d member.value → IfOk result (λ made. IsActing d made.0) }
+    ensures acting { IfOk result (λ made.
+        made.0 ≡ (making.happens M.declared M.turn at member.value occurrence).acting) }
+    ensures came { IfOk result (λ made.
+        made.1 ≡ (making.happens M.declared M.turn at member.value occurrence).came) }
+    ensures kept { (d : Deployed) → IsMemberOf d member.value
+        → IfOk result (λ made. IsActing d made.0) }
 {
     let (next, effects, difference) = Box::into_inner(member).step(at, occurrence)?;
     let came = Consequences::of(alloc, effects, difference)?;
@@ -323,7 +339,8 @@ fn perform_called(
 ) -> Result<Consequences, NoMemory>
     requires { IsRingOf deployment.now ring.old }
     ensures ring { OnOk result (ring.new ≡ (making.called_at_ring sender message.now ring.old).0) }
-    ensures came { IfOk result (λ came. came ≡ (making.called_at_ring sender message.now ring.old).1) }
+    ensures came { IfOk result (λ came.
+        came ≡ (making.called_at_ring sender message.now ring.old).1) }
     ensures kept { OnOk result (IsRingOf deployment.now ring.new) }
 {
     let Some(request) = accept_request(alloc, ring, message)? else {
@@ -343,7 +360,8 @@ fn perform(
     requires ring { IsRingOf deployment.now ring.old }
     requires about { ring_table.troupe_of request.now < length ring.old.troupes }
     ensures ring { OnOk result (ring.new ≡ ring_table.kept_by ring.old request.now) }
-    ensures came { IfOk result (λ came. came ≡ making.consequences (making.table_answers ring.old sender request.now) []) }
+    ensures came { IfOk result (λ came.
+        came ≡ making.consequences (making.table_answers ring.old sender request.now) []) }
     ensures kept { OnOk result (IsRingOf deployment.now ring.new) }
 {
     let table = ring.perform(request)?;

@@ -24,7 +24,8 @@ pub(crate) fn values_at(
     message: &Parts,
 ) -> Result<Option<Values>, NoMemory>
     requires { at ≤ length message.now }
-    ensures read { IfOk result (λ values. values ≡ bodies.values_at shapes.now most at message.now) }
+    ensures read { IfOk result (λ values.
+        values ≡ bodies.values_at shapes.now most at message.now) }
     ensures fit { IfOk result (λ values. IfSome values (AreOf shapes.now most)) }
 {
     if message.len() - at > most {
@@ -39,7 +40,8 @@ pub(crate) fn values_at(
 }
 
 fn reported(procedure: &ProcedureShape, number: u16) -> Option<&ErrorShape>
-    ensures { option_copied result ≡ find (λ (e : Reported). e.number == number) procedure.now.errors }
+    ensures { option_copied result
+        ≡ find (λ (e : Reported). e.number == number) procedure.now.errors }
 {
     procedure
         .errors
@@ -56,8 +58,10 @@ pub(crate) fn outcome_at(
     at: usize,
     message: &Parts,
 ) -> Result<Option<Outcome>, NoMemory>
-    ensures read { IfOk result (λ outcome. outcome ≡ bodies.outcome_at procedure.now most at message.now) }
-    ensures fits { IfOk result (λ outcome. IfSome outcome (λ o. outcome_fits procedure.now o ≡ true)) }
+    ensures read { IfOk result (λ outcome.
+        outcome ≡ bodies.outcome_at procedure.now most at message.now) }
+    ensures fits { IfOk result (λ outcome.
+        IfSome outcome (λ o. outcome_fits procedure.now o ≡ true)) }
 {
     let Some(kind) = word_at(message, at) else {
         return Ok(None);
@@ -77,8 +81,10 @@ fn results_at(
     message: &Parts,
 ) -> Result<Option<Outcome>, NoMemory>
     requires { at ≤ length message.now }
-    ensures read { IfOk result (λ outcome. outcome ≡ bodies.results_at procedure.now most at message.now) }
-    ensures fits { IfOk result (λ outcome. IfSome outcome (λ o. outcome_fits procedure.now o ≡ true)) }
+    ensures read { IfOk result (λ outcome.
+        outcome ≡ bodies.results_at procedure.now most at message.now) }
+    ensures fits { IfOk result (λ outcome.
+        IfSome outcome (λ o. outcome_fits procedure.now o ≡ true)) }
 {
     let results = values_at(alloc, &procedure.results, most, at, message)?;
     Ok(results.map(Outcome::Returned))
@@ -92,8 +98,10 @@ fn error_at(
     at: usize,
     message: &Parts,
 ) -> Result<Option<Outcome>, NoMemory>
-    ensures read { IfOk result (λ outcome. outcome ≡ bodies.error_at procedure.now most at message.now) }
-    ensures fits { IfOk result (λ outcome. IfSome outcome (λ o. outcome_fits procedure.now o ≡ true)) }
+    ensures read { IfOk result (λ outcome.
+        outcome ≡ bodies.error_at procedure.now most at message.now) }
+    ensures fits { IfOk result (λ outcome.
+        IfSome outcome (λ o. outcome_fits procedure.now o ≡ true)) }
 {
     let Some(number) = word_at(message, at) else {
         return Ok(None);
@@ -112,8 +120,10 @@ fn raised_values(
     message: &Parts,
 ) -> Result<Option<Values>, NoMemory>
     requires { at ≤ length message.now }
-    ensures read { IfOk result (λ values. values ≡ bodies.raised_values procedure.now number most at message.now) }
-    ensures fit { IfOk result (λ values. IfSome values (λ vs. outcome_fits procedure.now (Raised number vs) ≡ true)) }
+    ensures read { IfOk result (λ values.
+        values ≡ bodies.raised_values procedure.now number most at message.now) }
+    ensures fit { IfOk result (λ values.
+        IfSome values (λ vs. outcome_fits procedure.now (Raised number vs) ≡ true)) }
 {
     match reported(procedure, number) {
         Some(error) => values_at(alloc, &error.arguments, most, at, message),
@@ -131,7 +141,8 @@ pub(crate) fn restored_in(
     signature: &Signature,
     message: &Parts,
 ) -> Result<Option<(State, u32)>, NoMemory>
-    ensures read { IfOk result (λ restored. restored ≡ bodies.restored_in signature.now.variables signature.now.limit message.now) }
+    ensures read { IfOk result (λ restored.
+        restored ≡ bodies.restored_in signature.now.variables signature.now.limit message.now) }
     ensures state { IfOk result (λ restored. IfSome restored (λ r. IsState signature.now r.0)) }
 {
     prove!(message.len() <= LONGEST_MESSAGE);

@@ -26,8 +26,10 @@ fn unpacks(
     procedure: u16,
     body: &Parts,
 ) -> Result<bool, NoMemory>
-    ensures same { IfOk result (λ unpacks. unpacks ≡ accepting.unpacks deployment.now signature.now procedure body.now) }
-    ensures has { IfOk result (λ unpacks. OnTrue unpacks (HasArguments signature.now procedure body.now)) }
+    ensures same { IfOk result (λ unpacks.
+        unpacks ≡ accepting.unpacks deployment.now signature.now procedure body.now) }
+    ensures has { IfOk result (λ unpacks.
+        OnTrue unpacks (HasArguments signature.now procedure body.now)) }
 {
     let Some(procedure) = procedure_numbered(&signature.procedures, procedure) else {
         return Ok(false);
@@ -60,8 +62,11 @@ fn may_ask(
     body: &Parts,
 ) -> Result<bool, NoMemory>
     requires { IsAsk header.now }
-    ensures same { IfOk result (λ may. may ≡ accepting.may_ask deployment.now signature.now own sender header.now body.now) }
-    ensures can { IfOk result (λ may. OnTrue may (IsCallTo signature.now own (length deployment.now.troupes) header.now body.now)) }
+    ensures same { IfOk result (λ may.
+        may ≡ accepting.may_ask deployment.now signature.now own sender header.now body.now) }
+    ensures can { IfOk result (λ may.
+        OnTrue may (IsCallTo signature.now own
+        (length deployment.now.troupes) header.now body.now)) }
 {
     if !is_in_order(deployment, own, sender, header) {
         return Ok(false);
@@ -80,8 +85,10 @@ fn take_ask(
     body: Parts,
 ) -> Result<Option<Occurrence>, NoMemory>
     requires { IsAsk header }
-    ensures accepted { IfOk result (λ accepted. accepted ≡ accepting.taken_ask deployment.now signature.now own sender header body) }
-    ensures can { IfOk result (λ accepted. IfSome accepted (MayTake signature.now own (length deployment.now.troupes))) }
+    ensures accepted { IfOk result (λ accepted.
+        accepted ≡ accepting.taken_ask deployment.now signature.now own sender header body) }
+    ensures can { IfOk result (λ accepted.
+        IfSome accepted (MayTake signature.now own (length deployment.now.troupes))) }
 {
     let node = sender.node;
     if !may_ask(alloc, deployment, signature, own, node, &header, &body)? {
@@ -114,8 +121,10 @@ pub(crate) fn accept_call(
     sender: Caller,
     message: &Parts,
 ) -> Result<Option<Occurrence>, NoMemory>
-    ensures accepted { IfOk result (λ accepted. accepted ≡ accepting.accepted_call deployment.now signature.now own sender message.now) }
-    ensures can { IfOk result (λ accepted. IfSome accepted (MayTake signature.now own (length deployment.now.troupes))) }
+    ensures accepted { IfOk result (λ accepted.
+        accepted ≡ accepting.accepted_call deployment.now signature.now own sender message.now) }
+    ensures can { IfOk result (λ accepted.
+        IfSome accepted (MayTake signature.now own (length deployment.now.troupes))) }
 {
     let Some((call, at)) = call_in(alloc, message)? else {
         return Ok(None);
@@ -137,8 +146,10 @@ pub fn accept_request(
     ring: &Ring,
     message: &Parts,
 ) -> Result<Option<Request>, NoMemory>
-    ensures accepted { IfOk result (λ accepted. accepted ≡ accepting.accepted_request ring.now message.now) }
-    ensures can { IfOk result (λ accepted. IfSome accepted (λ request. troupe_of request < length ring.now.troupes)) }
+    ensures accepted { IfOk result (λ accepted.
+        accepted ≡ accepting.accepted_request ring.now message.now) }
+    ensures can { IfOk result (λ accepted.
+        IfSome accepted (λ request. troupe_of request < length ring.now.troupes)) }
 {
     let Some((call, _)) = call_in(alloc, message)? else {
         return Ok(None);

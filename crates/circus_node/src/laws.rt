@@ -16,13 +16,16 @@ ghost use Rattle.circus_node.specs.Noticing.{Happenings, member_at_boot, after_a
 /// declared, the views that were wanted by calls that it held and by answers of newer views, and the Lookups that it made
 /// (docs/PROTOCOL.md, "Views"). So of all tables the first of the greatest incarnation is known, and what is down was declared.
 pub fn members_know_what_they_noticed()
-    ensures { (b : Behaviour) (place : Standing) (views : List View) (beginning : Begun) (happenings : Happenings)
+    ensures { (b : Behaviour) (place : Standing) (views : List View) (beginning : Begun)
+        (happenings : Happenings)
         → (after_all (member_at_boot b place views beginning) happenings).known
-        ≡ known_by views (noticed_by_all none_yet (member_at_boot b place views beginning) happenings) }
+        ≡ known_by views
+        (noticed_by_all none_yet (member_at_boot b place views beginning) happenings) }
 {}
 
 /// Where each troupe has a module of its own, every node of the program may boot with that of its troupe.
 pub fn all_nodes_may_boot()
-    ensures { (d : Deployed) (declared : List Declared) (node : ℕ) → IsDeployment d → AreOfTroupes d declared → node < length d.nodes
+    ensures { (d : Deployed) (declared : List Declared) (node : ℕ) → IsDeployment d
+        → AreOfTroupes d declared → node < length d.nodes
         → CanBoot d node (declared_at d declared node) }
 {}

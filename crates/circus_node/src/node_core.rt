@@ -75,11 +75,14 @@ impl<M: Module> NodeCore<M> {
         node: u16,
     ) -> Result<(Self, Outputs), StepFault>
         requires { booting.CanBoot deployment.now node (option_map M.declared «module») }
-        ensures booted { step.IsEnded result (booting.booted M.declared M.turn M.first deployment.now «module» node) }
+        ensures booted { step.IsEnded result
+            (booting.booted M.declared M.turn M.first deployment.now «module» node) }
         ensures node { IfOk result (λ booted. IsNodeOf deployment.now node booted.0) }
         ensures others { IfOk result (λ booted. GoToOthers booted.0 booted.1.gives) }
-        ensures trace { IfOk result (λ begun. StandsFor M.declared M.turn M.first deployment.now «module» node
-            (trace.booted (effects_at_boot M.declared M.turn M.first deployment.now «module» node) begun.1) begun.0) }
+        ensures trace { IfOk result (λ begun.
+            StandsFor M.declared M.turn M.first deployment.now «module» node
+            (trace.booted (effects_at_boot M.declared M.turn M.first deployment.now «module» node)
+            begun.1) begun.0) }
     {
         NodeCore::begin(alloc, deployment, module, node)
     }
@@ -94,7 +97,8 @@ impl<M: Module> NodeCore<M> {
         requires deployment { IsDeployment deployment.now }
         requires modules { booting.AreOfTroupes deployment.now (map M.declared modules.now) }
         requires within { node < length deployment.now.nodes }
-        ensures booted { booting.IsBooted M.declared M.turn M.first deployment.now modules.now node result }
+        ensures booted { booting.IsBooted M.declared M.turn M.first deployment.now modules.now node
+            result }
         ensures node { IfOk result (λ booted. IsNodeOf deployment.now node booted.0) }
         ensures others { IfOk result (λ booted. GoToOthers booted.0 booted.1.gives) }
     {
@@ -111,7 +115,8 @@ impl<M: Module> NodeCore<M> {
     pub fn step(self, at: u64, event: Event) -> Result<(Self, Outputs), StepFault>
         requires { step.CanCome self event }
         ensures stepped { step.IsEnded result (step.stepped M.declared M.turn at event self) }
-        ensures node { (program : Deployed) (number : ℕ) → IsNodeOf program number self → IfOk result (λ stepped. IsNodeOf program number stepped.0) }
+        ensures node { (program : Deployed) (number : ℕ) → IsNodeOf program number self
+            → IfOk result (λ stepped. IsNodeOf program number stepped.0) }
         ensures others { IfOk result (λ stepped. GoToOthers stepped.0 stepped.1.gives) }
         ensures trace { (d : Deployed) (hosted : Option M) (node : ℕ) (t : Trace)
             → StandsFor M.declared M.turn M.first d hosted node t self
@@ -152,7 +157,8 @@ impl<M: Module> NodeCore<M> {
         node: u16,
     ) -> Result<(Self, Outputs), StepFault>
         requires { booting.CanBoot deployment.now node (option_map M.declared «module») }
-        ensures { step.IsEnded result (booting.booted M.declared M.turn M.first deployment.now «module» node) }
+        ensures { step.IsEnded result
+            (booting.booted M.declared M.turn M.first deployment.now «module» node) }
     {
         let home = home_of(alloc, deployment, node)?;
         let (acting, came) = Acting::boot(alloc, deployment, home, module)?;
@@ -176,7 +182,8 @@ impl<M: Module> NodeCore<M> {
     // A datagram of a node comes.
     fn receive(self, at: u64, from: u16, bytes: &Bytes) -> Result<(Self, Outputs), StepFault>
         requires { IsOther self.wire from }
-        ensures { step.IsEnded result (step.received M.declared M.turn at from (reading bytes.now) self) }
+        ensures { step.IsEnded result
+            (step.received M.declared M.turn at from (reading bytes.now) self) }
     {
         let NodeCore {
             mut station,
@@ -241,7 +248,8 @@ impl<M: Module> NodeCore<M> {
 // A copy of the module of a troupe.
 fn copy_of<M: Module>(modules: &[M], troupe: Option<u16>) -> Result<Option<M>, NoMemory>
     ensures { IfOk result (λ copy. option_map (behaviour M.declared M.turn M.first) copy
-        ≡ option_map (behaviour M.declared M.turn M.first) (option_and_then (slice_get modules.now) troupe)) }
+        ≡ option_map (behaviour M.declared M.turn M.first)
+        (option_and_then (slice_get modules.now) troupe)) }
 {
     let Some(number) = troupe else {
         return Ok(None);

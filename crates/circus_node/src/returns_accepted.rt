@@ -58,8 +58,13 @@ fn take_reply<M: Module>(
     message: &Parts,
 ) -> Result<Option<Reply>, NoMemory>
     requires { IsMemberOf deployment.now member.now }
-    ensures reply { IfOk result (λ reply. reply ≡ accepting.taken_reply deployment.now (M.declared member.now.performing.hosted) member.now name clock at message.now) }
-    ensures fits { IfOk result (λ reply. IfSome reply (λ r. IfSome (asking_of member.now.asks name) (IsReplyTo (M.declared member.now.performing.hosted) (length member.now.known.views) r))) }
+    ensures reply { IfOk result (λ reply.
+        reply ≡ accepting.taken_reply deployment.now
+        (M.declared member.now.performing.hosted) member.now name clock at message.now) }
+    ensures fits { IfOk result (λ reply.
+        IfSome reply (λ r.
+        IfSome (asking_of member.now.asks name)
+        (IsReplyTo (M.declared member.now.performing.hosted) (length member.now.known.views) r))) }
 {
     if clock.len() != deployment.troupes.len() {
         return Ok(None);
@@ -86,8 +91,11 @@ fn take_answer<M: Module>(
     message: &Parts,
 ) -> Result<Option<Occurrence>, NoMemory>
     requires { IsMemberOf deployment.now member.now }
-    ensures accepted { IfOk result (λ accepted. accepted ≡ accepting.accepted_answer deployment.now (M.declared member.now.performing.hosted) member.now name server from message.now) }
-    ensures can { IfOk result (λ accepted. IfSome accepted (CanHappen (M.declared member.now.performing.hosted) member.now)) }
+    ensures accepted { IfOk result (λ accepted.
+        accepted ≡ accepting.accepted_answer deployment.now
+        (M.declared member.now.performing.hosted) member.now name server from message.now) }
+    ensures can { IfOk result (λ accepted.
+        IfSome accepted (CanHappen (M.declared member.now.performing.hosted) member.now)) }
 {
     let Some((header, at)) = return_in(alloc, message)? else {
         return Ok(None);
@@ -126,7 +134,9 @@ fn are_distinct(entries: &[Entry]) -> bool
 }
 
 fn all_belong(deployment: &Deployment, troupe: u16, entries: &[Entry]) -> bool
-    ensures { result ≡ list_all (λ (e : Registered). accepting.may_belong deployment.now troupe e.node) entries.now }
+    ensures { result
+        ≡ list_all (λ (e : Registered).
+        accepting.may_belong deployment.now troupe e.node) entries.now }
 {
     entries
         .iter()
@@ -162,7 +172,8 @@ fn take_table(
     request: Request,
     message: &Parts,
 ) -> Result<Option<Occurrence>, NoMemory>
-    ensures accepted { IfOk result (λ accepted. accepted ≡ accepting.accepted_table deployment.now request message.now) }
+    ensures accepted { IfOk result (λ accepted.
+        accepted ≡ accepting.accepted_table deployment.now request message.now) }
     ensures can { IfOk result (λ accepted. IfSome accepted IsToldRightly) }
 {
     let Some((header, at)) = return_in(alloc, message)? else {
@@ -186,7 +197,8 @@ fn tell_at(
     message: &Parts,
 ) -> Result<Option<Occurrence>, NoMemory>
     requires { at ≤ length message.now }
-    ensures accepted { IfOk result (λ accepted. accepted ≡ accepting.told_at deployment.now request at message.now) }
+    ensures accepted { IfOk result (λ accepted.
+        accepted ≡ accepting.told_at deployment.now request at message.now) }
     ensures can { IfOk result (λ accepted. IfSome accepted IsToldRightly) }
 {
     let Some(table) = table_at(alloc, message, at)? else {
@@ -204,7 +216,8 @@ fn take_state(
     signature: &Signature,
     message: &Parts,
 ) -> Result<Option<Occurrence>, NoMemory>
-    ensures accepted { IfOk result (λ accepted. accepted ≡ accepting.accepted_state signature.now message.now) }
+    ensures accepted { IfOk result (λ accepted.
+        accepted ≡ accepting.accepted_state signature.now message.now) }
     ensures can { IfOk result (λ accepted. IfSome accepted (IsGivenRightly signature.now)) }
 {
     let restored = restored_in(alloc, signature, message)?;
@@ -222,8 +235,11 @@ pub(crate) fn accept_return<M: Module>(
     message: &Parts,
 ) -> Result<Option<Occurrence>, NoMemory>
     requires { IsMemberOf deployment.now member.now }
-    ensures accepted { IfOk result (λ accepted. accepted ≡ accepting.accepted_return deployment.now (M.declared member.now.performing.hosted) member.now from purpose message.now) }
-    ensures can { IfOk result (λ accepted. IfSome accepted (CanHappen (M.declared member.now.performing.hosted) member.now)) }
+    ensures accepted { IfOk result (λ accepted.
+        accepted ≡ accepting.accepted_return deployment.now
+        (M.declared member.now.performing.hosted) member.now from purpose message.now) }
+    ensures can { IfOk result (λ accepted.
+        IfSome accepted (CanHappen (M.declared member.now.performing.hosted) member.now)) }
 {
     match purpose {
         Purpose::Ask(name, server) => {

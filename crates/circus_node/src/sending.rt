@@ -58,7 +58,8 @@ pub(crate) fn hand_all(
 ) -> Result<(), StepFault>
     requires format { (format ≡ 1) ⊎ (format ≡ 2) }
     requires same { wire.old.format ≡ format }
-    ensures handed { IsHanded result wire.new gives.new (sending.all_handed (sending.sent wire.old gives.old) effects) }
+    ensures handed { IsHanded result wire.new gives.new
+        (sending.all_handed (sending.sent wire.old gives.old) effects) }
     ensures remains { Remains wire.old wire.new }
 {
     for effect in effects.into_items() {
@@ -99,7 +100,8 @@ fn call(
 ) -> Result<(), StepFault>
     requires format { (format ≡ 1) ⊎ (format ≡ 2) }
     requires same { wire.old.format ≡ format }
-    ensures handed { IsHanded result wire.new gives.new (sending.call_handed wire.old gives.old to message purpose) }
+    ensures handed { IsHanded result wire.new gives.new
+        (sending.call_handed wire.old gives.old to message purpose) }
     ensures remains { Remains wire.old wire.new }
 {
     if !wire.is_up(to) || !is_sendable(format, &message) {
@@ -119,7 +121,8 @@ fn answer(
 ) -> Result<(), StepFault>
     requires format { (format ≡ 1) ⊎ (format ≡ 2) }
     requires same { wire.old.format ≡ format }
-    ensures handed { IsHanded result wire.new gives.new (sending.return_handed wire.old gives.old caller message) }
+    ensures handed { IsHanded result wire.new gives.new
+        (sending.return_handed wire.old gives.old caller message) }
     ensures remains { Remains wire.old wire.new }
 {
     if !is_sendable(format, &message) {

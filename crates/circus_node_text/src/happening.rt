@@ -18,7 +18,9 @@ pub(crate) fn append_happened<N: Naming>(
     names: &N,
     all: &[Happening],
 ) -> Result<(), NoMemory>
-    ensures { OnOk result (string_bytes text.new ≡ string_bytes text.old ++ happened_lines (N.names names.now) 0 all.now) }
+    ensures { OnOk result
+        (string_bytes text.new
+        ≡ string_bytes text.old ++ happened_lines (N.names names.now) 0 all.now) }
 {
     let mut number = 0;
     for happening in all {
@@ -39,7 +41,8 @@ fn append_happening<N: Naming>(
     ensures few { IfOk result (λ next. next ≤ number + 1) }
     ensures added { IfOk result (λ next. (others : List Happens)
         → string_bytes text.new ++ happened_lines (N.names names.now) next others
-        ≡ string_bytes text.old ++ happened_lines (N.names names.now) number (happening.now ∷ others)) }
+        ≡ string_bytes text.old
+        ++ happened_lines (N.names names.now) number (happening.now ∷ others)) }
 {
     match happening {
         Happening::Booted(gives) => {
@@ -98,7 +101,9 @@ fn append_gives<N: Naming>(
     names: &N,
     gives: &[Give],
 ) -> Result<(), NoMemory>
-    ensures { OnOk result (string_bytes text.new ≡ string_bytes text.old ++ flat_map (give_line (N.names names.now)) gives.now) }
+    ensures { OnOk result
+        (string_bytes text.new
+        ≡ string_bytes text.old ++ flat_map (give_line (N.names names.now)) gives.now) }
 {
     for give in gives {
         append_give(alloc, text, names, give)?;
@@ -113,7 +118,8 @@ fn append_give<N: Naming>(
     names: &N,
     give: &Give,
 ) -> Result<(), NoMemory>
-    ensures { OnOk result (string_bytes text.new ≡ string_bytes text.old ++ give_line (N.names names.now) give.now) }
+    ensures { OnOk result
+        (string_bytes text.new ≡ string_bytes text.old ++ give_line (N.names names.now) give.now) }
 {
     let to = names.node(usize::from(give.to));
     let bytes = hex::encode(alloc, give.bytes.as_slice())?;
@@ -123,7 +129,8 @@ fn append_give<N: Naming>(
 
 // Adds the line of a datagram from a port that is no other node's.
 fn append_foreign(alloc: Global, text: &mut String, port: u16, bytes: &[u8]) -> Result<(), NoMemory>
-    ensures { OnOk result (string_bytes text.new ≡ string_bytes text.old ++ foreign_line port bytes.now) }
+    ensures { OnOk result
+        (string_bytes text.new ≡ string_bytes text.old ++ foreign_line port bytes.now) }
 {
     let bytes = hex::encode(alloc, bytes)?;
     writeln!(text, "foreign {port} {bytes}")?;

@@ -28,7 +28,9 @@ pub fn show_node<M: Module>(
 ) -> Result<Octets, NoMemory>
     requires nodes { All (λ h. IsAscii (host_name h)) deployment.now.nodes }
     requires modules { All IsAscii names.now }
-    ensures { IfOk result (λ text. text ≡ node_text (names_of deployment.now.nodes names.now) deployment.now node «record».now) }
+    ensures { IfOk result (λ text.
+        text ≡ node_text
+        (names_of deployment.now.nodes names.now) deployment.now node «record».now) }
 {
     let names = ProgramNames::new(deployment.nodes.as_slice(), names.as_slice());
     let own = names.node(usize::from(node));
@@ -65,7 +67,9 @@ fn append_member<M: Module, N: Naming>(
     core: &NodeCore<M>,
 ) -> Result<(), NoMemory>
     ensures { OnOk result (string_bytes text.new
-        ≡ string_bytes text.old ++ option_map_or (member_lines (N.names names.now) node troupe None) (member_record core.now.acting) []) }
+        ≡ string_bytes text.old
+        ++ option_map_or (member_lines (N.names names.now) node troupe None)
+        (member_record core.now.acting) []) }
 {
     let Some(kept) = core.member_record() else {
         return Ok(());

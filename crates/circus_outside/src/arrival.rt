@@ -39,7 +39,8 @@ pub enum Look {
 // A datagram as a take answers it.
 #[tactic(auto, using(std::proofs::lemmas::List::take_min))]
 fn cut(alloc: Global, arrival: &Arrival) -> Result<TakenFrom, NoMemory>
-    ensures first { IfOk result (λ answer. answer ≡ TakenFrom.From arrival.now.port (take longest_datagram arrival.now.bytes)) }
+    ensures first { IfOk result (λ answer.
+        answer ≡ TakenFrom.From arrival.now.port (take longest_datagram arrival.now.bytes)) }
     ensures cut { IfOk result IsCut }
 {
     let whole = arrival.bytes.as_slice();
@@ -54,8 +55,10 @@ pub fn arrival_at(
     arrivals: &Arrivals,
     place: usize,
 ) -> Result<(TakenFrom, usize), NoMemory>
-    ensures first { IfOk result (λ found. TakesFirst (drop place arrivals.now) found.0 (drop found.1 arrivals.now)) }
-    ensures answer { IfOk result (λ found. taken_of found.0 ≡ answer_to (Look.At place) arrivals.now) }
+    ensures first { IfOk result (λ found.
+        TakesFirst (drop place arrivals.now) found.0 (drop found.1 arrivals.now)) }
+    ensures answer { IfOk result (λ found.
+        taken_of found.0 ≡ answer_to (Look.At place) arrivals.now) }
     ensures cut { IfOk result (λ found. IsCut found.0) }
 {
     if place < arrivals.len() {

@@ -43,7 +43,9 @@ impl Calls {
 
     /// The next call failed.
     pub fn failed(&mut self)
-        ensures failed { self.new ≡ record self.old { number = one_more self.old.number; faults = one_more self.old.faults } }
+        ensures failed { self.new
+            ≡ record self.old
+            { number = one_more self.old.number; faults = one_more self.old.faults } }
         ensures never_falls { self.old.faults ≤ self.new.faults }
     {
         self.number = self.number.saturating_add(1);

@@ -59,7 +59,17 @@ impl MemLink {
     /// A link at which these datagrams arrive, one a take, and of whose calls the listed ones fail. It
     /// takes no memory.
     pub fn new(alloc: Global, arrivals: Arrivals, failing: Failing) -> Self
-        ensures { result ≡ record { left = arrivals; failing = failing; number = 0; faults = 0; bound = []; taken = []; given = [] } }
+        ensures { result
+            ≡ record {
+              left = arrivals;
+              failing = failing;
+              number = 0;
+              faults = 0;
+              bound = [];
+              taken
+                  = [];
+              given = [];
+            } }
     {
         MemLink {
             alloc,
@@ -106,7 +116,8 @@ impl Link for MemLink {
     fn bind(&mut self, port: u16) -> Result<(), LinkFault>
         ensures bound { Some self.new.bound ≡ ports_after result (Some self.old.bound) port }
         ensures taken { Some self.new.taken ≡ Some self.old.taken }
-        ensures given { Some (map port_and_bytes self.new.given) ≡ Some (map port_and_bytes self.old.given) }
+        ensures given { Some (map port_and_bytes self.new.given)
+            ≡ Some (map port_and_bytes self.old.given) }
         ensures counts { LinkCounts result self.old.faults self.new.faults }
         ensures never_falls { self.old.faults ≤ self.new.faults }
 
@@ -139,7 +150,8 @@ impl Link for MemLink {
         ensures cut { IfOk result IsCut }
         ensures taken { Some self.new.taken ≡ takes_after result (Some self.old.taken) }
         ensures bound { Some self.new.bound ≡ Some self.old.bound }
-        ensures given { Some (map port_and_bytes self.new.given) ≡ Some (map port_and_bytes self.old.given) }
+        ensures given { Some (map port_and_bytes self.new.given)
+            ≡ Some (map port_and_bytes self.old.given) }
         ensures counts { LinkCounts result self.old.faults self.new.faults }
         ensures never_falls { self.old.faults ≤ self.new.faults }
 
@@ -174,7 +186,8 @@ impl Link for MemLink {
     }
 
     fn give(&mut self, port: u16, bytes: &[u8]) -> Result<(), LinkFault>
-        ensures given { Some (map port_and_bytes self.new.given) ≡ given_after result (Some (map port_and_bytes self.old.given)) port bytes.now }
+        ensures given { Some (map port_and_bytes self.new.given)
+            ≡ given_after result (Some (map port_and_bytes self.old.given)) port bytes.now }
         ensures bound { Some self.new.bound ≡ Some self.old.bound }
         ensures taken { Some self.new.taken ≡ Some self.old.taken }
         ensures counts { LinkCounts result self.old.faults self.new.faults }

@@ -50,7 +50,8 @@ impl Model for MemShelf {
 impl MemShelf {
     /// A shelf of these files, of whose fetches the listed ones fail. It takes no memory.
     pub fn new(alloc: Global, files: Files, failing: Failing) -> Self
-        ensures { result ≡ record { files = files; failing = failing; number = 0; fetched = []; faults = 0 } }
+        ensures { result
+            ≡ record { files = files; failing = failing; number = 0; fetched = []; faults = 0 } }
     {
         MemShelf {
             alloc,
@@ -69,8 +70,10 @@ impl MemShelf {
 
     // The contents that the next fetch of this name answers, or `None` where it is to fail.
     fn answer(&self, name: &str) -> Result<Option<Message>, NoMemory>
-        ensures told { IfOk result (λ answer. IfSome answer (λ bytes. contents_in self.now.files name.now ≡ Some bytes)) }
-        ensures size { IfOk result (λ answer. IfSome answer (λ bytes. length bytes ≤ longest_contents)) }
+        ensures told { IfOk result (λ answer.
+            IfSome answer (λ bytes. contents_in self.now.files name.now ≡ Some bytes)) }
+        ensures size { IfOk result (λ answer.
+            IfSome answer (λ bytes. length bytes ≤ longest_contents)) }
         ensures fails { IfOk result (λ answer. IfNone answer (FetchFails self.now name.now)) }
         ensures answers { IfOk result (λ answer. OnSome answer (FetchFails self.now name.now → ⊥)) }
     {
@@ -95,7 +98,8 @@ impl Shelf for MemShelf {
         ensures told { IfOk result (λ bytes. contents_in self.old.files name.now ≡ Some bytes) }
         ensures size { IfOk result (λ bytes. length bytes ≤ longest_contents) }
         ensures contents { Some (contents_in self.new.files) ≡ Some (contents_in self.old.files) }
-        ensures fetched { Some self.new.fetched ≡ names_after result (Some self.old.fetched) name.now }
+        ensures fetched { Some self.new.fetched
+            ≡ names_after result (Some self.old.fetched) name.now }
         ensures counts { ShelfCounts result self.old.faults self.new.faults }
         ensures never_falls { self.old.faults ≤ self.new.faults }
 

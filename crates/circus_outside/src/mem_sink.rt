@@ -62,7 +62,8 @@ impl Sink for MemSink {
         ensures part { IfOk result (λ n. n ≤ length bytes.now) }
         ensures progress { IfOk result (λ n. 0 < length bytes.now → 0 < n) }
         ensures empty { length bytes.now ≡ 0 → result ≡ Ok 0 }
-        ensures written { IfOk result (λ n. Some self.new.written ≡ told_more (Some self.old.written) (take n bytes.now)) }
+        ensures written { IfOk result (λ n.
+            Some self.new.written ≡ told_more (Some self.old.written) (take n bytes.now)) }
         ensures refused { OnErr result (Some self.new.written ≡ Some self.old.written) }
         ensures counts { SinkCounts result self.old.faults self.new.faults }
         ensures never_falls { self.old.faults ≤ self.new.faults }

@@ -43,7 +43,8 @@ pub trait Shelf {
     /// file or has a longer one; the count of faults then rises, unless it stands at its greatest
     /// value. After `NoMemory` the shelf is unchanged.
     fn fetch(&mut self, name: &str) -> Result<Message, ShelfFault>
-        ensures told { IfOk result (λ bytes. IfSome (contents self.old) (λ told. told name.now ≡ Some bytes)) }
+        ensures told { IfOk result (λ bytes.
+            IfSome (contents self.old) (λ told. told name.now ≡ Some bytes)) }
         ensures size { IfOk result (λ bytes. length bytes ≤ longest_contents) }
         ensures contents { contents self.new ≡ contents self.old }
         ensures fetched { fetched self.new ≡ names_after result (fetched self.old) name.now }

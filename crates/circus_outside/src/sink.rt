@@ -45,7 +45,8 @@ pub trait Sink {
         ensures part { IfOk result (λ n. n ≤ length bytes.now) }
         ensures progress { IfOk result (λ n. 0 < length bytes.now → 0 < n) }
         ensures empty { length bytes.now ≡ 0 → result ≡ Ok 0 }
-        ensures written { IfOk result (λ n. written self.new ≡ told_more (written self.old) (take n bytes.now)) }
+        ensures written { IfOk result (λ n.
+            written self.new ≡ told_more (written self.old) (take n bytes.now)) }
         ensures refused { OnErr result (written self.new ≡ written self.old) }
         ensures counts { SinkCounts result (faults self.old) (faults self.new) }
         ensures never_falls { faults self.old ≤ faults self.new };

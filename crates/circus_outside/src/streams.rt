@@ -39,7 +39,8 @@ pub fn write_piece<W: Write>(writer: &mut W, piece: &[u8]) -> Result<usize, Sink
     ensures part { IfOk result (λ n. n ≤ length piece.now) }
     ensures progress { IfOk result (λ n. 0 < length piece.now → 0 < n) }
     ensures empty { length piece.now ≡ 0 → result ≡ Ok 0 }
-    ensures taken { IfOk result (λ n. Appends (W.contents writer.old) (W.contents writer.new) (take n piece.now)) }
+    ensures taken { IfOk result (λ n.
+        Appends (W.contents writer.old) (W.contents writer.new) (take n piece.now)) }
     ensures refused { OnErr result (Keeps (W.contents writer.old) (W.contents writer.new)) }
 {
     if piece.is_empty() {

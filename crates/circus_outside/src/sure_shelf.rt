@@ -71,13 +71,15 @@ impl Shelf for SureShelf {
         ensures told { IfOk result (λ bytes. sure_of self.old.files name.now ≡ Some bytes) }
         ensures size { IfOk result (λ bytes. length bytes ≤ longest_contents) }
         ensures contents { Some (sure_of self.new.files) ≡ Some (sure_of self.old.files) }
-        ensures fetched { Some self.new.fetched ≡ names_after result (Some self.old.fetched) name.now }
+        ensures fetched { Some self.new.fetched
+            ≡ names_after result (Some self.old.fetched) name.now }
         ensures counts { ShelfCounts result 0 0 }
         ensures never_falls { 0 ≤ 0 }
 
         // Only memory can be wanting.
         ensures sure { IsOkUnless result ShelfFault.NoMemory }
-        ensures ok { OnOk result (self.new ≡ record self.old { fetched = self.old.fetched ++ name.now ∷ [] }) }
+        ensures ok { OnOk result
+            (self.new ≡ record self.old { fetched = self.old.fetched ++ name.now ∷ [] }) }
         ensures err { OnErr result (self.new ≡ self.old) }
     {
         let mut asked = Octets::new(self.alloc);

@@ -49,7 +49,8 @@ impl Sink for SureSink {
         ensures part { IfOk result (λ n. n ≤ length bytes.now) }
         ensures progress { IfOk result (λ n. 0 < length bytes.now → 0 < n) }
         ensures empty { length bytes.now ≡ 0 → result ≡ Ok 0 }
-        ensures written { IfOk result (λ n. Some self.new ≡ told_more (Some self.old) (take n bytes.now)) }
+        ensures written { IfOk result (λ n.
+            Some self.new ≡ told_more (Some self.old) (take n bytes.now)) }
         ensures refused { OnErr result (Some self.new ≡ Some self.old) }
         ensures counts { SinkCounts result 0 0 }
         ensures never_falls { 0 ≤ 0 }

@@ -153,7 +153,8 @@ impl Port {
         clock: &C,
         buffer: &mut [u8],
     ) -> io::Result<Option<(usize, u16)>>
-        ensures { IfOk result (λ received. IfSome received (λ datagram. datagram.0 ≤ length buffer.new)) }
+        ensures { IfOk result (λ received.
+            IfSome received (λ datagram. datagram.0 ≤ length buffer.new)) }
     {
         let now = Instant::now(clock)?;
         let left = Duration::from_millis(WAIT).saturating_sub(now.duration_since(self.since));

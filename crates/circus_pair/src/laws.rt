@@ -49,7 +49,8 @@ pub fn segments_are_taken_by_the_rules()
     ensures { (first format : ℕ) (acts : Acts) (s : Piece) → AreLawful first format acts
         → IsSegment s
         → let began = start first format in
-        takes (end_after began acts) s ≡ is_taken first format acts (taken_by began acts) (is_sent began acts) s }
+        takes (end_after began acts) s
+        ≡ is_taken first format acts (taken_by began acts) (is_sent began acts) s }
 {}
 
 /// What an end knows of its acts: its format, the number of its next call, whether the other end was declared down, and
@@ -75,7 +76,8 @@ pub fn cut_messages_join()
 
 /// Where each segment that was taken for a message is a segment of one that was sent, what arrives is that one.
 pub fn sent_messages_arrive()
-    ensures { (ts : List Piece) (kind call : ℕ) (message : List ℕ) → AreTaken ts → AreOf kind call message ts
+    ensures { (ts : List Piece) (kind call : ℕ) (message : List ℕ) → AreTaken ts
+        → AreOf kind call message ts
         → has_arrived ts kind call ≡ true
         → (total_in ts kind call ≡ Some (segment_count message))
         × (message_in ts kind call (segment_count message) ≡ message) }
@@ -91,7 +93,8 @@ pub fn calls_are_sent_in_time()
         sent_below (end_after began acts).sent first acts call ≡ is_sent began acts call }
     ensures window { (first format : ℕ) (acts : Acts) → AreLawful first format acts
         → let began = start first format in
-        count_below (λ call. is_sent began acts call && not (call_is_whole first acts (taken_by began acts) call))
+        count_below (λ call.
+        is_sent began acts call && not (call_is_whole first acts (taken_by began acts) call))
         (first + made acts) ≤ window }
 {}
 
@@ -107,7 +110,8 @@ pub fn acts_send_what_is_owed()
     ensures returns { (first format : ℕ) (acts : Acts) (call : ℕ) (message : List ℕ)
         → AreLawful first format (more acts (Return call message))
         → let began = start first format in
-        datagrams_of_return (end_after began acts) call message ≡ outputs began acts (Return call message) }
+        datagrams_of_return (end_after began acts) call message
+        ≡ outputs began acts (Return call message) }
     ensures segments { (first format : ℕ) (acts : Acts) (s : Piece)
         → AreLawful first format (more acts (Came s))
         → let began = start first format in
@@ -145,7 +149,8 @@ pub fn what_is_there_stays()
         → total_in (taken_by began (more acts act)) kind call ≡ Some total }
     ensures calls { (first format : ℕ) (acts : Acts) (act : Act) (call : ℕ) (message : List ℕ)
         → AreLawful first format (more acts act)
-        → call_at first acts call ≡ Some message → call_at first (more acts act) call ≡ Some message }
+        → call_at first acts call ≡ Some message
+        → call_at first (more acts act) call ≡ Some message }
     ensures returns { (first format : ℕ) (acts : Acts) (act : Act) (call : ℕ) (message : List ℕ)
         → AreLawful first format (more acts act)
         → return_at acts call ≡ Some message → return_at (more acts act) call ≡ Some message }
@@ -160,7 +165,8 @@ pub fn what_is_there_stays()
 pub fn messages_arrive_once()
     ensures once { (first format : ℕ) (acts : Acts) → AreLawful first format acts
         → let began = start first format in
-        (kind call : ℕ) → count_by (λ a. (a.kind == kind) && (a.call == call)) (arrived_in began acts)
+        (kind call : ℕ) → count_by (λ a.
+        (a.kind == kind) && (a.call == call)) (arrived_in began acts)
         ≡ (if has_arrived (taken_by began acts) kind call then 1 else 0) }
     ensures taken { (first format : ℕ) (acts : Acts) → AreLawful first format acts
         → AreTaken (taken_by (start first format) acts) }
@@ -193,5 +199,6 @@ pub fn datagrams_say_what_is_known()
         → (format ≡ 1) ⊎ (format ≡ 2) → AreLawful first format (more acts act)
         → let began = start first format in
         slice_get (datagrams_by (end_after began acts) act) number ≡ Some datagram
-        → (s : Piece) × (reading datagram ≡ Ok s) × IsSaid first format (more acts act) (taken_by began (more acts act)) s }
+        → (s : Piece) × (reading datagram ≡ Ok s)
+        × IsSaid first format (more acts act) (taken_by began (more acts act)) s }
 {}

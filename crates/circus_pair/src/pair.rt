@@ -76,9 +76,12 @@ impl Pair {
     pub fn send_call(&mut self, message: Message) -> Result<(u32, Datagrams), PairFault>
         requires sendable { IsSendable self.old.format message }
         requires up { self.old.stopped ≡ false }
-        ensures stands { (first format : ℕ) (acts : Acts) → StandsFor self.old first format acts → OnOk result (StandsFor self.new first format (more acts (Call message))) }
-        ensures numbered { (first format : ℕ) (acts : Acts) → StandsFor self.old first format acts → IfOk result (λ sent. sent.0 ≡ first + made acts) }
-        ensures owed { (first format : ℕ) (acts : Acts) → StandsFor self.old first format acts → IfOk result (λ sent. sent.1 ≡ outputs (start first format) acts (Call message)) }
+        ensures stands { (first format : ℕ) (acts : Acts) → StandsFor self.old first format acts
+            → OnOk result (StandsFor self.new first format (more acts (Call message))) }
+        ensures numbered { (first format : ℕ) (acts : Acts) → StandsFor self.old first format acts
+            → IfOk result (λ sent. sent.0 ≡ first + made acts) }
+        ensures owed { (first format : ℕ) (acts : Acts) → StandsFor self.old first format acts
+            → IfOk result (λ sent. sent.1 ≡ outputs (start first format) acts (Call message)) }
 
         // By what the end knows.
         ensures number { IfOk result (λ sent. sent.0 ≡ self.old.next) }
@@ -123,10 +126,14 @@ impl Pair {
     pub fn send_return(&mut self, call: u32, message: Message) -> Result<Datagrams, NoMemory>
         requires sendable { IsSendable self.old.format message }
         requires awaited { awaits_return self.old call ≡ true }
-        ensures datagrams { IfOk result (λ datagrams. datagrams ≡ datagrams_of_return self.old call message) }
+        ensures datagrams { IfOk result (λ datagrams.
+            datagrams ≡ datagrams_of_return self.old call message) }
         ensures state { OnOk result (self.new ≡ returned self.old call message) }
-        ensures stands { (first format : ℕ) (acts : Acts) → StandsFor self.old first format acts → OnOk result (StandsFor self.new first format (more acts (Return call message))) }
-        ensures owed { (first format : ℕ) (acts : Acts) → StandsFor self.old first format acts → IfOk result (λ datagrams. datagrams ≡ outputs (start first format) acts (Return call message)) }
+        ensures stands { (first format : ℕ) (acts : Acts) → StandsFor self.old first format acts
+            → OnOk result (StandsFor self.new first format (more acts (Return call message))) }
+        ensures owed { (first format : ℕ) (acts : Acts) → StandsFor self.old first format acts
+            → IfOk result (λ datagrams.
+            datagrams ≡ outputs (start first format) acts (Return call message)) }
         ensures err { OnErr result (self.new ≡ self.old) }
         ensures format { self.new.format ≡ self.old.format }
         ensures down { self.new.stopped ≡ self.old.stopped }
@@ -138,14 +145,28 @@ impl Pair {
     /// and whether it was dropped (docs/PROTOCOL.md, "Segments"). After `NoMemory` nothing has changed.
     pub fn take(&mut self, segment: &Segment<'_>, datagram: &Bytes) -> Result<Taken, NoMemory>
         requires { reading datagram.now ≡ Ok (piece segment.now) }
-        ensures datagrams { IfOk result (λ taken. taken.datagrams ≡ datagrams_after self.old (piece segment.now)) }
-        ensures arrived { IfOk result (λ taken. taken.arrived ≡ arrived_after self.old (piece segment.now)) }
-        ensures dropped { IfOk result (λ taken. taken.dropped ≡ not (takes self.old (piece segment.now))) }
+        ensures datagrams { IfOk result (λ taken.
+            taken.datagrams ≡ datagrams_after self.old (piece segment.now)) }
+        ensures arrived { IfOk result (λ taken.
+            taken.arrived ≡ arrived_after self.old (piece segment.now)) }
+        ensures dropped { IfOk result (λ taken.
+            taken.dropped ≡ not (takes self.old (piece segment.now))) }
         ensures state { OnOk result (self.new ≡ after self.old (piece segment.now)) }
-        ensures stands { (first format : ℕ) (acts : Acts) → StandsFor self.old first format acts → IsSegment (piece segment.now) → OnOk result (StandsFor self.new first format (more acts (Came (piece segment.now)))) }
-        ensures owed { (first format : ℕ) (acts : Acts) → StandsFor self.old first format acts → IsSegment (piece segment.now) → IfOk result (λ taken. taken.datagrams ≡ outputs (start first format) acts (Came (piece segment.now))) }
-        ensures heard { (first format : ℕ) (acts : Acts) → StandsFor self.old first format acts → IsSegment (piece segment.now) → IfOk result (λ taken. taken.arrived ≡ arrival_after (start first format) acts (piece segment.now)) }
-        ensures drops { (first format : ℕ) (acts : Acts) → StandsFor self.old first format acts → IsSegment (piece segment.now) → IfOk result (λ taken. taken.dropped ≡ not (takes_after (start first format) acts (piece segment.now))) }
+        ensures stands { (first format : ℕ) (acts : Acts) → StandsFor self.old first format acts
+            → IsSegment (piece segment.now)
+            → OnOk result (StandsFor self.new first format (more acts (Came (piece segment.now)))) }
+        ensures owed { (first format : ℕ) (acts : Acts) → StandsFor self.old first format acts
+            → IsSegment (piece segment.now)
+            → IfOk result (λ taken.
+            taken.datagrams ≡ outputs (start first format) acts (Came (piece segment.now))) }
+        ensures heard { (first format : ℕ) (acts : Acts) → StandsFor self.old first format acts
+            → IsSegment (piece segment.now)
+            → IfOk result (λ taken.
+            taken.arrived ≡ arrival_after (start first format) acts (piece segment.now)) }
+        ensures drops { (first format : ℕ) (acts : Acts) → StandsFor self.old first format acts
+            → IsSegment (piece segment.now)
+            → IfOk result (λ taken.
+            taken.dropped ≡ not (takes_after (start first format) acts (piece segment.now))) }
         ensures err { OnErr result (self.new ≡ self.old) }
         ensures format { self.new.format ≡ self.old.format }
         ensures down { self.new.stopped ≡ self.old.stopped }
@@ -160,9 +181,12 @@ impl Pair {
         ensures datagrams { IfOk result (λ tick. tick.datagrams ≡ datagrams_of_tick self.old) }
         ensures suspect { IfOk result (λ tick. tick.suspect ≡ is_suspect self.old) }
         ensures state { OnOk result (self.new ≡ ticked self.old) }
-        ensures stands { (first format : ℕ) (acts : Acts) → StandsFor self.old first format acts → OnOk result (StandsFor self.new first format (more acts Tick)) }
-        ensures owed { (first format : ℕ) (acts : Acts) → StandsFor self.old first format acts → IfOk result (λ tick. tick.datagrams ≡ outputs (start first format) acts Tick) }
-        ensures suspects { (first format : ℕ) (acts : Acts) → StandsFor self.old first format acts → IfOk result (λ tick. tick.suspect ≡ suspects_after (start first format) acts) }
+        ensures stands { (first format : ℕ) (acts : Acts) → StandsFor self.old first format acts
+            → OnOk result (StandsFor self.new first format (more acts Tick)) }
+        ensures owed { (first format : ℕ) (acts : Acts) → StandsFor self.old first format acts
+            → IfOk result (λ tick. tick.datagrams ≡ outputs (start first format) acts Tick) }
+        ensures suspects { (first format : ℕ) (acts : Acts) → StandsFor self.old first format acts
+            → IfOk result (λ tick. tick.suspect ≡ suspects_after (start first format) acts) }
         ensures err { OnErr result (self.new ≡ self.old) }
         ensures format { self.new.format ≡ self.old.format }
         ensures down { self.new.stopped ≡ self.old.stopped }
@@ -173,7 +197,8 @@ impl Pair {
     /// The other end was declared down: nothing is acknowledged any more, and no call that waits is sent.
     pub fn stop(&mut self)
         ensures state { self.new ≡ stopped self.old }
-        ensures stands { (first format : ℕ) (acts : Acts) → StandsFor self.old first format acts → StandsFor self.new first format (more acts Stop) }
+        ensures stands { (first format : ℕ) (acts : Acts) → StandsFor self.old first format acts
+            → StandsFor self.new first format (more acts Stop) }
         ensures format { self.new.format ≡ self.old.format }
     {
         self.exchange.stop();
@@ -182,7 +207,8 @@ impl Pair {
     /// The number of the next call; where it is 4,294,967,295, which is never used, no call can be handed over any more.
     pub fn next_number(&self) -> u32
         ensures value { result ≡ self.now.next }
-        ensures counted { (first format : ℕ) (acts : Acts) → StandsFor self.now first format acts → result ≡ first + made acts }
+        ensures counted { (first format : ℕ) (acts : Acts) → StandsFor self.now first format acts
+            → result ≡ first + made acts }
     {
         self.exchange.next
     }
@@ -190,7 +216,9 @@ impl Pair {
     /// Whether a call has arrived whole and has had no return.
     pub fn awaits_return(&self, call: u32) -> bool
         ensures value { result ≡ awaits_return self.now call }
-        ensures owed { (first format : ℕ) (acts : Acts) → StandsFor self.now first format acts → result ≡ (has_arrived (taken_by (start first format) acts) 0 call && not (is_some (return_at acts call))) }
+        ensures owed { (first format : ℕ) (acts : Acts) → StandsFor self.now first format acts
+            → result ≡ (has_arrived (taken_by (start first format) acts) 0 call && not
+            (is_some (return_at acts call))) }
     {
         self.exchange.awaits_return(call)
     }

@@ -36,7 +36,8 @@ impl Sent {
 
     /// Brings all datagrams into the shared form. After `NoMemory` they are still the same.
     pub fn share(&mut self) -> Result<(), NoMemory>
-        ensures same { self.new.shared.items ++ self.new.fresh ≡ self.old.shared.items ++ self.old.fresh }
+        ensures same { self.new.shared.items ++ self.new.fresh
+            ≡ self.old.shared.items ++ self.old.fresh }
         ensures ok { OnOk result (self.new.fresh ≡ []) }
     {
         let alloc = *self.shared.allocator();

@@ -116,8 +116,10 @@ impl Side {
     /// Takes the datagram of this number that another end has sent, or does nothing where there is none. After
     /// `NoMemory` nothing has changed.
     pub fn take(&mut self, other: &mut Side, number: usize) -> Result<Arrived, NoMemory>
-        ensures state { OnOk result (self.new ≡ moved self.old (delivered (slice_get other.old.sent number))) }
-        ensures arrived { IfOk result (λ arrived. arrived ≡ arrived_by self.old.exchange (delivered (slice_get other.old.sent number))) }
+        ensures state { OnOk result
+            (self.new ≡ moved self.old (delivered (slice_get other.old.sent number))) }
+        ensures arrived { IfOk result (λ arrived.
+            arrived ≡ arrived_by self.old.exchange (delivered (slice_get other.old.sent number))) }
         ensures err { OnErr result (self.new ≡ self.old) }
         ensures other { other.new ≡ other.old }
     {
@@ -130,7 +132,8 @@ impl Side {
 
     fn take_datagram(&mut self, datagram: &Bytes) -> Result<Arrived, NoMemory>
         ensures state { OnOk result (self.new ≡ moved self.old (coming (reading datagram.now))) }
-        ensures arrived { IfOk result (λ arrived. arrived ≡ arrived_by self.old.exchange (coming (reading datagram.now))) }
+        ensures arrived { IfOk result (λ arrived.
+            arrived ≡ arrived_by self.old.exchange (coming (reading datagram.now))) }
         ensures err { OnErr result (self.new ≡ self.old) }
     {
         self.sent.share()?;

@@ -90,14 +90,23 @@ impl TwoEnds {
         ensures spent_only { result ≡ Err Spent → has_no_number self.old act ≡ true }
 
         // Where these ends stand for a list of acts, they stand for it with this act, which might come.
-        ensures stands { (format : ℕ) (history : History) → self.old ≡ both_after format history → OnOk result (self.new ≡ both_after format (then_came history act)) }
-        ensures lawful { (format : ℕ) (history : History) → (format ≡ 1) ⊎ (format ≡ 2) → IsLawfulHistory format history → self.old ≡ both_after format history → OnOk result (IsLawfulHistory format (then_came history act)) }
+        ensures stands { (format : ℕ) (history : History) → self.old ≡ both_after format history
+            → OnOk result (self.new ≡ both_after format (then_came history act)) }
+        ensures lawful { (format : ℕ) (history : History) → (format ≡ 1) ⊎ (format ≡ 2)
+            → IsLawfulHistory format history → self.old ≡ both_after format history
+            → OnOk result (IsLawfulHistory format (then_came history act)) }
         // Then each message has arrived at most once, and as it was sent, and counts as acknowledged whole only where
         // it has arrived.
-        ensures agree { (format : ℕ) (history : History) → (format ≡ 1) ⊎ (format ≡ 2) → IsLawfulHistory format history → self.old ≡ both_after format history → OnOk result (Agree format (acts_of false format (then_came history act)) (acts_of true format (then_came history act))) }
+        ensures agree { (format : ℕ) (history : History) → (format ≡ 1) ⊎ (format ≡ 2)
+            → IsLawfulHistory format history → self.old ≡ both_after format history
+            → OnOk result (Agree format (acts_of false format (then_came history act))
+            (acts_of true format (then_came history act))) }
         ensures low_format { self.new.low.exchange.format ≡ self.old.low.exchange.format }
         ensures high_format { self.new.high.exchange.format ≡ self.old.high.exchange.format }
-        ensures heard { (format : ℕ) (history : History) → self.old ≡ both_after format history → IfOk result (λ arrived. arrived_at (acting act) format (then_came history act) ≡ arrived_at (acting act) format history ++ noted arrived) }
+        ensures heard { (format : ℕ) (history : History) → self.old ≡ both_after format history
+            → IfOk result (λ arrived.
+            arrived_at (acting act) format (then_came history act)
+            ≡ arrived_at (acting act) format history ++ noted arrived) }
     {
         self.happen(act)
     }
@@ -136,7 +145,8 @@ impl TwoEnds {
         ensures err { OnErr result (self.new ≡ self.old) }
         ensures such { result ≡ Err NoSuch → ⊥ }
         ensures spent { has_no_number self.old (Act.Call end message) ≡ true → result ≡ Err Spent }
-        ensures spent_only { result ≡ Err Spent → has_no_number self.old (Act.Call end message) ≡ true }
+        ensures spent_only { result ≡ Err Spent
+            → has_no_number self.old (Act.Call end message) ≡ true }
     {
         if end {
             self.high.call(message)
@@ -150,8 +160,10 @@ impl TwoEnds {
         requires { CanBeSent self.old (Act.Return end call message) }
         ensures state { OnOk result (self.new ≡ stepped self.old (Act.Return end call message)) }
         ensures err { OnErr result (self.new ≡ self.old) }
-        ensures such { names_none self.old (Act.Return end call message) ≡ true → result ≡ Err NoSuch }
-        ensures such_only { result ≡ Err NoSuch → names_none self.old (Act.Return end call message) ≡ true }
+        ensures such { names_none self.old (Act.Return end call message) ≡ true
+            → result ≡ Err NoSuch }
+        ensures such_only { result ≡ Err NoSuch
+            → names_none self.old (Act.Return end call message) ≡ true }
         ensures spent { result ≡ Err Spent → ⊥ }
     {
         if end {
@@ -163,11 +175,13 @@ impl TwoEnds {
 
     #[tactic(auto, unfolding(crate::specs::TwoEnds::stepped))]
     fn deliver(&mut self, end: bool, number: u32) -> Result<Arrived, TwoFault>
-        ensures arrived { IfOk result (λ arrived. arrived ≡ arrives self.old (Act.Deliver end number)) }
+        ensures arrived { IfOk result (λ arrived.
+            arrived ≡ arrives self.old (Act.Deliver end number)) }
         ensures state { OnOk result (self.new ≡ stepped self.old (Act.Deliver end number)) }
         ensures err { OnErr result (self.new ≡ self.old) }
         ensures such { names_none self.old (Act.Deliver end number) ≡ true → result ≡ Err NoSuch }
-        ensures such_only { result ≡ Err NoSuch → names_none self.old (Act.Deliver end number) ≡ true }
+        ensures such_only { result ≡ Err NoSuch
+            → names_none self.old (Act.Deliver end number) ≡ true }
         ensures spent { result ≡ Err Spent → ⊥ }
     {
         let number = number as usize;
@@ -193,8 +207,10 @@ impl TwoEnds {
 
 // Delivers the datagram of a number, among those that one end has sent, to the other one.
 fn deliver_from(from: &mut Side, to: &mut Side, number: usize) -> Result<Arrived, TwoFault>
-    ensures arrived { IfOk result (λ arrived. arrived ≡ arrived_by to.old.exchange (delivered (slice_get from.old.sent number))) }
-    ensures state { OnOk result (to.new ≡ moved to.old (delivered (slice_get from.old.sent number))) }
+    ensures arrived { IfOk result (λ arrived.
+        arrived ≡ arrived_by to.old.exchange (delivered (slice_get from.old.sent number))) }
+    ensures state { OnOk result
+        (to.new ≡ moved to.old (delivered (slice_get from.old.sent number))) }
     ensures from { from.new ≡ from.old }
     ensures err { OnErr result (to.new ≡ to.old) }
     ensures such { nat_lt number (length from.old.sent) ≡ false → result ≡ Err NoSuch }

@@ -18,7 +18,8 @@ pub fn two_ends_agree()
 
 /// A message has arrived at an end exactly where all its segments were taken (docs/PROTOCOL.md, "Segments").
 pub fn whole_messages_have_arrived()
-    ensures { (format : ℕ) (history : History) (end : Bool) (kind call : ℕ) → (format ≡ 1) ⊎ (format ≡ 2)
+    ensures { (format : ℕ) (history : History) (end : Bool) (kind call : ℕ)
+        → (format ≡ 1) ⊎ (format ≡ 2)
         → IsLawfulHistory format history
         → count_by (λ a. (a.kind == kind) && (a.call == call)) (arrived_at end format history)
         ≡ (if has_arrived (taken_at end format history) kind call then 1 else 0) }
@@ -27,12 +28,14 @@ pub fn whole_messages_have_arrived()
 /// What an end keeps as acknowledged whole, of a call or of a return, has arrived whole at the other one
 /// (docs/PROTOCOL.md, "The window").
 pub fn acknowledged_messages_have_arrived()
-    ensures calls { (format : ℕ) (history : History) (end : Bool) (call : ℕ) (kept : Progress) → (format ≡ 1) ⊎ (format ≡ 2)
+    ensures calls { (format : ℕ) (history : History) (end : Bool) (call : ℕ) (kept : Progress)
+        → (format ≡ 1) ⊎ (format ≡ 2)
         → IsLawfulHistory format history
         → get (end_at (both_after format history) end).exchange.calls.progress call ≡ Some kept
         → kept.count ≡ kept.total
         → has_arrived (taken_at (not end) format history) 0 call ≡ true }
-    ensures returns { (format : ℕ) (history : History) (end : Bool) (call : ℕ) (kept : Progress) → (format ≡ 1) ⊎ (format ≡ 2)
+    ensures returns { (format : ℕ) (history : History) (end : Bool) (call : ℕ) (kept : Progress)
+        → (format ≡ 1) ⊎ (format ≡ 2)
         → IsLawfulHistory format history
         → get (end_at (both_after format history) end).exchange.returns.progress call ≡ Some kept
         → kept.count ≡ kept.total
@@ -41,16 +44,19 @@ pub fn acknowledged_messages_have_arrived()
 
 /// What has happened at either of two ends is lawful there, so that the laws of one end hold of it.
 pub fn each_end_is_lawful()
-    ensures low { (format : ℕ) (history : History) → (format ≡ 1) ⊎ (format ≡ 2) → IsLawfulHistory format history
+    ensures low { (format : ℕ) (history : History) → (format ≡ 1) ⊎ (format ≡ 2)
+        → IsLawfulHistory format history
         → AreLawful 0 format (acts_of false format history) }
-    ensures high { (format : ℕ) (history : History) → (format ≡ 1) ⊎ (format ≡ 2) → IsLawfulHistory format history
+    ensures high { (format : ℕ) (history : History) → (format ≡ 1) ⊎ (format ≡ 2)
+        → IsLawfulHistory format history
         → AreLawful 0 format (acts_of true format history) }
 {}
 
 /// Each datagram that an end has sent is a segment of its format, and is read as that, so a delivery drops none for
 /// its bytes. In format 1 no total is above 255.
 pub fn datagrams_are_segments()
-    ensures { (format : ℕ) (history : History) (end : Bool) (number : ℕ) (datagram : List ℕ) → (format ≡ 1) ⊎ (format ≡ 2)
+    ensures { (format : ℕ) (history : History) (end : Bool) (number : ℕ) (datagram : List ℕ)
+        → (format ≡ 1) ⊎ (format ≡ 2)
         → IsLawfulHistory format history
         → slice_get (sent_by (start 0 format) (acts_of end format history)) number ≡ Some datagram
         → (s : Piece) × (reading datagram ≡ Ok s) × IsSegment s × (s.format ≡ format) }

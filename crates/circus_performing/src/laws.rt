@@ -10,5 +10,6 @@ ghost use Rattle.circus_performing.specs.Record.{IsRecord};
 /// the step of the answer before it. A reply is one to the open ask, at once and with the clock as it was where the thread
 /// had made all its calls. The member's state is that of the open ask, or that after its runs.
 pub fn records_are_kept()
-    ensures { (b : Behaviour) (acts : Acts) → IsModule b → AreLawful b acts → IsRecord b (performed_by b acts).began (performed_by b acts).kept }
+    ensures { (b : Behaviour) (acts : Acts) → IsModule b → AreLawful b acts
+        → IsRecord b (performed_by b acts).began (performed_by b acts).kept }
 {}

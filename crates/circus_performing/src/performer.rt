@@ -93,7 +93,13 @@ impl<M: Module> Performer<M> {
     }
 
     fn before_any(alloc: Global, hosted: M, phase: Joiner) -> Result<Self, NoMemory>
-        ensures { IfOk result (λ p. p ≡ record { hosted = hosted; began = M.first hosted; kept = performing.before_any phase (M.first hosted) }) }
+        ensures { IfOk result (λ p.
+            p ≡ record {
+              hosted = hosted;
+              began = M.first hosted;
+              kept = performing.before_any phase
+                  (M.first hosted);
+            }) }
     {
         let state = hosted.first_state()?;
         let began = state.copy()?;
@@ -127,7 +133,8 @@ impl<M: Module> Performer<M> {
     /// What the member did. It takes no memory.
     pub fn record(&self) -> &MemberRecord
         ensures value { result.now ≡ self.now.kept }
-        ensures kept { IsRecord (behaviour M.declared M.turn M.first self.now.hosted) self.now.began self.now.kept }
+        ensures kept { IsRecord
+            (behaviour M.declared M.turn M.first self.now.hosted) self.now.began self.now.kept }
     {
         &self.held.kept
     }
@@ -158,7 +165,8 @@ impl<M: Module> Performer<M> {
 
     /// The Ringmaster has answered its Join. It takes no memory.
     pub fn take_in(&mut self, table: &Table)
-        ensures { self.new ≡ record self.old { kept = performing.taken_in table.now self.old.kept } }
+        ensures { self.new
+            ≡ record self.old { kept = performing.taken_in table.now self.old.kept } }
     {
         let held = &mut *self.held;
         held.kept.phase = held.kept.phase.table(table);
@@ -194,7 +202,11 @@ impl<M: Module> Performer<M> {
     /// `NoMemory` the member is gone.
     pub fn enter(self, start: RunStart, step: u64) -> Result<Self, NoMemory>
         requires { CanEnter (M.declared self.hosted) start self.kept }
-        ensures { IfOk result (λ p. p ≡ record self { kept = performing.entered (M.turn self.hosted) step start self.kept }) }
+        ensures { IfOk result (λ p.
+            p ≡ record self {
+              kept = performing.entered
+                  (M.turn self.hosted) step start self.kept;
+            }) }
     {
         let Performer { alloc, mut held } = self;
         let inside = &mut *held;
@@ -215,7 +227,11 @@ impl<M: Module> Performer<M> {
     /// is gone.
     pub fn answer(self, reply: Outcome, clock: Clock, step: u64) -> Result<Self, NoMemory>
         requires { CanAnswer (M.declared self.hosted) reply self.kept }
-        ensures { IfOk result (λ p. p ≡ record self { kept = performing.answered (M.turn self.hosted) self.began step reply clock self.kept }) }
+        ensures { IfOk result (λ p.
+            p ≡ record self {
+              kept = performing.answered
+                  (M.turn self.hosted) self.began step reply clock self.kept;
+            }) }
     {
         let Performer { alloc, mut held } = self;
         let inside = &mut *held;
@@ -238,12 +254,20 @@ impl<M: Module> Performer<M> {
 impl<M: Module> Going<M> {
     // Goes on in a step as far as the run can.
     fn on(self, turn: Turn<M::Paused>, step: u64) -> Result<Performer<M>, NoMemory>
-        requires next { let h = self.held.value in IsNext (behaviour M.declared M.turn M.first h.hosted) h.began h.kept step self.run }
-        requires gives { let h = self.held.value in let state = performing.state_after h.began h.kept.runs in let replies = performing.replies_of self.run.asks in Gives (λ paused. M.stands h.hosted paused state self.run.procedure self.run.arguments replies) (M.turn h.hosted state self.run.procedure self.run.arguments replies) turn }
+        requires next { let h = self.held.value in IsNext
+            (behaviour M.declared M.turn M.first h.hosted) h.began h.kept step self.run }
+        requires gives { let h = self.held.value in let state = performing.state_after h.began
+            h.kept.runs in let replies = performing.replies_of self.run.asks in Gives (λ paused.
+            M.stands h.hosted paused state self.run.procedure self.run.arguments replies)
+            (M.turn h.hosted state self.run.procedure self.run.arguments replies) turn }
         ensures { let h = self.held.value in IfOk result (λ p. p ≡ record {
           hosted = h.hosted;
           began = h.began;
-          kept = performing.with_run h.kept (performing.gone_on step (M.turn h.hosted (performing.state_after h.began h.kept.runs) self.run.procedure self.run.arguments) performing.most_turns self.run);
+          kept = performing.with_run h.kept
+              (performing.gone_on step
+              (M.turn h.hosted
+              (performing.state_after h.began h.kept.runs) self.run.procedure self.run.arguments)
+              performing.most_turns self.run);
         }) }
     {
         let Going {
@@ -289,8 +313,16 @@ impl<M: Module> Going<M> {
 
     // The member once its run rests.
     fn rest(self, paused: Option<M::Paused>) -> Result<Performer<M>, NoMemory>
-        requires { let h = self.held.value in IsMember (M.stands h.hosted) (behaviour M.declared M.turn M.first h.hosted) h.began (performing.with_run h.kept self.run) paused }
-        ensures { let h = self.held.value in IfOk result (λ p. p ≡ record { hosted = h.hosted; began = h.began; kept = performing.with_run h.kept self.run }) }
+        requires { let h = self.held.value in IsMember (M.stands h.hosted)
+            (behaviour M.declared M.turn M.first h.hosted) h.began
+            (performing.with_run h.kept self.run) paused }
+        ensures { let h = self.held.value in IfOk result (λ p.
+            p ≡ record {
+              hosted = h.hosted;
+              began = h.began;
+              kept = performing.with_run h.kept
+                  self.run;
+            }) }
     {
         let Going {
             alloc,

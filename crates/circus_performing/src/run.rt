@@ -54,7 +54,9 @@ pub(crate) fn current_clock(run: &RunRecord) -> &Clock
 
 // The ask that is made in a step, at a clock.
 fn made_ask(clock: &Clock, asked: Asked, step: u64) -> AskRecord
-    ensures { result ≡ performing.made_ask step clock.now asked.callee asked.procedure asked.arguments asked.state }
+    ensures { result
+        ≡ performing.made_ask step clock.now asked.callee asked.procedure asked.arguments
+        asked.state }
 {
     let index = count_of(clock, asked.callee);
     AskRecord {
@@ -107,7 +109,11 @@ pub(crate) fn refusal(alloc: Global) -> Outcome
 /// The run that waits for the reply to what it asks in a step.
 pub(crate) fn waiting_run(run: RunRecord, asked: Asked, step: u64) -> Result<RunRecord, NoMemory>
     requires { IfSome (performing.last_of run.asks) (λ ask. IsSome ask.after) }
-    ensures { IfOk result (λ waiting. waiting ≡ performing.with_ask run (performing.made_ask step (performing.clock_after run.entry run.asks) asked.callee asked.procedure asked.arguments asked.state)) }
+    ensures { IfOk result (λ waiting.
+        waiting ≡ performing.with_ask run
+        (performing.made_ask step
+        (performing.clock_after run.entry run.asks) asked.callee asked.procedure asked.arguments
+        asked.state)) }
 {
     let ask = made_ask(current_clock(&run), asked, step);
     with_ask(run, ask)
@@ -121,7 +127,9 @@ pub(crate) fn refused_run(
     step: u64,
 ) -> Result<RunRecord, NoMemory>
     requires { IfSome (performing.last_of run.asks) (λ ask. IsSome ask.after) }
-    ensures { IfOk result (λ refused. refused ≡ performing.with_refusal step asked.callee asked.procedure asked.arguments asked.state run) }
+    ensures { IfOk result (λ refused.
+        refused ≡ performing.with_refusal step asked.callee asked.procedure asked.arguments
+        asked.state run) }
 {
     let clock = current_clock(&run).copy()?;
     let ask = made_ask(&clock, asked, step);

@@ -39,7 +39,8 @@ pub(crate) fn deeds_of<M: Module>(
     world: &World<M>,
     count: usize,
 ) -> Result<Steps<'_>, NoMemory>
-    ensures { IfOk result (λ steps. AreKept count (spec.deeds_of 0 world.now.nodes) (map (λ own. own.items) steps.items)) }
+    ensures { IfOk result (λ steps.
+        AreKept count (spec.deeds_of 0 world.now.nodes) (map (λ own. own.items) steps.items)) }
 {
     let mut steps = no_deeds(alloc, count)?;
     for node in 0..world.deployment().nodes.len() as u16 {
@@ -66,9 +67,11 @@ fn note_node<'a, M: Module>(
     steps: &mut Steps<'a>,
 ) -> Result<(), NoMemory>
     requires { node < length world.now.nodes }
-    ensures { (count : ℕ) (before : List Done) (s : Standing M) → slice_get world.now.nodes node ≡ Some s
+    ensures { (count : ℕ) (before : List Done) (s : Standing M)
+        → slice_get world.now.nodes node ≡ Some s
         → AreKept count before (map (λ own. own.items) steps.old.items)
-        → OnOk result (AreKept count (before ++ spec.deeds_of_node node s) (map (λ own. own.items) steps.new.items)) }
+        → OnOk result (AreKept count (before ++ spec.deeds_of_node node s)
+        (map (λ own. own.items) steps.new.items)) }
 {
     match world.kept(node) {
         Some(kept) => note_member(node, kept, steps),
@@ -78,8 +81,10 @@ fn note_node<'a, M: Module>(
 
 // Adds what a member did.
 fn note_member<'a>(node: u16, kept: &'a MemberRecord, steps: &mut Steps<'a>) -> Result<(), NoMemory>
-    ensures { (count : ℕ) (before : List Done) → AreKept count before (map (λ own. own.items) steps.old.items)
-        → OnOk result (AreKept count (before ++ spec.deeds_of_member node kept.now) (map (λ own. own.items) steps.new.items)) }
+    ensures { (count : ℕ) (before : List Done)
+        → AreKept count before (map (λ own. own.items) steps.old.items)
+        → OnOk result (AreKept count (before ++ spec.deeds_of_member node kept.now)
+        (map (λ own. own.items) steps.new.items)) }
 {
     note_activation(node, kept, steps)?;
     note_runs(node, kept.from, kept.runs.as_slice(), steps)
@@ -91,8 +96,10 @@ fn note_activation<'a>(
     kept: &MemberRecord,
     steps: &mut Steps<'a>,
 ) -> Result<(), NoMemory>
-    ensures { (count : ℕ) (before : List Done) → AreKept count before (map (λ own. own.items) steps.old.items)
-        → OnOk result (AreKept count (before ++ spec.activation node kept.now) (map (λ own. own.items) steps.new.items)) }
+    ensures { (count : ℕ) (before : List Done)
+        → AreKept count before (map (λ own. own.items) steps.old.items)
+        → OnOk result (AreKept count (before ++ spec.activation node kept.now)
+        (map (λ own. own.items) steps.new.items)) }
 {
     if !matches!(kept.phase, Joiner::Active(_)) || kept.active_at == 0 {
         return Ok(());
@@ -111,8 +118,10 @@ fn note_runs<'a>(
     runs: &'a [RunRecord],
     steps: &mut Steps<'a>,
 ) -> Result<(), NoMemory>
-    ensures { (count : ℕ) (before : List Done) → AreKept count before (map (λ own. own.items) steps.old.items)
-        → OnOk result (AreKept count (before ++ spec.deeds_of_runs node first runs.now) (map (λ own. own.items) steps.new.items)) }
+    ensures { (count : ℕ) (before : List Done)
+        → AreKept count before (map (λ own. own.items) steps.old.items)
+        → OnOk result (AreKept count (before ++ spec.deeds_of_runs node first runs.now)
+        (map (λ own. own.items) steps.new.items)) }
 {
     for (later, run) in runs.iter().enumerate() {
         note_run(node, u128::from(first) + later as u128, run, steps)?;
@@ -127,8 +136,10 @@ fn note_run<'a>(
     run: &'a RunRecord,
     steps: &mut Steps<'a>,
 ) -> Result<(), NoMemory>
-    ensures { (count : ℕ) (before : List Done) → AreKept count before (map (λ own. own.items) steps.old.items)
-        → OnOk result (AreKept count (before ++ spec.deeds_of_run node place run.now) (map (λ own. own.items) steps.new.items)) }
+    ensures { (count : ℕ) (before : List Done)
+        → AreKept count before (map (λ own. own.items) steps.old.items)
+        → OnOk result (AreKept count (before ++ spec.deeds_of_run node place run.now)
+        (map (λ own. own.items) steps.new.items)) }
 {
     let began = Deed {
         node,
@@ -145,8 +156,11 @@ fn note_end<'a>(
     run: &'a RunRecord,
     steps: &mut Steps<'a>,
 ) -> Result<(), NoMemory>
-    ensures { (count : ℕ) (before : List Done) → AreKept count before (map (λ own. own.items) steps.old.items)
-        → OnOk result (AreKept count (before ++ spec.end_of_run node place run.now.ended run.now.outcome) (map (λ own. own.items) steps.new.items)) }
+    ensures { (count : ℕ) (before : List Done)
+        → AreKept count before (map (λ own. own.items) steps.old.items)
+        → OnOk result (AreKept count
+        (before ++ spec.end_of_run node place run.now.ended run.now.outcome)
+        (map (λ own. own.items) steps.new.items)) }
 {
     let (Some(step), Some(outcome)) = (run.ended, &run.outcome) else {
         return Ok(());
@@ -160,8 +174,10 @@ fn note_end<'a>(
 
 // Adds what was done in a step, unless that is behind the last one.
 fn note<'a>(step: u64, deed: Deed<'a>, steps: &mut Steps<'a>) -> Result<(), NoMemory>
-    ensures { (count : ℕ) (before : List Done) → AreKept count before (map (λ own. own.items) steps.old.items)
-        → OnOk result (AreKept count (before ++ deed_at step deed.entry ∷ []) (map (λ own. own.items) steps.new.items)) }
+    ensures { (count : ℕ) (before : List Done)
+        → AreKept count before (map (λ own. own.items) steps.old.items)
+        → OnOk result (AreKept count (before ++ deed_at step deed.entry ∷ [])
+        (map (λ own. own.items) steps.new.items)) }
 {
     let step = step as usize;
     if step < steps.len() {

@@ -36,7 +36,8 @@ fn segment_label<N: Naming>(
     procedures: &[Procedures],
     segment: &Segment<'_>,
 ) -> Result<Octets, NoMemory>
-    ensures { IfOk result (λ text. text ≡ spec.segment_label (N.names names.now) procedures.now (piece segment.now)) }
+    ensures { IfOk result (λ text.
+        text ≡ spec.segment_label (N.names names.now) procedures.now (piece segment.now)) }
 {
     if !segment.has_data() {
         return bare_label(alloc, segment);
@@ -68,7 +69,8 @@ fn data_label<N: Naming>(
     procedures: &[Procedures],
     segment: &Segment<'_>,
 ) -> Result<Octets, NoMemory>
-    ensures { IfOk result (λ text. text ≡ spec.data_label (N.names names.now) procedures.now (piece segment.now)) }
+    ensures { IfOk result (λ text.
+        text ≡ spec.data_label (N.names names.now) procedures.now (piece segment.now)) }
 {
     if segment.number != 1 {
         return later_label(alloc, segment);
@@ -109,7 +111,8 @@ fn call_message_label<N: Naming>(
     procedures: &[Procedures],
     message: &[u8],
 ) -> Result<Octets, NoMemory>
-    ensures { IfOk result (λ text. text ≡ spec.call_message_label (N.names names.now) procedures.now message.now) }
+    ensures { IfOk result (λ text.
+        text ≡ spec.call_message_label (N.names names.now) procedures.now message.now) }
 {
     match call_in(alloc, message)? {
         Some((call, _)) => call_label(alloc, names, procedures, &call),
@@ -123,7 +126,8 @@ fn return_message_label<N: Naming>(
     names: &N,
     message: &[u8],
 ) -> Result<Octets, NoMemory>
-    ensures { IfOk result (λ text. text ≡ spec.return_message_label (N.names names.now) message.now) }
+    ensures { IfOk result (λ text.
+        text ≡ spec.return_message_label (N.names names.now) message.now) }
 {
     match return_in(alloc, message)? {
         Some((header, at)) => return_label(alloc, names, &header, &message[at..]),
@@ -137,7 +141,8 @@ fn call_label<N: Naming>(
     procedures: &[Procedures],
     call: &Call,
 ) -> Result<Octets, NoMemory>
-    ensures { IfOk result (λ text. text ≡ spec.call_label (N.names names.now) procedures.now call.now) }
+    ensures { IfOk result (λ text.
+        text ≡ spec.call_label (N.names names.now) procedures.now call.now) }
 {
     match call {
         Call::Ask(header) => ask_label(alloc, names, procedures, header),
@@ -155,7 +160,8 @@ fn ask_label<N: Naming>(
     procedures: &[Procedures],
     header: &CallHeader,
 ) -> Result<Octets, NoMemory>
-    ensures { IfOk result (λ text. text ≡ spec.ask_label (N.names names.now) procedures.now header.now) }
+    ensures { IfOk result (λ text.
+        text ≡ spec.ask_label (N.names names.now) procedures.now header.now) }
 {
     let server = names.troupe(usize::from(header.server));
     let path = PathText {
@@ -199,7 +205,8 @@ fn return_label<N: Naming>(
     header: &ReturnHeader,
     behind: &[u8],
 ) -> Result<Octets, NoMemory>
-    ensures { IfOk result (λ text. text ≡ spec.return_label (N.names names.now) header.now behind.now) }
+    ensures { IfOk result (λ text.
+        text ≡ spec.return_label (N.names names.now) header.now behind.now) }
 {
     match header {
         ReturnHeader::Reply(_clock) => ListOf::from_text(alloc, "reply"),

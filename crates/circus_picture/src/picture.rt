@@ -51,9 +51,12 @@ pub fn put_picture<M: Module, K: Sink>(
 ) -> Result<(), RunFault>
     requires nodes { All (λ h. IsAscii (host_name h)) world.now.deployment.nodes }
     requires modules { All IsAscii names.now }
-    ensures put { IsPut (spec.picture_text (names_of world.now.deployment.nodes names.now) procedures.now lines.now world.now)
+    ensures put { IsPut
+        (spec.picture_text
+        (names_of world.now.deployment.nodes names.now) procedures.now lines.now world.now)
         (K.written sink.old) (K.written sink.new) result }
-    ensures rose { IsErrOf result RunFault.SinkFailed → Rose (K.faults sink.old) (K.faults sink.new) }
+    ensures rose { IsErrOf result RunFault.SinkFailed
+        → Rose (K.faults sink.old) (K.faults sink.new) }
     ensures count { OnOk result (K.faults sink.new ≡ K.faults sink.old) }
 {
     let hosts = world.deployment().nodes.as_slice();
@@ -81,11 +84,15 @@ fn put_parts<N: Naming, K: Sink>(
     parts: &Parts<'_>,
     sink: &mut K,
 ) -> Result<(), RunFault>
-    ensures put { (deeds : List Done) → AreKept (length parts.now.lines.now + 1) deeds (map (λ own. own.items) parts.now.steps.items)
-        → IsPut (spec.beginning parts.now.hosts.now ++ spec.middle (scene_of N.names scene.now) deeds parts.now.lines.now
+    ensures put { (deeds : List Done)
+        → AreKept (length parts.now.lines.now + 1) deeds
+        (map (λ own. own.items) parts.now.steps.items)
+        → IsPut (spec.beginning parts.now.hosts.now
+        ++ spec.middle (scene_of N.names scene.now) deeds parts.now.lines.now
         ++ rows.left_rows (scene_of N.names scene.now) (length parts.now.lines.now) parts.now.left)
         (K.written sink.old) (K.written sink.new) result }
-    ensures rose { IsErrOf result RunFault.SinkFailed → Rose (K.faults sink.old) (K.faults sink.new) }
+    ensures rose { IsErrOf result RunFault.SinkFailed
+        → Rose (K.faults sink.old) (K.faults sink.new) }
     ensures count { OnOk result (K.faults sink.new ≡ K.faults sink.old) }
 {
     match put_beginning(scene.alloc, parts.hosts, sink) {
@@ -101,8 +108,10 @@ fn put_parts<N: Naming, K: Sink>(
 
 // Puts the first line and the row of names.
 fn put_beginning<K: Sink>(alloc: Global, hosts: &[Host], sink: &mut K) -> Result<(), RunFault>
-    ensures put { IsPut (spec.beginning hosts.now) (K.written sink.old) (K.written sink.new) result }
-    ensures rose { IsErrOf result RunFault.SinkFailed → Rose (K.faults sink.old) (K.faults sink.new) }
+    ensures put { IsPut (spec.beginning hosts.now) (K.written sink.old)
+        (K.written sink.new) result }
+    ensures rose { IsErrOf result RunFault.SinkFailed
+        → Rose (K.faults sink.old) (K.faults sink.new) }
     ensures count { OnOk result (K.faults sink.new ≡ K.faults sink.old) }
 {
     match put_row(ListOf::from_text(alloc, "circus picture 1\n"), sink) {
@@ -118,9 +127,12 @@ fn put_middle<N: Naming, K: Sink>(
     lines: &[Line],
     sink: &mut K,
 ) -> Result<(), RunFault>
-    ensures put { (deeds : List Done) → AreKept (length lines.now + 1) deeds (map (λ own. own.items) steps.now)
-        → IsPut (spec.middle (scene_of N.names scene.now) deeds lines.now) (K.written sink.old) (K.written sink.new) result }
-    ensures rose { IsErrOf result RunFault.SinkFailed → Rose (K.faults sink.old) (K.faults sink.new) }
+    ensures put { (deeds : List Done)
+        → AreKept (length lines.now + 1) deeds (map (λ own. own.items) steps.now)
+        → IsPut (spec.middle (scene_of N.names scene.now) deeds lines.now) (K.written sink.old)
+        (K.written sink.new) result }
+    ensures rose { IsErrOf result RunFault.SinkFailed
+        → Rose (K.faults sink.old) (K.faults sink.new) }
     ensures count { OnOk result (K.faults sink.new ≡ K.faults sink.old) }
 {
     match put_deeds(scene, 0, steps, sink) {
@@ -136,9 +148,12 @@ fn put_steps<N: Naming, K: Sink>(
     lines: &[Line],
     sink: &mut K,
 ) -> Result<(), RunFault>
-    ensures put { (deeds : List Done) → AreKept (length lines.now + 1) deeds (map (λ own. own.items) steps.now)
-        → IsPut (spec.steps_rows (scene_of N.names scene.now) deeds 1 lines.now) (K.written sink.old) (K.written sink.new) result }
-    ensures rose { IsErrOf result RunFault.SinkFailed → Rose (K.faults sink.old) (K.faults sink.new) }
+    ensures put { (deeds : List Done)
+        → AreKept (length lines.now + 1) deeds (map (λ own. own.items) steps.now)
+        → IsPut (spec.steps_rows (scene_of N.names scene.now) deeds 1 lines.now)
+        (K.written sink.old) (K.written sink.new) result }
+    ensures rose { IsErrOf result RunFault.SinkFailed
+        → Rose (K.faults sink.old) (K.faults sink.new) }
     ensures count { OnOk result (K.faults sink.new ≡ K.faults sink.old) }
 {
     for (place, line) in lines.iter().enumerate() {
@@ -158,9 +173,12 @@ fn put_step<N: Naming, K: Sink>(
     line: &Line,
     sink: &mut K,
 ) -> Result<(), RunFault>
-    ensures put { (count : ℕ) (deeds : List Done) → AreKept count deeds (map (λ own. own.items) steps.now) → step < count
-        → IsPut (spec.step_rows (scene_of N.names scene.now) deeds step line.now) (K.written sink.old) (K.written sink.new) result }
-    ensures rose { IsErrOf result RunFault.SinkFailed → Rose (K.faults sink.old) (K.faults sink.new) }
+    ensures put { (count : ℕ) (deeds : List Done)
+        → AreKept count deeds (map (λ own. own.items) steps.now) → step < count
+        → IsPut (spec.step_rows (scene_of N.names scene.now) deeds step line.now)
+        (K.written sink.old) (K.written sink.new) result }
+    ensures rose { IsErrOf result RunFault.SinkFailed
+        → Rose (K.faults sink.old) (K.faults sink.new) }
     ensures count { OnOk result (K.faults sink.new ≡ K.faults sink.old) }
 {
     match put_row(scene.line_row(step, line), sink) {
@@ -176,9 +194,12 @@ fn put_deeds<N: Naming, K: Sink>(
     steps: &[Vec<Deed<'_>>],
     sink: &mut K,
 ) -> Result<(), RunFault>
-    ensures put { (count : ℕ) (deeds : List Done) → AreKept count deeds (map (λ own. own.items) steps.now) → step < count
-        → IsPut (spec.deed_rows (scene_of N.names scene.now) deeds step) (K.written sink.old) (K.written sink.new) result }
-    ensures rose { IsErrOf result RunFault.SinkFailed → Rose (K.faults sink.old) (K.faults sink.new) }
+    ensures put { (count : ℕ) (deeds : List Done)
+        → AreKept count deeds (map (λ own. own.items) steps.now) → step < count
+        → IsPut (spec.deed_rows (scene_of N.names scene.now) deeds step) (K.written sink.old)
+        (K.written sink.new) result }
+    ensures rose { IsErrOf result RunFault.SinkFailed
+        → Rose (K.faults sink.old) (K.faults sink.new) }
     ensures count { OnOk result (K.faults sink.new ≡ K.faults sink.old) }
 {
     match steps.get(step as usize) {
@@ -194,9 +215,11 @@ fn put_each<N: Naming, K: Sink>(
     deeds: &[Deed<'_>],
     sink: &mut K,
 ) -> Result<(), RunFault>
-    ensures put { IsPut (flat_map (rows.deed_row (scene_of N.names scene.now)) (map (deed_at step) deeds.now))
+    ensures put { IsPut
+        (flat_map (rows.deed_row (scene_of N.names scene.now)) (map (deed_at step) deeds.now))
         (K.written sink.old) (K.written sink.new) result }
-    ensures rose { IsErrOf result RunFault.SinkFailed → Rose (K.faults sink.old) (K.faults sink.new) }
+    ensures rose { IsErrOf result RunFault.SinkFailed
+        → Rose (K.faults sink.old) (K.faults sink.new) }
     ensures count { OnOk result (K.faults sink.new ≡ K.faults sink.old) }
 {
     for deed in deeds {
@@ -215,8 +238,10 @@ fn put_left<N: Naming, K: Sink>(
     left: &[u64],
     sink: &mut K,
 ) -> Result<(), RunFault>
-    ensures put { IsPut (rows.left_rows (scene_of N.names scene.now) step left.now) (K.written sink.old) (K.written sink.new) result }
-    ensures rose { IsErrOf result RunFault.SinkFailed → Rose (K.faults sink.old) (K.faults sink.new) }
+    ensures put { IsPut (rows.left_rows (scene_of N.names scene.now) step left.now)
+        (K.written sink.old) (K.written sink.new) result }
+    ensures rose { IsErrOf result RunFault.SinkFailed
+        → Rose (K.faults sink.old) (K.faults sink.new) }
     ensures count { OnOk result (K.faults sink.new ≡ K.faults sink.old) }
 {
     if left.is_empty() {
@@ -235,8 +260,10 @@ fn put_each_left<N: Naming, K: Sink>(
     left: &[u64],
     sink: &mut K,
 ) -> Result<(), RunFault>
-    ensures put { IsPut (flat_map (rows.left_row (scene_of N.names scene.now) step) left.now) (K.written sink.old) (K.written sink.new) result }
-    ensures rose { IsErrOf result RunFault.SinkFailed → Rose (K.faults sink.old) (K.faults sink.new) }
+    ensures put { IsPut (flat_map (rows.left_row (scene_of N.names scene.now) step) left.now)
+        (K.written sink.old) (K.written sink.new) result }
+    ensures rose { IsErrOf result RunFault.SinkFailed
+        → Rose (K.faults sink.old) (K.faults sink.new) }
     ensures count { OnOk result (K.faults sink.new ≡ K.faults sink.old) }
 {
     for number in left {
@@ -250,8 +277,10 @@ fn put_each_left<N: Naming, K: Sink>(
 
 // Puts a row, if there was memory for it.
 fn put_row<K: Sink>(row: Result<Octets, NoMemory>, sink: &mut K) -> Result<(), RunFault>
-    ensures put { (text : List ℕ) → IfOk row (λ made. made ≡ text) → IsPut text (K.written sink.old) (K.written sink.new) result }
-    ensures rose { IsErrOf result RunFault.SinkFailed → Rose (K.faults sink.old) (K.faults sink.new) }
+    ensures put { (text : List ℕ) → IfOk row (λ made. made ≡ text)
+        → IsPut text (K.written sink.old) (K.written sink.new) result }
+    ensures rose { IsErrOf result RunFault.SinkFailed
+        → Rose (K.faults sink.old) (K.faults sink.new) }
     ensures count { OnOk result (K.faults sink.new ≡ K.faults sink.old) }
 {
     let row = row?;
@@ -299,7 +328,8 @@ fn unmarked(alloc: Global, count: usize) -> Result<ListOf<bool>, NoMemory>
 
 // Marks the datagram of a number, if there is one.
 fn mark(marks: &mut ListOf<bool>, number: usize)
-    ensures { (count : ℕ) (before : List Stepped) → AreMarked count before marks.old → AreMarked count (before ++ Line.Deliver number ∷ []) marks.new }
+    ensures { (count : ℕ) (before : List Stepped) → AreMarked count before marks.old
+        → AreMarked count (before ++ Line.Deliver number ∷ []) marks.new }
 {
     if number < marks.len() {
         marks.set(number, true);

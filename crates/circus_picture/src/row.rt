@@ -120,8 +120,10 @@ pub(crate) struct Columns {
 impl Columns {
     /// Those of a world.
     pub fn new<M: Module>(alloc: Global, world: &World<M>) -> Result<Self, NoMemory>
-        ensures width { IfOk result (λ columns. columns.width ≡ spec.width world.now.deployment.nodes) }
-        ensures crashes { IfOk result (λ columns. columns.crashes ≡ map (λ s. s.crashed) world.now.nodes) }
+        ensures width { IfOk result (λ columns.
+            columns.width ≡ spec.width world.now.deployment.nodes) }
+        ensures crashes { IfOk result (λ columns.
+            columns.crashes ≡ map (λ s. s.crashed) world.now.nodes) }
     {
         Ok(Columns {
             width: width(world.deployment().nodes.as_slice()),
@@ -131,7 +133,8 @@ impl Columns {
 
     // Adds the columns with what is drawn over them once a step was made.
     fn append(&self, row: &mut Octets, step: u64, drawn: Drawn) -> Result<(), NoMemory>
-        ensures { OnOk result (row.new ≡ row.old ++ spec.field self.now.width step drawn 0 self.now.crashes) }
+        ensures { OnOk result
+            (row.new ≡ row.old ++ spec.field self.now.width step drawn 0 self.now.crashes) }
     {
         for (node, crashed) in self.crashes.as_slice().iter().enumerate() {
             self.append_one(row, step, drawn, node, *crashed)?;
@@ -148,7 +151,8 @@ impl Columns {
         node: usize,
         crashed: Option<u64>,
     ) -> Result<(), NoMemory>
-        ensures { OnOk result (row.new ≡ row.old ++ spec.drawn_column self.now.width step drawn node crashed) }
+        ensures { OnOk result
+            (row.new ≡ row.old ++ spec.drawn_column self.now.width step drawn node crashed) }
     {
         let middle = self.width / 2;
         append_times(row, middle, drawn.left_of(node))?;
@@ -169,7 +173,9 @@ impl Columns {
         drawn: Drawn,
         text: &[u8],
     ) -> Result<Octets, NoMemory>
-        ensures { IfOk result (λ row. row ≡ spec.row number (spec.field self.now.width step drawn 0 self.now.crashes) text.now) }
+        ensures { IfOk result (λ row.
+            row ≡ spec.row number
+            (spec.field self.now.width step drawn 0 self.now.crashes) text.now) }
     {
         let mut row = begun(alloc, number)?;
         self.append(&mut row, step, drawn)?;
@@ -245,7 +251,8 @@ fn ended(mut row: Octets, text: &[u8]) -> Result<Octets, NoMemory>
 
 // How long a text is without the blanks at its end.
 fn trimmed_len(text: &[u8]) -> usize
-    ensures { result ≡ length text.now - suffix_len (λ character. character == spec.blank) text.now }
+    ensures { result
+        ≡ length text.now - suffix_len (λ character. character == spec.blank) text.now }
 {
     let mut len = text.len();
     while len > 0 && text[len - 1] == BLANK {
@@ -256,7 +263,8 @@ fn trimmed_len(text: &[u8]) -> usize
 
 /// The row with the names of the nodes.
 pub(crate) fn names_row(alloc: Global, hosts: &[Host]) -> Result<Octets, NoMemory>
-    ensures { IfOk result (λ row. row ≡ spec.row None (spec.names_field (spec.width hosts.now) hosts.now) []) }
+    ensures { IfOk result (λ row.
+        row ≡ spec.row None (spec.names_field (spec.width hosts.now) hosts.now) []) }
 {
     let mut row = begun(alloc, None)?;
     append_names(&mut row, width(hosts), hosts)?;

@@ -29,7 +29,8 @@ pub(crate) struct Scene<'a, N> {
 impl<N: Naming> Scene<'_, N> {
     /// The row of the line of a step.
     pub fn line_row(&self, step: u64, line: &Line) -> Result<Octets, NoMemory>
-        ensures { IfOk result (λ row. row ≡ spec.line_row (scene_of N.names self.now) step line.now) }
+        ensures { IfOk result (λ row.
+            row ≡ spec.line_row (scene_of N.names self.now) step line.now) }
     {
         let drawn = self.line_drawn(step, line);
         let text = self.line_text(line)?;
@@ -107,7 +108,8 @@ impl<N: Naming> Scene<'_, N> {
 
     // A node learns that another one is down.
     fn declaration_text(&self, node: u16, told: u16) -> Result<Octets, NoMemory>
-        ensures { IfOk result (λ text. text ≡ spec.line_text (scene_of N.names self.now) (Line.Down node told)) }
+        ensures { IfOk result (λ text.
+            text ≡ spec.line_text (scene_of N.names self.now) (Line.Down node told)) }
     {
         let node = self.names.node(usize::from(node));
         let mut text = self.happening_text(told, " learns that ")?;
@@ -117,7 +119,8 @@ impl<N: Naming> Scene<'_, N> {
     }
 
     fn delivery_text(&self, number: u64) -> Result<Octets, NoMemory>
-        ensures { IfOk result (λ text. text ≡ spec.line_text (scene_of N.names self.now) (Line.Deliver number)) }
+        ensures { IfOk result (λ text.
+            text ≡ spec.line_text (scene_of N.names self.now) (Line.Deliver number)) }
     {
         let text = format!(in self.alloc; "{number} ")?;
         let mut text = ListOf::of(text.into_bytes());
@@ -129,7 +132,8 @@ impl<N: Naming> Scene<'_, N> {
 
     // Adds the label of a datagram.
     fn append_label(&self, text: &mut Octets, sent: &Sent) -> Result<(), NoMemory>
-        ensures { OnOk result (text.new ≡ text.old ++ spec.label_of (scene_of N.names self.now) sent.now) }
+        ensures { OnOk result
+            (text.new ≡ text.old ++ spec.label_of (scene_of N.names self.now) sent.now) }
     {
         let label = label(
             self.alloc,
@@ -142,7 +146,8 @@ impl<N: Naming> Scene<'_, N> {
 
     /// The row of what a member did in a step.
     pub fn deed_row(&self, step: u64, deed: &Deed<'_>) -> Result<Octets, NoMemory>
-        ensures { IfOk result (λ row. row ≡ spec.deed_row (scene_of N.names self.now) (deed_at step deed.now)) }
+        ensures { IfOk result (λ row.
+            row ≡ spec.deed_row (scene_of N.names self.now) (deed_at step deed.now)) }
     {
         let text = self.deed_text(deed)?;
         let drawn = Drawn::Sign(deed.node, deed_sign(deed));
@@ -151,7 +156,9 @@ impl<N: Naming> Scene<'_, N> {
     }
 
     fn deed_text(&self, deed: &Deed<'_>) -> Result<Octets, NoMemory>
-        ensures { IfOk result (λ text. text ≡ (N.names self.now.names.now).node deed.now.node ++ done.did_text (N.names self.now.names.now) (did_of deed.now.did)) }
+        ensures { IfOk result (λ text.
+            text ≡ (N.names self.now.names.now).node deed.now.node
+            ++ done.did_text (N.names self.now.names.now) (did_of deed.now.did)) }
     {
         let node = self.names.node(usize::from(deed.node));
         match deed.did {
@@ -214,7 +221,8 @@ impl<N: Naming> Scene<'_, N> {
     }
 
     fn sent_text(&self, number: u64, sent: &Sent) -> Result<Octets, NoMemory>
-        ensures { IfOk result (λ text. text ≡ spec.sent_text (scene_of N.names self.now) number sent.now) }
+        ensures { IfOk result (λ text.
+            text ≡ spec.sent_text (scene_of N.names self.now) number sent.now) }
     {
         let from = self.names.node(usize::from(sent.from));
         let to = self.names.node(usize::from(sent.to));

@@ -18,7 +18,8 @@ impl<'a> Attributes<'a> {
     /// A table of these attributes.
     pub fn of(alloc: Global, attributes: &'a [Attribute]) -> Result<Self, NoMemory>
         requires { AllPairs (λ a b. a.name ≢ b.name) attributes.now }
-        ensures { IfOk result (λ made. (name : List ℕ) → constant_at made name ≡ attribute_in attributes.now name) }
+        ensures { IfOk result (λ made.
+            (name : List ℕ) → constant_at made name ≡ attribute_in attributes.now name) }
     {
         let mut table = BTreeMap::new(alloc);
         for attribute in attributes {

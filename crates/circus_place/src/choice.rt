@@ -23,9 +23,13 @@ pub struct Placement {
 /// first in the order of lists of numbers (docs/LANGUAGE.md, "Placing"). `None` where it holds of none.
 pub fn place(alloc: Global, placing: &Placing) -> Result<Option<Placement>, NoMemory>
     requires { Obeys placing.now }
-    ensures best { IfOk result (λ answer. IfSome answer (λ chosen. IsBest placing.now chosen.members)) }
-    ensures kept { IfOk result (λ answer. IfSome answer (λ chosen. chosen.kept ≡ kept_by placing.now chosen.members)) }
-    ensures none { IfOk result (λ answer. IfNone answer ((choice : List ℕ) → IsChoice placing.now choice → Satisfies placing.now choice → ⊥)) }
+    ensures best { IfOk result (λ answer.
+        IfSome answer (λ chosen. IsBest placing.now chosen.members)) }
+    ensures kept { IfOk result (λ answer.
+        IfSome answer (λ chosen. chosen.kept ≡ kept_by placing.now chosen.members)) }
+    ensures none { IfOk result (λ answer.
+        IfNone answer ((choice : List ℕ) → IsChoice placing.now choice
+        → Satisfies placing.now choice → ⊥)) }
 {
     let test = Compiler::new(alloc, placing)?.test(&placing.condition)?;
     let present = present_at(alloc, placing)?;
@@ -45,7 +49,9 @@ pub fn place(alloc: Global, placing: &Placing) -> Result<Option<Placement>, NoMe
 fn present_at(alloc: Global, placing: &Placing) -> Result<ListOf<bool>, NoMemory>
     requires { length placing.now.machines ≤ most_machines }
     ensures len { IfOk result (λ made. length made ≡ length placing.now.machines) }
-    ensures flags { IfOk result (λ made. (m : ℕ) → m < length placing.now.machines → flag_at made m ≡ list_any (λ n. m == n) placing.now.present) }
+    ensures flags { IfOk result (λ made.
+        (m : ℕ) → m < length placing.now.machines
+        → flag_at made m ≡ list_any (λ n. m == n) placing.now.present) }
 {
     let mut present = ListOf::new(alloc);
     for machine in 0..placing.machines.len() {

@@ -26,7 +26,8 @@ impl<'a> Compiler<'a> {
     /// The machines of a placing and their attributes, or `NoMemory`.
     pub fn new(alloc: Global, placing: &'a Placing) -> Result<Self, NoMemory>
         requires { Obeys placing.now }
-        ensures machines { IfOk result (λ made. AreTablesOf placing.now.machines made.machines.items) }
+        ensures machines { IfOk result (λ made.
+            AreTablesOf placing.now.machines made.machines.items) }
         ensures members { IfOk result (λ made. made.members ≡ placing.now.members) }
     {
         let mut machines = Vec::new(alloc);
@@ -46,8 +47,11 @@ impl<'a> Compiler<'a> {
         requires some { 0 < self.now.members }
         requires of_members { AreOfMembers self.now.members (tree_of condition.now) }
         ensures of_members { IfOk result (IsTestOf self.now.members) }
-        ensures same { IfOk result (λ made. (machines : List Machine) (choice : List ℕ) → AreTablesOf machines self.now.machines.items
-            → ArePlaced self.now.members (length machines) choice → passes made choice ≡ does_hold machines choice (tree_of condition.now)) }
+        ensures same { IfOk result (λ made.
+            (machines : List Machine) (choice : List ℕ)
+            → AreTablesOf machines self.now.machines.items
+            → ArePlaced self.now.members (length machines) choice
+            → passes made choice ≡ does_hold machines choice (tree_of condition.now)) }
     {
         Ok(match condition {
             Condition::Or(left, right) => Test::Or(self.part(left)?, self.part(right)?),
@@ -70,8 +74,11 @@ impl<'a> Compiler<'a> {
         requires some { 0 < self.now.members }
         requires of_members { AreOfMembers self.now.members (tree_of condition.now) }
         ensures of_members { IfOk result (λ made. IsTestOf self.now.members made.value) }
-        ensures same { IfOk result (λ made. (machines : List Machine) (choice : List ℕ) → AreTablesOf machines self.now.machines.items
-            → ArePlaced self.now.members (length machines) choice → passes made.value choice ≡ does_hold machines choice (tree_of condition.now)) }
+        ensures same { IfOk result (λ made.
+            (machines : List Machine) (choice : List ℕ)
+            → AreTablesOf machines self.now.machines.items
+            → ArePlaced self.now.members (length machines) choice
+            → passes made.value choice ≡ does_hold machines choice (tree_of condition.now)) }
     {
         Ok(Box::new(self.alloc, self.test(condition)?)?)
     }
@@ -86,8 +93,13 @@ impl<'a> Compiler<'a> {
         requires left { IsOfMember self.now.members left.now }
         requires right { IsOfMember self.now.members right.now }
         ensures of_members { IfOk result (IsTestOf self.now.members) }
-        ensures same { IfOk result (λ made. (machines : List Machine) (choice : List ℕ) → AreTablesOf machines self.now.machines.items
-            → ArePlaced self.now.members (length machines) choice → passes made choice ≡ is_related comparison (value_of machines choice left.now) (value_of machines choice right.now)) }
+        ensures same { IfOk result (λ made.
+            (machines : List Machine) (choice : List ℕ)
+            → AreTablesOf machines self.now.machines.items
+            → ArePlaced self.now.members (length machines) choice
+            → passes made choice
+            ≡ is_related comparison (value_of machines choice left.now)
+            (value_of machines choice right.now)) }
     {
         let relation = Relation::of(
             self.alloc,
@@ -100,8 +112,11 @@ impl<'a> Compiler<'a> {
 
     fn differ(&self, name: &[u8]) -> Result<Test, NoMemory>
         ensures of_members { IfOk result (IsTestOf self.now.members) }
-        ensures same { IfOk result (λ made. (machines : List Machine) (choice : List ℕ) → AreTablesOf machines self.now.machines.items
-            → ArePlaced self.now.members (length machines) choice → passes made choice ≡ all_differ (map (attribute_at machines name.now) choice)) }
+        ensures same { IfOk result (λ made.
+            (machines : List Machine) (choice : List ℕ)
+            → AreTablesOf machines self.now.machines.items
+            → ArePlaced self.now.members (length machines) choice
+            → passes made choice ≡ all_differ (map (attribute_at machines name.now) choice)) }
     {
         let values = self.attribute(name)?;
         let has = are_there(self.alloc, &values)?;
@@ -111,7 +126,8 @@ impl<'a> Compiler<'a> {
 
     // What an operand is at each machine.
     fn values<'v>(&'v self, operand: &'v Operand) -> Result<Vec<Option<&'v Constant>>, NoMemory>
-        ensures { IfOk result (λ made. pointed_to made.items ≡ values_at self.now.machines.items operand.now) }
+        ensures { IfOk result (λ made.
+            pointed_to made.items ≡ values_at self.now.machines.items operand.now) }
     {
         match operand {
             Operand::Attribute(_, name) => self.attribute(name.as_slice()),
@@ -120,7 +136,8 @@ impl<'a> Compiler<'a> {
     }
 
     fn everywhere<'v>(&self, constant: &'v Constant) -> Result<Vec<Option<&'v Constant>>, NoMemory>
-        ensures { IfOk result (λ made. pointed_to made.items ≡ map (λ t. Some constant.now) self.now.machines.items) }
+        ensures { IfOk result (λ made.
+            pointed_to made.items ≡ map (λ t. Some constant.now) self.now.machines.items) }
     {
         let mut values = Vec::new(self.alloc);
         for _ in &self.machines {
@@ -131,7 +148,8 @@ impl<'a> Compiler<'a> {
 
     // What the attribute of this name is at each machine.
     fn attribute(&self, name: &[u8]) -> Result<Vec<Option<&Constant>>, NoMemory>
-        ensures { IfOk result (λ made. pointed_to made.items ≡ map (λ t. constant_at t name.now) self.now.machines.items) }
+        ensures { IfOk result (λ made.
+            pointed_to made.items ≡ map (λ t. constant_at t name.now) self.now.machines.items) }
     {
         let mut values = Vec::new(self.alloc);
         for machine in &self.machines {

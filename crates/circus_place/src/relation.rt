@@ -23,7 +23,9 @@ impl Relation {
         left: &[Option<&Constant>],
         right: &[Option<&Constant>],
     ) -> Result<Self, NoMemory>
-        ensures { IfOk result (λ made. made.rows ≡ map (λ a. map (is_related comparison a) (pointed_to right.now)) (pointed_to left.now)) }
+        ensures { IfOk result (λ made.
+            made.rows ≡ map (λ a.
+            map (is_related comparison a) (pointed_to right.now)) (pointed_to left.now)) }
     {
         let mut rows = ListOf::new(alloc);
         for value in left {
@@ -59,7 +61,8 @@ fn row(
     left: Option<&Constant>,
     right: &[Option<&Constant>],
 ) -> Result<ListOf<bool>, NoMemory>
-    ensures { IfOk result (λ made. made ≡ map (is_related comparison (option_copied left.entry)) (pointed_to right.now)) }
+    ensures { IfOk result (λ made.
+        made ≡ map (is_related comparison (option_copied left.entry)) (pointed_to right.now)) }
 {
     let mut flags = ListOf::new(alloc);
     for value in right {
@@ -69,7 +72,8 @@ fn row(
 }
 
 fn is_related(comparison: Comparison, left: Option<&Constant>, right: Option<&Constant>) -> bool
-    ensures { result ≡ is_related comparison (option_copied left.entry) (option_copied right.entry) }
+    ensures { result
+        ≡ is_related comparison (option_copied left.entry) (option_copied right.entry) }
 {
     match (left, right) {
         (Some(left), Some(right)) => compares(comparison, left, right),

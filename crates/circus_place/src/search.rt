@@ -37,7 +37,10 @@ impl Search<'_> {
         requires fits { vec_len members.old ≤ self.now.size }
         requires distinct { AreApart members.old.items }
         requires counted { kept ≡ flagged self.now.present.now members.old.items }
-        ensures best { OnOk result (best.new ≡ best_from self.now.test.now self.now.present.now (length self.now.present.now) (self.now.size - vec_len members.old) members.old.items best.old) }
+        ensures best { OnOk result
+            (best.new ≡ best_from self.now.test.now self.now.present.now
+            (length self.now.present.now)
+            (self.now.size - vec_len members.old) members.old.items best.old) }
         ensures members { OnOk result (members.new.items ≡ members.old.items) }
     {
         if !self.can_improve(members.len(), kept, best) || self.test.fails(members) {
@@ -67,7 +70,9 @@ impl Search<'_> {
         requires distinct { AreApart members.old.items }
         requires counted { kept ≡ flagged self.now.present.now members.old.items }
         ensures best { OnOk result (best.new ≡ (if is_among members.old.items machine then best.old
-            else best_from self.now.test.now self.now.present.now (length self.now.present.now) (self.now.size - vec_len members.old - 1) (members.old.items ++ machine ∷ []) best.old)) }
+            else best_from self.now.test.now self.now.present.now (length self.now.present.now)
+            (self.now.size - vec_len members.old - 1)
+            (members.old.items ++ machine ∷ []) best.old)) }
         ensures members { OnOk result (members.new.items ≡ members.old.items) }
     {
         if members.contains(&machine) {
@@ -85,7 +90,8 @@ impl Search<'_> {
         requires ready { IsReady self.now }
         requires fits { members ≤ self.now.size }
         requires few { kept ≤ members }
-        ensures { result ≡ improves (min self.now.most (kept + (self.now.size - members))) best.now }
+        ensures { result
+            ≡ improves (min self.now.most (kept + (self.now.size - members))) best.now }
     {
         match best {
             Some(best) => usize::from(best.kept) < self.most.min(kept + (self.size - members)),

@@ -61,7 +61,8 @@ impl Test {
 }
 
 fn known_related(relation: &Relation, first: Option<&u16>, second: Option<&u16>) -> Option<bool>
-    ensures { result ≡ known_related relation.now (option_copied first.entry) (option_copied second.entry) }
+    ensures { result
+        ≡ known_related relation.now (option_copied first.entry) (option_copied second.entry) }
 {
     match (first, second) {
         (Some(first), Some(second)) => Some(relation.relates(*first, *second)),

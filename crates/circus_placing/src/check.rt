@@ -26,8 +26,11 @@ fn meet<'a>(
     name: &'a Named,
     number: usize,
 ) -> Result<(), NoMemory>
-    ensures found { OnOk result (best.new.fault ≡ least_from rank_of best.old.fault (repeated (known_of names.old) name.now)) }
-    ensures added { OnOk result (known_of names.new ≡ also name.now.name number (known_of names.old)) }
+    ensures found { OnOk result
+        (best.new.fault ≡ least_from rank_of best.old.fault
+        (repeated (known_of names.old) name.now)) }
+    ensures added { OnOk result
+        (known_of names.new ≡ also name.now.name number (known_of names.old)) }
 {
     let earlier = names.insert(name.name.as_slice(), number)?;
     best.note(earlier.is_some(), name.at, PlaceCause::Repeated);
@@ -39,7 +42,9 @@ fn attributes(
     best: &mut Best<PlaceCause>,
     attributes: &[AttributeText],
 ) -> Result<(), NoMemory>
-    ensures { OnOk result (best.new.fault ≡ least_from rank_of best.old.fault (repeated_names nobody (attribute_names attributes.now))) }
+    ensures { OnOk result
+        (best.new.fault ≡ least_from rank_of best.old.fault
+        (repeated_names nobody (attribute_names attributes.now))) }
 {
     let mut names = Names::new(alloc);
     for attribute in attributes {
@@ -50,7 +55,8 @@ fn attributes(
 
 // Names that stand twice.
 fn repeated(alloc: Global, best: &mut Best<PlaceCause>, all: &[Named]) -> Result<(), NoMemory>
-    ensures { OnOk result (best.new.fault ≡ least_from rank_of best.old.fault (repeated_names nobody all.now)) }
+    ensures { OnOk result
+        (best.new.fault ≡ least_from rank_of best.old.fault (repeated_names nobody all.now)) }
 {
     let mut names = Names::new(alloc);
     for name in all {
@@ -61,7 +67,8 @@ fn repeated(alloc: Global, best: &mut Best<PlaceCause>, all: &[Named]) -> Result
 
 // Names that are those of no machines.
 fn unknown(best: &mut Best<PlaceCause>, machines: &Names, names: &[Named])
-    ensures { best.new.fault ≡ least_from rank_of best.old.fault (unknown_names (known_of machines.now) names.now) }
+    ensures { best.new.fault
+        ≡ least_from rank_of best.old.fault (unknown_names (known_of machines.now) names.now) }
 {
     for name in names {
         let known = machines.get(name.name.as_slice());
@@ -76,8 +83,11 @@ fn machine<'a>(
     number: usize,
     machine: &'a MachineText,
 ) -> Result<(), NoMemory>
-    ensures found { OnOk result (best.new.fault ≡ least_from rank_of best.old.fault (machine_faults (known_of names.old) number machine.now)) }
-    ensures added { OnOk result (known_of names.new ≡ also machine.now.name.name number (known_of names.old)) }
+    ensures found { OnOk result
+        (best.new.fault ≡ least_from rank_of best.old.fault
+        (machine_faults (known_of names.old) number machine.now)) }
+    ensures added { OnOk result
+        (known_of names.new ≡ also machine.now.name.name number (known_of names.old)) }
 {
     meet(best, names, &machine.name, number)?;
     best.note(
@@ -94,7 +104,9 @@ fn machines<'a>(
     best: &mut Best<PlaceCause>,
     machines: &'a [MachineText],
 ) -> Result<Names<'a>, NoMemory>
-    ensures found { OnOk result (best.new.fault ≡ least_from rank_of best.old.fault (machines_faults nobody 0 machines.now)) }
+    ensures found { OnOk result
+        (best.new.fault ≡ least_from rank_of best.old.fault
+        (machines_faults nobody 0 machines.now)) }
     ensures numbered { IfOk result (λ names. known_of names ≡ numbers_of machines.now) }
 {
     let mut names = Names::new(alloc);
@@ -105,7 +117,8 @@ fn machines<'a>(
 }
 
 fn operand(best: &mut Best<PlaceCause>, members: u64, operand: &OperandText)
-    ensures { best.new.fault ≡ least_from rank_of best.old.fault (operand_faults members operand.now) }
+    ensures { best.new.fault
+        ≡ least_from rank_of best.old.fault (operand_faults members operand.now) }
 {
     if let OperandText::Attribute(member, _) = operand {
         best.note_out_of(members, *member, PlaceCause::OutOfRange);
@@ -115,7 +128,8 @@ fn operand(best: &mut Best<PlaceCause>, members: u64, operand: &OperandText)
 #[cycle(checking)]
 #[tactic(auto, using(circus_fault::proofs::LeastMore::least_then))]
 fn condition(best: &mut Best<PlaceCause>, members: u64, whole: &ConditionText)
-    ensures { best.new.fault ≡ least_from rank_of best.old.fault (condition_faults members (written_of whole.now)) }
+    ensures { best.new.fault
+        ≡ least_from rank_of best.old.fault (condition_faults members (written_of whole.now)) }
 {
     match whole {
         ConditionText::Or(left, right) | ConditionText::And(left, right) => {
@@ -139,7 +153,9 @@ fn present(
     machines: &Names,
     names: &Option<Nameds>,
 ) -> Result<(), NoMemory>
-    ensures { OnOk result (best.new.fault ≡ least_from rank_of best.old.fault (present_faults (known_of machines.now) names.now)) }
+    ensures { OnOk result
+        (best.new.fault ≡ least_from rank_of best.old.fault
+        (present_faults (known_of machines.now) names.now)) }
 {
     if let Some(names) = names {
         unknown(best, machines, names.as_slice());
@@ -155,7 +171,8 @@ pub fn check<'a>(
     text: &'a PlacingText,
     stop: &Option<Stop>,
 ) -> Result<(Best<PlaceCause>, Names<'a>), NoMemory>
-    ensures found { IfOk result (λ checked. checked.0.fault ≡ least_from rank_of None (read_faults stop.now (placing_of text.now))) }
+    ensures found { IfOk result (λ checked.
+        checked.0.fault ≡ least_from rank_of None (read_faults stop.now (placing_of text.now))) }
     ensures numbered { IfOk result (λ checked. known_of checked.1 ≡ numbers_of text.now.machines) }
 {
     let mut best = Best::of_stop(stop, PlaceCause::Syntax, PlaceCause::Deep);

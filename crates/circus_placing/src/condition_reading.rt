@@ -98,7 +98,8 @@ fn further_and(
     left: ConditionText,
     levels: u8,
 ) -> Result<ConditionText, NoMemory>
-    ensures { IfOk result (λ read. with_further_and levels (written_of left) reader.old ≡ (written_of read, reader.new)) }
+    ensures { IfOk result (λ read.
+        with_further_and levels (written_of left) reader.old ≡ (written_of read, reader.new)) }
 {
     if !reader.sees_word(b"AND") {
         return Ok(left);
@@ -118,7 +119,8 @@ fn and(
     left: ConditionText,
     right: ConditionText,
 ) -> Result<ConditionText, NoMemory>
-    ensures { IfOk result (λ made. written_of made ≡ written.and (written_of left) (written_of right)) }
+    ensures { IfOk result (λ made.
+        written_of made ≡ written.and (written_of left) (written_of right)) }
 {
     let alloc = reader.alloc();
     Ok(ConditionText::And(Box::new(alloc, left)?, Box::new(alloc, right)?))
@@ -145,7 +147,8 @@ fn further_or(
     left: ConditionText,
     levels: u8,
 ) -> Result<ConditionText, NoMemory>
-    ensures { IfOk result (λ read. with_further_or levels (written_of left) reader.old ≡ (written_of read, reader.new)) }
+    ensures { IfOk result (λ read.
+        with_further_or levels (written_of left) reader.old ≡ (written_of read, reader.new)) }
 {
     if !reader.sees_word(b"OR") {
         return Ok(left);
@@ -161,7 +164,8 @@ fn further_or(
 }
 
 fn or(reader: &Reader, left: ConditionText, right: ConditionText) -> Result<ConditionText, NoMemory>
-    ensures { IfOk result (λ made. written_of made ≡ written.or (written_of left) (written_of right)) }
+    ensures { IfOk result (λ made.
+        written_of made ≡ written.or (written_of left) (written_of right)) }
 {
     let alloc = reader.alloc();
     Ok(ConditionText::Or(Box::new(alloc, left)?, Box::new(alloc, right)?))

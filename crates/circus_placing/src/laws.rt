@@ -5,5 +5,6 @@ ghost use Rattle.circus_placing.specs.ReadAs.{IsRefused};
 
 /// A text that is refused is refused in one way: with one line and one cause.
 pub fn one_refusal()
-    ensures { (text : List ℕ) (one other : PlaceFault) → IsRefused text one → IsRefused text other → one ≡ other }
+    ensures { (text : List ℕ) (one other : PlaceFault) → IsRefused text one → IsRefused text other
+        → one ≡ other }
 {}

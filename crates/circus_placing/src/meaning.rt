@@ -131,10 +131,14 @@ fn present(alloc: Global, machines: &Names, names: &Option<Nameds>) -> Result<Nu
 /// The placing that a text means which has no fault, whose machines have these numbers by their names. A number
 /// that is too great is the greatest that it may be.
 pub fn meaning(alloc: Global, text: &PlacingText, names: &Names) -> Result<Placing, NoMemory>
-    ensures machines { IfOk result (λ placing. placing.machines ≡ map machine_meant text.now.machines) }
-    ensures members { IfOk result (λ placing. placing.members ≡ min text.now.members.value most_members) }
-    ensures condition { IfOk result (λ placing. tree_of placing.condition ≡ condition_cut (written_of text.now.condition)) }
-    ensures present { IfOk result (λ placing. placing.present ≡ present_cut (known_of names.now) text.now.present) }
+    ensures machines { IfOk result (λ placing.
+        placing.machines ≡ map machine_meant text.now.machines) }
+    ensures members { IfOk result (λ placing.
+        placing.members ≡ min text.now.members.value most_members) }
+    ensures condition { IfOk result (λ placing.
+        tree_of placing.condition ≡ condition_cut (written_of text.now.condition)) }
+    ensures present { IfOk result (λ placing.
+        placing.present ≡ present_cut (known_of names.now) text.now.present) }
 {
     Ok(Placing {
         machines: machines(alloc, text.machines.as_slice())?,

@@ -71,7 +71,8 @@ impl Placing {
     pub fn copy(&self) -> Result<Self, NoMemory>
         ensures machines { IfOk result (λ copied. copied.machines ≡ self.now.machines) }
         ensures members { IfOk result (λ copied. copied.members ≡ self.now.members) }
-        ensures condition { IfOk result (λ copied. tree_of copied.condition ≡ tree_of self.now.condition) }
+        ensures condition { IfOk result (λ copied.
+            tree_of copied.condition ≡ tree_of self.now.condition) }
         ensures present { IfOk result (λ copied. copied.present ≡ self.now.present) }
     {
         Ok(Placing {

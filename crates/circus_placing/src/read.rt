@@ -67,9 +67,13 @@ fn checked(
     stop: &Option<Stop>,
 ) -> Result<Placing, PlaceFault>
     requires { length text.now ≤ longest_text }
-    ensures clean { IfOk result (λ placing. (stop.now ≡ None) × (placing_faults (placing_of written.now) ≡ [])) }
+    ensures clean { IfOk result (λ placing.
+        (stop.now ≡ None) × (placing_faults (placing_of written.now) ≡ [])) }
     ensures means { IfOk result (λ placing. Means (placing_of written.now) placing) }
-    ensures err { IfErr result (λ e. (e ≡ PlaceFault.NoMemory) ⊎ ((f : Fault PlaceCause) × (least_from rank_of None (read_faults stop.now (placing_of written.now)) ≡ Some f)
+    ensures err { IfErr result (λ e.
+        (e ≡ PlaceFault.NoMemory)
+        ⊎ ((f : Fault PlaceCause)
+        × (least_from rank_of None (read_faults stop.now (placing_of written.now)) ≡ Some f)
         × (e ≡ PlaceFault.Refused (line_of text.now f.place) f.cause))) }
 {
     let (best, names) = check(alloc, written, stop)?;
@@ -117,8 +121,10 @@ pub fn read_place(alloc: Global, text: &[u8]) -> Result<Placing, PlaceFault>
     ensures err { IfErr result (λ e. (e ≡ PlaceFault.NoMemory) ⊎ IsRefused text.now e) }
 
     // A placing without a fault is read wherever memory suffices.
-    ensures accepts { (found : List Token) (tree : PlacingTree) → length text.now ≤ longest_text → AreTokensOf text.now found
-        → IsPlacing (placed text.now found) tree → IsWithin most_levels tree → placing_faults tree ≡ []
+    ensures accepts { (found : List Token) (tree : PlacingTree) → length text.now ≤ longest_text
+        → AreTokensOf text.now found
+        → IsPlacing (placed text.now found) tree → IsWithin most_levels tree
+        → placing_faults tree ≡ []
         → IfErr result (λ e. e ≡ PlaceFault.NoMemory) }
 {
     read(alloc, text)

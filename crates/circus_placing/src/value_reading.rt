@@ -14,7 +14,8 @@ use circus_value::{Name, NoMemory};
 /// The next token's bytes, if it is a name of a placing.
 pub fn next_name<'a>(reader: &Reader<'a>) -> Option<&'a [u8]>
     ensures { MatchOption result (sees is_own_name reader.now ≡ false)
-        (λ bytes. (t : Placed) × (next reader.now ≡ Some t) × (is_own_name t ≡ true) × (bytes.now ≡ t.bytes)) }
+        (λ bytes. (t : Placed) × (next reader.now ≡ Some t) × (is_own_name t ≡ true)
+        × (bytes.now ≡ t.bytes)) }
 {
     match reader.next_token() {
         Some((TokenKind::Word, bytes)) if !is_placing_word(bytes) => Some(bytes),

@@ -41,7 +41,9 @@ pub fn draw<K: Sink>(
     requires fresh { IsFresh simulated }
     requires below { All (NamesBelow (length simulated.hosts)) lines.now }
     requires few { length lines.now ≤ most_lines }
-    ensures { IsPutEnd (end_by (Some procedures.now) (names_of simulated.hosts simulated.names) lines.now (world_of simulated.world))
+    ensures { IsPutEnd
+        (end_by (Some procedures.now) (names_of simulated.hosts simulated.names) lines.now
+        (world_of simulated.world))
         (K.written sink.old) (K.written sink.new) (K.faults sink.old) (K.faults sink.new) result }
 {
     let Simulated {
@@ -67,7 +69,8 @@ fn draw_world<M: Module, K: Sink>(
     requires named { All IsAscii names.now }
     requires below { All (NamesBelow (length world.nodes)) lines.now }
     requires few { world.steps + length lines.now < 18446744073709551615 }
-    ensures { IsPutEnd (pictured M.declared M.turn (names_of hosts.now names.now) procedures.now lines.now world)
+    ensures { IsPutEnd
+        (pictured M.declared M.turn (names_of hosts.now names.now) procedures.now lines.now world)
         (K.written sink.old) (K.written sink.new) (K.faults sink.old) (K.faults sink.new) result }
 {
     match step_all(world, lines) {
@@ -122,7 +125,9 @@ fn show<M: Module, K: Sink>(
 ) -> Status
     requires nodes { All (λ h. IsAscii (host_name h)) world.now.deployment.nodes }
     requires modules { All IsAscii names.now }
-    ensures { IsPut Status.Done (picture_text (names_of world.now.deployment.nodes names.now) procedures.now lines.now world.now)
+    ensures { IsPut Status.Done
+        (picture_text (names_of world.now.deployment.nodes names.now) procedures.now lines.now
+        world.now)
         (K.written sink.old) (K.written sink.new) (K.faults sink.old) (K.faults sink.new) result }
 {
     match put_picture(alloc, world, lines, names, procedures, sink) {

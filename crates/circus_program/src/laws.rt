@@ -47,7 +47,8 @@ pub fn ends_tell_why()
         → IsDueLast contents words due → (EndsWith BadCommandLine due ↔ IsOfNoForm words) }
     ensures bad_program { (contents : List ℕ → Option (List ℕ)) (words : List (List ℕ)) (due : Due)
         → IsDueLast contents words due
-        → (EndsWith BadProgram due ↔ (IsRefusedProgram contents words ⊎ IsNameless contents words)) }
+        → (EndsWith BadProgram due
+        ↔ (IsRefusedProgram contents words ⊎ IsNameless contents words)) }
     ensures bad_schedule { (contents : List ℕ → Option (List ℕ)) (words : List (List ℕ)) (due : Due)
         → IsDueLast contents words due
         → (EndsWith BadSchedule due ↔ IsRefusedReplay contents words) }
@@ -87,8 +88,10 @@ pub fn reports_are_of_worlds()
 /// The picture of lines comes to the same status as their replay, and where that is 0, picture and report are of one world.
 /// Where it isn't, the picture is the line that says why, with which the replay ends too.
 pub fn pictures_are_of_worlds()
-    ensures status { (plan : Plan) (lines : List Line) → (picture_of plan lines).status ≡ (replay_of plan lines).status }
-    ensures done { (plan : Plan) (lines : List Line) → (picture_of plan lines).status ≡ Done → IsPictured plan lines }
+    ensures status { (plan : Plan) (lines : List Line)
+        → (picture_of plan lines).status ≡ (replay_of plan lines).status }
+    ensures done { (plan : Plan) (lines : List Line) → (picture_of plan lines).status ≡ Done
+        → IsPictured plan lines }
     ensures cut { (plan : Plan) (lines : List Line) → ((picture_of plan lines).status ≡ Done → ⊥)
         → (sent : List ℕ) × ((replay_of plan lines).text ≡ sent ++ (picture_of plan lines).text) }
 {}

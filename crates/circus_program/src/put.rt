@@ -8,7 +8,8 @@ use circus_value::NoMemory;
 
 /// Puts the text of an end, if memory sufficed for it, and answers its status where all of it was taken.
 pub fn put_end<K: Sink>(ending: Result<Ending, NoMemory>, sink: &mut K) -> Status
-    ensures { IsPutIfEnd ending (K.written sink.old) (K.written sink.new) (K.faults sink.old) (K.faults sink.new) result }
+    ensures { IsPutIfEnd ending (K.written sink.old) (K.written sink.new) (K.faults sink.old)
+        (K.faults sink.new) result }
 {
     match ending {
         Ok(ending) => put(sink, ending.status, ending.text.as_slice()),
@@ -18,7 +19,8 @@ pub fn put_end<K: Sink>(ending: Result<Ending, NoMemory>, sink: &mut K) -> Statu
 
 // Puts a text, and answers this status where all of it was taken.
 fn put<K: Sink>(sink: &mut K, status: Status, text: &[u8]) -> Status
-    ensures { IsPut status text.now (K.written sink.old) (K.written sink.new) (K.faults sink.old) (K.faults sink.new) result }
+    ensures { IsPut status text.now (K.written sink.old) (K.written sink.new) (K.faults sink.old)
+        (K.faults sink.new) result }
 {
     match put_lines(sink, text) {
         Ok(()) => status,

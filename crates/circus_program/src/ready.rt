@@ -35,8 +35,10 @@ pub fn prepare(
 ) -> Result<Result<Ready, Ending>, NoMemory>
     requires { IsPlan plan }
     ensures ready { IfOk result (λ first. IfOk first IsReady) }
-    ensures end { IfOk result (λ first. IfOk first (λ ready. IsEndOfReplay shown plan schedule.now (end_of_ready ready))) }
-    ensures ended { IfOk result (λ first. IfErr first (λ ending. IsEndOfReplay shown plan schedule.now (ending_of ending))) }
+    ensures end { IfOk result (λ first.
+        IfOk first (λ ready. IsEndOfReplay shown plan schedule.now (end_of_ready ready))) }
+    ensures ended { IfOk result (λ first.
+        IfErr first (λ ending. IsEndOfReplay shown plan schedule.now (ending_of ending))) }
     ensures status { IfOk result (λ first. IfErr first (λ ending. IsTrue (is_end ending.status))) }
 {
     match read_schedule(alloc, schedule, &plan.deployment) {
@@ -57,8 +59,10 @@ fn boot(
     requires below { All (NamesBelow (length plan.deployment.nodes)) lines }
     requires few { length lines ≤ most_lines }
     ensures ready { IfOk result (λ first. IfOk first IsReady) }
-    ensures end { IfOk result (λ first. IfOk first (λ ready. end_of_ready ready ≡ shown_of shown plan lines)) }
-    ensures ended { IfOk result (λ first. IfErr first (λ ending. ending_of ending ≡ shown_of shown plan lines)) }
+    ensures end { IfOk result (λ first.
+        IfOk first (λ ready. end_of_ready ready ≡ shown_of shown plan lines)) }
+    ensures ended { IfOk result (λ first.
+        IfErr first (λ ending. ending_of ending ≡ shown_of shown plan lines)) }
     ensures status { IfOk result (λ first. IfErr first (λ ending. IsTrue (is_end ending.status))) }
 {
     let procedures = procedures_shown(alloc, &plan, shown)?;

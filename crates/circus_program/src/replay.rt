@@ -24,7 +24,8 @@ use std::alloc::Global;
 /// Runs a replay to its end, and answers the status of that where all was written.
 pub fn replay<K: Sink>(alloc: Global, ready: Ready, sink: &mut K) -> Status
     requires { IsReady ready }
-    ensures { IsPutEnd (end_of_ready ready) (K.written sink.old) (K.written sink.new) (K.faults sink.old) (K.faults sink.new) result }
+    ensures { IsPutEnd (end_of_ready ready) (K.written sink.old) (K.written sink.new)
+        (K.faults sink.old) (K.faults sink.new) result }
 {
     let Ready {
         simulated,
@@ -42,7 +43,9 @@ fn report<K: Sink>(alloc: Global, simulated: Simulated, lines: &[Line], sink: &m
     requires fresh { IsFresh simulated }
     requires below { All (NamesBelow (length simulated.hosts)) lines.now }
     requires few { length lines.now ≤ most_lines }
-    ensures { IsPutEnd (end_by None (names_of simulated.hosts simulated.names) lines.now (world_of simulated.world))
+    ensures { IsPutEnd
+        (end_by None (names_of simulated.hosts simulated.names) lines.now
+        (world_of simulated.world))
         (K.written sink.old) (K.written sink.new) (K.faults sink.old) (K.faults sink.new) result }
 {
     let Simulated {
@@ -71,7 +74,8 @@ fn follow<M: Module, K: Sink>(
     requires nodes { length running.nodes ≡ length hosts.now }
     requires below { All (NamesBelow (length hosts.now)) lines.now }
     requires few { running.steps + length lines.now < 18446744073709551615 }
-    ensures { IsPutEnd (replayed M.declared M.turn (names_of hosts.now names.now) 1 lines.now running)
+    ensures { IsPutEnd
+        (replayed M.declared M.turn (names_of hosts.now names.now) 1 lines.now running)
         (K.written sink.old) (K.written sink.new) (K.faults sink.old) (K.faults sink.new) result }
 {
     for (place, line) in lines.iter().enumerate() {

@@ -19,7 +19,8 @@ use std::fmt;
 
 /// The end of a schedule that is read as none.
 pub fn refused(alloc: Global, fault: &ScheduleFault) -> Result<Ending, NoMemory>
-    ensures ending { (shown : Shown) (plan : Plan) → IfOk result (λ ending. IsReplayOf shown plan (Err fault.now) (ending_of ending)) }
+    ensures ending { (shown : Shown) (plan : Plan)
+        → IfOk result (λ ending. IsReplayOf shown plan (Err fault.now) (ending_of ending)) }
     ensures status { IfOk result (λ ending. ending.status ≡ Status.BadSchedule) }
 {
     Ok(Ending {
@@ -30,7 +31,10 @@ pub fn refused(alloc: Global, fault: &ScheduleFault) -> Result<Ending, NoMemory>
 
 // What is written of a schedule that is read as none.
 fn fault_text(alloc: Global, fault: &ScheduleFault) -> Result<Octets, NoMemory>
-    ensures { (shown : Shown) (plan : Plan) → IfOk result (λ text. IsReplayOf shown plan (Err fault.now) (record { status = Status.BadSchedule; text = text })) }
+    ensures { (shown : Shown) (plan : Plan)
+        → IfOk result (λ text.
+        IsReplayOf shown plan (Err fault.now)
+        (record { status = Status.BadSchedule; text = text })) }
 {
     match fault {
         ScheduleFault::BadLine(number) => line_text(alloc, *number, "bad line"),
@@ -42,7 +46,8 @@ fn fault_text(alloc: Global, fault: &ScheduleFault) -> Result<Octets, NoMemory>
 
 // The line of this number, with what is said of it.
 fn line_text(alloc: Global, number: u32, said: &str) -> Result<Octets, NoMemory>
-    ensures { IfOk result (λ text. text ≡ line (codes "schedule line " ++ decimal number ++ codes ": " ++ said.now)) }
+    ensures { IfOk result (λ text.
+        text ≡ line (codes "schedule line " ++ decimal number ++ codes ": " ++ said.now)) }
 {
     let text = format!(in alloc; "schedule line {number}: {said}\n")?;
     Ok(ListOf::of(text.into_bytes()))
@@ -50,7 +55,9 @@ fn line_text(alloc: Global, number: u32, said: &str) -> Result<Octets, NoMemory>
 
 // The line of this number, which names a node that there is none of.
 fn unknown_text(alloc: Global, number: u32, name: &Name) -> Result<Octets, NoMemory>
-    ensures { IfOk result (λ text. text ≡ line (codes "schedule line " ++ decimal number ++ codes ": " ++ (codes "unknown node " ++ name.now))) }
+    ensures { IfOk result (λ text.
+        text ≡ line (codes "schedule line " ++ decimal number ++ codes ": "
+        ++ (codes "unknown node " ++ name.now))) }
 {
     let text = format!(in alloc; "schedule line {number}: unknown node ")?;
     let mut text = ListOf::of(text.into_bytes());
@@ -100,7 +107,8 @@ pub fn illegal(
     cause: LineCause,
 ) -> Result<Ending, NoMemory>
     requires { All (λ h. IsAscii (host_name h)) hosts.now }
-    ensures ending { IfOk result (λ ending. ending_of ending ≡ refused_end number (cause_text (names_of hosts.now []) cause)) }
+    ensures ending { IfOk result (λ ending.
+        ending_of ending ≡ refused_end number (cause_text (names_of hosts.now []) cause)) }
     ensures status { IfOk result (λ ending. ending.status ≡ Status.BadSchedule) }
 {
     let names = ProgramNames::new(hosts.as_slice(), &[]);

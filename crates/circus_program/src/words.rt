@@ -109,7 +109,8 @@ fn read_three_words<'a>(
     program: &'a str,
     second: &'a str,
 ) -> Option<CommandForm<'a>>
-    ensures form { IfSome result (λ form. IsOfForm (command.now ∷ program.now ∷ second.now ∷ []) (form_of form)) }
+    ensures form { IfSome result (λ form.
+        IsOfForm (command.now ∷ program.now ∷ second.now ∷ []) (form_of form)) }
     ensures none { IfNone result (IsOfNoForm (command.now ∷ program.now ∷ second.now ∷ [])) }
 {
     if program.is_empty() {
@@ -145,8 +146,10 @@ fn read_four_words<'a>(
     second: &'a str,
     third: &'a str,
 ) -> Option<CommandForm<'a>>
-    ensures form { IfSome result (λ form. IsOfForm (command.now ∷ program.now ∷ second.now ∷ third.now ∷ []) (form_of form)) }
-    ensures none { IfNone result (IsOfNoForm (command.now ∷ program.now ∷ second.now ∷ third.now ∷ [])) }
+    ensures form { IfSome result (λ form.
+        IsOfForm (command.now ∷ program.now ∷ second.now ∷ third.now ∷ []) (form_of form)) }
+    ensures none { IfNone result
+        (IsOfNoForm (command.now ∷ program.now ∷ second.now ∷ third.now ∷ [])) }
 {
     if program.is_empty() {
         return None;

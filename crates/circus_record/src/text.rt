@@ -294,8 +294,11 @@ pub fn show_member(
     requires nodes { All (λ h. IsAscii (host_name h)) deployment.now.nodes }
     requires modules { All IsAscii names.now }
     requires hosted { IsHosted deployment.now node }
-    ensures { (host : Host) (troupe : ℕ) → slice_get deployment.now.nodes node ≡ Some host → host.module ≡ Some troupe
-        → IfOk result (λ text. text ≡ member_lines (names_of deployment.now.nodes names.now) node troupe crashed kept.now) }
+    ensures { (host : Host) (troupe : ℕ) → slice_get deployment.now.nodes node ≡ Some host
+        → host.module ≡ Some troupe
+        → IfOk result (λ text.
+        text ≡ member_lines
+        (names_of deployment.now.nodes names.now) node troupe crashed kept.now) }
 {
     let nodes = deployment.nodes.as_slice();
     let Some(troupe) = nodes[usize::from(node)].module else {

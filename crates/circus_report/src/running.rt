@@ -86,9 +86,11 @@ impl<M: Module> Running<M> {
     /// these lines.
     pub fn begin<K: Sink>(alloc: Global, world: World<M>, sink: &mut K) -> Result<Self, RunFault>
         requires { All (λ h. IsAscii (host_name h)) world.deployment.nodes }
-        ensures put { run.IsPut (run.beginning world) (K.written sink.old) (K.written sink.new) result }
+        ensures put { run.IsPut (run.beginning world) (K.written sink.old)
+            (K.written sink.new) result }
         ensures same { IfOk result (λ running. running ≡ world) }
-        ensures rose { IsErrOf result RunFault.SinkFailed → Rose (K.faults sink.old) (K.faults sink.new) }
+        ensures rose { IsErrOf result RunFault.SinkFailed
+            → Rose (K.faults sink.old) (K.faults sink.new) }
         ensures count { OnOk result (K.faults sink.new ≡ K.faults sink.old) }
     {
         put_line(sink, REPORT.as_bytes())?;
@@ -105,8 +107,10 @@ impl<M: Module> Running<M> {
         requires ascii { All (λ h. IsAscii (host_name h)) self.deployment.nodes }
         requires named { NamesBelow (length self.nodes) line.now }
         requires few { self.steps < 18446744073709551615 }
-        ensures run { run.IsRun M.declared M.turn line.now self (K.written sink.old) (K.written sink.new) result }
-        ensures rose { IsErrOf result RunFault.SinkFailed → Rose (K.faults sink.old) (K.faults sink.new) }
+        ensures run { run.IsRun M.declared M.turn line.now self (K.written sink.old)
+            (K.written sink.new) result }
+        ensures rose { IsErrOf result RunFault.SinkFailed
+            → Rose (K.faults sink.old) (K.faults sink.new) }
         ensures count { run.IsCounted result (K.faults sink.old) (K.faults sink.new) }
     {
         let before = self.world.sent().len();
@@ -132,8 +136,10 @@ impl<M: Module> Running<M> {
     ) -> Result<(), RunFault>
         requires nodes { All (λ h. IsAscii (host_name h)) self.deployment.nodes }
         requires modules { All IsAscii names.now }
-        ensures put { run.IsPut (rest_text (names_of self.deployment.nodes names.now) self) (K.written sink.old) (K.written sink.new) result }
-        ensures rose { IsErrOf result RunFault.SinkFailed → Rose (K.faults sink.old) (K.faults sink.new) }
+        ensures put { run.IsPut (rest_text (names_of self.deployment.nodes names.now) self)
+            (K.written sink.old) (K.written sink.new) result }
+        ensures rose { IsErrOf result RunFault.SinkFailed
+            → Rose (K.faults sink.old) (K.faults sink.new) }
         ensures count { OnOk result (K.faults sink.new ≡ K.faults sink.old) }
     {
         let rest = show_rest(alloc, &self.world, names)?;
@@ -158,8 +164,10 @@ fn put_sent<M: Module, K: Sink>(
 ) -> Result<(), RunFault>
     requires ascii { All (λ h. IsAscii (host_name h)) world.now.deployment.nodes }
     requires within { from ≤ length world.now.sent }
-    ensures put { run.IsPut (run.sent_from from world.now) (K.written sink.old) (K.written sink.new) result }
-    ensures rose { IsErrOf result RunFault.SinkFailed → Rose (K.faults sink.old) (K.faults sink.new) }
+    ensures put { run.IsPut (run.sent_from from world.now) (K.written sink.old)
+        (K.written sink.new) result }
+    ensures rose { IsErrOf result RunFault.SinkFailed
+        → Rose (K.faults sink.old) (K.faults sink.new) }
     ensures count { OnOk result (K.faults sink.new ≡ K.faults sink.old) }
 {
     let sent = world.sent().as_slice();

@@ -26,7 +26,8 @@ pub fn show_sent(
     sent: &Sent,
 ) -> Result<Octets, NoMemory>
     requires { All (λ h. IsAscii (host_name h)) deployment.now.nodes }
-    ensures { IfOk result (λ text. text ≡ report.sent_line (names_of deployment.now.nodes []) number sent.now) }
+    ensures { IfOk result (λ text.
+        text ≡ report.sent_line (names_of deployment.now.nodes []) number sent.now) }
 {
     let mut text = String::with_capacity(alloc, room_for(sent))?;
     let names = ProgramNames::new(deployment.nodes.as_slice(), &[]);
@@ -43,7 +44,8 @@ pub fn show_report<M: Module>(
 ) -> Result<Octets, NoMemory>
     requires nodes { All (λ h. IsAscii (host_name h)) world.now.deployment.nodes }
     requires modules { All IsAscii names.now }
-    ensures { IfOk result (λ text. text ≡ report.report_text (names_of world.now.deployment.nodes names.now) world.now) }
+    ensures { IfOk result (λ text.
+        text ≡ report.report_text (names_of world.now.deployment.nodes names.now) world.now) }
 {
     let names = ProgramNames::new(world.deployment().nodes.as_slice(), names.as_slice());
     let mut text = String::from_str(alloc, REPORT)?;
@@ -61,7 +63,8 @@ pub fn show_rest<M: Module>(
 ) -> Result<Octets, NoMemory>
     requires nodes { All (λ h. IsAscii (host_name h)) world.now.deployment.nodes }
     requires modules { All IsAscii names.now }
-    ensures { IfOk result (λ text. text ≡ report.rest_text (names_of world.now.deployment.nodes names.now) world.now) }
+    ensures { IfOk result (λ text.
+        text ≡ report.rest_text (names_of world.now.deployment.nodes names.now) world.now) }
 {
     let names = ProgramNames::new(world.deployment().nodes.as_slice(), names.as_slice());
     let mut text = String::new(alloc);
@@ -82,7 +85,9 @@ fn append_sent<N: Naming>(
     number: u64,
     sent: &Sent,
 ) -> Result<(), NoMemory>
-    ensures { OnOk result (string_bytes text.new ≡ string_bytes text.old ++ report.sent_line (N.names names.now) number sent.now) }
+    ensures { OnOk result
+        (string_bytes text.new
+        ≡ string_bytes text.old ++ report.sent_line (N.names names.now) number sent.now) }
 {
     append_sender(text, names, number, sent)?;
     append_content(alloc, text, names, sent)
@@ -95,7 +100,9 @@ fn append_sender<N: Naming>(
     number: u64,
     sent: &Sent,
 ) -> Result<(), NoMemory>
-    ensures { OnOk result (string_bytes text.new ≡ string_bytes text.old ++ report.sent_head (N.names names.now) number sent.now) }
+    ensures { OnOk result
+        (string_bytes text.new
+        ≡ string_bytes text.old ++ report.sent_head (N.names names.now) number sent.now) }
 {
     let mut digits = Buffer::new();
     text.push_str("datagram ")?;
@@ -114,7 +121,8 @@ fn append_content<N: Naming>(
     sent: &Sent,
 ) -> Result<(), NoMemory>
     ensures { OnOk result (string_bytes text.new ≡ string_bytes text.old
-        ++ line (codes " to " ++ (N.names names.now).node sent.now.to ++ codes " " ++ encode_lower sent.now.bytes)) }
+        ++ line (codes " to " ++ (N.names names.now).node sent.now.to ++ codes " "
+        ++ encode_lower sent.now.bytes)) }
 {
     let bytes = hex::encode(alloc, sent.bytes.as_slice())?;
     text.push_str(" to ")?;
@@ -131,7 +139,9 @@ fn append_all_sent<N: Naming>(
     names: &N,
     all: &[Sent],
 ) -> Result<(), NoMemory>
-    ensures { OnOk result (string_bytes text.new ≡ string_bytes text.old ++ report.sent_lines (N.names names.now) 0 all.now) }
+    ensures { OnOk result
+        (string_bytes text.new
+        ≡ string_bytes text.old ++ report.sent_lines (N.names names.now) 0 all.now) }
 {
     for (number, sent) in all.iter().enumerate() {
         append_sent(alloc, text, names, number as u64, sent)?;
@@ -145,7 +155,9 @@ fn append_rest<M: Module, N: Naming>(
     names: &N,
     world: &World<M>,
 ) -> Result<(), NoMemory>
-    ensures { OnOk result (string_bytes text.new ≡ string_bytes text.old ++ report.rest_text (N.names names.now) world.now) }
+    ensures { OnOk result
+        (string_bytes text.new
+        ≡ string_bytes text.old ++ report.rest_text (N.names names.now) world.now) }
 {
     let views = ViewsText {
         names,
@@ -166,7 +178,8 @@ fn append_members<M: Module, N: Naming>(
     world: &World<M>,
 ) -> Result<(), NoMemory>
     ensures { OnOk result (string_bytes text.new
-        ≡ string_bytes text.old ++ report.members_lines (N.names names.now) 0 world.now.deployment.nodes world.now.nodes) }
+        ≡ string_bytes text.old
+        ++ report.members_lines (N.names names.now) 0 world.now.deployment.nodes world.now.nodes) }
 {
     for (node, host) in world.deployment().nodes.as_slice().iter().enumerate() {
         append_member(text, names, world, node as u16, host)?;
@@ -184,7 +197,8 @@ fn append_member<M: Module, N: Naming>(
 ) -> Result<(), NoMemory>
     requires { node < length world.now.nodes }
     ensures { (s : Standing M) → slice_get world.now.nodes node ≡ Some s
-        → OnOk result (string_bytes text.new ≡ string_bytes text.old ++ report.member_at (N.names names.now) node host.now s) }
+        → OnOk result (string_bytes text.new
+        ≡ string_bytes text.old ++ report.member_at (N.names names.now) node host.now s) }
 {
     let Some(troupe) = host.module else {
         return Ok(());

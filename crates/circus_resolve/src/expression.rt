@@ -48,9 +48,13 @@ pub fn resolve<'s>(
     found: &mut Findings,
     expression: &Expression,
 ) -> Result<Resolved<'s>, NoMemory>
-    ensures found { OnOk result (found.new ≡ with_faults found.old (faults.expression_faults (scope_as scope.now) (tree_of expression.now))) }
-    ensures sort { IfOk result (λ r. option_map sort_as r.sort ≡ faults.sort (scope_as scope.now) (tree_of expression.now)) }
-    ensures meant { IfOk result (λ r. checked.tree_of r.tree ≡ meaning.meant (scope_as scope.now) (tree_of expression.now)) }
+    ensures found { OnOk result
+        (found.new ≡ with_faults found.old
+        (faults.expression_faults (scope_as scope.now) (tree_of expression.now))) }
+    ensures sort { IfOk result (λ r.
+        option_map sort_as r.sort ≡ faults.sort (scope_as scope.now) (tree_of expression.now)) }
+    ensures meant { IfOk result (λ r.
+        checked.tree_of r.tree ≡ meaning.meant (scope_as scope.now) (tree_of expression.now)) }
 {
     match &expression.kind {
         ExpressionKind::Binary(operator, left, right) => {
@@ -92,9 +96,15 @@ fn binary<'s>(
     left: &Operand,
     right: &Operand,
 ) -> Result<Resolved<'s>, NoMemory>
-    ensures found { OnOk result (found.new ≡ with_faults found.old (faults.kind_faults (scope_as scope.now) (e.binary operator left.now right.now))) }
-    ensures sort { IfOk result (λ r. option_map sort_as r.sort ≡ faults.kind_sort (scope_as scope.now) (e.binary operator left.now right.now)) }
-    ensures meant { IfOk result (λ r. checked.tree_of r.tree ≡ meaning.kind_meant (scope_as scope.now) (e.binary operator left.now right.now)) }
+    ensures found { OnOk result
+        (found.new ≡ with_faults found.old
+        (faults.kind_faults (scope_as scope.now) (e.binary operator left.now right.now))) }
+    ensures sort { IfOk result (λ r.
+        option_map sort_as r.sort
+        ≡ faults.kind_sort (scope_as scope.now) (e.binary operator left.now right.now)) }
+    ensures meant { IfOk result (λ r.
+        checked.tree_of r.tree
+        ≡ meaning.kind_meant (scope_as scope.now) (e.binary operator left.now right.now)) }
 {
     let one = resolve(alloc, scope, found, left.expression())?;
     let two = resolve(alloc, scope, found, right.expression())?;
@@ -131,7 +141,9 @@ fn joined(
     left: CheckedExpression,
     right: CheckedExpression,
 ) -> Result<CheckedExpression, NoMemory>
-    ensures { IfOk result (λ t. checked.tree_of t ≡ meaning.joined operator (checked.tree_of left) (checked.tree_of right)) }
+    ensures { IfOk result (λ t.
+        checked.tree_of t
+        ≡ meaning.joined operator (checked.tree_of left) (checked.tree_of right)) }
 {
     use CheckedExpression::*;
     let one = CheckedOperand::new(alloc, left)?;
@@ -162,9 +174,14 @@ fn denied<'s>(
     found: &mut Findings,
     operand: &Operand,
 ) -> Result<Resolved<'s>, NoMemory>
-    ensures found { OnOk result (found.new ≡ with_faults found.old (faults.kind_faults (scope_as scope.now) (e.negation operand.now))) }
-    ensures sort { IfOk result (λ r. option_map sort_as r.sort ≡ faults.kind_sort (scope_as scope.now) (e.negation operand.now)) }
-    ensures meant { IfOk result (λ r. checked.tree_of r.tree ≡ meaning.kind_meant (scope_as scope.now) (e.negation operand.now)) }
+    ensures found { OnOk result
+        (found.new ≡ with_faults found.old
+        (faults.kind_faults (scope_as scope.now) (e.negation operand.now))) }
+    ensures sort { IfOk result (λ r.
+        option_map sort_as r.sort
+        ≡ faults.kind_sort (scope_as scope.now) (e.negation operand.now)) }
+    ensures meant { IfOk result (λ r.
+        checked.tree_of r.tree ≡ meaning.kind_meant (scope_as scope.now) (e.negation operand.now)) }
 {
     let one = resolve(alloc, scope, found, operand.expression())?;
     found.want_truth(one.sort, operand.expression().at);
@@ -182,9 +199,13 @@ fn negative<'s>(
     found: &mut Findings,
     operand: &Operand,
 ) -> Result<Resolved<'s>, NoMemory>
-    ensures found { OnOk result (found.new ≡ with_faults found.old (faults.kind_faults (scope_as scope.now) (e.minus operand.now))) }
-    ensures sort { IfOk result (λ r. option_map sort_as r.sort ≡ faults.kind_sort (scope_as scope.now) (e.minus operand.now)) }
-    ensures meant { IfOk result (λ r. checked.tree_of r.tree ≡ meaning.kind_meant (scope_as scope.now) (e.minus operand.now)) }
+    ensures found { OnOk result
+        (found.new ≡ with_faults found.old
+        (faults.kind_faults (scope_as scope.now) (e.minus operand.now))) }
+    ensures sort { IfOk result (λ r.
+        option_map sort_as r.sort ≡ faults.kind_sort (scope_as scope.now) (e.minus operand.now)) }
+    ensures meant { IfOk result (λ r.
+        checked.tree_of r.tree ≡ meaning.kind_meant (scope_as scope.now) (e.minus operand.now)) }
 {
     let one = resolve(alloc, scope, found, operand.expression())?;
     found.want_number(one.sort, operand.expression().at);
@@ -202,9 +223,15 @@ fn length<'s>(
     found: &mut Findings,
     operand: &Operand,
 ) -> Result<Resolved<'s>, NoMemory>
-    ensures found { OnOk result (found.new ≡ with_faults found.old (faults.kind_faults (scope_as scope.now) (e.length_of operand.now))) }
-    ensures sort { IfOk result (λ r. option_map sort_as r.sort ≡ faults.kind_sort (scope_as scope.now) (e.length_of operand.now)) }
-    ensures meant { IfOk result (λ r. checked.tree_of r.tree ≡ meaning.kind_meant (scope_as scope.now) (e.length_of operand.now)) }
+    ensures found { OnOk result
+        (found.new ≡ with_faults found.old
+        (faults.kind_faults (scope_as scope.now) (e.length_of operand.now))) }
+    ensures sort { IfOk result (λ r.
+        option_map sort_as r.sort
+        ≡ faults.kind_sort (scope_as scope.now) (e.length_of operand.now)) }
+    ensures meant { IfOk result (λ r.
+        checked.tree_of r.tree
+        ≡ meaning.kind_meant (scope_as scope.now) (e.length_of operand.now)) }
 {
     let one = resolve(alloc, scope, found, operand.expression())?;
     found.want_length(one.sort, operand.expression().at);
@@ -224,9 +251,15 @@ fn standing_at<'s>(
     operand: &Operand,
     name: &Named,
 ) -> Result<Resolved<'s>, NoMemory>
-    ensures found { OnOk result (found.new ≡ with_faults found.old (faults.kind_faults (scope_as scope.now) (e.is_arm operand.now name.now))) }
-    ensures sort { IfOk result (λ r. option_map sort_as r.sort ≡ faults.kind_sort (scope_as scope.now) (e.is_arm operand.now name.now)) }
-    ensures meant { IfOk result (λ r. checked.tree_of r.tree ≡ meaning.kind_meant (scope_as scope.now) (e.is_arm operand.now name.now)) }
+    ensures found { OnOk result
+        (found.new ≡ with_faults found.old
+        (faults.kind_faults (scope_as scope.now) (e.is_arm operand.now name.now))) }
+    ensures sort { IfOk result (λ r.
+        option_map sort_as r.sort
+        ≡ faults.kind_sort (scope_as scope.now) (e.is_arm operand.now name.now)) }
+    ensures meant { IfOk result (λ r.
+        checked.tree_of r.tree
+        ≡ meaning.kind_meant (scope_as scope.now) (e.is_arm operand.now name.now)) }
 {
     let one = resolve(alloc, scope, found, operand.expression())?;
     let number = found.arm(one.sort, operand.expression().at, name);
@@ -245,9 +278,15 @@ fn label<'s>(
     of: &TypeName,
     name: &Named,
 ) -> Result<Resolved<'s>, NoMemory>
-    ensures found { OnOk result (found.new ≡ with_faults found.old (faults.kind_faults (scope_as scope.now) (e.label of.now name.now))) }
-    ensures sort { IfOk result (λ r. option_map sort_as r.sort ≡ faults.kind_sort (scope_as scope.now) (e.label of.now name.now)) }
-    ensures meant { IfOk result (λ r. checked.tree_of r.tree ≡ meaning.kind_meant (scope_as scope.now) (e.label of.now name.now)) }
+    ensures found { OnOk result
+        (found.new ≡ with_faults found.old
+        (faults.kind_faults (scope_as scope.now) (e.label of.now name.now))) }
+    ensures sort { IfOk result (λ r.
+        option_map sort_as r.sort
+        ≡ faults.kind_sort (scope_as scope.now) (e.label of.now name.now)) }
+    ensures meant { IfOk result (λ r.
+        checked.tree_of r.tree
+        ≡ meaning.kind_meant (scope_as scope.now) (e.label of.now name.now)) }
 {
     let shape = found.named_type(scope, of);
     Ok(Resolved {
@@ -267,9 +306,15 @@ fn arm<'s>(
     name: &Named,
     operand: &Operand,
 ) -> Result<Resolved<'s>, NoMemory>
-    ensures found { OnOk result (found.new ≡ with_faults found.old (faults.kind_faults (scope_as scope.now) (e.arm of.now name.now operand.now))) }
-    ensures sort { IfOk result (λ r. option_map sort_as r.sort ≡ faults.kind_sort (scope_as scope.now) (e.arm of.now name.now operand.now)) }
-    ensures meant { IfOk result (λ r. checked.tree_of r.tree ≡ meaning.kind_meant (scope_as scope.now) (e.arm of.now name.now operand.now)) }
+    ensures found { OnOk result
+        (found.new ≡ with_faults found.old
+        (faults.kind_faults (scope_as scope.now) (e.arm of.now name.now operand.now))) }
+    ensures sort { IfOk result (λ r.
+        option_map sort_as r.sort
+        ≡ faults.kind_sort (scope_as scope.now) (e.arm of.now name.now operand.now)) }
+    ensures meant { IfOk result (λ r.
+        checked.tree_of r.tree
+        ≡ meaning.kind_meant (scope_as scope.now) (e.arm of.now name.now operand.now)) }
 {
     let shape = found.named_type(scope, of);
     let value = resolve(alloc, scope, found, operand.expression())?;
@@ -297,7 +342,8 @@ fn stored(
     shape: Option<&Shape>,
     tree: CheckedExpression,
 ) -> Result<CheckedExpression, NoMemory>
-    ensures { IfOk result (λ t. checked.tree_of t ≡ meaning.stored (shape_as shape.entry) (checked.tree_of tree)) }
+    ensures { IfOk result (λ t.
+        checked.tree_of t ≡ meaning.stored (shape_as shape.entry) (checked.tree_of tree)) }
 {
     let Some(shape) = shape else {
         return Ok(tree);
@@ -318,9 +364,15 @@ fn items_of<'s>(
     of: &TypeName,
     items: &Expressions,
 ) -> Result<Resolved<'s>, NoMemory>
-    ensures found { OnOk result (found.new ≡ with_faults found.old (faults.kind_faults (scope_as scope.now) (e.items of.now (expression_trees items.now)))) }
-    ensures sort { IfOk result (λ r. option_map sort_as r.sort ≡ faults.kind_sort (scope_as scope.now) (e.items of.now (expression_trees items.now))) }
-    ensures meant { IfOk result (λ r. checked.tree_of r.tree ≡ meaning.kind_meant (scope_as scope.now) (e.items of.now (expression_trees items.now))) }
+    ensures found { OnOk result
+        (found.new ≡ with_faults found.old
+        (faults.kind_faults (scope_as scope.now) (e.items of.now (expression_trees items.now)))) }
+    ensures sort { IfOk result (λ r.
+        option_map sort_as r.sort
+        ≡ faults.kind_sort (scope_as scope.now) (e.items of.now (expression_trees items.now))) }
+    ensures meant { IfOk result (λ r.
+        checked.tree_of r.tree
+        ≡ meaning.kind_meant (scope_as scope.now) (e.items of.now (expression_trees items.now))) }
 {
     let shape = found.named_type(scope, of);
     found.count(shape, first_of(of), items.len());
@@ -341,9 +393,15 @@ fn item_for<'s>(
     shape: Option<&Shape>,
     item: &Expression,
 ) -> Result<CheckedExpression, NoMemory>
-    ensures found { OnOk result (found.new ≡ with_faults found.old (faults.expression_faults (scope_as scope.now) (tree_of item.now)
-        ++ faults.wanted_for (shape_as shape.entry) (faults.sort (scope_as scope.now) (tree_of item.now)) item.now.at)) }
-    ensures meant { IfOk result (λ t. checked.tree_of t ≡ meaning.stored (shape_as shape.entry) (meaning.meant (scope_as scope.now) (tree_of item.now))) }
+    ensures found { OnOk result
+        (found.new ≡ with_faults found.old
+        (faults.expression_faults (scope_as scope.now) (tree_of item.now)
+        ++ faults.wanted_for (shape_as shape.entry)
+        (faults.sort (scope_as scope.now) (tree_of item.now)) item.now.at)) }
+    ensures meant { IfOk result (λ t.
+        checked.tree_of t
+        ≡ meaning.stored (shape_as shape.entry)
+        (meaning.meant (scope_as scope.now) (tree_of item.now))) }
 {
     let one = resolve(alloc, scope, found, item)?;
     found.want_for(shape, one.sort, item.at);
@@ -359,8 +417,13 @@ pub fn resolve_each<'s>(
     slots: Slots<'_>,
     items: &Expressions,
 ) -> Result<CheckedExpressions, NoMemory>
-    ensures found { OnOk result (found.new ≡ with_faults found.old (faults.each_faults (scope_as scope.now) (slots_as slots.entry) 0 (expression_trees items.now))) }
-    ensures meant { IfOk result (λ trees. trees ≡ meaning.each_meant (scope_as scope.now) (slots_as slots.entry) 0 (expression_trees items.now)) }
+    ensures found { OnOk result
+        (found.new ≡ with_faults found.old
+        (faults.each_faults (scope_as scope.now) (slots_as slots.entry) 0
+        (expression_trees items.now))) }
+    ensures meant { IfOk result (λ trees.
+        trees ≡ meaning.each_meant (scope_as scope.now) (slots_as slots.entry) 0
+        (expression_trees items.now)) }
 {
     let mut trees = CheckedExpressions::new(alloc);
     for (place, item) in items.as_slice().iter().enumerate() {
@@ -377,9 +440,18 @@ fn read<'s>(
     found: &mut Findings,
     place: &PlaceText,
 ) -> Result<Resolved<'s>, NoMemory>
-    ensures found { OnOk result (found.new ≡ with_faults found.old (faults.kind_faults (scope_as scope.now) (e.read place.now.name (suffix_trees place.now.suffixes)))) }
-    ensures sort { IfOk result (λ r. option_map sort_as r.sort ≡ faults.kind_sort (scope_as scope.now) (e.read place.now.name (suffix_trees place.now.suffixes))) }
-    ensures meant { IfOk result (λ r. checked.tree_of r.tree ≡ meaning.kind_meant (scope_as scope.now) (e.read place.now.name (suffix_trees place.now.suffixes))) }
+    ensures found { OnOk result
+        (found.new ≡ with_faults found.old
+        (faults.kind_faults (scope_as scope.now)
+        (e.read place.now.name (suffix_trees place.now.suffixes)))) }
+    ensures sort { IfOk result (λ r.
+        option_map sort_as r.sort
+        ≡ faults.kind_sort (scope_as scope.now)
+        (e.read place.now.name (suffix_trees place.now.suffixes))) }
+    ensures meant { IfOk result (λ r.
+        checked.tree_of r.tree
+        ≡ meaning.kind_meant (scope_as scope.now)
+        (e.read place.now.name (suffix_trees place.now.suffixes))) }
 {
     let one = resolve_place(alloc, scope, found, place)?;
     Ok(Resolved {
@@ -396,9 +468,13 @@ pub fn resolve_place<'s>(
     found: &mut Findings,
     place: &PlaceText,
 ) -> Result<ResolvedPlace<'s>, NoMemory>
-    ensures found { OnOk result (found.new ≡ with_faults found.old (faults.place_faults (scope_as scope.now) (place_of place.now))) }
-    ensures shape { IfOk result (λ r. shape_as r.shape ≡ faults.place_shape (scope_as scope.now) (place_of place.now)) }
-    ensures meant { IfOk result (λ r. r.place ≡ meaning.place_meant (scope_as scope.now) (place_of place.now)) }
+    ensures found { OnOk result
+        (found.new ≡ with_faults found.old
+        (faults.place_faults (scope_as scope.now) (place_of place.now))) }
+    ensures shape { IfOk result (λ r.
+        shape_as r.shape ≡ faults.place_shape (scope_as scope.now) (place_of place.now)) }
+    ensures meant { IfOk result (λ r.
+        r.place ≡ meaning.place_meant (scope_as scope.now) (place_of place.now)) }
 {
     // Whether a fault stands in this place is asked of the place alone.
     let earlier = found.any;
@@ -441,9 +517,15 @@ fn suffixes_of<'s>(
     shape: Option<&'s Shape>,
     suffixes: &Suffixes,
 ) -> Result<Led<'s>, NoMemory>
-    ensures found { OnOk result (found.new ≡ with_faults found.old (faults.suffix_faults (scope_as scope.now) first (shape_as shape.entry) (suffix_trees suffixes.now))) }
-    ensures shape { IfOk result (λ r. shape_as r.shape ≡ faults.led (shape_as shape.entry) (suffix_trees suffixes.now)) }
-    ensures meant { IfOk result (λ r. r.suffixes ≡ meaning.suffixes_meant (scope_as scope.now) (shape_as shape.entry) (suffix_trees suffixes.now)) }
+    ensures found { OnOk result
+        (found.new ≡ with_faults found.old
+        (faults.suffix_faults (scope_as scope.now) first (shape_as shape.entry)
+        (suffix_trees suffixes.now))) }
+    ensures shape { IfOk result (λ r.
+        shape_as r.shape ≡ faults.led (shape_as shape.entry) (suffix_trees suffixes.now)) }
+    ensures meant { IfOk result (λ r.
+        r.suffixes ≡ meaning.suffixes_meant (scope_as scope.now) (shape_as shape.entry)
+        (suffix_trees suffixes.now)) }
 {
     let mut led = Led {
         suffixes: CheckedSuffixes::new(alloc),
@@ -469,9 +551,14 @@ fn step<'s>(
     shape: Option<&'s Shape>,
     suffix: &Suffix,
 ) -> Result<(CheckedSuffix, Option<&'s Shape>), NoMemory>
-    ensures found { OnOk result (found.new ≡ with_faults found.old (step_faults (scope_as scope.now) first (shape_as shape.entry) (suffix_of suffix.now))) }
-    ensures shape { IfOk result (λ r. shape_as r.1 ≡ step_shape (shape_as shape.entry) (suffix_of suffix.now)) }
-    ensures meant { IfOk result (λ r. checked.suffix_of r.0 ≡ step_meant (scope_as scope.now) (shape_as shape.entry) (suffix_of suffix.now)) }
+    ensures found { OnOk result
+        (found.new ≡ with_faults found.old
+        (step_faults (scope_as scope.now) first (shape_as shape.entry) (suffix_of suffix.now))) }
+    ensures shape { IfOk result (λ r.
+        shape_as r.1 ≡ step_shape (shape_as shape.entry) (suffix_of suffix.now)) }
+    ensures meant { IfOk result (λ r.
+        checked.suffix_of r.0
+        ≡ step_meant (scope_as scope.now) (shape_as shape.entry) (suffix_of suffix.now)) }
 {
     match suffix {
         Suffix::Field(name) => Ok(found.field(first, shape, name)),

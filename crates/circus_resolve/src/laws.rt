@@ -18,6 +18,8 @@ pub fn same_is_equal()
 /// An expression without a fault means one that is well formed, by the shapes of the variables, and gives what is said
 /// of it.
 pub fn faultless_is_well_formed()
-    ensures { (variables : List ShapeTree) (scope : Scope) → IsWhole variables scope → (e : ExpressionTree) → IsOfBytes e
-        → expression_faults scope e ≡ [] → (s : Sort) × (sort scope e ≡ Some s) × Has variables (meant scope e) s }
+    ensures { (variables : List ShapeTree) (scope : Scope) → IsWhole variables scope
+        → (e : ExpressionTree) → IsOfBytes e
+        → expression_faults scope e ≡ []
+        → (s : Sort) × (sort scope e ≡ Some s) × Has variables (meant scope e) s }
 {}

@@ -35,7 +35,8 @@ pub fn first_of(of: &TypeName) -> u32
 impl Findings {
     /// The shape that the name of a type stands for, where it stands for one.
     pub fn named_type<'s>(&mut self, scope: &Scope<'s, '_, '_>, of: &TypeName) -> Option<&'s Shape>
-        ensures found { self.new ≡ with_faults self.old (faults.type_faults (scope_as scope.now) of.now) }
+        ensures found { self.new
+            ≡ with_faults self.old (faults.type_faults (scope_as scope.now) of.now) }
         ensures shape { shape_as result ≡ faults.type_shape (scope_as scope.now) of.now }
     {
         match scope.standing(of) {
@@ -54,8 +55,11 @@ impl Findings {
 
     /// The number of an arm of what stands at the place, or 0 where it has none of this name.
     pub fn arm(&mut self, sort: Option<Sort<'_>>, at: u32, name: &Named) -> u16
-        ensures found { self.new ≡ with_faults self.old (faults.arm_faults (option_map sort_as sort.entry) at name.now) }
-        ensures number { result ≡ meaning.arm_number (meaning.arm_in (meaning.shape_in (option_map sort_as sort.entry)) name.now.name) }
+        ensures found { self.new
+            ≡ with_faults self.old (faults.arm_faults (option_map sort_as sort.entry) at name.now) }
+        ensures number { result
+            ≡ meaning.arm_number
+            (meaning.arm_in (meaning.shape_in (option_map sort_as sort.entry)) name.now.name) }
     {
         let Some(sort) = sort else {
             return 0;
@@ -74,7 +78,8 @@ impl Findings {
 
     /// As many items as the type at the place asks for, where its shape is known.
     pub fn count(&mut self, shape: Option<&Shape>, at: u32, count: usize)
-        ensures { self.new ≡ with_faults self.old (faults.count_faults (shape_as shape.entry) at count) }
+        ensures { self.new
+            ≡ with_faults self.old (faults.count_faults (shape_as shape.entry) at count) }
     {
         match shape {
             None => {}
@@ -100,8 +105,12 @@ impl Findings {
         sort: Option<Sort<'_>>,
         value_at: u32,
     ) -> Option<ArmFound<'s>>
-        ensures found { self.new ≡ with_faults self.old (faults.filled_faults (shape_as shape.entry) at name.now (option_map sort_as sort.entry) value_at) }
-        ensures arm { option_map arm_as result ≡ meaning.arm_in (shape_as shape.entry) name.now.name }
+        ensures found { self.new
+            ≡ with_faults self.old
+            (faults.filled_faults (shape_as shape.entry) at name.now
+            (option_map sort_as sort.entry) value_at) }
+        ensures arm { option_map arm_as result
+            ≡ meaning.arm_in (shape_as shape.entry) name.now.name }
     {
         match shape {
             None => None,
@@ -134,7 +143,10 @@ impl Findings {
         sort: Option<Sort<'_>>,
         value_at: u32,
     )
-        ensures { self.new ≡ with_faults self.old (faults.filled_arm_faults (option_map arm_as arm.entry) at name.now (option_map sort_as sort.entry) value_at) }
+        ensures { self.new
+            ≡ with_faults self.old
+            (faults.filled_arm_faults (option_map arm_as arm.entry) at name.now
+            (option_map sort_as sort.entry) value_at) }
     {
         match arm {
             None => self.note(true, name.at, CheckCause::Unknown),
@@ -150,9 +162,12 @@ impl Findings {
         shape: Option<&'s Shape>,
         name: &Named,
     ) -> (CheckedSuffix, Option<&'s Shape>)
-        ensures found { self.new ≡ with_faults self.old (faults.field_faults first (shape_as shape.entry) name.now) }
-        ensures step { checked.suffix_of result.0 ≡ meaning.field_meant (shape_as shape.entry) name.now.name }
-        ensures shape { shape_as result.1 ≡ faults.field_shape (shape_as shape.entry) name.now.name }
+        ensures found { self.new
+            ≡ with_faults self.old (faults.field_faults first (shape_as shape.entry) name.now) }
+        ensures step { checked.suffix_of result.0
+            ≡ meaning.field_meant (shape_as shape.entry) name.now.name }
+        ensures shape { shape_as result.1
+            ≡ faults.field_shape (shape_as shape.entry) name.now.name }
     {
         match shape {
             None => (CheckedSuffix::Field(0), None),
@@ -184,7 +199,8 @@ impl Findings {
 
     /// The shape of the items of what a subscript stands behind, in a place that begins there.
     pub fn item<'s>(&mut self, first: u32, shape: Option<&'s Shape>) -> Option<&'s Shape>
-        ensures found { self.new ≡ with_faults self.old (faults.item_faults first (shape_as shape.entry)) }
+        ensures found { self.new
+            ≡ with_faults self.old (faults.item_faults first (shape_as shape.entry)) }
         ensures shape { shape_as result ≡ faults.element_for (shape_as shape.entry) }
     {
         let shape = shape?;
@@ -202,8 +218,11 @@ pub fn label_of(
     at: u32,
     name: &Named,
 ) -> Result<CheckedExpression, NoMemory>
-    ensures found { OnOk result (found.new ≡ with_faults found.old (faults.label_faults (shape_as shape.entry) at name.now)) }
-    ensures meant { IfOk result (λ t. checked.tree_of t ≡ meaning.label_meant (shape_as shape.entry) name.now.name) }
+    ensures found { OnOk result
+        (found.new ≡ with_faults found.old
+        (faults.label_faults (shape_as shape.entry) at name.now)) }
+    ensures meant { IfOk result (λ t.
+        checked.tree_of t ≡ meaning.label_meant (shape_as shape.entry) name.now.name) }
 {
     match shape {
         None => Ok(CheckedExpression::Label(0)),
@@ -218,8 +237,11 @@ pub fn label_of(
 
 // A label of an enumeration.
 fn enumerator(found: &mut Findings, labels: &Labels, name: &Named) -> CheckedExpression
-    ensures found { found.new ≡ with_faults found.old (faults_if (is_none (named.label_named labels.now name.now.name)) name.now.at Unknown) }
-    ensures meant { checked.tree_of result ≡ label (unwrap_or (named.label_named labels.now name.now.name) 0) }
+    ensures found { found.new
+        ≡ with_faults found.old
+        (faults_if (is_none (named.label_named labels.now name.now.name)) name.now.at Unknown) }
+    ensures meant { checked.tree_of result
+        ≡ label (unwrap_or (named.label_named labels.now name.now.name) 0) }
 {
     let number = label_named(labels, name.name.as_slice());
     found.note(number.is_none(), name.at, CheckCause::Unknown);
@@ -234,8 +256,14 @@ fn empty_arm(
     at: u32,
     name: &Named,
 ) -> Result<CheckedExpression, NoMemory>
-    ensures found { OnOk result (found.new ≡ with_faults found.old (faults.empty_arm_faults (named.arm_named (arm_trees arms.now) name.now.name) at name.now)) }
-    ensures meant { IfOk result (λ t. checked.tree_of t ≡ arm (meaning.arm_number (named.arm_named (arm_trees arms.now) name.now.name)) (items Record no_expressions)) }
+    ensures found { OnOk result
+        (found.new ≡ with_faults found.old
+        (faults.empty_arm_faults
+        (named.arm_named (arm_trees arms.now) name.now.name) at name.now)) }
+    ensures meant { IfOk result (λ t.
+        checked.tree_of t
+        ≡ arm (meaning.arm_number (named.arm_named (arm_trees arms.now) name.now.name))
+        (items Record no_expressions)) }
 {
     let number = match arm_named(arms, name.name.as_slice()) {
         Some(arm) => {

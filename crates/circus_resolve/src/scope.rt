@@ -99,7 +99,8 @@ impl<'s, 'm, 't> Scope<'s, 'm, 't> {
 
 // What a name stands for among types that may be unknown.
 fn standing_in<'s, 't>(types: Option<&'s Types<'t>>, name: &[u8]) -> Standing<'s>
-    ensures { standing_as result ≡ known_types (option_map (λ known. type_in known.now) types.entry) name.now }
+    ensures { standing_as result
+        ≡ known_types (option_map (λ known. type_in known.now) types.entry) name.now }
 {
     match types {
         Some(types) => types.standing(name),

@@ -19,7 +19,9 @@ impl Findings {
 
     /// A truth value is wanted of what stands at the place.
     pub fn want_truth(&mut self, sort: Option<Sort<'_>>, at: u32)
-        ensures { self.new ≡ with_faults self.old (faults.wanted passing.is_truth (option_map sort_as sort.entry) at) }
+        ensures { self.new
+            ≡ with_faults self.old
+            (faults.wanted passing.is_truth (option_map sort_as sort.entry) at) }
     {
         if let Some(sort) = sort {
             self.want(sort.is_truth(), at);
@@ -28,7 +30,9 @@ impl Findings {
 
     /// A number.
     pub fn want_number(&mut self, sort: Option<Sort<'_>>, at: u32)
-        ensures { self.new ≡ with_faults self.old (faults.wanted passing.is_number (option_map sort_as sort.entry) at) }
+        ensures { self.new
+            ≡ with_faults self.old
+            (faults.wanted passing.is_number (option_map sort_as sort.entry) at) }
     {
         if let Some(sort) = sort {
             self.want(sort.is_number(), at);
@@ -37,7 +41,9 @@ impl Findings {
 
     /// A text.
     pub fn want_text(&mut self, sort: Option<Sort<'_>>, at: u32)
-        ensures { self.new ≡ with_faults self.old (faults.wanted passing.is_text (option_map sort_as sort.entry) at) }
+        ensures { self.new
+            ≡ with_faults self.old
+            (faults.wanted passing.is_text (option_map sort_as sort.entry) at) }
     {
         if let Some(sort) = sort {
             self.want(sort.is_text(), at);
@@ -46,7 +52,9 @@ impl Findings {
 
     /// A text or a sequence.
     pub fn want_length(&mut self, sort: Option<Sort<'_>>, at: u32)
-        ensures { self.new ≡ with_faults self.old (faults.wanted passing.has_length (option_map sort_as sort.entry) at) }
+        ensures { self.new
+            ≡ with_faults self.old
+            (faults.wanted passing.has_length (option_map sort_as sort.entry) at) }
     {
         if let Some(sort) = sort {
             self.want(sort.has_length(), at);
@@ -55,7 +63,9 @@ impl Findings {
 
     /// A value that goes where the shape is, where that is known.
     pub fn want_for(&mut self, shape: Option<&Shape>, sort: Option<Sort<'_>>, at: u32)
-        ensures { self.new ≡ with_faults self.old (faults.wanted_for (shape_as shape.entry) (option_map sort_as sort.entry) at) }
+        ensures { self.new
+            ≡ with_faults self.old
+            (faults.wanted_for (shape_as shape.entry) (option_map sort_as sort.entry) at) }
     {
         if let (Some(shape), Some(sort)) = (shape, sort) {
             self.want(sort.goes_into(shape), at);
@@ -64,7 +74,9 @@ impl Findings {
 
     /// Two of one sort.
     pub fn want_alike(&mut self, one: Option<Sort<'_>>, two: Option<Sort<'_>>, at: u32)
-        ensures { self.new ≡ with_faults self.old (faults.wanted_alike (option_map sort_as one.entry) (option_map sort_as two.entry) at) }
+        ensures { self.new
+            ≡ with_faults self.old
+            (faults.wanted_alike (option_map sort_as one.entry) (option_map sort_as two.entry) at) }
     {
         if let (Some(one), Some(two)) = (one, two) {
             self.want(one.is_like(two), at);
@@ -80,7 +92,10 @@ impl Findings {
         two: Option<Sort<'_>>,
         two_at: u32,
     )
-        ensures { self.new ≡ with_faults self.old (faults.operand_faults operator (option_map sort_as one.entry) one_at (option_map sort_as two.entry) two_at) }
+        ensures { self.new
+            ≡ with_faults self.old
+            (faults.operand_faults operator (option_map sort_as one.entry) one_at
+            (option_map sort_as two.entry) two_at) }
     {
         match operator {
             Operator::Or | Operator::And => {

@@ -16,9 +16,11 @@ ghost use Rattle.circus_ring.specs.TableFields.{tables, table_fields, IsTableRea
 
 /// A request is answered with the view that its troupe has afterwards, and changes no other view.
 pub fn answers_show_the_views()
-    ensures shown { (troupes : List Members) (requests : List Asked) (request : Asked) (table : Answer)
+    ensures shown { (troupes : List Members) (requests : List Asked) (request : Asked)
+        (table : Answer)
         → answer_after troupes requests request ≡ Some table
-        → slice_get (kept_after troupes (requests ++ request ∷ [])).views (troupe_of request) ≡ Some table.view }
+        → slice_get (kept_after troupes (requests ++ request ∷ [])).views (troupe_of request)
+        ≡ Some table.view }
     ensures others { (troupes : List Members) (requests : List Asked) (request : Asked) (number : ℕ)
         → number ≢ troupe_of request
         → slice_get (kept_after troupes (requests ++ request ∷ [])).views number
@@ -29,25 +31,29 @@ pub fn answers_show_the_views()
 /// troupe, an incarnation from 1 to 4,294,967,295, and at most 16 entries, which are different nodes and each a
 /// founder or a spare.
 pub fn views_are_of_their_troupes()
-    ensures views { (troupes : List Members) (requests : List Asked) (place : ℕ) (troupe : Members) (view : Known)
+    ensures views { (troupes : List Members) (requests : List Asked) (place : ℕ) (troupe : Members)
+        (view : Known)
         → slice_get troupes place ≡ Some troupe → IsBootable troupe
         → slice_get (kept_after troupes requests).views place ≡ Some view
         → IsViewOf place troupe view }
 
     // The troupes of a deployment are such troupes.
     ensures deployed { (deployment : Deployed) (place : ℕ) (troupe : Members)
-        → IsDeployment deployment → slice_get deployment.troupes place ≡ Some troupe → IsBootable troupe }
+        → IsDeployment deployment → slice_get deployment.troupes place ≡ Some troupe
+        → IsBootable troupe }
 {}
 
 /// Bytes are read as one table or refused at one place, but for want of memory.
 pub fn one_table()
-    ensures { (bytes : List ℕ) (a b : Result Answer Fault) → IsTableRead bytes a → IsTableRead bytes b
+    ensures { (bytes : List ℕ) (a b : Result Answer Fault) → IsTableRead bytes a
+        → IsTableRead bytes b
         → a ≢ Err NoMemory → b ≢ Err NoMemory → a ≡ b }
 {}
 
 /// The bytes of a table are read as that table, but for want of memory.
 pub fn tables_are_read()
-    ensures { (table : Answer) (a : Result Answer Fault) → IsOne tables table → IsTableRead (bytes_of (table_fields table)) a
+    ensures { (table : Answer) (a : Result Answer Fault) → IsOne tables table
+        → IsTableRead (bytes_of (table_fields table)) a
         → a ≢ Err NoMemory → a ≡ Ok table }
 {}
 

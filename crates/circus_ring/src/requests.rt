@@ -20,7 +20,8 @@ pub fn answered(
     view: &View,
     request: &Request,
 ) -> Result<Table, NoMemory>
-    ensures { IfOk result (λ table. table ≡ ring_table.table_for troupe.now.root troupe.now.spares view.now request.now) }
+    ensures { IfOk result (λ table.
+        table ≡ ring_table.table_for troupe.now.root troupe.now.spares view.now request.now) }
 {
     let result = taken(troupe, view, request);
     let view = match result {
@@ -99,7 +100,8 @@ fn has_waiting(view: &View, node: u16) -> bool
 
 #[tactic(auto, using(circus_collate::proofs::Going::map_more, circus_collate::proofs::Going::map_all))]
 fn active_entries(alloc: Global, view: &View, node: u16, count: u32) -> Result<Entries, NoMemory>
-    ensures { IfOk result (λ entries. entries ≡ map (ring_table.active node count) view.now.entries) }
+    ensures { IfOk result (λ entries.
+        entries ≡ map (ring_table.active node count) view.now.entries) }
 {
     let mut entries = ListOf::new(alloc);
     for entry in view.entries.as_slice() {

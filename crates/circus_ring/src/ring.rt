@@ -63,9 +63,11 @@ impl Ring {
     /// made, and the views are unchanged.
     pub fn perform(&mut self, request: &Request) -> Result<Table, NoMemory>
         requires { ring_table.troupe_of request.now < length self.old.troupes }
-        ensures answer { (troupes : List Members) (requests : List Asked) → self.old ≡ kept_after troupes requests
+        ensures answer { (troupes : List Members) (requests : List Asked)
+            → self.old ≡ kept_after troupes requests
             → IfOk result (λ table. answer_after troupes requests request.now ≡ Some table) }
-        ensures added { (troupes : List Members) (requests : List Asked) → self.old ≡ kept_after troupes requests
+        ensures added { (troupes : List Members) (requests : List Asked)
+            → self.old ≡ kept_after troupes requests
             → OnOk result (self.new ≡ kept_after troupes (requests ++ request.now ∷ [])) }
         ensures troupes { self.new.troupes ≡ self.old.troupes }
         ensures refused { OnErr result (self.new ≡ self.old) }

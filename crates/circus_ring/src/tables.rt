@@ -70,7 +70,8 @@ fn result_number(taken: RingResult) -> u16
 }
 
 fn push_entries(entries: &[Entry], out: &mut Message) -> Result<(), NoMemory>
-    ensures { OnOk result (Written out.old (flat_map table_fields.entry_fields entries.now) out.new) }
+    ensures { OnOk result
+        (Written out.old (flat_map table_fields.entry_fields entries.now) out.new) }
 {
     for entry in entries {
         push_entry(entry, out)?;

@@ -15,7 +15,8 @@ use circus_model::Module;
 /// A sample is what a schedule leaves: the lines that are drawn, as many as were asked for, each of which may be stepped. What
 /// holds of worlds that lines lead to holds of it.
 pub fn samples_are_schedules<M: Module>()
-    ensures { (steps word : ℕ) (world last : WorldState M) → IsUntouched world → 1 ≤ length world.nodes
+    ensures { (steps word : ℕ) (world last : WorldState M) → IsUntouched world
+        → 1 ≤ length world.nodes
         → sampled M.declared M.turn steps word world ≡ Ok last
         → (length (lines_drawn M.declared M.turn steps word world) ≡ steps)
         × Lead M.declared M.turn (lines_drawn M.declared M.turn steps word world) world last }
@@ -30,7 +31,8 @@ pub fn samples_depend_on_behaviours<M: Module>()
         → lines_drawn declared_of turn_of steps word (world_as M.declared M.turn M.first world)
         ≡ lines_drawn M.declared M.turn steps word world }
     ensures texts { (names : Names) (steps : ℕ) (world : WorldState M)
-        → summary names steps (world_as M.declared M.turn M.first world) ≡ summary names steps world }
+        → summary names steps (world_as M.declared M.turn M.first world)
+        ≡ summary names steps world }
 {}
 
 /// A world that has just booted is untouched, and no line was stepped in it.

@@ -19,7 +19,8 @@ pub fn show_sample<M: Module>(
     steps: u32,
 ) -> Result<Octets, NoMemory>
     requires { All (λ h. IsAscii (host_name h)) world.now.deployment.nodes }
-    ensures { IfOk result (λ text. text ≡ summary (names_of world.now.deployment.nodes []) steps world.now) }
+    ensures { IfOk result (λ text.
+        text ≡ summary (names_of world.now.deployment.nodes []) steps world.now) }
 {
     let names = ProgramNames::new(world.deployment().nodes.as_slice(), &[]);
     let sent = world.sent().len();
@@ -39,7 +40,8 @@ fn append_count<M: Module, N: Naming>(
 ) -> Result<(), NoMemory>
     requires { node < length world.now.nodes }
     ensures { (s : Standing M) → slice_get world.now.nodes node ≡ Some s
-        → OnOk result (string_bytes text.new ≡ string_bytes text.old ++ count_at (N.names names.now) node s) }
+        → OnOk result (string_bytes text.new
+        ≡ string_bytes text.old ++ count_at (N.names names.now) node s) }
 {
     let Some(kept) = world.kept(node) else {
         return Ok(());

@@ -32,7 +32,9 @@ fn read_decimal(text: &[u8]) -> Option<u64>
 
 // The first byte is no sign, and a zero only where it is the only byte.
 fn begins_as_decimal(text: &[u8]) -> bool
-    ensures { IsTrue result ↔ (0 < length text.now) × (slice_index text.now 0 ≢ PLUS) × (slice_index text.now 0 ≡ ZERO → length text.now ≡ 1) }
+    ensures { IsTrue result
+        ↔ (0 < length text.now) × (slice_index text.now 0 ≢ PLUS)
+        × (slice_index text.now 0 ≡ ZERO → length text.now ≡ 1) }
 {
     match text {
         [] | [PLUS, ..] => false,

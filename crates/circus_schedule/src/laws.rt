@@ -26,7 +26,8 @@ pub fn one_answer()
 pub fn written_is_read()
     ensures { (numbers : Numbers) (text : List ℕ) (lines : List Line)
         → AreReadAs numbers (lines_of text) lines
-        ↔ ((written : List WrittenLine) × IsWrittenAs text written × StandFor numbers written lines) }
+        ↔ ((written : List WrittenLine) × IsWrittenAs text written
+        × StandFor numbers written lines) }
 {}
 
 /// Each node of a deployment has a name that a line may have, and is found by it.
@@ -39,8 +40,10 @@ pub fn nodes_are_named()
 /// The text of lines is read as these lines: of at most 200,000 that ask for nodes of the deployment alone, where nodes are
 /// called by their names, and numbers of datagrams are below 2 to the 64th.
 pub fn lines_are_read_back()
-    ensures { (deployment : Deployment) (called : ℕ → List ℕ) (lines : List Line) → IsDeployment deployment
+    ensures { (deployment : Deployment) (called : ℕ → List ℕ) (lines : List Line)
+        → IsDeployment deployment
         → AreCalled deployment.nodes called
-        → All (NamesBelow (length deployment.nodes)) lines → All IsShort lines → length lines ≤ most_lines
+        → All (NamesBelow (length deployment.nodes)) lines → All IsShort lines
+        → length lines ≤ most_lines
         → IsAnswer (numbers_of deployment.nodes) (lines_text called lines) (Ok lines) }
 {}

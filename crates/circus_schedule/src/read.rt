@@ -31,10 +31,12 @@ pub fn read_schedule(
     deployment: &Deployment,
 ) -> Result<Lines, ScheduleFault>
     requires { length deployment.now.nodes ≤ 2 ^ 16 }
-    ensures answer { (result ≡ Err ScheduleFault.NoMemory) ⊎ IsAnswer (numbers_of deployment.now.nodes) bytes.now result }
+    ensures answer { (result ≡ Err ScheduleFault.NoMemory)
+        ⊎ IsAnswer (numbers_of deployment.now.nodes) bytes.now result }
 
     // A text has one answer, so no other is given unless memory runs out.
-    ensures only { (answer : Result (List Line) ScheduleFault) → IsAnswer (numbers_of deployment.now.nodes) bytes.now answer
+    ensures only { (answer : Result (List Line) ScheduleFault)
+        → IsAnswer (numbers_of deployment.now.nodes) bytes.now answer
         → (result ≡ answer) ⊎ (result ≡ Err ScheduleFault.NoMemory) }
 
     // Each line asks for nodes of the deployment alone.
@@ -45,7 +47,8 @@ pub fn read_schedule(
 }
 
 fn read_lines(alloc: Global, bytes: &[u8], numbers: &NodeNumbers) -> Result<Lines, ScheduleFault>
-    ensures { (result ≡ Err ScheduleFault.NoMemory) ⊎ IsAnswer (number_in numbers.now) bytes.now result }
+    ensures { (result ≡ Err ScheduleFault.NoMemory)
+        ⊎ IsAnswer (number_in numbers.now) bytes.now result }
 {
     let mut lines = Lines::new(alloc);
     let mut number = 0;
@@ -77,8 +80,10 @@ fn read_line(
     text: &[u8],
     numbers: &NodeNumbers,
 ) -> Result<Line, ScheduleFault>
-    ensures ok { IfOk result (λ line. (number ≤ most_lines) × IsReadAs (number_in numbers.now) text.now line) }
-    ensures err { IfErr result (λ fault. (fault ≡ ScheduleFault.NoMemory) ⊎ HasFault (number_in numbers.now) number text.now fault) }
+    ensures ok { IfOk result (λ line.
+        (number ≤ most_lines) × IsReadAs (number_in numbers.now) text.now line) }
+    ensures err { IfErr result (λ fault.
+        (fault ≡ ScheduleFault.NoMemory) ⊎ HasFault (number_in numbers.now) number text.now fault) }
 {
     if number > MOST_LINES {
         return Err(ScheduleFault::TooManyLines(number));
@@ -94,8 +99,10 @@ fn read_line(
 
 // The line with numbers for names, or the first name that no node has.
 fn line_of<'a>(written: &Written<'a>, numbers: &NodeNumbers) -> Result<Line, &'a [u8]>
-    ensures ok { IfOk result (λ line. line_of (number_in numbers.now) (written_as written.now) ≡ Some line) }
-    ensures err { IfErr result (λ name. first_unknown (number_in numbers.now) (names_in (written_as written.now)) ≡ Some name.now) }
+    ensures ok { IfOk result (λ line.
+        line_of (number_in numbers.now) (written_as written.now) ≡ Some line) }
+    ensures err { IfErr result (λ name.
+        first_unknown (number_in numbers.now) (names_in (written_as written.now)) ≡ Some name.now) }
 {
     match *written {
         Written::Deliver(number) => Ok(Line::Deliver(number)),
@@ -111,13 +118,15 @@ fn line_of<'a>(written: &Written<'a>, numbers: &NodeNumbers) -> Result<Line, &'a
 // The number of the node of this name, or the name where there is none.
 fn number_of<'a>(name: &'a [u8], numbers: &NodeNumbers) -> Result<u16, &'a [u8]>
     ensures ok { IfOk result (λ number. number_in numbers.now name.now ≡ Some number) }
-    ensures err { IfErr result (λ unknown. (number_in numbers.now name.now ≡ None) × (unknown.now ≡ name.now)) }
+    ensures err { IfErr result (λ unknown.
+        (number_in numbers.now name.now ≡ None) × (unknown.now ≡ name.now)) }
 {
     numbers.get(name).ok_or(name)
 }
 
 fn unknown_node(alloc: Global, number: u32, name: &[u8]) -> ScheduleFault
-    ensures { (result ≡ ScheduleFault.NoMemory) ⊎ (result ≡ ScheduleFault.UnknownNode number name.now) }
+    ensures { (result ≡ ScheduleFault.NoMemory)
+        ⊎ (result ≡ ScheduleFault.UnknownNode number name.now) }
 {
     let mut copy = Name::new(alloc);
     match copy.append(name) {

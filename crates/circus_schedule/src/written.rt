@@ -57,29 +57,37 @@ pub fn written_line(text: &[u8]) -> Option<Written<'_>>
 
 // What stands behind the text's beginning, where it begins so.
 fn behind<'a>(beginning: &[u8], text: &'a [u8]) -> Option<&'a [u8]>
-    ensures { MatchOption result ((rest : List ℕ) → text.now ≢ beginning.now ++ rest) (λ rest. text.now ≡ beginning.now ++ rest.now) }
+    ensures { MatchOption result ((rest : List ℕ) → text.now ≢ beginning.now ++ rest) (λ rest.
+        text.now ≡ beginning.now ++ rest.now) }
 {
     text.strip_prefix(beginning)
 }
 
 fn number_behind(beginning: &[u8], text: &[u8]) -> Option<u64>
     ensures some { IfSome result (λ number. text.now ≡ beginning.now ++ decimal number) }
-    ensures none { IfNone result ((number : ℕ) → number < 2 ^ 64 → text.now ≢ beginning.now ++ decimal number) }
+    ensures none { IfNone result
+        ((number : ℕ) → number < 2 ^ 64 → text.now ≢ beginning.now ++ decimal number) }
 {
     decimal_at_most(behind(beginning, text)?, u64::MAX)
 }
 
 fn name_behind<'a>(beginning: &[u8], text: &'a [u8]) -> Option<&'a [u8]>
-    ensures some { IfSome result (λ name. (text.now ≡ beginning.now ++ name.now) × IsName name.now) }
-    ensures none { IfNone result ((name : List ℕ) → IsName name → text.now ≢ beginning.now ++ name) }
+    ensures some { IfSome result (λ name.
+        (text.now ≡ beginning.now ++ name.now) × IsName name.now) }
+    ensures none { IfNone result
+        ((name : List ℕ) → IsName name → text.now ≢ beginning.now ++ name) }
 {
     let name = behind(beginning, text)?;
     if is_name(name) { Some(name) } else { None }
 }
 
 fn names_behind<'a>(beginning: &[u8], text: &'a [u8]) -> Option<(&'a [u8], &'a [u8])>
-    ensures some { IfSome result (λ names. (text.now ≡ beginning.now ++ (names.0.now ++ SPACE ∷ names.1.now)) × IsName names.0.now × IsName names.1.now) }
-    ensures none { IfNone result ((first second : List ℕ) → IsName first → IsName second → text.now ≢ beginning.now ++ (first ++ SPACE ∷ second)) }
+    ensures some { IfSome result (λ names.
+        (text.now ≡ beginning.now ++ (names.0.now ++ SPACE ∷ names.1.now)) × IsName names.0.now
+        × IsName names.1.now) }
+    ensures none { IfNone result
+        ((first second : List ℕ) → IsName first → IsName second
+        → text.now ≢ beginning.now ++ (first ++ SPACE ∷ second)) }
 {
     let (first, second) = cut_at(SPACE, behind(beginning, text)?)?;
     if are_names(first, second) {

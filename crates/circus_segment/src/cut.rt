@@ -49,7 +49,8 @@ impl Cut<'_> {
 
     /// The datagram of one segment.
     pub fn datagram(&self, alloc: Global, control: u8, number: u16) -> Result<Message, NoMemory>
-        ensures { IfOk result (λ bytes. bytes ≡ spelling (segment_of (outgoing self.now) control number)) }
+        ensures { IfOk result (λ bytes.
+            bytes ≡ spelling (segment_of (outgoing self.now) control number)) }
     {
         let segment = Segment {
             format: self.format,

@@ -72,7 +72,9 @@ pub fn read_segment(bytes: &[u8]) -> Result<Segment<'_>, SegmentFault>
 // not too long.
 #[tactic(auto, unfolding(crate::specs::Segment::header_refusal))]
 fn fields(bytes: &[u8]) -> Result<Segment<'_>, SegmentFault>
-    ensures { MatchResult result (λ s. (header_refusal bytes.now ≡ None) × (piece s ≡ fields_of bytes.now)) (λ fault. header_refusal bytes.now ≡ Some fault) }
+    ensures { MatchResult result (λ s.
+        (header_refusal bytes.now ≡ None) × (piece s ≡ fields_of bytes.now)) (λ fault.
+        header_refusal bytes.now ≡ Some fault) }
 {
     let second = is_second(bytes);
     let header = if second { SECOND_HEADER } else { FIRST_HEADER };

@@ -19,28 +19,38 @@ use circus_model::Module;
 /// The record of a node has just the takes that were made, in order: a datagram of another node, a tick where nothing came,
 /// or what was foreign.
 pub fn records_have_all_takes<M: Module>()
-    ensures { (d : Deployment) (own : ℕ) (booted : NodeState M) (gives : List Give) (takes : List TakenFrom) (last : Served M)
-        → served M.declared M.turn d own booted gives takes ≡ on last → takes_in d last.happened ≡ takes }
+    ensures { (d : Deployment) (own : ℕ) (booted : NodeState M) (gives : List Give)
+        (takes : List TakenFrom) (last : Served M)
+        → served M.declared M.turn d own booted gives takes ≡ on last
+        → takes_in d last.happened ≡ takes }
 {}
 
 /// The record of a node is that of a plain run of it: behind its boot, its events, stepped one by one from event 1 on, lead
 /// to the node afterwards, and each gives just what the record says.
 pub fn events_are_the_nodes<M: Module>()
-    ensures { (d : Deployment) (own : ℕ) (booted : NodeState M) (gives : List Give) (takes : List TakenFrom) (last : Served M)
-        → served M.declared M.turn d own booted gives takes ≡ on last → IsRun M.declared M.turn booted gives last.happened last.node }
+    ensures { (d : Deployment) (own : ℕ) (booted : NodeState M) (gives : List Give)
+        (takes : List TakenFrom) (last : Served M)
+        → served M.declared M.turn d own booted gives takes ≡ on last
+        → IsRun M.declared M.turn booted gives last.happened last.node }
 {}
 
 /// A spare is told to join directly behind its boot. A founder and the Ringmaster are not.
 pub fn spares_are_told_to_join<M: Module>()
-    ensures spares { (d : Deployment) (hosted : M) (node number : ℕ) (troupe : Troupe) (booted : NodeState M) (outputs : Outputs)
+    ensures spares { (d : Deployment) (hosted : M) (node number : ℕ) (troupe : Troupe)
+        (booted : NodeState M) (outputs : Outputs)
         → booting.booted M.declared M.turn M.first d (Some hosted) node ≡ Ok (booted, outputs)
-        → troupe_at d node ≡ Some number → slice_get d.troupes number ≡ Some troupe → is_among troupe.founders node ≡ false
-        → begun M.declared M.turn booted outputs.gives ≡ comes M.declared M.turn Join (at_boot booted outputs.gives) }
-    ensures founders { (d : Deployment) (hosted : M) (node number : ℕ) (troupe : Troupe) (booted : NodeState M) (outputs : Outputs)
+        → troupe_at d node ≡ Some number → slice_get d.troupes number ≡ Some troupe
+        → is_among troupe.founders node ≡ false
+        → begun M.declared M.turn booted outputs.gives
+        ≡ comes M.declared M.turn Join (at_boot booted outputs.gives) }
+    ensures founders { (d : Deployment) (hosted : M) (node number : ℕ) (troupe : Troupe)
+        (booted : NodeState M) (outputs : Outputs)
         → booting.booted M.declared M.turn M.first d (Some hosted) node ≡ Ok (booted, outputs)
-        → troupe_at d node ≡ Some number → slice_get d.troupes number ≡ Some troupe → is_among troupe.founders node ≡ true
+        → troupe_at d node ≡ Some number → slice_get d.troupes number ≡ Some troupe
+        → is_among troupe.founders node ≡ true
         → begun M.declared M.turn booted outputs.gives ≡ on (at_boot booted outputs.gives) }
-    ensures ringmaster { (d : Deployment) (hosted : Option M) (node : ℕ) (booted : NodeState M) (outputs : Outputs)
+    ensures ringmaster { (d : Deployment) (hosted : Option M) (node : ℕ) (booted : NodeState M)
+        (outputs : Outputs)
         → booting.booted M.declared M.turn M.first d hosted node ≡ Ok (booted, outputs)
         → troupe_at d node ≡ None
         → begun M.declared M.turn booted outputs.gives ≡ on (at_boot booted outputs.gives) }

@@ -59,7 +59,9 @@ impl Log {
             (tells_of (L.bound link.new) (L.taken link.new) (L.given link.new))
             (all_given deployment.now gives) result }
         ensures next { OnOk result (self.new.next ≡ self.old.next + 1) }
-        ensures happened { OnOk result (self.new.happened ≡ self.old.happened ++ Happening.Stepped event gives differences ∷ []) }
+        ensures happened { OnOk result
+            (self.new.happened
+            ≡ self.old.happened ++ Happening.Stepped event gives differences ∷ []) }
         ensures counts { LinkCounts result (L.faults link.old) (L.faults link.new) }
     {
         give_all(&gives, deployment, link)?;
@@ -73,7 +75,8 @@ impl Log {
     /// Notes that a datagram came from a port that is no other node's, which is no event. `NoMemory` where memory runs out.
     pub fn add_foreign(&mut self, port: u16, bytes: Message) -> Result<(), NoMemory>
         ensures next { self.new.next ≡ self.old.next }
-        ensures happened { OnOk result (self.new.happened ≡ self.old.happened ++ Happening.Foreign port bytes ∷ []) }
+        ensures happened { OnOk result
+            (self.new.happened ≡ self.old.happened ++ Happening.Foreign port bytes ∷ []) }
     {
         self.happened.push(Happening::Foreign(port, bytes))
     }

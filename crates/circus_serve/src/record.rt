@@ -72,7 +72,8 @@ pub fn serve<M: Module, L: Link>(
         (tells_of (L.bound link.old) (L.taken link.old) (L.given link.old))
         (tells_of (L.bound link.new) (L.taken link.new) (L.given link.new))
         result }
-    ensures rose { IsErrOf result ServeFault.LinkFailed → Rose (L.faults link.old) (L.faults link.new) }
+    ensures rose { IsErrOf result ServeFault.LinkFailed
+        → Rose (L.faults link.old) (L.faults link.new) }
 {
     link.bind(port_of(deployment, node))?;
     let mut serving = Serving::begin(alloc, core, gives, deployment, link)?;

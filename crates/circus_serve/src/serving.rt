@@ -77,7 +77,8 @@ impl<M: Module> Serving<M> {
         ensures gone { HasGone served_of deployment.now
             (tells_of (L.bound link.old) (L.taken link.old) (L.given link.old))
             (tells_of (L.bound link.new) (L.taken link.new) (L.given link.new))
-            self.log.happened (model.took M.declared M.turn deployment.now node taken (served_of self)) result }
+            self.log.happened
+            (model.took M.declared M.turn deployment.now node taken (served_of self)) result }
         ensures counts { ServeCounts result (L.faults link.old) (L.faults link.new) }
     {
         match taken {
@@ -102,7 +103,9 @@ impl<M: Module> Serving<M> {
         ensures gone { HasGone served_of deployment.now
             (tells_of (L.bound link.old) (L.taken link.old) (L.given link.old))
             (tells_of (L.bound link.new) (L.taken link.new) (L.given link.new))
-            self.log.happened (model.took M.declared M.turn deployment.now node (TakenFrom.From port bytes) (served_of self)) result }
+            self.log.happened
+            (model.took M.declared M.turn deployment.now node (TakenFrom.From port bytes)
+            (served_of self)) result }
         ensures counts { ServeCounts result (L.faults link.old) (L.faults link.new) }
     {
         let Some(from) = peer_at(deployment, node, port) else {
@@ -123,7 +126,8 @@ impl<M: Module> Serving<M> {
     ) -> Result<Self, ServeFault>
         requires node { IsNodeOf deployment.now self.core.wire.own self.core }
         requires event { CanCome self.core event }
-        ensures node { IfOk result (λ serving. IsNodeOf deployment.now self.core.wire.own serving.core) }
+        ensures node { IfOk result (λ serving.
+            IsNodeOf deployment.now self.core.wire.own serving.core) }
         ensures gone { HasGone served_of deployment.now
             (tells_of (L.bound link.old) (L.taken link.old) (L.given link.old))
             (tells_of (L.bound link.new) (L.taken link.new) (L.given link.new))
@@ -144,11 +148,13 @@ impl<M: Module> Serving<M> {
     ) -> Result<Self, ServeFault>
         requires node { IsNodeOf deployment.now self.core.wire.own self.core }
         requires others { All (IsOther self.core.wire) nodes.now }
-        ensures node { IfOk result (λ serving. IsNodeOf deployment.now self.core.wire.own serving.core) }
+        ensures node { IfOk result (λ serving.
+            IsNodeOf deployment.now self.core.wire.own serving.core) }
         ensures gone { HasGone served_of deployment.now
             (tells_of (L.bound link.old) (L.taken link.old) (L.given link.old))
             (tells_of (L.bound link.new) (L.taken link.new) (L.given link.new))
-            self.log.happened (model.all_declared M.declared M.turn nodes.now (served_of self)) result }
+            self.log.happened
+            (model.all_declared M.declared M.turn nodes.now (served_of self)) result }
         ensures counts { ServeCounts result (L.faults link.old) (L.faults link.new) }
     {
         let mut serving = self;
@@ -169,8 +175,10 @@ impl<M: Module> Serving<M> {
     ) -> Result<(Self, Nodes), ServeFault>
         requires node { IsNodeOf deployment.now self.core.wire.own self.core }
         requires event { CanCome self.core event }
-        ensures node { IfOk result (λ stepped. IsNodeOf deployment.now self.core.wire.own stepped.0.core) }
-        ensures suspects { IfOk result (λ stepped. stepped.1 ≡ model.suspected M.declared M.turn event (served_of self)) }
+        ensures node { IfOk result (λ stepped.
+            IsNodeOf deployment.now self.core.wire.own stepped.0.core) }
+        ensures suspects { IfOk result (λ stepped.
+            stepped.1 ≡ model.suspected M.declared M.turn event (served_of self)) }
         ensures gone { HasGone (λ stepped. served_of stepped.0) deployment.now
             (tells_of (L.bound link.old) (L.taken link.old) (L.given link.old))
             (tells_of (L.bound link.new) (L.taken link.new) (L.given link.new))

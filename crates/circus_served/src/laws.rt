@@ -13,7 +13,8 @@ use circus_model::Module;
 /// Over the same takes a served node comes to the same, with all that happened to it, where its module's behaviour stands for
 /// the module: served nodes whose modules do the same can't be told apart.
 pub fn serving_depends_on_behaviours<M: Module>()
-    ensures { (d : Deployment) (own : ℕ) (booted : NodeState M) (gives : List Give) (takes : List TakenFrom)
+    ensures { (d : Deployment) (own : ℕ) (booted : NodeState M) (gives : List Give)
+        (takes : List TakenFrom)
         → progress_as M.declared M.turn M.first (served M.declared M.turn d own booted gives takes)
         ≡ served declared_of turn_of d own (node_as M.declared M.turn M.first booted) gives takes }
 {}

@@ -41,7 +41,8 @@ pub fn serve_node<L: Link>(
         (tells_of (L.bound link.new) (L.taken link.new) (L.given link.new))
         (ending_of ending)) }
     ensures status { IfOk result (λ ending. IsTrue (is_end ending.status)) }
-    ensures rose { IfOk result (λ ending. ending.status ≡ Status.LinkFault → Rose (L.faults link.old) (L.faults link.new)) }
+    ensures rose { IfOk result (λ ending.
+        ending.status ≡ Status.LinkFault → Rose (L.faults link.old) (L.faults link.new)) }
 {
     let Loaded {
         deployment,
@@ -80,7 +81,8 @@ fn serve_booted<M: Module, L: Link>(
         (tells_of (L.bound link.new) (L.taken link.new) (L.given link.new))
         core gives (ending_of ending)) }
     ensures status { IfOk result (λ ending. IsTrue (is_end ending.status)) }
-    ensures rose { IfOk result (λ ending. ending.status ≡ Status.LinkFault → Rose (L.faults link.old) (L.faults link.new)) }
+    ensures rose { IfOk result (λ ending.
+        ending.status ≡ Status.LinkFault → Rose (L.faults link.old) (L.faults link.new)) }
 {
     let served = serve(alloc, core, gives, deployment, node, link, turns);
     ended(alloc, deployment, names, node, served)
@@ -96,9 +98,12 @@ fn ended<M: Module>(
 ) -> Result<Ending, NoMemory>
     requires deployment { IsDeployment deployment.now }
     requires names { All IsAscii names.now }
-    ensures ending { IfOk result (λ ending. EndsSo (names_of deployment.now.nodes names.now) deployment.now node served (ending_of ending)) }
+    ensures ending { IfOk result (λ ending.
+        EndsSo (names_of deployment.now.nodes names.now) deployment.now node served
+        (ending_of ending)) }
     ensures status { IfOk result (λ ending. IsTrue (is_end ending.status)) }
-    ensures failed { IfOk result (λ ending. ending.status ≡ Status.LinkFault → IsErrOf served ServeFault.LinkFailed) }
+    ensures failed { IfOk result (λ ending.
+        ending.status ≡ Status.LinkFault → IsErrOf served ServeFault.LinkFailed) }
 {
     match served {
         Ok(record) => done(alloc, deployment, names, node, &record),
@@ -118,7 +123,9 @@ fn done<M: Module>(
 ) -> Result<Ending, NoMemory>
     requires deployment { IsDeployment deployment.now }
     requires names { All IsAscii names.now }
-    ensures ending { IfOk result (λ ending. ending_of ending ≡ done_end (names_of deployment.now.nodes names.now) deployment.now node served.now) }
+    ensures ending { IfOk result (λ ending.
+        ending_of ending
+        ≡ done_end (names_of deployment.now.nodes names.now) deployment.now node served.now) }
     ensures status { IfOk result (λ ending. ending.status ≡ Status.Done) }
 {
     Ok(Ending {

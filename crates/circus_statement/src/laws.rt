@@ -11,7 +11,8 @@ ghost use Rattle.circus_statement.specs.WrittenStatement.{WrittenStatement, spel
 /// A word and the statements behind it, of no more levels than these, are read to their end, where the token behind them
 /// begins no further statement.
 pub fn statements_are_read()
-    ensures { (levels : ℕ) (lead : List ℕ) (own rest : List Placed) (ss : List WrittenStatement) (end : ℕ)
+    ensures { (levels : ℕ) (lead : List ℕ) (own rest : List Placed) (ss : List WrittenStatement)
+        (end : ℕ)
         → Are (spelling_listed lead) AreListed own ss → AreWithin levels (spelling_listed lead ss)
         → passes begins_statement (first rest) ≡ false
         → block levels lead (open_at (own ++ rest) end) ≡ (ss, open_at rest end) }
@@ -19,7 +20,8 @@ pub fn statements_are_read()
 
 /// What is read to its end is the word and statements of no more levels than these, and their trees are answered.
 pub fn read_are_statements()
-    ensures { (levels : ℕ) (lead : List ℕ) (all rest : List Placed) (ss : List WrittenStatement) (end : ℕ) → AreTokens all
+    ensures { (levels : ℕ) (lead : List ℕ) (all rest : List Placed) (ss : List WrittenStatement)
+        (end : ℕ) → AreTokens all
         → block levels lead (open_at all end) ≡ (ss, open_at rest end)
         → (own : List Placed) × (all ≡ own ++ rest) × Are (spelling_listed lead) AreListed own ss
         × AreWithin levels (spelling_listed lead ss) }
@@ -28,25 +30,33 @@ pub fn read_are_statements()
 /// Where reading stops and nothing is too deep, the tokens so far begin the word and statements, and none goes on with
 /// the next one.
 pub fn stops_at_the_unexpected()
-    ensures { (levels : ℕ) (lead : List ℕ) (all left : List Placed) (ss : List WrittenStatement) (stop : Stop) (end : ℕ)
-        → AreTokens all → block levels lead (open_at all end) ≡ (ss, record { rest = left; end = end; stop = Some stop })
+    ensures { (levels : ℕ) (lead : List ℕ) (all left : List Placed) (ss : List WrittenStatement)
+        (stop : Stop) (end : ℕ)
+        → AreTokens all → block levels lead (open_at all end)
+        ≡ (ss, record { rest = left; end = end; stop = Some stop })
         → stop.cause ≡ StopCause.Unexpected
-        → IsUnexpected (spelling_listed lead) AreListed all left × (stop.place ≡ place_in left end) }
+        → IsUnexpected (spelling_listed lead) AreListed all left
+        × (stop.place ≡ place_in left end) }
 {}
 
 /// Where reading stops and a level is too many, the tokens so far begin the word and statements with the next one too,
 /// and in all such statements that one stands too deep.
 pub fn stops_at_the_too_deep()
-    ensures { (levels : ℕ) (lead : List ℕ) (all left : List Placed) (ss : List WrittenStatement) (stop : Stop) (end : ℕ)
-        → AreTokens all → block levels lead (open_at all end) ≡ (ss, record { rest = left; end = end; stop = Some stop })
+    ensures { (levels : ℕ) (lead : List ℕ) (all left : List Placed) (ss : List WrittenStatement)
+        (stop : Stop) (end : ℕ)
+        → AreTokens all → block levels lead (open_at all end)
+        ≡ (ss, record { rest = left; end = end; stop = Some stop })
         → stop.cause ≡ StopCause.TooDeep
-        → IsTooDeep (spelling_listed lead) AreListed levels all left × (stop.place ≡ place_in left end) }
+        → IsTooDeep (spelling_listed lead) AreListed levels all left
+        × (stop.place ≡ place_in left end) }
 {}
 
 /// Where reading stops, the trees are those of statements which the tokens so far begin. What they have besides them
 /// stands at the place of the stop.
 pub fn a_stop_is_filled_in()
-    ensures { (levels : ℕ) (lead : List ℕ) (all left : List Placed) (ss : List WrittenStatement) (stop : Stop) (end : ℕ)
-        → AreTokens all → block levels lead (open_at all end) ≡ (ss, record { rest = left; end = end; stop = Some stop })
+    ensures { (levels : ℕ) (lead : List ℕ) (all left : List Placed) (ss : List WrittenStatement)
+        (stop : Stop) (end : ℕ)
+        → AreTokens all → block levels lead (open_at all end)
+        ≡ (ss, record { rest = left; end = end; stop = Some stop })
         → IsFilledIn (spelling_listed lead) AreListed levels all left stop.place ss }
 {}

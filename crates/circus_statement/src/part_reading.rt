@@ -15,7 +15,8 @@ use circus_value::NoMemory;
 
 /// A list of expressions, or a stop where its bracket is missing.
 pub fn required_list(reader: &mut Reader<'_>, levels: u8) -> Result<Expressions, NoMemory>
-    ensures { IfOk result (λ read. shown (map expression.stands_for) (required_list levels reader.old) ≡ (read, reader.new)) }
+    ensures { IfOk result (λ read.
+        shown (map expression.stands_for) (required_list levels reader.old) ≡ (read, reader.new)) }
 {
     if reader.sees_sign(b"[") {
         return list_text(reader, levels);
@@ -25,7 +26,9 @@ pub fn required_list(reader: &mut Reader<'_>, levels: u8) -> Result<Expressions,
 }
 
 fn places_within(reader: &mut Reader<'_>, levels: u8) -> Result<PlaceTexts, NoMemory>
-    ensures { IfOk result (λ read. shown places_stand_for (places_within levels reader.old) ≡ (map place_of read, reader.new)) }
+    ensures { IfOk result (λ read.
+        shown places_stand_for (places_within levels reader.old)
+        ≡ (map place_of read, reader.new)) }
 {
     let mut places = PlaceTexts::new(reader.alloc());
     if reader.sees_sign(b"]") {
@@ -41,7 +44,8 @@ fn places_within(reader: &mut Reader<'_>, levels: u8) -> Result<PlaceTexts, NoMe
 
 /// Places in brackets.
 pub fn places(reader: &mut Reader<'_>, levels: u8) -> Result<PlaceTexts, NoMemory>
-    ensures { IfOk result (λ read. shown places_stand_for (places levels reader.old) ≡ (map place_of read, reader.new)) }
+    ensures { IfOk result (λ read.
+        shown places_stand_for (places levels reader.old) ≡ (map place_of read, reader.new)) }
 {
     reader.sign(b"[");
     let places = places_within(reader, levels)?;
@@ -50,7 +54,8 @@ pub fn places(reader: &mut Reader<'_>, levels: u8) -> Result<PlaceTexts, NoMemor
 }
 
 fn into(reader: &mut Reader<'_>, levels: u8) -> Result<IntoText, NoMemory>
-    ensures { IfOk result (λ read. shown into_stands_for (into levels reader.old) ≡ (into_of read, reader.new)) }
+    ensures { IfOk result (λ read.
+        shown into_stands_for (into levels reader.old) ≡ (into_of read, reader.new)) }
 {
     let at = reader.place();
     reader.word(b"INTO");
@@ -60,7 +65,9 @@ fn into(reader: &mut Reader<'_>, levels: u8) -> Result<IntoText, NoMemory>
 
 /// Where results go, if the next token says so.
 pub fn into_if_any(reader: &mut Reader<'_>, levels: u8) -> Result<Option<IntoText>, NoMemory>
-    ensures { IfOk result (λ read. shown (option_map into_stands_for) (into_if_any levels reader.old) ≡ (option_map into_of read, reader.new)) }
+    ensures { IfOk result (λ read.
+        shown (option_map into_stands_for) (into_if_any levels reader.old)
+        ≡ (option_map into_of read, reader.new)) }
 {
     if reader.sees_word(b"INTO") {
         Ok(Some(into(reader, levels)?))
@@ -71,7 +78,9 @@ pub fn into_if_any(reader: &mut Reader<'_>, levels: u8) -> Result<Option<IntoTex
 
 /// Where an error's values go, if a bracket is the next token.
 pub fn handled_places(reader: &mut Reader<'_>, levels: u8) -> Result<Option<PlaceTexts>, NoMemory>
-    ensures { IfOk result (λ read. shown (option_map places_stand_for) (handled_places levels reader.old) ≡ (option_map (map place_of) read, reader.new)) }
+    ensures { IfOk result (λ read.
+        shown (option_map places_stand_for) (handled_places levels reader.old)
+        ≡ (option_map (map place_of) read, reader.new)) }
 {
     if reader.sees_sign(b"[") {
         Ok(Some(places(reader, levels)?))

@@ -25,7 +25,8 @@ pub fn statements_text(
     lead: &[u8],
     levels: u8,
 ) -> Result<Statements, NoMemory>
-    ensures { IfOk result (λ read. shown (map stands_for) (block levels lead.now reader.old) ≡ (read, reader.new)) }
+    ensures { IfOk result (λ read.
+        shown (map stands_for) (block levels lead.now reader.old) ≡ (read, reader.new)) }
 {
     if reader.sees_word(lead) {
         return opened(reader, lead, levels);
@@ -36,7 +37,8 @@ pub fn statements_text(
 
 #[cycle(reading)]
 fn opened(reader: &mut Reader<'_>, lead: &[u8], levels: u8) -> Result<Statements, NoMemory>
-    ensures { IfOk result (λ read. shown (map stands_for) (opened_block levels lead.now reader.old) ≡ (read, reader.new)) }
+    ensures { IfOk result (λ read.
+        shown (map stands_for) (opened_block levels lead.now reader.old) ≡ (read, reader.new)) }
 {
     let mut statements = Statements::new(reader.alloc());
     if levels == 0 {
@@ -52,7 +54,8 @@ fn opened(reader: &mut Reader<'_>, lead: &[u8], levels: u8) -> Result<Statements
 
 #[cycle(reading)]
 fn statement(reader: &mut Reader<'_>, levels: u8) -> Result<Statement, NoMemory>
-    ensures { IfOk result (λ read. shown stands_for (statement levels reader.old) ≡ (tree_of read, reader.new)) }
+    ensures { IfOk result (λ read.
+        shown stands_for (statement levels reader.old) ≡ (tree_of read, reader.new)) }
 {
     let at = reader.place();
     let kind = statement_kind(reader, levels)?;
@@ -61,7 +64,9 @@ fn statement(reader: &mut Reader<'_>, levels: u8) -> Result<Statement, NoMemory>
 
 #[cycle(reading)]
 fn statement_kind(reader: &mut Reader<'_>, levels: u8) -> Result<StatementKind, NoMemory>
-    ensures { IfOk result (λ kind. shown stands_for (statement levels reader.old) ≡ (kind_tree (place reader.old) kind, reader.new)) }
+    ensures { IfOk result (λ kind.
+        shown stands_for (statement levels reader.old)
+        ≡ (kind_tree (place reader.old) kind, reader.new)) }
 {
     match statement_start(reader) {
         StatementStart::Assign => assignment(reader, levels),
@@ -75,7 +80,9 @@ fn statement_kind(reader: &mut Reader<'_>, levels: u8) -> Result<StatementKind, 
 }
 
 fn assignment(reader: &mut Reader<'_>, levels: u8) -> Result<StatementKind, NoMemory>
-    ensures { IfOk result (λ kind. shown stands_for (statement_from levels StatementStart.Assign reader.old) ≡ (kind_tree (place reader.old) kind, reader.new)) }
+    ensures { IfOk result (λ kind.
+        shown stands_for (statement_from levels StatementStart.Assign reader.old)
+        ≡ (kind_tree (place reader.old) kind, reader.new)) }
 {
     let place = place_text(reader, levels)?;
     reader.sign(b":=");
@@ -86,7 +93,9 @@ fn assignment(reader: &mut Reader<'_>, levels: u8) -> Result<StatementKind, NoMe
 
 #[cycle(reading)]
 fn choice(reader: &mut Reader<'_>, levels: u8) -> Result<StatementKind, NoMemory>
-    ensures { IfOk result (λ kind. shown stands_for (statement_from levels StatementStart.If reader.old) ≡ (kind_tree (place reader.old) kind, reader.new)) }
+    ensures { IfOk result (λ kind.
+        shown stands_for (statement_from levels StatementStart.If reader.old)
+        ≡ (kind_tree (place reader.old) kind, reader.new)) }
 {
     reader.word(b"IF");
     let condition = expression_text(reader, levels)?;
@@ -98,7 +107,8 @@ fn choice(reader: &mut Reader<'_>, levels: u8) -> Result<StatementKind, NoMemory
 
 #[cycle(reading)]
 fn otherwise(reader: &mut Reader<'_>, levels: u8) -> Result<Option<Statements>, NoMemory>
-    ensures { IfOk result (λ read. shown (option_map (map stands_for)) (else_block levels reader.old) ≡ (read, reader.new)) }
+    ensures { IfOk result (λ read.
+        shown (option_map (map stands_for)) (else_block levels reader.old) ≡ (read, reader.new)) }
 {
     if reader.sees_word(b"ELSE") {
         Ok(Some(statements_text(reader, b"ELSE", levels)?))
@@ -109,7 +119,9 @@ fn otherwise(reader: &mut Reader<'_>, levels: u8) -> Result<Option<Statements>, 
 
 #[cycle(reading)]
 fn repetition(reader: &mut Reader<'_>, levels: u8) -> Result<StatementKind, NoMemory>
-    ensures { IfOk result (λ kind. shown stands_for (statement_from levels StatementStart.While reader.old) ≡ (kind_tree (place reader.old) kind, reader.new)) }
+    ensures { IfOk result (λ kind.
+        shown stands_for (statement_from levels StatementStart.While reader.old)
+        ≡ (kind_tree (place reader.old) kind, reader.new)) }
 {
     reader.word(b"WHILE");
     let condition = expression_text(reader, levels)?;
@@ -119,7 +131,9 @@ fn repetition(reader: &mut Reader<'_>, levels: u8) -> Result<StatementKind, NoMe
 }
 
 fn addition(reader: &mut Reader<'_>, levels: u8) -> Result<StatementKind, NoMemory>
-    ensures { IfOk result (λ kind. shown stands_for (statement_from levels StatementStart.Append reader.old) ≡ (kind_tree (place reader.old) kind, reader.new)) }
+    ensures { IfOk result (λ kind.
+        shown stands_for (statement_from levels StatementStart.Append reader.old)
+        ≡ (kind_tree (place reader.old) kind, reader.new)) }
 {
     reader.word(b"APPEND");
     let value = expression_text(reader, levels)?;
@@ -131,7 +145,9 @@ fn addition(reader: &mut Reader<'_>, levels: u8) -> Result<StatementKind, NoMemo
 
 #[cycle(reading)]
 fn call(reader: &mut Reader<'_>, levels: u8) -> Result<StatementKind, NoMemory>
-    ensures { IfOk result (λ kind. shown stands_for (statement_from levels StatementStart.Call reader.old) ≡ (kind_tree (place reader.old) kind, reader.new)) }
+    ensures { IfOk result (λ kind.
+        shown stands_for (statement_from levels StatementStart.Call reader.old)
+        ≡ (kind_tree (place reader.old) kind, reader.new)) }
 {
     let (callee, procedure, arguments, into) = call_head(reader, levels)?;
     let handlers = handlers(reader, levels)?;
@@ -151,7 +167,19 @@ fn call_head(
     levels: u8,
 ) -> Result<(Named, Named, Expressions, Option<IntoText>), NoMemory>
     ensures { IfOk result (λ read. shown head_stands_for (call_head levels reader.old)
-        ≡ ((place reader.old, record { «module» = read.0; procedure = read.1; arguments = read.2; into = option_map into_of read.3 }), reader.new)) }
+        ≡ (
+          (
+            place reader.old,
+            record {
+              «module» = read.0;
+              procedure = read.1;
+              arguments = read.2;
+              into = option_map into_of
+                  read.3;
+            },
+          ),
+          reader.new,
+        )) }
 {
     reader.word(b"CALL");
     let callee = reader.name()?;
@@ -164,7 +192,8 @@ fn call_head(
 
 #[cycle(reading)]
 fn handlers(reader: &mut Reader<'_>, levels: u8) -> Result<Handlers, NoMemory>
-    ensures { IfOk result (λ read. shown (map handler_stands_for) (handlers levels reader.old) ≡ (read, reader.new)) }
+    ensures { IfOk result (λ read.
+        shown (map handler_stands_for) (handlers levels reader.old) ≡ (read, reader.new)) }
 {
     let mut handlers = Handlers::new(reader.alloc());
     while reader.sees_word(b"ON") {
@@ -175,7 +204,8 @@ fn handlers(reader: &mut Reader<'_>, levels: u8) -> Result<Handlers, NoMemory>
 
 #[cycle(reading)]
 fn handler(reader: &mut Reader<'_>, levels: u8) -> Result<Handler, NoMemory>
-    ensures { IfOk result (λ read. shown handler_stands_for (handler levels reader.old) ≡ (handler_of read, reader.new)) }
+    ensures { IfOk result (λ read.
+        shown handler_stands_for (handler levels reader.old) ≡ (handler_of read, reader.new)) }
 {
     reader.word(b"ON");
     let at = reader.place();
@@ -196,7 +226,15 @@ fn handled(
     levels: u8,
 ) -> Result<(Option<Named>, Option<PlaceTexts>), NoMemory>
     ensures { IfOk result (λ read. shown handled_stands_for (handled levels reader.old)
-        ≡ (record { at = place reader.old; error = read.0; places = option_map (map place_of) read.1 }, reader.new)) }
+        ≡ (
+          record {
+            at = place reader.old;
+            error = read.0;
+            places = option_map
+                (map place_of) read.1;
+          },
+          reader.new,
+        )) }
 {
     if reader.sees_word(b"OTHER") {
         reader.word(b"OTHER");
@@ -208,7 +246,9 @@ fn handled(
 }
 
 fn end(reader: &mut Reader<'_>, levels: u8) -> Result<StatementKind, NoMemory>
-    ensures { IfOk result (λ kind. shown stands_for (statement_from levels StatementStart.Return reader.old) ≡ (kind_tree (place reader.old) kind, reader.new)) }
+    ensures { IfOk result (λ kind.
+        shown stands_for (statement_from levels StatementStart.Return reader.old)
+        ≡ (kind_tree (place reader.old) kind, reader.new)) }
 {
     reader.word(b"RETURN");
     let results = required_list(reader, levels)?;
@@ -217,7 +257,9 @@ fn end(reader: &mut Reader<'_>, levels: u8) -> Result<StatementKind, NoMemory>
 }
 
 fn failure(reader: &mut Reader<'_>, levels: u8) -> Result<StatementKind, NoMemory>
-    ensures { IfOk result (λ kind. shown stands_for (statement_from levels StatementStart.Raise reader.old) ≡ (kind_tree (place reader.old) kind, reader.new)) }
+    ensures { IfOk result (λ kind.
+        shown stands_for (statement_from levels StatementStart.Raise reader.old)
+        ≡ (kind_tree (place reader.old) kind, reader.new)) }
 {
     reader.word(b"RAISE");
     let error = reader.name()?;

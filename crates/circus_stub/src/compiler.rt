@@ -76,7 +76,9 @@ fn operations_of(alloc: Global, fields: &Fields) -> Result<Operations, NoMemory>
 // Adds the operations of fields, in order.
 #[cycle(compiling)]
 fn add_fields(alloc: Global, operations: &mut Operations, fields: &Fields) -> Result<(), NoMemory>
-    ensures { OnOk result (operations.new ≡ operations.old ++ flat_fields (field_trees fields.now) (length operations.old)) }
+    ensures { OnOk result
+        (operations.new ≡ operations.old
+        ++ flat_fields (field_trees fields.now) (length operations.old)) }
 {
     for field in fields.as_slice() {
         add_shape(alloc, operations, &field.shape)?;
@@ -87,7 +89,9 @@ fn add_fields(alloc: Global, operations: &mut Operations, fields: &Fields) -> Re
 // Adds the operations of arms, in order.
 #[cycle(compiling)]
 fn add_arms(alloc: Global, operations: &mut Operations, arms: &Arms) -> Result<(), NoMemory>
-    ensures { OnOk result (operations.new ≡ operations.old ++ flat_arms (arm_trees arms.now) (length operations.old)) }
+    ensures { OnOk result
+        (operations.new ≡ operations.old
+        ++ flat_arms (arm_trees arms.now) (length operations.old)) }
 {
     for arm in arms.as_slice() {
         let at = operations.len();
@@ -110,7 +114,8 @@ fn add_arms(alloc: Global, operations: &mut Operations, arms: &Arms) -> Result<(
 // Adds the operations of a shape.
 #[cycle(compiling)]
 fn add_shape(alloc: Global, operations: &mut Operations, shape: &Shape) -> Result<(), NoMemory>
-    ensures { OnOk result (operations.new ≡ operations.old ++ flat (tree_of shape.now) (length operations.old)) }
+    ensures { OnOk result
+        (operations.new ≡ operations.old ++ flat (tree_of shape.now) (length operations.old)) }
 {
     let at = operations.len();
     match shape {
@@ -183,7 +188,8 @@ fn add_shape(alloc: Global, operations: &mut Operations, shape: &Shape) -> Resul
 
 // Adds the operation of an enumeration with these labels.
 fn add_numbers(alloc: Global, operations: &mut Operations, labels: &[Label]) -> Result<(), NoMemory>
-    ensures { OnOk result (operations.new ≡ operations.old ++ Operation.Enumeration (label_numbers labels.now) ∷ []) }
+    ensures { OnOk result
+        (operations.new ≡ operations.old ++ Operation.Enumeration (label_numbers labels.now) ∷ []) }
 {
     operations.push(Operation::Enumeration(numbers(alloc, labels)?))
 }

@@ -88,7 +88,8 @@ pub(crate) fn label(value: &Value) -> u16
 
 /// The items of an array.
 pub(crate) fn array(value: &Value) -> &Values
-    requires { (len : ℕ) × (passes : ValueTree → Bool) × (is_array len passes (tree_of value.now) ≡ true) }
+    requires { (len : ℕ) × (passes : ValueTree → Bool)
+        × (is_array len passes (tree_of value.now) ≡ true) }
     ensures { tree_of value.now ≡ tree.array (value_trees result.now) }
 {
     match value {
@@ -99,7 +100,8 @@ pub(crate) fn array(value: &Value) -> &Values
 
 /// The items of a sequence.
 pub(crate) fn sequence(value: &Value) -> &Values
-    requires { (bound : ℕ) × (passes : ValueTree → Bool) × (is_sequence bound passes (tree_of value.now) ≡ true) }
+    requires { (bound : ℕ) × (passes : ValueTree → Bool)
+        × (is_sequence bound passes (tree_of value.now) ≡ true) }
     ensures { tree_of value.now ≡ tree.sequence (value_trees result.now) }
 {
     match value {

@@ -19,7 +19,8 @@ impl Stubs {
     /// The bytes of a call's arguments, one value behind another (docs/FORMATS.md, "Stubs"). `NoMemory` is the
     /// one fault.
     pub fn pack(&self, alloc: Global, procedure: u16, values: &Values) -> Result<Message, NoMemory>
-        requires { (i : Interface) × (self.now ≡ compiled i self.now.limit) × AreArguments i procedure values.now }
+        requires { (i : Interface) × (self.now ≡ compiled i self.now.limit)
+            × AreArguments i procedure values.now }
         ensures { IfOk result (λ bytes. bytes ≡ spelling_of_all values.now) }
     {
         match self.stub(procedure) {
@@ -36,7 +37,8 @@ impl Stubs {
         procedure: u16,
         outcome: &Outcome,
     ) -> Result<Message, NoMemory>
-        requires { (i : Interface) × (self.now ≡ compiled i self.now.limit) × IsOutcome i procedure outcome.now }
+        requires { (i : Interface) × (self.now ≡ compiled i self.now.limit)
+            × IsOutcome i procedure outcome.now }
         ensures { IfOk result (λ bytes. bytes ≡ outcome_spelling outcome.now) }
     {
         match self.stub(procedure) {
@@ -51,7 +53,8 @@ impl Stubs {
         stub: &ProcedureStub,
         outcome: &Outcome,
     ) -> Result<Message, NoMemory>
-        requires { (i : Interface) × (p : Procedure) × (self.now ≡ compiled i self.now.limit) × (stub.now ≡ procedure_stub p) × MayEnd i p outcome.now }
+        requires { (i : Interface) × (p : Procedure) × (self.now ≡ compiled i self.now.limit)
+            × (stub.now ≡ procedure_stub p) × MayEnd i p outcome.now }
         ensures { IfOk result (λ bytes. bytes ≡ outcome_spelling outcome.now) }
     {
         match outcome {
@@ -71,7 +74,8 @@ fn packed(
     operations: &[Operation],
     values: &Values,
 ) -> Result<Message, NoMemory>
-    requires { (fields : FieldTrees) × (operations.now ≡ flat_fields fields 0) × (fields_admit fields values.now ≡ true) }
+    requires { (fields : FieldTrees) × (operations.now ≡ flat_fields fields 0)
+        × (fields_admit fields values.now ≡ true) }
     ensures { IfOk result (λ bytes. bytes ≡ words numbers.now ++ spelling_of_all values.now) }
 {
     let mut bytes = ListOf::new(alloc);

@@ -9,7 +9,8 @@ use crate::Operation;
 /// The place behind the operations of the value whose first stands at a place.
 pub(crate) fn place_behind(operations: &[Operation], place: usize) -> usize
     requires { (shape : ShapeTree) × Stands operations.now place shape }
-    ensures { (shape : ShapeTree) → Stands operations.now place shape → result ≡ place + operations_in shape }
+    ensures { (shape : ShapeTree) → Stands operations.now place shape
+        → result ≡ place + operations_in shape }
 {
     operations[place].end().unwrap_or(place + 1)
 }
@@ -24,7 +25,9 @@ pub(crate) fn arm_place(
     requires { (arms : ArmTrees) × ArmsStand operations.now place end arms }
     ensures { (arms : ArmTrees) → ArmsStand operations.now place end arms
         → MatchOption result (first_arm arms wanted ≡ None)
-        (λ part. (place < part) × ((shape : ShapeTree) × (first_arm arms wanted ≡ Some shape) × Stands operations.now part shape)) }
+        (λ part. (place < part)
+        × ((shape : ShapeTree) × (first_arm arms wanted ≡ Some shape)
+        × Stands operations.now part shape)) }
 {
     let mut here = place;
     while here < end {

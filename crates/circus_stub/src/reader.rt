@@ -25,7 +25,8 @@ fn read_value<S: ByteSource>(
     requires within { at ≤ length (S.octets source.now) }
     requires standing { (shape : ShapeTree) × Stands operations.now place shape }
     ensures { (shape : ShapeTree) → Stands operations.now place shape
-        → Gives values.tree_of (S.octets source.now) result (reading shape at (drop at (S.octets source.now))) }
+        → Gives values.tree_of (S.octets source.now) result
+        (reading shape at (drop at (S.octets source.now))) }
 {
     match &operations[place] {
         Operation::Boolean => read_from(alloc, source, at, &Shape::Boolean),
@@ -65,7 +66,8 @@ fn read_listed<S: ByteSource>(
     numbers: &[u16],
 ) -> Result<(Value, usize), ExternalFault>
     requires { at ≤ length (S.octets source.now) }
-    ensures { Gives values.tree_of (S.octets source.now) result (one_word (listed_value numbers.now) at (drop at (S.octets source.now))) }
+    ensures { Gives values.tree_of (S.octets source.now) result
+        (one_word (listed_value numbers.now) at (drop at (S.octets source.now))) }
 {
     let (number, next) = read_word(source, at)?;
     if is_among(numbers, number) {
@@ -82,7 +84,9 @@ fn read_count<S: ByteSource>(
     bound: u16,
 ) -> Result<(u16, usize), ExternalFault>
     requires { at ≤ length (S.octets source.now) }
-    ensures { Gives (λ n. n) (S.octets source.now) result (one_word (count_within bound) at (drop at (S.octets source.now))) }
+    ensures { Gives (λ n.
+        n) (S.octets source.now) result
+        (one_word (count_within bound) at (drop at (S.octets source.now))) }
 {
     let (count, next) = read_word(source, at)?;
     if count <= bound {
@@ -105,7 +109,8 @@ fn read_items<S: ByteSource>(
     requires within { at ≤ length (S.octets source.now) }
     requires standing { (shape : ShapeTree) × Stands operations.now place shape }
     ensures { (shape : ShapeTree) → Stands operations.now place shape
-        → Gives (λ ts. ts) (S.octets source.now) result (items_read (reading shape) count at (drop at (S.octets source.now))) }
+        → Gives (λ ts. ts) (S.octets source.now) result
+        (items_read (reading shape) count at (drop at (S.octets source.now))) }
 {
     let mut items = Values::new(alloc);
     let mut here = at;
@@ -130,7 +135,8 @@ fn read_sequence<S: ByteSource>(
     requires within { at ≤ length (S.octets source.now) }
     requires standing { (shape : ShapeTree) × Stands operations.now place shape }
     ensures { (shape : ShapeTree) → Stands operations.now place shape
-        → Gives (λ ts. ts) (S.octets source.now) result (sequence_read (reading shape) bound at (drop at (S.octets source.now))) }
+        → Gives (λ ts. ts) (S.octets source.now) result
+        (sequence_read (reading shape) bound at (drop at (S.octets source.now))) }
 {
     let (count, next) = read_count(source, at, bound)?;
     read_items(alloc, source, next, count, operations, place)
@@ -150,7 +156,8 @@ pub(crate) fn read_values<S: ByteSource>(
     requires within { at ≤ length (S.octets source.now) }
     requires standing { (fields : FieldTrees) × FieldsStand operations.now place end fields }
     ensures { (fields : FieldTrees) → FieldsStand operations.now place end fields
-        → Gives (λ ts. ts) (S.octets source.now) result (fields_reading fields at (drop at (S.octets source.now))) }
+        → Gives (λ ts. ts) (S.octets source.now) result
+        (fields_reading fields at (drop at (S.octets source.now))) }
 {
     let mut items = Values::new(alloc);
     let mut here = at;
@@ -177,7 +184,8 @@ fn read_choice<S: ByteSource>(
     requires within { at ≤ length (S.octets source.now) }
     requires standing { (arms : ArmTrees) × ArmsStand operations.now place end arms }
     ensures { (arms : ArmTrees) → ArmsStand operations.now place end arms
-        → Gives values.tree_of (S.octets source.now) result (choice_read arms at (drop at (S.octets source.now))) }
+        → Gives values.tree_of (S.octets source.now) result
+        (choice_read arms at (drop at (S.octets source.now))) }
 {
     let (number, next) = read_word(source, at)?;
     match arm_place(operations, place, end, number) {

@@ -127,7 +127,8 @@ fn add_named(
     name: &Name,
     number: u64,
 ) -> Result<(), NoMemory>
-    ensures { OnOk result (text.new ≡ text.old ++ (kind.now ++ name.now ++ codes " " ++ decimal number)) }
+    ensures { OnOk result
+        (text.new ≡ text.old ++ (kind.now ++ name.now ++ codes " " ++ decimal number)) }
 {
     text.append(kind)?;
     text.append(name.as_slice())?;
@@ -242,7 +243,9 @@ fn add_value(
 }
 
 fn add_enumeration(alloc: Global, text: &mut Octets, numbers: &[u16]) -> Result<(), NoMemory>
-    ensures { OnOk result (text.new ≡ text.old ++ (codes " enumeration (" ++ numbers_behind 32 numbers.now ++ codes " )")) }
+    ensures { OnOk result
+        (text.new ≡ text.old
+        ++ (codes " enumeration (" ++ numbers_behind 32 numbers.now ++ codes " )")) }
 {
     text.append(b" enumeration (")?;
     add_numbers(alloc, text, numbers)?;
@@ -292,7 +295,8 @@ fn add_record(
 ) -> Result<(), NoMemory>
     requires { (fields : FieldTrees) × FieldsStand operations.now place end fields }
     ensures { (fields : FieldTrees) → FieldsStand operations.now place end fields
-        → OnOk result (text.new ≡ text.old ++ (codes " record" ++ part_words number (field_words fields))) }
+        → OnOk result (text.new
+        ≡ text.old ++ (codes " record" ++ part_words number (field_words fields))) }
 {
     text.append(b" record")?;
     add_open(alloc, text, number)?;
@@ -312,7 +316,8 @@ fn add_choice(
 ) -> Result<(), NoMemory>
     requires { (arms : ArmTrees) × ArmsStand operations.now place end arms }
     ensures { (arms : ArmTrees) → ArmsStand operations.now place end arms
-        → OnOk result (text.new ≡ text.old ++ (codes " choice" ++ part_words number (arm_words arms))) }
+        → OnOk result (text.new
+        ≡ text.old ++ (codes " choice" ++ part_words number (arm_words arms))) }
 {
     text.append(b" choice")?;
     add_open(alloc, text, number)?;

@@ -29,7 +29,8 @@ impl Stubs {
         requires { AreCompiled self.now }
         // What is unpacked are arguments, and the bytes are theirs.
         ensures spelled { (i : Interface) → self.now ≡ compiled i self.now.limit
-            → IfOk result (λ values. AreArguments i procedure values × (bytes.now ≡ spelling_of_all values)) }
+            → IfOk result (λ values.
+            AreArguments i procedure values × (bytes.now ≡ spelling_of_all values)) }
 
         // Which answer it is.
         ensures exact { (i : Interface) → self.now ≡ compiled i self.now.limit
@@ -53,7 +54,8 @@ impl Stubs {
         requires { AreCompiled self.now }
         // What is unpacked is an outcome, and the bytes are its bytes.
         ensures spelled { (i : Interface) → self.now ≡ compiled i self.now.limit
-            → IfOk result (λ outcome. IsOutcome i procedure outcome × (bytes.now ≡ outcome_spelling outcome)) }
+            → IfOk result (λ outcome.
+            IsOutcome i procedure outcome × (bytes.now ≡ outcome_spelling outcome)) }
 
         // Which answer it is.
         ensures exact { (i : Interface) → self.now ≡ compiled i self.now.limit
@@ -75,7 +77,8 @@ impl Stubs {
         requires within { at ≤ length parts.now }
         // What is unpacked are arguments, and the bytes are theirs.
         ensures spelled { (i : Interface) → self.now ≡ compiled i self.now.limit
-            → IfOk result (λ values. AreArguments i procedure values × (drop at parts.now ≡ spelling_of_all values)) }
+            → IfOk result (λ values.
+            AreArguments i procedure values × (drop at parts.now ≡ spelling_of_all values)) }
 
         // The answer of `unpack`.
         ensures exact { (i : Interface) → self.now ≡ compiled i self.now.limit
@@ -98,7 +101,8 @@ impl Stubs {
         requires within { at ≤ length parts.now }
         // What is unpacked is an outcome, and the bytes are its bytes.
         ensures spelled { (i : Interface) → self.now ≡ compiled i self.now.limit
-            → IfOk result (λ outcome. IsOutcome i procedure outcome × (drop at parts.now ≡ outcome_spelling outcome)) }
+            → IfOk result (λ outcome.
+            IsOutcome i procedure outcome × (drop at parts.now ≡ outcome_spelling outcome)) }
 
         // The answer of `unpack_outcome`.
         ensures exact { (i : Interface) → self.now ≡ compiled i self.now.limit
@@ -146,9 +150,13 @@ impl Stubs {
         stub: &ProcedureStub,
         source: &S,
     ) -> Result<Outcome, StubFault>
-        requires { (i : Interface) × (p : Procedure) × (self.now ≡ compiled i self.now.limit) × (stub.now ≡ procedure_stub p) }
-        ensures { (i : Interface) (p : Procedure) → self.now ≡ compiled i self.now.limit → stub.now ≡ procedure_stub p
-            → Answers result (outcome_behind i p self.now.limit (S.octets source.now) (first_word (S.octets source.now))) }
+        requires { (i : Interface) × (p : Procedure) × (self.now ≡ compiled i self.now.limit)
+            × (stub.now ≡ procedure_stub p) }
+        ensures { (i : Interface) (p : Procedure) → self.now ≡ compiled i self.now.limit
+            → stub.now ≡ procedure_stub p
+            → Answers result
+            (outcome_behind i p self.now.limit (S.octets source.now)
+            (first_word (S.octets source.now))) }
     {
         match word_at(source, 0) {
             Some(0) => {
@@ -169,9 +177,13 @@ impl Stubs {
         stub: &ProcedureStub,
         source: &S,
     ) -> Result<Outcome, StubFault>
-        requires { (i : Interface) × (p : Procedure) × (self.now ≡ compiled i self.now.limit) × (stub.now ≡ procedure_stub p) }
-        ensures { (i : Interface) (p : Procedure) → self.now ≡ compiled i self.now.limit → stub.now ≡ procedure_stub p
-            → Answers result (raised_unpacked i p self.now.limit (S.octets source.now) (first_word (drop 2 (S.octets source.now)))) }
+        requires { (i : Interface) × (p : Procedure) × (self.now ≡ compiled i self.now.limit)
+            × (stub.now ≡ procedure_stub p) }
+        ensures { (i : Interface) (p : Procedure) → self.now ≡ compiled i self.now.limit
+            → stub.now ≡ procedure_stub p
+            → Answers result
+            (raised_unpacked i p self.now.limit (S.octets source.now)
+            (first_word (drop 2 (S.octets source.now)))) }
     {
         let Some(number) = word_at(source, 2) else {
             return Err(StubFault::Short(2));
@@ -225,7 +237,9 @@ impl Stubs {
 // How many bytes stand from a place on, where there are more than the limit.
 fn length_above<S: ByteSource>(limit: u32, source: &S, at: usize) -> Option<u64>
     requires { at ≤ length (S.octets source.now) }
-    ensures { result ≡ cond (nat_lt limit (length (drop at (S.octets source.now)))) (Some (length (drop at (S.octets source.now)))) None }
+    ensures { result
+        ≡ cond (nat_lt limit (length (drop at (S.octets source.now))))
+        (Some (length (drop at (S.octets source.now)))) None }
 {
     let length = (source.len() - at) as u64;
     (length > u64::from(limit)).then_some(length)

@@ -20,7 +20,8 @@ pub(crate) fn write_all(
     operations: &[Operation],
     out: &mut Message,
 ) -> Result<(), NoMemory>
-    requires { (fields : FieldTrees) × FieldsStand operations.now 0 (length operations.now) fields × (fields_admit fields values.now ≡ true) }
+    requires { (fields : FieldTrees) × FieldsStand operations.now 0 (length operations.now) fields
+        × (fields_admit fields values.now ≡ true) }
     ensures { OnOk result (out.new ≡ out.old ++ spelling_of_all values.now) }
 {
     write_values(values, operations, 0, operations.len(), out)
@@ -34,7 +35,8 @@ fn write_value(
     place: usize,
     out: &mut Message,
 ) -> Result<(), NoMemory>
-    requires { (shape : ShapeTree) × Stands operations.now place shape × (fits shape (values.tree_of value.now) ≡ true) }
+    requires { (shape : ShapeTree) × Stands operations.now place shape
+        × (fits shape (values.tree_of value.now) ≡ true) }
     ensures { OnOk result (out.new ≡ out.old ++ spelling (values.tree_of value.now)) }
 {
     match &operations[place] {
@@ -76,7 +78,8 @@ fn write_items(
     place: usize,
     out: &mut Message,
 ) -> Result<(), NoMemory>
-    requires { (shape : ShapeTree) × Stands operations.now place shape × (every (fits shape) (value_trees items.now) ≡ true) }
+    requires { (shape : ShapeTree) × Stands operations.now place shape
+        × (every (fits shape) (value_trees items.now) ≡ true) }
     ensures { OnOk result (out.new ≡ out.old ++ spelling_of_all items.now) }
 {
     for item in items.as_slice() {
@@ -94,7 +97,8 @@ fn write_sequence(
     place: usize,
     out: &mut Message,
 ) -> Result<(), NoMemory>
-    requires { (shape : ShapeTree) × Stands operations.now place shape × (is_sequence bound (fits shape) (tree.sequence (value_trees items.now)) ≡ true) }
+    requires { (shape : ShapeTree) × Stands operations.now place shape
+        × (is_sequence bound (fits shape) (tree.sequence (value_trees items.now)) ≡ true) }
     ensures { OnOk result (out.new ≡ out.old ++ spelling (tree.sequence (value_trees items.now))) }
 {
     let count = items.len();
@@ -112,7 +116,8 @@ fn write_values(
     end: usize,
     out: &mut Message,
 ) -> Result<(), NoMemory>
-    requires { (fields : FieldTrees) × FieldsStand operations.now place end fields × (fields_admit fields values.now ≡ true) }
+    requires { (fields : FieldTrees) × FieldsStand operations.now place end fields
+        × (fields_admit fields values.now ≡ true) }
     ensures { OnOk result (out.new ≡ out.old ++ spelling_of_all values.now) }
 {
     let mut operation = place;
@@ -134,8 +139,10 @@ fn write_choice(
     end: usize,
     out: &mut Message,
 ) -> Result<(), NoMemory>
-    requires { (arms : ArmTrees) × ArmsStand operations.now place end arms × (is_choice (arm_fits arms) (tree.choice number (values.tree_of value.now)) ≡ true) }
-    ensures { OnOk result (out.new ≡ out.old ++ spelling (tree.choice number (values.tree_of value.now))) }
+    requires { (arms : ArmTrees) × ArmsStand operations.now place end arms
+        × (is_choice (arm_fits arms) (tree.choice number (values.tree_of value.now)) ≡ true) }
+    ensures { OnOk result
+        (out.new ≡ out.old ++ spelling (tree.choice number (values.tree_of value.now))) }
 {
     match arm_place(operations, place, end, number) {
         Some(part) => {

@@ -62,7 +62,8 @@ pub fn read_interface_text(
 impl Reader<'_> {
     /// Reads an interface whose types have at most 64 levels, or stops (docs/LANGUAGE.md, "Interfaces").
     pub fn interface(&mut self) -> Result<InterfaceText, NoMemory>
-        ensures { IfOk result (λ read. interface most_levels self.old ≡ (interface_of read, self.new)) }
+        ensures { IfOk result (λ read.
+            interface most_levels self.old ≡ (interface_of read, self.new)) }
     {
         let (name, number, version) = self.heading()?;
         let declared = self.declarations()?;
@@ -91,7 +92,8 @@ impl Reader<'_> {
     }
 
     fn declarations(&mut self) -> Result<DeclaredTexts, NoMemory>
-        ensures { IfOk result (λ read. declarations most_levels self.old ≡ (map declared_of read, self.new)) }
+        ensures { IfOk result (λ read.
+            declarations most_levels self.old ≡ (map declared_of read, self.new)) }
     {
         let mut declared = DeclaredTexts::new(self.alloc());
         while self.sees_name() {
@@ -101,7 +103,8 @@ impl Reader<'_> {
     }
 
     fn declared(&mut self) -> Result<DeclaredText, NoMemory>
-        ensures { IfOk result (λ read. declared most_levels self.old ≡ (declared_of read, self.new)) }
+        ensures { IfOk result (λ read.
+            declared most_levels self.old ≡ (declared_of read, self.new)) }
     {
         let name = self.name()?;
         self.sign(b":");
@@ -127,7 +130,8 @@ impl Reader<'_> {
     }
 
     fn declared_type(&mut self) -> Result<TypeText, NoMemory>
-        ensures { IfOk result (λ read. a_type_behind most_levels self.old ≡ (tree_of read, self.new)) }
+        ensures { IfOk result (λ read.
+            a_type_behind most_levels self.old ≡ (tree_of read, self.new)) }
     {
         self.word(b"TYPE");
         self.sign(b"=");
@@ -155,7 +159,9 @@ impl Reader<'_> {
         ),
         NoMemory,
     >
-        ensures { IfOk result (λ read. a_procedure_behind most_levels self.old ≡ ((read.0, (read.1, (read.2, read.3))), self.new)) }
+        ensures { IfOk result (λ read.
+            a_procedure_behind most_levels self.old
+            ≡ ((read.0, (read.1, (read.2, read.3))), self.new)) }
     {
         self.word(b"PROCEDURE");
         let arguments = self.arguments()?;

@@ -29,7 +29,8 @@ pub fn interfaces_are_read()
 pub fn read_is_an_interface()
     ensures { (all rest : List Placed) (tree : InterfaceTree) (end : ℕ) → AreTokens all
         → interface most_levels (open_at all end) ≡ (tree, open_at rest end)
-        → (own : List Placed) × (all ≡ own ++ rest) × IsInterface own tree × IsWithin most_levels tree }
+        → (own : List Placed) × (all ≡ own ++ rest) × IsInterface own tree
+        × IsWithin most_levels tree }
 {}
 
 /// No interface begins another one, and tokens have one tree.
@@ -41,16 +42,19 @@ pub fn one_interface()
 /// Where reading stops and no type is too deep, the tokens so far begin an interface, and none goes on with the
 /// next one; at the end of the text none of their beginnings is an interface.
 pub fn stops_at_the_unexpected()
-    ensures { (all left : List Placed) (tree : InterfaceTree) (stop : Stop) (end : ℕ) → AreTokens all
+    ensures { (all left : List Placed) (tree : InterfaceTree) (stop : Stop) (end : ℕ)
+        → AreTokens all
         → interface most_levels (open_at all end)
         ≡ (tree, record { rest = left; end = end; stop = Some stop })
-        → stop.cause ≡ StopCause.Unexpected → IsUnexpected all left × (stop.place ≡ place_in left end) }
+        → stop.cause ≡ StopCause.Unexpected
+        → IsUnexpected all left × (stop.place ≡ place_in left end) }
 {}
 
 /// Where reading stops and a type is too deep, the tokens so far begin an interface, and with the next one only
 /// such as have too many levels.
 pub fn stops_at_the_too_deep()
-    ensures { (all left : List Placed) (tree : InterfaceTree) (stop : Stop) (end : ℕ) → AreTokens all
+    ensures { (all left : List Placed) (tree : InterfaceTree) (stop : Stop) (end : ℕ)
+        → AreTokens all
         → interface most_levels (open_at all end)
         ≡ (tree, record { rest = left; end = end; stop = Some stop })
         → stop.cause ≡ StopCause.TooDeep → IsTooDeep all left × (stop.place ≡ place_in left end) }
@@ -60,7 +64,8 @@ pub fn stops_at_the_too_deep()
 /// at the place of the stop, and none of its types is too deep. The stop is marked with the whole type and the list of
 /// fields in which the first token stands that it has besides, where it stands in such ones.
 pub fn a_stop_is_filled_in()
-    ensures { (all left : List Placed) (tree : InterfaceTree) (stop : Stop) (end : ℕ) → AreTokens all
+    ensures { (all left : List Placed) (tree : InterfaceTree) (stop : Stop) (end : ℕ)
+        → AreTokens all
         → interface most_levels (open_at all end)
         ≡ (tree, record { rest = left; end = end; stop = Some stop })
         → IsFilledIn all left stop tree }

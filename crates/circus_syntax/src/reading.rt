@@ -65,7 +65,8 @@ impl Reader<'_> {
 
     fn name_of_type(&mut self) -> Result<TypeName, NoMemory>
         ensures read { IfOk result (λ read. name_of_type self.old ≡ (read, self.new)) }
-        ensures at { IfOk result (λ read. type_name_place read.«module» read.name ≡ place self.old) }
+        ensures at { IfOk result (λ read.
+            type_name_place read.«module» read.name ≡ place self.old) }
     {
         let first = self.name()?;
         if self.sees_sign(b".") {
@@ -125,7 +126,8 @@ impl Reader<'_> {
     }
 
     fn simple_kind(&mut self, start: TypeStart) -> Result<TypeKind, NoMemory>
-        ensures { IfOk result (λ kind. simple start self.old ≡ (tree_at (place self.old) kind, self.new)) }
+        ensures { IfOk result (λ kind.
+            simple start self.old ≡ (tree_at (place self.old) kind, self.new)) }
     {
         match start {
             TypeStart::Long => return Ok(self.long_kind()),
@@ -175,7 +177,8 @@ impl Reader<'_> {
     }
 
     fn labels_kind(&mut self) -> Result<TypeKind, NoMemory>
-        ensures { IfOk result (λ kind. simple TypeStart.Labels self.old ≡ (tree_at (place self.old) kind, self.new)) }
+        ensures { IfOk result (λ kind.
+            simple TypeStart.Labels self.old ≡ (tree_at (place self.old) kind, self.new)) }
     {
         self.sign(b"{");
         let labels = self.labels()?;
@@ -201,7 +204,8 @@ impl Reader<'_> {
 
     #[cycle(reading)]
     fn type_kind(&mut self, levels: u8) -> Result<TypeKind, NoMemory>
-        ensures { IfOk result (λ kind. unmarked_type levels self.old ≡ (tree_at (place self.old) kind, self.new)) }
+        ensures { IfOk result (λ kind.
+            unmarked_type levels self.old ≡ (tree_at (place self.old) kind, self.new)) }
     {
         let start = self.type_start();
         if !start.nests() {
@@ -221,7 +225,8 @@ impl Reader<'_> {
 
     #[cycle(reading)]
     fn array_kind(&mut self, levels: u8) -> Result<TypeKind, NoMemory>
-        ensures { IfOk result (λ kind. array_type levels self.old ≡ (tree_at (place self.old) kind, self.new)) }
+        ensures { IfOk result (λ kind.
+            array_type levels self.old ≡ (tree_at (place self.old) kind, self.new)) }
     {
         self.word(b"ARRAY");
         let len = self.number();
@@ -232,7 +237,8 @@ impl Reader<'_> {
 
     #[cycle(reading)]
     fn sequence_kind(&mut self, levels: u8) -> Result<TypeKind, NoMemory>
-        ensures { IfOk result (λ kind. sequence_type levels self.old ≡ (tree_at (place self.old) kind, self.new)) }
+        ensures { IfOk result (λ kind.
+            sequence_type levels self.old ≡ (tree_at (place self.old) kind, self.new)) }
     {
         self.word(b"SEQUENCE");
         let bound = self.bound();
@@ -243,7 +249,8 @@ impl Reader<'_> {
 
     #[cycle(reading)]
     fn record_kind(&mut self, levels: u8) -> Result<TypeKind, NoMemory>
-        ensures { IfOk result (λ kind. record_type levels self.old ≡ (tree_at (place self.old) kind, self.new)) }
+        ensures { IfOk result (λ kind.
+            record_type levels self.old ≡ (tree_at (place self.old) kind, self.new)) }
     {
         self.word(b"RECORD");
         self.sign(b"[");
@@ -254,7 +261,8 @@ impl Reader<'_> {
 
     #[cycle(reading)]
     fn choice_kind(&mut self, levels: u8) -> Result<TypeKind, NoMemory>
-        ensures { IfOk result (λ kind. choice_type levels self.old ≡ (tree_at (place self.old) kind, self.new)) }
+        ensures { IfOk result (λ kind.
+            choice_type levels self.old ≡ (tree_at (place self.old) kind, self.new)) }
     {
         self.word(b"CHOICE");
         self.word(b"OF");

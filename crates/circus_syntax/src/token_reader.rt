@@ -148,7 +148,8 @@ impl<'a> Reader<'a> {
     // The next token's bytes, if it is a name.
     fn next_name(&self) -> Option<&'a [u8]>
         ensures { MatchOption result (sees is_name self.now ≡ false)
-            (λ bytes. (t : Placed) × (next self.now ≡ Some t) × (is_name t ≡ true) × (bytes.now ≡ t.bytes)) }
+            (λ bytes. (t : Placed) × (next self.now ≡ Some t) × (is_name t ≡ true)
+            × (bytes.now ≡ t.bytes)) }
     {
         match (&self.stop, self.left.split_first()) {
             (None, Some((token, _))) => name_in(self.text, token),
@@ -159,7 +160,8 @@ impl<'a> Reader<'a> {
     // The next token's value, if it is a number.
     fn next_number(&self) -> Option<u64>
         ensures { MatchOption result (sees is_number self.now ≡ false)
-            (λ value. (t : Placed) × (next self.now ≡ Some t) × (is_number t ≡ true) × (value ≡ number_value t.bytes)) }
+            (λ value. (t : Placed) × (next self.now ≡ Some t) × (is_number t ≡ true)
+            × (value ≡ number_value t.bytes)) }
     {
         match (&self.stop, self.left.split_first()) {
             (None, Some((token, _))) => number_in(self.text, token),
@@ -170,7 +172,8 @@ impl<'a> Reader<'a> {
     // What stands between the next token's quotes, if it is a string.
     fn next_text(&self) -> Option<&'a [u8]>
         ensures { MatchOption result (sees is_text self.now ≡ false)
-            (λ content. (t : Placed) × (next self.now ≡ Some t) × (is_text t ≡ true) × (content.now ≡ content_of t.bytes)) }
+            (λ content. (t : Placed) × (next self.now ≡ Some t) × (is_text t ≡ true)
+            × (content.now ≡ content_of t.bytes)) }
     {
         match (&self.stop, self.left.split_first()) {
             (None, Some((token, _))) => text_in(self.text, token),
@@ -181,7 +184,8 @@ impl<'a> Reader<'a> {
     /// The next token's kind and its bytes, unless reading stopped: with it a grammar reads words of its own.
     pub fn next_token(&self) -> Option<(TokenKind, &'a [u8])>
         ensures { MatchOption result (next self.now ≡ None)
-            (λ seen. (t : Placed) × (next self.now ≡ Some t) × (seen.0 ≡ t.kind) × (seen.1.now ≡ t.bytes) × IsSpelling t.kind t.bytes) }
+            (λ seen. (t : Placed) × (next self.now ≡ Some t) × (seen.0 ≡ t.kind)
+            × (seen.1.now ≡ t.bytes) × IsSpelling t.kind t.bytes) }
     {
         match (&self.stop, self.left.split_first()) {
             (None, Some((token, _))) => Some((token.kind, token.bytes(self.text))),
@@ -216,7 +220,13 @@ impl<'a> Reader<'a> {
 
     /// Marks the stop, if there is one, with the place of a type.
     pub(crate) fn mark_type(&mut self, at: u32)
-        ensures { self.new ≡ record { rest = self.old.rest; end = self.old.end; stop = option_map (stop_in_type at) self.old.stop } }
+        ensures { self.new
+            ≡ record {
+              rest = self.old.rest;
+              end = self.old.end;
+              stop = option_map
+                  (stop_in_type at) self.old.stop;
+            } }
     {
         if let Some(stop) = &mut self.stop {
             stop.within = Some(at);
@@ -225,7 +235,13 @@ impl<'a> Reader<'a> {
 
     /// Marks the stop, if there is one, with the place of a list.
     pub(crate) fn mark_list(&mut self, at: u32)
-        ensures { self.new ≡ record { rest = self.old.rest; end = self.old.end; stop = option_map (stop_in_list at) self.old.stop } }
+        ensures { self.new
+            ≡ record {
+              rest = self.old.rest;
+              end = self.old.end;
+              stop = option_map
+                  (stop_in_list at) self.old.stop;
+            } }
     {
         if let Some(stop) = &mut self.stop {
             stop.list = Some(at);
@@ -338,7 +354,8 @@ impl<'a> Reader<'a> {
 fn name_in<'a>(text: &'a [u8], token: &Token) -> Option<&'a [u8]>
     requires { IsTokenIn text.now token.now }
     ensures { MatchOption result (is_name (placed_of text.now token.now) ≡ false)
-        (λ bytes. (is_name (placed_of text.now token.now) ≡ true) × (bytes.now ≡ bytes_of text.now token.now)) }
+        (λ bytes. (is_name (placed_of text.now token.now) ≡ true)
+        × (bytes.now ≡ bytes_of text.now token.now)) }
 {
     match token.kind {
         TokenKind::Word => {
@@ -357,7 +374,8 @@ fn name_in<'a>(text: &'a [u8], token: &Token) -> Option<&'a [u8]>
 fn number_in(text: &[u8], token: &Token) -> Option<u64>
     requires { IsTokenIn text.now token.now }
     ensures { MatchOption result (is_number (placed_of text.now token.now) ≡ false)
-        (λ value. (is_number (placed_of text.now token.now) ≡ true) × (value ≡ number_value (bytes_of text.now token.now))) }
+        (λ value. (is_number (placed_of text.now token.now) ≡ true)
+        × (value ≡ number_value (bytes_of text.now token.now))) }
 {
     match token.kind {
         TokenKind::Number => Some(token.number(text)),
@@ -369,7 +387,8 @@ fn number_in(text: &[u8], token: &Token) -> Option<u64>
 fn text_in<'a>(text: &'a [u8], token: &Token) -> Option<&'a [u8]>
     requires { IsTokenIn text.now token.now }
     ensures { MatchOption result (is_text (placed_of text.now token.now) ≡ false)
-        (λ content. (is_text (placed_of text.now token.now) ≡ true) × (content.now ≡ content_of (bytes_of text.now token.now))) }
+        (λ content. (is_text (placed_of text.now token.now) ≡ true)
+        × (content.now ≡ content_of (bytes_of text.now token.now))) }
 {
     match token.kind {
         TokenKind::Quoted => Some(token.content(text)),

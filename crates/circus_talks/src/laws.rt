@@ -24,27 +24,39 @@ use circus_model::Module;
 /// The pairs of each node stand for what has happened at them, so that all laws of pairs hold of them: of a message that
 /// arrives, a call that waits, a number that is next (docs/PROTOCOL.md, "Paired messages").
 pub fn pairs_stand_for_their_acts<M: Module>()
-    ensures { (d : Deployment) (modules : List M) (hosted : List (Option M)) (lines : List Line) (booted last : WorldState M) (node : ℕ) (s : Standing M)
-        → IsDeployment d → AreOfTroupes d (map M.declared modules) → AreHosted M.declared M.turn M.first d modules hosted
-        → all_booted M.declared M.turn M.first hosted (before_any d modules) ≡ Ok booted → Lead M.declared M.turn lines booted last
+    ensures { (d : Deployment) (modules : List M) (hosted : List (Option M)) (lines : List Line)
+        (booted last : WorldState M) (node : ℕ) (s : Standing M)
+        → IsDeployment d → AreOfTroupes d (map M.declared modules)
+        → AreHosted M.declared M.turn M.first d modules hosted
+        → all_booted M.declared M.turn M.first hosted (before_any d modules) ≡ Ok booted
+        → Lead M.declared M.turn lines booted last
         → slice_get last.nodes node ≡ Some s
-        → WireStands s.node.wire (beginning_of d node) (acts_of M.declared M.turn M.first d hosted lines booted node) }
+        → WireStands s.node.wire (beginning_of d node)
+        (acts_of M.declared M.turn M.first d hosted lines booted node) }
 {}
 
 /// What happens at the pair of a node with another one, and at that of the other one with it, is a talk of two ends: what
 /// comes at one was sent by the other before. So a message arrives at most once, as it was handed over, and counts as
 /// acknowledged whole only where it has arrived (docs/PROTOCOL.md, "Segments").
 pub fn two_nodes_talk<M: Module>()
-    ensures talk { (d : Deployment) (modules : List M) (hosted : List (Option M)) (lines : List Line) (booted last : WorldState M) (node other : ℕ)
-        → IsDeployment d → AreOfTroupes d (map M.declared modules) → AreHosted M.declared M.turn M.first d modules hosted
-        → all_booted M.declared M.turn M.first hosted (before_any d modules) ≡ Ok booted → Lead M.declared M.turn lines booted last
+    ensures talk { (d : Deployment) (modules : List M) (hosted : List (Option M))
+        (lines : List Line) (booted last : WorldState M) (node other : ℕ)
+        → IsDeployment d → AreOfTroupes d (map M.declared modules)
+        → AreHosted M.declared M.turn M.first d modules hosted
+        → all_booted M.declared M.turn M.first hosted (before_any d modules) ≡ Ok booted
+        → Lead M.declared M.turn lines booted last
         → node < length d.nodes → other < length d.nodes → node ≢ other
         → (talk : Talk) × IsTalk d.format talk
-        × (acts_at_first talk ≡ acts_between M.declared M.turn M.first d hosted lines booted node other)
-        × (acts_at_second talk ≡ acts_between M.declared M.turn M.first d hosted lines booted other node) }
-    ensures agree { (d : Deployment) (modules : List M) (hosted : List (Option M)) (lines : List Line) (booted last : WorldState M) (node other : ℕ)
-        → IsDeployment d → AreOfTroupes d (map M.declared modules) → AreHosted M.declared M.turn M.first d modules hosted
-        → all_booted M.declared M.turn M.first hosted (before_any d modules) ≡ Ok booted → Lead M.declared M.turn lines booted last
+        × (acts_at_first talk
+        ≡ acts_between M.declared M.turn M.first d hosted lines booted node other)
+        × (acts_at_second talk
+        ≡ acts_between M.declared M.turn M.first d hosted lines booted other node) }
+    ensures agree { (d : Deployment) (modules : List M) (hosted : List (Option M))
+        (lines : List Line) (booted last : WorldState M) (node other : ℕ)
+        → IsDeployment d → AreOfTroupes d (map M.declared modules)
+        → AreHosted M.declared M.turn M.first d modules hosted
+        → all_booted M.declared M.turn M.first hosted (before_any d modules) ≡ Ok booted
+        → Lead M.declared M.turn lines booted last
         → node < length d.nodes → other < length d.nodes → node ≢ other
         → Agree d.format (acts_between M.declared M.turn M.first d hosted lines booted node other)
         (acts_between M.declared M.turn M.first d hosted lines booted other node) }
@@ -54,20 +66,30 @@ pub fn two_nodes_talk<M: Module>()
 /// these bytes: a call by a call to this node, and a return by the return to the call that this node made with that number,
 /// for the purpose that is told with it.
 pub fn messages_were_handed_over<M: Module>()
-    ensures calls { (d : Deployment) (modules : List M) (hosted : List (Option M)) (lines : List Line) (booted last : WorldState M)
+    ensures calls { (d : Deployment) (modules : List M) (hosted : List (Option M))
+        (lines : List Line) (booted last : WorldState M)
         (number : ℕ) (sent : Sent) (s : Standing M) (caller : Caller) (message : List ℕ)
-        → IsDeployment d → AreOfTroupes d (map M.declared modules) → AreHosted M.declared M.turn M.first d modules hosted
-        → all_booted M.declared M.turn M.first hosted (before_any d modules) ≡ Ok booted → Lead M.declared M.turn lines booted last
+        → IsDeployment d → AreOfTroupes d (map M.declared modules)
+        → AreHosted M.declared M.turn M.first d modules hosted
+        → all_booted M.declared M.turn M.first hosted (before_any d modules) ≡ Ok booted
+        → Lead M.declared M.turn lines booted last
         → slice_get last.sent number ≡ Some sent → slice_get last.nodes sent.to ≡ Some s
         → heard_from s.node.wire sent.from (reading sent.bytes) ≡ Called caller message
         → (caller.node ≡ sent.from)
-        × (call_at 0 (acts_between M.declared M.turn M.first d hosted lines booted sent.from sent.to) caller.number ≡ Some message) }
-    ensures returns { (d : Deployment) (modules : List M) (hosted : List (Option M)) (lines : List Line) (booted last : WorldState M)
-        (number : ℕ) (sent : Sent) (s : Standing M) (call : ℕ) (purpose : Purpose) (message : List ℕ)
-        → IsDeployment d → AreOfTroupes d (map M.declared modules) → AreHosted M.declared M.turn M.first d modules hosted
-        → all_booted M.declared M.turn M.first hosted (before_any d modules) ≡ Ok booted → Lead M.declared M.turn lines booted last
+        × (call_at 0 (acts_between M.declared M.turn M.first d hosted lines booted sent.from
+        sent.to) caller.number ≡ Some message) }
+    ensures returns { (d : Deployment) (modules : List M) (hosted : List (Option M))
+        (lines : List Line) (booted last : WorldState M)
+        (number : ℕ) (sent : Sent) (s : Standing M) (call : ℕ) (purpose : Purpose)
+        (message : List ℕ)
+        → IsDeployment d → AreOfTroupes d (map M.declared modules)
+        → AreHosted M.declared M.turn M.first d modules hosted
+        → all_booted M.declared M.turn M.first hosted (before_any d modules) ≡ Ok booted
+        → Lead M.declared M.turn lines booted last
         → slice_get last.sent number ≡ Some sent → slice_get last.nodes sent.to ≡ Some s
         → heard_from s.node.wire sent.from (reading sent.bytes) ≡ Returned call purpose message
-        → (return_at (acts_between M.declared M.turn M.first d hosted lines booted sent.from sent.to) call ≡ Some message)
-        × (purpose_of (pair_of (beginning_of d sent.to)) sent.from (acts_of M.declared M.turn M.first d hosted lines booted sent.to) call ≡ Some purpose) }
+        → (return_at (acts_between M.declared M.turn M.first d hosted lines booted sent.from
+        sent.to) call ≡ Some message)
+        × (purpose_of (pair_of (beginning_of d sent.to)) sent.from
+        (acts_of M.declared M.turn M.first d hosted lines booted sent.to) call ≡ Some purpose) }
 {}

@@ -10,7 +10,8 @@ ghost use Rattle.circus_text.specs.Division.{AreTokensOf, IsAnswer};
 
 /// A text has one answer: tokens, or one fault at one place.
 pub fn one_answer()
-    ensures { (text : List ℕ) (a b : Result (List Token) LexFault) → IsAnswer text a → IsAnswer text b
+    ensures { (text : List ℕ) (a b : Result (List Token) LexFault) → IsAnswer text a
+        → IsAnswer text b
         → a ≡ b }
 {}
 

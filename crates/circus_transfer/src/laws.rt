@@ -12,8 +12,10 @@ ghost use Rattle.circus_transfer.specs.declared.fault.TransferFault.TheVariants.
 
 /// What a snapshot hands over is restored, but for want of memory.
 pub fn snapshots_are_restored()
-    ensures { (shapes : List Kind) (state : List ValueTree) (count : ℕ) (result : Result (List ValueTree × ℕ) Fault)
+    ensures { (shapes : List Kind) (state : List ValueTree) (count : ℕ)
+        (result : Result (List ValueTree × ℕ) Fault)
         → are_proper (fields_of shapes) ≡ true → all_fit shapes state ≡ true → count < 2 ^ 32
-        → Restores (snapshot_bytes count state) result (fields_reading (snapshot_fields shapes) 0 (snapshot_bytes count state))
+        → Restores (snapshot_bytes count state) result
+        (fields_reading (snapshot_fields shapes) 0 (snapshot_bytes count state))
         → result ≢ Err NoMemory → result ≡ Ok (state, count) }
 {}

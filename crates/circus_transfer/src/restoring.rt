@@ -21,10 +21,12 @@ const SNAPSHOT: u16 = 3;
 /// no value of the shapes goes on with, and `Excess` the first byte behind the state.
 pub fn restore(alloc: Global, bytes: &[u8], shapes: &Shapes) -> Result<(State, u32), TransferFault>
     // A state that is restored is one that the bytes spell, and a fault is the first one.
-    ensures restored { are_proper (fields_of shapes.now) ≡ true → IsRestored shapes.now bytes.now result }
+    ensures restored { are_proper (fields_of shapes.now) ≡ true
+        → IsRestored shapes.now bytes.now result }
 
     // Which answer it is.
-    ensures exact { Restores bytes.now result (fields_reading (snapshot_fields shapes.now) 0 bytes.now) }
+    ensures exact { Restores bytes.now result
+        (fields_reading (snapshot_fields shapes.now) 0 bytes.now) }
 {
     let (number, at) = read_word(&bytes, 0)?;
     if number != SNAPSHOT {

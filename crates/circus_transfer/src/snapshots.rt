@@ -22,7 +22,8 @@ pub fn snapshot(
 ) -> Result<Message, NoMemory>
     requires { all_fit shapes.now state.now ≡ true }
     ensures bytes { IfOk result (λ message. message ≡ snapshot_bytes count state.now) }
-    ensures header { IfOk result (λ message. message ≡ bytes_of (return_fields (header.Snapshot count)) ++ spelling_of_all state.now) }
+    ensures header { IfOk result (λ message.
+        message ≡ bytes_of (return_fields (header.Snapshot count)) ++ spelling_of_all state.now) }
 {
     let mut message = ListOf::new(alloc);
     write_return(alloc, &ReturnHeader::Snapshot(count), &mut message)?;

@@ -18,7 +18,9 @@ pub fn read_values<S: ByteSource>(
     shapes: &Shapes,
 ) -> Result<(Values, usize), ExternalFault>
     requires { from ≤ length (S.octets source.now) }
-    ensures { Gives (λ ts. ts) (S.octets source.now) result (fields_reading (fields_of shapes.now) from (drop from (S.octets source.now))) }
+    ensures { Gives (λ ts.
+        ts) (S.octets source.now) result
+        (fields_reading (fields_of shapes.now) from (drop from (S.octets source.now))) }
 {
     let mut values = Values::new(alloc);
     let mut at = from;

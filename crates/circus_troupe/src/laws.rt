@@ -22,7 +22,15 @@ pub fn stops_behind_a_deployment()
     ensures { (own left : List Placed) (next : Placed) (tree : DeploymentText) (end : ℕ)
         → Are spelling_deployment IsDeploymentText own tree → is_word (codes "TROUPE") next ≡ false
         → deployment (open_at (own ++ next ∷ left) end)
-        ≡ (tree, record { rest = next ∷ left; end = end; stop = Some (stop_at StopCause.Unexpected next.start) }) }
+        ≡ (
+          tree,
+          record {
+            rest = next
+                ∷ left;
+            end = end;
+            stop = Some (stop_at StopCause.Unexpected next.start);
+          },
+        ) }
 {}
 
 /// Where reading doesn't stop, no token is left; the tokens are a deployment, and its tree is answered.
@@ -35,23 +43,27 @@ pub fn read_is_a_deployment()
 /// Tokens have one tree.
 pub fn one_deployment()
     ensures { (all : List Placed) (tree other : DeploymentText)
-        → Are spelling_deployment IsDeploymentText all tree → Are spelling_deployment IsDeploymentText all other
+        → Are spelling_deployment IsDeploymentText all tree
+        → Are spelling_deployment IsDeploymentText all other
         → tree ≡ other }
 {}
 
 /// Where reading stops, the tokens so far begin a deployment, and none goes on with the next one; at the end of the text
 /// they are none. No level is too many, since none is opened.
 pub fn stops_at_the_unexpected()
-    ensures { (all left : List Placed) (tree : DeploymentText) (stop : Stop) (end : ℕ) → AreTokens all
+    ensures { (all left : List Placed) (tree : DeploymentText) (stop : Stop) (end : ℕ)
+        → AreTokens all
         → deployment (open_at all end) ≡ (tree, record { rest = left; end = end; stop = Some stop })
-        → IsUnexpected spelling_deployment IsDeploymentText all left × (stop.place ≡ place_in left end)
+        → IsUnexpected spelling_deployment IsDeploymentText all left
+        × (stop.place ≡ place_in left end)
         × (stop.cause ≡ StopCause.Unexpected) }
 {}
 
 /// Where reading stops, the tree is that of a deployment which the tokens so far begin. What it has besides them stands at
 /// the place of the stop.
 pub fn a_stop_is_filled_in()
-    ensures { (all left : List Placed) (tree : DeploymentText) (stop : Stop) (end : ℕ) → AreTokens all
+    ensures { (all left : List Placed) (tree : DeploymentText) (stop : Stop) (end : ℕ)
+        → AreTokens all
         → deployment (open_at all end) ≡ (tree, record { rest = left; end = end; stop = Some stop })
         → IsFilledIn spelling_deployment IsDeploymentText 0 all left stop.place tree }
 {}

@@ -24,9 +24,13 @@ fn meet_label<'a, C: WithTypeCauses>(
     name: &'a Named,
     number: Numeral,
 ) -> Result<(), NoMemory>
-    ensures found { OnOk result (best.new.fault ≡ least_from C.rank best.old.fault (label_faults C.embed (holds_name names.old) (holds_number numbers.old) name.now number)) }
-    ensures names { OnOk result (holds_name names.new ≡ also_name name.now.name (holds_name names.old)) }
-    ensures numbers { OnOk result (holds_number numbers.new ≡ also_number number.value (holds_number numbers.old)) }
+    ensures found { OnOk result
+        (best.new.fault ≡ least_from C.rank best.old.fault
+        (label_faults C.embed (holds_name names.old) (holds_number numbers.old) name.now number)) }
+    ensures names { OnOk result
+        (holds_name names.new ≡ also_name name.now.name (holds_name names.old)) }
+    ensures numbers { OnOk result
+        (holds_number numbers.new ≡ also_number number.value (holds_number numbers.old)) }
 {
     meet_name(names, best, name)?;
     meet_number(numbers, best, number)?;
@@ -39,7 +43,9 @@ fn labels<C: WithTypeCauses>(
     best: &mut Best<C>,
     labels: &[LabelText],
 ) -> Result<(), NoMemory>
-    ensures { OnOk result (best.new.fault ≡ least_from C.rank best.old.fault (labels_faults C.embed no_name no_number labels.now)) }
+    ensures { OnOk result
+        (best.new.fault ≡ least_from C.rank best.old.fault
+        (labels_faults C.embed no_name no_number labels.now)) }
 {
     let mut names = Names::new(alloc);
     let mut numbers = NumberSet::new(alloc);
@@ -54,7 +60,9 @@ fn arm_labels<C: WithTypeCauses>(
     best: &mut Best<C>,
     arms: &[ArmText],
 ) -> Result<(), NoMemory>
-    ensures { OnOk result (best.new.fault ≡ least_from C.rank best.old.fault (labels_faults C.embed no_name no_number (arm_labels (arm_trees (map arm_of arms.now))))) }
+    ensures { OnOk result
+        (best.new.fault ≡ least_from C.rank best.old.fault
+        (labels_faults C.embed no_name no_number (arm_labels (arm_trees (map arm_of arms.now))))) }
 {
     let mut names = Names::new(alloc);
     let mut numbers = NumberSet::new(alloc);
@@ -70,8 +78,11 @@ fn meet_names<'a, C: WithTypeCauses>(
     best: &mut Best<C>,
     group: &'a [Named],
 ) -> Result<(), NoMemory>
-    ensures found { OnOk result (best.new.fault ≡ least_from C.rank best.old.fault (repeated_names C.embed (holds_name names.old) group.now)) }
-    ensures added { OnOk result (holds_name names.new ≡ also_names group.now (holds_name names.old)) }
+    ensures found { OnOk result
+        (best.new.fault ≡ least_from C.rank best.old.fault
+        (repeated_names C.embed (holds_name names.old) group.now)) }
+    ensures added { OnOk result
+        (holds_name names.new ≡ also_names group.now (holds_name names.old)) }
 {
     for name in group {
         meet_name(names, best, name)?;
@@ -85,7 +96,9 @@ pub fn field_names<C: WithTypeCauses>(
     best: &mut Best<C>,
     groups: &[GroupText],
 ) -> Result<(), NoMemory>
-    ensures { OnOk result (best.new.fault ≡ least_from C.rank best.old.fault (repeated_names C.embed no_name (group_names (group_trees (map group_of groups.now))))) }
+    ensures { OnOk result
+        (best.new.fault ≡ least_from C.rank best.old.fault
+        (repeated_names C.embed no_name (group_names (group_trees (map group_of groups.now))))) }
 {
     let mut names = Names::new(alloc);
     for group in groups {
@@ -95,7 +108,9 @@ pub fn field_names<C: WithTypeCauses>(
 }
 
 fn called<N: TypeNames, C: WithTypeCauses>(names: &N, best: &mut Best<C>, name: &TypeName)
-    ensures { best.new.fault ≡ least_from C.rank best.old.fault (faults.unknown_faults C.embed (N.unknown names.now name.now)) }
+    ensures { best.new.fault
+        ≡ least_from C.rank best.old.fault
+        (faults.unknown_faults C.embed (N.unknown names.now name.now)) }
 {
     if let Some(place) = names.unknown(name) {
         best.note(true, place, C::of_type(TypeCause::Unknown));
@@ -110,7 +125,9 @@ pub fn inside<N: TypeNames, C: WithTypeCauses>(
     best: &mut Best<C>,
     shape: &TypeText,
 ) -> Result<(), NoMemory>
-    ensures { OnOk result (best.new.fault ≡ least_from C.rank best.old.fault (faults.inside C.embed (N.unknown names.now) (tree_of shape.now))) }
+    ensures { OnOk result
+        (best.new.fault ≡ least_from C.rank best.old.fault
+        (faults.inside C.embed (N.unknown names.now) (tree_of shape.now))) }
 {
     match &shape.kind {
         TypeKind::Enumeration(list) => labels(alloc, best, list.as_slice()),
@@ -148,7 +165,8 @@ pub fn inside<N: TypeNames, C: WithTypeCauses>(
 }
 
 fn bound_inside<C: WithTypeCauses>(best: &mut Best<C>, bound: &Option<Numeral>)
-    ensures { best.new.fault ≡ least_from C.rank best.old.fault (faults.bound_faults C.embed bound.now) }
+    ensures { best.new.fault
+        ≡ least_from C.rank best.old.fault (faults.bound_faults C.embed bound.now) }
 {
     if let Some(bound) = bound {
         note_above(best, GREATEST_WORD, *bound);
@@ -163,7 +181,10 @@ pub fn inside_groups<N: TypeNames, C: WithTypeCauses>(
     best: &mut Best<C>,
     groups: &[GroupText],
 ) -> Result<(), NoMemory>
-    ensures { OnOk result (best.new.fault ≡ least_from C.rank best.old.fault (faults.inside_groups C.embed (N.unknown names.now) (group_trees (map group_of groups.now)))) }
+    ensures { OnOk result
+        (best.new.fault ≡ least_from C.rank best.old.fault
+        (faults.inside_groups C.embed (N.unknown names.now)
+        (group_trees (map group_of groups.now)))) }
 {
     for group in groups {
         inside(alloc, names, best, &group.shape)?;
@@ -178,7 +199,9 @@ fn inside_arms<N: TypeNames, C: WithTypeCauses>(
     best: &mut Best<C>,
     arms: &[ArmText],
 ) -> Result<(), NoMemory>
-    ensures { OnOk result (best.new.fault ≡ least_from C.rank best.old.fault (faults.inside_arms C.embed (N.unknown names.now) (arm_trees (map arm_of arms.now)))) }
+    ensures { OnOk result
+        (best.new.fault ≡ least_from C.rank best.old.fault
+        (faults.inside_arms C.embed (N.unknown names.now) (arm_trees (map arm_of arms.now)))) }
 {
     for arm in arms {
         if !is_empty_record(&arm.shape) {

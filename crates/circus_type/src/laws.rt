@@ -15,12 +15,16 @@ ghost use Rattle.circus_type.specs.Seen.Measured.{measured, measure_of, is_over}
 /// The size that is counted of a type is that of the type written out, each number cut off one above its limit, and
 /// passes a limit exactly where the type written out does.
 pub fn sizes_are_cut_off()
-    ensures size { (forms : TypeName → ShapeTree) (t : TypeTree) → measured (λ n. measure_of (forms n)) t ≡ measure_of (written forms t) }
-    ensures over { (so_far : ℕ) (s : ShapeTree) → is_over (min so_far (1 + most_parts)) (measure_of s) ≡ is_large so_far s }
+    ensures size { (forms : TypeName → ShapeTree) (t : TypeTree)
+        → measured (λ n. measure_of (forms n)) t ≡ measure_of (written forms t) }
+    ensures over { (so_far : ℕ) (s : ShapeTree)
+        → is_over (min so_far (1 + most_parts)) (measure_of s) ≡ is_large so_far s }
 {}
 
 /// A type without a fault inside means a shape in which no rule is broken, where the names that are known stand for such.
 pub fn faultless_obeys()
-    ensures { (unknown : TypeName → Option ℕ) (forms : TypeName → ShapeTree) → ((n : TypeName) → unknown n ≡ None → ObeysInside (forms n))
-        → (t : TypeTree) → IsType t → inside (λ (cause : TypeCause). cause) unknown t ≡ [] → ObeysInside (written forms t) }
+    ensures { (unknown : TypeName → Option ℕ) (forms : TypeName → ShapeTree)
+        → ((n : TypeName) → unknown n ≡ None → ObeysInside (forms n))
+        → (t : TypeTree) → IsType t → inside (λ (cause : TypeCause). cause) unknown t ≡ []
+        → ObeysInside (written forms t) }
 {}

@@ -139,7 +139,8 @@ pub fn measured<N: TypeNames>(names: &N, shape: &TypeText) -> Measure
 /// The size of fields together.
 #[cycle(measured)]
 pub fn measured_groups<N: TypeNames>(names: &N, groups: &[GroupText]) -> Measure
-    ensures { result ≡ size.measured_groups (N.sizes names.now) (group_trees (map group_of groups.now)) }
+    ensures { result
+        ≡ size.measured_groups (N.sizes names.now) (group_trees (map group_of groups.now)) }
 {
     let mut size = Measure::new(0, 0, 0);
     let mut place = groups.len();

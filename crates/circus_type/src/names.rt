@@ -16,8 +16,11 @@ pub fn meet_name<'a, C: WithTypeCauses>(
     best: &mut Best<C>,
     name: &'a Named,
 ) -> Result<(), NoMemory>
-    ensures found { OnOk result (best.new.fault ≡ least_from C.rank best.old.fault (repeated_name C.embed (holds_name names.old) name.now)) }
-    ensures added { OnOk result (holds_name names.new ≡ also_name name.now.name (holds_name names.old)) }
+    ensures found { OnOk result
+        (best.new.fault ≡ least_from C.rank best.old.fault
+        (repeated_name C.embed (holds_name names.old) name.now)) }
+    ensures added { OnOk result
+        (holds_name names.new ≡ also_name name.now.name (holds_name names.old)) }
 {
     let earlier = names.insert(name.name.as_slice(), 0)?;
     best.note(earlier.is_some(), name.at, C::of_type(TypeCause::Repeated));
@@ -30,8 +33,11 @@ pub fn meet_number<C: WithTypeCauses>(
     best: &mut Best<C>,
     number: Numeral,
 ) -> Result<(), NoMemory>
-    ensures found { OnOk result (best.new.fault ≡ least_from C.rank best.old.fault (repeated_number C.embed (holds_number numbers.old) number)) }
-    ensures added { OnOk result (holds_number numbers.new ≡ also_number number.value (holds_number numbers.old)) }
+    ensures found { OnOk result
+        (best.new.fault ≡ least_from C.rank best.old.fault
+        (repeated_number C.embed (holds_number numbers.old) number)) }
+    ensures added { OnOk result
+        (holds_number numbers.new ≡ also_number number.value (holds_number numbers.old)) }
 {
     let is_new = numbers.insert(number.value)?;
     best.note(!is_new, number.at, C::of_type(TypeCause::Repeated));

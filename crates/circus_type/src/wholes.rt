@@ -38,7 +38,9 @@ fn found_inside<N: TypeNames, C: WithTypeCauses>(
     names: &N,
     shape: &TypeText,
 ) -> Result<Best<C>, NoMemory>
-    ensures { IfOk result (λ own. own.fault ≡ least_from C.rank None (faults.inside C.embed (N.unknown names.now) (tree_of shape.now))) }
+    ensures { IfOk result (λ own.
+        own.fault ≡ least_from C.rank None
+        (faults.inside C.embed (N.unknown names.now) (tree_of shape.now))) }
 {
     let mut own: Best<C> = Best { fault: None };
     inside(alloc, names, &mut own, shape)?;
@@ -57,9 +59,13 @@ pub fn whole<N: TypeNames, C: WithTypeCauses>(
     shape: &TypeText,
 ) -> Result<Measure, NoMemory>
     ensures found { OnOk result (best.new.fault ≡ least_from C.rank best.old.fault
-        (whole_faults C.embed cut_off (N.unknown names.now) (N.sizes names.now) within parts.old count (tree_of shape.now))) }
-    ensures counted { OnOk result (parts.new ≡ more_parts parts.old count (measured (N.sizes names.now) (tree_of shape.now))) }
-    ensures sized { IfOk result (λ measure. measure ≡ measured (N.sizes names.now) (tree_of shape.now)) }
+        (whole_faults C.embed cut_off (N.unknown names.now)
+        (N.sizes names.now) within parts.old count (tree_of shape.now))) }
+    ensures counted { OnOk result
+        (parts.new ≡ more_parts parts.old count
+        (measured (N.sizes names.now) (tree_of shape.now))) }
+    ensures sized { IfOk result (λ measure.
+        measure ≡ measured (N.sizes names.now) (tree_of shape.now)) }
 {
     let own = found_inside::<N, C>(alloc, names, shape)?;
     best.join(own);

@@ -14,7 +14,8 @@ use std::alloc::Global;
 /// The shape that a type means.
 #[cycle(written)]
 pub fn written<N: TypeNames>(alloc: Global, names: &N, shape: &TypeText) -> Result<Shape, NoMemory>
-    ensures { IfOk result (λ s. shapes.tree_of s ≡ meant.written (N.forms names.now) (tree_of shape.now)) }
+    ensures { IfOk result (λ s.
+        shapes.tree_of s ≡ meant.written (N.forms names.now) (tree_of shape.now)) }
 {
     Ok(match &shape.kind {
         TypeKind::Boolean => Shape::Boolean,
@@ -64,7 +65,8 @@ fn labels(alloc: Global, list: &[LabelText]) -> Result<Labels, NoMemory>
 
 // Adds a field of this shape for each of the names.
 fn push_fields(fields: &mut Fields, names: &[Named], shape: &Shape) -> Result<(), NoMemory>
-    ensures { OnOk result (fields.new ≡ fields.old ++ meant.fields_named names.now (shapes.tree_of shape.now)) }
+    ensures { OnOk result
+        (fields.new ≡ fields.old ++ meant.fields_named names.now (shapes.tree_of shape.now)) }
 {
     for name in names {
         fields.push(Field {
@@ -82,7 +84,8 @@ pub fn written_groups<N: TypeNames>(
     names: &N,
     groups: &[GroupText],
 ) -> Result<Fields, NoMemory>
-    ensures { IfOk result (λ fields. fields ≡ meant.written_groups (N.forms names.now) (group_trees (map group_of groups.now))) }
+    ensures { IfOk result (λ fields.
+        fields ≡ meant.written_groups (N.forms names.now) (group_trees (map group_of groups.now))) }
 {
     let mut fields = Fields::new(alloc);
     for group in groups {
@@ -94,7 +97,8 @@ pub fn written_groups<N: TypeNames>(
 
 #[cycle(written)]
 fn written_arms<N: TypeNames>(alloc: Global, names: &N, arms: &[ArmText]) -> Result<Arms, NoMemory>
-    ensures { IfOk result (λ list. list ≡ meant.written_arms (N.forms names.now) (arm_trees (map arm_of arms.now))) }
+    ensures { IfOk result (λ list.
+        list ≡ meant.written_arms (N.forms names.now) (arm_trees (map arm_of arms.now))) }
 {
     let mut list = Arms::new(alloc);
     for arm in arms {

@@ -96,7 +96,9 @@ impl<T> ListOf<T> {
     /// The item at a place, counted from 0, to be changed where it stands. `None` exactly where the place is not below
     /// the length.
     pub fn get_mut(&mut self, place: usize) -> Option<&mut T>
-        ensures* writes_back { sem 𝓛 (LendsIf (the_row T.row) T.row self.entry result (slice_set self.entry.now place) self.entry.now) }
+        ensures* writes_back { sem 𝓛
+            (LendsIf (the_row T.row) T.row self.entry result
+            (slice_set self.entry.now place) self.entry.now) }
         ensures variant { IsSome result ↔ (place < length self.old) }
         ensures item { IsItemAtMut self.old place result }
     {

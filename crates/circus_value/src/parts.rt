@@ -192,7 +192,8 @@ fn find(parts: &[Bytes], ends: &[usize], at: usize) -> Option<(usize, usize)>
     requires { (ends.now ≡ ends_from 0 parts.now) × (length (concat parts.now) ≤ most_bytes) }
     ensures none { IfNone result (length (concat parts.now) ≤ at) }
     ensures within { IfSome result (λ place. place.0 < length parts.now) }
-    ensures start { IfSome result (λ place. length (concat (take place.0 parts.now)) + place.1 ≡ at) }
+    ensures start { IfSome result (λ place.
+        length (concat (take place.0 parts.now)) + place.1 ≡ at) }
     ensures end { IfSome result (λ place. at < length (concat (take (place.0 + 1) parts.now))) }
 {
     let place = first_above(ends, at);

@@ -76,7 +76,8 @@ impl fmt::Display for Values {
 // The values with a comma and a space between two.
 #[cycle(value_text)]
 fn write_items<W: fmt::Write>(items: &Values, f: &mut fmt::Formatter<W>) -> fmt::Result
-    ensures { WritesOnOk W.Write.write_str_gives f.old result (shown_items (value_trees items.now)) f.new }
+    ensures { WritesOnOk W.Write.write_str_gives f.old result
+        (shown_items (value_trees items.now)) f.new }
 {
     let Some((first, others)) = items.as_slice().split_first() else {
         return Ok(());
@@ -97,7 +98,8 @@ fn truth_text(truth: bool) -> &'static str
 
 // The bytes in quotes.
 fn write_text<W: fmt::Write>(bytes: &[u8], f: &mut fmt::Formatter<W>) -> fmt::Result
-    ensures { WritesOnOk W.Write.write_str_gives f.old result (34 ∷ (shown_bytes bytes.now ++ 34 ∷ [])) f.new }
+    ensures { WritesOnOk W.Write.write_str_gives f.old result
+        (34 ∷ (shown_bytes bytes.now ++ 34 ∷ [])) f.new }
 {
     f.write_str("\"")?;
     for byte in bytes {

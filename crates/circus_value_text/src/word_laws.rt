@@ -15,7 +15,8 @@ pub fn clock_is_read()
 
 /// What is read as a clock is the text of one with so many counts.
 pub fn read_clock_is_shown()
-    ensures { (count : ℕ) (text clock rest : List ℕ) → counts_read count [] text ≡ Some (clock, rest)
+    ensures { (count : ℕ) (text clock rest : List ℕ)
+        → counts_read count [] text ≡ Some (clock, rest)
         → (text ≡ clock_text clock ++ rest) × (length clock ≡ count)
         × AllByRecursion (λ n. n < 2 ^ 32) clock }
 {}

@@ -73,7 +73,8 @@ impl<P: Drop> Peer<P> {
         requires sendable { IsSendable self.old.exchange.format message }
         requires up { self.old.exchange.stopped ≡ false }
         ensures left { OnOk result (self.old.exchange.next < never_used) }
-        ensures datagrams { IfOk result (λ datagrams. datagrams ≡ datagrams_of_call self.old.exchange message) }
+        ensures datagrams { IfOk result (λ datagrams.
+            datagrams ≡ datagrams_of_call self.old.exchange message) }
         ensures state { OnOk result (self.new ≡ peer_called self.old message purpose) }
         ensures err { OnErr result (self.new ≡ self.old) }
         ensures spent { self.old.exchange.next ≡ never_used → result ≡ Err Spent }
@@ -99,7 +100,8 @@ impl<P: Drop> Peer<P> {
     pub fn answer(&mut self, number: u32, message: Message) -> Result<Datagrams, NoMemory>
         requires sendable { IsSendable self.old.exchange.format message }
         requires awaited { awaits_return self.old.exchange number ≡ true }
-        ensures datagrams { IfOk result (λ datagrams. datagrams ≡ datagrams_of_return self.old.exchange number message) }
+        ensures datagrams { IfOk result (λ datagrams.
+            datagrams ≡ datagrams_of_return self.old.exchange number message) }
         ensures state { OnOk result (self.new ≡ peer_answered self.old number message) }
         ensures err { OnErr result (self.new ≡ self.old) }
     {
@@ -114,8 +116,11 @@ impl<P: Drop> Peer<P> {
         datagram: &Bytes,
     ) -> Result<Delivery<P>, NoMemory>
         requires { reading datagram.now ≡ Ok (piece segment.now) }
-        ensures sent { IfOk result (λ delivery. delivery.sent ≡ record { to = node; datagrams = datagrams_after self.old.exchange (piece segment.now) }) }
-        ensures heard { IfOk result (λ delivery. delivery.heard ≡ heard_by self.old node (piece segment.now)) }
+        ensures sent { IfOk result (λ delivery.
+            delivery.sent ≡ record
+            { to = node; datagrams = datagrams_after self.old.exchange (piece segment.now) }) }
+        ensures heard { IfOk result (λ delivery.
+            delivery.heard ≡ heard_by self.old node (piece segment.now)) }
         ensures state { OnOk result (self.new ≡ peer_heard self.old (piece segment.now)) }
         ensures err { OnErr result (self.new ≡ self.old) }
     {
@@ -172,8 +177,10 @@ fn note_tick(
     sends: &mut Batches,
     suspects: &mut Nodes,
 ) -> Result<(), NoMemory>
-    ensures sent { OnOk result (sends.new ≡ sends.old ++ record { to = node; datagrams = tick.datagrams } ∷ []) }
-    ensures suspected { OnOk result (suspects.new ≡ suspects.old ++ (if tick.suspect then node ∷ [] else [])) }
+    ensures sent { OnOk result
+        (sends.new ≡ sends.old ++ record { to = node; datagrams = tick.datagrams } ∷ []) }
+    ensures suspected { OnOk result
+        (suspects.new ≡ suspects.old ++ (if tick.suspect then node ∷ [] else [])) }
 {
     let Ticked { datagrams, suspect } = tick;
     sends.push(Batch {

@@ -78,8 +78,12 @@ impl<P: Drop> Wire<P> {
         requires format { (format ≡ 1) ⊎ (format ≡ 2) }
         requires own { own < nodes }
         requires few { nodes ≤ most_nodes }
-        ensures value { IfOk result (λ wire. wire ≡ model.before_any (record { own = own; nodes = nodes; first = 0; format = format })) }
-        ensures stands { IfOk result (λ wire. WireStands wire (record { own = own; nodes = nodes; first = 0; format = format }) begun) }
+        ensures value { IfOk result (λ wire.
+            wire ≡ model.before_any
+            (record { own = own; nodes = nodes; first = 0; format = format })) }
+        ensures stands { IfOk result (λ wire.
+            WireStands wire (record { own = own; nodes = nodes; first = 0; format = format })
+            begun) }
     {
         Wire::starting_at(alloc, own, nodes, 0, format)
     }
@@ -95,8 +99,12 @@ impl<P: Drop> Wire<P> {
         requires format { (format ≡ 1) ⊎ (format ≡ 2) }
         requires own { own < nodes }
         requires few { nodes ≤ most_nodes }
-        ensures value { IfOk result (λ wire. wire ≡ model.before_any (record { own = own; nodes = nodes; first = number; format = format })) }
-        ensures stands { IfOk result (λ wire. WireStands wire (record { own = own; nodes = nodes; first = number; format = format }) begun) }
+        ensures value { IfOk result (λ wire.
+            wire ≡ model.before_any
+            (record { own = own; nodes = nodes; first = number; format = format })) }
+        ensures stands { IfOk result (λ wire.
+            WireStands wire (record { own = own; nodes = nodes; first = number; format = format })
+            begun) }
     {
         let peers = fresh_peers(alloc, nodes - 1, number, format)?;
         Ok(Wire {
@@ -133,8 +141,10 @@ impl<P: Drop> Wire<P> {
     pub fn call(&mut self, to: u16, message: Message, purpose: P) -> Result<Batch, WireFault>
         requires up { model.is_up self.old to ≡ true }
         requires sendable { IsSendable self.old.format message }
-        ensures stands { (b : Beginning) (acts : WireActs P) → WireStands self.old b acts → OnOk result (WireStands self.new b (followed_by acts (CallTo to message purpose))) }
-        ensures owed { (b : Beginning) (acts : WireActs P) → WireStands self.old b acts → IfOk result (λ sent. sent ≡ owed_to b acts (CallTo to message purpose) to) }
+        ensures stands { (b : Beginning) (acts : WireActs P) → WireStands self.old b acts
+            → OnOk result (WireStands self.new b (followed_by acts (CallTo to message purpose))) }
+        ensures owed { (b : Beginning) (acts : WireActs P) → WireStands self.old b acts
+            → IfOk result (λ sent. sent ≡ owed_to b acts (CallTo to message purpose) to) }
 
         // By what the pairs know.
         ensures sent { IfOk result (λ sent. sent ≡ model.sent_by_call self.old to message) }
@@ -144,7 +154,8 @@ impl<P: Drop> Wire<P> {
 
         // Where no number is left, and only there.
         ensures spent { model.next_number self.old to ≡ never_used → result ≡ Err (Spent to) }
-        ensures spent_only { (node : ℕ) → result ≡ Err (Spent node) → (node ≡ to) × (model.next_number self.old to ≡ never_used) }
+        ensures spent_only { (node : ℕ) → result ≡ Err (Spent node)
+            → (node ≡ to) × (model.next_number self.old to ≡ never_used) }
     {
         match self.hand_call(to, message, purpose) {
             Ok(datagrams) => Ok(Batch { to, datagrams }),
@@ -157,7 +168,8 @@ impl<P: Drop> Wire<P> {
         requires up { model.is_up self.old to ≡ true }
         requires sendable { IsSendable self.old.format message }
         ensures left { OnOk result (model.next_number self.old to < never_used) }
-        ensures sent { IfOk result (λ datagrams. datagrams ≡ (model.sent_by_call self.old to message).datagrams) }
+        ensures sent { IfOk result (λ datagrams.
+            datagrams ≡ (model.sent_by_call self.old to message).datagrams) }
         ensures state { OnOk result (self.new ≡ model.called_to self.old to message purpose) }
         ensures err { OnErr result (self.new ≡ self.old) }
         ensures remains { model.Remains self.old self.new }
@@ -183,8 +195,11 @@ impl<P: Drop> Wire<P> {
     /// After `NoMemory` nothing has changed.
     pub fn answer(&mut self, caller: Caller, message: Message) -> Result<Batch, NoMemory>
         requires { IsSendable self.old.format message }
-        ensures stands { (b : Beginning) (acts : WireActs P) → WireStands self.old b acts → OnOk result (WireStands self.new b (followed_by acts (AnswerTo caller message))) }
-        ensures owed { (b : Beginning) (acts : WireActs P) → WireStands self.old b acts → model.IsOther self.old caller.node → IfOk result (λ sent. sent ≡ owed_to b acts (AnswerTo caller message) caller.node) }
+        ensures stands { (b : Beginning) (acts : WireActs P) → WireStands self.old b acts
+            → OnOk result (WireStands self.new b (followed_by acts (AnswerTo caller message))) }
+        ensures owed { (b : Beginning) (acts : WireActs P) → WireStands self.old b acts
+            → model.IsOther self.old caller.node
+            → IfOk result (λ sent. sent ≡ owed_to b acts (AnswerTo caller message) caller.node) }
         ensures sent { IfOk result (λ sent. sent ≡ model.sent_by_answer self.old caller message) }
         ensures state { OnOk result (self.new ≡ model.answered self.old caller message) }
         ensures err { OnErr result (self.new ≡ self.old) }
@@ -204,7 +219,8 @@ impl<P: Drop> Wire<P> {
     fn hand_return(&mut self, caller: Caller, message: Message) -> Result<Datagrams, NoMemory>
         requires awaited { model.is_awaited self.old caller ≡ true }
         requires sendable { IsSendable self.old.format message }
-        ensures sent { IfOk result (λ datagrams. datagrams ≡ (model.sent_by_answer self.old caller message).datagrams) }
+        ensures sent { IfOk result (λ datagrams.
+            datagrams ≡ (model.sent_by_answer self.old caller message).datagrams) }
         ensures state { OnOk result (self.new ≡ model.answered self.old caller message) }
         ensures err { OnErr result (self.new ≡ self.old) }
         ensures remains { model.Remains self.old self.new }
@@ -218,14 +234,23 @@ impl<P: Drop> Wire<P> {
     /// longer. After `NoMemory` nothing has changed.
     pub fn deliver(&mut self, from: u16, datagram: &Bytes) -> Result<Delivery<P>, NoMemory>
         requires { model.IsOther self.old from }
-        ensures stands { (b : Beginning) (acts : WireActs P) (s : Piece) → WireStands self.old b acts → reading datagram.now ≡ Ok s → OnOk result (WireStands self.new b (followed_by acts (CameFrom from s))) }
-        ensures owed { (b : Beginning) (acts : WireActs P) (s : Piece) → WireStands self.old b acts → reading datagram.now ≡ Ok s → IfOk result (λ delivery. delivery.sent ≡ owed_to b acts (CameFrom from s) from) }
-        ensures heard { (b : Beginning) (acts : WireActs P) (s : Piece) → WireStands self.old b acts → reading datagram.now ≡ Ok s → IfOk result (λ delivery. delivery.heard ≡ heard_after b acts from s) }
+        ensures stands { (b : Beginning) (acts : WireActs P) (s : Piece)
+            → WireStands self.old b acts → reading datagram.now ≡ Ok s
+            → OnOk result (WireStands self.new b (followed_by acts (CameFrom from s))) }
+        ensures owed { (b : Beginning) (acts : WireActs P) (s : Piece) → WireStands self.old b acts
+            → reading datagram.now ≡ Ok s
+            → IfOk result (λ delivery. delivery.sent ≡ owed_to b acts (CameFrom from s) from) }
+        ensures heard { (b : Beginning) (acts : WireActs P) (s : Piece) → WireStands self.old b acts
+            → reading datagram.now ≡ Ok s
+            → IfOk result (λ delivery. delivery.heard ≡ heard_after b acts from s) }
 
         // By what the pairs know. A datagram that is no segment is dropped, and changes nothing.
-        ensures sent { IfOk result (λ delivery. delivery.sent ≡ model.sent_by_datagram self.old from (reading datagram.now)) }
-        ensures told { IfOk result (λ delivery. delivery.heard ≡ model.heard_from self.old from (reading datagram.now)) }
-        ensures state { OnOk result (self.new ≡ model.after_datagram self.old from (reading datagram.now)) }
+        ensures sent { IfOk result (λ delivery.
+            delivery.sent ≡ model.sent_by_datagram self.old from (reading datagram.now)) }
+        ensures told { IfOk result (λ delivery.
+            delivery.heard ≡ model.heard_from self.old from (reading datagram.now)) }
+        ensures state { OnOk result
+            (self.new ≡ model.after_datagram self.old from (reading datagram.now)) }
         ensures err { OnErr result (self.new ≡ self.old) }
         ensures remains { model.Remains self.old self.new }
     {
@@ -249,9 +274,12 @@ impl<P: Drop> Wire<P> {
     ) -> Result<Delivery<P>, NoMemory>
         requires other { model.IsOther self.old from }
         requires read { reading datagram.now ≡ Ok (piece segment.now) }
-        ensures sent { IfOk result (λ delivery. delivery.sent ≡ model.sent_by_datagram self.old from (Ok (piece segment.now))) }
-        ensures told { IfOk result (λ delivery. delivery.heard ≡ model.heard_from self.old from (Ok (piece segment.now))) }
-        ensures state { OnOk result (self.new ≡ model.after_datagram self.old from (Ok (piece segment.now))) }
+        ensures sent { IfOk result (λ delivery.
+            delivery.sent ≡ model.sent_by_datagram self.old from (Ok (piece segment.now))) }
+        ensures told { IfOk result (λ delivery.
+            delivery.heard ≡ model.heard_from self.old from (Ok (piece segment.now))) }
+        ensures state { OnOk result
+            (self.new ≡ model.after_datagram self.old from (Ok (piece segment.now))) }
         ensures err { OnErr result (self.new ≡ self.old) }
         ensures remains { model.Remains self.old self.new }
     {
@@ -262,9 +290,12 @@ impl<P: Drop> Wire<P> {
     /// Lets a tick come to each pair with a node that was not declared down, in node order, and answers what is sent
     /// and which nodes are suspected now (docs/PROTOCOL.md, "Ticks"). After `NoMemory` there is no wire any more.
     pub fn tick(self) -> Result<(Self, Batches, Nodes), NoMemory>
-        ensures stands { (b : Beginning) (acts : WireActs P) → WireStands self b acts → IfOk result (λ tick. WireStands tick.0 b (followed_by acts TickAll)) }
-        ensures owed { (b : Beginning) (acts : WireActs P) → WireStands self b acts → IfOk result (λ tick. tick.1 ≡ ticks_owed b acts) }
-        ensures suspects { (b : Beginning) (acts : WireActs P) → WireStands self b acts → IfOk result (λ tick. tick.2 ≡ suspects_owed b acts) }
+        ensures stands { (b : Beginning) (acts : WireActs P) → WireStands self b acts
+            → IfOk result (λ tick. WireStands tick.0 b (followed_by acts TickAll)) }
+        ensures owed { (b : Beginning) (acts : WireActs P) → WireStands self b acts
+            → IfOk result (λ tick. tick.1 ≡ ticks_owed b acts) }
+        ensures suspects { (b : Beginning) (acts : WireActs P) → WireStands self b acts
+            → IfOk result (λ tick. tick.2 ≡ suspects_owed b acts) }
 
         // By what the pairs know.
         ensures state { IfOk result (λ tick. tick.0 ≡ model.all_ticked self) }
@@ -297,8 +328,14 @@ impl<P: Drop> Wire<P> {
     ) -> Result<(), NoMemory>
         requires { place < length self.old.peers }
         ensures state { OnOk result (self.new ≡ model.ticked_at self.old place) }
-        ensures sent { OnOk result (sends.new ≡ sends.old ++ model.of_peer [] (model.batches (model.node_at self.old.own place)) (slice_get self.old.peers place)) }
-        ensures suspected { OnOk result (suspects.new ≡ suspects.old ++ model.of_peer [] (model.suspicion (model.node_at self.old.own place)) (slice_get self.old.peers place)) }
+        ensures sent { OnOk result
+            (sends.new ≡ sends.old
+            ++ model.of_peer [] (model.batches (model.node_at self.old.own place))
+            (slice_get self.old.peers place)) }
+        ensures suspected { OnOk result
+            (suspects.new ≡ suspects.old
+            ++ model.of_peer [] (model.suspicion (model.node_at self.old.own place))
+            (slice_get self.old.peers place)) }
     {
         let node = node_at(self.own, place);
         self.peers[place].tick(node, sends, suspects)
@@ -309,7 +346,8 @@ impl<P: Drop> Wire<P> {
     /// finds its purpose. It takes no memory.
     pub fn stop(&mut self, node: u16)
         requires { model.IsOther self.old node }
-        ensures stands { (b : Beginning) (acts : WireActs P) → WireStands self.old b acts → WireStands self.new b (followed_by acts (StopOf node)) }
+        ensures stands { (b : Beginning) (acts : WireActs P) → WireStands self.old b acts
+            → WireStands self.new b (followed_by acts (StopOf node)) }
         ensures state { self.new ≡ model.stopped_at self.old node }
         ensures remains { model.Remains self.old self.new }
     {

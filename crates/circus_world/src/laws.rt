@@ -20,29 +20,38 @@ use circus_model::Module;
 /// What was sent is never changed or dropped, so that a datagram keeps its number: where lines lead, the datagrams begin
 /// with those that had been sent before.
 pub fn what_was_sent_stays<M: Module>()
-    ensures { (lines : List Line) (world last : WorldState M) → Lead M.declared M.turn lines world last
+    ensures { (lines : List Line) (world last : WorldState M)
+        → Lead M.declared M.turn lines world last
         → (more : List Sent) × (last.sent ≡ world.sent ++ more) }
 {}
 
 /// Each line behind a boot is one step. No datagram has a later step than the last one, and none an earlier step than a
 /// datagram before it.
 pub fn steps_never_fall<M: Module>()
-    ensures steps { (deployment : Deployment) (modules : List M) (lines : List Line) (world last : WorldState M)
-        → IsBooted M.declared M.turn M.first deployment modules (Ok world) → Lead M.declared M.turn lines world last
+    ensures steps { (deployment : Deployment) (modules : List M) (lines : List Line)
+        (world last : WorldState M)
+        → IsBooted M.declared M.turn M.first deployment modules (Ok world)
+        → Lead M.declared M.turn lines world last
         → last.steps ≡ length lines }
-    ensures past { (deployment : Deployment) (modules : List M) (lines : List Line) (world last : WorldState M)
-        → IsBooted M.declared M.turn M.first deployment modules (Ok world) → Lead M.declared M.turn lines world last
+    ensures past { (deployment : Deployment) (modules : List M) (lines : List Line)
+        (world last : WorldState M)
+        → IsBooted M.declared M.turn M.first deployment modules (Ok world)
+        → Lead M.declared M.turn lines world last
         → All (λ (sent : Sent). sent.step ≤ last.steps) last.sent }
-    ensures order { (deployment : Deployment) (modules : List M) (lines : List Line) (world last : WorldState M)
-        → IsBooted M.declared M.turn M.first deployment modules (Ok world) → Lead M.declared M.turn lines world last
+    ensures order { (deployment : Deployment) (modules : List M) (lines : List Line)
+        (world last : WorldState M)
+        → IsBooted M.declared M.turn M.first deployment modules (Ok world)
+        → Lead M.declared M.turn lines world last
         → AllPairs (λ (earlier later : Sent). earlier.step ≤ later.step) last.sent }
 {}
 
 /// Each datagram goes from a node of the program to another one.
 pub fn datagrams_go_between_nodes<M: Module>()
-    ensures { (deployment : Deployment) (modules : List M) (lines : List Line) (world last : WorldState M)
+    ensures { (deployment : Deployment) (modules : List M) (lines : List Line)
+        (world last : WorldState M)
         → IsDeployment deployment → AreOfTroupes deployment (map M.declared modules)
-        → IsBooted M.declared M.turn M.first deployment modules (Ok world) → Lead M.declared M.turn lines world last
+        → IsBooted M.declared M.turn M.first deployment modules (Ok world)
+        → Lead M.declared M.turn lines world last
         → All (IsBetween (length deployment.nodes)) last.sent }
 {}
 
@@ -56,6 +65,7 @@ pub fn worlds_depend_on_behaviours<M: Module>()
         ≡ stepped declared_of turn_of line (world_as M.declared M.turn M.first world) }
     ensures boots { (hosted : List (Option M)) (world : WorldState M)
         → step_as M.declared M.turn M.first (all_booted M.declared M.turn M.first hosted world)
-        ≡ all_booted declared_of turn_of first_of (map (option_map (behaviour M.declared M.turn M.first)) hosted)
+        ≡ all_booted declared_of turn_of first_of
+        (map (option_map (behaviour M.declared M.turn M.first)) hosted)
         (world_as M.declared M.turn M.first world) }
 {}

@@ -172,7 +172,8 @@ impl<M: Module> World<M> {
     /// takes no memory.
     pub fn kept(&self, node: u16) -> Option<&MemberRecord>
         requires { node < length self.now.nodes }
-        ensures value { option_copied result ≡ option_and_then (λ s. record_of s.node.acting) (slice_get self.now.nodes node) }
+        ensures value { option_copied result
+            ≡ option_and_then (λ s. record_of s.node.acting) (slice_get self.now.nodes node) }
         ensures kept { (s : Standing M) → slice_get self.now.nodes node ≡ Some s
             → IsRecorded M.declared M.turn M.first s.node.acting }
     {
@@ -189,7 +190,8 @@ impl<M: Module> World<M> {
 
     /// The views that the Ringmaster keeps, one a troupe, up to its crash where its node has crashed. It takes no memory.
     pub fn ring_views(&self) -> &Views
-        ensures { option_and_then (λ s. views_of s.node.acting) (slice_get self.now.nodes 0) ≡ Some result.now }
+        ensures { option_and_then (λ s. views_of s.node.acting) (slice_get self.now.nodes 0)
+            ≡ Some result.now }
     {
         let Some(core) = &self.slots[0].core else {
             unreachable!();
@@ -430,7 +432,8 @@ fn boot_all<M: Module>(
     requires modules { AreOfTroupes deployment.now (map M.declared modules.now) }
     requires slots { slots.old.items ≡ [] }
     requires sent { sent.old ≡ [] }
-    ensures { AreBooted M.declared M.turn M.first deployment.now modules.now slots.new.items sent.new result }
+    ensures { AreBooted M.declared M.turn M.first deployment.now modules.now slots.new.items
+        sent.new result }
 {
     for node in 0..deployment.nodes.len() as u16 {
         boot_at(alloc, deployment, modules, node, slots, sent)?;
@@ -450,7 +453,8 @@ fn boot_at<M: Module>(
     requires deployment { IsDeployment deployment.now }
     requires modules { AreOfTroupes deployment.now (map M.declared modules.now) }
     requires within { node < length deployment.now.nodes }
-    ensures { IsBootedAt M.declared M.turn M.first deployment.now modules.now node slots.old.items sent.old slots.new.items sent.new result }
+    ensures { IsBootedAt M.declared M.turn M.first deployment.now modules.now node slots.old.items
+        sent.old slots.new.items sent.new result }
 {
     let (core, outputs) = match NodeCore::boot_of(alloc, deployment, modules, node) {
         Ok(booted) => booted,
@@ -471,8 +475,10 @@ fn make_at<M: Module>(
     sent: &mut SentList,
 ) -> Result<(), Loss>
     requires node { node < vec_len slots.old }
-    requires can { (slot : SlotOf M M.Paused) → slice_get slots.old.items node ≡ Some slot → CanMake event slot }
-    ensures { IsMadeAt M.declared M.turn at node event slots.old.items sent.old slots.new.items sent.new result }
+    requires can { (slot : SlotOf M M.Paused) → slice_get slots.old.items node ≡ Some slot
+        → CanMake event slot }
+    ensures { IsMadeAt M.declared M.turn at node event slots.old.items sent.old slots.new.items
+        sent.new result }
 {
     let gives = match slots[usize::from(node)].make_step(at, event) {
         Ok(gives) => gives,

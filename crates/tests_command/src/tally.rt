@@ -70,7 +70,9 @@ type Mixed = Either<TextModule, Tally>;
 
 // Texts, as modules of the first kind.
 fn as_texts(alloc: Global, texts: Vec<TextModule>) -> Result<Vec<Mixed>, NoMemory>
-    ensures { IfOk result (λ modules. map ⟦<Mixed as Module>⟧.declared modules.items ≡ map ⟦<TextModule as Module>⟧.declared texts.items) }
+    ensures { IfOk result (λ modules.
+        map ⟦<Mixed as Module>⟧.declared modules.items
+        ≡ map ⟦<TextModule as Module>⟧.declared texts.items) }
 {
     texts.into_iter().map(Either::First).collect(alloc)
 }
@@ -93,8 +95,10 @@ fn tallied(
     tally: Tally,
 ) -> Result<Vec<Mixed>, Fail>
     requires deployment { IsDeployment deployment.now }
-    requires modules { AreOfTroupes deployment.now (map ⟦<Mixed as Module>⟧.declared modules.items) }
-    ensures { IfOk result (λ modules. AreOfTroupes deployment.now (map ⟦<Mixed as Module>⟧.declared modules.items)) }
+    requires modules { AreOfTroupes deployment.now
+        (map ⟦<Mixed as Module>⟧.declared modules.items) }
+    ensures { IfOk result (λ modules.
+        AreOfTroupes deployment.now (map ⟦<Mixed as Module>⟧.declared modules.items)) }
 {
     if modules.is_empty() || !is_no_root(deployment) {
         return Err("no module to stand for".into());
@@ -111,8 +115,10 @@ fn modules_of(
     with_tally: bool,
 ) -> Result<Vec<Mixed>, Fail>
     requires deployment { IsDeployment deployment.now }
-    requires modules { AreOfTroupes deployment.now (map ⟦<TextModule as Module>⟧.declared texts.items) }
-    ensures { IfOk result (λ modules. AreOfTroupes deployment.now (map ⟦<Mixed as Module>⟧.declared modules.items)) }
+    requires modules { AreOfTroupes deployment.now
+        (map ⟦<TextModule as Module>⟧.declared texts.items) }
+    ensures { IfOk result (λ modules.
+        AreOfTroupes deployment.now (map ⟦<Mixed as Module>⟧.declared modules.items)) }
 {
     let modules = as_texts(alloc, texts)?;
     if with_tally {
