@@ -8,11 +8,11 @@
 # which ./build makes. It ends with status 1 where a run didn't end with the status that it should.
 import os
 import re
-import resource
 import shutil
 import subprocess
 import sys
 import tempfile
+import time
 
 top = os.path.dirname(os.path.dirname(os.path.abspath(__file__)))
 circus = os.environ.get("CIRCUS", f"{top}/crates/circus/out/circus")
@@ -144,17 +144,29 @@ RUNS = {
 }
 
 
+def held(process):
+    # what is told of a child when it has ended counts what this script held when it began
+    try:
+        with open(f"/proc/{process}/status") as status:
+            return int(re.search(r"VmHWM:\s+(\d+)", status.read())[1])
+    except (OSError, TypeError):
+        return 0
+
+
 def run(words, statuses):
     with open("out", "wb") as out:
-        before = resource.getrusage(resource.RUSAGE_CHILDREN)
         ran = subprocess.Popen([circus, *words.split()], stdout=out, stdin=subprocess.DEVNULL)
-        _, status, used = os.wait4(ran.pid, 0)
+        most, ended = 0, 0
+        while not ended:
+            most = max(most, held(ran.pid))
+            time.sleep(0.002)
+            ended, status, used = os.wait4(ran.pid, os.WNOHANG)
         ran.returncode = os.waitstatus_to_exitcode(status)
-    return ran.returncode in statuses, used.ru_utime + used.ru_stime, used.ru_maxrss / 1024
+    return ran.returncode in statuses, used.ru_utime + used.ru_stime, most / 1024
 
 
 def instructions(words):
-    said = subprocess.run(
+    subprocess.run(
         ["valgrind", "--log-file=log", "--tool=callgrind", "--callgrind-out-file=/dev/null", circus, *words.split()],
         stdout=subprocess.DEVNULL,
         stdin=subprocess.DEVNULL,
