@@ -33,38 +33,13 @@ END.
 ROOT Main IMPORTS Counter;
 BEGIN
   VAR got: LONG CARDINAL;
-  MAIN VAR s: SEQUENCE OF CARDINAL; VAR t: SEQUENCE OF CARDINAL; VAR i: LONG CARDINAL; BEGIN
-    {main}
+  MAIN VAR i: LONG CARDINAL; BEGIN
+    WHILE i < {times} DO CALL Counter.Add [5] INTO [got]; i := i + 1; END;
     RETURN [];
   END;
 END.
 RINGMASTER ring PORT 9000;
 TROUPE Counter CALLS FIRST REPLIES FIRST MEMBERS s1 PORT 9001;
-TROUPE Main CALLS FIRST REPLIES FIRST MEMBERS m1 PORT 9002;
-"""
-
-BLOCK = """CIRCUS 2;
-Room: PROGRAM 1 VERSION 1 =
-BEGIN
-  Block: TYPE = ARRAY 8 OF SEQUENCE 65535 OF CARDINAL;
-  Put: PROCEDURE [b: Block] = 1;
-END.
-MODULE Store IMPLEMENTS Room;
-BEGIN
-  PROCEDURE Put BEGIN
-    RETURN [];
-  END;
-END.
-ROOT Main IMPORTS Store;
-BEGIN
-  MAIN VAR q: SEQUENCE 65535 OF CARDINAL; BEGIN
-    WHILE LENGTH(q) < 65535 DO APPEND 7 TO q; END;
-    CALL Store.Put [Store.Block#[q, q, q, q, q, q, q, q]];
-    RETURN [];
-  END;
-END.
-RINGMASTER ring PORT 9000;
-TROUPE Store CALLS FIRST REPLIES FIRST MEMBERS s1 PORT 9001;
 TROUPE Main CALLS FIRST REPLIES FIRST MEMBERS m1 PORT 9002;
 """
 
@@ -93,8 +68,8 @@ TROUPE Main CALLS FIRST REPLIES FIRST MEMBERS m1 PORT 9002;
 """
 
 
-def counter(main, body="", locals=""):
-    return COUNTER.format(main=main, body=body, locals=locals)
+def calls(times, body="", locals=""):
+    return COUNTER.format(times=times, body=body, locals=locals)
 
 
 def bank(payments):
@@ -111,13 +86,9 @@ def labels(number, uses):
     return LABELS.format(labels=names, uses=f"w := Kind#a{number - 1};\n" * uses)
 
 
-def add(times):
-    return f"WHILE i < {times} DO CALL Counter.Add [5] INTO [got]; i := i + 1; END;"
-
-
-def copies(times):
-    fill = "WHILE i < 15000 DO APPEND 7 TO s; i := i + 1; END; i := 0; "
-    return fill + f"WHILE i < {times} DO t := s; i := i + 1; END; got := LENGTH(t);"
+def program(name):
+    with open(f"{top}/tests/programs/{name}.circus") as file:
+        return file.read()
 
 
 # name: the words, the files that they name, and the statuses that the run may end with
@@ -129,17 +100,13 @@ RUNS = {
     "sample of 200,000 steps": ("sample p 1 200000", {"p": bank(3000)}, {0}),
     "loops of 38,000,000 steps": (
         "run p",
-        {"p": counter(add(38), "WHILE i < 333000 DO i := i + 1; END; ", "VAR i: LONG CARDINAL; ")},
+        {"p": calls(38, "WHILE i < 333000 DO i := i + 1; END; ", "VAR i: LONG CARDINAL; ")},
         {0},
     ),
-    "65,535 asks": ("run p", {"p": counter(add(65535))}, {0}),
-    "a value of 1,048,576 bytes": ("settle p 2000", {"p": BLOCK}, {0, 10}),
-    "100,000 copies of 15,000 items": ("run p", {"p": counter(copies(100000))}, {0}),
-    "2,000 calls with 32,768 items": (
-        "run p",
-        {"p": counter(add(2000), locals="VAR a: ARRAY 32768 OF CARDINAL; ")},
-        {0},
-    ),
+    "65,535 asks": ("run p", {"p": calls(65535)}, {0}),
+    "a value of 1,048,576 bytes": ("settle p 2000", {"p": program("block_8")}, {0, 10}),
+    "100,000 copies of 15,000 items": ("run p", {"p": program("copies")}, {0}),
+    "2,000 calls with 32,768 items": ("run p", {"p": program("locals")}, {0}),
     "4,000 labels, 4,000 uses": ("stubs p", {"p": labels(4000, 4000)}, {0}),
 }
 
