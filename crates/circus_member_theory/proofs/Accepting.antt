@@ -17,3 +17,5 @@ pub mod Can
 pub mod True
 pub mod TrueCan
 pub mod Sendable
+pub mod Spelled
+pub mod Rules

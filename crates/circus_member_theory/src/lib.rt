@@ -1,15 +1,17 @@
 //! Theory: what a member does is true of the history, and nothing of it comes late or early.
 //!
-//! True, in `proofs/`: a member that enters the next run of the history, with replies that are those
-//! of the history, performs that run. `Histories.antt` has what the laws of histories say of one ask,
-//! `OneRun.antt` that a run goes on as in the history, `Standing.antt` what each act of a performer
-//! keeps of a record that stands. What is read of a message that was written is what was meant, so
-//! that what is accepted is true: `Accepting/` has headers (`Heads.antt`, `Calls.antt`,
+//! True, in `proofs/`: a member that enters the next run of the history, with replies that are
+//! those of the history, performs that run. `Histories.antt` has what the laws of histories say of
+//! one ask, `OneRun.antt` that a run goes on as in the history, `Standing.antt` what each act of a
+//! performer keeps of a record that stands. What is read of a message that was written is what was
+//! meant, so that what is accepted is true: `Accepting/` has headers (`Heads.antt`, `Calls.antt`,
 //! `Returns.antt`, `Tables.antt`), values behind them (`Arguments.antt`, `Outcomes.antt`,
 //! `States.antt`), that what is accepted can happen (`Can.antt`), that of true messages it is true
 //! (`True.antt`) and can happen (`TrueCan.antt`), and that true messages can be sent
-//! (`Sendable.antt`). The other files have that a step of a member keeps what is true of it, and that
-//! what it makes is true; `specs/Ranges.antt` says what a member has room for.
+//! (`Sendable.antt`). `grammar` has that what is read of bytes is what they spell, and which
+//! messages are accepted, by their grammar (`Spelled.antt`, `Rules.antt`). The other files have
+//! that a step of a member keeps what is true of it, and that what it makes is true;
+//! `specs/Ranges.antt` says what a member has room for.
 //!
 //! In time: `laws` has this. `specs/Living.antt` says which pasts a member lives, and what it is
 //! behind one, and `Counting.antt` what counts for a collator. In `proofs/Timely/`, `Firsts.antt` has
@@ -22,8 +24,13 @@
 //! that counts.
 #![tactic(auto)]
 
+mod grammar;
 mod laws;
 
+pub use grammar::{
+    calls_are_accepted_by_rules, headers_are_read_by_their_fields, returns_are_accepted_by_rules,
+    values_are_read_by_their_spelling,
+};
 pub use laws::{
     calls_of_known_views_count, nothing_comes_late_or_early, runs_are_entered_as_called,
     those_that_perform_are_expected, unanimous_values_are_said_by_all, words_say_what_they_mean,

@@ -1,6 +1,8 @@
 pub mod Headers
 pub mod Bodies
 pub mod Accepting
+pub mod Grammar
+pub mod Acceptance
 pub mod Seen
 pub mod Node
 pub mod NodeState

@@ -83,7 +83,7 @@ long_front (a ∷ b ∷ c ∷ d ∷ bytes) n octets is =
     small (suc (suc (suc zero))) = octets 3
     small (suc (suc (suc (suc i)))) = omega arith
 
-number_front : (s : Size) (at : ℕ) (bytes : List ℕ) (n : ℕ) → AreOctets bytes → first_number s (drop at bytes) ≡ Some n
+pub number_front : (s : Size) (at : ℕ) (bytes : List ℕ) (n : ℕ) → AreOctets bytes → first_number s (drop at bytes) ≡ Some n
     → drop at bytes ≡ field_bytes (field_of s n) ++ drop (at + size_len s) bytes
 number_front of_word at bytes n octets is =
     word_front (drop at bytes) n (octets_rest bytes at octets) is ∙ ap (λ w. to_be_bytes w16 n ++ w) (drop-drop 2 at bytes)

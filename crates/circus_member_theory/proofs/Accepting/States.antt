@@ -28,24 +28,27 @@ snapshot_admitted variables state count fit few =
 pub snapshot_octets : (variables : List Shape) (state : List ValueTree) (count : ℕ) → all_fit variables state ≡ true → count < 2 ^ 32 → AreOctets (snapshot_bytes count state)
 snapshot_octets variables state count fit few = fields_spelled_octets (snapshot_fields variables) (snapshot_values count state) (snapshot_admitted variables state count fit few)
 
+-- what is spelled is found whole
+pub snapshot_found : (variables : List Shape) (count : ℕ) (state : List ValueTree) → are_proper (fields_of variables) ≡ true → all_fit variables state ≡ true → count < 2 ^ 32
+    → found_whole (fields_reading (snapshot_fields variables) 0 (snapshot_bytes count state)) ≡ Some (snapshot_values count state)
+snapshot_found variables count state proper fit few =
+    let values = snapshot_values count state in
+    let bytes = snapshot_bytes count state in
+    let nothing = append-nil bytes in
+    let octets = subst AreOctets (sym nothing) (snapshot_octets variables state count fit few) in
+    ap found_whole (ap (fields_reading (snapshot_fields variables) 0) (sym nothing)
+    ∙ fields_spelled_read (snapshot_fields variables) proper values 0 [] (snapshot_admitted variables state count fit few) octets)
+
 -- the state that is restored is the one that was handed over
 pub state_is : (variables : List Shape) (most count : ℕ) (state : List ValueTree) (restored : List ValueTree × ℕ)
     → are_proper (fields_of variables) ≡ true → all_fit variables state ≡ true → count < 2 ^ 32
     → restored_in variables most (snapshot_bytes count state) ≡ Some restored → restored ≡ (state, count)
-state_is variables most count state restored proper fit few is = by_test (nat_le (size_of_values state) most) (ap limited (sym whole) ∙ is)
+state_is variables most count state restored proper fit few is =
+    by_test (nat_le (size_of_values state) most) (ap limited (sym (snapshot_found variables count state proper fit few)) ∙ is)
   where
     limited : Option (List ValueTree) → Option (List ValueTree × ℕ)
     limited values =
         option_and_then (λ (r : List ValueTree × ℕ). if nat_le (size_of_values r.0) most then Some r else None) (option_and_then counted_state values)
-
-    whole : found_whole (fields_reading (snapshot_fields variables) 0 (snapshot_bytes count state)) ≡ Some (snapshot_values count state)
-    whole =
-        let values = snapshot_values count state in
-        let bytes = snapshot_bytes count state in
-        let nothing = append-nil bytes in
-        let octets = subst AreOctets (sym nothing) (snapshot_octets variables state count fit few) in
-        ap found_whole (ap (fields_reading (snapshot_fields variables) 0) (sym nothing)
-        ∙ fields_spelled_read (snapshot_fields variables) proper values 0 [] (snapshot_admitted variables state count fit few) octets)
 
     by_test : (within : Bool) → (if within then Some (state, count) else None) ≡ Some restored → restored ≡ (state, count)
     by_test true e = cc
