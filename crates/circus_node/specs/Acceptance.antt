@@ -16,13 +16,14 @@ use Rattle.circus_ring.specs.RingTable.{Kept, troupe_of}
 use Rattle.circus_ring.specs.TableFields.{tables}
 use Rattle.circus_model.specs.declared.signature.Signature.{Signature}
 use Rattle.circus_model.specs.declared.signature.ProcedureShape.{ProcedureShape}
+use Rattle.circus_record.specs.declared.record.MemberRecord.{MemberRecord}
 use Rattle.circus_member_rules.specs.MemberState.{MemberState}
 use Rattle.circus_member_rules.specs.declared.occurrence.AskName.{AskName}
 use Rattle.circus_member_rules.specs.declared.occurrence.Purpose.{Purpose}
 use Rattle.circus_member_rules.specs.declared.occurrence.Purpose.TheVariants as for
 use Rattle.circus_member_rules.specs.declared.occurrence.Occurrence.{Occurrence}
 use Rattle.circus_member_rules.specs.declared.occurrence.Occurrence.TheVariants as comes
-use Rattle.circus_node.specs.Accepting.{is_in_order, called_by, imported, may_tell}
+use Rattle.circus_node.specs.Accepting.{is_in_order, recorded_ask, called_by, imported, may_tell}
 use Rattle.circus_node.specs.Grammar.{Heads, Spell, SpellArguments, SpellOutcome, HandsOver}
 
 -- a call to a member: an ask in order with arguments of the procedure, or a state request that names the own troupe
@@ -39,9 +40,12 @@ pub record AcceptsRequest (kept : Kept) (message : List ℕ) (request : Request)
   pub header : Heads calls message (Ring request) []
   pub known : troupe_of request < length kept.troupes
 
--- the imported procedure that an ask of a name calls
+-- the imported procedure that an ask of a name calls, as a member knows it, and as a record has it
 abbrev pub procedure_called : {M : Type 0} → Signature → MemberState M → AskName → Option ProcedureShape
 procedure_called declared m name = option_and_then (imported declared) (called_by m name)
+
+abbrev pub procedure_recorded : Signature → MemberRecord → AskName → Option ProcedureShape
+procedure_recorded declared kept name = option_and_then (imported declared) (recorded_ask kept name)
 
 -- a return of a node to an ask: a reply that has a count for each module and an outcome of what the ask called, Stale, or Before
 pub data AcceptsAnswer (d : Deployment) (called : Option ProcedureShape) (name : AskName) (server from : ℕ) (message : List ℕ) : Occurrence → Type 0 where

@@ -36,13 +36,12 @@ use Rattle.circus_member_rules.specs.declared.occurrence.Purpose.TheVariants as 
 use Rattle.circus_truth.specs.Proper.{IsProperProcedure, IsProperModule}
 use Rattle.circus_node.specs.Bodies.{values_at, outcome_at, restored_in}
 use Rattle.circus_node.specs.Headers.{call_in, return_in, table_at}
-use Rattle.circus_node.specs.Accepting.{is_in_order, unpacks, may_ask, taken_call, accepted_call, taken_request, accepted_request, outcome_of, taken_reply, taken_answer, accepted_answer, may_tell, taken_table, accepted_table, accepted_state, accepted_return}
+use Rattle.circus_node.specs.Accepting.{is_in_order, unpacks, may_ask, taken_call, accepted_call, taken_request, accepted_request, taken_answer, accepted_answer, may_tell, taken_table, accepted_table, accepted_state, accepted_return}
 use Rattle.circus_node.specs.Grammar.{Heads, SpellArguments, SpellOutcome}
 use Rattle.circus_node.specs.Acceptance as rules
 use Rattle.circus_node.specs.Acceptance.{procedure_called, AcceptsCall, AcceptsRequest, AcceptsAnswer, AcceptsTable, AcceptsState, AcceptsReturn}
 use Rattle.circus_member_theory.proofs.Accepting.Options.{before_some, seen_some, passes_some}
 use Rattle.circus_member_theory.proofs.Accepting.Spelled.{header_length, body_is, call_heads, call_read, return_heads, return_read, table_heads, table_read, values_spelled, spelled_values, outcome_spelled, spelled_outcome, state_handed, handed_state}
-use Rattle.circus_member_theory.proofs.Accepting.Taken.{reply_taken}
 
 -- ---- arguments
 
@@ -139,66 +138,82 @@ module _ (kept : Kept) (message : List ℕ) (request : Request) where
       ap (option_and_then (λ (read : Call × ℕ). taken_request kept read.0)) (call_read message [] (Ring request) a.header)
       ∙ ap (λ b. if b then Some request else None) (lt-ltb (troupe_of request) (length kept.troupes) a.known)
 
--- ---- returns
+-- ---- returns to an ask
 
-module _ {M : Type 0} (d : Deployment) (declared : Signature) (m : MemberState M) (name : AskName) (server from : ℕ) (message : List ℕ) where
-  abbrev called : Option ProcedureShape
-  called = procedure_called declared m name
+-- what a return comes to, by the procedure that the ask called
+abbrev reply_by : Deployment → Option ProcedureShape → List ℕ → ℕ → List ℕ → Option Reply
+reply_by d called clock at message =
+    if length clock == length d.troupes
+    then option_map (λ outcome. record { clock = clock; outcome = outcome }) (option_and_then (λ p. outcome_at p (limit_of d.format) at message) called)
+    else None
 
-  answer_follows : (o : Occurrence) → AreOctets message → accepted_answer d declared m name server from message ≡ Some o → AcceptsAnswer d called name server from message o
+abbrev pub answer_by : Deployment → Option ProcedureShape → AskName → ℕ → ℕ → List ℕ → ReturnHeader × ℕ → Option Occurrence
+answer_by d called name server from message (says.Reply clock, at) = option_map (λ reply. comes.Replied name from reply) (reply_by d called clock at message)
+answer_by d called name server from message (says.Stale incarnation, at) = Some (comes.IsStale name server from incarnation)
+answer_by d called name server from message (says.Before first, at) = Some (comes.IsBefore name from)
+answer_by d called name server from message (says.Snapshot count, at) = None
+answer_by d called name server from message (says.Table, at) = None
+
+module _ (d : Deployment) (called : Option ProcedureShape) (name : AskName) (server from : ℕ) (message : List ℕ) where
+  abbrev Accepts : Occurrence → Type 0
+  Accepts = AcceptsAnswer d called name server from message
+
+  reply_follows : (o : Occurrence) (clock : List ℕ) (at : ℕ) → AreOctets message → Heads returns message (says.Reply clock) (drop at message)
+      → (counts : Bool) → (length clock == length d.troupes) ≡ counts
+      → option_map (λ reply. comes.Replied name from reply)
+      (if counts then option_map (λ outcome. let r : Reply = record { clock = clock; outcome = outcome } in r)
+      (option_and_then (λ (p : ProcedureShape). outcome_at p (limit_of d.format) at message) called) else None) ≡ Some o → Accepts o
+  reply_follows o clock at octets heads true counts e =
+      let outcomes : Option Outcome = option_and_then (λ (p : ProcedureShape). outcome_at p (limit_of d.format) at message) called in
+      let reply : Outcome → Reply = λ outcome. record { clock = clock; outcome = outcome } in
+      let s = seen_some (λ r. comes.Replied name from r) (option_map reply outcomes) o e in
+      let v = seen_some reply outcomes s.value s.is in
+      let p = before_some (λ (q : ProcedureShape). outcome_at q (limit_of d.format) at message) called v.value v.is in
+      subst Accepts (ap (λ r. comes.Replied name from r) (sym v.seen) ∙ sym s.seen)
+      (rules.reply clock (drop at message) p.value v.value heads (eqb-true (length clock) (length d.troupes) counts) p.is
+      (outcome_spelled p.value (limit_of d.format) at message v.value octets p.then))
+  reply_follows o clock at octets heads false counts e = cc
+
+  pub answer_follows : (o : Occurrence) → AreOctets message → option_and_then (answer_by d called name server from message) (return_in message) ≡ Some o → Accepts o
   answer_follows o octets is =
-      let b = before_some (λ (read : ReturnHeader × ℕ). taken_answer d declared m name server from read.0 read.1 message) (return_in message) o is in
+      let b = before_some (answer_by d called name server from message) (return_in message) o is in
       by_header b.value.0 b.value.1 (return_heads message b.value.0 b.value.1 octets b.is).0 b.then
     where
-      of_outcome : (clock : List ℕ) (at : ℕ) (outcome : Outcome) → Heads returns message (says.Reply clock) (drop at message) → length clock ≡ length d.troupes
-          → outcome_of d declared m name at message ≡ Some outcome
-          → AcceptsAnswer d called name server from message (comes.Replied name from (record { clock = clock; outcome = outcome }))
-      of_outcome clock at outcome heads counts read =
-          let p = before_some (λ (q : ProcedureShape). outcome_at q (limit_of d.format) at message) called outcome read in
-          rules.reply clock (drop at message) p.value outcome heads counts p.is (outcome_spelled p.value (limit_of d.format) at message outcome octets p.then)
-
-      by_header : (h : ReturnHeader) (at : ℕ) → Heads returns message h (drop at message) → taken_answer d declared m name server from h at message ≡ Some o
-          → AcceptsAnswer d called name server from message o
-      by_header (says.Reply clock) at heads e =
-          let s = seen_some (λ reply. comes.Replied name from reply) (taken_reply d declared m name clock at message) o e in
-          let r = reply_taken d declared m name clock at message s.value s.is in
-          let same : ◌≡◌ {A = Reply} (record { clock = clock; outcome = s.value.outcome }) s.value =
-          ap (λ c. let y : Reply = record { clock = c; outcome = s.value.outcome } in y) (sym r.clock_is) in
-          subst (AcceptsAnswer d called name server from message) (ap (λ reply. comes.Replied name from reply) same ∙ sym s.seen)
-          (of_outcome clock at s.value.outcome heads r.counts r.outcome_read)
+      by_header : (h : ReturnHeader) (at : ℕ) → Heads returns message h (drop at message) → answer_by d called name server from message (h, at) ≡ Some o → Accepts o
+      by_header (says.Reply clock) at heads e = reply_follows o clock at octets heads (length clock == length d.troupes) refl e
       by_header (says.Stale incarnation) at heads e =
-          subst (AcceptsAnswer d called name server from message) (same_Some (comes.IsStale name server from incarnation) o e)
+          subst Accepts (same_Some (comes.IsStale name server from incarnation) o e)
           (rules.stale incarnation (subst (Heads returns message (says.Stale incarnation)) (heads.closed refl) heads))
       by_header (says.Before first) at heads e =
-          subst (AcceptsAnswer d called name server from message) (same_Some (comes.IsBefore name from) o e)
-          (rules.before first (subst (Heads returns message (says.Before first)) (heads.closed refl) heads))
+          subst Accepts (same_Some (comes.IsBefore name from) o e) (rules.before first (subst (Heads returns message (says.Before first)) (heads.closed refl) heads))
       by_header (says.Snapshot count) at heads e = cc
       by_header says.Table at heads e = cc
 
   -- what heads a message is taken
   answer_taken : (h : ReturnHeader) (body : List ℕ) → Heads returns message h body
-      → accepted_answer d declared m name server from message ≡ taken_answer d declared m name server from h (header_length returns h) message
-  answer_taken h body heads =
-      ap (option_and_then (λ (read : ReturnHeader × ℕ). taken_answer d declared m name server from read.0 read.1 message)) (return_read message body h heads)
+      → option_and_then (answer_by d called name server from message) (return_in message) ≡ answer_by d called name server from message (h, header_length returns h)
+  answer_taken h body heads = ap (option_and_then (answer_by d called name server from message)) (return_read message body h heads)
 
-  answer_accepted : (o : Occurrence) → ((p : ProcedureShape) → called ≡ Some p → IsProperProcedure p) → AcceptsAnswer d called name server from message o
-      → accepted_answer d declared m name server from message ≡ Some o
+  pub answer_accepted : (o : Occurrence) → ((p : ProcedureShape) → called ≡ Some p → IsProperProcedure p) → Accepts o
+      → option_and_then (answer_by d called name server from message) (return_in message) ≡ Some o
   answer_accepted o proper (rules.reply clock body p outcome heads counts is spelled) =
       let at = header_length returns (says.Reply clock) in
       let here = subst (λ b. SpellOutcome p (limit_of d.format) b outcome) (sym (body_is returns message body (says.Reply clock) heads)) spelled in
-      let read : outcome_of d declared m name at message ≡ Some outcome =
+      let outcomes : Option Outcome = option_and_then (λ (q : ProcedureShape). outcome_at q (limit_of d.format) at message) called in
+      let read : outcomes ≡ Some outcome =
       ap (option_and_then (λ (q : ProcedureShape). outcome_at q (limit_of d.format) at message)) is
       ∙ spelled_outcome p (limit_of d.format) at message outcome (proper p is) here in
       let reply : Outcome → Reply = λ x. record { clock = clock; outcome = x } in
       answer_taken (says.Reply clock) body heads
-      ∙ ap (λ b. option_map (λ r. comes.Replied name from r) (if b then option_map reply (outcome_of d declared m name at message) else None))
-      (eq-eqb (length clock) (length d.troupes) counts)
+      ∙ ap (λ b. option_map (λ r. comes.Replied name from r) (if b then option_map reply outcomes else None)) (eq-eqb (length clock) (length d.troupes) counts)
       ∙ ap (λ x. option_map (λ r. comes.Replied name from r) (option_map reply x)) read
   answer_accepted o proper (rules.stale incarnation heads) = answer_taken (says.Stale incarnation) [] heads
   answer_accepted o proper (rules.before first heads) = answer_taken (says.Before first) [] heads
 
+-- ---- returns for other purposes
+
 module _ (d : Deployment) (request : Request) (message : List ℕ) where
-  table_follows : (o : Occurrence) → AreOctets message → accepted_table d request message ≡ Some o → AcceptsTable d request message o
+  pub table_follows : (o : Occurrence) → AreOctets message → accepted_table d request message ≡ Some o → AcceptsTable d request message o
   table_follows o octets is =
       let b = before_some (λ (read : ReturnHeader × ℕ). taken_table d request read.0 read.1 message) (return_in message) o is in
       by_header b.value.0 b.value.1 (return_heads message b.value.0 b.value.1 octets b.is).0 b.then
@@ -219,7 +234,7 @@ module _ (d : Deployment) (request : Request) (message : List ℕ) where
       by_header (says.Before first) at heads e = cc
       by_header (says.Snapshot count) at heads e = cc
 
-  table_accepted : (o : Occurrence) → AcceptsTable d request message o → accepted_table d request message ≡ Some o
+  pub table_accepted : (o : Occurrence) → AcceptsTable d request message o → accepted_table d request message ≡ Some o
   table_accepted o (rules.table body told heads inner may) =
       let at = header_length returns says.Table in
       let here = subst (λ b. Heads tables b told []) (sym (body_is returns message body says.Table heads)) inner in
@@ -228,27 +243,47 @@ module _ (d : Deployment) (request : Request) (message : List ℕ) where
       ∙ ap (λ b. if b then Some (comes.Told request told) else None) may
 
 module _ (declared : Signature) (message : List ℕ) where
-  state_follows : (o : Occurrence) → AreOctets message → accepted_state declared message ≡ Some o → AcceptsState declared message o
+  pub state_follows : (o : Occurrence) → AreOctets message → accepted_state declared message ≡ Some o → AcceptsState declared message o
   state_follows o octets is =
       let s = seen_some (λ (restored : List ValueTree × ℕ). comes.Restored restored.0 restored.1) (restored_in declared.variables declared.limit message) o is in
       subst (AcceptsState declared message) (sym s.seen)
       (rules.state s.value.0 s.value.1 (state_handed declared.variables declared.limit message s.value.0 s.value.1 octets s.is))
 
-  state_accepted : (o : Occurrence) → IsProperModule declared → AcceptsState declared message o → accepted_state declared message ≡ Some o
+  pub state_accepted : (o : Occurrence) → IsProperModule declared → AcceptsState declared message o → accepted_state declared message ≡ Some o
   state_accepted o proper (rules.state values count handed) =
       ap (option_map (λ (restored : List ValueTree × ℕ). comes.Restored restored.0 restored.1))
       (handed_state declared.variables declared.limit message values count proper.variables handed)
 
+-- ---- returns to a member
+
 module _ {M : Type 0} (d : Deployment) (declared : Signature) (m : MemberState M) (from : ℕ) (message : List ℕ) where
+  -- a member takes what the procedure gives that it called
+  answer_is : (name : AskName) (server : ℕ)
+      → accepted_answer d declared m name server from message
+      ≡ option_and_then (answer_by d (procedure_called declared m name) name server from message) (return_in message)
+  answer_is name server = by_read (return_in message)
+    where
+      by_read : (r : Option (ReturnHeader × ℕ))
+          → option_and_then (λ (read : ReturnHeader × ℕ). taken_answer d declared m name server from read.0 read.1 message) r
+          ≡ option_and_then (answer_by d (procedure_called declared m name) name server from message) r
+      by_read None = refl
+      by_read (Some (says.Reply clock, at)) = refl
+      by_read (Some (says.Stale incarnation, at)) = refl
+      by_read (Some (says.Before first, at)) = refl
+      by_read (Some (says.Snapshot count, at)) = refl
+      by_read (Some (says.Table, at)) = refl
+
   pub return_follows : (purpose : Purpose) (o : Occurrence) → AreOctets message → accepted_return d declared m from purpose message ≡ Some o
       → AcceptsReturn d declared (procedure_called declared m) from purpose message o
-  return_follows (for.Ask name server) o octets is = answer_follows d declared m name server from message o octets is
+  return_follows (for.Ask name server) o octets is =
+      answer_follows d (procedure_called declared m name) name server from message o octets (sym (answer_is name server) ∙ is)
   return_follows (for.Ring request) o octets is = table_follows d request message o octets is
   return_follows for.Fetch o octets is = state_follows declared message o octets is
 
   pub return_accepted : (purpose : Purpose) (o : Occurrence) → IsProperModule declared
       → ((name : AskName) (p : ProcedureShape) → procedure_called declared m name ≡ Some p → IsProperProcedure p)
       → AcceptsReturn d declared (procedure_called declared m) from purpose message o → accepted_return d declared m from purpose message ≡ Some o
-  return_accepted (for.Ask name server) o proper called_proper a = answer_accepted d declared m name server from message o (called_proper name) a
+  return_accepted (for.Ask name server) o proper called_proper a =
+      answer_is name server ∙ answer_accepted d (procedure_called declared m name) name server from message o (called_proper name) a
   return_accepted (for.Ring request) o proper called_proper a = table_accepted d request message o a
   return_accepted for.Fetch o proper called_proper a = state_accepted declared message o proper a
