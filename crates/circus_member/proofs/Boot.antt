@@ -1,4 +1,4 @@
--- A member at boot is at rest.
+-- A member at boot is at rest, and has gone on as far as it can.
 use Rattle.std.proofs.Common.{◌≡◌, ℕ, ◌<◌, Bool, true, false, List, [], length, refl, arith}
 use Rattle.std.specs.List.{IsDistinct}
 use Rattle.std.proofs.lemmas.List.{length-map}
@@ -27,8 +27,10 @@ use Rattle.circus_member_rules.specs.Callable.{IsReply}
 use Rattle.circus_member_rules.specs.Rules.{is_settled, stays_open}
 use Rattle.circus_member_rules.specs.Step.{waits, performer_at_boot, entered, main_start, before_any, starts_at_boot}
 use Rattle.circus_member_rules.specs.Happening.{IsHome}
+use Rattle.circus_member_rules.specs.GoneOn.{HasGoneOn}
 use Rattle.circus_member_rules.specs.Seen.Sound.{IsHeld, IsOpenAsk, AreNamed, IsSound, MayStart, IsRested}
 use Rattle.circus_member_rules.proofs.Starting.{sound_entered}
+use Rattle.circus_member_rules.proofs.Done.{none_held, entered_done}
 use Rattle.circus_member_rules.proofs.Unsettled.{entered_left}
 
 none_named : AreNamed []
@@ -86,3 +88,12 @@ module _ {M : Type 0} (declared : M → Signature) (turn : M → List ValueTree 
         sound = sound_entered declared turn first lawful 0 d start (sound_at_boot beginning) (may_begin beginning is);
         closed = All-weaker (λ (x : AskName × Asking). false ≡ false → stays_open e.member.known (waits e.member.performing.kept) x ≡ true) (λ (x : AskName × Asking). stays_open e.member.known (waits e.member.performing.kept) x ≡ true) (λ x h. h refl) e.member.asks left.stay;
       }
+
+  pub gone_before : (beginning : Beginning) → HasGoneOn (at_boot beginning)
+  gone_before Founder = record { no_value = refl; none_starts = none_held (at_boot Founder) refl }
+  gone_before Spare = record { no_value = refl; none_starts = none_held (at_boot Spare) refl }
+
+  pub gone_entered : (beginning : Beginning) → starts_at_boot declared turn beginning hosted ≡ true → let d : Doing M = record { member = at_boot beginning; effects = [] } in HasGoneOn (entered turn 0 d (main_start place.troupe views)).member
+  gone_entered beginning is =
+      let d : Doing M = record { member = at_boot beginning; effects = [] } in
+      entered_done declared turn first lawful 0 d (main_start place.troupe views) (sound_at_boot beginning) (may_begin beginning is) refl

@@ -82,6 +82,7 @@ impl<M: Module> Member<M> {
         ensures effects { IfOk result (λ booted.
             booted.1 ≡ (step.booted M.declared M.turn M.first place views beginning
             hosted).effects) }
+        ensures rest { IfOk result (λ booted. HasGoneOn booted.0) }
     {
         let starts = starts_at_boot(beginning, &hosted);
         let start = main_start(alloc, place.troupe, views.as_slice())?;

@@ -1,5 +1,5 @@
 -- A member goes on as far as it can: no ask that waits has a value, and no call that is held may start.
-use Rattle.std.proofs.Common.{◌≡◌, ℕ, zero, suc, Bool, true, false, if◌then◌else◌, List, [], filter, length, Option, Some, None, refl, sym, subst, ap, ◌∙◌, arith}
+use Rattle.std.proofs.Common.{◌≡◌, ℕ, zero, suc, Bool, true, false, not, if◌then◌else◌, List, [], filter, length, Option, Some, None, refl, sym, subst, ap, ◌∙◌, arith}
 use Rattle.std.specs.Prelude.{IfSome, slice_get, option_and_then}
 use Rattle.std.specs.Option.{option_map_or}
 use Rattle.circus_value.specs.ValueTree.{ValueTree}
@@ -17,13 +17,14 @@ use Rattle.circus_record.specs.declared.record.AskRecord.{AskRecord}
 use Rattle.circus_record.specs.declared.record.RunRecord.{RunRecord}
 use Rattle.circus_fanout.specs.Knowing.{Knowing}
 use Rattle.circus_gather.specs.declared.held.HeldCall.{HeldCall}
+use Rattle.circus_gather.specs.Gathering.{is_of_index}
 use Rattle.circus_fanout.specs.Asking.{Asking, index_of, answer, with_view}
 use Rattle.circus_performing.specs.declared.start.RunStart.{RunStart}
 use Rattle.circus_performing.specs.Performing.{open_ask, last_of, unanswered}
 use Rattle.circus_performing.specs.Record.{behaviour}
 use Rattle.circus_member_rules.specs.OpenAsks.{is_name, asking_of, with_ask}
-use Rattle.circus_member_rules.specs.MemberState.{Doing, adding}
-use Rattle.circus_member_rules.specs.Rules.{answer_in, value_of_ask, snapshots_owed, stays_open}
+use Rattle.circus_member_rules.specs.MemberState.{MemberState, Doing, adding}
+use Rattle.circus_member_rules.specs.Rules.{index_of_last, answer_in, value_of_ask, snapshots_owed, stays_open}
 use Rattle.circus_member_rules.specs.Step.{name_of_last, asking_begun, is_idle, next_start, value_of_open, given_states, opened_by_view, opened_ask, ended_run, after_turns, answered_by, answered_open, entered, starting, executed, waits, closed, looked_up}
 use Rattle.circus_member_rules.specs.GoneOn.{HasGoneOn}
 use Rattle.circus_member_rules.specs.Seen.Sound.{IsRunOf, MayStart}
@@ -33,7 +34,7 @@ use Rattle.circus_member_rules.proofs.Homes.{slice_get_none}
 use Rattle.circus_member_rules.proofs.Turned.{IsTurned, IsAsking, asking_now}
 use Rattle.circus_member_rules.proofs.Entering.{with_entered, turned_by_start, has_value, with_answered, turned_by_reply}
 use Rattle.circus_member_rules.proofs.Starting.{next_is_ready, may_start, IsSoundNow, sound_given, sound_entered, sound_answered}
-use Rattle.circus_member_rules.proofs.Enough.{none_given, held_by, IsEnough, start_by, none_started, once_started, nothing_left, less_enough}
+use Rattle.circus_member_rules.proofs.Enough.{none_given, any_held, held_by, IsEnough, start_by, none_started, once_started, nothing_left, less_enough}
 
 -- ---- an ask with no replies
 
@@ -91,6 +92,36 @@ module _ {M : Type 0} (b : Behaviour) (lawful : IsModule b) (d : Doing M) (h : I
           ap (λ o. option_and_then (λ (x : AskRecord). option_and_then (value_of_ask m.known) (asking_of m.asks (name_of_last m.performing.kept))) o) none
       by_run (Some run) at = by_ask run at (open_ask d.member.performing.kept) refl
 
+-- ---- no calls
+
+module _ {M : Type 0} where
+  -- where no call is held, none starts
+  pub none_held : (m : MemberState M) → m.gathered.held ≡ [] → next_start m ≡ None
+  none_held m none = by_next (next_start m) refl
+    where
+      by_next : (o : Option HeldCall) → next_start m ≡ o → next_start m ≡ None
+      by_next None nothing = nothing
+      by_next (Some call) some =
+          let held = any_held m call some in
+          let empty : length m.gathered.held ≡ 0 = ap length none in
+          absurd (omega (arith, held, empty))
+
+  -- and none is held behind turns
+  none_behind : (d : Doing M) → d.member.gathered.held ≡ [] → (after_turns d).member.gathered.held ≡ []
+  none_behind d none = by_run (last_of d.member.performing.kept.runs)
+    where
+      by_view : (run : RunRecord) (ask : AskRecord) (o : Option View) → let e = option_map_or (opened_by_view d (name_of_last d.member.performing.kept) (asking_begun d.member.place d.member.performing.kept run ask)) o d in e.member.gathered.held ≡ []
+      by_view run ask None = none
+      by_view run ask (Some view) = none
+
+      by_ask : (run : RunRecord) (o : Option AskRecord) → let e = option_map_or (opened_ask d run) o (ended_run d run) in e.member.gathered.held ≡ []
+      by_ask run None = ap (filter (λ c. not (is_of_index d.member.gathered.module (index_of_last d.member.performing.kept) c))) none
+      by_ask run (Some ask) = by_view run ask (slice_get d.member.known.views ask.callee)
+
+      by_run : (o : Option RunRecord) → let e = option_map_or (λ (run : RunRecord). option_map_or (opened_ask d run) (open_ask d.member.performing.kept) (ended_run d run)) o d in e.member.gathered.held ≡ []
+      by_run None = none
+      by_run (Some run) = by_ask run (open_ask d.member.performing.kept)
+
 -- ---- a member that has gone on
 
 module _ {M : Type 0} (declared : M → Signature) (turn : M → List ValueTree → ℕ → List ValueTree → List Outcome → NextTurn) (first : M → List ValueTree) (lawful : (hosted : M) → IsModule (behaviour declared turn first hosted)) (step : ℕ) where
@@ -111,6 +142,12 @@ module _ {M : Type 0} (declared : M → Signature) (turn : M → List ValueTree 
       let law = lawful d.member.performing.hosted in
       let e : Doing M = record d { member = with_entered b law d.member step start } in
       no_value_behind b law e (turned_by_start b law d.member step start sound may)
+
+  -- one that holds no call, and enters a run
+  pub entered_done : (d : Doing M) (start : RunStart) → IsSoundNow declared turn first lawful d.member → MayStart (declared d.member.performing.hosted) d.member start → d.member.gathered.held ≡ [] → HasGoneOn (entered turn step d start).member
+  entered_done d start sound may none =
+      let e : Doing M = record d { member = with_entered (behaviour declared turn first d.member.performing.hosted) (lawful d.member.performing.hosted) d.member step start } in
+      record { no_value = no_value_entered d start sound may; none_starts = none_held (entered turn step d start).member (none_behind e none) }
 
   no_value_given : (d : Doing M) → value_of_open d.member ≡ None → value_of_open (given_states d).member ≡ None
   no_value_given d none = by_test (is_idle d.member.performing.kept)

@@ -1,4 +1,4 @@
--- What holds of a member behind a step: it has gone on as far as it can.
+-- What holds of a member at boot and behind a step: it has gone on as far as it can.
 use Rattle.std.specs.Prelude.{◌≡◌, None}
 use Rattle.circus_member_rules.specs.MemberState.{MemberState}
 use Rattle.circus_member_rules.specs.Step.{value_of_open, next_start}
