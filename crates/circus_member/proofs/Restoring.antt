@@ -17,10 +17,9 @@ module _ {M : Type 0} (d : Doing M) (at : ℕ) (state : List ValueTree) (count :
       (λ j. record { member = d.member; effects = sym (append-nil d.effects) j }) ∙ sym (by_phase false outside)
 
   -- it is
-  pub restored_so : (p : Performing M) → is_fetching d.member.performing.kept.phase ≡ true → p ≡ activated at state count d.member.performing → let e : Doing M = record d { member = record d.member { performing = p } } in begun e count ≡ behind d (restored at d.member state count)
-  restored_so p fetching is =
-      let now : p ≡ made_active at state count d.member.performing = is ∙ ap (λ t. cond t (made_active at state count d.member.performing) d.member.performing) fetching in
-      ap (λ (q : Performing M). let e : Doing M = record d { member = record d.member { performing = q } } in begun e count) now
+  pub restored_so : is_fetching d.member.performing.kept.phase ≡ true → let e : Doing M = record d { member = record d.member { performing = activated at state count d.member.performing } } in begun e count ≡ behind d (restored at d.member state count)
+  restored_so fetching =
+      ap (λ t. let e : Doing M = record d { member = record d.member { performing = cond t (made_active at state count d.member.performing) d.member.performing } } in begun e count) fetching
       ∙ sym (by_phase true fetching)
 
 -- ---- its module stays

@@ -1,2 +1,3 @@
--- How code is seen: codes of what is kept. No public call cites these.
+-- How code is seen: codes and parts of what is kept. No public call cites these.
 pub mod StateCode
+pub mod Parts

@@ -12,48 +12,39 @@ ghost use Rattle.circus_member_rules.specs.Callable.{AreViews, AllMayCall, AreRe
 ghost use Rattle.circus_member_rules.specs.Happening.{IsHome, CanHappen};
 ghost use Rattle.circus_member_rules.specs.Seen.Sound.{AreOpen, IsSound, HasTurned, MayStart};
 
+use crate::member_state::MemberState;
 use circus_collate::{Table, View};
 use circus_fanout::{Fanout, Known};
-use circus_gather::Gather;
 use circus_header::{CallHeader, Reply, Request};
 use circus_member_rules::{
-    AskName, Concern, Difference, Effects, Occurrence, OpenAsks, Place, answer_all, ask_for_states,
-    begin_at, body_of, calls_of_ask, close_by, givers, header_of_ask, index_of_last, is_idle,
-    look_up, name_of_last, name_of_open, reply_message, reply_of_run, request_to_ring,
-    start_of_call, take_call, take_state_request, tell_gone, value_of_ask,
+    AskName, Concern, Difference, Effects, Occurrence, answer_all, ask_for_states, begin_at,
+    body_of, calls_of_ask, close_by, givers, header_of_ask, index_of_last, is_idle, look_up,
+    name_of_last, name_of_open, reply_message, reply_of_run, request_to_ring, start_of_call,
+    take_call, take_state_request, tell_gone, value_of_ask,
 };
 use circus_model::Module;
 use circus_performing::{Performer, RunStart};
 use circus_transfer::{Joiner, snapshot};
-use circus_value::{Caller, Callers, Duplicate, ListOf, NoMemory, Nodes, Parts, State};
-use std::alloc::Global;
+use circus_value::{Caller, Duplicate, ListOf, NoMemory, Nodes, Parts, State};
 use std::marker::Model;
 
 /// A member in a step, and what it has made so far.
 #[derive(Drop)]
 pub(crate) struct Doing<M: Module> {
-    pub alloc: Global,
-    pub place: Place,
-    pub known: Known,
-    pub gather: Gather,
-    pub performer: Performer<M>,
-    pub asks: OpenAsks,
-    pub requests: Callers,
+    pub member: MemberState<M>,
     pub effects: Effects,
 }
 
 impl<M: Module> Model for Doing<M> {
     ghost use Rattle.circus_member_rules.specs.MemberState.{Doing};
     ghost use Rattle.circus_member.specs.Seen.StateCode.{doing_code};
+    ghost use Rattle.circus_member.specs.Seen.Parts.{member_of};
 
     ghost Value = { Doing M };
 
     ghost coded = { doing_code M.code };
 
-    ghost view = { λ a. record {
-      member = record { place = a.place; known = a.known; gathered = a.gather; performing = a.performer; asks = a.asks; requests = a.requests };
-      effects = a.effects;
-    } };
+    ghost view = { λ a. record { member = member_of a.member; effects = a.effects } };
 }
 
 impl<M: Module> Doing<M> {
@@ -131,9 +122,9 @@ impl<M: Module> Doing<M> {
             (self.new ≡ behind self.old (step.asked self.old.member header body sender)) }
     {
         take_call(
-            self.alloc,
-            &mut self.known,
-            &mut self.gather,
+            self.member.alloc,
+            &mut self.member.known,
+            &mut self.member.gather,
             &mut self.effects,
             header,
             body,
@@ -147,9 +138,9 @@ impl<M: Module> Doing<M> {
             (self.new ≡ behind self.old (step.fetched self.old.member incarnation sender)) }
     {
         take_state_request(
-            self.alloc,
-            &mut self.gather,
-            &mut self.requests,
+            self.member.alloc,
+            &mut self.member.gather,
+            &mut self.member.requests,
             &mut self.effects,
             incarnation,
             sender,
@@ -167,7 +158,7 @@ impl<M: Module> Doing<M> {
         ensures told { IfOk result (λ done.
             done.1 ≡ step.difference (Occurrence.Replied name from reply) self.member) }
     {
-        let difference = self.asks.replied(name, from, reply)?;
+        let difference = self.member.asks.replied(name, from, reply)?;
         Ok((self, difference))
     }
 
@@ -183,22 +174,22 @@ impl<M: Module> Doing<M> {
         ensures { OnOk result
             (self.new ≡ behind self.old (step.stale self.old.member name server from incarnation)) }
     {
-        self.asks.stale(
-            self.alloc,
-            &self.known,
+        self.member.asks.stale(
+            self.member.alloc,
+            &self.member.known,
             name,
             from,
             incarnation,
             &mut self.effects,
         )?;
-        self.known.want(server, incarnation);
+        self.member.known.want(server, incarnation);
         Ok(())
     }
 
     fn before(mut self, name: AskName, from: u16) -> Self
         ensures { result ≡ behind self (step.before self.member name from) }
     {
-        self.asks.before(name, from);
+        self.member.asks.before(name, from);
         self
     }
 
@@ -214,15 +205,15 @@ impl<M: Module> Doing<M> {
         ensures { OnOk result
             (self.new ≡ behind self.old (step.told self.old.member request table)) }
     {
-        let before = self.performer.record().phase;
-        take_in(&mut self.performer, request, &table);
-        let taken_in = is_taken_in(before, self.performer.record().phase);
+        let before = self.member.performer.record().phase;
+        take_in(&mut self.member.performer, request, &table);
+        let taken_in = is_taken_in(before, self.member.performer.record().phase);
         let incarnation = table.view.incarnation;
         let nodes = self.givers_once(taken_in, &table.view)?;
         self.know(request, table.view)?;
         ask_for_states(
-            self.alloc,
-            self.place.troupe,
+            self.member.alloc,
+            self.member.place.troupe,
             incarnation,
             nodes.as_slice(),
             &mut self.effects,
@@ -237,9 +228,14 @@ impl<M: Module> Doing<M> {
             else [])) }
     {
         if !taken_in {
-            return Ok(ListOf::new(self.alloc));
+            return Ok(ListOf::new(self.member.alloc));
         }
-        givers(self.alloc, self.place.node, self.known.down(), view)
+        givers(
+            self.member.alloc,
+            self.member.place.node,
+            self.member.known.down(),
+            view,
+        )
     }
 
     // The Ringmaster has answered with a view, which is known where it is newer.
@@ -254,15 +250,19 @@ impl<M: Module> Doing<M> {
         ensures { OnOk result (self.new ≡ step.seen_by self.old request view) }
     {
         let troupe = view.troupe;
-        hear(&mut self.known, request, troupe);
-        if !self.known.tell(view) {
+        hear(&mut self.member.known, request, troupe);
+        if !self.member.known.tell(view) {
             return Ok(());
         }
-        let Some(view) = self.known.view(troupe) else {
+        let Some(view) = self.member.known.view(troupe) else {
             return Ok(());
         };
-        self.asks
-            .new_view(self.alloc, &self.known, view, &mut self.effects)
+        self.member.asks.new_view(
+            self.member.alloc,
+            &self.member.known,
+            view,
+            &mut self.effects,
+        )
     }
 
     fn declared(&mut self, node: u16) -> Result<(), NoMemory>
@@ -270,11 +270,11 @@ impl<M: Module> Doing<M> {
         ensures { OnOk result
             (self.new ≡ behind self.old (step.declared_down self.old.member node)) }
     {
-        self.known.declare(node)?;
+        self.member.known.declare(node)?;
         tell_gone(
-            self.alloc,
-            &self.place,
-            &self.known,
+            self.member.alloc,
+            &self.member.place,
+            &self.member.known,
             node,
             &mut self.effects,
         )
@@ -286,9 +286,14 @@ impl<M: Module> Doing<M> {
             self.old.member.known.views }
         ensures { OnOk result (self.new ≡ behind self.old (step.joins self.old.member)) }
     {
-        self.performer.join();
-        let request = Request::Join(self.place.troupe, self.place.node);
-        request_to_ring(self.alloc, &self.known, request, &mut self.effects)
+        self.member.performer.join();
+        let request = Request::Join(self.member.place.troupe, self.member.place.node);
+        request_to_ring(
+            self.member.alloc,
+            &self.member.known,
+            request,
+            &mut self.effects,
+        )
     }
 
     // A state comes: one that fetches a state has it, and is active from its count on.
@@ -301,10 +306,10 @@ impl<M: Module> Doing<M> {
         ensures sound { IfOk result (λ d.
             IsSound (behaviour M.declared M.turn M.first d.member.performing.hosted) d.member) }
     {
-        if !is_fetching(self.performer.record().phase) {
+        if !is_fetching(self.member.performer.record().phase) {
             return Ok(self);
         }
-        self.performer = self.performer.activate(state, count, at)?;
+        self.member = self.member.activate(state, count, at)?;
         let begun = self.begin(count);
         self.unless_spent(begun)
     }
@@ -316,9 +321,19 @@ impl<M: Module> Doing<M> {
             self.old.member.known.views }
         ensures { OnOk result (self.new ≡ step.begun self.old count) }
     {
-        let request = Request::Active(self.place.troupe, self.place.node, count);
-        request_to_ring(self.alloc, &self.known, request, &mut self.effects)?;
-        begin_at(self.alloc, &mut self.gather, &mut self.effects, count)
+        let request = Request::Active(self.member.place.troupe, self.member.place.node, count);
+        request_to_ring(
+            self.member.alloc,
+            &self.member.known,
+            request,
+            &mut self.effects,
+        )?;
+        begin_at(
+            self.member.alloc,
+            &mut self.member.gather,
+            &mut self.effects,
+            count,
+        )
     }
 
     /// The execution goes on as far as it can.
@@ -352,13 +367,13 @@ impl<M: Module> Doing<M> {
     fn value_of_open(&self) -> Result<Option<Reply>, NoMemory>
         ensures { IfOk result (λ value. value ≡ step.value_of_open self.now.member) }
     {
-        let Some(name) = name_of_open(&self.performer) else {
+        let Some(name) = name_of_open(&self.member.performer) else {
             return Ok(None);
         };
-        let Some(fanout) = self.asks.get(name) else {
+        let Some(fanout) = self.member.asks.get(name) else {
             return Ok(None);
         };
-        match value_of_ask(&self.known, fanout) {
+        match value_of_ask(&self.member.known, fanout) {
             Some(reply) => Ok(Some(reply.copy()?)),
             None => Ok(None),
         }
@@ -370,7 +385,7 @@ impl<M: Module> Doing<M> {
         requires value { step.value_of_open self.member ≡ Some reply }
         ensures { IfOk result (λ d. d ≡ step.answered_by M.turn at self reply) }
     {
-        self.performer = self.performer.answer(reply.outcome, reply.clock, at)?;
+        self.member = self.member.answer(reply, at)?;
         let turned = self.after_turns();
         self.unless_spent(turned)
     }
@@ -382,9 +397,9 @@ impl<M: Module> Doing<M> {
         requires may { MayStart (M.declared self.member.performing.hosted) self.member start }
         ensures { IfOk result (λ d. d ≡ step.entered M.turn at self start) }
     {
-        let count = self.performer.record().count;
-        self.gather.started(count);
-        self.performer = self.performer.enter(start, at)?;
+        let count = self.member.performer.record().count;
+        self.member.gather.started(count);
+        self.member = self.member.enter(start, at)?;
         let turned = self.after_turns();
         self.unless_spent(turned)
     }
@@ -396,7 +411,8 @@ impl<M: Module> Doing<M> {
             self.old.member }
         ensures { OnOk result (self.new ≡ step.after_turns self.old) }
     {
-        if self.performer.open_ask().is_some() {
+        let member = &self.member;
+        if member.performer.open_ask().is_some() {
             self.open_ask()
         } else {
             self.end_run()
@@ -410,36 +426,42 @@ impl<M: Module> Doing<M> {
             self.old.member }
         ensures { OnOk result (self.new ≡ step.opened_last self.old) }
     {
-        let Some(last) = self.performer.last_run() else {
+        let Some(last) = self.member.performer.last_run() else {
             return Ok(());
         };
-        let Some(ask) = self.performer.open_ask() else {
+        let Some(ask) = self.member.performer.open_ask() else {
             return Ok(());
         };
-        let Some(view) = self.known.view(ask.callee) else {
+        let Some(view) = self.member.known.view(ask.callee) else {
             return Ok(());
         };
-        let record = self.performer.record();
+        let record = self.member.performer.record();
         let name = name_of_last(record);
-        let header = header_of_ask(self.alloc, self.place.troupe, record, last, ask)?;
-        let body = body_of(self.alloc, &ask.arguments)?;
+        let header = header_of_ask(
+            self.member.alloc,
+            self.member.place.troupe,
+            record,
+            last,
+            ask,
+        )?;
+        let body = body_of(self.member.alloc, &ask.arguments)?;
         let (fanout, sends) = Fanout::begin(
-            self.alloc,
+            self.member.alloc,
             header,
             body,
-            self.place.replies,
+            self.member.place.replies,
             view,
-            self.known.down(),
+            self.member.known.down(),
         )?;
         calls_of_ask(
-            self.alloc,
-            &self.known,
+            self.member.alloc,
+            &self.member.known,
             name,
             &fanout,
             sends.as_slice(),
             &mut self.effects,
         )?;
-        self.asks.open(name, fanout)
+        self.member.asks.open(name, fanout)
     }
 
     // The run has ended: its callers are answered, and its reply is kept.
@@ -450,13 +472,13 @@ impl<M: Module> Doing<M> {
         requires ended { performing.open_ask self.old.member.performing.kept ≡ None }
         ensures { OnOk result (self.new ≡ step.ended_last self.old) }
     {
-        let Some(last) = self.performer.last_run() else {
+        let Some(last) = self.member.performer.last_run() else {
             return Ok(());
         };
-        let index = index_of_last(self.performer.record());
-        let reply = reply_of_run(self.alloc, last)?;
-        let message = reply_message(self.alloc, &reply)?;
-        let callers = self.gather.finish(index, reply)?;
+        let index = index_of_last(self.member.performer.record());
+        let reply = reply_of_run(self.member.alloc, last)?;
+        let message = reply_message(self.member.alloc, &reply)?;
+        let callers = self.member.gather.finish(index, reply)?;
         answer_all(&callers, &message, &mut self.effects)
     }
 
@@ -464,17 +486,17 @@ impl<M: Module> Doing<M> {
     fn give_states(&mut self) -> Result<(), NoMemory>
         ensures { OnOk result (self.new ≡ step.given_states self.old) }
     {
-        if self.requests.is_empty() {
+        if self.member.requests.is_empty() {
             return Ok(());
         }
-        if !is_idle(&self.performer) {
+        if !is_idle(&self.member.performer) {
             return Ok(());
         }
-        let record = self.performer.record();
-        let variables = &self.performer.signature().variables;
-        let message = snapshot(self.alloc, &record.state, variables, record.count)?;
-        answer_all(&self.requests, &message, &mut self.effects)?;
-        self.requests = ListOf::new(self.alloc);
+        let record = self.member.performer.record();
+        let variables = &self.member.performer.signature().variables;
+        let message = snapshot(self.member.alloc, &record.state, variables, record.count)?;
+        answer_all(&self.member.requests, &message, &mut self.effects)?;
+        self.member.requests = ListOf::new(self.member.alloc);
         Ok(())
     }
 
@@ -486,19 +508,24 @@ impl<M: Module> Doing<M> {
             (M.declared self.now.member.performing.hosted).procedures)
             (step.next_start self.now.member)) }
     {
-        if !is_idle(&self.performer) {
+        if !is_idle(&self.member.performer) {
             return Ok(None);
         }
-        let ready = self.gather.ready(
-            self.performer.record().count,
-            self.place.calls,
-            self.known.views(),
-            self.known.down(),
+        let ready = self.member.gather.ready(
+            self.member.performer.record().count,
+            self.member.place.calls,
+            self.member.known.views(),
+            self.member.known.down(),
         )?;
         match ready {
             Some(call) => {
-                let procedures = &self.performer.signature().procedures;
-                let start = start_of_call(self.alloc, self.place.troupe, procedures, call)?;
+                let procedures = &self.member.performer.signature().procedures;
+                let start = start_of_call(
+                    self.member.alloc,
+                    self.member.place.troupe,
+                    procedures,
+                    call,
+                )?;
                 Ok(Some(start))
             }
             None => Ok(None),
@@ -509,8 +536,14 @@ impl<M: Module> Doing<M> {
     pub fn close(&mut self, concern: Concern, waited: Option<AskName>)
         ensures { self.new ≡ step.closed_by concern waited self.old }
     {
-        let waits = name_of_open(&self.performer);
-        close_by(&mut self.asks, &self.known, waits, concern, waited);
+        let waits = name_of_open(&self.member.performer);
+        close_by(
+            &mut self.member.asks,
+            &self.member.known,
+            waits,
+            concern,
+            waited,
+        );
     }
 
     /// The views that are wanted are looked up.
@@ -518,7 +551,7 @@ impl<M: Module> Doing<M> {
         requires { length self.old.member.known.views ≤ most_modules }
         ensures { OnOk result (self.new ≡ step.looked_up self.old) }
     {
-        look_up(self.alloc, &mut self.known, &mut self.effects)
+        look_up(self.member.alloc, &mut self.member.known, &mut self.effects)
     }
 }
 

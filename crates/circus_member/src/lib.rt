@@ -1,9 +1,10 @@
 //! A member of a troupe as a state machine over accepted messages.
 //!
-//! `doing` has a step so far, and `member` the member.
+//! `member_state` has what a member is, `doing` a step so far, and `member` the member, which rests between steps.
 #![tactic(auto)]
 
 mod doing;
 mod member;
+mod member_state;
 
 pub use member::Member;

@@ -10,6 +10,7 @@ ghost use Rattle.circus_member_rules.specs.Seen.Sound.{IsRested};
 ghost use Rattle.circus_performing.specs.Record.{behaviour, IsRecord};
 
 use crate::doing::Doing;
+use crate::member_state::MemberState;
 use circus_collate::Views;
 use circus_fanout::Known;
 use circus_gather::Gather;
@@ -21,39 +22,26 @@ use circus_member_rules::{
 use circus_model::{Module, Signature};
 use circus_performing::Performer;
 use circus_record::MemberRecord;
-use circus_value::{Callers, Duplicate, ListOf, NoMemory};
+use circus_value::{Duplicate, ListOf, NoMemory};
 use std::alloc::Global;
 use std::marker::Model;
 
 /// A member: what it knows, the calls to it, what it performs, and what it asks (docs/PROTOCOL.md, "Members").
 pub struct Member<M: Module> {
-    alloc: Global,
-    place: Place,
-    known: Known,
-    gather: Gather,
-    performer: Performer<M>,
-    asks: OpenAsks,
-    requests: Callers,
+    state: MemberState<M>,
 }
 
 // Written out, so that dropping one is one step of a proof (docs/PROOFS.md, "Cost").
 impl<M: Module> Drop for Member<M> {
     fn drop(self) {
-        let Member {
-            alloc: _,
-            place: _,
-            known: _,
-            gather: _,
-            performer: _,
-            asks: _,
-            requests: _,
-        } = self;
+        let Member { state: _ } = self;
     }
 }
 
 impl<M: Module> Model for Member<M> {
     ghost use Rattle.circus_member_rules.specs.MemberState.{MemberState};
     ghost use Rattle.circus_member.specs.Seen.StateCode.{state_code};
+    ghost use Rattle.circus_member.specs.Seen.Parts.{member_of};
     ghost use Rattle.circus_member_rules.specs.Seen.Sound.{IsRested};
     ghost use Rattle.circus_performing.specs.Record.{behaviour};
 
@@ -61,9 +49,9 @@ impl<M: Module> Model for Member<M> {
 
     ghost coded = { state_code M.code };
 
-    ghost view = { λ a. record { place = a.place; known = a.known; gathered = a.gather; performing = a.performer; asks = a.asks; requests = a.requests } };
+    ghost view = { λ a. member_of a.state };
 
-    ghost invariant = { λ a. IsRested (behaviour M.declared M.turn M.first a.performer.hosted) (record { place = a.place; known = a.known; gathered = a.gather; performing = a.performer; asks = a.asks; requests = a.requests }) };
+    ghost invariant = { λ a. IsRested (behaviour M.declared M.turn M.first a.state.performer.hosted) (member_of a.state) };
 }
 
 impl<M: Module> Member<M> {
@@ -109,7 +97,7 @@ impl<M: Module> Member<M> {
         ensures difference { IfOk result (λ stepped. stepped.2 ≡ step.difference occurrence self) }
         ensures rest { IfOk result (λ stepped. HasGoneOn stepped.0) }
     {
-        let waited = name_of_open(&self.performer);
+        let waited = name_of_open(&self.state.performer);
         let concern = concern_of(&occurrence);
         let (doing, difference) = self.begun().handle(at, occurrence)?;
         let mut doing = doing.execute(at)?;
@@ -123,14 +111,14 @@ impl<M: Module> Member<M> {
     pub fn place(&self) -> &Place
         ensures { result.now ≡ self.now.place }
     {
-        &self.place
+        &self.state.place
     }
 
     /// What its module declares. It takes no memory.
     pub fn signature(&self) -> &Signature
         ensures { result.now ≡ M.declared self.now.performing.hosted }
     {
-        self.performer.signature()
+        self.state.performer.signature()
     }
 
     /// What the member did. It takes no memory.
@@ -139,7 +127,7 @@ impl<M: Module> Member<M> {
         ensures kept { let p = self.now.performing in IsRecord
             (behaviour M.declared M.turn M.first p.hosted) p.began p.kept }
     {
-        self.performer.record()
+        self.state.performer.record()
     }
 
     /// What an open ask asks. It takes no memory.
@@ -147,31 +135,15 @@ impl<M: Module> Member<M> {
         ensures { option_copied result
             ≡ option_map (λ (a : Asking). a.header) (asking_of self.now.asks name) }
     {
-        Some(self.asks.get(name)?.header())
+        Some(self.state.asks.get(name)?.header())
     }
 
     fn begun(self) -> Doing<M>
         ensures { result ≡ record { member = self; effects = [] } }
     {
-        let Member {
-            alloc,
-            place,
-            known,
-            gather,
-            performer,
-            asks,
-            requests,
-        } = self;
-        Doing {
-            alloc,
-            place,
-            known,
-            gather,
-            performer,
-            asks,
-            requests,
-            effects: ListOf::new(alloc),
-        }
+        let Member { state: member } = self;
+        let effects = ListOf::new(member.alloc);
+        Doing { member, effects }
     }
 
     fn of(doing: Doing<M>) -> (Self, Effects)
@@ -180,26 +152,8 @@ impl<M: Module> Member<M> {
         ensures member { result.0 ≡ doing.member }
         ensures effects { result.1 ≡ doing.effects }
     {
-        let Doing {
-            alloc,
-            place,
-            known,
-            gather,
-            performer,
-            asks,
-            requests,
-            effects,
-        } = doing;
-        let member = Member {
-            alloc,
-            place,
-            known,
-            gather,
-            performer,
-            asks,
-            requests,
-        };
-        (member, effects)
+        let Doing { member, effects } = doing;
+        (Member { state: member }, effects)
     }
 }
 
@@ -229,15 +183,17 @@ fn before_any<M: Module>(
           effects = [];
         }) }
 {
-    let gather = Gather::new(alloc, place.troupe, 0);
-    Ok(Doing {
+    let member = MemberState {
         alloc,
-        place,
         known: Known::new(alloc, views)?,
-        gather,
+        gather: Gather::new(alloc, place.troupe, 0),
+        place,
         performer: performer_at_boot(alloc, beginning, hosted)?,
         asks: OpenAsks::new(alloc),
         requests: ListOf::new(alloc),
+    };
+    Ok(Doing {
+        member,
         effects: ListOf::new(alloc),
     })
 }

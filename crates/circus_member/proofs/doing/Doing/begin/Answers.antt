@@ -17,8 +17,8 @@ returns g c =
     let i = c.self.inside in
     both_ok c.begin_at.result
     (λ held made.
-    let all = made ∙ ap (λ e. e ++ before_answers i.gather c.args.count) c.in_ok-request_to_ring.ensures ∙ append_assoc i.effects _ _ in
-    (λ j. doing_of i.place i.known (held j) i.performer i.asks i.requests (all j))
+    let all = made ∙ ap (λ e. e ++ before_answers i.member.gather c.args.count) c.in_ok-request_to_ring.ensures ∙ append_assoc i.effects _ _ in
+    (λ j. doing_of (record i.member { gather = held j }) (all j))
     ∙ ap (λ d. begun d c.args.count) c.self.view_is)
     c.begin_at.ensures.held
     c.begin_at.ensures.made

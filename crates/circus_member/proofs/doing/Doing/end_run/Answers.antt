@@ -15,15 +15,15 @@ use Rattle.circus_member.proofs.doing.Doing.end_run.Goals as goal
 pub returns-in_default : goal.returns-in_default
 returns-in_default g c =
     let i = c.self.inside in
-    let d = doing_of i.place i.known i.gather i.performer i.asks i.requests i.effects in
+    let d = doing_of i.member i.effects in
     subst (λ x. x ≡ ended_last x) c.self.view_is (sym (none_ended d (sym c.in_default.ensures)))
 
 pub reply_message-requires-clause-clock : goal.reply_message-requires-clause-clock
 reply_message-requires-clause-clock g c =
     let i = c.self.inside in
-    let d = doing_of i.place i.known i.gather i.performer i.asks i.requests i.effects in
-    let b = behaviour g.M.Module.declared g.M.Module.turn g.M.Module.first i.performer.hosted in
-    let lawful : IsModule b = record { first_is_state = g.met.M.Module.first_is_state i.performer.hosted; turns_are_lawful = g.met.M.Module.turns_are_lawful i.performer.hosted } in
+    let d = doing_of i.member i.effects in
+    let b = behaviour g.M.Module.declared g.M.Module.turn g.M.Module.first i.member.performer.hosted in
+    let lawful : IsModule b = record { first_is_state = g.met.M.Module.first_is_state i.member.performer.hosted; turns_are_lawful = g.met.M.Module.turns_are_lawful i.member.performer.hosted } in
     let turned = subst (λ x. HasTurned (behaviour g.M.Module.declared g.M.Module.turn g.M.Module.first x.member.performing.hosted) x.member) (sym c.self.view_is) c.requires.turned in
     let ended = subst (λ x. open_ask x.member.performing.kept ≡ None) (sym c.self.view_is) c.requires.ended in
     let reply = ended_reply b lawful d.member turned c.record.ensures.kept c.in-Some.last.now (sym c.in-Some.ensures) ended in
@@ -33,9 +33,9 @@ reply_message-requires-clause-clock g c =
 pub reply_message-requires-clause-outcome : goal.reply_message-requires-clause-outcome
 reply_message-requires-clause-outcome g c =
     let i = c.self.inside in
-    let d = doing_of i.place i.known i.gather i.performer i.asks i.requests i.effects in
-    let b = behaviour g.M.Module.declared g.M.Module.turn g.M.Module.first i.performer.hosted in
-    let lawful : IsModule b = record { first_is_state = g.met.M.Module.first_is_state i.performer.hosted; turns_are_lawful = g.met.M.Module.turns_are_lawful i.performer.hosted } in
+    let d = doing_of i.member i.effects in
+    let b = behaviour g.M.Module.declared g.M.Module.turn g.M.Module.first i.member.performer.hosted in
+    let lawful : IsModule b = record { first_is_state = g.met.M.Module.first_is_state i.member.performer.hosted; turns_are_lawful = g.met.M.Module.turns_are_lawful i.member.performer.hosted } in
     let turned = subst (λ x. HasTurned (behaviour g.M.Module.declared g.M.Module.turn g.M.Module.first x.member.performing.hosted) x.member) (sym c.self.view_is) c.requires.turned in
     let ended = subst (λ x. open_ask x.member.performing.kept ≡ None) (sym c.self.view_is) c.requires.ended in
     let reply = ended_reply b lawful d.member turned c.record.ensures.kept c.in-Some.last.now (sym c.in-Some.ensures) ended in
@@ -47,12 +47,12 @@ finish-requires g c =
     let i = c.self.inside in
     let turned = subst (λ x. HasTurned (behaviour g.M.Module.declared g.M.Module.turn g.M.Module.first x.member.performing.hosted) x.member) (sym c.self.view_is) c.requires.turned in
     let index = c.index_of_last-index.ensures ∙ ap index_of_last c.record.ensures.value in
-    subst (λ n. reply_of i.gather n ≡ None) (sym index) turned.fresh
+    subst (λ n. reply_of i.member.gather n ≡ None) (sym index) turned.fresh
 
 pub returns : goal.returns
 returns g c =
     let i = c.self.inside in
-    let d = doing_of i.place i.known i.gather i.performer i.asks i.requests i.effects in
+    let d = doing_of i.member i.effects in
     let index = c.index_of_last-index.ensures ∙ ap index_of_last c.record.ensures.value in
     on_ok_weaker c.answer_all.result
     (λ made.

@@ -17,28 +17,28 @@ same-self-in_err-message g c = refl
 pub returns-then-is_empty : goal.returns-then-is_empty
 returns-then-is_empty g c =
     let i = c.self.inside in
-    let d = doing_of i.place i.known i.gather i.performer i.asks i.requests i.effects in
+    let d = doing_of i.member i.effects in
     subst (λ x. x ≡ given_states x) c.self.view_is (nobody_waits d (c.is_empty.ensures.0 c.if-is_empty.true))
 
 pub returns-then-not-is_idle : goal.returns-then-not-is_idle
 returns-then-not-is_idle g c =
     let i = c.self.inside in
-    let d = doing_of i.place i.known i.gather i.performer i.asks i.requests i.effects in
+    let d = doing_of i.member i.effects in
     subst (λ x. x ≡ given_states x) c.self.view_is (not_idle d (sym c.is_idle.ensures ∙ c.if-not-is_idle.true))
 
 pub snapshot-requires : goal.snapshot-requires
 snapshot-requires g c =
     let i = c.self.inside in
-    let b = behaviour g.M.Module.declared g.M.Module.turn g.M.Module.first i.performer.hosted in
-    let fit = idle_state b i.performer.began i.performer.kept c.record-record.ensures.kept (sym c.is_idle.ensures ∙ c.if-not-is_idle.false) in
+    let b = behaviour g.M.Module.declared g.M.Module.turn g.M.Module.first i.member.performer.hosted in
+    let fit = idle_state b i.member.performer.began i.member.performer.kept c.record-record.ensures.kept (sym c.is_idle.ensures ∙ c.if-not-is_idle.false) in
     subst (λ s. all_fit s.variables c.record-record.result.now.state ≡ true) (sym c.signature.ensures)
-    (subst (λ k. all_fit (g.M.Module.declared i.performer.hosted).variables k.state ≡ true) (sym c.record-record.ensures.value) fit)
+    (subst (λ k. all_fit (g.M.Module.declared i.member.performer.hosted).variables k.state ≡ true) (sym c.record-record.ensures.value) fit)
 
 pub returns : goal.returns
 returns g c =
     let i = c.self.inside in
-    let d = doing_of i.place i.known i.gather i.performer i.asks i.requests i.effects in
+    let d = doing_of i.member i.effects in
     let message = c.in_ok-message.ensures.bytes ∙ ap (λ k. snapshot_bytes k.count k.state) c.record-record.ensures.value in
     states_given d c.new.result c.answer_all.new.effects (sym c.is_idle.ensures ∙ c.if-not-is_idle.false) c.new.ensures
-    (c.in_ok-answer_all.ensures ∙ ap (λ m. i.effects ++ answers m i.requests) message)
+    (c.in_ok-answer_all.ensures ∙ ap (λ m. i.effects ++ answers m i.member.requests) message)
     ∙ ap given_states c.self.view_is

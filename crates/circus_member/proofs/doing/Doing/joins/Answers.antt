@@ -8,5 +8,5 @@ use Rattle.circus_member.proofs.doing.Doing.joins.Goals as goal
 pub returns : goal.returns
 returns g c =
     let i = c.self.inside in
-    on_ok_weaker c.request_to_ring.result (λ made. (λ j. doing_of i.place i.known i.gather (c.join.ensures j) i.asks i.requests (made j)) ∙ ap (λ d. behind d (joins d.member)) c.self.view_is)
+    on_ok_weaker c.request_to_ring.result (λ made. (λ j. doing_of (record i.member { performer = c.join.ensures j }) (made j)) ∙ ap (λ d. behind d (joins d.member)) c.self.view_is)
     c.request_to_ring.ensures

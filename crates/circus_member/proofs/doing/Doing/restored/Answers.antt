@@ -6,7 +6,7 @@ use Rattle.circus_model.specs.Behaviour.{IsModule}
 use Rattle.circus_performing.specs.Performing.{is_fetching}
 use Rattle.circus_performing.specs.Record.{behaviour}
 use Rattle.circus_member_rules.specs.MemberState.{Doing, behind}
-use Rattle.circus_member_rules.specs.Step.{restored}
+use Rattle.circus_member_rules.specs.Step.{restored, begun}
 use Rattle.circus_member_rules.specs.Happening.{IsHome}
 use Rattle.circus_member_rules.specs.Seen.Sound.{IsSound}
 use Rattle.circus_member.proofs.Parts.{doing_of, all_goes_on}
@@ -20,7 +20,7 @@ same-self g c = refl
 pub returns-then-not-is_fetching-clause-kept : goal.returns-then-not-is_fetching-clause-kept
 returns-then-not-is_fetching-clause-kept g c =
     let i = c.self.inside in
-    let d = doing_of i.place i.known i.gather i.performer i.asks i.requests i.effects in
+    let d = doing_of i.member i.effects in
     let outside = ap is_fetching (ap (λ k. k.phase) (sym c.record.ensures.value)) ∙ sym c.is_fetching.ensures ∙ c.if-not-is_fetching.true in
     subst (λ x. x ≡ behind x (restored c.args.at x.member c.args.state c.args.count)) c.self.view_is (not_restored d c.args.at c.args.state c.args.count outside)
 
@@ -34,16 +34,18 @@ pub begin-begun-requires : goal.begin-begun-requires
 begin-begun-requires g c =
     let i = c.self.inside in
     let sound = subst (λ x. IsSound (behaviour g.M.Module.declared g.M.Module.turn g.M.Module.first x.member.performing.hosted) x.member) (sym c.self.view_is) c.requires.sound in
-    let same = ap (λ p. p.hosted) c.in_ok-self-inside.ensures ∙ active_hosted c.args.at c.args.state c.args.count i.performer in
-    subst (λ h. IsHome (g.M.Module.declared h) i.place i.known.views) (sym same) sound.home
+    let same = active_hosted c.args.at c.args.state c.args.count i.member.performer in
+    subst (λ m. IsHome (g.M.Module.declared m.performer.hosted) m.place m.known.views) (sym c.in_ok-self-inside.ensures)
+    (subst (λ h. IsHome (g.M.Module.declared h) i.member.place i.member.known.views) (sym same) sound.home)
 
 pub returns-clause-kept : goal.returns-clause-kept
 returns-clause-kept g c =
     let i = c.self.inside in
-    let d = doing_of i.place i.known i.gather i.performer i.asks i.requests i.effects in
+    let d = doing_of i.member i.effects in
     let fetching = ap is_fetching (ap (λ k. k.phase) (sym c.record.ensures.value)) ∙ sym c.is_fetching.ensures ∙ c.if-not-is_fetching.false in
     let same =
-    restored_so d c.args.at c.args.state c.args.count c.in_ok-self-inside.field-0 fetching c.in_ok-self-inside.ensures
+    ap (λ m. begun (doing_of m i.effects) c.args.count) c.in_ok-self-inside.ensures
+    ∙ restored_so d c.args.at c.args.state c.args.count fetching
     ∙ ap (λ x. behind x (restored c.args.at x.member c.args.state c.args.count)) c.self.view_is
     in
     subst (λ x. IfOk c.unless_spent.result (λ d. d ≡ x)) same

@@ -14,13 +14,13 @@ pub know-requires-clause-home : goal.know-requires-clause-home
 know-requires-clause-home g c =
     let i = c.self.inside in
     let home = subst (λ d. IsHome (g.M.Module.declared d.member.performing.hosted) d.member.place d.member.known.views) (sym c.self.view_is) c.requires.home in
-    subst (λ p. IsHome (g.M.Module.declared p.hosted) i.place i.known.views) (sym c.take_in.ensures) home
+    subst (λ p. IsHome (g.M.Module.declared p.hosted) i.member.place i.member.known.views) (sym c.take_in.ensures) home
 
 pub know-requires-clause-asks : goal.know-requires-clause-asks
 know-requires-clause-asks g c =
     let i = c.self.inside in
     let ready = subst (λ d. AreOpen (g.M.Module.declared d.member.performing.hosted) d.member.place.troupe (length d.member.known.views) d.member.asks) (sym c.self.view_is) c.requires.asks in
-    subst (λ p. AreOpen (g.M.Module.declared p.hosted) i.place.troupe (length i.known.views) i.asks) (sym c.take_in.ensures) ready
+    subst (λ p. AreOpen (g.M.Module.declared p.hosted) i.member.place.troupe (length i.member.known.views) i.member.asks) (sym c.take_in.ensures) ready
 
 pub ask_for_states-requires-clause-troupe : goal.ask_for_states-requires-clause-troupe
 ask_for_states-requires-clause-troupe g c =
@@ -40,16 +40,16 @@ pub returns : goal.returns
 returns g c =
     let i = c.self.inside in
     let j = c.self-2.inside in
-    let d = doing_of i.place i.known i.gather i.performer i.asks i.requests i.effects in
-    let e = doing_of j.place j.known j.gather j.performer j.asks j.requests j.effects in
+    let d = doing_of i.member i.effects in
+    let e = doing_of j.member j.effects in
     let taken = c.is_taken_in-taken_in.ensures
     ∙ ap (λ k. is_taken_in k.phase c.record-2.result.now.phase) c.record.ensures.value
-    ∙ ap (λ k. is_taken_in i.performer.kept.phase k.phase) c.record-2.ensures.value in
-    let are = c.in_ok-nodes.ensures ∙ ap (λ t. if t then givers i.place.node i.known.down c.args.table.view else []) taken in
+    ∙ ap (λ k. is_taken_in i.member.performer.kept.phase k.phase) c.record-2.ensures.value in
+    let are = c.in_ok-nodes.ensures ∙ ap (λ t. if t then givers i.member.place.node i.member.known.down c.args.table.view else []) taken in
     on_ok_weaker c.ask_for_states.result
     (λ made.
     told_all d c.args.request c.args.table c.take_in.new.performer e c.in_ok-nodes.nodes c.ask_for_states.new.effects
     c.take_in.ensures are (c.self-2.view_is ∙ c.in_ok-know.ensures)
-    (made ∙ ap (λ ns. j.effects ++ map (state_request j.place.troupe c.args.table.view.incarnation) ns) c.as_slice.ensures)
+    (made ∙ ap (λ ns. j.effects ++ map (state_request j.member.place.troupe c.args.table.view.incarnation) ns) c.as_slice.ensures)
     ∙ ap (λ x. behind x (told x.member c.args.request c.args.table)) c.self.view_is)
     c.ask_for_states.ensures
