@@ -70,7 +70,7 @@ pub data AcceptsState (declared : Signature) (message : List ℕ) : Occurrence �
   state : (values : List ValueTree) (count : ℕ)
       → HandsOver declared.variables declared.limit message values count → AcceptsState declared message (comes.Restored values count)
 
--- a return of a node to a call that was made for a purpose; each name of an ask is of what that called
+-- a return of a node to a call that was made for a purpose, by the procedure that each ask called
 abbrev pub AcceptsReturn : Deployment → Signature → (AskName → Option ProcedureShape) → ℕ → Purpose → List ℕ → Occurrence → Type 0
 AcceptsReturn d declared called from (for.Ask name server) message o = AcceptsAnswer d (called name) name server from message o
 AcceptsReturn d declared called from (for.Ring request) message o = AcceptsTable d request message o
