@@ -28,3 +28,4 @@ pub mod Ring
 pub mod Headlines
 pub mod Runs
 pub mod Plain
+pub mod Rules

@@ -35,6 +35,7 @@ pub mod datagrams;
 pub mod ended;
 pub mod node_owed;
 pub mod owed;
+pub mod rules;
 
 /// A node that hosts a member of a troupe is a node run, whatever comes to it from the other nodes:
 /// datagrams with any bytes, whatever they claim, ticks, true and false declarations, and joins.

@@ -42,6 +42,8 @@
 //! that what it sends then is justified, and `Theorem.antt` has its life. `Tables.antt` has the
 //! Ringmaster, `WorldCourse.antt` and `WorldTheorem.antt` go along the lines of a world.
 //!
+//! Which returns a record accepts, by their grammar, `laws::rules` says (`proofs/Rules.antt`).
+//!
 //! What a report shows of a run, without the step of a node, is in `specs/Facts.antt`: the datagrams,
 //! each member's record, who crashed and when, and the Ringmaster's views; and what it means that the
 //! copies in it agree, and that its roots have ended. `proofs/Told.antt` has that the facts of a world
@@ -62,6 +64,7 @@ pub use laws::owed::{
     calls_are_owed, calls_are_the_same_that_say_the_same, calls_go_to_whom_they_are_owed,
     differences_are_told, requests_are_owed, returns_are_owed, steps_are_in_order,
 };
+pub use laws::rules::returns_are_accepted_by_records;
 pub use laws::{
     every_core_is_a_node_run, every_node_is_a_node_run, nodes_get_what_lines_give,
     nodes_of_worlds_live, nodes_send_what_they_give, plain_served_nodes_are_node_runs,
