@@ -1,5 +1,5 @@
 -- Messages by their grammar: the fields of a header, and behind them what values are spelled with.
-use Rattle.std.specs.Prelude.{◌≡◌, ℕ, ◌≤◌, true, false, List, [], ◌++◌, Option, Some}
+use Rattle.std.specs.Prelude.{◌≡◌, ℕ, ◌≤◌, true, false, List, [], ◌++◌, Some}
 use Rattle.circus_value.specs.ValueTree.{ValueTree}
 use Rattle.circus_value.specs.Fits.{all_fit}
 use Rattle.circus_value.specs.ExternalSize.{size_of_values}
