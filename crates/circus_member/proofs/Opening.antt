@@ -22,7 +22,8 @@ use Rattle.circus_member_rules.specs.OpenAsks.{with_ask}
 use Rattle.circus_member_rules.specs.MemberState.{MemberState, Doing}
 use Rattle.circus_member_rules.specs.Messages.{reply_message}
 use Rattle.circus_member_rules.specs.Rules.{index_of_last, answers, answers_of_run, calls_of_ask}
-use Rattle.circus_member_rules.specs.Step.{name_of_last, asking_begun, reply_of_run, opened_by_view, opened_ask, ended_run, opened_last, ended_last, after_turns}
+use Rattle.circus_member_rules.specs.Step.{name_of_last, asking_begun, reply_of_run, opened_by_view, opened_ask, ended_run, after_turns}
+use Rattle.circus_member.specs.Seen.Within.{opened_last, ended_last}
 use Rattle.circus_member_rules.specs.Callable.{MayCall, IsReply}
 use Rattle.circus_member_rules.specs.Seen.Sound.{IsRunOf, HasTurned}
 use Rattle.circus_member_rules.proofs.Homes.{may_call, slice_get_none}

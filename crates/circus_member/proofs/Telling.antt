@@ -13,7 +13,8 @@ use Rattle.circus_member_rules.specs.declared.place.Place.{Place}
 use Rattle.circus_member_rules.specs.declared.occurrence.Effect.{Effect}
 use Rattle.circus_member_rules.specs.MemberState.{Doing, adding, behind}
 use Rattle.circus_member_rules.specs.Rules.{with_new_view, calls_for_a_new_view, givers, state_request, state_requests}
-use Rattle.circus_member_rules.specs.Step.{answered_by_ring, known_by_table, kept_by_table, is_taken_in, told, seen_by, with_record}
+use Rattle.circus_member_rules.specs.Step.{answered_by_ring, known_by_table, kept_by_table, is_taken_in, told, with_record}
+use Rattle.circus_member.specs.Seen.Within.{seen_by}
 use Rattle.circus_member_rules.specs.Callable.{AllMayCall}
 use Rattle.circus_member_rules.specs.Happening.{IsHome}
 use Rattle.circus_member_rules.specs.Seen.Sound.{AreOpen}

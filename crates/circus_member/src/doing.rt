@@ -8,6 +8,7 @@ ghost use Rattle.circus_performing.specs.Record.{behaviour};
 ghost use Rattle.circus_member_rules.specs.MemberState.{behind};
 ghost use Rattle.circus_member_rules.specs.Rules as rules;
 ghost use Rattle.circus_member_rules.specs.Step as step;
+ghost use Rattle.circus_member.specs.Seen.Within as within;
 ghost use Rattle.circus_member_rules.specs.Callable.{AreViews, AllMayCall, AreReplies, AreHosts};
 ghost use Rattle.circus_member_rules.specs.Happening.{IsHome, CanHappen};
 ghost use Rattle.circus_member_rules.specs.Seen.Sound.{AreOpen, IsSound, HasTurned, MayStart};
@@ -247,7 +248,7 @@ impl<M: Module> Doing<M> {
             (M.declared self.old.member.performing.hosted) self.old.member.place.troupe
             (length self.old.member.known.views) self.old.member.asks }
         requires view { IsIncarnation view.incarnation }
-        ensures { OnOk result (self.new ≡ step.seen_by self.old request view) }
+        ensures { OnOk result (self.new ≡ within.seen_by self.old request view) }
     {
         let troupe = view.troupe;
         hear(&mut self.member.known, request, troupe);
@@ -424,7 +425,7 @@ impl<M: Module> Doing<M> {
         requires { HasTurned
             (behaviour M.declared M.turn M.first self.old.member.performing.hosted)
             self.old.member }
-        ensures { OnOk result (self.new ≡ step.opened_last self.old) }
+        ensures { OnOk result (self.new ≡ within.opened_last self.old) }
     {
         let Some(last) = self.member.performer.last_run() else {
             return Ok(());
@@ -470,7 +471,7 @@ impl<M: Module> Doing<M> {
             (behaviour M.declared M.turn M.first self.old.member.performing.hosted)
             self.old.member }
         requires ended { performing.open_ask self.old.member.performing.kept ≡ None }
-        ensures { OnOk result (self.new ≡ step.ended_last self.old) }
+        ensures { OnOk result (self.new ≡ within.ended_last self.old) }
     {
         let Some(last) = self.member.performer.last_run() else {
             return Ok(());

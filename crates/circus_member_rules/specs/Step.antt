@@ -157,17 +157,6 @@ module _ {M : Type 0} where
       (last_of d.member.performing.kept.runs)
       d
 
-  -- one of the two alone, where there is such an ask, and such a run
-  abbrev pub opened_last : Doing M → Doing M
-  opened_last d =
-      option_map_or
-      (λ (run : RunRecord). option_map_or (opened_ask d run) (open_ask d.member.performing.kept) d)
-      (last_of d.member.performing.kept.runs)
-      d
-
-  abbrev pub ended_last : Doing M → Doing M
-  ended_last d = option_map_or (ended_run d) (last_of d.member.performing.kept.runs) d
-
   -- the open ask has a value
   abbrev pub value_of_open : MemberState M → Option Reply
   value_of_open m =
@@ -226,15 +215,6 @@ module _ {M : Type 0} where
             (if newer then rules.calls_for_a_new_view known table.view m.asks else [])
             ++ (if is_taken_in m.performing.kept.phase kept.phase then rules.state_requests m.place known.down table.view else []);
       }
-
-  -- the view alone, where the member knows and has seen it, and makes calls for it
-  abbrev pub seen_by : Doing M → Request → View → Doing M
-  seen_by d request view =
-      let m = d.member in
-      let known = known_by_table m.known request view in
-      let newer = knowing.is_newer m.known view in
-      adding (record d { member = record m { known = known; asks = if newer then rules.with_new_view known view m.asks else m.asks } })
-      (if newer then rules.calls_for_a_new_view known view m.asks else [])
 
   -- a reply that differs from the first one to an open ask is told
   abbrev pub difference : Occurrence → MemberState M → Option Difference

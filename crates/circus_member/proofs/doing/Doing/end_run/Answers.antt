@@ -5,7 +5,7 @@ use Rattle.circus_gather.specs.Gathering.{reply_of}
 use Rattle.circus_performing.specs.Performing.{open_ask}
 use Rattle.circus_performing.specs.Record.{behaviour}
 use Rattle.circus_member_rules.specs.Rules.{index_of_last, answers}
-use Rattle.circus_member_rules.specs.Step.{ended_last}
+use Rattle.circus_member.specs.Seen.Within.{ended_last}
 use Rattle.circus_member_rules.specs.Callable.{IsReply}
 use Rattle.circus_member_rules.specs.Seen.Sound.{HasTurned}
 use Rattle.circus_member.proofs.Parts.{doing_of}

@@ -3,7 +3,7 @@ use Rattle.std.specs.Prelude.{slice_get}
 use Rattle.std.proofs.lemmas.Option.{none-some, same_Some}
 use Rattle.circus_header.specs.CallFields.{IsIncarnation}
 use Rattle.circus_fanout.specs.Knowing.{told, is_newer}
-use Rattle.circus_member_rules.specs.Step.{seen_by}
+use Rattle.circus_member.specs.Seen.Within.{seen_by}
 use Rattle.circus_member_rules.specs.Rules.{with_new_view, calls_for_a_new_view}
 use Rattle.circus_member_rules.specs.Callable.{AllMayCall}
 use Rattle.circus_member_rules.specs.Happening.{IsHome}

@@ -6,7 +6,8 @@ use Rattle.circus_model.specs.Behaviour.{IsModule}
 use Rattle.circus_fanout.specs.declared.send.Send.{Send}
 use Rattle.circus_fanout.specs.Asking.{begun, with_view, calls_for_a_view}
 use Rattle.circus_performing.specs.Record.{behaviour}
-use Rattle.circus_member_rules.specs.Step.{name_of_last, header_of_ask, opened_last}
+use Rattle.circus_member_rules.specs.Step.{name_of_last, header_of_ask}
+use Rattle.circus_member.specs.Seen.Within.{opened_last}
 use Rattle.circus_member_rules.specs.Callable.{MayCall, HasFewAsks}
 use Rattle.circus_member_rules.specs.Seen.Sound.{HasTurned}
 use Rattle.circus_member_rules.proofs.Calls.{by_the_view}
