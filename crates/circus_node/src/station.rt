@@ -92,31 +92,17 @@ impl Station {
     }
 
     /// A tick comes.
-    pub fn tick(self) -> Result<(Self, Outputs), StepFault>
+    pub fn tick(mut self) -> Result<(Self, Outputs), StepFault>
         ensures { stations.IsTicked result self }
     {
-        let Station {
-            alloc,
-            deployment,
-            node,
-            wire,
-            dropped,
-        } = self;
-        let (wire, batches, suspects) = wire.tick()?;
-        let mut gives = Gives::new(alloc);
+        let (batches, suspects) = self.wire.tick()?;
+        let mut gives = Gives::new(self.alloc);
         add_all_gives(batches, &mut gives)?;
-        let station = Station {
-            alloc,
-            deployment,
-            node,
-            wire,
-            dropped,
-        };
         let outputs = Outputs {
             gives,
             suspects,
-            differences: ListOf::new(alloc),
+            differences: ListOf::new(self.alloc),
         };
-        Ok((station, outputs))
+        Ok((self, outputs))
     }
 }

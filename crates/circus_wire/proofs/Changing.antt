@@ -3,9 +3,9 @@ use Rattle.std.proofs.Common.{◌≡◌, ◌≢◌, ℕ, ◌<◌, ◌≤◌, Boo
 use Rattle.std.specs.Prelude.{slice_get, is_some, IfSome, option_copied}
 use Rattle.std.proofs.lemmas.Bool.{ne_eqb, ltb-true, ltb-false}
 use Rattle.std.proofs.lemmas.Bool.Decides.{eqb_tells}
-use Rattle.std.proofs.lemmas.List.{length-set, length-map}
+use Rattle.std.proofs.lemmas.List.{length-set}
 use Rattle.std.proofs.lemmas.Option.{slice_get_read, slice_get_past, slice_get_within, get_or_from_slice_get}
-use Rattle.circus_wire.specs.Wire.{PeerState, WireState, place_of, node_at, changed_at, changed, peer_at, of_peer, Remains, IsOther, all_ticked, peer_ticked}
+use Rattle.circus_wire.specs.Wire.{PeerState, WireState, place_of, node_at, changed_at, changed, peer_at, of_peer, Remains, IsOther}
 use Rattle.circus_wire.specs.Seen.Kept.{AreKept}
 use Rattle.circus_wire.proofs.Places.{set_is, place_within}
 
@@ -114,5 +114,8 @@ module _ {P : Type 0} where
     pairs = length-set peers place new ∙ ap (λ (x : WireState P). length x.peers) is;
   }
 
-  pub all_remain : (w new : WireState P) → new ≡ all_ticked w → Remains w new
-  all_remain w new is = subst (λ x. Remains w x) (sym is) (record { own = refl; format = refl; pairs = length-map w.peers peer_ticked })
+  pub itself_remains : (w : WireState P) → Remains w w
+  itself_remains w = record { own = refl; format = refl; pairs = refl }
+
+  pub remains_on : (w x y : WireState P) → Remains w x → Remains x y → Remains w y
+  remains_on w x y first then = record { own = then.own ∙ first.own; format = then.format ∙ first.format; pairs = then.pairs ∙ first.pairs }

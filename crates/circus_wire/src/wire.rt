@@ -288,35 +288,37 @@ impl<P: Drop> Wire<P> {
     }
 
     /// Lets a tick come to each pair with a node that was not declared down, in node order, and answers what is sent
-    /// and which nodes are suspected now (docs/PROTOCOL.md, "Ticks"). After `NoMemory` there is no wire any more.
-    pub fn tick(self) -> Result<(Self, Batches, Nodes), NoMemory>
-        ensures stands { (b : Beginning) (acts : WireActs P) → WireStands self b acts
-            → IfOk result (λ tick. WireStands tick.0 b (followed_by acts TickAll)) }
-        ensures owed { (b : Beginning) (acts : WireActs P) → WireStands self b acts
-            → IfOk result (λ tick. tick.1 ≡ ticks_owed b acts) }
-        ensures suspects { (b : Beginning) (acts : WireActs P) → WireStands self b acts
-            → IfOk result (λ tick. tick.2 ≡ suspects_owed b acts) }
+    /// and which nodes are suspected now (docs/PROTOCOL.md, "Ticks"). After `NoMemory` some of the pairs may have had it,
+    /// and what they send is lost.
+    pub fn tick(&mut self) -> Result<(Batches, Nodes), NoMemory>
+        ensures stands { (b : Beginning) (acts : WireActs P) → WireStands self.old b acts
+            → OnOk result (WireStands self.new b (followed_by acts TickAll)) }
+        ensures owed { (b : Beginning) (acts : WireActs P) → WireStands self.old b acts
+            → IfOk result (λ tick. tick.0 ≡ ticks_owed b acts) }
+        ensures suspects { (b : Beginning) (acts : WireActs P) → WireStands self.old b acts
+            → IfOk result (λ tick. tick.1 ≡ suspects_owed b acts) }
 
         // By what the pairs know.
-        ensures state { IfOk result (λ tick. tick.0 ≡ model.all_ticked self) }
-        ensures sent { IfOk result (λ tick. tick.1 ≡ model.sent_by_tick self) }
-        ensures suspected { IfOk result (λ tick. tick.2 ≡ model.suspected_by_tick self) }
-        ensures remains { IfOk result (λ tick. model.Remains self tick.0) }
+        ensures state { OnOk result (self.new ≡ model.all_ticked self.old) }
+        ensures sent { IfOk result (λ tick. tick.0 ≡ model.sent_by_tick self.old) }
+        ensures suspected { IfOk result (λ tick. tick.1 ≡ model.suspected_by_tick self.old) }
+        ensures remains { model.Remains self.old self.new }
     {
         self.tick_all()
     }
 
-    fn tick_all(mut self) -> Result<(Self, Batches, Nodes), NoMemory>
-        ensures state { IfOk result (λ tick. tick.0 ≡ model.all_ticked self) }
-        ensures sent { IfOk result (λ tick. tick.1 ≡ model.sent_by_tick self) }
-        ensures suspected { IfOk result (λ tick. tick.2 ≡ model.suspected_by_tick self) }
+    fn tick_all(&mut self) -> Result<(Batches, Nodes), NoMemory>
+        ensures state { OnOk result (self.new ≡ model.all_ticked self.old) }
+        ensures sent { IfOk result (λ tick. tick.0 ≡ model.sent_by_tick self.old) }
+        ensures suspected { IfOk result (λ tick. tick.1 ≡ model.suspected_by_tick self.old) }
+        ensures remains { model.Remains self.old self.new }
     {
         let mut sends = ListOf::new(self.alloc);
         let mut suspects = ListOf::new(self.alloc);
         for place in 0..self.peers.len() {
             self.tick_at(place, &mut sends, &mut suspects)?;
         }
-        Ok((self, sends, suspects))
+        Ok((sends, suspects))
     }
 
     // Lets a tick come to the pair at a place, unless its node was declared down.
@@ -336,6 +338,7 @@ impl<P: Drop> Wire<P> {
             (suspects.new ≡ suspects.old
             ++ model.of_peer [] (model.suspicion (model.node_at self.old.own place))
             (slice_get self.old.peers place)) }
+        ensures remains { model.Remains self.old self.new }
     {
         let node = node_at(self.own, place);
         self.peers[place].tick(node, sends, suspects)

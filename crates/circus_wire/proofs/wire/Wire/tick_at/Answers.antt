@@ -1,7 +1,7 @@
 use Rattle.std.proofs.Common.{[], ◌++◌, ap, ◌∙◌}
 use Rattle.std.proofs.lemmas.Result.{on_ok_weaker}
 use Rattle.circus_wire.specs.Wire.{batches, suspicion, peer_ticked}
-use Rattle.circus_wire.proofs.Changing.{read_at, given_at, state_at}
+use Rattle.circus_wire.proofs.Changing.{read_at, given_at, state_at, set_remains}
 use Rattle.circus_wire.proofs.Kept.{all_kept}
 use Rattle.circus_wire.proofs.wire.Wire.tick_at.Goals as goal
 
@@ -22,3 +22,6 @@ pub returns-clause-suspected : goal.returns-clause-suspected
 returns-clause-suspected g c =
     on_ok_weaker c.tick.result (λ e. e ∙ ap (λ more. c.args.suspects.now ++ more)
     (given_at [] suspicion _ _ _ _ c.args.place _ _ c.self.view_is c.node_at-node.ensures (read_at _ _ _ _ c.args.place _ c.self.view_is c.requires c.index_mut.ensures.value))) c.tick.ensures.suspected
+
+pub returns-clause-remains : goal.returns-clause-remains
+returns-clause-remains g c = set_remains _ _ _ c.args.place _ _ c.self.view_is
