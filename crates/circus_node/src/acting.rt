@@ -184,13 +184,7 @@ impl<M: Module> Acting<M> {
         match heard {
             Heard::Taken => Ok((self, Consequences::nothing(alloc))),
             Heard::Dropped => Ok((self, Consequences::a_drop(alloc))),
-            Heard::Called(sender, message) => {
-                self.take(alloc, deployment, at, from, Heard::Called(sender, message))
-            }
-            Heard::Returned(number, purpose, message) => {
-                let returned = Heard::Returned(number, purpose, message);
-                self.take(alloc, deployment, at, from, returned)
-            }
+            arriving => self.take(alloc, deployment, at, from, arriving),
         }
     }
 
