@@ -26,6 +26,8 @@ use Rattle.circus_node.specs.declared.event.Outputs.{Outputs}
 use Rattle.circus_node.specs.declared.acting.Consequences.{Consequences}
 use Rattle.circus_node.specs.NodeState.{NodeState, Acting, member, ringmaster, member_record, ring_views}
 use Rattle.circus_node.specs.Node.{IsNodeOf, GoToOthers}
+use Rattle.circus_node.specs.GoneOn.{MemberHasGoneOn}
+use Rattle.circus_node.specs.Seen.Kept.{IsActing}
 use Rattle.circus_node.specs.Accepting.{troupe_at, accepted}
 use Rattle.circus_node.specs.Making.{Made, hears, learns_down, is_told_to_join, happens, refused}
 use Rattle.circus_node.specs.Sending.{Sending, sent, spent}
@@ -49,6 +51,12 @@ troupe_there d node number is e = by_host (slice_get d.nodes node) refl e
     by_host (Some h) at found = inside d.troupes number ((is.nodes node h at).hosted number found)
 
 module _ {M : Type 0} where
+  -- ---- its member has gone on as far as it can
+
+  pub has_gone_on : (d : Deployment) (a : Acting M) → IsActing d a → MemberHasGoneOn a
+  has_gone_on d (member m) is = is.1
+  has_gone_on d (ringmaster kept) is = tt
+
   -- ---- what came of a step is sent
 
   -- the node after a step, with what it gave

@@ -7,6 +7,7 @@ pub mod Seen
 pub mod Node
 pub mod NodeState
 pub mod Recorded
+pub mod GoneOn
 pub mod Making
 pub mod Sending
 pub mod Step

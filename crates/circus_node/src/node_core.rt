@@ -10,6 +10,7 @@ ghost use Rattle.circus_node.specs.Step as step;
 ghost use Rattle.circus_node.specs.Trace as trace;
 ghost use Rattle.circus_node.specs.Trace.{Trace, StandsFor, effects_in, effects_at_boot};
 ghost use Rattle.circus_node.specs.Node.{IsNodeOf, GoToOthers};
+ghost use Rattle.circus_node.specs.GoneOn.{MemberHasGoneOn};
 ghost use Rattle.circus_node.specs.Recorded.{IsRecorded};
 ghost use Rattle.circus_node.specs.Seen.Kept.{IsActing};
 ghost use Rattle.circus_node.specs.Seen.StationOf.{node_of, IsStation};
@@ -79,6 +80,7 @@ impl<M: Module> NodeCore<M> {
             (booting.booted M.declared M.turn M.first deployment.now «module» node) }
         ensures node { IfOk result (λ booted. IsNodeOf deployment.now node booted.0) }
         ensures others { IfOk result (λ booted. GoToOthers booted.0 booted.1.gives) }
+        ensures rest { IfOk result (λ booted. MemberHasGoneOn booted.0.acting) }
         ensures trace { IfOk result (λ begun.
             StandsFor M.declared M.turn M.first deployment.now «module» node
             (trace.booted (effects_at_boot M.declared M.turn M.first deployment.now «module» node)
@@ -101,6 +103,7 @@ impl<M: Module> NodeCore<M> {
             result }
         ensures node { IfOk result (λ booted. IsNodeOf deployment.now node booted.0) }
         ensures others { IfOk result (λ booted. GoToOthers booted.0 booted.1.gives) }
+        ensures rest { IfOk result (λ booted. MemberHasGoneOn booted.0.acting) }
     {
         let hosted = copy_of(modules, troupe_at(deployment, node))?;
         NodeCore::boot(alloc, deployment, hosted, node)
@@ -118,6 +121,7 @@ impl<M: Module> NodeCore<M> {
         ensures node { (program : Deployed) (number : ℕ) → IsNodeOf program number self
             → IfOk result (λ stepped. IsNodeOf program number stepped.0) }
         ensures others { IfOk result (λ stepped. GoToOthers stepped.0 stepped.1.gives) }
+        ensures rest { IfOk result (λ stepped. MemberHasGoneOn stepped.0.acting) }
         ensures trace { (d : Deployed) (hosted : Option M) (node : ℕ) (t : Trace)
             → StandsFor M.declared M.turn M.first d hosted node t self
             → IfOk result (λ on. StandsFor M.declared M.turn M.first d hosted node
@@ -157,8 +161,9 @@ impl<M: Module> NodeCore<M> {
         node: u16,
     ) -> Result<(Self, Outputs), StepFault>
         requires { booting.CanBoot deployment.now node (option_map M.declared «module») }
-        ensures { step.IsEnded result
+        ensures ended { step.IsEnded result
             (booting.booted M.declared M.turn M.first deployment.now «module» node) }
+        ensures rest { IfOk result (λ booted. MemberHasGoneOn booted.0.acting) }
     {
         let home = home_of(alloc, deployment, node)?;
         let (acting, came) = Acting::boot(alloc, deployment, home, module)?;
@@ -169,7 +174,8 @@ impl<M: Module> NodeCore<M> {
     // A later step.
     fn follow(self, at: u64, event: Event) -> Result<(Self, Outputs), StepFault>
         requires { step.CanCome self event }
-        ensures { step.IsEnded result (step.stepped M.declared M.turn at event self) }
+        ensures ended { step.IsEnded result (step.stepped M.declared M.turn at event self) }
+        ensures rest { IfOk result (λ stepped. MemberHasGoneOn stepped.0.acting) }
     {
         match event {
             Event::Datagram(from, bytes) => self.receive(at, from, &bytes),
@@ -182,8 +188,9 @@ impl<M: Module> NodeCore<M> {
     // A datagram of a node comes.
     fn receive(self, at: u64, from: u16, bytes: &Bytes) -> Result<(Self, Outputs), StepFault>
         requires { IsOther self.wire from }
-        ensures { step.IsEnded result
+        ensures ended { step.IsEnded result
             (step.received M.declared M.turn at from (reading bytes.now) self) }
+        ensures rest { IfOk result (λ stepped. MemberHasGoneOn stepped.0.acting) }
     {
         let NodeCore {
             mut station,
@@ -197,7 +204,8 @@ impl<M: Module> NodeCore<M> {
 
     // A tick touches the pairs alone.
     fn tick(self) -> Result<(Self, Outputs), StepFault>
-        ensures { step.IsEnded result (step.ticked self) }
+        ensures ended { step.IsEnded result (step.ticked self) }
+        ensures rest { IfOk result (λ ticked. MemberHasGoneOn ticked.0.acting) }
     {
         let NodeCore { station, acting } = self;
         let (station, outputs) = station.tick()?;
@@ -207,7 +215,8 @@ impl<M: Module> NodeCore<M> {
     // A node is declared to be down: its pair stops first.
     fn lose(self, at: u64, node: u16) -> Result<(Self, Outputs), StepFault>
         requires { IsOther self.wire node }
-        ensures { step.IsEnded result (step.lost M.declared M.turn at node self) }
+        ensures ended { step.IsEnded result (step.lost M.declared M.turn at node self) }
+        ensures rest { IfOk result (λ stepped. MemberHasGoneOn stepped.0.acting) }
     {
         let NodeCore {
             mut station,
@@ -221,7 +230,8 @@ impl<M: Module> NodeCore<M> {
 
     // The node is told to join its troupe.
     fn join(self, at: u64) -> Result<(Self, Outputs), StepFault>
-        ensures { step.IsEnded result (step.joining M.declared M.turn at self) }
+        ensures ended { step.IsEnded result (step.joining M.declared M.turn at self) }
+        ensures rest { IfOk result (λ stepped. MemberHasGoneOn stepped.0.acting) }
     {
         let NodeCore { station, acting } = self;
         let alloc = station.alloc;
@@ -238,7 +248,8 @@ impl<M: Module> NodeCore<M> {
     ) -> Result<(Self, Outputs), StepFault>
         requires station { IsStation station }
         requires acting { IsActing station.deployment acting }
-        ensures { step.IsEnded result (step.concluded (node_of station acting) gives came) }
+        ensures ended { step.IsEnded result (step.concluded (node_of station acting) gives came) }
+        ensures rest { IfOk result (λ concluded. MemberHasGoneOn concluded.0.acting) }
     {
         let (station, outputs) = station.conclude(gives, came)?;
         Ok((NodeCore { station, acting }, outputs))

@@ -5,6 +5,7 @@ use Rattle.circus_collate.specs.declared.deployment.Deployment.{Deployment}
 use Rattle.circus_header.specs.declared.call.Request.{Request}
 use Rattle.circus_ring.specs.RingTable.{Kept, kept_after}
 use Rattle.circus_model.specs.declared.signature.Signature.{Signature}
+use Rattle.circus_member_rules.specs.GoneOn.{HasGoneOn}
 use Rattle.circus_node.specs.Accepting.{IsMemberOf}
 use Rattle.circus_node.specs.declared.home.Home.{Home}
 use Rattle.circus_node.specs.NodeState.{Acting, member, ringmaster}
@@ -16,8 +17,9 @@ pub record IsRingOf (d : Deployment) (kept : Kept) : Type 0 where
   pub requests : List Request
   pub kept_is : kept ≡ kept_after d.troupes requests
 
+-- behind each step
 abbrev pub IsActing : {M : Type 0} → Deployment → Acting M → Type 0
-IsActing d (member m) = IsMemberOf d m
+IsActing d (member m) = IsMemberOf d m × HasGoneOn m
 IsActing d (ringmaster kept) = IsRingOf d kept
 
 -- where a member of a node stands, and its module is one of its troupe

@@ -38,4 +38,4 @@ returns-clause-kept g c d of =
     let M = g.M.Module in
     let was = subst (λ (m : MemberState g.row.M.Denot). IsMemberOf d m) (sym c.into_inner.ensures) of in
     subst (λ (a : Acting g.row.M.Denot). IsActing d a) (sym c.in_ok-acting.ensures)
-    (still_member M.declared M.turn c.args.at c.args.occurrence c.into_inner.result c.in_ok-next.next d was c.in_ok-next.ensures.member)
+    (still_member M.declared M.turn c.args.at c.args.occurrence c.into_inner.result c.in_ok-next.next d was c.in_ok-next.ensures.member, c.in_ok-next.ensures.rest)

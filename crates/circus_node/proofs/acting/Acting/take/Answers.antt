@@ -31,7 +31,7 @@ pub accept-requires : goal.accept-requires
 accept-requires g c =
     let own = sym (ap acting_of c.in-Member.is) ∙ c.self.view_is in
     subst (λ (m : MemberState g.row.M.Denot). IsMemberOf c.args.deployment.now m) (sym c.deref.ensures)
-    (subst (λ (a : Acting g.row.M.Denot). IsActing c.args.deployment.now a) (sym own) c.requires)
+    (subst (λ (a : Acting g.row.M.Denot). IsActing c.args.deployment.now a) (sym own) c.requires).0
 
 pub returns-in-Some-clause-acting : goal.returns-in-Some-clause-acting
 returns-in-Some-clause-acting g c =
@@ -52,7 +52,7 @@ returns-in-Some-clause-came g c =
 pub returns-in-Some-clause-kept : goal.returns-in-Some-clause-kept
 returns-in-Some-clause-kept g c =
     let own = sym (ap acting_of c.in-Member.is) ∙ c.self.view_is in
-    c.happen.ensures.kept c.args.deployment.now (subst (λ (a : Acting g.row.M.Denot). IsActing c.args.deployment.now a) (sym own) c.requires)
+    c.happen.ensures.kept c.args.deployment.now (subst (λ (a : Acting g.row.M.Denot). IsActing c.args.deployment.now a) (sym own) c.requires).0
 
 pub returns-in-None-clause-acting : goal.returns-in-None-clause-acting
 returns-in-None-clause-acting g c =

@@ -4,14 +4,15 @@ use Rattle.circus_node.specs.Step.{IsEnded, concluded}
 use Rattle.circus_node.specs.Seen.StationOf.{node_of}
 use Rattle.circus_node.specs.Seen.Kept.{IsActing}
 use Rattle.circus_node.proofs.OtherLemmas.{still_stands}
+use Rattle.circus_node.proofs.NodeLemmas.{has_gone_on}
 use Rattle.circus_node.proofs.SendLemmas.{concluded_is, concluded_fault}
 use Rattle.circus_node.proofs.node_core.NodeCore.conclude.Goals as goal
 
 pub conclude-requires : goal.conclude-requires
 conclude-requires g c = c.requires.station
 
-pub returns-in_err-station : goal.returns-in_err-station
-returns-in_err-station g c =
+pub returns-in_err-station-clause-ended : goal.returns-in_err-station-clause-ended
+returns-in_err-station-clause-ended g c =
     let p = err_from_is_err_and c.from_residual.result c.from_residual.ensures.1 in
     subst (λ r. IsEnded r (concluded (node_of c.args.station c.args.acting) c.args.gives c.args.came)) (sym p.1)
     (subst (λ f. IsEnded (Err f) (concluded (node_of c.args.station c.args.acting) c.args.gives c.args.came)) (sym p.2)
@@ -24,6 +25,9 @@ invariant_of-result g c =
       subst (λ d. IsActing d c.args.acting) (sym sent.deployment) c.requires.acting,
     )
 
-pub returns : goal.returns
-returns g c =
+pub returns-clause-ended : goal.returns-clause-ended
+returns-clause-ended g c =
     concluded_is c.args.station c.args.acting c.args.gives c.args.came (c.in_ok-station.station, c.in_ok-station.outputs) c.in_ok-station.ensures
+
+pub returns-clause-rest : goal.returns-clause-rest
+returns-clause-rest g c = has_gone_on c.args.station.deployment c.args.acting c.requires.acting

@@ -5,8 +5,8 @@ use Rattle.circus_node.specs.Step.{IsEnded, joining}
 use Rattle.circus_node.proofs.SendLemmas.{lost_memory, concluded_as, node_is}
 use Rattle.circus_node.proofs.node_core.NodeCore.join.Goals as goal
 
-pub returns-in_err-acting : goal.returns-in_err-acting
-returns-in_err-acting g c =
+pub returns-in_err-acting-clause-ended : goal.returns-in_err-acting-clause-ended
+returns-in_err-acting-clause-ended g c =
     let p = err_from_is_err_and c.from_residual.result c.from_residual.ensures.1 in
     lost_memory c.from_residual.result (joining g.M.Module.declared g.M.Module.turn c.args.at c.args.self) p.0 p.1 p.2
 
@@ -16,11 +16,11 @@ conclude-requires-clause-station g c = c.self.invariant.0
 pub conclude-requires-clause-acting : goal.conclude-requires-clause-acting
 conclude-requires-clause-acting g c = c.in_ok-acting.ensures.kept c.self.inside.station.deployment c.self.invariant.1
 
-pub returns : goal.returns
-returns g c =
+pub returns-clause-ended : goal.returns-clause-ended
+returns-clause-ended g c =
     let made = is_told_to_join g.M.Module.declared g.M.Module.turn c.args.at c.self.inside.acting in
     let s = c.self.inside.station in
     subst (λ n. IsEnded c.conclude.result (joining g.M.Module.declared g.M.Module.turn c.args.at n)) c.self.view_is
     (concluded_as c.conclude.result (record { deployment = s.deployment; wire = s.wire; acting = made.acting; dropped = s.dropped }) s c.in_ok-acting.acting c.new.result [] c.in_ok-acting.came made.came
     (node_is s c.in_ok-acting.acting made.acting s.deployment s.wire s.dropped refl refl c.in_ok-acting.ensures.acting refl)
-    c.new.ensures c.in_ok-acting.ensures.came c.conclude.ensures)
+    c.new.ensures c.in_ok-acting.ensures.came c.conclude.ensures.ended)

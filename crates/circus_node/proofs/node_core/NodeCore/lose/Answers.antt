@@ -12,8 +12,8 @@ use Rattle.circus_node.proofs.node_core.NodeCore.lose.Goals as goal
 pub stop-requires : goal.stop-requires
 stop-requires g c = subst (λ (n : NodeState g.row.M.Denot). IsOther n.wire c.args.node) (sym c.self.view_is) c.requires
 
-pub returns-in_err-acting : goal.returns-in_err-acting
-returns-in_err-acting g c =
+pub returns-in_err-acting-clause-ended : goal.returns-in_err-acting-clause-ended
+returns-in_err-acting-clause-ended g c =
     let p = err_from_is_err_and c.from_residual.result c.from_residual.ensures.1 in
     lost_memory c.from_residual.result (lost g.M.Module.declared g.M.Module.turn c.args.at c.args.node c.args.self) p.0 p.1 p.2
 
@@ -23,8 +23,8 @@ conclude-requires-clause-station g c = still_stands c.self.inside.station _ c.se
 pub conclude-requires-clause-acting : goal.conclude-requires-clause-acting
 conclude-requires-clause-acting g c = c.in_ok-acting.ensures.kept c.self.inside.station.deployment c.self.invariant.1
 
-pub returns : goal.returns
-returns g c =
+pub returns-clause-ended : goal.returns-clause-ended
+returns-clause-ended g c =
     let s : Station = c.self.inside.station in
     let t : Station = record s { wire = c.stop.new.self } in
     let made : Made g.row.M.Denot = learns_down g.M.Module.declared g.M.Module.turn c.args.at c.args.node c.self.inside.acting in
@@ -32,4 +32,4 @@ returns g c =
     (concluded_as c.conclude.result (record { deployment = s.deployment; wire = stopped_at s.wire c.args.node; acting = made.acting; dropped = s.dropped }) t c.in_ok-acting.acting
     c.new.result [] c.in_ok-acting.came made.came
     (node_is t c.in_ok-acting.acting made.acting s.deployment (stopped_at s.wire c.args.node) s.dropped refl c.stop.ensures.state c.in_ok-acting.ensures.acting refl)
-    c.new.ensures c.in_ok-acting.ensures.came c.conclude.ensures)
+    c.new.ensures c.in_ok-acting.ensures.came c.conclude.ensures.ended)

@@ -15,8 +15,8 @@ use Rattle.circus_node.proofs.node_core.NodeCore.receive.Goals as goal
 pub receive-requires : goal.receive-requires
 receive-requires g c = subst (λ (n : NodeState g.row.M.Denot). IsOther n.wire c.args.from) (sym c.self.view_is) c.requires
 
-pub returns-in_err-gives : goal.returns-in_err-gives
-returns-in_err-gives g c =
+pub returns-in_err-gives-clause-ended : goal.returns-in_err-gives-clause-ended
+returns-in_err-gives-clause-ended g c =
     let p = err_from_is_err_and c.from_residual.result c.from_residual.ensures.1 in
     lost_memory c.from_residual.result (received g.M.Module.declared g.M.Module.turn c.args.at c.args.from (reading c.args.bytes.now) c.args.self) p.0 p.1 p.2
 
@@ -25,8 +25,8 @@ hear-requires g c =
     let got = c.in_ok-gives.ensures in
     subst (λ d. IsActing d c.self.inside.acting) (sym (ap (λ (x : Station). x.deployment) got.station)) c.self.invariant.1
 
-pub returns-in_err-acting : goal.returns-in_err-acting
-returns-in_err-acting g c =
+pub returns-in_err-acting-clause-ended : goal.returns-in_err-acting-clause-ended
+returns-in_err-acting-clause-ended g c =
     let p = err_from_is_err_and c.from_residual-in_err-acting.result c.from_residual-in_err-acting.ensures.1 in
     lost_memory c.from_residual-in_err-acting.result (received g.M.Module.declared g.M.Module.turn c.args.at c.args.from (reading c.args.bytes.now) c.args.self) p.0 p.1 p.2
 
@@ -39,8 +39,8 @@ conclude-requires-clause-station g c =
 pub conclude-requires-clause-acting : goal.conclude-requires-clause-acting
 conclude-requires-clause-acting g c = c.in_ok-acting.ensures.kept
 
-pub returns : goal.returns
-returns g c =
+pub returns-clause-ended : goal.returns-clause-ended
+returns-clause-ended g c =
     let s : Station = c.self.inside.station in
     let t : Station = c.receive.new.self in
     let a = c.self.inside.acting in
@@ -57,4 +57,4 @@ returns g c =
     (node_is t c.in_ok-acting.acting made.acting s.deployment (after_datagram s.wire c.args.from segment) s.dropped
     (ap (λ (x : Station). x.deployment) got.station) (ap (λ (x : Station). x.wire) got.station)
     (c.in_ok-acting.ensures.acting ∙ ap (λ (x : Made g.row.M.Denot). x.acting) same) (ap (λ (x : Station). x.dropped) got.station))
-    got.gives (c.in_ok-acting.ensures.came ∙ ap (λ (x : Made g.row.M.Denot). x.came) same) c.conclude.ensures)
+    got.gives (c.in_ok-acting.ensures.came ∙ ap (λ (x : Made g.row.M.Denot). x.came) same) c.conclude.ensures.ended)

@@ -4,11 +4,12 @@ use Rattle.circus_node.specs.Step.{IsEnded, ticked}
 use Rattle.circus_node.specs.Seen.StationOf.{node_of}
 use Rattle.circus_node.specs.Seen.Kept.{IsActing}
 use Rattle.circus_node.proofs.OtherLemmas.{still_stands}
+use Rattle.circus_node.proofs.NodeLemmas.{has_gone_on}
 use Rattle.circus_node.proofs.SendLemmas.{ticked_is, ticked_fault}
 use Rattle.circus_node.proofs.node_core.NodeCore.tick.Goals as goal
 
-pub returns-in_err-station : goal.returns-in_err-station
-returns-in_err-station g c =
+pub returns-in_err-station-clause-ended : goal.returns-in_err-station-clause-ended
+returns-in_err-station-clause-ended g c =
     let p = err_from_is_err_and c.from_residual.result c.from_residual.ensures.1 in
     subst (λ n. IsEnded c.from_residual.result (ticked n)) c.self.view_is
     (subst (λ r. IsEnded r (ticked (node_of c.self.inside.station c.self.inside.acting))) (sym p.1)
@@ -22,7 +23,10 @@ invariant_of-result g c =
       subst (λ d. IsActing d c.self.inside.acting) (sym came.deployment) c.self.invariant.1,
     )
 
-pub returns : goal.returns
-returns g c =
+pub returns-clause-ended : goal.returns-clause-ended
+returns-clause-ended g c =
     subst (λ n. ticked n ≡ Ok (node_of c.in_ok-station.station c.self.inside.acting, c.in_ok-station.outputs)) c.self.view_is
     (ticked_is c.self.inside.station c.self.inside.acting (c.in_ok-station.station, c.in_ok-station.outputs) c.in_ok-station.ensures)
+
+pub returns-clause-rest : goal.returns-clause-rest
+returns-clause-rest g c = has_gone_on c.self.inside.station.deployment c.self.inside.acting c.self.invariant.1
