@@ -13,7 +13,8 @@ use Rattle.circus_type.specs.Obeys.{ObeysInside, ObeyFields, ObeyArmTypes, ObeyL
 use Rattle.circus_idl.proofs.ObeysParts.{FieldsObey, ErrorObeys, ProcedureObeys, parts_obey, fields_obey}
 use Rattle.circus_external.specs.Refusal.{is_proper, are_proper, arms_are_proper, has_arm}
 use Rattle.circus_value.specs.Among.{is_among}
-use Rattle.circus_stub.specs.Unpacked.{procedure_of, error_of, is_of_system, raised_fields}
+use Rattle.circus_model.specs.LanguageError.{is_language_error}
+use Rattle.circus_stub.specs.Unpacked.{procedure_of, error_of, raised_fields}
 
 some_label : (labels : List Label) → ObeyLabels labels → list_any (λ (l : Label). nat_lt l.number 65536) labels ≡ true
 some_label [] obey = absurd (omega (arith, obey.some))
@@ -74,9 +75,9 @@ results_are_proper i n p obeys is = list_proper p.results (procedure_obeys i n p
 pub raised_are_proper : (i : Interface) (p : Procedure) (n : ℕ) (fields : FieldTrees) → Obeys i → raised_fields i p n ≡ Some fields → are_proper fields ≡ true
 raised_are_proper i p n fields obeys is = by_report (is_among p.reports n) is
   where
-    of_system : (b : Bool) → cond b (Some no_fields) None ≡ Some fields → are_proper fields ≡ true
-    of_system true is = let same : no_fields ≡ fields = cc in subst (λ fs. are_proper fs ≡ true) same refl
-    of_system false is = absurd (cc)
+    of_language : (b : Bool) → cond b (Some no_fields) None ≡ Some fields → are_proper fields ≡ true
+    of_language true is = let same : no_fields ≡ fields = cc in subst (λ fs. are_proper fs ≡ true) same refl
+    of_language false is = absurd (cc)
 
     of_error : (found : Option DeclaredError) → error_of i n ≡ found → option_map (λ (e : DeclaredError). field_trees e.arguments) found ≡ Some fields → are_proper fields ≡ true
     of_error None found is = absurd (cc)
@@ -85,6 +86,6 @@ raised_are_proper i p n fields obeys is = by_report (is_among p.reports n) is
         subst (λ fs. are_proper fs ≡ true) same
         (list_proper e.arguments (found_holds ErrorObeys (λ (d : DeclaredError). nat_eq d.number n) i.errors e (parts_obey i obeys).errors found).arguments)
 
-    by_report : (b : Bool) → cond b (option_map (λ (e : DeclaredError). field_trees e.arguments) (error_of i n)) (cond (is_of_system n) (Some no_fields) None) ≡ Some fields → are_proper fields ≡ true
+    by_report : (b : Bool) → cond b (option_map (λ (e : DeclaredError). field_trees e.arguments) (error_of i n)) (cond (is_language_error n) (Some no_fields) None) ≡ Some fields → are_proper fields ≡ true
     by_report true is = of_error (error_of i n) refl is
-    by_report false is = of_system (is_of_system n) is
+    by_report false is = of_language (is_language_error n) is

@@ -22,7 +22,8 @@ use Rattle.circus_stub.specs.Seen.Standing.{FieldsStand}
 use Rattle.circus_stub.specs.Compiled.{compiled, procedure_stub, error_stub, stub_of, error_values, raised_operations}
 use Rattle.circus_external.specs.Octets.{first_word}
 use Rattle.circus_value.specs.Among.{is_among}
-use Rattle.circus_stub.specs.Unpacked.{Answers, as_raised, raised_values, raised_unpacked, procedure_of, error_of, is_of_system, raised_fields, limited, values_alone}
+use Rattle.circus_model.specs.LanguageError.{is_language_error}
+use Rattle.circus_stub.specs.Unpacked.{Answers, as_raised, raised_values, raised_unpacked, procedure_of, error_of, raised_fields, limited, values_alone}
 use Rattle.circus_stub.proofs.FlatLemmas.{length-flat_fields}
 
 -- ---- values
@@ -118,9 +119,9 @@ error_values-compiled i limit n =
 
 pub raised_operations-compiled : (i : Interface) (p : Procedure) (limit n : ℕ) → raised_operations (compiled i limit) (procedure_stub p) n ≡ option_map fields_alone (raised_fields i p n)
 raised_operations-compiled i p limit n =
-    elim (is_among p.reports n) as (λ b. cond b (error_values (compiled i limit) n) (cond (is_of_system n) (Some []) None) ≡ option_map fields_alone (cond b (option_map (λ (e : DeclaredError). field_trees e.arguments) (error_of i n)) (cond (is_of_system n) (Some no_fields) None))) [
+    elim (is_among p.reports n) as (λ b. cond b (error_values (compiled i limit) n) (cond (is_language_error n) (Some []) None) ≡ option_map fields_alone (cond b (option_map (λ (e : DeclaredError). field_trees e.arguments) (error_of i n)) (cond (is_language_error n) (Some no_fields) None))) [
       | true ↦ error_values-compiled i limit n
-      | false ↦ elim (is_of_system n) as (λ b. cond b (Some []) None ≡ option_map fields_alone (cond b (Some no_fields) None)) [
+      | false ↦ elim (is_language_error n) as (λ b. cond b (Some []) None ≡ option_map fields_alone (cond b (Some no_fields) None)) [
         | true ↦ refl
         | false ↦ refl
       ]

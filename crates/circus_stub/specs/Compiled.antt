@@ -11,7 +11,7 @@ use Rattle.circus_stub.specs.declared.stubs.ErrorStub.{ErrorStub}
 use Rattle.circus_stub.specs.declared.operation.Operation.{Operation}
 use Rattle.circus_stub.specs.Flat.{flat_fields}
 use Rattle.circus_value.specs.Among.{is_among}
-use Rattle.circus_stub.specs.Unpacked.{is_of_system}
+use Rattle.circus_model.specs.LanguageError.{is_language_error}
 
 -- the operations of a procedure's arguments and results, and what it reports
 abbrev pub procedure_stub : Procedure → ProcedureStub
@@ -42,4 +42,4 @@ error_values stubs n = option_map (λ (e : ErrorStub). e.values) (find (λ (e : 
 -- the operations of what a procedure raises under a number
 abbrev pub raised_operations : Stubs → ProcedureStub → ℕ → Option (List Operation)
 raised_operations stubs p n =
-    cond (is_among p.reports n) (error_values stubs n) (cond (is_of_system n) (Some []) None)
+    cond (is_among p.reports n) (error_values stubs n) (cond (is_language_error n) (Some []) None)

@@ -1,11 +1,12 @@
 -- What unpacking comes to, by the shapes of an interface.
-use Rattle.std.specs.Prelude.{◌≡◌, ℕ, zero, suc, Bool, ◌==◌, ◌&&◌, nat_lt, nat_le, cond, Option, Some, None, Result, Ok, Err, List, [], ◌∷◌, length, drop, find}
+use Rattle.std.specs.Prelude.{◌≡◌, ℕ, zero, suc, ◌==◌, nat_lt, cond, Option, Some, None, Result, Ok, Err, List, [], ◌∷◌, length, drop, find}
 use Rattle.std.specs.Option.{option_map, option_map_or}
 use Rattle.circus_value.specs.Among.{is_among}
 use Rattle.circus_value.specs.ValueTree.{ValueTree}
 use Rattle.circus_value.specs.ShapeTree.{FieldTrees, no_fields, field_trees}
 use Rattle.circus_value.specs.declared.outcome.Outcome.{Outcome}
 use Rattle.circus_value.specs.declared.outcome.Outcome.TheVariants.{Returned, Raised}
+use Rattle.circus_model.specs.LanguageError.{is_language_error}
 use Rattle.circus_idl.specs.declared.interface.Interface.{Interface}
 use Rattle.circus_idl.specs.declared.interface.Procedure.{Procedure}
 use Rattle.circus_idl.specs.declared.interface.DeclaredError.{DeclaredError}
@@ -35,14 +36,10 @@ procedure_of i n = find (λ (p : Procedure). p.number == n) i.procedures
 abbrev pub error_of : Interface → ℕ → Option DeclaredError
 error_of i n = find (λ (e : DeclaredError). e.number == n) i.errors
 
--- the system raises an error of this number, without values
-abbrev pub is_of_system : ℕ → Bool
-is_of_system n = nat_le 60001 n && nat_le n 60009
-
--- the fields of what a procedure raises under a number: a declared error that it reports, or one of the system
+-- the fields of what a procedure raises under a number: a declared error that it reports, or one of the language
 abbrev pub raised_fields : Interface → Procedure → ℕ → Option FieldTrees
 raised_fields i p n =
-    cond (is_among p.reports n) (option_map (λ (e : DeclaredError). field_trees e.arguments) (error_of i n)) (cond (is_of_system n) (Some no_fields) None)
+    cond (is_among p.reports n) (option_map (λ (e : DeclaredError). field_trees e.arguments) (error_of i n)) (cond (is_language_error n) (Some no_fields) None)
 
 -- the bytes from a place on are too many, or this is the answer
 abbrev pub limited : {X : Type 0} → ℕ → ℕ → List ℕ → Result X StubFault → Result X StubFault

@@ -16,6 +16,7 @@ use crate::reader::read_values;
 use crate::stubs::ProcedureStub;
 use crate::{Operation, StubFault, Stubs};
 use circus_external::{ByteSource, word_at};
+use circus_model::LanguageError;
 use circus_value::{Outcome, Parts, Values, is_among};
 use std::alloc::Global;
 
@@ -221,7 +222,7 @@ impl Stubs {
         if is_among(stub.reports.as_slice(), number) {
             self.error_values(number)
         } else {
-            (60_001..=60_009).contains(&number).then_some(&[])
+            LanguageError::has(number).then_some(&[])
         }
     }
 
