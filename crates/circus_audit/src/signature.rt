@@ -1,0 +1,133 @@
+// What the module that a node hosts declares.
+ghost use Rattle.std.specs.Prelude.{◌≡◌, map, IfOk};
+ghost use Rattle.circus_model.specs.Agree as agree;
+ghost use Rattle.circus_check.specs.Seen.Meant.{module_as};
+ghost use Rattle.circus_modules.specs.Signatures as means;
+ghost use Rattle.circus_audit.specs.Seen.Reading as reading;
+
+use crate::setting::Hosted;
+use circus_check::ResolvedModule;
+use circus_config::Plan;
+use circus_idl::Interface;
+use circus_model::{ErrorShapes, Import, Imports, ProcedureShape, ProcedureShapes, Signature};
+use circus_node::troupe_at;
+use circus_signature::{procedures_of, shapes_of};
+use circus_value::{NoMemory, Shapes};
+use std::alloc::Global;
+
+// The one procedure of a root.
+fn main_alone(alloc: Global) -> Result<ProcedureShapes, NoMemory>
+    ensures { IfOk result (λ procedures. procedures ≡ agree.main_alone) }
+{
+    let mut procedures = ProcedureShapes::new(alloc);
+    procedures.push(ProcedureShape {
+        number: 0,
+        arguments: Shapes::new(alloc),
+        results: Shapes::new(alloc),
+        errors: ErrorShapes::new(alloc),
+    })?;
+    Ok(procedures)
+}
+
+// The procedures of a module, by the number of its interface.
+fn offered(
+    alloc: Global,
+    interfaces: &[Interface],
+    number: Option<u16>,
+) -> Result<ProcedureShapes, NoMemory>
+    ensures { IfOk result (λ procedures. procedures ≡ means.offered interfaces.now number) }
+{
+    match number {
+        None => main_alone(alloc),
+        Some(number) => match interfaces.get(usize::from(number)) {
+            Some(interface) => procedures_of(alloc, interface),
+            None => Ok(ProcedureShapes::new(alloc)),
+        },
+    }
+}
+
+// The number of each module's interface.
+fn implemented(alloc: Global, modules: &[ResolvedModule]) -> Result<Vec<Option<u16>>, NoMemory>
+    ensures { IfOk result (λ numbers. numbers.items ≡ map (λ m. m.interface) modules.now) }
+{
+    modules.iter().map(|module| module.interface).collect(alloc)
+}
+
+// A module that is imported, where modules implement interfaces of these numbers.
+fn import(
+    alloc: Global,
+    interfaces: &[Interface],
+    implemented: &[Option<u16>],
+    module: u16,
+) -> Result<Import, NoMemory>
+    ensures { IfOk result (λ import.
+        import ≡ means.import_of interfaces.now implemented.now «module») }
+{
+    let number = implemented.get(usize::from(module)).copied();
+    Ok(Import {
+        module,
+        procedures: offered(alloc, interfaces, number.unwrap_or(None))?,
+    })
+}
+
+fn imports(
+    alloc: Global,
+    interfaces: &[Interface],
+    implemented: &[Option<u16>],
+    numbers: &[u16],
+) -> Result<Imports, NoMemory>
+    ensures { IfOk result (λ imports.
+        imports ≡ map (means.import_of interfaces.now implemented.now) numbers.now) }
+{
+    let mut imports = Imports::new(alloc);
+    for number in numbers {
+        imports.push(import(alloc, interfaces, implemented, *number)?)?;
+    }
+    Ok(imports)
+}
+
+// What a module declares whose states and values may have so many bytes.
+fn signature(
+    alloc: Global,
+    limit: u32,
+    interfaces: &[Interface],
+    implemented: &[Option<u16>],
+    module: &ResolvedModule,
+) -> Result<Signature, NoMemory>
+    ensures { IfOk result (λ signature.
+        signature ≡ means.signature_of limit interfaces.now implemented.now
+        (module_as «module».now)) }
+{
+    Ok(Signature {
+        root: module.root,
+        imports: imports(alloc, interfaces, implemented, module.imports.as_slice())?,
+        variables: shapes_of(alloc, module.variables.as_slice())?,
+        procedures: offered(alloc, interfaces, module.interface)?,
+        limit,
+    })
+}
+
+/// The module of the member that a node hosts, and what it declares. `None` where the node hosts none.
+pub(crate) fn hosted_by(alloc: Global, plan: &Plan, own: u16) -> Result<Option<Hosted>, NoMemory>
+    ensures { IfOk result (λ hosted. hosted ≡ reading.hosted_by plan.now own) }
+{
+    let Some(number) = troupe_at(&plan.deployment, own) else {
+        return Ok(None);
+    };
+    let modules = &plan.checked.modules;
+    let Some(module) = modules.get(usize::from(number)) else {
+        return Ok(None);
+    };
+    let implemented = implemented(alloc, modules.as_slice())?;
+    let signature = signature(
+        alloc,
+        plan.limit(),
+        plan.checked.interfaces.as_slice(),
+        implemented.as_slice(),
+        module,
+    )?;
+    Ok(Some(Hosted {
+        module: number,
+        signature,
+    }))
+}

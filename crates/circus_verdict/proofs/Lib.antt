@@ -1,0 +1,12 @@
+pub mod BesideLemmas
+pub mod Standing
+pub mod Awaiting
+pub mod LivedLemmas
+pub mod Spending
+pub mod Auditing
+pub mod Judging
+pub mod Ringing
+pub mod Shaping
+pub mod Coming
+pub mod Planned
+pub mod OneVerdict

@@ -1,0 +1,5 @@
+pub mod Spent
+pub mod Audited
+pub mod Beside
+pub mod Verdict
+pub mod Seen
