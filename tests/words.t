@@ -66,6 +66,9 @@ Words of no form. No file is fetched for them.
   $ circus audit p r r
   circus: bad command line
   [1]
+  $ circus audit p ''
+  circus: bad command line
+  [1]
   $ circus --version
   circus: bad command line
   [1]
@@ -108,19 +111,22 @@ Words of a form, whose file is not there: the first file that is named is fetche
   $ circus place absent
   shelf fault: absent
   [4]
+  $ circus audit absent r
+  shelf fault: absent
+  [4]
 
-What is not built is told at once.
-
-  $ circus audit absent absent
-  not built
-  [9]
-
-A schedule that is not there is told once the program is read.
+A schedule, or a record, that is not there is told once the program is read.
 
   $ cp "$TESTDIR/../examples/first.circus" p; circus replay p absent
   shelf fault: absent
   [4]
+  $ circus audit p absent
+  shelf fault: absent
+  [4]
   $ printf CIRCUS >p; circus replay p absent
+  program line 1: syntax
+  [2]
+  $ circus audit p absent
   program line 1: syntax
   [2]
 

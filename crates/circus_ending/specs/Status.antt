@@ -1,7 +1,7 @@
 -- How a call of the command ends.
 use Rattle.std.specs.Prelude.{ℕ, Bool, true, false}
 use Rattle.circus_ending.specs.declared.status.Status.{Status}
-use Rattle.circus_ending.specs.declared.status.Status.TheVariants.{Done, BadCommandLine, BadProgram, BadSchedule, ShelfFault, SinkFault, LinkFault, NoMemory, Spent, NotBuilt, Unsettled, BadPlacing, NoPlacement}
+use Rattle.circus_ending.specs.declared.status.Status.TheVariants.{Done, BadCommandLine, BadProgram, BadSchedule, ShelfFault, SinkFault, LinkFault, NoMemory, Spent, Unsettled, BadPlacing, NoPlacement, BadRecord}
 
 -- the number that the program ends with
 abbrev pub code_of : Status → ℕ
@@ -14,10 +14,10 @@ code_of SinkFault = 5
 code_of LinkFault = 6
 code_of NoMemory = 7
 code_of Spent = 8
-code_of NotBuilt = 9
 code_of Unsettled = 10
 code_of BadPlacing = 11
 code_of NoPlacement = 12
+code_of BadRecord = 13
 
 -- the call came to an end that is due
 abbrev pub is_end : Status → Bool
@@ -30,7 +30,7 @@ is_end SinkFault = false
 is_end LinkFault = true
 is_end NoMemory = false
 is_end Spent = true
-is_end NotBuilt = true
 is_end Unsettled = true
 is_end BadPlacing = true
 is_end NoPlacement = true
+is_end BadRecord = true

@@ -22,14 +22,14 @@ pub enum Status {
     NoMemory = 7,
     /// A node has no number left for a call to another one.
     Spent = 8,
-    /// What was asked for is not built.
-    NotBuilt = 9,
     /// All deliveries were made, and datagrams are left.
     Unsettled = 10,
     /// The text of a placing is refused.
     BadPlacing = 11,
     /// No choice of machines satisfies a placing.
     NoPlacement = 12,
+    /// A record is none of the program, no run of its node, or doesn't stand.
+    BadRecord = 13,
 }
 
 impl Status {

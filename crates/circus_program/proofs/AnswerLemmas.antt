@@ -7,15 +7,16 @@ use Rattle.circus_config.specs.declared.plan.Plan.{Plan}
 use Rattle.circus_config.specs.Program.{IsProgramOf}
 use Rattle.circus_program.specs.declared.answer.Step.TheVariants.{Finish, Lack, Replay, Serve}
 use Rattle.circus_ending.specs.declared.one_file.OneFile.TheVariants.{Stubs, Run, Place}
-use Rattle.circus_program.specs.Form.{CommandForm, stubs, run, node, sample, draw, settle, place, IsOfForm, replay, picture, shown_form}
+use Rattle.circus_program.specs.Form.{CommandForm, stubs, run, node, sample, draw, settle, place, IsOfForm, replay, picture, audit, second_form}
 use Rattle.circus_program.specs.declared.answer.Command.{Command}
 use Rattle.circus_program.specs.declared.answer.Command.TheVariants.{End, OfPlan}
 use Rattle.circus_program.specs.declared.answer.Task.TheVariants.{Sample, Lines, Settle, Node}
-use Rattle.circus_program.specs.declared.shown.Shown.{Shown}
 use Rattle.circus_program.specs.declared.shown.Shown.TheVariants.{Report, Picture}
-use Rattle.circus_program.specs.Answer.{Due, IsDueOfReplay, IsDueOfProgram, IsDue, AreFetchedOf, AsksFirstOf, AsksOnly}
-use Rattle.circus_program.specs.Seen.Built.{IsDueOfCommand, file_form}
-use Rattle.circus_program.specs.Seen.Step.{due_of, LacksNone, IsLackNoted, IsDueBehind, IsStepBehind, IsStepOfProgram, IsStepOfReplay, IsStepOfFile}
+use Rattle.circus_program.specs.declared.second.Second.{Second}
+use Rattle.circus_program.specs.declared.second.Second.TheVariants.{Schedule, NodeRecord}
+use Rattle.circus_program.specs.Answer.{Due, IsDueOfTwo, IsDueOfProgram, IsDue, AreFetchedOf, AsksFirstOf, AsksOnly}
+use Rattle.circus_program.specs.Seen.Asked.{IsDueOfCommand, file_form}
+use Rattle.circus_program.specs.Seen.Step.{due_of, LacksNone, IsLackNoted, IsDueBehind, IsStepBehind, IsStepOfProgram, IsStepOfTwo, IsStepOfFile}
 use Rattle.circus_report.proofs.ToldLemmas.{told_more-twice}
 
 -- nothing was fetched
@@ -28,34 +29,34 @@ pub fetched-more : (shelf : Option (List ℕ → Option (List ℕ))) (name bytes
 fetched-more None name bytes names files e h = tt
 fetched-more (Some contents) name bytes names files e h = (e, h)
 
--- what is due behind the program is due of the replay
-behind-replay : (shown : Shown) (program bytes schedule : List ℕ) (plan : Plan) (due : Due) (files : List (List ℕ)) → IsProgramOf bytes plan → IsDueBehind shown plan schedule files due
-    → IsDueOfReplay shown program schedule (bytes ∷ files) due
-behind-replay shown program bytes schedule plan due [] means h = inl ((plan, means), h)
-behind-replay shown program bytes schedule plan due (more ∷ []) means h = (plan, means, h)
-behind-replay shown program bytes schedule plan due (_ ∷ _ ∷ _) means h = absurd h
+-- what is due behind the program is due of both files
+behind-two : (second : Second) (program bytes file : List ℕ) (plan : Plan) (due : Due) (files : List (List ℕ)) → IsProgramOf bytes plan → IsDueBehind second plan file files due
+    → IsDueOfTwo second program file (bytes ∷ files) due
+behind-two second program bytes file plan due [] means h = inl ((plan, means), h)
+behind-two second program bytes file plan due (more ∷ []) means h = (plan, means, h)
+behind-two second program bytes file plan due (_ ∷ _ ∷ _) means h = absurd h
 
--- a step behind the first file is one of the replay
-pub step-of_replay : (shelf : Option (List ℕ → Option (List ℕ))) (shown : Shown) (program bytes schedule : List ℕ) (due : Due) → IfSome shelf (λ told. told program ≡ Some bytes) → IsStepOfProgram shelf shown bytes schedule due
-    → IsStepOfReplay shelf shown program schedule due
-step-of_replay shelf shown program bytes schedule due told (inl (plan, means, h)) =
+-- a step behind the first file is one of both
+pub step-of_two : (shelf : Option (List ℕ → Option (List ℕ))) (second : Second) (program bytes file : List ℕ) (due : Due) → IfSome shelf (λ told. told program ≡ Some bytes) → IsStepOfProgram shelf second bytes file due
+    → IsStepOfTwo shelf second program file due
+step-of_two shelf second program bytes file due told (inl (plan, means, h)) =
     record {
       files = bytes ∷ h.files;
-      fetched = fetched-more shelf program bytes (schedule ∷ []) h.files told h.fetched;
-      is_due = behind-replay shown program bytes schedule plan due h.files means h.is_due;
+      fetched = fetched-more shelf program bytes (file ∷ []) h.files told h.fetched;
+      is_due = behind-two second program bytes file plan due h.files means h.is_due;
     }
-step-of_replay shelf shown program bytes schedule due told (inr refused) =
+step-of_two shelf second program bytes file due told (inr refused) =
     record {
       files = bytes ∷ [];
-      fetched = fetched-more shelf program bytes (schedule ∷ []) [] told (fetched-none shelf (schedule ∷ []));
+      fetched = fetched-more shelf program bytes (file ∷ []) [] told (fetched-none shelf (file ∷ []));
       is_due = inr refused;
     }
 
 -- a step behind a program
-pub behind-good : {E : Type 0} (shelf : Option (List ℕ → Option (List ℕ))) (shown : Shown) (program schedule : List ℕ) (plan : Plan) (r : Result Step E) → IsProgramOf program plan
-    → IfOk r (λ step. IsStepBehind shelf shown plan schedule (due_of step)) → IfOk r (λ step. IsStepOfProgram shelf shown program schedule (due_of step))
-behind-good shelf shown program schedule plan (Ok step) means behind = inl (plan, means, behind)
-behind-good shelf shown program schedule plan (Err e) means behind = tt
+pub behind-good : {E : Type 0} (shelf : Option (List ℕ → Option (List ℕ))) (second : Second) (program file : List ℕ) (plan : Plan) (r : Result Step E) → IsProgramOf program plan
+    → IfOk r (λ step. IsStepBehind shelf second plan file (due_of step)) → IfOk r (λ step. IsStepOfProgram shelf second program file (due_of step))
+behind-good shelf second program file plan (Ok step) means behind = inl (plan, means, behind)
+behind-good shelf second program file plan (Err e) means behind = tt
 
 -- the name that was asked for first, and then others
 pub asks-more : (old middle new : Option (List (List ℕ))) (name : List ℕ) (names : List (List ℕ)) → middle ≡ told_more old (name ∷ []) → AsksFirstOf middle new names → AsksFirstOf old new (name ∷ names)
@@ -92,19 +93,21 @@ pub result-of_command : {E : Type 0} (shelf : Option (List ℕ → Option (List 
 result-of_command shelf words form command file (Ok step) of is h = due-of_command shelf words command file (due_of step) (subst (λ (f : CommandForm). IsOfForm words f) is of) h
 result-of_command shelf words form command file (Err e) of is h = tt
 
--- likewise what is due of a replay, or of its picture
-due-of_replay : (shelf : Option (List ℕ → Option (List ℕ))) (words : List (List ℕ)) (shown : Shown) (program schedule : List ℕ) (due : Due) → IsOfForm words (shown_form shown program schedule)
-    → IsStepOfReplay shelf shown program schedule due → IsDue shelf words due
-due-of_replay shelf words Report program schedule due of h =
-    inl (record { form = replay program schedule; of_form = of; files = h.files; fetched = h.fetched; is_due = h.is_due })
-due-of_replay shelf words Picture program schedule due of h =
-    inl (record { form = picture program schedule; of_form = of; files = h.files; fetched = h.fetched; is_due = h.is_due })
+-- likewise what is due of two files
+due-of_two : (shelf : Option (List ℕ → Option (List ℕ))) (words : List (List ℕ)) (second : Second) (program file : List ℕ) (due : Due) → IsOfForm words (second_form second program file)
+    → IsStepOfTwo shelf second program file due → IsDue shelf words due
+due-of_two shelf words (Schedule Report) program file due of h =
+    inl (record { form = replay program file; of_form = of; files = h.files; fetched = h.fetched; is_due = h.is_due })
+due-of_two shelf words (Schedule Picture) program file due of h =
+    inl (record { form = picture program file; of_form = of; files = h.files; fetched = h.fetched; is_due = h.is_due })
+due-of_two shelf words NodeRecord program file due of h =
+    inl (record { form = audit program file; of_form = of; files = h.files; fetched = h.fetched; is_due = h.is_due })
 
-pub result-of_replay : {E : Type 0} (shelf : Option (List ℕ → Option (List ℕ))) (words : List (List ℕ)) (form : CommandForm) (shown : Shown) (program schedule : List ℕ) (r : Result Step E)
-    → IsOfForm words form → form ≡ shown_form shown program schedule → IfOk r (λ step. IsStepOfReplay shelf shown program schedule (due_of step)) → IfOk r (λ step. IsDue shelf words (due_of step))
-result-of_replay shelf words form shown program schedule (Ok step) of is h =
-    due-of_replay shelf words shown program schedule (due_of step) (subst (λ (f : CommandForm). IsOfForm words f) is of) h
-result-of_replay shelf words form shown program schedule (Err e) of is h = tt
+pub result-of_two : {E : Type 0} (shelf : Option (List ℕ → Option (List ℕ))) (words : List (List ℕ)) (form : CommandForm) (second : Second) (program file : List ℕ) (r : Result Step E)
+    → IsOfForm words form → form ≡ second_form second program file → IfOk r (λ step. IsStepOfTwo shelf second program file (due_of step)) → IfOk r (λ step. IsDue shelf words (due_of step))
+result-of_two shelf words form second program file (Ok step) of is h =
+    due-of_two shelf words second program file (due_of step) (subst (λ (f : CommandForm). IsOfForm words f) is of) h
+result-of_two shelf words form second program file (Err e) of is h = tt
 
 -- and asks for its file alone
 asks-of_file : (old new : Option (List (List ℕ))) (words : List (List ℕ)) (command : Command) (file : List ℕ) → IsOfForm words (file_form command file)

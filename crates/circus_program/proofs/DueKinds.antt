@@ -1,14 +1,16 @@
 -- What may be due: the fetch of a file, an end that is no failure of the link, or, where the words ask for one, a node to be served.
 use Rattle.std.proofs.Common.{◌≡◌, ℕ, inl, inr, Option, List, [], ◌∷◌, sym, ap, ◌∙◌}
 use Rattle.circus_config.specs.declared.plan.Plan.{Plan}
-use Rattle.circus_ending.specs.declared.status.Status.TheVariants.{BadCommandLine, BadProgram, LinkFault, NotBuilt}
+use Rattle.circus_ending.specs.declared.status.Status.TheVariants.{BadCommandLine, BadProgram, LinkFault}
 use Rattle.circus_ending.specs.declared.one_file.OneFile.{OneFile}
 use Rattle.circus_ending.specs.declared.one_file.OneFile.TheVariants.{Stubs, Run, Place}
 use Rattle.circus_ending.specs.Ending.{Ending}
 use Rattle.circus_program.specs.Form.{CommandForm, stubs, run, replay, picture, node, sample, draw, settle, place, audit, IsOfForm}
-use Rattle.circus_program.specs.declared.shown.Shown.{Shown}
 use Rattle.circus_program.specs.declared.shown.Shown.TheVariants.{Report, Picture}
-use Rattle.circus_program.specs.Answer.{Due, fetch, finish, serve, IsDueOfRefused, IsDueOfSchedule, IsDueOfReplay, IsDueOfFile, IsDueOfEnd, IsDueOfProgram, IsDueOfSample, IsDueOfLines, IsDueOfSettle, IsDueOfNode, IsDueUnbuilt, IsDueOfForm, IsDue, AsksForNode}
+use Rattle.circus_program.specs.declared.second.Second.{Second}
+use Rattle.circus_program.specs.declared.second.Second.TheVariants.{Schedule, NodeRecord}
+use Rattle.circus_program.specs.Answer.{Due, fetch, finish, serve, IsDueOfRefused, IsDueOfSecond, IsDueOfTwo, IsDueOfFile, IsDueOfEnd, IsDueOfProgram, IsDueOfSample, IsDueOfLines, IsDueOfSettle, IsDueOfNode, IsDueOfForm, IsDue, AsksForNode}
+use Rattle.circus_program.proofs.Audits.{never_audits}
 use Rattle.circus_program.proofs.Why.{never_ends, never_replays, never_drawn, never_listed, never_settles, ends_as}
 
 abbrev IsNode : CommandForm → Type 0
@@ -33,15 +35,16 @@ module _ (form : CommandForm) where
   of_refused bytes due (ending, (number, cause, refusal, means), is) =
       finishes ending is (λ same. let clash : BadProgram ≡ LinkFault = sym (ap (λ (e : Ending). e.status) means) ∙ same in cc)
 
-  of_schedule : (shown : Shown) (plan : Plan) (schedule : List ℕ) (due : Due) → IsDueOfSchedule shown plan schedule due → Kind form due
-  of_schedule shown plan schedule due (ending, end, is) = finishes ending is (never_replays LinkFault shown plan schedule ending end (λ same. cc) (λ same. cc) (λ same. cc))
+  of_second : (second : Second) (plan : Plan) (bytes : List ℕ) (due : Due) → IsDueOfSecond second plan bytes due → Kind form due
+  of_second (Schedule shown) plan bytes due (ending, end, is) = finishes ending is (never_replays LinkFault shown plan bytes ending end (λ same. cc) (λ same. cc) (λ same. cc))
+  of_second NodeRecord plan bytes due (ending, end, is) = finishes ending is (never_audits LinkFault plan bytes ending end (λ same. cc) (λ same. cc))
 
-  of_replay : (shown : Shown) (program schedule : List ℕ) (files : List (List ℕ)) (due : Due) → IsDueOfReplay shown program schedule files due → Kind form due
-  of_replay shown program schedule [] due is = fetches program is
-  of_replay shown program schedule (bytes ∷ []) due (inl (good, is)) = fetches schedule is
-  of_replay shown program schedule (bytes ∷ []) due (inr refused) = of_refused bytes due refused
-  of_replay shown program schedule (bytes ∷ more ∷ []) due (plan, means, is) = of_schedule shown plan more due is
-  of_replay shown program schedule (_ ∷ _ ∷ _ ∷ _) due is = absurd is
+  of_two : (second : Second) (program file : List ℕ) (files : List (List ℕ)) (due : Due) → IsDueOfTwo second program file files due → Kind form due
+  of_two second program file [] due is = fetches program is
+  of_two second program file (bytes ∷ []) due (inl (good, is)) = fetches file is
+  of_two second program file (bytes ∷ []) due (inr refused) = of_refused bytes due refused
+  of_two second program file (bytes ∷ more ∷ []) due (plan, means, is) = of_second second plan more due is
+  of_two second program file (_ ∷ _ ∷ _ ∷ _) due is = absurd is
 
   of_file : (file : List ℕ) (IsNext : List ℕ → Due → Type 0) (files : List (List ℕ)) (due : Due) → ((bytes : List ℕ) → IsNext bytes due → Kind form due) → IsDueOfFile file IsNext files due → Kind form due
   of_file file IsNext [] due next is = fetches file is
@@ -74,13 +77,9 @@ module _ (form : CommandForm) where
   of_node name turns plan due own (inl (number, named, is)) = serves plan number turns is own
   of_node name turns plan due own (inr (none, is)) = finishes _ is (λ same. let clash : BadProgram ≡ LinkFault = same in cc)
 
-  of_unbuilt : (files : List (List ℕ)) (due : Due) → IsDueUnbuilt files due → Kind form due
-  of_unbuilt [] due is = finishes _ is (λ same. let clash : NotBuilt ≡ LinkFault = same in cc)
-  of_unbuilt (_ ∷ _) due is = absurd is
-
 kind_of : (form : CommandForm) (files : List (List ℕ)) (due : Due) → IsDueOfForm form files due → Kind form due
-kind_of (replay program schedule) files due is = of_replay (replay program schedule) Report program schedule files due is
-kind_of (picture program schedule) files due is = of_replay (picture program schedule) Picture program schedule files due is
+kind_of (replay program schedule) files due is = of_two (replay program schedule) (Schedule Report) program schedule files due is
+kind_of (picture program schedule) files due is = of_two (picture program schedule) (Schedule Picture) program schedule files due is
 kind_of (stubs program) files due is = of_command (stubs program) Stubs program files due is
 kind_of (run program) files due is = of_command (run program) Run program files due is
 kind_of (place placing) files due is = of_command (place placing) Place placing files due is
@@ -92,7 +91,7 @@ kind_of (draw program seed steps) files due is =
     of_program (draw program seed steps) program (IsDueOfLines seed steps) files due (λ plan next. of_lines (draw program seed steps) seed steps plan due next) is
 kind_of (settle program deliveries) files due is =
     of_program (settle program deliveries) program (IsDueOfSettle deliveries) files due (λ plan next. of_settle (settle program deliveries) deliveries plan due next) is
-kind_of (audit program «record») files due is = of_unbuilt (audit program «record») files due is
+kind_of (audit program «record») files due is = of_two (audit program «record») NodeRecord program «record» files due is
 
 -- an end is none of a node that is served
 pub never_linked : (shelf : Option (List ℕ → Option (List ℕ))) (words : List (List ℕ)) (ending : Ending) → IsDue shelf words (finish ending) → ending.status ≡ LinkFault → ⊥

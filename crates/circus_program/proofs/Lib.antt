@@ -14,6 +14,7 @@ pub mod SampleEnds
 pub mod SettleEnds
 pub mod PlanOne
 pub mod NamedOnce
+pub mod Audits
 pub mod OneDue
 pub mod SomeDue
 pub mod Why

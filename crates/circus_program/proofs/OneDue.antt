@@ -18,11 +18,14 @@ use Rattle.circus_ending.proofs.OneEnding.{end_one}
 use Rattle.circus_program.specs.Form.{CommandForm, stubs, run, replay, picture, node, sample, draw, settle, place, audit, words_of, files_of, IsInRange, IsOfForm}
 use Rattle.circus_program.specs.declared.shown.Shown.{Shown}
 use Rattle.circus_program.specs.declared.shown.Shown.TheVariants.{Report, Picture}
+use Rattle.circus_program.specs.declared.second.Second.{Second}
+use Rattle.circus_program.specs.declared.second.Second.TheVariants.{Schedule, NodeRecord}
 use Rattle.circus_program.specs.Replay.{IsReplayOf, IsEndOfReplay}
-use Rattle.circus_program.specs.Answer.{Due, fetch, finish, serve, not_built, IsDueOfSchedule, IsDueOfReplay, IsDueOfFile, IsDueOfEnd, IsDueOfProgram, IsDueOfSample, IsDueOfLines, IsDueOfSettle, IsDueOfNode, IsDueUnbuilt, IsDueOfForm, AreContents, IsDue}
+use Rattle.circus_program.specs.Answer.{Due, fetch, finish, serve, IsEndOfSecond, IsDueOfSecond, IsDueOfTwo, IsDueOfFile, IsDueOfEnd, IsDueOfProgram, IsDueOfSample, IsDueOfLines, IsDueOfSettle, IsDueOfNode, IsDueOfForm, AreContents, IsDue}
 use Rattle.circus_program.specs.Last.{IsLast, IsDueLast}
 use Rattle.circus_program.proofs.PlanOne.{plan_is_one}
 use Rattle.circus_program.proofs.NamedOnce.{named_once}
+use Rattle.circus_program.proofs.Audits.{audit_one}
 
 -- What comes of one plan is one thing.
 
@@ -38,6 +41,10 @@ replay_one shown plan schedule one another (read, answer, is) (again, answers, a
     let reads : read ≡ again = IsAnswer-one (numbers_of plan.deployment.nodes) schedule read again answer answers in
     read_one shown plan again one another (subst (λ (r : Result (List Line) ScheduleFault). IsReplayOf shown plan r one) reads is) also
 
+second_one : (second : Second) (plan : Plan) (more : List ℕ) (one another : Ending) → IsEndOfSecond second plan more one → IsEndOfSecond second plan more another → one ≡ another
+second_one (Schedule shown) plan more one another is also = replay_one shown plan more one another is also
+second_one NodeRecord plan more one another is also = audit_one plan more one another is also
+
 node_one : (bytes name : List ℕ) (turns : ℕ) (plan : Plan) (one other : Due) → IsProgramOf bytes plan → IsDueOfNode name turns plan one → IsDueOfNode name turns plan other → one ≡ other
 node_one bytes name turns plan one other means (inl (number, named, is)) (inl (another, also, so)) =
     is ∙ ap (λ (n : ℕ). serve plan n turns) (named_once bytes plan name number another means named also) ∙ sym so
@@ -48,7 +55,8 @@ node_one bytes name turns plan one other means (inr (none, is)) (inr (neither, s
 -- What is asked for, by what comes of it.
 
 data Asked : Type 0 where
-  replaying : Shown → List ℕ → List ℕ → Asked
+  -- program, second file
+  two : Second → List ℕ → List ℕ → Asked
   reading : OneFile → List ℕ → Asked
   -- program, node's name, takes as they are written
   serving : List ℕ → List ℕ → List ℕ → Asked
@@ -57,11 +65,11 @@ data Asked : Type 0 where
   drawing : List ℕ → List ℕ → List ℕ → Asked
   -- program, deliveries as they are written
   settling : List ℕ → List ℕ → Asked
-  unbuilt : Asked
+  nothing : Asked
 
 abbrev asked_by : CommandForm → Asked
-asked_by (replay program schedule) = replaying Report program schedule
-asked_by (picture program schedule) = replaying Picture program schedule
+asked_by (replay program schedule) = two (Schedule Report) program schedule
+asked_by (picture program schedule) = two (Schedule Picture) program schedule
 asked_by (place placing) = reading Place placing
 asked_by (stubs program) = reading Stubs program
 asked_by (run program) = reading Run program
@@ -69,19 +77,20 @@ asked_by (node program name turns) = serving program name (decimal turns)
 asked_by (sample program seed steps) = sampling program (decimal seed) (decimal steps)
 asked_by (draw program seed steps) = drawing program (decimal seed) (decimal steps)
 asked_by (settle program deliveries) = settling program (decimal deliveries)
-asked_by (audit _ _) = unbuilt
+asked_by (audit program «record») = two NodeRecord program «record»
 
 abbrev asked_of : List (List ℕ) → Asked
 asked_of (command ∷ file ∷ []) =
     cond (bytes_eq command (codes "place")) (reading Place file)
-    (cond (bytes_eq command (codes "stubs")) (reading Stubs file) (cond (bytes_eq command (codes "run")) (reading Run file) unbuilt))
+    (cond (bytes_eq command (codes "stubs")) (reading Stubs file) (cond (bytes_eq command (codes "run")) (reading Run file) nothing))
 asked_of (command ∷ program ∷ second ∷ []) =
-    cond (bytes_eq command (codes "replay")) (replaying Report program second)
-    (cond (bytes_eq command (codes "picture")) (replaying Picture program second) (cond (bytes_eq command (codes "settle")) (settling program second) unbuilt))
+    cond (bytes_eq command (codes "replay")) (two (Schedule Report) program second)
+    (cond (bytes_eq command (codes "picture")) (two (Schedule Picture) program second)
+    (cond (bytes_eq command (codes "settle")) (settling program second) (cond (bytes_eq command (codes "audit")) (two NodeRecord program second) nothing)))
 asked_of (command ∷ program ∷ first ∷ second ∷ []) =
     cond (bytes_eq command (codes "node")) (serving program first second)
-    (cond (bytes_eq command (codes "sample")) (sampling program first second) (cond (bytes_eq command (codes "lines")) (drawing program first second) unbuilt))
-asked_of _ = unbuilt
+    (cond (bytes_eq command (codes "sample")) (sampling program first second) (cond (bytes_eq command (codes "lines")) (drawing program first second) nothing))
+asked_of _ = nothing
 
 asked_is : (form : CommandForm) → asked_of (words_of form) ≡ asked_by form
 asked_is (replay _ _) = refl
@@ -116,8 +125,8 @@ module _ (contents : List ℕ → Option (List ℕ)) where
       ((contents file ≡ None) × (due ≡ fetch file))
       ⊎ ((bytes : List ℕ) × (contents file ≡ Some bytes) × IsNext bytes due)
 
-  abbrev pub OfSchedule : Shown → List ℕ → Plan → Due → Type 0
-  OfSchedule shown schedule plan due = OfFile schedule (IsDueOfSchedule shown plan) due
+  abbrev pub OfSecond : Second → List ℕ → Plan → Due → Type 0
+  OfSecond second file plan due = OfFile file (IsDueOfSecond second plan) due
 
   -- of a program, where this comes of its plan
   abbrev pub OfProgram : List ℕ → (Plan → Due → Type 0) → Due → Type 0
@@ -125,8 +134,8 @@ module _ (contents : List ℕ → Option (List ℕ)) where
 
   -- what comes at last of a form, and of what is asked for
   abbrev pub OfWords : CommandForm → Due → Type 0
-  OfWords (replay program schedule) due = OfProgram program (OfSchedule Report schedule) due
-  OfWords (picture program schedule) due = OfProgram program (OfSchedule Picture schedule) due
+  OfWords (replay program schedule) due = OfProgram program (OfSecond (Schedule Report) schedule) due
+  OfWords (picture program schedule) due = OfProgram program (OfSecond (Schedule Picture) schedule) due
   OfWords (place placing) due = OfFile placing (IsDueOfEnd Place) due
   OfWords (stubs program) due = OfFile program (IsDueOfEnd Stubs) due
   OfWords (run program) due = OfFile program (IsDueOfEnd Run) due
@@ -134,42 +143,38 @@ module _ (contents : List ℕ → Option (List ℕ)) where
   OfWords (sample program seed steps) due = OfProgram program (IsDueOfSample seed steps) due
   OfWords (draw program seed steps) due = OfProgram program (IsDueOfLines seed steps) due
   OfWords (settle program deliveries) due = OfProgram program (IsDueOfSettle deliveries) due
-  OfWords (audit _ _) due = due ≡ not_built
+  OfWords (audit program «record») due = OfProgram program (OfSecond NodeRecord «record») due
 
   abbrev OfAsked : Asked → Due → Type 0
-  OfAsked (replaying shown program schedule) due = OfProgram program (OfSchedule shown schedule) due
+  OfAsked (two second program file) due = OfProgram program (OfSecond second file) due
   OfAsked (reading command file) due = OfFile file (IsDueOfEnd command) due
   OfAsked (serving program name word) due = (turns : ℕ) × Spells word turns × OfProgram program (IsDueOfNode name turns) due
   OfAsked (sampling program first second) due = (seed : ℕ) × (steps : ℕ) × Spells first seed × Spells second steps × OfProgram program (IsDueOfSample seed steps) due
   OfAsked (drawing program first second) due = (seed : ℕ) × (steps : ℕ) × Spells first seed × Spells second steps × OfProgram program (IsDueOfLines seed steps) due
   OfAsked (settling program word) due = (deliveries : ℕ) × Spells word deliveries × OfProgram program (IsDueOfSettle deliveries) due
-  OfAsked unbuilt due = due ≡ not_built
+  OfAsked nothing due = ⊥
 
   -- a file that is due at last is not there
   lacking : (name : List ℕ) (due : Due) → due ≡ fetch name → IsLast contents due → contents name ≡ None
   lacking name due is last = subst (λ (d : Due). IsLast contents d) is last
 
-  of_replay : (shown : Shown) (program schedule : List ℕ) (files : List (List ℕ)) (due : Due) → AreContents contents (program ∷ schedule ∷ []) files → IsDueOfReplay shown program schedule files due → IsLast contents due → OfProgram program (OfSchedule shown schedule) due
-  of_replay shown program schedule [] due fetched is last = inl (lacking program due is last, is)
-  of_replay shown program schedule (bytes ∷ []) due fetched (inl ((plan, means), is)) last =
-      inr (bytes, fetched.0, inl (plan, means, inl (lacking schedule due is last, is)))
-  of_replay shown program schedule (bytes ∷ []) due fetched (inr refused) last = inr (bytes, fetched.0, inr refused)
-  of_replay shown program schedule (bytes ∷ more ∷ []) due fetched (plan, means, is) last =
+  of_two : (second : Second) (program file : List ℕ) (files : List (List ℕ)) (due : Due) → AreContents contents (program ∷ file ∷ []) files → IsDueOfTwo second program file files due → IsLast contents due → OfProgram program (OfSecond second file) due
+  of_two second program file [] due fetched is last = inl (lacking program due is last, is)
+  of_two second program file (bytes ∷ []) due fetched (inl ((plan, means), is)) last =
+      inr (bytes, fetched.0, inl (plan, means, inl (lacking file due is last, is)))
+  of_two second program file (bytes ∷ []) due fetched (inr refused) last = inr (bytes, fetched.0, inr refused)
+  of_two second program file (bytes ∷ more ∷ []) due fetched (plan, means, is) last =
       inr (bytes, fetched.0, inl (plan, means, inr (more, fetched.1.0, is)))
-  of_replay shown program schedule (_ ∷ _ ∷ _ ∷ _) due fetched is last = absurd is
+  of_two second program file (_ ∷ _ ∷ _ ∷ _) due fetched is last = absurd is
 
   of_file : (file : List ℕ) (IsNext : List ℕ → Due → Type 0) (files : List (List ℕ)) (due : Due) → AreContents contents (file ∷ []) files → IsDueOfFile file IsNext files due → IsLast contents due → OfFile file IsNext due
   of_file file IsNext [] due fetched is last = inl (lacking file due is last, is)
   of_file file IsNext (bytes ∷ []) due fetched is last = inr (bytes, fetched.0, is)
   of_file file IsNext (_ ∷ _ ∷ _) due fetched is last = absurd is
 
-  of_unbuilt : (files : List (List ℕ)) (due : Due) → IsDueUnbuilt files due → due ≡ not_built
-  of_unbuilt [] due is = is
-  of_unbuilt (_ ∷ _) due is = absurd is
-
   pub of_form : (form : CommandForm) (files : List (List ℕ)) (due : Due) → AreContents contents (files_of form) files → IsDueOfForm form files due → IsLast contents due → OfWords form due
-  of_form (replay program schedule) files due fetched is last = of_replay Report program schedule files due fetched is last
-  of_form (picture program schedule) files due fetched is last = of_replay Picture program schedule files due fetched is last
+  of_form (replay program schedule) files due fetched is last = of_two (Schedule Report) program schedule files due fetched is last
+  of_form (picture program schedule) files due fetched is last = of_two (Schedule Picture) program schedule files due fetched is last
   of_form (place file) files due fetched is last = of_file file (IsDueOfEnd Place) files due fetched is last
   of_form (stubs file) files due fetched is last = of_file file (IsDueOfEnd Stubs) files due fetched is last
   of_form (run file) files due fetched is last = of_file file (IsDueOfEnd Run) files due fetched is last
@@ -177,7 +182,7 @@ module _ (contents : List ℕ → Option (List ℕ)) where
   of_form (sample program seed steps) files due fetched is last = of_file program (IsDueOfProgram (IsDueOfSample seed steps)) files due fetched is last
   of_form (draw program seed steps) files due fetched is last = of_file program (IsDueOfProgram (IsDueOfLines seed steps)) files due fetched is last
   of_form (settle program deliveries) files due fetched is last = of_file program (IsDueOfProgram (IsDueOfSettle deliveries)) files due fetched is last
-  of_form (audit _ _) files due fetched is last = of_unbuilt files due is
+  of_form (audit program «record») files due fetched is last = of_two NodeRecord program «record» files due fetched is last
 
   of_asked : (form : CommandForm) (due : Due) → IsInRange form → OfWords form due → OfAsked (asked_by form) due
   of_asked (replay program schedule) due range of = of
@@ -189,7 +194,7 @@ module _ (contents : List ℕ → Option (List ℕ)) where
   of_asked (sample program seed steps) due range of = (seed, steps, (refl, range.1), (refl, omega (arith, range.2)), of)
   of_asked (draw program seed steps) due range of = (seed, steps, (refl, range.1), (refl, omega (arith, range.2)), of)
   of_asked (settle program deliveries) due range of = (deliveries, (refl, omega (arith, range.1)), of)
-  of_asked (audit _ _) due range of = of
+  of_asked (audit program «record») due range of = of
 
   -- It is one thing.
 
@@ -207,8 +212,8 @@ module _ (contents : List ℕ → Option (List ℕ)) where
   one_of_end : (command : OneFile) (bytes : List ℕ) (one other : Due) → IsDueOfEnd command bytes one → IsDueOfEnd command bytes other → one ≡ other
   one_of_end command bytes one other (ending, end, is) (another, ends, also) = is ∙ ap finish (end_one command bytes ending another end ends) ∙ sym also
 
-  one_of_replay : (shown : Shown) (plan : Plan) (bytes : List ℕ) (one other : Due) → IsDueOfSchedule shown plan bytes one → IsDueOfSchedule shown plan bytes other → one ≡ other
-  one_of_replay shown plan bytes one other (ending, end, is) (another, ends, also) = is ∙ ap finish (replay_one shown plan bytes ending another end ends) ∙ sym also
+  one_of_second : (second : Second) (plan : Plan) (more : List ℕ) (one other : Due) → IsDueOfSecond second plan more one → IsDueOfSecond second plan more other → one ≡ other
+  one_of_second second plan more one other (ending, end, is) (another, ends, also) = is ∙ ap finish (second_one second plan more ending another end ends) ∙ sym also
 
   -- where one thing comes of a plan
   abbrev OneOf : (Plan → Due → Type 0) → Type 0
@@ -238,8 +243,8 @@ module _ (contents : List ℕ → Option (List ℕ)) where
   one_of_settle program deliveries one other is also = one_of_program program (IsDueOfSettle deliveries) (λ bytes plan first second means so too. so ∙ sym too) one other is also
 
   one_of_asked : (asked : Asked) (one other : Due) → OfAsked asked one → OfAsked asked other → one ≡ other
-  one_of_asked (replaying shown program schedule) one other is also =
-      one_of_program program (OfSchedule shown schedule) (λ bytes plan first second means. one_of_file schedule (IsDueOfSchedule shown plan) (one_of_replay shown plan) first second) one other is also
+  one_of_asked (two second program file) one other is also =
+      one_of_program program (OfSecond second file) (λ bytes plan first next means. one_of_file file (IsDueOfSecond second plan) (one_of_second second plan) first next) one other is also
   one_of_asked (reading command file) one other is also = one_of_file file (IsDueOfEnd command) (one_of_end command) one other is also
   one_of_asked (serving program name word) one other (turns, spelled, is) (others, again, also) =
       one_of_node program name others one other (subst (λ n. OfProgram program (IsDueOfNode name n) one) (spelled_once word turns others spelled again) is) also
@@ -251,7 +256,7 @@ module _ (contents : List ℕ → Option (List ℕ)) where
       (subst (λ n. OfProgram program (IsDueOfLines n steps') one) (spelled_once first seed seed' seeds seeds') (subst (λ n. OfProgram program (IsDueOfLines seed n) one) (spelled_once second steps steps' counts counts') is)) also
   one_of_asked (settling program word) one other (deliveries, spelled, is) (others, again, also) =
       one_of_settle program others one other (subst (λ n. OfProgram program (IsDueOfSettle n) one) (spelled_once word deliveries others spelled again) is) also
-  one_of_asked unbuilt one other is also = is ∙ sym also
+  one_of_asked nothing one other is also = absurd is
 
   one_of_words : (words : List (List ℕ)) (one other : Due) → IsDue (Some contents) words one → IsDue (Some contents) words other → IsLast contents one → IsLast contents other → one ≡ other
   one_of_words words one other (inl some) (inl another) last also =
@@ -266,10 +271,10 @@ module _ (contents : List ℕ → Option (List ℕ)) where
   one_due words one other is also = one_of_words words one other is.is_due also.is_due is.last also.last
 
   -- what comes at last of a replay
-  pub of_replaying : (words : List (List ℕ)) (program name : List ℕ) (due : Due) → IsOfForm words (replay program name) → IsDueLast contents words due → OfProgram program (OfSchedule Report name) due
+  pub of_replaying : (words : List (List ℕ)) (program name : List ℕ) (due : Due) → IsOfForm words (replay program name) → IsDueLast contents words due → OfProgram program (OfSecond (Schedule Report) name) due
   of_replaying words program name due of is = by_due is.is_due
     where
-      by_due : IsDue (Some contents) words due → OfProgram program (OfSchedule Report name) due
+      by_due : IsDue (Some contents) words due → OfProgram program (OfSecond (Schedule Report) name) due
       by_due (inl some) =
           subst (λ a. OfAsked a due) (asked_one words some.form (replay program name) some.of_form of)
           (of_asked some.form due some.of_form.in_range (of_form some.form some.files due some.fetched some.is_due is.last))

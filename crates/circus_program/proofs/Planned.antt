@@ -15,9 +15,10 @@ use Rattle.circus_ending.specs.Status.{is_end}
 use Rattle.circus_ending.specs.Ending.{Ending}
 use Rattle.circus_ending.specs.Refusal.{IsEndOfRefused}
 use Rattle.circus_ending.proofs.OneProgram.{good_or_refused}
-use Rattle.circus_program.specs.Form.{CommandForm, stubs, run, replay, picture, node, sample, draw, settle, place, audit, words_of, IsOfForm, IsOfNoForm, shown_form}
-use Rattle.circus_program.specs.declared.shown.Shown.{Shown}
+use Rattle.circus_program.specs.Form.{CommandForm, stubs, run, replay, picture, node, sample, draw, settle, place, audit, words_of, IsOfForm, IsOfNoForm, second_form}
 use Rattle.circus_program.specs.declared.shown.Shown.TheVariants.{Report, Picture}
+use Rattle.circus_program.specs.declared.second.Second.{Second}
+use Rattle.circus_program.specs.declared.second.Second.TheVariants.{Schedule, NodeRecord}
 use Rattle.circus_program.specs.Answer.{serve, IsDue, WritesEnd}
 use Rattle.circus_program.specs.Last.{program_read, IsLines}
 use Rattle.circus_program.specs.Worlds.{IsSimulation, AskToSimulate}
@@ -30,7 +31,7 @@ use Rattle.circus_program.specs.declared.answer.Command.{Command}
 use Rattle.circus_program.specs.declared.answer.Command.TheVariants.{End, OfPlan}
 use Rattle.circus_program.specs.declared.answer.Task.{Task}
 use Rattle.circus_program.specs.declared.answer.Task.TheVariants.{Sample, Lines, Settle, Node}
-use Rattle.circus_program.specs.Seen.Built.{file_form}
+use Rattle.circus_program.specs.Seen.Asked.{file_form}
 use Rattle.circus_program.specs.Seen.Step.{LacksNone, IsPutStep}
 use Rattle.circus_program.specs.Seen.Put.{IsPutEnd, IsFinished}
 use Rattle.circus_program.specs.Seen.Planned.{MeanPlans, IsKnownOf, AreKnownOf, ReadsPlans, OfContents, AreKnown, PlansOf}
@@ -96,7 +97,7 @@ read_second (sample file _ _) program is = same_Some file program is
 read_second (draw file _ _) program is = same_Some file program is
 read_second (settle file _) program is = same_Some file program is
 read_second (place _) program is = absurd (none-some program is)
-read_second (audit _ _) program is = absurd (none-some program is)
+read_second (audit file _) program is = same_Some file program is
 
 module _ (contents : List ℕ → Option (List ℕ)) (words : List (List ℕ)) where
   -- of a form that simulates its program
@@ -132,25 +133,30 @@ module _ (contents : List ℕ → Option (List ℕ)) (words : List (List ℕ)) w
       subst (λ n. AreShort plan n count) (sym one)
       (subst (λ n. AreShort plan seed n) (sym two) (known l.bytes (subst (λ name. contents name ≡ Some l.bytes) named l.program_is) plan l.good))
 
-shown_plans : (contents : List ℕ → Option (List ℕ)) (words : List (List ℕ)) (shown : Shown) (program schedule : List ℕ) → IsOfForm words (shown_form shown program schedule)
+two_plans : (contents : List ℕ → Option (List ℕ)) (words : List (List ℕ)) (second : Second) (program schedule : List ℕ) → IsOfForm words (second_form second program schedule)
     → ((bytes : List ℕ) → contents program ≡ Some bytes → MeanPlans bytes) → AreKnown contents words
 unfolding lists
-shown_plans contents words Report program schedule own plans =
+two_plans contents words (Schedule Report) program schedule own plans =
     record {
       plans = simulated_plans contents words (replay program schedule) program own refl plans;
       short = no_lines contents words (replay program schedule) own refl;
     }
-shown_plans contents words Picture program schedule own plans =
+two_plans contents words (Schedule Picture) program schedule own plans =
     record {
       plans = simulated_plans contents words (picture program schedule) program own refl plans;
       short = no_lines contents words (picture program schedule) own refl;
     }
+two_plans contents words NodeRecord program «record» own plans =
+    record {
+      plans = other_plans contents words (audit program «record») own (λ simulates. simulates);
+      short = no_lines contents words (audit program «record») own refl;
+    }
 
-pub replay_plans : (shelf : Option (List ℕ → Option (List ℕ))) (words : List (List ℕ)) (form : CommandForm) (shown : Shown) (program schedule : List ℕ) → IsOfForm words form → form ≡ shown_form shown program schedule
+pub of_two_plans : (shelf : Option (List ℕ → Option (List ℕ))) (words : List (List ℕ)) (form : CommandForm) (second : Second) (program file : List ℕ) → IsOfForm words form → form ≡ second_form second program file
     → OfContents shelf MeanPlans program → PlansOf shelf words
-replay_plans None words form shown program schedule of is plans = tt
-replay_plans (Some contents) words form shown program schedule of is plans =
-    shown_plans contents words shown program schedule (subst (λ (f : CommandForm). IsOfForm words f) is of) plans
+of_two_plans None words form second program file of is plans = tt
+of_two_plans (Some contents) words form second program file of is plans =
+    two_plans contents words second program file (subst (λ (f : CommandForm). IsOfForm words f) is of) plans
 
 file_plans : (contents : List ℕ → Option (List ℕ)) (words : List (List ℕ)) (command : Command) (file : List ℕ) → IsOfForm words (file_form command file)
     → ((bytes : List ℕ) → contents file ≡ Some bytes → ReadsPlans command bytes) → AreKnown contents words

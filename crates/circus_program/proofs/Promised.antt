@@ -25,6 +25,7 @@ use Rattle.circus_ending.specs.Spent.{spent}
 use Rattle.circus_simulated.specs.Booted.{names_in}
 use Rattle.circus_program.specs.Form.{replay, picture, sample, draw, settle}
 use Rattle.circus_program.specs.declared.shown.Shown.TheVariants.{Report}
+use Rattle.circus_program.specs.declared.second.Second.TheVariants.{Schedule}
 use Rattle.circus_program.specs.Replay.{IsEndOfReplay, replay_of, cause_text, refused}
 use Rattle.circus_program.specs.Answer.{fetch, finish}
 use Rattle.circus_settle.specs.Settled.{first_deliveries}
@@ -33,7 +34,7 @@ use Rattle.circus_program.specs.Worlds.{AreLed, IsCutBySpending, IsSpentAtBoot, 
 use Rattle.circus_program.specs.Promise.{hosted_in, KeepsPromise, IsKept, IsKeptSoFar, IsKeptOfSchedule, enough_deliveries}
 use Rattle.circus_program.specs.Agreeing.{ArePlans}
 use Rattle.circus_program.proofs.PlanOne.{plan_is_one}
-use Rattle.circus_program.proofs.OneDue.{OfProgram, OfSchedule, of_replaying}
+use Rattle.circus_program.proofs.OneDue.{OfProgram, OfSecond, of_replaying}
 use Rattle.circus_program.proofs.Reports.{is_cut_by_refusal, is_cut_by_spending}
 use Rattle.circus_program.proofs.Simulated.{simulated_written}
 
@@ -144,18 +145,18 @@ module _ (contents : List ℕ → Option (List ℕ)) (words : List (List ℕ)) (
   same_bytes name one other first second = same_Some one other (sym first ∙ second)
 
   -- what comes of the replay is the end of its schedule
-  schedule_end : (ending : Ending) → OfSchedule contents Report r.name plan (finish ending) → IsEndOfReplay Report plan schedule ending
+  schedule_end : (ending : Ending) → OfSecond contents (Schedule Report) r.name plan (finish ending) → IsEndOfReplay Report plan schedule ending
   schedule_end ending (inl (none, is)) = absurd (let clash : finish ending ≡ fetch r.name = is in cc)
   schedule_end ending (inr (text, here, (other, end, is))) =
       let same : other ≡ ending = (let finishes : finish ending ≡ finish other = is in cc) in
-      subst (λ t. IsEndOfReplay Report plan t ending) (same_bytes r.name text schedule here r.schedule_is) (subst (λ (e : Ending). IsEndOfReplay Report plan text e) same end)
+      subst (λ t. IsEndOfReplay Report plan t ending) (same_bytes r.name text schedule here r.second_is) (subst (λ (e : Ending). IsEndOfReplay Report plan text e) same end)
 
-  replay_end : (ending : Ending) → OfProgram contents r.program (OfSchedule contents Report r.name) (finish ending) → IsEndOfReplay Report plan schedule ending
+  replay_end : (ending : Ending) → OfProgram contents r.program (OfSecond contents (Schedule Report) r.name) (finish ending) → IsEndOfReplay Report plan schedule ending
   replay_end ending (inl (none, is)) = absurd (let clash : finish ending ≡ fetch r.program = is in cc)
   replay_end ending (inr (bytes, there, inl (again, means, next))) =
       let same = same_bytes r.program bytes r.bytes there r.program_is in
       let one = plan_is_one r.bytes again plan (subst (λ b. IsProgramOf b again) same means) r.good in
-      schedule_end ending (subst (λ (p : Plan). OfSchedule contents Report r.name p (finish ending)) one next)
+      schedule_end ending (subst (λ (p : Plan). OfSecond contents (Schedule Report) r.name p (finish ending)) one next)
   replay_end ending (inr (bytes, there, inr (other, bad, is))) =
       let same = same_bytes r.program bytes r.bytes there r.program_is in
       absurd (good_or_refused r.bytes plan other r.good (subst (λ b. IsEndOfRefused b other) same bad))

@@ -2,7 +2,7 @@
 use Rattle.std.proofs.Common.{◌≡◌, ℕ, ◌⊎◌, ◌==◌, false, if◌then◌else◌, Option, List, sym, subst, ap, ◌∙◌, inl, inr, refl}
 use Rattle.std.specs.Prelude.{IsTrue}
 use Rattle.circus_ending.specs.declared.status.Status.{Status}
-use Rattle.circus_ending.specs.declared.status.Status.TheVariants.{Done, BadCommandLine, BadProgram, BadSchedule, ShelfFault, SinkFault, LinkFault, NoMemory, Spent, NotBuilt, Unsettled, BadPlacing, NoPlacement}
+use Rattle.circus_ending.specs.declared.status.Status.TheVariants.{Done, BadCommandLine, BadProgram, BadSchedule, ShelfFault, SinkFault, LinkFault, NoMemory, Spent, Unsettled, BadPlacing, NoPlacement, BadRecord}
 use Rattle.circus_ending.specs.Status.{code_of, is_end}
 use Rattle.circus_outside.specs.Faults.{Rose}
 use Rattle.circus_report.specs.Writing.{Writes, WritesPart}
@@ -35,10 +35,10 @@ status_of n =
     else (if n == 6 then LinkFault
     else (if n == 7 then NoMemory
     else (if n == 8 then Spent
-    else (if n == 9 then NotBuilt
     else (if n == 10 then Unsettled
     else (if n == 11 then BadPlacing
-    else NoPlacement)))))))))))
+    else (if n == 12 then NoPlacement
+    else BadRecord)))))))))))
 
 status_of-code_of : (s : Status) → status_of (code_of s) ≡ s
 unfolding status_of
@@ -51,10 +51,10 @@ status_of-code_of SinkFault = refl
 status_of-code_of LinkFault = refl
 status_of-code_of NoMemory = refl
 status_of-code_of Spent = refl
-status_of-code_of NotBuilt = refl
 status_of-code_of Unsettled = refl
 status_of-code_of BadPlacing = refl
 status_of-code_of NoPlacement = refl
+status_of-code_of BadRecord = refl
 
 -- what is no end
 no_end : (s : Status) → is_end s ≡ false → IsTrue (is_end s) → ⊥

@@ -37,12 +37,13 @@ use Rattle.circus_simulated.specs.Settle.{budget, settled_end, after_settling, s
 use Rattle.circus_simulated.proofs.Stepping.{booted_joins}
 use Rattle.circus_program.specs.Form.{CommandForm, stubs, run, replay, picture, node, sample, draw, settle, place, audit, words_of, IsOfForm}
 use Rattle.circus_program.specs.declared.shown.Shown.TheVariants.{Report, Picture}
+use Rattle.circus_program.specs.declared.second.Second.TheVariants.{Schedule}
 use Rattle.circus_program.specs.declared.shown.Shown.{Shown}
 use Rattle.circus_program.specs.Replay.{IsEndOfReplay, replay_of, picture_of, shown_of}
 use Rattle.circus_program.specs.Answer.{Due, fetch, finish, IsDue}
 use Rattle.circus_program.specs.Last.{IsDueLast}
 use Rattle.circus_program.specs.Worlds.{IsSimulation, AskToSimulate, IsOfWorld}
-use Rattle.circus_program.proofs.OneDue.{of_form, OfProgram, OfSchedule, OfWords}
+use Rattle.circus_program.proofs.OneDue.{of_form, OfProgram, OfSecond, OfWords}
 use Rattle.circus_program.proofs.Reports.{is_reported, is_pictured}
 use Rattle.circus_program.proofs.SampleEnds.{lines_end_alike}
 
@@ -213,7 +214,7 @@ module _ (contents : List ℕ → Option (List ℕ)) (words : List (List ℕ)) (
   by_lines shown plan schedule other is (Err (schedule_fault.TooManyLines number), read, end) next = not_done BadSchedule ending other done is (ap (λ (e : Ending). e.status) end) (λ same. cc)
   by_lines shown plan schedule other is (Err schedule_fault.NoMemory, read, end) next = absurd end
 
-  replay_written : (program name : List ℕ) → IsOfForm words (replay program name) → IsFound program (OfSchedule contents Report name) → Written
+  replay_written : (program name : List ℕ) → IsOfForm words (replay program name) → IsFound program (OfSecond contents (Schedule Report) name) → Written
   replay_written program name of f = by_schedule f.next
     where
       reported : (schedule : List ℕ) → contents name ≡ Some schedule → (lines : List Line) → IsAnswer (numbers_of f.plan.deployment.nodes) schedule (Ok lines) → ending ≡ replay_of f.plan lines → Written
@@ -226,18 +227,18 @@ module _ (contents : List ℕ → Option (List ℕ)) (words : List (List ℕ)) (
               led = r.led;
               written = inl (
                 schedule,
-                record { program = program; name = name; of_form = of; bytes = f.bytes; program_is = f.there; good = f.good; schedule_is = here },
+                record { program = program; name = name; of_form = of; bytes = f.bytes; program_is = f.there; good = f.good; second_is = here },
                 read,
                 ap (λ (e : Ending). e.text) whole ∙ r.written,
               );
             },
           )
 
-      by_schedule : OfSchedule contents Report name f.plan (finish ending) → Written
+      by_schedule : OfSecond contents (Schedule Report) name f.plan (finish ending) → Written
       by_schedule (inl (none, is)) = absurd (let clash : finish ending ≡ fetch name = is in cc)
       by_schedule (inr (schedule, here, (other, end, is))) = by_lines Report f.plan schedule other is end (reported schedule here)
 
-  picture_written : (program name : List ℕ) → IsOfForm words (picture program name) → IsFound program (OfSchedule contents Picture name) → Written
+  picture_written : (program name : List ℕ) → IsOfForm words (picture program name) → IsFound program (OfSecond contents (Schedule Picture) name) → Written
   picture_written program name of f = by_schedule f.next
     where
       drawn_as : (schedule : List ℕ) → contents name ≡ Some schedule → (lines : List Line) → IsAnswer (numbers_of f.plan.deployment.nodes) schedule (Ok lines) → ending ≡ picture_of f.plan lines → Written
@@ -250,14 +251,14 @@ module _ (contents : List ℕ → Option (List ℕ)) (words : List (List ℕ)) (
               led = p.led;
               written = inr (inr (inr (inr (
                 schedule,
-                record { program = program; name = name; of_form = of; bytes = f.bytes; program_is = f.there; good = f.good; schedule_is = here },
+                record { program = program; name = name; of_form = of; bytes = f.bytes; program_is = f.there; good = f.good; second_is = here },
                 read,
                 ap (λ (e : Ending). e.text) (whole ∙ p.pictured),
               ))));
             },
           )
 
-      by_schedule : OfSchedule contents Picture name f.plan (finish ending) → Written
+      by_schedule : OfSecond contents (Schedule Picture) name f.plan (finish ending) → Written
       by_schedule (inl (none, is)) = absurd (let clash : finish ending ≡ fetch name = is in cc)
       by_schedule (inr (schedule, here, (other, end, is))) = by_lines Picture f.plan schedule other is end (drawn_as schedule here)
 
@@ -328,8 +329,8 @@ module _ (contents : List ℕ → Option (List ℕ)) (words : List (List ℕ)) (
       )
 
   form_written : (form : CommandForm) → IsOfForm words form → IsSimulation form → OfWords contents form (finish ending) → Written
-  form_written (replay program name) of simulates is = replay_written program name of (found program (OfSchedule contents Report name) is)
-  form_written (picture program name) of simulates is = picture_written program name of (found program (OfSchedule contents Picture name) is)
+  form_written (replay program name) of simulates is = replay_written program name of (found program (OfSecond contents (Schedule Report) name) is)
+  form_written (picture program name) of simulates is = picture_written program name of (found program (OfSecond contents (Schedule Picture) name) is)
   form_written (sample program seed steps) of simulates is = sample_written program seed steps of (found program (λ plan due. due ≡ finish (sample_of plan seed steps)) is)
   form_written (draw program seed steps) of simulates is = lines_written program seed steps of (found program (λ plan due. due ≡ finish (schedule_of plan seed steps)) is)
   form_written (settle program deliveries) of simulates is = settle_written program deliveries of (found program (λ plan due. due ≡ finish (settle_of plan deliveries)) is)

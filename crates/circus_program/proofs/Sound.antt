@@ -1,12 +1,12 @@
 -- Where nothing is amiss with words, and only there, what is due ends well; and why a placing doesn't.
-use Rattle.std.proofs.Common.{◌≡◌, ◌↔◌, ℕ, ◌⊎◌, inl, inr, Option, Some, None, List, [], ◌∷◌, Result, Ok, Err, refl, sym, ap, subst, ◌∙◌, codes}
+use Rattle.std.proofs.Common.{◌≡◌, ◌↔◌, ℕ, inl, inr, Option, Some, None, List, [], ◌∷◌, Result, Ok, Err, refl, sym, ap, subst, ◌∙◌, codes}
 use Rattle.circus_schedule.specs.declared.line.Line.{Line}
 use Rattle.circus_schedule.specs.declared.schedule_fault.ScheduleFault.{ScheduleFault}
 use Rattle.circus_schedule.specs.Meaning.{numbers_of}
 use Rattle.circus_schedule.proofs.OneAnswer.{IsAnswer-one}
 use Rattle.circus_config.specs.declared.plan.Plan.{Plan}
 use Rattle.circus_ending.specs.declared.status.Status.{Status}
-use Rattle.circus_ending.specs.declared.status.Status.TheVariants.{Done, BadCommandLine, BadProgram, BadSchedule, Spent, NotBuilt, Unsettled, BadPlacing, NoPlacement}
+use Rattle.circus_ending.specs.declared.status.Status.TheVariants.{Done, BadCommandLine, BadProgram, BadSchedule, Spent, Unsettled, BadPlacing, NoPlacement, BadRecord}
 use Rattle.circus_ending.specs.declared.one_file.OneFile.{OneFile}
 use Rattle.circus_ending.specs.declared.one_file.OneFile.TheVariants.{Stubs, Run, Place}
 use Rattle.circus_ending.specs.Ending.{Ending}
@@ -20,17 +20,20 @@ use Rattle.circus_simulated.specs.Schedule.{schedule_of}
 use Rattle.circus_simulated.specs.Settle.{settle_of}
 use Rattle.circus_program.specs.declared.shown.Shown.{Shown}
 use Rattle.circus_program.specs.declared.shown.Shown.TheVariants.{Report, Picture}
-use Rattle.circus_program.specs.Form.{CommandForm, stubs, run, replay, picture, node, sample, draw, settle, place, audit, IsOfForm, shown_form}
-use Rattle.circus_program.specs.Seen.Built.{end_form}
+use Rattle.circus_program.specs.declared.second.Second.TheVariants.{Schedule}
+use Rattle.circus_program.specs.Audit.{IsEndOfAudit}
+use Rattle.circus_program.specs.Form.{CommandForm, stubs, run, replay, picture, node, sample, draw, settle, place, audit, IsOfForm, second_form}
+use Rattle.circus_program.specs.Seen.Asked.{end_form}
 use Rattle.circus_program.specs.Replay.{IsEndOfReplay, shown_of}
 use Rattle.circus_program.specs.Answer.{Due, fetch, finish, serve}
-use Rattle.circus_program.specs.Last.{IsDueLast, EndsWith, HasRefused, IsShown}
+use Rattle.circus_program.specs.Last.{IsDueLast, EndsWith, HasRefused, IsShown, IsAudit}
 use Rattle.circus_program.specs.Sound.{MeansPlan, IsLegal, IsSound, AreSound, AskToPlace, IsServing, ComesWell, IsDone}
 use Rattle.circus_program.proofs.ReplayEnds.{Refuses, IsStatusOfReplay, replay_status, ends_refused}
 use Rattle.circus_program.proofs.SampleEnds.{sample_status, lines_end_alike}
 use Rattle.circus_program.proofs.SettleEnds.{settle_status}
+use Rattle.circus_program.proofs.Audits.{audit_status, never_audits, ends_true}
 use Rattle.circus_program.proofs.OneDue.{one_due, of_placing}
-use Rattle.circus_program.proofs.Why.{Comes, nothing, lacking, unbuilt, replayed, drawn, listed, settles, served, nameless, refused, ended, comes_to, same_status, due_of_form, replay_due, unsettled, spent_why, never_replays, never_drawn, never_listed, never_settles, never_fetch, never_serves, ends_as}
+use Rattle.circus_program.proofs.Why.{Comes, nothing, lacking, audits, replayed, drawn, listed, settles, served, nameless, refused, ended, comes_to, same_status, due_of_form, replay_due, audit_due, unsettled, spent_why, never_replays, never_drawn, never_listed, never_settles, never_fetch, never_serves, ends_as}
 
 -- ---- statuses
 
@@ -63,7 +66,7 @@ fetch_unwell due name is well = by_fetch (subst ComesWell is well)
 module _ (contents : List ℕ → Option (List ℕ)) (words : List (List ℕ)) where
   -- ---- what is sound comes well
 
-  shown_well : (shown : Shown) (program schedule : List ℕ) (plan : Plan) (due : Due) → IsOfForm words (shown_form shown program schedule) → MeansPlan contents program plan
+  shown_well : (shown : Shown) (program schedule : List ℕ) (plan : Plan) (due : Due) → IsOfForm words (second_form (Schedule shown) program schedule) → MeansPlan contents program plan
       → IsLegal contents plan schedule → IsDueLast contents words due → ComesWell due
   shown_well shown program schedule plan due of means l is = by_status (replay_status shown plan l.text (shown_of shown plan l.lines) end)
     where
@@ -71,7 +74,7 @@ module _ (contents : List ℕ → Option (List ℕ)) (words : List (List ℕ)) w
       end = (Ok l.lines, l.read, refl)
 
       as_shown : IsShown shown contents words plan l.text
-      as_shown = record { program = program; name = schedule; of_form = of; bytes = means.bytes; program_is = means.there; good = means.good; schedule_is = l.there }
+      as_shown = record { program = program; name = schedule; of_form = of; bytes = means.bytes; program_is = means.there; good = means.good; second_is = l.there }
 
       ends : (status : Status) → (shown_of shown plan l.lines).status ≡ status → EndsWith status due
       ends status so = replay_due contents words status shown plan l.text due is as_shown (record { ending = shown_of shown plan l.lines; end = end; status_is = so })
@@ -132,11 +135,15 @@ module _ (contents : List ℕ → Option (List ℕ)) (words : List (List ℕ)) w
         let equal : read ≡ bytes = cc in
         inl (finishes Done due ending finished (choice_is_done bytes ending (subst (λ (b : List ℕ). IsEndOf Place b ending) equal end) has))
   ]
-  sound_well (audit _ _) due of sound is = absurd sound
+  sound_well (audit program «record») due of (plan, m, r) is =
+      let e = ends_true plan r.text r.is in
+      let a : IsAudit contents words plan r.text =
+      record { program = program; name = «record»; of_form = of; bytes = m.bytes; program_is = m.there; good = m.good; second_is = r.there } in
+      inl (same_status contents words Done due (finish e.ending) is (audit_due contents words plan r.text e.ending a e.end) e.status_is)
 
   -- ---- and only that does
 
-  of_shown : (shown : Shown) (program name : List ℕ) (plan : Plan) → IsOfForm words (shown_form shown program name) → MeansPlan contents program plan → IsLegal contents plan name → AreSound contents words
+  of_shown : (shown : Shown) (program name : List ℕ) (plan : Plan) → IsOfForm words (second_form (Schedule shown) program name) → MeansPlan contents program plan → IsLegal contents plan name → AreSound contents words
   of_shown Report program name plan of m l = (replay program name, of, (plan, m, l))
   of_shown Picture program name plan of m l = (picture program name, of, (plan, m, l))
 
@@ -146,7 +153,7 @@ module _ (contents : List ℕ → Option (List ℕ)) (words : List (List ℕ)) w
       of_shown shown s.program s.name plan s.of_form (record { bytes = s.bytes; there = s.program_is; good = s.good })
       (record {
         text = schedule;
-        there = s.schedule_is;
+        there = s.second_is;
         lines = lines;
         read = answer;
         legal = λ w booted_is has.
@@ -177,10 +184,20 @@ module _ (contents : List ℕ → Option (List ℕ)) (words : List (List ℕ)) w
   file_sound Run file bytes ending due of there end finished well = program_sound (run file) file bytes history_lines ending due of there (λ plan m. (plan, m)) end finished well
   file_sound Place file bytes ending due of there end finished well = placing_sound file bytes ending due of there end finished well
 
+  audit_sound : (plan : Plan) (text : List ℕ) (ending : Ending) (due : Due) → IsAudit contents words plan text → IsEndOfAudit plan text ending → due ≡ finish ending → ComesWell due → AreSound contents words
+  audit_sound plan text ending due a end finished well = elim (audit_status plan text ending end) [
+    | inl (done, why) ↦ (
+      audit a.program a.name,
+      a.of_form,
+      (plan, record { bytes = a.bytes; there = a.program_is; good = a.good }, record { text = text; there = a.second_is; is = why }),
+    )
+    | inr (bad, why) ↦ absurd (unwell BadRecord due (λ same. cc) (λ same. cc) (finishes BadRecord due ending finished bad) well)
+  ]
+
   comes_sound : (due : Due) → IsDueLast contents words due → Comes contents words due → ComesWell due → AreSound contents words
   comes_sound due is (nothing none so) well = absurd (unwell BadCommandLine due (λ same. cc) (λ same. cc) (finishes BadCommandLine due _ so refl) well)
   comes_sound due is (lacking name so) well = absurd (fetch_unwell due name so well)
-  comes_sound due is (unbuilt why so) well = absurd (unwell NotBuilt due (λ same. cc) (λ same. cc) (finishes NotBuilt due _ so refl) well)
+  comes_sound due is (audits plan text ending of end so) well = audit_sound plan text ending due of end so well
   comes_sound due is (replayed shown plan schedule ending of end so) well = shown_sound shown plan schedule ending due of end so is well
   comes_sound due is (drawn plan seed steps of so) well = (sample of.program seed steps, of.of_form, (plan, record { bytes = of.bytes; there = of.program_is; good = of.good }))
   comes_sound due is (listed plan seed steps of so) well = (draw of.program seed steps, of.of_form, (plan, record { bytes = of.bytes; there = of.program_is; good = of.good }))
@@ -237,9 +254,9 @@ module _ (contents : List ℕ → Option (List ℕ)) (words : List (List ℕ)) w
     end : IsEndOfPlacing bytes ending
     status_is : ending.status ≡ status
 
-  only_placings : (status : Status) → (Done ≡ status → ⊥) → (BadCommandLine ≡ status → ⊥) → (BadProgram ≡ status → ⊥) → (BadSchedule ≡ status → ⊥) → (Spent ≡ status → ⊥) → (NotBuilt ≡ status → ⊥)
+  only_placings : (status : Status) → (Done ≡ status → ⊥) → (BadCommandLine ≡ status → ⊥) → (BadProgram ≡ status → ⊥) → (BadSchedule ≡ status → ⊥) → (Spent ≡ status → ⊥) → (BadRecord ≡ status → ⊥)
       → (Unsettled ≡ status → ⊥) → (due : Due) → Comes contents words due → EndsWith status due → IsOfPlacing status
-  only_placings status no_done no_words no_program no_schedule no_spent not_unbuilt no_left due comes ends = by_comes comes
+  only_placings status no_done no_words no_program no_schedule no_spent no_record no_left due comes ends = by_comes comes
     where
       by_file : (command : OneFile) (file bytes : List ℕ) (ending : Ending) → IsOfForm words (end_form command file) → contents file ≡ Some bytes → IsEndOf command bytes ending → ending.status ≡ status
           → IsOfPlacing status
@@ -252,7 +269,7 @@ module _ (contents : List ℕ → Option (List ℕ)) (words : List (List ℕ)) w
       by_comes : Comes contents words due → IsOfPlacing status
       by_comes (nothing none so) = absurd (no_words (ends_as status due _ so ends))
       by_comes (lacking name so) = never_fetch status due name so ends
-      by_comes (unbuilt why so) = absurd (not_unbuilt (ends_as status due _ so ends))
+      by_comes (audits plan text ending of end so) = absurd (never_audits status plan text ending end no_done no_record (ends_as status due ending so ends))
       by_comes (replayed shown plan schedule ending of end so) = absurd (never_replays status shown plan schedule ending end no_done no_schedule no_spent (ends_as status due ending so ends))
       by_comes (drawn plan seed steps of so) = absurd (never_drawn status plan seed steps no_done no_spent (ends_as status due _ so ends))
       by_comes (listed plan seed steps of so) = absurd (never_listed status plan seed steps no_done no_spent (ends_as status due _ so ends))

@@ -4,8 +4,8 @@ use Rattle.circus_schedule.specs.declared.line.Line.{Line}
 use Rattle.circus_schedule.specs.Meaning.{numbers_of}
 use Rattle.circus_schedule.specs.Answer.{IsAnswer}
 use Rattle.circus_ending.specs.declared.status.Status.{Status}
-use Rattle.circus_ending.specs.declared.status.Status.TheVariants.{Done, BadCommandLine, BadProgram, BadSchedule, Spent, NotBuilt, Unsettled, BadPlacing, NoPlacement}
-use Rattle.circus_program.specs.Form.{CommandForm, stubs, run, replay, picture, node, sample, draw, settle, place, audit, files_of, IsOfForm, IsOfNoForm, shown_form}
+use Rattle.circus_ending.specs.declared.status.Status.TheVariants.{Done, BadCommandLine, BadProgram, BadSchedule, Spent, Unsettled, BadPlacing, NoPlacement, BadRecord}
+use Rattle.circus_program.specs.Form.{CommandForm, stubs, run, replay, picture, node, sample, draw, settle, place, audit, files_of, IsOfForm, IsOfNoForm, second_form}
 use Rattle.circus_ending.specs.Ending.{Ending}
 use Rattle.circus_config.specs.declared.plan.Plan.{Plan}
 use Rattle.circus_config.specs.declared.program_fault.ProgramCause.{ProgramCause}
@@ -18,19 +18,23 @@ use Rattle.circus_ending.specs.Placed.{IsEndOfPlacing}
 use Rattle.circus_ending.specs.OneFile.{IsEndOf}
 use Rattle.circus_program.specs.declared.shown.Shown.{Shown}
 use Rattle.circus_program.specs.declared.shown.Shown.TheVariants.{Report, Picture}
+use Rattle.circus_program.specs.declared.second.Second.{Second}
+use Rattle.circus_program.specs.declared.second.Second.TheVariants.{Schedule, NodeRecord}
 use Rattle.circus_program.specs.Replay.{IsEndOfReplay}
+use Rattle.circus_program.specs.Audit.{IsEndOfAudit}
 use Rattle.circus_simulated.specs.Sample.{sample_of}
 use Rattle.circus_simulated.specs.Schedule.{schedule_of}
 use Rattle.circus_simulated.specs.Settle.{settle_of}
 use Rattle.circus_served.specs.Named.{no_node}
-use Rattle.circus_program.specs.Answer.{Due, fetch, finish, serve, not_built, bad_command_line, IsDueOfEnd, IsDueOfSample, IsDueOfLines, IsDueOfSettle, IsDueOfNode, IsDueOfForm, AreContents, IsDue}
-use Rattle.circus_program.specs.Seen.Built.{end_form}
+use Rattle.circus_program.specs.Answer.{Due, fetch, finish, serve, bad_command_line, IsDueOfEnd, IsDueOfSample, IsDueOfLines, IsDueOfSettle, IsDueOfNode, IsDueOfForm, AreContents, IsDue}
+use Rattle.circus_program.specs.Seen.Asked.{end_form}
 use Rattle.circus_program.specs.Sound.{AreSound}
-use Rattle.circus_program.specs.Last.{IsLast, IsDueLast, EndsWith, program_read, IsRefusedProgram, IsNameless, IsShown, IsRefusedReplay, IsSample, IsLines, IsSettle, IsSpent, IsUnsettled, IsUnbuilt, IsNotBuilt}
+use Rattle.circus_program.specs.Last.{IsLast, IsDueLast, EndsWith, program_read, IsRefusedProgram, IsNameless, IsShown, IsRefusedReplay, IsSample, IsLines, IsSettle, IsSpent, IsUnsettled, IsAudit, IsRefusedAudit}
 use Rattle.circus_program.proofs.ReplayEnds.{Refuses, Spends, IsStatusOfReplay, replay_status, Ends, ends_refused, ends_spent}
 use Rattle.circus_program.proofs.SampleEnds.{sample_status, sample_spent, lines_end_alike}
 use Rattle.circus_program.proofs.SettleEnds.{settle_status, settle_spent, settle_left}
-use Rattle.circus_program.proofs.OneDue.{of_form, OfProgram, OfFile, OfSchedule, OfWords, one_due}
+use Rattle.circus_program.proofs.Audits.{audit_status, never_audits, ends_bad}
+use Rattle.circus_program.proofs.OneDue.{of_form, OfProgram, OfFile, OfSecond, OfWords, one_due}
 
 -- ---- the ends that there are
 
@@ -152,7 +156,7 @@ refused_with number cause = record { status = BadProgram; text = refused_text nu
 pub data Comes (contents : List ℕ → Option (List ℕ)) (words : List (List ℕ)) (due : Due) : Type 0 where
   nothing : IsOfNoForm words → due ≡ bad_command_line → Comes contents words due
   lacking : (name : List ℕ) → due ≡ fetch name → Comes contents words due
-  unbuilt : IsNotBuilt words → due ≡ not_built → Comes contents words due
+  audits : (plan : Plan) (text : List ℕ) (ending : Ending) → IsAudit contents words plan text → IsEndOfAudit plan text ending → due ≡ finish ending → Comes contents words due
   replayed : (shown : Shown) (plan : Plan) (schedule : List ℕ) (ending : Ending) → IsShown shown contents words plan schedule → IsEndOfReplay shown plan schedule ending → due ≡ finish ending → Comes contents words due
   drawn : (plan : Plan) (seed steps : ℕ) → IsSample contents words plan seed steps → due ≡ finish (sample_of plan seed steps) → Comes contents words due
   listed : (plan : Plan) (seed steps : ℕ) → IsLines contents words plan seed steps → due ≡ finish (schedule_of plan seed steps) → Comes contents words due
@@ -170,11 +174,13 @@ module _ (contents : List ℕ → Option (List ℕ)) (words : List (List ℕ)) w
   comes_program form program IsNext due of first next (inr (bytes, there, inl (plan, good, behind))) = next bytes plan there good behind
   comes_program form program IsNext due of first next (inr (bytes, there, inr (ending, refusal, is))) = refused form program bytes ending of first there refusal is
 
-  comes_schedule : (shown : Shown) (program name bytes : List ℕ) (plan : Plan) (due : Due) → IsOfForm words (shown_form shown program name) → contents program ≡ Some bytes → IsProgramOf bytes plan
-      → OfSchedule contents shown name plan due → Comes contents words due
-  comes_schedule shown program name bytes plan due form there good (inl (none, is)) = lacking name is
-  comes_schedule shown program name bytes plan due form there good (inr (schedule, here, (ending, end, is))) =
-      replayed shown plan schedule ending (record { program = program; name = name; of_form = form; bytes = bytes; program_is = there; good = good; schedule_is = here }) end is
+  comes_second : (second : Second) (program name bytes : List ℕ) (plan : Plan) (due : Due) → IsOfForm words (second_form second program name) → contents program ≡ Some bytes → IsProgramOf bytes plan
+      → OfSecond contents second name plan due → Comes contents words due
+  comes_second second program name bytes plan due form there good (inl (none, is)) = lacking name is
+  comes_second (Schedule shown) program name bytes plan due form there good (inr (schedule, here, (ending, end, is))) =
+      replayed shown plan schedule ending (record { program = program; name = name; of_form = form; bytes = bytes; program_is = there; good = good; second_is = here }) end is
+  comes_second NodeRecord program name bytes plan due form there good (inr (text, here, (ending, end, is))) =
+      audits plan text ending (record { program = program; name = name; of_form = form; bytes = bytes; program_is = there; good = good; second_is = here }) end is
 
   comes_node : (program name : List ℕ) (turns : ℕ) (bytes : List ℕ) (plan : Plan) (due : Due) → IsOfForm words (node program name turns) → contents program ≡ Some bytes → IsProgramOf bytes plan → IsDueOfNode name turns plan due → Comes contents words due
   comes_node program name turns bytes plan due form there good (inl (number, named, is)) =
@@ -188,11 +194,11 @@ module _ (contents : List ℕ → Option (List ℕ)) (words : List (List ℕ)) w
 
   comes_form : (form : CommandForm) (due : Due) → IsOfForm words form → OfWords contents form due → Comes contents words due
   comes_form (replay program name) due form of =
-      comes_program (replay program name) program (OfSchedule contents Report name) due form refl
-      (λ bytes plan there good next. comes_schedule Report program name bytes plan due form there good next) of
+      comes_program (replay program name) program (OfSecond contents (Schedule Report) name) due form refl
+      (λ bytes plan there good next. comes_second (Schedule Report) program name bytes plan due form there good next) of
   comes_form (picture program name) due form of =
-      comes_program (picture program name) program (OfSchedule contents Picture name) due form refl
-      (λ bytes plan there good next. comes_schedule Picture program name bytes plan due form there good next) of
+      comes_program (picture program name) program (OfSecond contents (Schedule Picture) name) due form refl
+      (λ bytes plan there good next. comes_second (Schedule Picture) program name bytes plan due form there good next) of
   comes_form (place file) due form of = comes_file Place file due form of
   comes_form (stubs program) due form of = comes_file Stubs program due form of
   comes_form (run program) due form of = comes_file Run program due form of
@@ -207,7 +213,9 @@ module _ (contents : List ℕ → Option (List ℕ)) (words : List (List ℕ)) w
   comes_form (settle program deliveries) due form of =
       comes_program (settle program deliveries) program (IsDueOfSettle deliveries) due form refl
       (λ bytes plan there good next. settles plan deliveries (record { program = program; of_form = form; bytes = bytes; program_is = there; good = good }) next) of
-  comes_form (audit program «record») due form of = unbuilt (audit program «record», form, tt) of
+  comes_form (audit program «record») due form of =
+      comes_program (audit program «record») program (OfSecond contents NodeRecord «record») due form refl
+      (λ bytes plan there good next. comes_second NodeRecord program «record» bytes plan due form there good next) of
 
   pub comes_to : (due : Due) → IsDueLast contents words due → Comes contents words due
   comes_to due is = go is.is_due
@@ -221,7 +229,7 @@ module _ (contents : List ℕ → Option (List ℕ)) (words : List (List ℕ)) w
   why_words : (due : Due) → Comes contents words due → EndsWith BadCommandLine due → IsOfNoForm words
   why_words due (nothing none is) ends = none
   why_words due (lacking name is) ends = never_fetch BadCommandLine due name is ends
-  why_words due (unbuilt why is) ends = absurd (let clash : NotBuilt ≡ BadCommandLine = ends_as BadCommandLine due _ is ends in cc)
+  why_words due (audits plan text ending of end is) ends = absurd (never_audits BadCommandLine plan text ending end (λ same. cc) (λ same. cc) (ends_as BadCommandLine due ending is ends))
   why_words due (replayed shown plan schedule ending of end is) ends =
       absurd (never_replays BadCommandLine shown plan schedule ending end (λ same. cc) (λ same. cc) (λ same. cc) (ends_as BadCommandLine due ending is ends))
   why_words due (drawn plan seed steps of is) ends = absurd (never_drawn BadCommandLine plan seed steps (λ same. cc) (λ same. cc) (ends_as BadCommandLine due _ is ends))
@@ -250,7 +258,7 @@ module _ (contents : List ℕ → Option (List ℕ)) (words : List (List ℕ)) w
   why_program : (due : Due) → Comes contents words due → EndsWith BadProgram due → IsRefusedProgram contents words ⊎ IsNameless contents words
   why_program due (nothing none is) ends = absurd (let clash : BadCommandLine ≡ BadProgram = ends_as BadProgram due _ is ends in cc)
   why_program due (lacking name is) ends = never_fetch BadProgram due name is ends
-  why_program due (unbuilt why is) ends = absurd (let clash : NotBuilt ≡ BadProgram = ends_as BadProgram due _ is ends in cc)
+  why_program due (audits plan text ending of end is) ends = absurd (never_audits BadProgram plan text ending end (λ same. cc) (λ same. cc) (ends_as BadProgram due ending is ends))
   why_program due (replayed shown plan schedule ending of end is) ends =
       absurd (never_replays BadProgram shown plan schedule ending end (λ same. cc) (λ same. cc) (λ same. cc) (ends_as BadProgram due ending is ends))
   why_program due (drawn plan seed steps of is) ends = absurd (never_drawn BadProgram plan seed steps (λ same. cc) (λ same. cc) (ends_as BadProgram due _ is ends))
@@ -264,7 +272,7 @@ module _ (contents : List ℕ → Option (List ℕ)) (words : List (List ℕ)) w
   why_schedule : (due : Due) → Comes contents words due → EndsWith BadSchedule due → IsRefusedReplay contents words
   why_schedule due (nothing none is) ends = absurd (let clash : BadCommandLine ≡ BadSchedule = ends_as BadSchedule due _ is ends in cc)
   why_schedule due (lacking name is) ends = never_fetch BadSchedule due name is ends
-  why_schedule due (unbuilt why is) ends = absurd (let clash : NotBuilt ≡ BadSchedule = ends_as BadSchedule due _ is ends in cc)
+  why_schedule due (audits plan text ending of end is) ends = absurd (never_audits BadSchedule plan text ending end (λ same. cc) (λ same. cc) (ends_as BadSchedule due ending is ends))
   why_schedule due (replayed shown plan schedule ending of end is) ends =
       record { shown = shown; plan = plan; schedule = schedule; replayed = of; refused = replay_refused shown plan schedule ending end (ends_as BadSchedule due ending is ends) }
   why_schedule due (drawn plan seed steps of is) ends = absurd (never_drawn BadSchedule plan seed steps (λ same. cc) (λ same. cc) (ends_as BadSchedule due _ is ends))
@@ -280,7 +288,7 @@ module _ (contents : List ℕ → Option (List ℕ)) (words : List (List ℕ)) w
   why_spent : (due : Due) → Comes contents words due → EndsWith Spent due → IsSpent contents words
   why_spent due (nothing none is) ends = absurd (let clash : BadCommandLine ≡ Spent = ends_as Spent due _ is ends in cc)
   why_spent due (lacking name is) ends = never_fetch Spent due name is ends
-  why_spent due (unbuilt why is) ends = absurd (let clash : NotBuilt ≡ Spent = ends_as Spent due _ is ends in cc)
+  why_spent due (audits plan text ending of end is) ends = absurd (never_audits Spent plan text ending end (λ same. cc) (λ same. cc) (ends_as Spent due ending is ends))
   why_spent due (replayed shown plan schedule ending of end is) ends =
       let spent = replay_spent shown plan schedule ending end (ends_as Spent due ending is ends) in
       inl (record { shown = shown; plan = plan; schedule = schedule; replayed = of; lines = spent.0; read = spent.1; spent = spent.2 })
@@ -304,26 +312,29 @@ module _ (contents : List ℕ → Option (List ℕ)) (words : List (List ℕ)) w
   why_spent due (ended command file bytes ending form there end is) ends =
       absurd (never_ends Spent command bytes ending end (λ same. cc) (λ same. cc) (λ same. cc) (λ same. cc) (ends_as Spent due ending is ends))
 
-  why_unbuilt : (due : Due) → Comes contents words due → EndsWith NotBuilt due → IsNotBuilt words
-  why_unbuilt due (nothing none is) ends = absurd (let clash : BadCommandLine ≡ NotBuilt = ends_as NotBuilt due _ is ends in cc)
-  why_unbuilt due (lacking name is) ends = never_fetch NotBuilt due name is ends
-  why_unbuilt due (unbuilt why is) ends = why
-  why_unbuilt due (replayed shown plan schedule ending of end is) ends =
-      absurd (never_replays NotBuilt shown plan schedule ending end (λ same. cc) (λ same. cc) (λ same. cc) (ends_as NotBuilt due ending is ends))
-  why_unbuilt due (drawn plan seed steps of is) ends = absurd (never_drawn NotBuilt plan seed steps (λ same. cc) (λ same. cc) (ends_as NotBuilt due _ is ends))
-  why_unbuilt due (listed plan seed steps of is) ends = absurd (never_listed NotBuilt plan seed steps (λ same. cc) (λ same. cc) (ends_as NotBuilt due _ is ends))
-  why_unbuilt due (settles plan deliveries of is) ends = absurd (never_settles NotBuilt plan deliveries (λ same. cc) (λ same. cc) (λ same. cc) (ends_as NotBuilt due _ is ends))
-  why_unbuilt due (served plan number turns of is) ends = never_serves NotBuilt due plan number turns is ends
-  why_unbuilt due (nameless name of is) ends = absurd (let clash : BadProgram ≡ NotBuilt = ends_as NotBuilt due _ is ends in cc)
-  why_unbuilt due (refused form program bytes ending of first there (number, cause, refusal, means) is) ends =
-      absurd (let clash : BadProgram ≡ NotBuilt = sym (ap (λ (e : Ending). e.status) means) ∙ ends_as NotBuilt due ending is ends in cc)
-  why_unbuilt due (ended command file bytes ending form there end is) ends =
-      absurd (never_ends NotBuilt command bytes ending end (λ same. cc) (λ same. cc) (λ same. cc) (λ same. cc) (ends_as NotBuilt due ending is ends))
+  why_record : (due : Due) → Comes contents words due → EndsWith BadRecord due → IsRefusedAudit contents words
+  why_record due (nothing none is) ends = absurd (let clash : BadCommandLine ≡ BadRecord = ends_as BadRecord due _ is ends in cc)
+  why_record due (lacking name is) ends = never_fetch BadRecord due name is ends
+  why_record due (audits plan text ending of end is) ends = elim (audit_status plan text ending end) [
+    | inl (done, why) ↦ absurd (let clash : Done ≡ BadRecord = sym done ∙ ends_as BadRecord due ending is ends in cc)
+    | inr (bad, why) ↦ record { plan = plan; text = text; audits = of; refused = why }
+  ]
+  why_record due (replayed shown plan schedule ending of end is) ends =
+      absurd (never_replays BadRecord shown plan schedule ending end (λ same. cc) (λ same. cc) (λ same. cc) (ends_as BadRecord due ending is ends))
+  why_record due (drawn plan seed steps of is) ends = absurd (never_drawn BadRecord plan seed steps (λ same. cc) (λ same. cc) (ends_as BadRecord due _ is ends))
+  why_record due (listed plan seed steps of is) ends = absurd (never_listed BadRecord plan seed steps (λ same. cc) (λ same. cc) (ends_as BadRecord due _ is ends))
+  why_record due (settles plan deliveries of is) ends = absurd (never_settles BadRecord plan deliveries (λ same. cc) (λ same. cc) (λ same. cc) (ends_as BadRecord due _ is ends))
+  why_record due (served plan number turns of is) ends = never_serves BadRecord due plan number turns is ends
+  why_record due (nameless name of is) ends = absurd (let clash : BadProgram ≡ BadRecord = ends_as BadRecord due _ is ends in cc)
+  why_record due (refused form program bytes ending of first there (number, cause, refusal, means) is) ends =
+      absurd (let clash : BadProgram ≡ BadRecord = sym (ap (λ (e : Ending). e.status) means) ∙ ends_as BadRecord due ending is ends in cc)
+  why_record due (ended command file bytes ending form there end is) ends =
+      absurd (never_ends BadRecord command bytes ending end (λ same. cc) (λ same. cc) (λ same. cc) (λ same. cc) (ends_as BadRecord due ending is ends))
 
   why_unsettled : (due : Due) → Comes contents words due → EndsWith Unsettled due → IsUnsettled contents words
   why_unsettled due (nothing none is) ends = absurd (let clash : BadCommandLine ≡ Unsettled = ends_as Unsettled due _ is ends in cc)
   why_unsettled due (lacking name is) ends = never_fetch Unsettled due name is ends
-  why_unsettled due (unbuilt why is) ends = absurd (let clash : NotBuilt ≡ Unsettled = ends_as Unsettled due _ is ends in cc)
+  why_unsettled due (audits plan text ending of end is) ends = absurd (never_audits Unsettled plan text ending end (λ same. cc) (λ same. cc) (ends_as Unsettled due ending is ends))
   why_unsettled due (replayed shown plan schedule ending of end is) ends =
       absurd (never_replays Unsettled shown plan schedule ending end (λ same. cc) (λ same. cc) (λ same. cc) (ends_as Unsettled due ending is ends))
   why_unsettled due (drawn plan seed steps of is) ends = absurd (never_drawn Unsettled plan seed steps (λ same. cc) (λ same. cc) (ends_as Unsettled due _ is ends))
@@ -373,7 +384,7 @@ module _ (contents : List ℕ → Option (List ℕ)) (words : List (List ℕ)) w
       by_form (sample program seed steps) of is = due_of_form (sample program seed steps) (has.bytes ∷ []) (finish (refused_with has.number has.cause)) of (found program is, tt) (inr (refused_with has.number has.cause, refusal, refl)) tt
       by_form (draw program seed steps) of is = due_of_form (draw program seed steps) (has.bytes ∷ []) (finish (refused_with has.number has.cause)) of (found program is, tt) (inr (refused_with has.number has.cause, refusal, refl)) tt
       by_form (settle program deliveries) of is = due_of_form (settle program deliveries) (has.bytes ∷ []) (finish (refused_with has.number has.cause)) of (found program is, tt) (inr (refused_with has.number has.cause, refusal, refl)) tt
-      by_form (audit _ _) of is = absurd cc
+      by_form (audit program name) of is = due_of_form (audit program name) (has.bytes ∷ []) (finish (refused_with has.number has.cause)) of (found program is, tt) (inr (refused_with has.number has.cause, refusal, refl)) tt
 
   bad_program : (due : Due) → IsDueLast contents words due → IsRefusedProgram contents words ⊎ IsNameless contents words → EndsWith BadProgram due
   bad_program due is (inl has) = same_status BadProgram due _ is (refused_due has has.form has.of_form has.program_is) refl
@@ -384,9 +395,9 @@ module _ (contents : List ℕ → Option (List ℕ)) (words : List (List ℕ)) w
   -- a replay that ends so
   shown_due : (shown : Shown) (plan : Plan) (schedule : List ℕ) (ending : Ending) → IsShown shown contents words plan schedule → IsEndOfReplay shown plan schedule ending → IsDueLast contents words (finish ending)
   shown_due Report plan schedule ending r end =
-      due_of_form (replay r.program r.name) (r.bytes ∷ schedule ∷ []) (finish ending) r.of_form (r.program_is, (r.schedule_is, tt)) (plan, r.good, (ending, end, refl)) tt
+      due_of_form (replay r.program r.name) (r.bytes ∷ schedule ∷ []) (finish ending) r.of_form (r.program_is, (r.second_is, tt)) (plan, r.good, (ending, end, refl)) tt
   shown_due Picture plan schedule ending r end =
-      due_of_form (picture r.program r.name) (r.bytes ∷ schedule ∷ []) (finish ending) r.of_form (r.program_is, (r.schedule_is, tt)) (plan, r.good, (ending, end, refl)) tt
+      due_of_form (picture r.program r.name) (r.bytes ∷ schedule ∷ []) (finish ending) r.of_form (r.program_is, (r.second_is, tt)) (plan, r.good, (ending, end, refl)) tt
 
   pub replay_due : (status : Status) (shown : Shown) (plan : Plan) (schedule : List ℕ) (due : Due) → IsDueLast contents words due → IsShown shown contents words plan schedule → Ends shown plan schedule status
       → EndsWith status due
@@ -419,23 +430,15 @@ module _ (contents : List ℕ → Option (List ℕ)) (words : List (List ℕ)) w
       same_status Spent due (finish end) is other (sample_spent has.plan has.seed has.steps has.spent)
   spent due is (inl has) = replay_due Spent has.shown has.plan has.schedule due is has.replayed (ends_spent has.shown has.plan has.schedule has.lines has.read has.spent)
 
-  unbuilt_form : (form : CommandForm) → IsUnbuilt form → IsDueOfForm form [] not_built
-  unbuilt_form (replay _ _) un = absurd un
-  unbuilt_form (picture _ _) un = absurd un
-  unbuilt_form (place _) un = absurd un
-  unbuilt_form (stubs _) un = absurd un
-  unbuilt_form (run _) un = absurd un
-  unbuilt_form (node _ _ _) un = absurd un
-  unbuilt_form (sample _ _ _) un = absurd un
-  unbuilt_form (draw _ _ _) un = absurd un
-  unbuilt_form (settle _ _) un = absurd un
-  unbuilt_form (audit _ _) un = refl
+  -- an audit that ends so
+  pub audit_due : (plan : Plan) (text : List ℕ) (ending : Ending) → IsAudit contents words plan text → IsEndOfAudit plan text ending → IsDueLast contents words (finish ending)
+  audit_due plan text ending a end =
+      due_of_form (audit a.program a.name) (a.bytes ∷ text ∷ []) (finish ending) a.of_form (a.program_is, (a.second_is, tt)) (plan, a.good, (ending, end, refl)) tt
 
-  unbuilt_due : IsNotBuilt words → IsDueLast contents words not_built
-  unbuilt_due (form, of, un) = due_of_form form [] not_built of tt (unbuilt_form form un) tt
-
-  not_built_why : (due : Due) → IsDueLast contents words due → IsNotBuilt words → EndsWith NotBuilt due
-  not_built_why due is why = same_status NotBuilt due not_built is (unbuilt_due why) refl
+  pub bad_record : (due : Due) → IsDueLast contents words due → IsRefusedAudit contents words → EndsWith BadRecord due
+  bad_record due is has =
+      let e = ends_bad has.plan has.text has.refused in
+      same_status BadRecord due (finish e.ending) is (audit_due has.plan has.text e.ending has.audits e.end) e.status_is
 
   pub words_why : (due : Due) → IsDueLast contents words due → (EndsWith BadCommandLine due ↔ IsOfNoForm words)
   words_why due is = (why_words due (comes_to due is), bad_words due is)
@@ -449,8 +452,8 @@ module _ (contents : List ℕ → Option (List ℕ)) (words : List (List ℕ)) w
   pub spent_why : (due : Due) → IsDueLast contents words due → (EndsWith Spent due ↔ IsSpent contents words)
   spent_why due is = (why_spent due (comes_to due is), spent due is)
 
-  pub unbuilt_why : (due : Due) → IsDueLast contents words due → (EndsWith NotBuilt due ↔ IsNotBuilt words)
-  unbuilt_why due is = (why_unbuilt due (comes_to due is), not_built_why due is)
+  pub record_why : (due : Due) → IsDueLast contents words due → (EndsWith BadRecord due ↔ IsRefusedAudit contents words)
+  record_why due is = (why_record due (comes_to due is), bad_record due is)
 
   pub unsettled_why : (due : Due) → IsDueLast contents words due → (EndsWith Unsettled due ↔ IsUnsettled contents words)
   unsettled_why due is = (why_unsettled due (comes_to due is), unsettled due is)

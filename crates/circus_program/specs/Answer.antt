@@ -2,12 +2,14 @@
 use Rattle.std.specs.Prelude.{ℕ, ◌≡◌, ◌⊎◌, Option, Some, List, [], ◌∷◌, ◌++◌, codes, IfSome}
 use Rattle.circus_outside.specs.Told.{told_more}
 use Rattle.circus_ending.specs.declared.status.Status.{Status}
-use Rattle.circus_ending.specs.declared.status.Status.TheVariants.{BadCommandLine, NotBuilt}
+use Rattle.circus_ending.specs.declared.status.Status.TheVariants.{BadCommandLine}
 use Rattle.circus_program.specs.Form.{CommandForm, stubs, run, replay, picture, node, sample, draw, settle, place, audit, IsOfForm, IsOfNoForm, files_of}
 use Rattle.circus_ending.specs.Ending.{Ending}
-use Rattle.circus_program.specs.declared.shown.Shown.{Shown}
 use Rattle.circus_program.specs.declared.shown.Shown.TheVariants.{Report, Picture}
+use Rattle.circus_program.specs.declared.second.Second.{Second}
+use Rattle.circus_program.specs.declared.second.Second.TheVariants.{Schedule, NodeRecord}
 use Rattle.circus_program.specs.Replay.{IsEndOfReplay}
+use Rattle.circus_program.specs.Audit.{IsEndOfAudit}
 use Rattle.circus_config.specs.declared.plan.Plan.{Plan}
 use Rattle.circus_config.specs.Program.{IsProgramOf}
 use Rattle.circus_report.specs.Writing.{Writes, WritesPart}
@@ -33,24 +35,25 @@ pub data Due : Type 0 where
 abbrev pub bad_command_line : Due
 bad_command_line = finish (record { status = BadCommandLine; text = line (codes "circus: bad command line") })
 
--- what is asked for is not built
-abbrev pub not_built : Due
-not_built = finish (record { status = NotBuilt; text = line (codes "not built") })
-
 -- what is due of a file that is no program
 abbrev pub IsDueOfRefused : List ℕ → Due → Type 0
 IsDueOfRefused program due = (ending : Ending) × IsEndOfRefused program ending × (due ≡ finish ending)
 
--- what is due once a replay's two files are fetched, of which this is shown
-abbrev pub IsDueOfSchedule : Shown → Plan → List ℕ → Due → Type 0
-IsDueOfSchedule shown plan schedule due = (ending : Ending) × IsEndOfReplay shown plan schedule ending × (due ≡ finish ending)
+-- the bytes of a second file come to this end: a schedule of which this is shown, or a record
+abbrev pub IsEndOfSecond : Second → Plan → List ℕ → Ending → Type 0
+IsEndOfSecond (Schedule shown) plan bytes ending = IsEndOfReplay shown plan bytes ending
+IsEndOfSecond NodeRecord plan bytes ending = IsEndOfAudit plan bytes ending
 
--- what is due of a replay, whose files so far are these
-abbrev pub IsDueOfReplay : Shown → List ℕ → List ℕ → List (List ℕ) → Due → Type 0
-IsDueOfReplay shown program schedule [] due = due ≡ fetch program
-IsDueOfReplay shown program schedule (bytes ∷ []) due = (IsGood bytes × (due ≡ fetch schedule)) ⊎ IsDueOfRefused bytes due
-IsDueOfReplay shown program schedule (bytes ∷ more ∷ []) due = (plan : Plan) × IsProgramOf bytes plan × IsDueOfSchedule shown plan more due
-IsDueOfReplay shown program schedule (_ ∷ _ ∷ _ ∷ _) due = ⊥
+-- what is due once a program and its second file are fetched
+abbrev pub IsDueOfSecond : Second → Plan → List ℕ → Due → Type 0
+IsDueOfSecond second plan bytes due = (ending : Ending) × IsEndOfSecond second plan bytes ending × (due ≡ finish ending)
+
+-- what is due of a program and a second file, whose bytes so far are these
+abbrev pub IsDueOfTwo : Second → List ℕ → List ℕ → List (List ℕ) → Due → Type 0
+IsDueOfTwo second program file [] due = due ≡ fetch program
+IsDueOfTwo second program file (bytes ∷ []) due = (IsGood bytes × (due ≡ fetch file)) ⊎ IsDueOfRefused bytes due
+IsDueOfTwo second program file (bytes ∷ more ∷ []) due = (plan : Plan) × IsProgramOf bytes plan × IsDueOfSecond second plan more due
+IsDueOfTwo second program file (_ ∷ _ ∷ _ ∷ _) due = ⊥
 
 -- what is due of a command of one file, whose bytes so far are these, where this is due of its bytes
 abbrev pub IsDueOfFile : List ℕ → (List ℕ → Due → Type 0) → List (List ℕ) → Due → Type 0
@@ -84,15 +87,10 @@ IsDueOfNode name turns plan due =
     ((number : ℕ) × IsNamed plan.deployment name number × (due ≡ serve plan number turns))
     ⊎ (((number : ℕ) → IsNamed plan.deployment name number → ⊥) × (due ≡ finish (no_node name)))
 
--- what is due of a form that is not built, before any file is fetched
-abbrev pub IsDueUnbuilt : List (List ℕ) → Due → Type 0
-IsDueUnbuilt [] due = due ≡ not_built
-IsDueUnbuilt (_ ∷ _) due = ⊥
-
 -- what is due of a form, once these of its files are fetched, in order
 abbrev pub IsDueOfForm : CommandForm → List (List ℕ) → Due → Type 0
-IsDueOfForm (replay program schedule) files due = IsDueOfReplay Report program schedule files due
-IsDueOfForm (picture program schedule) files due = IsDueOfReplay Picture program schedule files due
+IsDueOfForm (replay program schedule) files due = IsDueOfTwo (Schedule Report) program schedule files due
+IsDueOfForm (picture program schedule) files due = IsDueOfTwo (Schedule Picture) program schedule files due
 IsDueOfForm (stubs program) files due = IsDueOfFile program (IsDueOfEnd Stubs) files due
 IsDueOfForm (run program) files due = IsDueOfFile program (IsDueOfEnd Run) files due
 IsDueOfForm (node program name turns) files due = IsDueOfFile program (IsDueOfProgram (IsDueOfNode name turns)) files due
@@ -100,7 +98,7 @@ IsDueOfForm (sample program seed steps) files due = IsDueOfFile program (IsDueOf
 IsDueOfForm (draw program seed steps) files due = IsDueOfFile program (IsDueOfProgram (IsDueOfLines seed steps)) files due
 IsDueOfForm (settle program deliveries) files due = IsDueOfFile program (IsDueOfProgram (IsDueOfSettle deliveries)) files due
 IsDueOfForm (place placing) files due = IsDueOfFile placing (IsDueOfEnd Place) files due
-IsDueOfForm (audit _ _) files due = IsDueUnbuilt files due
+IsDueOfForm (audit program «record») files due = IsDueOfTwo NodeRecord program «record» files due
 
 -- the files are those that the shelf has under the first of the names
 abbrev pub AreContents : (List ℕ → Option (List ℕ)) → List (List ℕ) → List (List ℕ) → Type 0

@@ -3,6 +3,8 @@ use Rattle.std.specs.Prelude.{ℕ, ◌≡◌, ◌≢◌, ◌<◌, ◌≤◌, ◌
 use Rattle.std.specs.Fmt.{decimal}
 use Rattle.circus_program.specs.declared.shown.Shown.{Shown}
 use Rattle.circus_program.specs.declared.shown.Shown.TheVariants.{Report, Picture}
+use Rattle.circus_program.specs.declared.second.Second.{Second}
+use Rattle.circus_program.specs.declared.second.Second.TheVariants.{Schedule, NodeRecord}
 
 -- the words of a command line; files and names are byte lists
 pub data CommandForm : Type 0 where
@@ -91,3 +93,8 @@ files_of (audit program «record») = program ∷ «record» ∷ []
 abbrev pub shown_form : Shown → List ℕ → List ℕ → CommandForm
 shown_form Report program schedule = replay program schedule
 shown_form Picture program schedule = picture program schedule
+
+-- of a program and its second file: a schedule of which this is shown, or a record
+abbrev pub second_form : Second → List ℕ → List ℕ → CommandForm
+second_form (Schedule shown) program file = shown_form shown program file
+second_form NodeRecord program file = audit program file

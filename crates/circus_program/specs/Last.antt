@@ -10,10 +10,12 @@ use Rattle.circus_world.specs.WorldState.{WorldState}
 use Rattle.circus_world.specs.Legal.{refusal}
 use Rattle.circus_world.specs.Course.{stepped}
 use Rattle.circus_ending.specs.declared.status.Status.{Status}
-use Rattle.circus_program.specs.Form.{CommandForm, stubs, run, replay, picture, node, sample, draw, settle, place, audit, IsOfForm, shown_form}
+use Rattle.circus_program.specs.Form.{CommandForm, stubs, run, replay, picture, node, sample, draw, settle, place, audit, IsOfForm, second_form}
 use Rattle.circus_program.specs.declared.shown.Shown.{Shown}
 use Rattle.circus_program.specs.declared.shown.Shown.TheVariants.{Report, Picture}
-use Rattle.circus_program.specs.Replay.{IsEndOfReplay}
+use Rattle.circus_program.specs.declared.second.Second.{Second}
+use Rattle.circus_program.specs.declared.second.Second.TheVariants.{Schedule, NodeRecord}
+use Rattle.circus_program.specs.Audit.{IsRefusedRecord}
 use Rattle.circus_world.specs.Lines.{Lead}
 use Rattle.circus_sample.specs.Sampled.{sampled}
 use Rattle.circus_settle.specs.Settled.{first_deliveries, settled}
@@ -27,7 +29,7 @@ use Rattle.circus_config.specs.declared.program_fault.ProgramCause.{ProgramCause
 use Rattle.circus_config.specs.declared.program_fault.ProgramFault.TheVariants.{Refused}
 use Rattle.circus_config.specs.declared.plan.Plan.{Plan}
 use Rattle.circus_config.specs.Program.{IsProgramOf, IsRefused}
-use Rattle.circus_program.specs.Answer.{Due, fetch, finish, serve, IsDue}
+use Rattle.circus_program.specs.Answer.{Due, fetch, finish, serve, IsDue, IsEndOfSecond}
 
 -- nothing is due behind it: an end, a node that is served, or the fetch of a file that the shelf doesn't have
 abbrev pub IsLast : (List ℕ → Option (List ℕ)) → Due → Type 0
@@ -63,43 +65,41 @@ HasSpent (line ∷ lines) w =
     × (((nodes : ℕ × ℕ) × (stepped (λ b. b.declared) (λ b. b.turn) line w ≡ Err nodes))
     ⊎ ((next : WorldState Behaviour) × (stepped (λ b. b.declared) (λ b. b.turn) line w ≡ Ok next) × HasSpent lines next))
 
--- the first file of a form that is built
-abbrev pub file_read : CommandForm → Option (List ℕ)
-file_read (stubs program) = Some program
-file_read (run program) = Some program
-file_read (replay program _) = Some program
-file_read (picture program _) = Some program
-file_read (place placing) = Some placing
-file_read (node program _ _) = Some program
-file_read (sample program _ _) = Some program
-file_read (draw program _ _) = Some program
-file_read (settle program _) = Some program
-file_read (audit _ _) = None
+-- the first file of a form
+abbrev pub file_read : CommandForm → List ℕ
+file_read (stubs program) = program
+file_read (run program) = program
+file_read (replay program _) = program
+file_read (picture program _) = program
+file_read (place placing) = placing
+file_read (node program _ _) = program
+file_read (sample program _ _) = program
+file_read (draw program _ _) = program
+file_read (settle program _) = program
+file_read (audit program _) = program
 
 -- it is there, and reading it is to answer
 pub record IsToBeRead (contents : List ℕ → Option (List ℕ)) (words : List (List ℕ)) : Type 0 where
   pub form : CommandForm
   pub of_form : IsOfForm words form
-  pub name : List ℕ
-  pub first : file_read form ≡ Some name
   pub bytes : List ℕ
-  pub there : contents name ≡ Some bytes
+  pub there : contents (file_read form) ≡ Some bytes
 
--- reading the schedule answers, where it is there
-abbrev pub IsScheduleAnswered : Shown → Plan → Option (List ℕ) → Type 0
-IsScheduleAnswered shown plan None = Unit {0}
-IsScheduleAnswered shown plan (Some schedule) = (ending : Ending) × IsEndOfReplay shown plan schedule ending
+-- reading the second file answers, where it is there
+abbrev pub IsSecondAnswered : Second → Plan → Option (List ℕ) → Type 0
+IsSecondAnswered second plan None = Unit {0}
+IsSecondAnswered second plan (Some bytes) = (ending : Ending) × IsEndOfSecond second plan bytes ending
 
--- reading the program answers, and then the schedule, of which this is shown
-abbrev pub IsReplayAnswered : Shown → Option (List ℕ) → List ℕ → Type 0
-IsReplayAnswered shown schedule bytes =
-    ((plan : Plan) × IsProgramOf bytes plan × IsScheduleAnswered shown plan schedule) ⊎ ((ending : Ending) × IsEndOfRefused bytes ending)
+-- reading the program answers, and then the second file
+abbrev pub IsTwoAnswered : Second → Option (List ℕ) → List ℕ → Type 0
+IsTwoAnswered second file bytes =
+    ((plan : Plan) × IsProgramOf bytes plan × IsSecondAnswered second plan file) ⊎ ((ending : Ending) × IsEndOfRefused bytes ending)
 
--- reading these bytes answers, and of a replay the schedule too: that they are a program or are refused, of a command of one
+-- reading these bytes answers, and of two files the second too: that they are a program or are refused, of a command of one
 -- file its end
 abbrev pub IsAnswered : (List ℕ → Option (List ℕ)) → CommandForm → List ℕ → Type 0
-IsAnswered contents (replay _ schedule) bytes = IsReplayAnswered Report (contents schedule) bytes
-IsAnswered contents (picture _ schedule) bytes = IsReplayAnswered Picture (contents schedule) bytes
+IsAnswered contents (replay _ schedule) bytes = IsTwoAnswered (Schedule Report) (contents schedule) bytes
+IsAnswered contents (picture _ schedule) bytes = IsTwoAnswered (Schedule Picture) (contents schedule) bytes
 IsAnswered contents (stubs _) bytes = (ending : Ending) × IsEndOf Stubs bytes ending
 IsAnswered contents (run _) bytes = (ending : Ending) × IsEndOf Run bytes ending
 IsAnswered contents (place _) bytes = (ending : Ending) × IsEndOf Place bytes ending
@@ -107,7 +107,7 @@ IsAnswered contents (node _ _ _) bytes = IsGood bytes ⊎ ((ending : Ending) × 
 IsAnswered contents (sample _ _ _) bytes = IsGood bytes ⊎ ((ending : Ending) × IsEndOfRefused bytes ending)
 IsAnswered contents (draw _ _ _) bytes = IsGood bytes ⊎ ((ending : Ending) × IsEndOfRefused bytes ending)
 IsAnswered contents (settle _ _) bytes = IsGood bytes ⊎ ((ending : Ending) × IsEndOfRefused bytes ending)
-IsAnswered contents (audit _ _) bytes = ⊥
+IsAnswered contents (audit _ «record») bytes = IsTwoAnswered NodeRecord (contents «record») bytes
 
 -- that file where it is a program
 abbrev pub program_read : CommandForm → Option (List ℕ)
@@ -120,7 +120,7 @@ program_read (node program _ _) = Some program
 program_read (sample program _ _) = Some program
 program_read (draw program _ _) = Some program
 program_read (settle program _) = Some program
-program_read (audit _ _) = None
+program_read (audit program _) = Some program
 
 -- a program that is refused
 pub record IsRefusedProgram (contents : List ℕ → Option (List ℕ)) (words : List (List ℕ)) : Type 0 where
@@ -146,15 +146,19 @@ pub record IsNameless (contents : List ℕ → Option (List ℕ)) (words : List 
   pub good : IsProgramOf bytes plan
   pub nameless : (number : ℕ) → IsNamed plan.deployment name number → ⊥
 
--- the words ask to show this of the lines of this schedule, over a program that means this plan
-pub record IsShown (shown : Shown) (contents : List ℕ → Option (List ℕ)) (words : List (List ℕ)) (plan : Plan) (schedule : List ℕ) : Type 0 where
+-- the words name a program that means this plan, and a second file with these bytes
+pub record IsOfTwo (second : Second) (contents : List ℕ → Option (List ℕ)) (words : List (List ℕ)) (plan : Plan) (text : List ℕ) : Type 0 where
   pub program : List ℕ
   pub name : List ℕ
-  pub of_form : IsOfForm words (shown_form shown program name)
+  pub of_form : IsOfForm words (second_form second program name)
   pub bytes : List ℕ
   pub program_is : contents program ≡ Some bytes
   pub good : IsProgramOf bytes plan
-  pub schedule_is : contents name ≡ Some schedule
+  pub second_is : contents name ≡ Some text
+
+-- they ask to show this of the lines of this schedule
+abbrev pub IsShown : Shown → (List ℕ → Option (List ℕ)) → List (List ℕ) → Plan → List ℕ → Type 0
+IsShown shown contents words plan schedule = IsOfTwo (Schedule shown) contents words plan schedule
 
 -- they are a replay
 abbrev pub IsReplay : (List ℕ → Option (List ℕ)) → List (List ℕ) → Plan → List ℕ → Type 0
@@ -257,19 +261,13 @@ pub record IsUnsettled (contents : List ℕ → Option (List ℕ)) (words : List
   pub settles : IsSettle contents words plan deliveries
   pub left : HasLeft plan deliveries
 
--- another form than those that are built
-abbrev pub IsUnbuilt : CommandForm → Type 0
-IsUnbuilt (replay _ _) = ⊥
-IsUnbuilt (picture _ _) = ⊥
-IsUnbuilt (place _) = ⊥
-IsUnbuilt (stubs _) = ⊥
-IsUnbuilt (run _) = ⊥
-IsUnbuilt (node _ _ _) = ⊥
-IsUnbuilt (sample _ _ _) = ⊥
-IsUnbuilt (draw _ _ _) = ⊥
-IsUnbuilt (settle _ _) = ⊥
-IsUnbuilt (audit _ _) = Unit {0}
+-- the words ask for the audit of a record of a program that means this plan
+abbrev pub IsAudit : (List ℕ → Option (List ℕ)) → List (List ℕ) → Plan → List ℕ → Type 0
+IsAudit contents words plan text = IsOfTwo NodeRecord contents words plan text
 
--- the words are of a form that is not built
-abbrev pub IsNotBuilt : List (List ℕ) → Type 0
-IsNotBuilt words = (form : CommandForm) × IsOfForm words form × IsUnbuilt form
+-- an audit of a record that is refused
+pub record IsRefusedAudit (contents : List ℕ → Option (List ℕ)) (words : List (List ℕ)) : Type 0 where
+  pub plan : Plan
+  pub text : List ℕ
+  pub audits : IsAudit contents words plan text
+  pub refused : IsRefusedRecord plan text

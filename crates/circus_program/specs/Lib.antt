@@ -1,5 +1,6 @@
 pub mod Form
 pub mod Replay
+pub mod Audit
 pub mod Answer
 pub mod Last
 pub mod Sound

@@ -2,7 +2,7 @@
 pub mod Words
 pub mod Step
 pub mod Put
-pub mod Built
+pub mod Asked
 pub mod Planned
 pub mod Ready
 pub mod Ended

@@ -1,4 +1,5 @@
--- Words of which nothing is amiss: their files are there, a program is one, a schedule is legal, a placing has a choice.
+-- Words of which nothing is amiss: their files are there, a program is one, a schedule is legal, a placing has a choice, a record is a
+-- true one.
 use Rattle.std.specs.Prelude.{ℕ, ◌≡◌, ◌⊎◌, Option, Some, List, Ok}
 use Rattle.circus_model.specs.Behaviour.{Behaviour}
 use Rattle.circus_schedule.specs.declared.line.Line.{Line}
@@ -12,6 +13,7 @@ use Rattle.circus_served.specs.Named.{IsNamed}
 use Rattle.circus_ending.specs.declared.status.Status.TheVariants.{Done, Spent}
 use Rattle.circus_ending.specs.Placed.{HasChoice}
 use Rattle.circus_program.specs.Form.{CommandForm, stubs, run, replay, picture, node, sample, draw, settle, place, audit, IsOfForm}
+use Rattle.circus_program.specs.Audit.{IsTrueRecord}
 use Rattle.circus_program.specs.Answer.{Due, fetch, finish, serve}
 use Rattle.circus_program.specs.Last.{EndsWith, HasRefused, HasLeft, IsSpent}
 
@@ -30,6 +32,12 @@ module _ (contents : List ℕ → Option (List ℕ)) where
     pub read : IsAnswer (numbers_of plan.deployment.nodes) text (Ok lines)
     pub legal : (w : WorldState Behaviour) → booted plan ≡ Ok w → HasRefused lines w → ⊥
 
+  -- one is a true record of a node
+  pub record HasTrueRecord (plan : Plan) («record» : List ℕ) : Type 0 where
+    pub text : List ℕ
+    pub there : contents «record» ≡ Some text
+    pub is : IsTrueRecord plan text
+
   -- nothing is amiss
   abbrev pub IsSound : CommandForm → Type 0
   IsSound (stubs program) = (plan : Plan) × MeansPlan program plan
@@ -41,7 +49,7 @@ module _ (contents : List ℕ → Option (List ℕ)) where
   IsSound (draw program seed steps) = (plan : Plan) × MeansPlan program plan
   IsSound (settle program deliveries) = (plan : Plan) × MeansPlan program plan × (HasLeft plan deliveries → ⊥)
   IsSound (place placing) = (bytes : List ℕ) × (contents placing ≡ Some bytes) × HasChoice bytes
-  IsSound (audit program «record») = ⊥
+  IsSound (audit program «record») = (plan : Plan) × MeansPlan program plan × HasTrueRecord plan «record»
 
   abbrev pub AreSound : List (List ℕ) → Type 0
   AreSound words = (form : CommandForm) × IsOfForm words form × IsSound form

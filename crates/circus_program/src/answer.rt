@@ -1,10 +1,13 @@
 // What the words ask for, and what comes of it.
-ghost use Rattle.std.specs.Prelude.{◌≡◌, ◌∷◌, [], map, string_bytes, IfOk, IfSome, IfNone};
+ghost use Rattle.std.specs.Prelude.{◌≡◌, ◌≤◌, ◌∷◌, [], length, map, string_bytes, IfOk};
+ghost use Rattle.circus_outside.specs.Limits.{longest_contents};
 ghost use Rattle.circus_program.specs.Seen.Words.{form_of};
-ghost use Rattle.circus_program.specs.Answer.{IsDue, IsDueOfForm, AsksOnly, AsksFirstOf, not_built};
+ghost use Rattle.circus_program.specs.Answer.{IsDue, IsDueOfSecond, AsksOnly, AsksFirstOf};
 ghost use Rattle.circus_config.specs.Program.{IsPlan};
 
+use crate::audited::audit_record;
 use crate::ready::{Ready, prepare};
+use crate::second::Second;
 use crate::shown::Shown;
 use crate::words::{CommandForm, read_words};
 use circus_config::Plan;
@@ -42,80 +45,102 @@ enum Command<'a> {
     OfPlan(Task<'a>),
 }
 
-// A form that is built, with its files.
-enum Built<'a> {
+// What a form asks for, with its files.
+enum Asked<'a> {
     OneFile(Command<'a>, &'a str),
-    Replay(Shown, &'a str, &'a str),
+    TwoFiles(Second, &'a str, &'a str),
 }
 
-ghost use Rattle.circus_program.specs.Seen.Step.{due_of, Stands, LacksNone, IsLackNoted, IsStepBehind, IsStepOfProgram, IsStepOfReplay, IsStepOfFile};
-ghost use Rattle.circus_program.specs.Seen.Built.{IsDueOfTask, IsDueOfCommand, built_form};
-ghost use Rattle.circus_program.specs.Seen.Planned.{MeanPlans, IsKnownOf, ReadsPlans, OfContents, PlansOf};
+ghost use Rattle.circus_program.specs.Seen.Step.{due_of, Stands, LacksNone, IsLackNoted, IsStepBehind, IsStepOfProgram, IsStepOfTwo, IsStepOfFile};
+ghost use Rattle.circus_program.specs.Seen.Asked.{IsDueOfTask, IsDueOfCommand, asked_form};
+ghost use Rattle.circus_program.specs.Seen.Planned.{MeanPlans, HasModuleNames, IsKnownOf, ReadsPlans, OfContents, PlansOf};
 
-// What comes of a replay whose program is fetched and read.
-fn replay_plan<'a, S: Shelf>(
+// What comes of a plan and the bytes of a second file.
+fn of_second<'a>(
     alloc: Global,
-    shown: Shown,
+    second: Second,
     plan: Plan,
-    schedule: &'a str,
-    shelf: &mut S,
+    bytes: &[u8],
 ) -> Result<Step<'a>, NoMemory>
-    requires { IsPlan plan }
-    ensures due { IfOk result (λ step.
-        IsStepBehind (S.contents shelf.old) shown plan schedule.now (due_of step)) }
+    requires plan { IsPlan plan }
+    requires named { HasModuleNames plan }
+    requires short { length bytes.now ≤ longest_contents }
+    ensures due { IfOk result (λ step. IsDueOfSecond second plan bytes.now (due_of step)) }
     ensures stands { IfOk result Stands }
-    ensures lack { IfOk result
-        (IsLackNoted (S.fetched shelf.new) (S.faults shelf.old) (S.faults shelf.new)) }
-    ensures asked { AsksFirstOf (S.fetched shelf.old) (S.fetched shelf.new) (schedule.now ∷ []) }
+    ensures whole { IfOk result LacksNone }
 {
-    let bytes = match shelf.fetch(schedule) {
-        Ok(bytes) => bytes,
-        Err(ShelfFault::NoMemory) => return Err(AllocError),
-        Err(ShelfFault::Failed) => return Ok(Step::Lack(schedule)),
-    };
-    match prepare(alloc, plan, bytes.as_slice(), shown)? {
-        Ok(ready) => Ok(Step::Replay(ready)),
-        Err(ending) => Ok(Step::Finish(ending)),
+    match second {
+        Second::Schedule(shown) => match prepare(alloc, plan, bytes, shown)? {
+            Ok(ready) => Ok(Step::Replay(ready)),
+            Err(ending) => Ok(Step::Finish(ending)),
+        },
+        Second::NodeRecord => Ok(Step::Finish(audit_record(alloc, plan, bytes)?)),
     }
 }
 
-// What comes of a replay whose first file is fetched.
-fn replay_program<'a, S: Shelf>(
+// What comes of a program that is fetched and read, and of a second file.
+fn second_file<'a, S: Shelf>(
     alloc: Global,
-    shown: Shown,
-    program: &[u8],
-    schedule: &'a str,
+    second: Second,
+    plan: Plan,
+    file: &'a str,
     shelf: &mut S,
 ) -> Result<Step<'a>, NoMemory>
+    requires plan { IsPlan plan }
+    requires named { HasModuleNames plan }
     ensures due { IfOk result (λ step.
-        IsStepOfProgram (S.contents shelf.old) shown program.now schedule.now (due_of step)) }
+        IsStepBehind (S.contents shelf.old) second plan file.now (due_of step)) }
     ensures stands { IfOk result Stands }
     ensures lack { IfOk result
         (IsLackNoted (S.fetched shelf.new) (S.faults shelf.old) (S.faults shelf.new)) }
-    ensures asked { AsksFirstOf (S.fetched shelf.old) (S.fetched shelf.new) (schedule.now ∷ []) }
+    ensures asked { AsksFirstOf (S.fetched shelf.old) (S.fetched shelf.new) (file.now ∷ []) }
+{
+    let bytes = match shelf.fetch(file) {
+        Ok(bytes) => bytes,
+        Err(ShelfFault::NoMemory) => return Err(AllocError),
+        Err(ShelfFault::Failed) => return Ok(Step::Lack(file)),
+    };
+    let step = of_second(alloc, second, plan, bytes.as_slice())?;
+    Ok(step)
+}
+
+// What comes of two files, of which the first is fetched.
+fn behind_first<'a, S: Shelf>(
+    alloc: Global,
+    second: Second,
+    program: &[u8],
+    file: &'a str,
+    shelf: &mut S,
+) -> Result<Step<'a>, NoMemory>
+    ensures due { IfOk result (λ step.
+        IsStepOfProgram (S.contents shelf.old) second program.now file.now (due_of step)) }
+    ensures stands { IfOk result Stands }
+    ensures lack { IfOk result
+        (IsLackNoted (S.fetched shelf.new) (S.faults shelf.old) (S.faults shelf.new)) }
+    ensures asked { AsksFirstOf (S.fetched shelf.old) (S.fetched shelf.new) (file.now ∷ []) }
     ensures planned { IfOk result (λ _. MeanPlans program.now) }
 {
     match plan_of(alloc, program)? {
-        Ok(plan) => replay_plan(alloc, shown, plan, schedule, shelf),
+        Ok(plan) => second_file(alloc, second, plan, file, shelf),
         Err(refused) => Ok(Step::Finish(refused)),
     }
 }
 
-// What comes of a replay of two files, of which this is shown.
-fn replay<'a, S: Shelf>(
+// What comes of a program and a second file.
+fn two_files<'a, S: Shelf>(
     alloc: Global,
-    shown: Shown,
+    second: Second,
     program: &'a str,
-    schedule: &'a str,
+    file: &'a str,
     shelf: &mut S,
 ) -> Result<Step<'a>, NoMemory>
     ensures due { IfOk result (λ step.
-        IsStepOfReplay (S.contents shelf.old) shown program.now schedule.now (due_of step)) }
+        IsStepOfTwo (S.contents shelf.old) second program.now file.now (due_of step)) }
     ensures stands { IfOk result Stands }
     ensures lack { IfOk result
         (IsLackNoted (S.fetched shelf.new) (S.faults shelf.old) (S.faults shelf.new)) }
     ensures asked { AsksFirstOf (S.fetched shelf.old) (S.fetched shelf.new)
-        (program.now ∷ schedule.now ∷ []) }
+        (program.now ∷ file.now ∷ []) }
     ensures planned { IfOk result (λ step. LacksNone step
         → OfContents (S.contents shelf.old) MeanPlans program.now) }
 {
@@ -124,7 +149,7 @@ fn replay<'a, S: Shelf>(
         Err(ShelfFault::NoMemory) => return Err(AllocError),
         Err(ShelfFault::Failed) => return Ok(Step::Lack(program)),
     };
-    let step = replay_program(alloc, shown, bytes.as_slice(), schedule, shelf)?;
+    let step = behind_first(alloc, second, bytes.as_slice(), file, shelf)?;
     Ok(step)
 }
 
@@ -188,10 +213,9 @@ fn one_file<'a, S: Shelf>(
     Ok(step)
 }
 
-// The form, where it is built.
-fn built_of(form: CommandForm<'_>) -> Option<Built<'_>>
-    ensures some { IfSome result (λ built. form_of form.entry ≡ built_form built) }
-    ensures other { IfNone result (IsDueOfForm (form_of form.entry) [] not_built) }
+// What a form asks for.
+fn asked_by(form: CommandForm<'_>) -> Asked<'_>
+    ensures { form_of form.entry ≡ asked_form result }
 {
     let (command, file) = match form {
         CommandForm::Stubs { program } => (Command::End(OneFile::Stubs), program),
@@ -217,14 +241,16 @@ fn built_of(form: CommandForm<'_>) -> Option<Built<'_>>
             turns,
         } => (Command::OfPlan(Task::Node(name, turns)), program),
         CommandForm::Replay { program, schedule } => {
-            return Some(Built::Replay(Shown::Report, program, schedule));
+            return Asked::TwoFiles(Second::Schedule(Shown::Report), program, schedule);
         }
         CommandForm::Picture { program, schedule } => {
-            return Some(Built::Replay(Shown::Picture, program, schedule));
+            return Asked::TwoFiles(Second::Schedule(Shown::Picture), program, schedule);
         }
-        CommandForm::Audit { .. } => return None,
+        CommandForm::Audit { program, record } => {
+            return Asked::TwoFiles(Second::NodeRecord, program, record);
+        }
     };
-    Some(Built::OneFile(command, file))
+    Asked::OneFile(command, file)
 }
 
 /// What comes of the words of a command line.
@@ -247,14 +273,8 @@ pub fn follow<'a, S: Shelf>(
         let refused = Ending::of_line(alloc, Status::BadCommandLine, "circus: bad command line\n")?;
         return Ok(Step::Finish(refused));
     };
-    match built_of(form) {
-        Some(Built::OneFile(command, file)) => one_file(alloc, command, file, shelf),
-        Some(Built::Replay(shown, program, schedule)) => {
-            replay(alloc, shown, program, schedule, shelf)
-        }
-        None => {
-            let unbuilt = Ending::of_line(alloc, Status::NotBuilt, "not built\n")?;
-            Ok(Step::Finish(unbuilt))
-        }
+    match asked_by(form) {
+        Asked::OneFile(command, file) => one_file(alloc, command, file, shelf),
+        Asked::TwoFiles(second, program, file) => two_files(alloc, second, program, file, shelf),
     }
 }

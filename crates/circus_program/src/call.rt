@@ -21,11 +21,11 @@ use circus_value::NoMemory;
 use std::alloc::Global;
 
 /// Does what the words ask for: fetches files from the shelf, writes to the sink line by line, and answers the status
-/// (docs/GUIDE.md, "Statuses"). So far all forms but `audit` are built; the link is used by `node` alone. The report of
-/// a replay is written as its lines are stepped, its picture once all are.
+/// (docs/GUIDE.md, "Statuses"). The link is used by `node` alone. The report of a replay is written as its lines are
+/// stepped, its picture once all are.
 ///
 /// - 0: the stubs or the history of a program, the report of a replay or its picture, the record of a node, the summary of a
-///   sample, its lines, what a program has settled to, or the best choice of a placing is written.
+///   sample, its lines, what a program has settled to, the best choice of a placing, or that a record is a true one is written.
 /// - 1: exactly where the words are of no form.
 /// - 2: exactly where the file of another form than `place` is no program, whose line and cause are written, or `node` names
 ///   no node of it.
@@ -37,11 +37,12 @@ use std::alloc::Global;
 /// - 7: where there is no memory; what was written is a part of the text.
 /// - 8: exactly where a node has no number left for a call to another one; the two are written, in a replay behind the lines
 ///   of what was sent before.
-/// - 9: exactly where the words are of another form than these.
 /// - 10: exactly where `settle` made all deliveries and datagrams are left; how many deliveries, and how many datagrams were
 ///   sent, are written.
 /// - 11: exactly where the text of a placing is refused, whose line and cause are written.
 /// - 12: exactly where no choice of machines satisfies a placing.
+/// - 13: exactly where a record has a line with which no record of the program goes on, is no run of its node, or doesn't stand;
+///   the number of the line, the name of the node, or the number of the run is written.
 ///
 /// At each status but 5 and 7 the sink has given on all that it took.
 ///

@@ -17,14 +17,14 @@ ghost use Rattle.circus_served.specs.NodeEnds.{IsEndOfServing};
 ghost use Rattle.circus_program.specs.Replayed.{AreShort, IsReplayed};
 ghost use Rattle.circus_program.specs.Worlds.{AreLed, IsReported, IsCutByRefusal, IsCutBySpending, IsSpentAtBoot, IsPictured, AskForRecords, AskToSimulate, IsOfWorld};
 ghost use Rattle.circus_ending.specs.Ending.{Ending};
-ghost use Rattle.circus_ending.specs.declared.status.Status.TheVariants.{Done, BadCommandLine, BadProgram, BadSchedule, Spent, NotBuilt, Unsettled, BadPlacing, NoPlacement};
+ghost use Rattle.circus_ending.specs.declared.status.Status.TheVariants.{Done, BadCommandLine, BadProgram, BadSchedule, Spent, Unsettled, BadPlacing, NoPlacement, BadRecord};
 ghost use Rattle.circus_ending.specs.Placed.{IsRefusedPlacing, HasNoChoice};
 ghost use Rattle.circus_program.specs.Sound.{AreSound, AskToPlace, ComesWell, IsDone};
-ghost use Rattle.circus_program.specs.Last.{IsDueLast, EndsWith, IsToBeRead, IsAnswered, IsRefusedProgram, IsNameless, IsRefusedReplay, IsSpent, IsNotBuilt, IsUnsettled, HasLeft};
+ghost use Rattle.circus_program.specs.Last.{IsDueLast, EndsWith, IsToBeRead, IsAnswered, IsRefusedProgram, IsNameless, IsRefusedReplay, IsSpent, IsRefusedAudit, IsUnsettled, HasLeft};
 
 /// Of words one thing is due at last, whatever the files contain: an end, with its status and its text, a node that is to be
-/// served, or the fetch of a file that is not there. Something is due, but where the first file of a form that is built is
-/// there: then something is due once reading it answers.
+/// served, or the fetch of a file that is not there. Something is due, but where the first file of a form is there:
+/// then something is due once reading it answers.
 pub fn one_thing_is_due()
     ensures one { (contents : List ℕ → Option (List ℕ)) (words : List (List ℕ)) (due other : Due)
         → IsDueLast contents words due → IsDueLast contents words other → due ≡ other }
@@ -36,12 +36,13 @@ pub fn one_thing_is_due()
 {}
 
 /// What is due at last is an end with status 1 exactly where the words are of no form, with status 2 exactly where the file
-/// of another form than `place` is no program or has no node of the name, with status 3 exactly where a line of a schedule is
-/// refused, with status 8 exactly where a node has no number left in a replay or a picture, in a sample or its lines, or in the deliveries that
-/// settle a program, with status 9 exactly where a form is asked for that is not built, with status 10 exactly where all deliveries
-/// are made and datagrams are left, with status 11 exactly where a placing is refused, and with status 12 exactly where no choice
-/// satisfies one. Every command line has its outcome: exactly where nothing is amiss with words and files, it is an end with status
-/// 0, or with 8 where that says, or a node to be served. What such a node comes to is said by the contract of the call.
+/// of another form than `place` is no program or has no node of the name, with status 3 exactly where a line of a schedule
+/// is refused, with status 8 exactly where a node has no number left in a replay or a picture, in a sample or its lines, or
+/// in the deliveries that settle a program, with status 10 exactly where all deliveries are made and datagrams are left,
+/// with status 11 exactly where a placing is refused, with status 12 exactly where no choice satisfies one, and with status
+/// 13 exactly where a record has a line with which no record goes on, is no run of its node, or doesn't stand. Every command
+/// line has its outcome: exactly where nothing is amiss with words and files, it is an end with status 0, or with 8 where
+/// that says, or a node to be served. What such a node comes to is said by the contract of the call.
 pub fn ends_tell_why()
     ensures bad_words { (contents : List ℕ → Option (List ℕ)) (words : List (List ℕ)) (due : Due)
         → IsDueLast contents words due → (EndsWith BadCommandLine due ↔ IsOfNoForm words) }
@@ -54,8 +55,6 @@ pub fn ends_tell_why()
         → (EndsWith BadSchedule due ↔ IsRefusedReplay contents words) }
     ensures spent { (contents : List ℕ → Option (List ℕ)) (words : List (List ℕ)) (due : Due)
         → IsDueLast contents words due → (EndsWith Spent due ↔ IsSpent contents words) }
-    ensures not_built { (contents : List ℕ → Option (List ℕ)) (words : List (List ℕ)) (due : Due)
-        → IsDueLast contents words due → (EndsWith NotBuilt due ↔ IsNotBuilt words) }
     ensures unsettled { (contents : List ℕ → Option (List ℕ)) (words : List (List ℕ)) (due : Due)
         → IsDueLast contents words due → (EndsWith Unsettled due ↔ IsUnsettled contents words) }
     ensures bad_placing { (contents : List ℕ → Option (List ℕ)) (words : List (List ℕ)) (due : Due)
@@ -64,6 +63,9 @@ pub fn ends_tell_why()
     ensures no_placement { (contents : List ℕ → Option (List ℕ)) (words : List (List ℕ)) (due : Due)
         → IsDueLast contents words due
         → (EndsWith NoPlacement due ↔ AskToPlace contents words HasNoChoice) }
+    ensures bad_record { (contents : List ℕ → Option (List ℕ)) (words : List (List ℕ)) (due : Due)
+        → IsDueLast contents words due
+        → (EndsWith BadRecord due ↔ IsRefusedAudit contents words) }
     ensures done { (contents : List ℕ → Option (List ℕ)) (words : List (List ℕ)) (due : Due)
         → IsDueLast contents words due
         → (EndsWith Done due ↔ IsDone contents words due) }

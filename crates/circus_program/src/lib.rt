@@ -1,11 +1,13 @@
 //! The top call: words in, status out, over a shelf, a sink and a link.
 //!
-//! `words` reads the command line, and `answer` fetches and decides. `shown` tells a report from a picture. `ready` boots the world
-//! of a replay, `replay` runs it, `drawing` draws it, `ended` puts what ends it too early, and `schedule_refused` says why a line
-//! is refused. `put` writes, and `call` is the top call itself. `laws` says what holds of all words and files.
+//! `words` reads the command line, and `answer` fetches and decides. `second` says what a second file is, and `shown` tells a report
+//! from a picture. `ready` boots the world of a replay, `replay` runs it, `drawing` draws it, `ended` puts what ends it too early,
+//! and `schedule_refused` says why a line is refused. `audited` audits a record. `put` writes, and `call` is the top call itself.
+//! `laws` says what holds of all words and files.
 #![tactic(auto)]
 
 mod answer;
+mod audited;
 mod call;
 mod drawing;
 mod ended;
@@ -14,6 +16,7 @@ mod put;
 mod ready;
 mod replay;
 mod schedule_refused;
+mod second;
 mod shown;
 mod words;
 

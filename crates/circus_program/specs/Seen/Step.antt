@@ -12,8 +12,8 @@ use Rattle.circus_ending.specs.Ending.{Ending}
 use Rattle.circus_ending.specs.Seen.Ending.{ending_of}
 use Rattle.circus_config.specs.declared.plan.Plan.{Plan}
 use Rattle.circus_config.specs.Program.{IsProgramOf, IsPlan}
-use Rattle.circus_program.specs.declared.shown.Shown.{Shown}
-use Rattle.circus_program.specs.Answer.{Due, fetch, finish, serve, IsDueOfRefused, IsDueOfSchedule, IsDueOfReplay, IsDueOfFile, AreFetchedOf, WasLast, shelf_fault}
+use Rattle.circus_program.specs.declared.second.Second.{Second}
+use Rattle.circus_program.specs.Answer.{Due, fetch, finish, serve, IsDueOfRefused, IsDueOfSecond, IsDueOfTwo, IsDueOfFile, AreFetchedOf, WasLast, shelf_fault}
 use Rattle.circus_program.specs.Seen.Put.{IsPutEnd}
 use Rattle.circus_program.specs.Seen.Ready.{end_of_ready, IsReady}
 
@@ -69,28 +69,28 @@ IsLackNoted fetched old new (Replay ready) = Unit {0}
 IsLackNoted fetched old new (Serve plan node turns) = Unit {0}
 IsLackNoted fetched old new (Lack name) = Rose old new × WasLast fetched name.now
 
--- what is due behind the program of a replay, which means this plan, once these more files are fetched
-abbrev pub IsDueBehind : Shown → Plan → List ℕ → List (List ℕ) → Due → Type 0
-IsDueBehind shown plan schedule [] due = due ≡ fetch schedule
-IsDueBehind shown plan schedule (bytes ∷ []) due = IsDueOfSchedule shown plan bytes due
-IsDueBehind shown plan schedule (_ ∷ _ ∷ _) due = ⊥
+-- what is due behind a program, which means this plan, once these more files are fetched
+abbrev pub IsDueBehind : Second → Plan → List ℕ → List (List ℕ) → Due → Type 0
+IsDueBehind second plan file [] due = due ≡ fetch file
+IsDueBehind second plan file (bytes ∷ []) due = IsDueOfSecond second plan bytes due
+IsDueBehind second plan file (_ ∷ _ ∷ _) due = ⊥
 
 -- a step that is due behind the program
-pub record IsStepBehind (shelf : Option (List ℕ → Option (List ℕ))) (shown : Shown) (plan : Plan) (schedule : List ℕ) (due : Due) : Type 0 where
+pub record IsStepBehind (shelf : Option (List ℕ → Option (List ℕ))) (second : Second) (plan : Plan) (file : List ℕ) (due : Due) : Type 0 where
   pub files : List (List ℕ)
-  pub fetched : AreFetchedOf shelf (schedule ∷ []) files
-  pub is_due : IsDueBehind shown plan schedule files due
+  pub fetched : AreFetchedOf shelf (file ∷ []) files
+  pub is_due : IsDueBehind second plan file files due
 
--- a step that is due behind a replay's first file
-abbrev pub IsStepOfProgram : Option (List ℕ → Option (List ℕ)) → Shown → List ℕ → List ℕ → Due → Type 0
-IsStepOfProgram shelf shown program schedule due =
-    ((plan : Plan) × IsProgramOf program plan × IsStepBehind shelf shown plan schedule due) ⊎ IsDueOfRefused program due
+-- a step that is due behind the first of two files
+abbrev pub IsStepOfProgram : Option (List ℕ → Option (List ℕ)) → Second → List ℕ → List ℕ → Due → Type 0
+IsStepOfProgram shelf second program file due =
+    ((plan : Plan) × IsProgramOf program plan × IsStepBehind shelf second plan file due) ⊎ IsDueOfRefused program due
 
--- a step that is due of a replay
-pub record IsStepOfReplay (shelf : Option (List ℕ → Option (List ℕ))) (shown : Shown) (program schedule : List ℕ) (due : Due) : Type 0 where
+-- a step that is due of a program and a second file
+pub record IsStepOfTwo (shelf : Option (List ℕ → Option (List ℕ))) (second : Second) (program file : List ℕ) (due : Due) : Type 0 where
   pub files : List (List ℕ)
-  pub fetched : AreFetchedOf shelf (program ∷ schedule ∷ []) files
-  pub is_due : IsDueOfReplay shown program schedule files due
+  pub fetched : AreFetchedOf shelf (program ∷ file ∷ []) files
+  pub is_due : IsDueOfTwo second program file files due
 
 -- a step that is due of a command of one file, where this is due of its bytes
 pub record IsStepOfFile (shelf : Option (List ℕ → Option (List ℕ))) (name : List ℕ) (IsNext : List ℕ → Due → Type 0) (due : Due) : Type 0 where

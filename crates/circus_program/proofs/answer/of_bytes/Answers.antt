@@ -3,7 +3,7 @@ use Rattle.circus_config.specs.Program.{IsProgramOf, IsPlan}
 use Rattle.circus_ending.specs.Refusal.{IsEndOfRefused}
 use Rattle.circus_ending.specs.Seen.Ending.{ending_of}
 use Rattle.circus_program.specs.Answer.{finish}
-use Rattle.circus_program.specs.Seen.Built.{IsDueOfTask, IsDueOfCommand}
+use Rattle.circus_program.specs.Seen.Asked.{IsDueOfTask, IsDueOfCommand}
 use Rattle.circus_program.specs.Seen.Step.{due_of}
 use Rattle.circus_program.specs.Seen.Planned.{ReadsPlans}
 use Rattle.circus_program.specs.declared.answer.Command.{Command}

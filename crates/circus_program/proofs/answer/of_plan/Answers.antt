@@ -2,7 +2,7 @@ use Rattle.std.proofs.Common.{ap, sym, subst, ◌∙◌}
 use Rattle.circus_ending.specs.Seen.Ending.{ending_of}
 use Rattle.circus_ending.specs.Ending.{Ending}
 use Rattle.circus_program.specs.Answer.{finish}
-use Rattle.circus_program.specs.Seen.Built.{IsDueOfTask}
+use Rattle.circus_program.specs.Seen.Asked.{IsDueOfTask}
 use Rattle.circus_program.specs.Seen.Planned.{IsKnownOf}
 use Rattle.circus_program.specs.declared.answer.Task.{Task}
 use Rattle.circus_program.proofs.NamedOnce.{named_within}

@@ -1,5 +1,5 @@
 use Rattle.std.proofs.Common.{refl, subst, [], ◌∷◌}
-use Rattle.circus_program.specs.Seen.Built.{IsDueOfCommand}
+use Rattle.circus_program.specs.Seen.Asked.{IsDueOfCommand}
 use Rattle.circus_program.specs.Seen.Step.{due_of}
 use Rattle.circus_program.specs.Seen.Planned.{ReadsPlans}
 use Rattle.circus_program.proofs.AnswerLemmas.{fetched-none, step-of_file, noted-none}

@@ -1,4 +1,4 @@
-use Rattle.circus_program.proofs.Why.{words_why, program_why, schedule_why, spent_why, unbuilt_why, unsettled_why}
+use Rattle.circus_program.proofs.Why.{words_why, program_why, schedule_why, spent_why, record_why, unsettled_why}
 use Rattle.circus_program.proofs.Sound.{bad_placing_why, no_placement_why, done_why, sound_why}
 use Rattle.circus_program.proofs.laws.ends_tell_why.Goals as goal
 
@@ -14,9 +14,6 @@ returns-clause-bad_schedule c = schedule_why
 pub returns-clause-spent : goal.returns-clause-spent
 returns-clause-spent c = spent_why
 
-pub returns-clause-not_built : goal.returns-clause-not_built
-returns-clause-not_built c = unbuilt_why
-
 pub returns-clause-unsettled : goal.returns-clause-unsettled
 returns-clause-unsettled c = unsettled_why
 
@@ -25,6 +22,9 @@ returns-clause-bad_placing c = bad_placing_why
 
 pub returns-clause-no_placement : goal.returns-clause-no_placement
 returns-clause-no_placement c = no_placement_why
+
+pub returns-clause-bad_record : goal.returns-clause-bad_record
+returns-clause-bad_record c = record_why
 
 pub returns-clause-done : goal.returns-clause-done
 returns-clause-done c = done_why

@@ -1,16 +1,16 @@
--- What the code's built form says, as plain data.
+-- What a form asks for, as the code says it, as plain data.
 use Rattle.std.specs.Prelude.{List, ℕ}
 use Rattle.circus_config.specs.declared.plan.Plan.{Plan}
 use Rattle.circus_ending.specs.declared.one_file.OneFile.{OneFile}
 use Rattle.circus_ending.specs.declared.one_file.OneFile.TheVariants.{Stubs, Run, Place}
-use Rattle.circus_program.specs.Form.{CommandForm, stubs, run, node, sample, draw, settle, place, shown_form}
+use Rattle.circus_program.specs.Form.{CommandForm, stubs, run, node, sample, draw, settle, place, second_form}
 use Rattle.circus_program.specs.Answer.{Due, IsDueOfEnd, IsDueOfProgram, IsDueOfSample, IsDueOfLines, IsDueOfSettle, IsDueOfNode}
 use Rattle.circus_program.specs.declared.answer.Task.{Task}
 use Rattle.circus_program.specs.declared.answer.Task.TheVariants.{Sample, Lines, Settle, Node}
 use Rattle.circus_program.specs.declared.answer.Command.{Command}
 use Rattle.circus_program.specs.declared.answer.Command.TheVariants.{End, OfPlan}
-use Rattle.circus_program.specs.declared.answer.Built.{Built}
-use Rattle.circus_program.specs.declared.answer.Built.TheVariants.{OneFile as OfFile, Replay}
+use Rattle.circus_program.specs.declared.answer.Asked.{Asked}
+use Rattle.circus_program.specs.declared.answer.Asked.TheVariants.{OneFile as OfFile, TwoFiles}
 
 -- what is due of a plan
 abbrev pub IsDueOfTask : Task → Plan → Due → Type 0
@@ -39,6 +39,6 @@ file_form (OfPlan (Settle deliveries)) file = settle file deliveries
 file_form (OfPlan (Node name turns)) file = node file name.now turns
 
 -- the form with its files
-abbrev pub built_form : Built → CommandForm
-built_form (OfFile command file) = file_form command file.now
-built_form (Replay shown program schedule) = shown_form shown program.now schedule.now
+abbrev pub asked_form : Asked → CommandForm
+asked_form (OfFile command file) = file_form command file.now
+asked_form (TwoFiles second program file) = second_form second program.now file.now
