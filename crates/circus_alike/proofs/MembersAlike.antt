@@ -20,10 +20,10 @@ use Rattle.circus_member_rules.specs.declared.place.Beginning.{Beginning}
 use Rattle.circus_member_rules.specs.declared.place.Beginning.TheVariants.{Founder, Spare}
 use Rattle.circus_member_rules.specs.declared.occurrence.Occurrence.{Occurrence}
 use Rattle.circus_member_rules.specs.declared.occurrence.Occurrence.TheVariants as comes
-use Rattle.circus_member_rules.specs.MemberState.{MemberState, Doing, adding}
+use Rattle.circus_member_rules.specs.MemberState.{MemberState, Doing, add_effects}
 use Rattle.circus_member_rules.specs.Rules as rules
 use Rattle.circus_member_rules.specs.Step as step
-use Rattle.circus_member_rules.specs.Step.{starting}
+use Rattle.circus_member_rules.specs.Step.{start_runs}
 use Rattle.circus_alike.specs.Alike.{declared_of, turn_of, first_of, member_as, doing_as}
 
 module _ {M : Type 0} (declared : M → Signature) (turn : M → List ValueTree → ℕ → List ValueTree → List Outcome → NextTurn) (first : M → List ValueTree) where
@@ -60,7 +60,7 @@ module _ {M : Type 0} (declared : M → Signature) (turn : M → List ValueTree 
 
   -- those that asked for its state are given it
   abbrev with_states_given : {X : Type 0} → Doing X → Doing X
-  with_states_given x = adding (record x { member = record x.member { requests = [] } }) (rules.snapshots_owed x.member.performing.kept x.member.requests)
+  with_states_given x = add_effects (record x { member = record x.member { requests = [] } }) (rules.snapshots_owed x.member.performing.kept x.member.requests)
 
   given_states_as : (d : Doing M) → seen (step.given_states d) ≡ step.given_states (seen d)
   given_states_as d = by_test (step.is_idle d.member.performing.kept) (with_states_given d) d (with_states_given (seen d)) (seen d) refl refl
@@ -68,34 +68,34 @@ module _ {M : Type 0} (declared : M → Signature) (turn : M → List ValueTree 
   answered_open_as : (at : ℕ) (d : Doing M) → seen (step.answered_open turn at d) ≡ step.answered_open turn_of at (seen d)
   answered_open_as at d =
       by_option (step.value_of_open d.member) (step.answered_by turn at d) (step.answered_by turn_of at (seen d)) d (seen d)
-      (λ reply. after_turns_as (step.with_record d (performing.answered (turn d.member.performing.hosted) d.member.performing.began at reply.outcome reply.clock d.member.performing.kept)))
+      (λ reply. after_turns_as (step.with_record d (performing.answer_open_ask (turn d.member.performing.hosted) d.member.performing.began at reply.outcome reply.clock d.member.performing.kept)))
       refl
 
-  pub entered_as : (at : ℕ) (d : Doing M) (start : RunStart) → seen (step.entered turn at d start) ≡ step.entered turn_of at (seen d) start
+  pub entered_as : (at : ℕ) (d : Doing M) (start : RunStart) → seen (step.enter_run_of turn at d start) ≡ step.enter_run_of turn_of at (seen d) start
   entered_as at d start =
       let p = d.member.performing in
-      after_turns_as (step.with_record (record d { member = record d.member { gathered = gathering.with_start d.member.gathered p.kept.count } }) (performing.entered (turn p.hosted) at start p.kept))
+      after_turns_as (step.with_record (record d { member = record d.member { gathered = gathering.with_start d.member.gathered p.kept.count } }) (performing.enter_run (turn p.hosted) at start p.kept))
 
-  starting_as : (at left : ℕ) (d : Doing M) → seen (starting declared turn at left d) ≡ starting declared_of turn_of at left (seen d)
-  unfolding starting
+  starting_as : (at left : ℕ) (d : Doing M) → seen (start_runs declared turn at left d) ≡ start_runs declared_of turn_of at left (seen d)
+  unfolding start_runs
   starting_as at zero d = given_states_as d
   starting_as at (suc left) d =
       let e : Doing M = step.given_states d in
       let then_more : Doing Behaviour → Doing Behaviour = λ x.
-      option_map_or (λ call. starting declared_of turn_of at left (step.entered turn_of at x (step.start_of_call declared_of turn_of x.member call))) (step.next_start x.member) x in
+      option_map_or (λ call. start_runs declared_of turn_of at left (step.enter_run_of turn_of at x (step.start_of_call declared_of turn_of x.member call))) (step.next_start x.member) x in
       by_option (step.next_start e.member)
-      (λ call. starting declared turn at left (step.entered turn at e (step.start_of_call declared turn e.member call)))
-      (λ call. starting declared_of turn_of at left (step.entered turn_of at (seen e) (step.start_of_call declared_of turn_of (seen e).member call))) e (seen e)
-      (λ call. starting_as at left (step.entered turn at e (step.start_of_call declared turn e.member call))
-      ∙ ap (starting declared_of turn_of at left) (entered_as at e (step.start_of_call declared turn e.member call)))
+      (λ call. start_runs declared turn at left (step.enter_run_of turn at e (step.start_of_call declared turn e.member call)))
+      (λ call. start_runs declared_of turn_of at left (step.enter_run_of turn_of at (seen e) (step.start_of_call declared_of turn_of (seen e).member call))) e (seen e)
+      (λ call. starting_as at left (step.enter_run_of turn at e (step.start_of_call declared turn e.member call))
+      ∙ ap (start_runs declared_of turn_of at left) (entered_as at e (step.start_of_call declared turn e.member call)))
       refl
       ∙ ap then_more (given_states_as d)
 
-  executed_as : (at : ℕ) (d : Doing M) → seen (step.executed declared turn at d) ≡ step.executed declared_of turn_of at (seen d)
+  executed_as : (at : ℕ) (d : Doing M) → seen (step.execute declared turn at d) ≡ step.execute declared_of turn_of at (seen d)
   executed_as at d =
       let e : Doing M = step.answered_open turn at d in
       starting_as at (length e.member.gathered.held) e
-      ∙ ap (λ (x : Doing Behaviour). starting declared_of turn_of at (length x.member.gathered.held) x) (answered_open_as at d)
+      ∙ ap (λ (x : Doing Behaviour). start_runs declared_of turn_of at (length x.member.gathered.held) x) (answered_open_as at d)
 
   -- ---- a step
 
@@ -107,12 +107,12 @@ module _ {M : Type 0} (declared : M → Signature) (turn : M → List ValueTree 
         effects = rules.active_call x.place x.known count ++ rules.before_answers x.gathered count;
       }
 
-  restored_as : (at : ℕ) (m : MemberState M) (state : List ValueTree) (count : ℕ) → seen (step.restored at m state count) ≡ step.restored at (member_as declared turn first m) state count
+  restored_as : (at : ℕ) (m : MemberState M) (state : List ValueTree) (count : ℕ) → seen (step.handle_state at m state count) ≡ step.handle_state at (member_as declared turn first m) state count
   restored_as at m state count =
       by_test (is_fetching m.performing.kept.phase) (with_state at state count m) (record { member = m; effects = [] })
       (with_state at state count (member_as declared turn first m)) (record { member = member_as declared turn first m; effects = [] }) refl refl
 
-  handled_as : (at : ℕ) (o : Occurrence) (m : MemberState M) → seen (step.handled at o m) ≡ step.handled at o (member_as declared turn first m)
+  handled_as : (at : ℕ) (o : Occurrence) (m : MemberState M) → seen (step.handle at o m) ≡ step.handle at o (member_as declared turn first m)
   handled_as at (comes.Asked header body sender) m = refl
   handled_as at (comes.Fetched incarnation sender) m = refl
   handled_as at (comes.Replied name from reply) m = refl
@@ -123,10 +123,10 @@ module _ {M : Type 0} (declared : M → Signature) (turn : M → List ValueTree 
   handled_as at (comes.Declared node) m = refl
   handled_as at comes.Joins m = refl
 
-  pub stepped_as : (at : ℕ) (o : Occurrence) (m : MemberState M) → seen (step.stepped declared turn at o m) ≡ step.stepped declared_of turn_of at o (member_as declared turn first m)
+  pub stepped_as : (at : ℕ) (o : Occurrence) (m : MemberState M) → seen (step.step_member declared turn at o m) ≡ step.step_member declared_of turn_of at o (member_as declared turn first m)
   stepped_as at o m =
-      ap (λ (d : Doing Behaviour). step.looked_up (step.closed d))
-      (executed_as at (step.handled at o m) ∙ ap (step.executed declared_of turn_of at) (handled_as at o m))
+      ap (λ (d : Doing Behaviour). step.look_up (step.keep_ask_open d))
+      (executed_as at (step.handle at o m) ∙ ap (step.execute declared_of turn_of at) (handled_as at o m))
 
   pub difference_as : (o : Occurrence) (m : MemberState M) → step.difference o (member_as declared turn first m) ≡ step.difference o m
   difference_as (comes.Asked header body sender) m = refl
@@ -142,10 +142,10 @@ module _ {M : Type 0} (declared : M → Signature) (turn : M → List ValueTree 
   -- ---- at boot
 
   pub booted_as : (place : Place) (views : List View) (beginning : Beginning) (hosted : M)
-      → seen (step.booted declared turn first place views beginning hosted)
-      ≡ step.booted declared_of turn_of first_of place views beginning (behaviour declared turn first hosted)
+      → seen (step.boot_member declared turn first place views beginning hosted)
+      ≡ step.boot_member declared_of turn_of first_of place views beginning (behaviour declared turn first hosted)
   booted_as place views Founder hosted =
       let d : Doing M = record { member = step.before_any declared turn place views (performing.founder hosted (first hosted)); effects = [] } in
       let start = step.main_start place.troupe views in
-      by_test (declared hosted).root (step.entered turn 0 d start) d (step.entered turn_of 0 (seen d) start) (seen d) (entered_as 0 d start) refl
+      by_test (declared hosted).root (step.enter_run_of turn 0 d start) d (step.enter_run_of turn_of 0 (seen d) start) (seen d) (entered_as 0 d start) refl
   booted_as place views Spare hosted = refl

@@ -72,7 +72,7 @@ module _ {M : Type 0} (declared : M → Signature) (turn : M → List ValueTree 
   return_as d s m from for.Fetch message = refl
 
   accepted_as : (d : Deployment) (s : Signature) (m : MemberState M) (from : ℕ) (heard : Heard Purpose)
-      → accepting.accepted d s (mem m) from heard ≡ accepting.accepted d s m from heard
+      → accepting.occurrence_of_heard d s (mem m) from heard ≡ accepting.occurrence_of_heard d s m from heard
   accepted_as d s m from Dropped = refl
   accepted_as d s m from Taken = refl
   accepted_as d s m from (Called sender message) = refl
@@ -85,16 +85,16 @@ module _ {M : Type 0} (declared : M → Signature) (turn : M → List ValueTree 
   happens_as at m o =
       let made : Doing Behaviour → Option _ → Made Behaviour = λ d differs. record { acting = member d.member; came = consequences d.effects (option_to_list differs) } in
       ap (λ d. made d (member_step.difference o m)) (stepped_as declared turn first at o m)
-      ∙ sym (ap (made (member_step.stepped declared_of turn_of at o (mem m))) (difference_as declared turn first o m))
+      ∙ sym (ap (made (member_step.step_member declared_of turn_of at o (mem m))) (difference_as declared turn first o m))
 
   arrives_at_member_as : (d : Deployment) (at from : ℕ) (heard : Heard Purpose) (m : MemberState M)
       → made_as declared turn first (making.arrives_at_member declared turn d at from heard m) ≡ making.arrives_at_member declared_of turn_of d at from heard (mem m)
   arrives_at_member_as d at from heard m =
-      by_option (accepting.accepted d (declared m.performing.hosted) m from heard)
-      ∙ sym (ap (λ o. option_map_or (making.happens declared_of turn_of at (mem m)) o (making.refused (member (mem m)))) (accepted_as d (declared m.performing.hosted) m from heard))
+      by_option (accepting.occurrence_of_heard d (declared m.performing.hosted) m from heard)
+      ∙ sym (ap (λ o. option_map_or (making.happens declared_of turn_of at (mem m)) o (making.refuse (member (mem m)))) (accepted_as d (declared m.performing.hosted) m from heard))
     where
-      by_option : (o : Option Occurrence) → made_as declared turn first (option_map_or (making.happens declared turn at m) o (making.refused (member m)))
-          ≡ option_map_or (making.happens declared_of turn_of at (mem m)) o (making.refused (member (mem m)))
+      by_option : (o : Option Occurrence) → made_as declared turn first (option_map_or (making.happens declared turn at m) o (making.refuse (member m)))
+          ≡ option_map_or (making.happens declared_of turn_of at (mem m)) o (making.refuse (member (mem m)))
       by_option None = refl
       by_option (Some o) = happens_as at m o
 
@@ -121,33 +121,33 @@ module _ {M : Type 0} (declared : M → Signature) (turn : M → List ValueTree 
   -- ---- a step
 
   concluded_as : (n : NodeState M) (gives : List Give) (came : _)
-      → ended_as declared turn first (step.concluded n gives came) ≡ step.concluded (node_as declared turn first n) gives came
+      → ended_as declared turn first (step.conclude_step n gives came) ≡ step.conclude_step (node_as declared turn first n) gives came
   concluded_as n gives came = by_sending (all_handed (sent n.wire gives) came.effects)
     where
-      by_sending : (s : Sending) → ended_as declared turn first (step.ended n came s) ≡ step.ended (node_as declared turn first n) came s
+      by_sending : (s : Sending) → ended_as declared turn first (step.end_step n came s) ≡ step.end_step (node_as declared turn first n) came s
       by_sending (sent w given) = refl
       by_sending (spent node) = refl
 
   pub node_stepped_as : (at : ℕ) (event : Event) (n : NodeState M)
-      → ended_as declared turn first (step.stepped declared turn at event n) ≡ step.stepped declared_of turn_of at event (node_as declared turn first n)
+      → ended_as declared turn first (step.step_node declared turn at event n) ≡ step.step_node declared_of turn_of at event (node_as declared turn first n)
   node_stepped_as at (Datagram from bytes) n =
       let segment = reading bytes in
       let heard = heard_from n.wire from segment in
       let end : Made Behaviour → Ended Behaviour = λ made.
-      step.concluded (record { deployment = n.deployment; wire = after_datagram n.wire from segment; acting = made.acting; dropped = n.dropped }) (gives_of (sent_by_datagram n.wire from segment)) made.came in
+      step.conclude_step (record { deployment = n.deployment; wire = after_datagram n.wire from segment; acting = made.acting; dropped = n.dropped }) (gives_of (sent_by_datagram n.wire from segment)) made.came in
       let made = making.hears declared turn n.deployment at from heard n.acting in
       concluded_as (record n { wire = after_datagram n.wire from segment; acting = made.acting }) (gives_of (sent_by_datagram n.wire from segment)) made.came
       ∙ ap end (hears_as n.deployment at from heard n.acting)
   node_stepped_as at Tick n = refl
   node_stepped_as at (Down node) n =
       let end : Made Behaviour → Ended Behaviour = λ made.
-      step.concluded (record { deployment = n.deployment; wire = stopped_at n.wire node; acting = made.acting; dropped = n.dropped }) [] made.came in
+      step.conclude_step (record { deployment = n.deployment; wire = stopped_at n.wire node; acting = made.acting; dropped = n.dropped }) [] made.came in
       let made = making.learns_down declared turn at node n.acting in
       concluded_as (record n { wire = stopped_at n.wire node; acting = made.acting }) [] made.came
       ∙ ap end (learns_down_as at node n.acting)
   node_stepped_as at Join n =
       let end : Made Behaviour → Ended Behaviour = λ made.
-      step.concluded (record { deployment = n.deployment; wire = n.wire; acting = made.acting; dropped = n.dropped }) [] made.came in
+      step.conclude_step (record { deployment = n.deployment; wire = n.wire; acting = made.acting; dropped = n.dropped }) [] made.came in
       let made = making.is_told_to_join declared turn at n.acting in
       concluded_as (record n { acting = made.acting }) [] made.came
       ∙ ap end (joins_as at n.acting)
@@ -164,11 +164,11 @@ module _ {M : Type 0} (declared : M → Signature) (turn : M → List ValueTree 
   made_at_boot_as d None hosted = refl
 
   pub node_booted_as : (d : Deployment) (hosted : Option M) (node : ℕ)
-      → ended_as declared turn first (booting.booted declared turn first d hosted node)
-      ≡ booting.booted declared_of turn_of first_of d (option_map (behaviour declared turn first) hosted) node
+      → ended_as declared turn first (booting.boot_node declared turn first d hosted node)
+      ≡ booting.boot_node declared_of turn_of first_of d (option_map (behaviour declared turn first) hosted) node
   node_booted_as d hosted node =
       let made = booting.made_at_boot declared turn first d (booting.home_of d node) hosted in
       let end : Made Behaviour → Ended Behaviour = λ m.
-      step.concluded (record { deployment = d; wire = booting.fresh_wire d node; acting = m.acting; dropped = 0 }) [] m.came in
+      step.conclude_step (record { deployment = d; wire = booting.fresh_wire d node; acting = m.acting; dropped = 0 }) [] m.came in
       concluded_as (record { deployment = d; wire = booting.fresh_wire d node; acting = made.acting; dropped = 0 }) [] made.came
       ∙ ap end (made_at_boot_as d (booting.home_of d node) hosted)

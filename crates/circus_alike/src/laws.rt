@@ -4,8 +4,8 @@ ghost use Rattle.circus_collate.specs.declared.deployment.Deployment.{Deployment
 ghost use Rattle.circus_performing.specs.Record.{behaviour};
 ghost use Rattle.circus_node.specs.declared.event.Event.{Event as Comes};
 ghost use Rattle.circus_node.specs.NodeState.{NodeState};
-ghost use Rattle.circus_node.specs.Booting.{booted};
-ghost use Rattle.circus_node.specs.Step.{stepped};
+ghost use Rattle.circus_node.specs.Booting.{boot_node};
+ghost use Rattle.circus_node.specs.Step.{step_node};
 ghost use Rattle.circus_alike.specs.Alike.{declared_of, turn_of, first_of, node_as, ended_as};
 
 use circus_model::Module;
@@ -14,14 +14,14 @@ use circus_model::Module;
 /// modules do the same can't be told apart.
 pub fn steps_depend_on_behaviours<M: Module>()
     ensures { (at : ℕ) (event : Comes) (n : NodeState M)
-        → ended_as M.declared M.turn M.first (stepped M.declared M.turn at event n)
-        ≡ stepped declared_of turn_of at event (node_as M.declared M.turn M.first n) }
+        → ended_as M.declared M.turn M.first (step_node M.declared M.turn at event n)
+        ≡ step_node declared_of turn_of at event (node_as M.declared M.turn M.first n) }
 {}
 
 /// So does its boot.
 pub fn boots_depend_on_behaviours<M: Module>()
     ensures { (d : Deployed) (hosted : Option M) (node : ℕ)
-        → ended_as M.declared M.turn M.first (booted M.declared M.turn M.first d hosted node)
-        ≡ booted declared_of turn_of first_of d
+        → ended_as M.declared M.turn M.first (boot_node M.declared M.turn M.first d hosted node)
+        ≡ boot_node declared_of turn_of first_of d
         (option_map (behaviour M.declared M.turn M.first) hosted) node }
 {}

@@ -5,14 +5,14 @@ use Rattle.circus_limits.specs.Limits.{limit_of}
 use Rattle.circus_model.specs.declared.signature.Signature.{Signature}
 use Rattle.circus_check.specs.declared.checked.ResolvedModule.{ResolvedModule}
 use Rattle.circus_check.specs.Seen.Meant.{module_as}
-use Rattle.circus_modules.specs.Signatures.{implemented, signature_of}
+use Rattle.circus_modules.specs.Signatures.{interface_numbers, signature_of}
 use Rattle.circus_node.specs.Accepting.{troupe_at}
 use Rattle.circus_config.specs.declared.plan.Plan.{Plan}
 use Rattle.circus_audit.specs.Possible.{declared_by}
 use Rattle.circus_audit.specs.declared.setting.Hosted.{Hosted}
 use Rattle.circus_audit.specs.Seen.Reading.{hosted_by}
 
-numbers_are : (modules : List ResolvedModule) → implemented (map module_as modules) ≡ map (λ (m : ResolvedModule). m.interface) modules
+numbers_are : (modules : List ResolvedModule) → interface_numbers (map module_as modules) ≡ map (λ (m : ResolvedModule). m.interface) modules
 numbers_are [] = refl
 numbers_are (m ∷ modules) = ap (λ ns. m.interface ∷ ns) (numbers_are modules)
 

@@ -4,7 +4,7 @@ use Rattle.std.specs.List.{AllByRecursion}
 use Rattle.std.specs.Fmt.{decimal}
 use Rattle.std.proofs.lemmas.Bool.{eqb-true, ltb-true}
 use Rattle.circus_value.specs.ThreadText.{clock_text}
-use Rattle.circus_value_text.specs.Reading.{Read, and_then, passed, behind, number_read}
+use Rattle.circus_value_text.specs.Reading.{Read, and_then, behind_prefix, behind, number_read}
 use Rattle.circus_value_text.specs.WordReading.{counts_read}
 use Rattle.circus_value_text.proofs.Marks.{pair_is, passed_stands, behind_some, and_then_some}
 use Rattle.circus_value_text.proofs.Numbers.{number_sound}
@@ -16,9 +16,9 @@ abbrev pub Sounds : {A : Type 0} → (List ℕ → Read A) → (A → List ℕ) 
 Sounds {A} f t P = (text : List ℕ) (a : A) (rest : List ℕ) → f text ≡ Some (a, rest) → (text ≡ t a ++ rest) × P a
 
 -- behind a mark
-pub behind_sound : {A : Type 0} (mark : List ℕ) (f : List ℕ → Read A) (t : A → List ℕ) (P : A → Type 0) → Sounds f t P → Sounds (λ text. behind (passed mark text) f) (λ a. mark ++ t a) P
+pub behind_sound : {A : Type 0} (mark : List ℕ) (f : List ℕ → Read A) (t : A → List ℕ) (P : A → Type 0) → Sounds f t P → Sounds (λ text. behind (behind_prefix mark text) f) (λ a. mark ++ t a) P
 behind_sound mark f t P sound text a rest is =
-    let opened = behind_some (passed mark text) f (a, rest) is in
+    let opened = behind_some (behind_prefix mark text) f (a, rest) is in
     let inner = sound opened.0 a rest opened.2 in
     (passed_stands mark text opened.0 opened.1 ∙ ap (λ x. mark ++ x) inner.0 ∙ sym (append_assoc mark (t a) rest), inner.1)
 

@@ -11,7 +11,7 @@ use Rattle.circus_config.specs.declared.plan.Plan.{Plan}
 use Rattle.circus_node.specs.declared.event.Event.{Event}
 use Rattle.circus_node.specs.declared.event.Event.TheVariants.{Datagram, Tick, Down, Join}
 use Rattle.circus_node.specs.declared.event.Give.{Give}
-use Rattle.circus_value_text.specs.Reading.{Read, passed, number_read}
+use Rattle.circus_value_text.specs.Reading.{Read, behind_prefix, number_read}
 use Rattle.circus_value_text.specs.WordReading.{bytes_of}
 use Rattle.circus_value_text.proofs.Marks.{pair_is, passed_stands, and_then_some}
 use Rattle.circus_value_text.proofs.Numbers.{number_sound}
@@ -51,7 +51,7 @@ other_sound nodes own text n rest is =
 
 addressed_by_sound : (node : ℕ) (text : List ℕ) (r : ℕ × List ℕ) → addressed_by node text ≡ Some r → (text ≡ codes " " ++ encode_lower r.1) × (r.0 ≡ node) × AreBytes r.1
 addressed_by_sound node text r is =
-    let opened = from_is (passed (codes " ") text) (λ inner. option_map (λ bytes. (node, bytes)) (bytes_of inner)) r is in
+    let opened = from_is (behind_prefix (codes " ") text) (λ inner. option_map (λ bytes. (node, bytes)) (bytes_of inner)) r is in
     let made = map_is (λ bytes. (node, bytes)) (bytes_of opened.0) r opened.2 in
     let bytes = bytes_sound opened.0 made.0 made.1 in (
       passed_stands (codes " ") text opened.0 opened.1 ∙ ap (λ x. codes " " ++ x) bytes.0 ∙ ap (λ (p : ℕ × List ℕ). codes " " ++ encode_lower p.1) made.2,
@@ -79,8 +79,8 @@ differing_of run ask replies = record { run = run; ask = ask; replies = replies 
 
 pub differing_sound : (text : List ℕ) (d : Differing) → differing_read text ≡ Some d → (text ≡ decimal d.run ++ (codes " ask " ++ (decimal d.ask ++ d.replies))) × (d.run < 2 ^ 32) × (d.ask < 2 ^ 32)
 differing_sound text d is =
-    let x = found_is (number_read 4294967295 text) (λ run rest. from_some (passed (codes " ask ") rest) (λ inner. found (number_read 4294967295 inner) (λ ask replies. Some (differing_of run ask replies)))) d is in
-    let opened = from_is (passed (codes " ask ") x.0.1) (λ inner. found (number_read 4294967295 inner) (λ ask replies. Some (differing_of x.0.0 ask replies))) d x.2 in
+    let x = found_is (number_read 4294967295 text) (λ run rest. from_some (behind_prefix (codes " ask ") rest) (λ inner. found (number_read 4294967295 inner) (λ ask replies. Some (differing_of run ask replies)))) d is in
+    let opened = from_is (behind_prefix (codes " ask ") x.0.1) (λ inner. found (number_read 4294967295 inner) (λ ask replies. Some (differing_of x.0.0 ask replies))) d x.2 in
     let y = found_is (number_read 4294967295 opened.0) (λ ask replies. Some (differing_of x.0.0 ask replies)) d opened.2 in
     let made : differing_of x.0.0 y.0.0 y.0.1 ≡ d = cc (y.2) in
     let run = number_sound 4294967295 x.0.0 text x.0.1 (omega arith) x.1 in
@@ -105,16 +105,16 @@ module _ (plan : Plan) (own : ℕ) where
 
   pub what_sound : (text : List ℕ) (event : Option Event) → what_read (node_names plan) own text ≡ Some event → (text ≡ what_came (spelled plan) event) × CanCome plan own event
   what_sound text event is =
-      elim (or_is (passed (codes "datagram ") text) (λ inner. option_map (λ e. Some e) (datagram_read (node_names plan) own inner)) (or_else (passed (codes "down ") text) (λ inner. option_map (λ e. Some e) (down_read (node_names plan) own inner)) (bare_event text)) event is) [
+      elim (or_is (behind_prefix (codes "datagram ") text) (λ inner. option_map (λ e. Some e) (datagram_read (node_names plan) own inner)) (or_else (behind_prefix (codes "down ") text) (λ inner. option_map (λ e. Some e) (down_read (node_names plan) own inner)) (bare_event text)) event is) [
         | inl d ↦ datagram d.0 d.1 d.2
         | inr o ↦
-            elim (or_is (passed (codes "down ") text) (λ inner. option_map (λ e. Some e) (down_read (node_names plan) own inner)) (bare_event text) event o.1) [
+            elim (or_is (behind_prefix (codes "down ") text) (λ inner. option_map (λ e. Some e) (down_read (node_names plan) own inner)) (bare_event text) event o.1) [
               | inl d ↦ down d.0 d.1 d.2
               | inr b ↦ bare (bytes_eq text (codes "tick")) (bytes_eq text (codes "join")) (bytes_eq text (codes "boot")) refl refl refl b.1
             ]
       ]
     where
-      datagram : (inner : List ℕ) → passed (codes "datagram ") text ≡ Some inner → option_map (λ (e : Event). Some e) (datagram_read (node_names plan) own inner) ≡ Some event → (text ≡ what_came (spelled plan) event) × CanCome plan own event
+      datagram : (inner : List ℕ) → behind_prefix (codes "datagram ") text ≡ Some inner → option_map (λ (e : Event). Some e) (datagram_read (node_names plan) own inner) ≡ Some event → (text ≡ what_came (spelled plan) event) × CanCome plan own event
       datagram inner mark is =
           let made = map_is (λ (e : Event). Some e) (datagram_read (node_names plan) own inner) event is in
           let built = map_is (λ (r : ℕ × List ℕ). Datagram r.0 r.1) (addressed (node_names plan) own inner) made.0 made.1 in
@@ -124,7 +124,7 @@ module _ (plan : Plan) (own : ℕ) where
             subst (CanCome plan own) same (other_is built.0.0 a.1, a.2),
           )
 
-      down : (inner : List ℕ) → passed (codes "down ") text ≡ Some inner → option_map (λ (e : Event). Some e) (down_read (node_names plan) own inner) ≡ Some event → (text ≡ what_came (spelled plan) event) × CanCome plan own event
+      down : (inner : List ℕ) → behind_prefix (codes "down ") text ≡ Some inner → option_map (λ (e : Event). Some e) (down_read (node_names plan) own inner) ≡ Some event → (text ≡ what_came (spelled plan) event) × CanCome plan own event
       down inner mark is =
           let made = map_is (λ (e : Event). Some e) (down_read (node_names plan) own inner) event is in
           let built = map_is (λ (n : ℕ). Down n) (whole (other own (named (node_names plan) inner))) made.0 made.1 in
@@ -150,9 +150,9 @@ module _ (plan : Plan) (own : ℕ) where
 
   pub event_sound : (number : ℕ) (text : List ℕ) (event : Option Event) → event_read (node_names plan) own number text ≡ Some event → (text ≡ decimal number ++ (codes " " ++ what_came (spelled plan) event)) × CanCome plan own event × (number < 2 ^ 32)
   event_sound number text event is =
-      let x = found_is (number_read 4294967295 text) (λ n rest. only_if (nat_eq n number) (from_some (passed (codes " ") rest) (what_read (node_names plan) own))) event is in
-      let test = only_is (nat_eq x.0.0 number) (from_some (passed (codes " ") x.0.1) (what_read (node_names plan) own)) event x.2 in
-      let opened = from_is (passed (codes " ") x.0.1) (what_read (node_names plan) own) event test.1 in
+      let x = found_is (number_read 4294967295 text) (λ n rest. only_if (nat_eq n number) (from_some (behind_prefix (codes " ") rest) (what_read (node_names plan) own))) event is in
+      let test = only_is (nat_eq x.0.0 number) (from_some (behind_prefix (codes " ") x.0.1) (what_read (node_names plan) own)) event x.2 in
+      let opened = from_is (behind_prefix (codes " ") x.0.1) (what_read (node_names plan) own) event test.1 in
       let what = what_sound opened.0 event opened.2 in
       let digits = number_sound 4294967295 x.0.0 text x.0.1 (omega arith) x.1 in
       let same = eqb-true x.0.0 number test.0 in

@@ -10,7 +10,7 @@ use Rattle.circus_record.specs.Naming.{Names}
 use Rattle.circus_node.specs.declared.event.Give.{Give}
 use Rattle.circus_node_text.specs.NodeText.{event_line, give_line}
 use Rattle.circus_config.specs.declared.plan.Plan.{Plan}
-use Rattle.circus_value_text.specs.Reading.{passed}
+use Rattle.circus_value_text.specs.Reading.{behind_prefix}
 use Rattle.circus_value_text.proofs.Marks.{passed_stands}
 use Rattle.circus_audit.specs.Possible.{CanCome, CanBeGiven}
 use Rattle.circus_audit.specs.RecordText.{Stray, what_came, stray_line, IsStray}
@@ -301,26 +301,26 @@ module _ (plan : Plan) (own : ℕ) where
 
   -- ---- by any line
 
-  row_of : {B : Type 0} (P : B → List ℕ → Type 0) (mark row inner text : List ℕ) (next : B) → passed mark row ≡ Some inner → P next (text ++ line (mark ++ inner)) → P next (text ++ line row)
+  row_of : {B : Type 0} (P : B → List ℕ → Type 0) (mark row inner text : List ℕ) (next : B) → behind_prefix mark row ≡ Some inner → P next (text ++ line (mark ++ inner)) → P next (text ++ line row)
   row_of P mark row inner text next is = subst (λ x. P next (text ++ line x)) (sym (passed_stands mark row inner is))
 
   -- a line that is read is the next one of what happened
   pub happened_sound : (h : Happened) (row text : List ℕ) (next : Happened) → happened_after (node_names plan) own h row ≡ Some next → Happens h text → Happens next (text ++ line row)
   happened_sound h row text next is happens =
-      elim (or_is (passed (codes "event ") row) (event_added (node_names plan) own h) (or_else (passed (codes "give ") row) (give_added (node_names plan) own h) (or_else (passed (codes "differ run ") row) (differing_added h) (from_some (passed (codes "foreign ") row) (foreign_passed h)))) next is) [
+      elim (or_is (behind_prefix (codes "event ") row) (event_added (node_names plan) own h) (or_else (behind_prefix (codes "give ") row) (give_added (node_names plan) own h) (or_else (behind_prefix (codes "differ run ") row) (differing_added h) (from_some (behind_prefix (codes "foreign ") row) (foreign_passed h)))) next is) [
         | inl e ↦ row_of Happens (codes "event ") row e.0 text next e.1 (event_step h e.0 text next e.2 happens)
         | inr o ↦
-            elim (or_is (passed (codes "give ") row) (give_added (node_names plan) own h) (or_else (passed (codes "differ run ") row) (differing_added h) (from_some (passed (codes "foreign ") row) (foreign_passed h))) next o.1) [
+            elim (or_is (behind_prefix (codes "give ") row) (give_added (node_names plan) own h) (or_else (behind_prefix (codes "differ run ") row) (differing_added h) (from_some (behind_prefix (codes "foreign ") row) (foreign_passed h))) next o.1) [
               | inl g ↦ row_of Happens (codes "give ") row g.0 text next g.1 (give_step h g.0 text next g.2 happens)
               | inr p ↦
-                  elim (or_is (passed (codes "differ run ") row) (differing_added h) (from_some (passed (codes "foreign ") row) (foreign_passed h)) next p.1) [
+                  elim (or_is (behind_prefix (codes "differ run ") row) (differing_added h) (from_some (behind_prefix (codes "foreign ") row) (foreign_passed h)) next p.1) [
                     | inl d ↦ row_of Happens (codes "differ run ") row d.0 text next d.1 (differing_step h d.0 text next d.2 happens)
                     | inr q ↦ foreign q.1
                   ]
             ]
       ]
     where
-      foreign : from_some (passed (codes "foreign ") row) (foreign_passed h) ≡ Some next → Happens next (text ++ line row)
+      foreign : from_some (behind_prefix (codes "foreign ") row) (foreign_passed h) ≡ Some next → Happens next (text ++ line row)
       foreign read =
-          let opened = from_is (passed (codes "foreign ") row) (foreign_passed h) next read in
+          let opened = from_is (behind_prefix (codes "foreign ") row) (foreign_passed h) next read in
           row_of Happens (codes "foreign ") row opened.0 text next opened.1 (foreign_step h opened.0 text next opened.2 happens)

@@ -7,7 +7,7 @@ use Rattle.std.proofs.lemmas.Option.{unwrap_or-slice_get}
 use Rattle.std.proofs.lemmas.List.Quantifiers.{position-Some}
 use Rattle.std.proofs.lemmas.Slice.Eq.{bytes_eq-Decides}
 use Rattle.circus_value.specs.ThreadText.{clock_text}
-use Rattle.circus_value_text.specs.Reading.{Read, and_then, meant}
+use Rattle.circus_value_text.specs.Reading.{Read, and_then, read_meaning}
 use Rattle.circus_value_text.proofs.Marks.{pair_is, and_then_some}
 use Rattle.circus_audit.specs.declared.member_line.Phase.{Phase}
 use Rattle.circus_audit.specs.declared.member_line.Phase.TheVariants.{Apart, Active}
@@ -66,7 +66,7 @@ place_is names name n is =
     let same : get_or names n [] ≡ name = (bytes_eq-Decides (get_or names n []) name).0 at.1 in
     (at.0, unwrap_or-slice_get names n [] ∙ same)
 
-meant_some : {A : Type 0} (r : Option A) (later : List ℕ) (a : A) (rest : List ℕ) → meant r later ≡ Some (a, rest) → (r ≡ Some a) × (later ≡ rest)
+meant_some : {A : Type 0} (r : Option A) (later : List ℕ) (a : A) (rest : List ℕ) → read_meaning r later ≡ Some (a, rest) → (r ≡ Some a) × (later ≡ rest)
 meant_some (Some b) later a rest is = let parts = pair_is b a later rest is in ((λ i. Some (parts.0 i)), parts.1)
 meant_some None later a rest is = cc
 

@@ -18,7 +18,7 @@ use Rattle.circus_record.specs.MemberText.{run_lines, runs_lines, waiting_text, 
 use Rattle.circus_performing.specs.Performing.{last_count}
 use Rattle.circus_performing.specs.Record.{count_after}
 use Rattle.circus_config.specs.declared.plan.Plan.{Plan}
-use Rattle.circus_value_text.specs.Reading.{passed}
+use Rattle.circus_value_text.specs.Reading.{behind_prefix}
 use Rattle.circus_value_text.proofs.Marks.{passed_stands}
 use Rattle.circus_audit.specs.Possible.{IsAnswered, IsOpen, IsStarted, IsEnded, IsActive}
 use Rattle.circus_audit.specs.declared.performed.Current.{Current}
@@ -353,26 +353,26 @@ module _ (plan : Plan) (s : Signature) (events : ℕ) where
 
   -- ---- by any line
 
-  row_is : (mark row inner text : List ℕ) → passed mark row ≡ Some inner → text ++ line (mark ++ inner) ≡ text ++ line row
+  row_is : (mark row inner text : List ℕ) → behind_prefix mark row ≡ Some inner → text ++ line (mark ++ inner) ≡ text ++ line row
   row_is mark row inner text is = ap (λ x. text ++ line x) (sym (passed_stands mark row inner is))
 
   next_sound : (p : Performed) (row text : List ℕ) (after : After) → events < 2 ^ 64 → next_read plan.names plan.deployment s events p row ≡ Some after → Acts p.from p.since p.runs Nothing text → Follows p after (text ++ line row)
   next_sound p row text after short is acts =
-      elim (or_is (passed (codes "run ") row) (run_begins plan.names plan.deployment s events (length row) p) (from_some (passed (codes "now idle") row) (idles s p)) after is) [
+      elim (or_is (behind_prefix (codes "run ") row) (run_begins plan.names plan.deployment s events (length row) p) (from_some (behind_prefix (codes "now idle") row) (idles s p)) after is) [
         | inl r ↦ runs r.0 r.1 r.2
         | inr o ↦ idle o.1
       ]
     where
-      runs : (inner : List ℕ) → passed (codes "run ") row ≡ Some inner → run_begins plan.names plan.deployment s events (length row) p inner ≡ Some after → Follows p after (text ++ line row)
+      runs : (inner : List ℕ) → behind_prefix (codes "run ") row ≡ Some inner → run_begins plan.names plan.deployment s events (length row) p inner ≡ Some after → Follows p after (text ++ line row)
       runs inner mark read =
           let at = from_is (place_behind p.from (length p.runs)) (λ place. option_map (λ run. on_with p (Run run)) (run_read plan.names plan.deployment s events (length row) place inner)) after read in
           let made = map_is (λ run. on_with p (Run run)) (run_read plan.names plan.deployment s events (length row) at.0 inner) after at.2 in
           let step = run_step p (length row) at.0 inner text made.0 short acts at.1 made.1 in
           subst (λ a. Follows p a (text ++ line row)) made.2 (subst (Acts p.from p.since p.runs (Run made.0)) (row_is (codes "run ") row inner text mark) step, refl, refl, refl)
 
-      idle : from_some (passed (codes "now idle") row) (idles s p) ≡ Some after → Follows p after (text ++ line row)
+      idle : from_some (behind_prefix (codes "now idle") row) (idles s p) ≡ Some after → Follows p after (text ++ line row)
       idle read =
-          let opened = from_is (passed (codes "now idle") row) (idles s p) after read in
+          let opened = from_is (behind_prefix (codes "now idle") row) (idles s p) after read in
           let test = only_is (nat_eq (count_after p.from (length p.runs)) p.count) (option_map (finished p.from p.since p.count p.runs) (idle_read s opened.0)) after opened.2 in
           let made = map_is (finished p.from p.since p.count p.runs) (idle_read s opened.0) after test.1 in
           let step = idle_step p opened.0 text made.0 (record { phase = joiner.Active p.from; from = p.from; active_at = p.since; count = p.count; runs = p.runs; state = made.0 }) acts (eqb-true (count_after p.from (length p.runs)) p.count test.0) made.1 refl in
@@ -380,20 +380,20 @@ module _ (plan : Plan) (s : Signature) (events : ℕ) where
 
   run_sound_on : (p : Performed) (run : RunRecord) (row text : List ℕ) (after : After) → events < 2 ^ 64 → run_goes_on plan.names s events p run row ≡ Some after → Acts p.from p.since p.runs (Run run) text → Follows p after (text ++ line row)
   run_sound_on p run row text after short is acts =
-      elim (or_is (passed (codes "ask ") row) (ask_begins plan.names s events p run) (from_some (passed (codes "end ") row) (run_ends plan.names s events p run)) after is) [
+      elim (or_is (behind_prefix (codes "ask ") row) (ask_begins plan.names s events p run) (from_some (behind_prefix (codes "end ") row) (run_ends plan.names s events p run)) after is) [
         | inl r ↦ asks r.0 r.1 r.2
         | inr o ↦ ends o.1
       ]
     where
-      asks : (inner : List ℕ) → passed (codes "ask ") row ≡ Some inner → ask_begins plan.names s events p run inner ≡ Some after → Follows p after (text ++ line row)
+      asks : (inner : List ℕ) → behind_prefix (codes "ask ") row ≡ Some inner → ask_begins plan.names s events p run inner ≡ Some after → Follows p after (text ++ line row)
       asks inner mark read =
           let made = map_is (λ ask. on_with p (Ask run ask)) (ask_read plan.names s events (length run.asks) inner) after read in
           let step = ask_step p run inner text made.0 short acts made.1 in
           subst (λ a. Follows p a (text ++ line row)) made.2 (subst (Acts p.from p.since p.runs (Ask run made.0)) (row_is (codes "ask ") row inner text mark) step, refl, refl, refl)
 
-      ends : from_some (passed (codes "end ") row) (run_ends plan.names s events p run) ≡ Some after → Follows p after (text ++ line row)
+      ends : from_some (behind_prefix (codes "end ") row) (run_ends plan.names s events p run) ≡ Some after → Follows p after (text ++ line row)
       ends read =
-          let opened = from_is (passed (codes "end ") row) (run_ends plan.names s events p run) after read in
+          let opened = from_is (behind_prefix (codes "end ") row) (run_ends plan.names s events p run) after read in
           let at = from_is (place_behind p.from (length p.runs)) (λ place. option_map (with_ended p) (end_read (length plan.names) s events place run opened.0)) after opened.2 in
           let made = map_is (with_ended p) (end_read (length plan.names) s events at.0 run opened.0) after at.2 in
           let step = end_step p run at.0 opened.0 text made.0 short acts at.1 made.1 in
@@ -401,20 +401,20 @@ module _ (plan : Plan) (s : Signature) (events : ℕ) where
 
   ask_sound_on : (p : Performed) (run : RunRecord) (ask : AskRecord) (row text : List ℕ) (after : After) → events < 2 ^ 64 → ask_goes_on plan.names s events p run ask row ≡ Some after → Acts p.from p.since p.runs (Ask run ask) text → Follows p after (text ++ line row)
   ask_sound_on p run ask row text after short is acts =
-      elim (or_is (passed (codes "reply ") row) (reply_comes plan.names s events p run ask) (from_some (passed (codes "now waiting ask ") row) (waits s p run ask)) after is) [
+      elim (or_is (behind_prefix (codes "reply ") row) (reply_comes plan.names s events p run ask) (from_some (behind_prefix (codes "now waiting ask ") row) (waits s p run ask)) after is) [
         | inl r ↦ replies r.0 r.1 r.2
         | inr o ↦ waiting o.1
       ]
     where
-      replies : (inner : List ℕ) → passed (codes "reply ") row ≡ Some inner → reply_comes plan.names s events p run ask inner ≡ Some after → Follows p after (text ++ line row)
+      replies : (inner : List ℕ) → behind_prefix (codes "reply ") row ≡ Some inner → reply_comes plan.names s events p run ask inner ≡ Some after → Follows p after (text ++ line row)
       replies inner mark read =
           let made = map_is (λ replied. on_with p (Run (with_ask run replied))) (reply_read (length plan.names) s events (length run.asks) ask inner) after read in
           let step = reply_step p run ask inner text made.0 short acts made.1 in
           subst (λ a. Follows p a (text ++ line row)) made.2 (subst (Acts p.from p.since p.runs (Run (with_ask run made.0))) (row_is (codes "reply ") row inner text mark) step, refl, refl, refl)
 
-      waiting : from_some (passed (codes "now waiting ask ") row) (waits s p run ask) ≡ Some after → Follows p after (text ++ line row)
+      waiting : from_some (behind_prefix (codes "now waiting ask ") row) (waits s p run ask) ≡ Some after → Follows p after (text ++ line row)
       waiting read =
-          let opened = from_is (passed (codes "now waiting ask ") row) (waits s p run ask) after read in
+          let opened = from_is (behind_prefix (codes "now waiting ask ") row) (waits s p run ask) after read in
           let at = from_is (place_behind p.from (length p.runs)) (λ place. only_if (nat_eq place p.count) (option_map (finished p.from p.since p.count (p.runs ++ with_ask run ask ∷ [])) (waiting_read s (length run.asks) opened.0))) after opened.2 in
           let test = only_is (nat_eq at.0 p.count) (option_map (finished p.from p.since p.count (p.runs ++ with_ask run ask ∷ [])) (waiting_read s (length run.asks) opened.0)) after at.2 in
           let made = map_is (finished p.from p.since p.count (p.runs ++ with_ask run ask ∷ [])) (waiting_read s (length run.asks) opened.0) after test.1 in

@@ -13,7 +13,7 @@ use Rattle.circus_record.specs.Line.{line}
 use Rattle.circus_record.specs.Naming.{host_name, names_of}
 use Rattle.circus_node.specs.Accepting.{troupe_at}
 use Rattle.circus_config.specs.declared.plan.Plan.{Plan}
-use Rattle.circus_value_text.specs.Reading.{passed, behind}
+use Rattle.circus_value_text.specs.Reading.{behind_prefix, behind}
 use Rattle.circus_value_text.proofs.Marks.{passed_stands, behind_some}
 use Rattle.circus_audit.specs.Possible.{declared_by, IsKept}
 use Rattle.circus_audit.specs.RecordText.{record_text, all_noted_lines, IsRecordText}
@@ -166,8 +166,8 @@ module _ (plan : Plan) (own : ℕ) where
 
 own_sound : (plan : Plan) (row : List ℕ) (own : ℕ) → own_read plan row ≡ Some own → (row ≡ codes "circus node 1 " ++ name_at (node_names plan) own) × (own < length (node_names plan))
 own_sound plan row own is =
-    let w = whole_some (behind (passed (codes "circus node 1 ") row) (named (node_names plan))) own is in
-    let x = behind_some (passed (codes "circus node 1 ") row) (named (node_names plan)) (own, w.0) w.1 in
+    let w = whole_some (behind (behind_prefix (codes "circus node 1 ") row) (named (node_names plan))) own is in
+    let x = behind_some (behind_prefix (codes "circus node 1 ") row) (named (node_names plan)) (own, w.0) w.1 in
     let n = named_sound (node_names plan) x.0 own w.0 x.2 in
     let name = name_at (node_names plan) own in
     (passed_stands (codes "circus node 1 ") row x.0 x.1 ∙ ap (λ t. codes "circus node 1 " ++ t) (n.0 ∙ ap (λ t. name ++ t) w.2 ∙ append-nil name), n.1)

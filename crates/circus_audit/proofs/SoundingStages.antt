@@ -14,7 +14,7 @@ use Rattle.circus_record.specs.MemberText.{runs_lines, now_line, phase_lines, me
 use Rattle.circus_report.specs.ViewLines.{ringmaster_line, views_lines, view_line}
 use Rattle.circus_node.specs.Accepting.{troupe_at}
 use Rattle.circus_config.specs.declared.plan.Plan.{Plan}
-use Rattle.circus_value_text.specs.Reading.{passed}
+use Rattle.circus_value_text.specs.Reading.{behind_prefix}
 use Rattle.circus_value_text.proofs.Marks.{passed_stands}
 use Rattle.circus_audit.specs.Possible.{declared_by, IsMember, IsKept}
 use Rattle.circus_audit.specs.declared.noted.Noted.{Noted}
@@ -117,9 +117,9 @@ who_sound : (plan : Plan) (own troupe : ℕ) (text rest : List ℕ) → who_read
 who_sound plan own troupe text rest is =
     let node = name_at (node_names plan) own in
     let name = name_at plan.names troupe in
-    let a = from_is (passed node text) (λ x. from_some (passed (codes " ") x) (λ y. from_some (passed name y) (passed (codes " live ")))) rest is in
-    let b = from_is (passed (codes " ") a.0) (λ y. from_some (passed name y) (passed (codes " live "))) rest a.2 in
-    let c = from_is (passed name b.0) (passed (codes " live ")) rest b.2 in
+    let a = from_is (behind_prefix node text) (λ x. from_some (behind_prefix (codes " ") x) (λ y. from_some (behind_prefix name y) (behind_prefix (codes " live ")))) rest is in
+    let b = from_is (behind_prefix (codes " ") a.0) (λ y. from_some (behind_prefix name y) (behind_prefix (codes " live "))) rest a.2 in
+    let c = from_is (behind_prefix name b.0) (behind_prefix (codes " live ")) rest b.2 in
     ap (λ x. codes "member " ++ x) (passed_stands node text a.0 a.1 ∙ ap (λ x. node ++ x) (passed_stands (codes " ") a.0 b.0 b.1 ∙ ap (λ x. codes " " ++ x) (passed_stands name b.0 c.0 c.1 ∙ ap (λ x. name ++ x) (passed_stands (codes " live ") c.0 rest c.2))))
 
 -- ---- stages
@@ -243,7 +243,7 @@ module _ (plan : Plan) (own : ℕ) (hosted : Option Hosted) where
   ring_step notes (Some troupe) inner front next none events read = cc
   ring_step notes None inner front next none events read =
       let name = name_at (node_names plan) 0 in
-      let a = from_is (passed name inner) (λ rest. only_if (bytes_eq rest (codes " live")) (Some (with_views plan notes []))) next read in
+      let a = from_is (behind_prefix name inner) (λ rest. only_if (bytes_eq rest (codes " live")) (Some (with_views plan notes []))) next read in
       let test = only_is (bytes_eq a.0 (codes " live")) (Some (with_views plan notes [])) next a.2 in
       let same : with_views plan notes [] ≡ next = cc (test.1) in
       let stands : inner ≡ name ++ codes " live" = passed_stands name inner a.0 a.1 ∙ ap (λ x. name ++ x) (bytes_same a.0 (codes " live") test.0) in
@@ -257,7 +257,7 @@ module _ (plan : Plan) (own : ℕ) (hosted : Option Hosted) where
 
   -- ---- by any line
 
-  row_stage : (mark row inner front : List ℕ) (next : Stage) → passed mark row ≡ Some inner → IsStage next (front ++ line (mark ++ inner)) → IsStage next (front ++ line row)
+  row_stage : (mark row inner front : List ℕ) (next : Stage) → behind_prefix mark row ≡ Some inner → IsStage next (front ++ line (mark ++ inner)) → IsStage next (front ++ line row)
   row_stage mark row inner front next is = subst (λ x. IsStage next (front ++ line x)) (sym (passed_stands mark row inner is))
 
   few_of : (notes : List Noted) (front : List ℕ) → HasLines plan own notes front → length notes < 2 ^ 64
@@ -265,10 +265,10 @@ module _ (plan : Plan) (own : ℕ) (hosted : Option Hosted) where
 
   events_step : (h : Happened) (row text : List ℕ) (next : Stage) → length (noted_by h) < 2 ^ 64 → Hosting hosted → events_go_on plan own hosted h row ≡ Some next → Happens plan own h text → IsStage next (text ++ line row)
   events_step h row text next short hosts is happens =
-      elim (or_is (passed (codes "member ") row) (member_if plan own (noted_by h) hosted) (or_else (passed (codes "ringmaster ") row) (ring_at plan own (noted_by h)) (event_line_read plan own h row)) next is) [
+      elim (or_is (behind_prefix (codes "member ") row) (member_if plan own (noted_by h) hosted) (or_else (behind_prefix (codes "ringmaster ") row) (ring_at plan own (noted_by h)) (event_line_read plan own h row)) next is) [
         | inl m ↦ row_stage (codes "member ") row m.0 text next m.1 (member_step (noted_by h) hosted m.0 text next short refl hosts (all_of plan own h text happens) m.2)
         | inr o ↦
-            elim (or_is (passed (codes "ringmaster ") row) (ring_at plan own (noted_by h)) (event_line_read plan own h row) next o.1) [
+            elim (or_is (behind_prefix (codes "ringmaster ") row) (ring_at plan own (noted_by h)) (event_line_read plan own h row) next o.1) [
               | inl r ↦ row_stage (codes "ringmaster ") row r.0 text next r.1 (ring_step (noted_by h) (troupe_at plan.deployment own) r.0 text next refl (all_of plan own h text happens) r.2)
               | inr e ↦ event e.1
             ]

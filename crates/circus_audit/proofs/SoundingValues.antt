@@ -5,7 +5,7 @@ use Rattle.std.specs.Option.{option_map_or}
 use Rattle.circus_value.specs.ValueTree.{ValueTree, ValueTrees, none, more, value_trees}
 use Rattle.circus_value.specs.ShapeOf.{tree_of}
 use Rattle.circus_value.specs.Fits.{fits, all_fit}
-use Rattle.circus_value.specs.Shown.{shown, shown_items, shown_others, shown_list}
+use Rattle.circus_value.specs.Shown.{text_of_value, shown_items, shown_others, shown_list}
 use Rattle.circus_value.specs.OutcomeText.{outcome_text}
 use Rattle.circus_value.specs.declared.shape.Shape.{Shape}
 use Rattle.circus_value.specs.declared.outcome.Outcome.{Outcome}
@@ -14,7 +14,7 @@ use Rattle.circus_model.specs.LanguageError.{is_language_error}
 use Rattle.circus_model.specs.Lawful.{outcome_fits, is_reported}
 use Rattle.circus_model.specs.declared.signature.ErrorShape.{ErrorShape}
 use Rattle.circus_model.specs.declared.signature.ProcedureShape.{ProcedureShape}
-use Rattle.circus_value_text.specs.Reading.{passed, behind, number_read, comma, one_more, reading}
+use Rattle.circus_value_text.specs.Reading.{behind_prefix, behind, number_read, comma, one_more, reading}
 use Rattle.circus_value_text.proofs.Marks.{pair_is, passed_stands, behind_some, and_then_some, seen_as_some, between_sound}
 use Rattle.circus_value_text.proofs.Numbers.{number_sound}
 use Rattle.circus_value_text.proofs.Inverse.{shown_behind, others_behind, sound}
@@ -35,11 +35,11 @@ shapes_sound [] mark text ts rest is =
     (parts.1 ∙ ap (λ xs. shown_behind mark (value_trees xs) ++ rest) no, sym (ap (all_fit []) no))
 shapes_sound (shape ∷ shapes) mark text ts rest is =
     let x = and_then_some (value_behind mark shape text) (λ t later. one_more t (shapes_read shapes comma later)) (ts, rest) is in
-    let one = behind_sound mark (reading (tree_of shape)) shown (λ t. fits (tree_of shape) t ≡ true) (sound (tree_of shape)) text x.0.0 x.0.1 x.1 in
+    let one = behind_sound mark (reading (tree_of shape)) text_of_value (λ t. fits (tree_of shape) t ≡ true) (sound (tree_of shape)) text x.0.0 x.0.1 x.1 in
     let chain = seen_as_some (λ us. x.0.0 ∷ us) (shapes_read shapes comma x.0.1) ts rest x.2 in
     let later = shapes_sound shapes comma x.0.1 chain.0 rest chain.1 in
     let others = later.0 ∙ ap (λ y. y ++ rest) (others_behind (value_trees chain.0)) in (
-      one.0 ∙ ap (λ y. (mark ++ shown x.0.0) ++ y) others ∙ regroup mark (shown x.0.0) (shown_others (value_trees chain.0)) rest ∙ ap (λ xs. shown_behind mark (value_trees xs) ++ rest) (sym chain.2),
+      one.0 ∙ ap (λ y. (mark ++ text_of_value x.0.0) ++ y) others ∙ regroup mark (text_of_value x.0.0) (shown_others (value_trees chain.0)) rest ∙ ap (λ xs. shown_behind mark (value_trees xs) ++ rest) (sym chain.2),
       ap (all_fit (shape ∷ shapes)) chain.2 ∙ ap (λ b. b && all_fit shapes chain.0) one.1 ∙ later.1,
     )
 
@@ -75,9 +75,9 @@ reported_sound p number text o rest (Some e) found is =
     record { values = r.0; is_raised = r.2; text_is = values.0; fits_it = grind (arith, reported) }
 
 error_sound : (p : ProcedureShape) (number : ℕ) (text : List ℕ) (o : Outcome) (rest : List ℕ) → error_read p.errors number text ≡ Some (o, rest) → IsError p number text o rest
-error_sound p number text o rest is = by_bare (is_language_error number) refl (passed (codes "[]") text) refl is
+error_sound p number text o rest is = by_bare (is_language_error number) refl (behind_prefix (codes "[]") text) refl is
   where
-    by_bare : (b : Bool) → is_language_error number ≡ b → (r : Option (List ℕ)) → passed (codes "[]") text ≡ r → error_if p.errors number text (cond b r None) ≡ Some (o, rest) → IsError p number text o rest
+    by_bare : (b : Bool) → is_language_error number ≡ b → (r : Option (List ℕ)) → behind_prefix (codes "[]") text ≡ r → error_if p.errors number text (cond b r None) ≡ Some (o, rest) → IsError p number text o rest
     by_bare true language (Some later) mark is =
         let parts = pair_is (Raised number []) o later rest is in
         record {
@@ -96,25 +96,25 @@ raised_text : (number : ℕ) (values : List ValueTree) (rest : List ℕ) → cod
 raised_text number values rest = behind_three (codes "raised ") (decimal number) (codes " ") (shown_list values) rest
 
 pub outcome_sound : (p : ProcedureShape) → Sounds (outcome_read p) outcome_text (λ o. outcome_fits p o ≡ true)
-outcome_sound p text o rest is = by_mark (passed (codes "returned ") text) refl is
+outcome_sound p text o rest is = by_mark (behind_prefix (codes "returned ") text) refl is
   where
     raised : (inner : List ℕ) → text ≡ codes "raised " ++ inner → raised_read p.errors inner ≡ Some (o, rest) → (text ≡ outcome_text o ++ rest) × (outcome_fits p o ≡ true)
     raised inner front is =
-        let x = and_then_some (number_read 65535 inner) (λ number later. behind (passed (codes " ") later) (error_read p.errors number)) (o, rest) is in
+        let x = and_then_some (number_read 65535 inner) (λ number later. behind (behind_prefix (codes " ") later) (error_read p.errors number)) (o, rest) is in
         let number = number_sound 65535 x.0.0 inner x.0.1 (omega arith) x.1 in
-        let opened = behind_some (passed (codes " ") x.0.1) (error_read p.errors x.0.0) (o, rest) x.2 in
+        let opened = behind_some (behind_prefix (codes " ") x.0.1) (error_read p.errors x.0.0) (o, rest) x.2 in
         let error = error_sound p x.0.0 opened.0 o rest opened.2 in
         let behind_blank = passed_stands (codes " ") x.0.1 opened.0 opened.1 ∙ ap (λ y. codes " " ++ y) error.text_is in
         let all = front ∙ ap (λ y. codes "raised " ++ y) (number.0 ∙ ap (λ y. decimal x.0.0 ++ y) behind_blank) in
         (all ∙ raised_text x.0.0 error.values rest ∙ ap (λ z. outcome_text z ++ rest) (sym error.is_raised), ap (outcome_fits p) error.is_raised ∙ error.fits_it)
 
-    by_mark : (r : Option (List ℕ)) → passed (codes "returned ") text ≡ r → outcome_if p text r ≡ Some (o, rest) → (text ≡ outcome_text o ++ rest) × (outcome_fits p o ≡ true)
+    by_mark : (r : Option (List ℕ)) → behind_prefix (codes "returned ") text ≡ r → outcome_if p text r ≡ Some (o, rest) → (text ≡ outcome_text o ++ rest) × (outcome_fits p o ≡ true)
     by_mark (Some inner) mark is =
         let r = seen_as_some (λ results. Returned results) (values_read p.results inner) o rest is in
         let values = values_sound p.results inner r.0 rest r.1 in
         (passed_stands (codes "returned ") text inner mark ∙ ap (λ y. codes "returned " ++ y) values.0 ∙ sym (append_assoc (codes "returned ") (shown_list r.0) rest) ∙ ap (λ z. outcome_text z ++ rest) (sym r.2), ap (outcome_fits p) r.2 ∙ values.1)
     by_mark None mark is =
-        let opened = behind_some (passed (codes "raised ") text) (raised_read p.errors) (o, rest) is in
+        let opened = behind_some (behind_prefix (codes "raised ") text) (raised_read p.errors) (o, rest) is in
         raised opened.0 (passed_stands (codes "raised ") text opened.0 opened.1) opened.2
 
 pub outcome_behind_sound : (p : ProcedureShape) → Sounds (outcome_behind p) (λ o. codes " " ++ outcome_text o) (λ o. outcome_fits p o ≡ true)

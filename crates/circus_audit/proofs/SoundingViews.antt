@@ -11,7 +11,7 @@ use Rattle.circus_record.specs.Line.{line}
 use Rattle.circus_record.specs.Naming.{host_name}
 use Rattle.circus_report.specs.ViewLines.{since_text, entry_text, entries_text, view_line, views_lines}
 use Rattle.circus_config.specs.declared.plan.Plan.{Plan}
-use Rattle.circus_value_text.specs.Reading.{passed, number_read, is_empty}
+use Rattle.circus_value_text.specs.Reading.{behind_prefix, number_read, is_empty}
 use Rattle.circus_value_text.proofs.Marks.{pair_is, passed_stands, seen_as_some}
 use Rattle.circus_value_text.proofs.Numbers.{number_sound}
 use Rattle.circus_audit.specs.Possible.{IsSince, IsEntry}
@@ -34,9 +34,9 @@ view_of troupe incarnation entries = record { troupe = troupe; incarnation = inc
 
 module _ (plan : Plan) where
   since_sound : Sounds since_read since_text (IsSince plan)
-  since_sound text since rest is = by_mark (passed (codes "joining") text) refl is
+  since_sound text since rest is = by_mark (behind_prefix (codes "joining") text) refl is
     where
-      by_mark : (r : Option (List ℕ)) → passed (codes "joining") text ≡ r → since_if text r ≡ Some (since, rest) → (text ≡ since_text since ++ rest) × IsSince plan since
+      by_mark : (r : Option (List ℕ)) → behind_prefix (codes "joining") text ≡ r → since_if text r ≡ Some (since, rest) → (text ≡ since_text since ++ rest) × IsSince plan since
       by_mark (Some later) mark read =
           let parts = pair_is Joining since later rest read in
           (passed_stands (codes "joining") text later mark ∙ (λ i. since_text (parts.0 i) ++ parts.1 i), subst (IsSince plan) parts.0 tt)
@@ -89,8 +89,8 @@ module _ (plan : Plan) where
   view_sound troupe row view is =
       let nodes = node_names plan in
       let name = name_at plan.names troupe in
-      let a = from_is (passed (codes "view ") row) (λ x. from_some (passed name x) (said_read nodes (length row) troupe)) view is in
-      let b = from_is (passed name a.0) (said_read nodes (length row) troupe) view a.2 in
+      let a = from_is (behind_prefix (codes "view ") row) (λ x. from_some (behind_prefix name x) (said_read nodes (length row) troupe)) view is in
+      let b = from_is (behind_prefix name a.0) (said_read nodes (length row) troupe) view a.2 in
       let c = found_is (long_behind (codes " ") b.0) (λ incarnation rest. option_map (view_of troupe incarnation) (entries_read nodes (length row) rest)) view b.2 in
       let d = map_is (view_of troupe c.0.0) (entries_read nodes (length row) c.0.1) view c.2 in
       let number = long_sound (codes " ") b.0 c.0.0 c.0.1 c.1 in

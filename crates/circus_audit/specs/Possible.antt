@@ -15,7 +15,7 @@ use Rattle.circus_collate.specs.declared.view.View.{View}
 use Rattle.circus_model.specs.declared.signature.Signature.{Signature}
 use Rattle.circus_model.specs.Lawful.{arguments_fit, outcome_fits, procedure_numbered, import_takes, import_answers}
 use Rattle.circus_check.specs.Seen.Meant.{module_as}
-use Rattle.circus_modules.specs.Signatures.{signature_of, implemented}
+use Rattle.circus_modules.specs.Signatures.{signature_of, interface_numbers}
 use Rattle.circus_config.specs.declared.plan.Plan.{Plan}
 use Rattle.circus_transfer.specs.declared.joiner.Joiner.{Joiner}
 use Rattle.circus_transfer.specs.declared.joiner.Joiner.TheVariants.{Outside, Asking, Fetching, Active}
@@ -46,7 +46,7 @@ module _ (plan : Plan) where
   -- what the module of a number declares
   abbrev pub declared_by : ℕ → Option Signature
   declared_by number =
-      option_map (signature_of (limit_of plan.deployment.format) plan.checked.interfaces (implemented (map module_as plan.checked.modules)))
+      option_map (signature_of (limit_of plan.deployment.format) plan.checked.interfaces (interface_numbers (map module_as plan.checked.modules)))
       (slice_get (map module_as plan.checked.modules) number)
 
   -- a count for each module

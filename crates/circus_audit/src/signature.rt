@@ -35,7 +35,7 @@ fn offered(
     interfaces: &[Interface],
     number: Option<u16>,
 ) -> Result<ProcedureShapes, NoMemory>
-    ensures { IfOk result (λ procedures. procedures ≡ means.offered interfaces.now number) }
+    ensures { IfOk result (λ procedures. procedures ≡ means.procedures_offered interfaces.now number) }
 {
     match number {
         None => main_alone(alloc),

@@ -41,7 +41,7 @@ pub fn run(rt: &HostRuntime, turns: Option<u32>, items: Option<u32>) -> io::Resu
 // How long a body takes that goes so far, in microseconds, and how it ends.
 fn measure(rt: &HostRuntime, work: Work, number: u32) -> io::Result<()> {
     let start = Instant::now(rt)?;
-    let turn = performed(rt.alloc(), work, number);
+    let turn = turn_of_work(rt.alloc(), work, number);
     let micros = start.elapsed(rt)?.as_micros();
     match turn {
         Ok(Turn::Ends { outcome, .. }) => {
@@ -52,10 +52,10 @@ fn measure(rt: &HostRuntime, work: Work, number: u32) -> io::Result<()> {
     }
 }
 
-fn performed(alloc: Global, work: Work, number: u32) -> Result<Turn<Paused>, NoMemory> {
+fn turn_of_work(alloc: Global, work: Work, number: u32) -> Result<Turn<Paused>, NoMemory> {
     let body = match work {
         Work::Counting => counting(alloc)?,
-        Work::Adding => adding(alloc)?,
+        Work::Adding => append_body(alloc)?,
     };
     let arguments = one(alloc, Value::LongCardinal(number))?;
     body.start(alloc, LIMIT, Values::new(alloc), &arguments)
@@ -78,7 +78,7 @@ fn counting(alloc: Global) -> Result<Body, NoMemory> {
         CheckedOperand::new(alloc, CheckedExpression::Number(1))?,
     );
     let condition = is_below_parameter(alloc, read(alloc, 1))?;
-    let statements = looping(
+    let statements = loop_statements(
         alloc,
         condition,
         CheckedStatement::Assign(place(alloc, 1), sum),
@@ -88,9 +88,9 @@ fn counting(alloc: Global) -> Result<Body, NoMemory> {
 }
 
 // Items are added to the sequence up to the parameter, and its length is returned.
-fn adding(alloc: Global) -> Result<Body, NoMemory> {
+fn append_body(alloc: Global) -> Result<Body, NoMemory> {
     let condition = is_below_parameter(alloc, length(alloc)?)?;
-    let statements = looping(
+    let statements = loop_statements(
         alloc,
         condition,
         CheckedStatement::Append(
@@ -109,7 +109,7 @@ fn adding(alloc: Global) -> Result<Body, NoMemory> {
 }
 
 // WHILE the condition holds DO the statement END; RETURN the number.
-fn looping(
+fn loop_statements(
     alloc: Global,
     condition: CheckedExpression,
     statement: CheckedStatement,

@@ -43,7 +43,7 @@ impl Drop for Net {
 }
 
 // The nodes of a program at boot, and what they give.
-fn booted(alloc: Global, text: &str) -> Result<ListOf<(GuardedNode<TextModule>, Outputs)>, Error> {
+fn boot_nodes(alloc: Global, text: &str) -> Result<ListOf<(GuardedNode<TextModule>, Outputs)>, Error> {
     let program = load(alloc, read_program(alloc, text.as_bytes())?)?;
     let nodes = GuardedNode::boot_all(alloc, &program.deployment, program.modules.as_slice())?;
     Ok(nodes)
@@ -58,7 +58,7 @@ impl Net {
             crashed,
             events: 0,
         };
-        for (node, outputs) in booted(alloc, text)?.into_items() {
+        for (node, outputs) in boot_nodes(alloc, text)?.into_items() {
             net.add(node, outputs)?;
         }
         Ok(net)

@@ -26,14 +26,14 @@ fn measure(rt: &HostRuntime, calls: u64, client: &mut Pair, server: &mut Pair) -
     requires server { IsUp server.old }
 {
     for tenth in 0..10_u64 {
-        let micros = timed(rt, calls / 10, client, server)?;
+        let micros = time_calls(rt, calls / 10, client, server)?;
         report(rt, tenth, calls / 10, micros)?;
     }
     Ok(())
 }
 
 // How long some calls take, in microseconds.
-fn timed(rt: &HostRuntime, calls: u64, client: &mut Pair, server: &mut Pair) -> io::Result<u128>
+fn time_calls(rt: &HostRuntime, calls: u64, client: &mut Pair, server: &mut Pair) -> io::Result<u128>
     requires client { IsUp client.old }
     requires server { IsUp server.old }
     ensures client { IsUp client.new }

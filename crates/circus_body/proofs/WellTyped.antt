@@ -18,7 +18,7 @@ use Rattle.circus_checked.specs.WellTyped as w
 use Rattle.circus_fault.proofs.Items.{none_in}
 use Rattle.circus_resolve.specs.declared.cause.CheckCause.TheVariants.{Unknown}
 use Rattle.circus_resolve.specs.Passing.{is_truth, goes_into}
-use Rattle.circus_resolve.specs.Faults.{for_fields, field_at, field_count, each_faults, expression_faults, place_faults, place_shape, sort, place_of, wanted, wanted_for, wanted_alike}
+use Rattle.circus_resolve.specs.Faults.{for_fields, field_at, field_count, each_faults, expression_faults, place_faults, place_shape, sort, place_of, wanted_faults, wanted_for, wanted_alike}
 use Rattle.circus_resolve.specs.Meaning.{meant, place_meant, each_meant}
 use Rattle.circus_resolve.specs.Regular.{IsOfBytes, AreOfBytes}
 use Rattle.circus_resolve.proofs.Passed.{no_fault, passed, same_sort, some_found}
@@ -61,16 +61,16 @@ module _ (variables : List ShapeTree) where
 
     -- ---- a condition, a list, and places
 
-    condition : (a : ExpressionTree) → IsOfBytes a → f.tested context a ≡ [] → Has variables (meant context.scope a) a_truth
+    condition : (a : ExpressionTree) → IsOfBytes a → f.faults_of_condition context a ≡ [] → Has variables (meant context.scope a) a_truth
     condition a bytes none =
-        let (inside, own) = none_in (expression_faults context.scope a) (wanted is_truth (sort context.scope a) (place_of a)) none in
+        let (inside, own) = none_in (expression_faults context.scope a) (wanted_faults is_truth (sort context.scope a) (place_of a)) none in
         let (t, is, has) = well_sorted variables context.scope whole.scope a bytes inside in
-        truth_has variables (meant context.scope a) t (place_of a) (ap (λ o. wanted is_truth o (place_of a)) (sym is) ∙ own) has
+        truth_has variables (meant context.scope a) t (place_of a) (ap (λ o. wanted_faults is_truth o (place_of a)) (sym is) ∙ own) has
 
     stored_in : (u : ShapeTree) (a : ExpressionTree) → IsOfBytes a → expression_faults context.scope a ≡ [] → wanted_for (Some u) (sort context.scope a) (place_of a) ≡ [] → Has variables (meant context.scope a) (sort_of u)
     stored_in u a bytes inside own =
         let (t, is, has) = well_sorted variables context.scope whole.scope a bytes inside in
-        subst (Has variables (meant context.scope a)) (sym (same_sort (sort_of u) t (passed (goes_into u t) (place_of a) (ap (λ o. wanted (goes_into u) o (place_of a)) (sym is) ∙ own)))) has
+        subst (Has variables (meant context.scope a)) (sym (same_sort (sort_of u) t (passed (goes_into u t) (place_of a) (ap (λ o. wanted_faults (goes_into u) o (place_of a)) (sym is) ∙ own)))) has
 
     list_gives : (fs : FieldTrees) (at : ℕ) (es : List ExpressionTree) → AreOfBytes (expression_trees es) → f.list_faults context (for_fields fs) at es ≡ []
         → EachGives variables (each_meant context.scope (for_fields fs) 0 (expression_trees es)) (shapes_of fs)
@@ -145,14 +145,14 @@ module _ (variables : List ShapeTree) where
           let (u, u_is, holds) = place_well variables context.scope whole.scope p bytes.0 place in
           w.assign (place_meant context.scope p) (meant context.scope a) u holds (stored_in u a bytes.1 inside (ap (λ o. wanted_for o (sort context.scope a) (place_of a)) (sym u_is) ∙ own))
       typed (s.only_then at a ss) bytes none =
-          let (test, then) = none_in (f.tested context a) (f.all_faults context ss) none in
+          let (test, then) = none_in (f.faults_of_condition context a) (f.all_faults context ss) none in
           w.branch (meant context.scope a) (c.statement_trees (all_do context ss)) c.no_statements (condition a bytes.0 test) (all_typed ss bytes.1 then) w.none
       typed (s.then_else at a ss others) bytes none =
-          let (front, else) = none_in (f.tested context a ++ f.all_faults context ss) (f.all_faults context others) none in
-          let (test, then) = none_in (f.tested context a) (f.all_faults context ss) front in
+          let (front, else) = none_in (f.faults_of_condition context a ++ f.all_faults context ss) (f.all_faults context others) none in
+          let (test, then) = none_in (f.faults_of_condition context a) (f.all_faults context ss) front in
           w.branch (meant context.scope a) (c.statement_trees (all_do context ss)) (c.statement_trees (all_do context others)) (condition a bytes.0 test) (all_typed ss bytes.1.0 then) (all_typed others bytes.1.1 else)
       typed (s.while at a ss) bytes none =
-          let (test, body) = none_in (f.tested context a) (f.all_faults context ss) none in
+          let (test, body) = none_in (f.faults_of_condition context a) (f.all_faults context ss) none in
           w.repeat (meant context.scope a) (c.statement_trees (all_do context ss)) (condition a bytes.0 test) (all_typed ss bytes.1 body)
       typed (s.append at a p) bytes none =
           let value = wanted_for (f.item_shape (place_shape context.scope p)) (sort context.scope a) (place_of a) in
@@ -169,7 +169,7 @@ module _ (variables : List ShapeTree) where
           let callee = f.called_faults (context.called q.«module».name) q.«module» q.procedure in
           let arguments = λ (o : Option Offered). f.list_faults context (f.arguments_of o) q.procedure.at q.arguments in
           let gives = λ (o : Option Offered). f.results_faults context (f.results_of o) q.into in
-          let asks = f.asked context q in
+          let asks = f.faults_of_call context q in
           let (ask, handlers) = none_in (callee ++ arguments asks ++ gives asks) (f.handlers_faults context asks hs) none in
           let (front, into) = none_in (callee ++ arguments asks) (gives asks) ask in
           let (called, list) = none_in callee (arguments asks) front in

@@ -8,7 +8,7 @@ use Rattle.circus_fault.specs.Least.{faults_if}
 use Rattle.circus_resolve.specs.declared.cause.CheckCause.TheVariants.{Unknown, Mistyped}
 use Rattle.circus_checked.specs.Sorts.{sort_of}
 use Rattle.circus_resolve.specs.Passing.{is_truth}
-use Rattle.circus_resolve.specs.Faults.{Faults, Slots, alike, for_fields, slot_at, field_count, each_faults, expression_faults, place_faults, place_shape, sort, place_of, wanted, wanted_for, wanted_alike}
+use Rattle.circus_resolve.specs.Faults.{Faults, Slots, alike, for_fields, slot_at, field_count, each_faults, expression_faults, place_faults, place_shape, sort, place_of, wanted_faults, wanted_for, wanted_alike}
 use Rattle.circus_body.specs.Context.{Reported, Offered, Called, not_imported, unsaid, a_module, Context}
 
 -- ---- calls
@@ -95,16 +95,16 @@ module _ (context : Context) where
   into_faults slots at (Some ps) = number_faults slots (length ps) at ++ places_faults slots 0 ps
 
   -- a condition
-  abbrev pub tested : ExpressionTree → Faults
-  tested e = expression_faults context.scope e ++ wanted is_truth (sort context.scope e) (place_of e)
+  abbrev pub faults_of_condition : ExpressionTree → Faults
+  faults_of_condition e = expression_faults context.scope e ++ wanted_faults is_truth (sort context.scope e) (place_of e)
 
   -- what a handler handles, and where the values of that go
   abbrev pub handled_faults : Option Offered → ℕ → Option Named → Option (List PlaceTree) → Faults
   handled_faults o at error ps = handled_error_faults o error ++ into_faults (handled_values o error) at ps
 
   -- a call without its handlers
-  abbrev pub asked : CallOf ExpressionTree PlaceTree → Option Offered
-  asked c = offered_by (context.called c.«module».name) c.procedure.name
+  abbrev pub faults_of_call : CallOf ExpressionTree PlaceTree → Option Offered
+  faults_of_call c = offered_by (context.called c.«module».name) c.procedure.name
 
   abbrev pub results_faults : Slots → Option (IntoOf PlaceTree) → Faults
   results_faults slots None = []
@@ -113,18 +113,18 @@ module _ (context : Context) where
   abbrev pub ask_faults : CallOf ExpressionTree PlaceTree → Faults
   ask_faults c =
       called_faults (context.called c.«module».name) c.«module» c.procedure
-      ++ list_faults (arguments_of (asked c)) c.procedure.at c.arguments ++ results_faults (results_of (asked c)) c.into
+      ++ list_faults (arguments_of (faults_of_call c)) c.procedure.at c.arguments ++ results_faults (results_of (faults_of_call c)) c.into
 
   abbrev mutual
     pub faults : StatementTree → Faults
     faults (assign _ p e) = place_faults context.scope p ++ expression_faults context.scope e ++ wanted_for (place_shape context.scope p) (sort context.scope e) (place_of e)
-    faults (only_then _ e ss) = tested e ++ all_faults ss
-    faults (then_else _ e ss others) = tested e ++ all_faults ss ++ all_faults others
-    faults (while _ e ss) = tested e ++ all_faults ss
+    faults (only_then _ e ss) = faults_of_condition e ++ all_faults ss
+    faults (then_else _ e ss others) = faults_of_condition e ++ all_faults ss ++ all_faults others
+    faults (while _ e ss) = faults_of_condition e ++ all_faults ss
     faults (append _ e p) =
         expression_faults context.scope e ++ place_faults context.scope p ++ sequence_faults (place_shape context.scope p) p.name.at
         ++ wanted_for (item_shape (place_shape context.scope p)) (sort context.scope e) (place_of e)
-    faults (call _ c hs) = ask_faults c ++ handlers_faults (asked c) hs
+    faults (call _ c hs) = ask_faults c ++ handlers_faults (faults_of_call c) hs
     faults (return at es) = list_faults (results_of (Some context.own)) at es
     faults (raise _ name es) = error_faults (Some context.own) name ++ list_faults (values_of (reported_by (Some context.own) name)) name.at es
 

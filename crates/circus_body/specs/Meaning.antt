@@ -11,7 +11,7 @@ use Rattle.circus_checked.specs.Sorts.{kind_of}
 use Rattle.circus_resolve.specs.Faults.{place_shape}
 use Rattle.circus_resolve.specs.Meaning.{meant, place_meant, each_meant}
 use Rattle.circus_body.specs.Context.{Reported, Offered, Called, a_module, Context}
-use Rattle.circus_body.specs.Faults.{asked, arguments_of, results_of, reported_by, values_of, item_shape}
+use Rattle.circus_body.specs.Faults.{faults_of_call, arguments_of, results_of, reported_by, values_of, item_shape}
 
 -- the most items of a sequence
 abbrev pub bound_of : Option ShapeTree → ℕ
@@ -58,8 +58,8 @@ module _ (context : Context) where
     does (append _ e p) =
         c.append (meant context.scope e) (place_meant context.scope p) (bound_of (place_shape context.scope p)) (item_kind (item_shape (place_shape context.scope p)))
     does (call _ q hs) =
-        c.call (module_number (context.called q.«module».name)) (procedure_number (asked context q))
-        (each_meant context.scope (arguments_of (asked context q)) 0 (expression_trees q.arguments)) (into_meant q.into) (c.handler_trees (all_handle (asked context q) hs))
+        c.call (module_number (context.called q.«module».name)) (procedure_number (faults_of_call context q))
+        (each_meant context.scope (arguments_of (faults_of_call context q)) 0 (expression_trees q.arguments)) (into_meant q.into) (c.handler_trees (all_handle (faults_of_call context q) hs))
     does (return _ es) = c.give (each_meant context.scope (results_of (Some context.own)) 0 (expression_trees es))
     does (raise _ name es) =
         c.raise (error_number (reported_by (Some context.own) name)) (each_meant context.scope (values_of (reported_by (Some context.own) name)) 0 (expression_trees es))

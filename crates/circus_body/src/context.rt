@@ -48,7 +48,7 @@ pub struct Context<'c, 's, 'm, 't> {
 
 impl<'s> Offered<'s> {
     /// The error of this name that it reports.
-    pub fn reported(&self, name: &[u8]) -> Option<Reported<'s>>
+    pub fn error_named(&self, name: &[u8]) -> Option<Reported<'s>>
         ensures { option_map reported_as result ≡ (offered_as self.now).reported name.now }
     {
         self.reported.get(name).copied()

@@ -50,14 +50,14 @@ pub fn resolve_statements(
 {
     let mut made = CheckedStatements::new(alloc);
     for statement in statements.as_slice() {
-        made.push(resolved(alloc, context, found, statement)?)?;
+        made.push(resolve_statement(alloc, context, found, statement)?)?;
     }
     Ok(made)
 }
 
 // One statement.
 #[cycle(resolving)]
-fn resolved(
+fn resolve_statement(
     alloc: Global,
     context: &Context<'_, '_, '_, '_>,
     found: &mut Findings,
@@ -71,7 +71,7 @@ fn resolved(
 {
     match &statement.kind {
         StatementKind::Assign(place, expression) => {
-            assigned(alloc, context, found, place, expression)
+            resolve_assignment(alloc, context, found, place, expression)
         }
         StatementKind::If(condition, statements, None) => {
             only_then(alloc, context, found, condition, statements)
@@ -80,18 +80,18 @@ fn resolved(
             then_else(alloc, context, found, condition, statements, others)
         }
         StatementKind::While(condition, statements) => {
-            repeated(alloc, context, found, condition, statements)
+            resolve_while(alloc, context, found, condition, statements)
         }
-        StatementKind::Append(item, place) => appended(alloc, context, found, item, place),
-        StatementKind::Call(call) => asked(alloc, context, found, call),
-        StatementKind::Return(items) => given(alloc, context, found, statement.at, items),
-        StatementKind::Raise(name, items) => raised(alloc, context, found, name, items),
+        StatementKind::Append(item, place) => resolve_append(alloc, context, found, item, place),
+        StatementKind::Call(call) => resolve_call(alloc, context, found, call),
+        StatementKind::Return(items) => resolve_return(alloc, context, found, statement.at, items),
+        StatementKind::Raise(name, items) => resolve_raise(alloc, context, found, name, items),
     }
 }
 
 // The expression goes where the place is.
 #[tactic(auto, using(circus_resolve::proofs::Finding::found_then))]
-fn assigned(
+fn resolve_assignment(
     alloc: Global,
     context: &Context<'_, '_, '_, '_>,
     found: &mut Findings,
@@ -115,7 +115,7 @@ fn assigned(
 
 // A condition.
 #[tactic(auto, using(circus_resolve::proofs::Finding::found_then))]
-fn tested(
+fn resolve_condition(
     alloc: Global,
     context: &Context<'_, '_, '_, '_>,
     found: &mut Findings,
@@ -123,7 +123,7 @@ fn tested(
 ) -> Result<CheckedExpression, NoMemory>
     ensures found { OnOk result
         (found.new ≡ with_faults found.old
-        (faults.tested (context_as context.now) (expression.tree_of condition.now))) }
+        (faults.faults_of_condition (context_as context.now) (expression.tree_of condition.now))) }
     ensures meant { IfOk result (λ made.
         checked_expression.tree_of made
         ≡ meant (context_as context.now).scope (expression.tree_of condition.now)) }
@@ -151,7 +151,7 @@ fn only_then(
         ≡ meaning.does (context_as context.now)
         (s.only_then 0 (expression.tree_of condition.now) (s.statement_trees statements.now))) }
 {
-    let condition = tested(alloc, context, found, condition)?;
+    let condition = resolve_condition(alloc, context, found, condition)?;
     let statements = resolve_statements(alloc, context, found, statements)?;
     let none = CheckedStatements::new(alloc);
     Ok(CheckedStatement::If(condition, statements, none))
@@ -178,7 +178,7 @@ fn then_else(
         (s.then_else 0 (expression.tree_of condition.now) (s.statement_trees statements.now)
         (s.statement_trees others.now))) }
 {
-    let condition = tested(alloc, context, found, condition)?;
+    let condition = resolve_condition(alloc, context, found, condition)?;
     let statements = resolve_statements(alloc, context, found, statements)?;
     let others = resolve_statements(alloc, context, found, others)?;
     Ok(CheckedStatement::If(condition, statements, others))
@@ -186,7 +186,7 @@ fn then_else(
 
 #[cycle(resolving)]
 #[tactic(auto, using(circus_resolve::proofs::Finding::found_then))]
-fn repeated(
+fn resolve_while(
     alloc: Global,
     context: &Context<'_, '_, '_, '_>,
     found: &mut Findings,
@@ -202,14 +202,14 @@ fn repeated(
         ≡ meaning.does (context_as context.now)
         (s.while 0 (expression.tree_of condition.now) (s.statement_trees statements.now))) }
 {
-    let condition = tested(alloc, context, found, condition)?;
+    let condition = resolve_condition(alloc, context, found, condition)?;
     let statements = resolve_statements(alloc, context, found, statements)?;
     Ok(CheckedStatement::While(condition, statements))
 }
 
 // An item is added at the end of a sequence.
 #[tactic(auto, using(circus_resolve::proofs::Finding::found_then))]
-fn appended(
+fn resolve_append(
     alloc: Global,
     context: &Context<'_, '_, '_, '_>,
     found: &mut Findings,
@@ -244,7 +244,7 @@ fn kind_of_known(shape: Option<&Shape>) -> Option<NumberKind>
 }
 
 // RETURN, whose place is given.
-fn given(
+fn resolve_return(
     alloc: Global,
     context: &Context<'_, '_, '_, '_>,
     found: &mut Findings,
@@ -262,7 +262,7 @@ fn given(
 }
 
 #[tactic(auto, using(circus_resolve::proofs::Finding::found_then))]
-fn raised(
+fn resolve_raise(
     alloc: Global,
     context: &Context<'_, '_, '_, '_>,
     found: &mut Findings,
@@ -284,7 +284,7 @@ fn raised(
 // A call with its handlers.
 #[cycle(resolving)]
 #[tactic(auto, using(circus_resolve::proofs::Finding::found_then))]
-fn asked(
+fn resolve_call(
     alloc: Global,
     context: &Context<'_, '_, '_, '_>,
     found: &mut Findings,
@@ -390,14 +390,14 @@ fn each_place(
 {
     let mut made = CheckedPlaces::new(alloc);
     for (number, place) in places.as_slice().iter().enumerate() {
-        made.push(filled(alloc, context, found, slots.at(number), place)?)?;
+        made.push(resolve_target(alloc, context, found, slots.at(number), place)?)?;
     }
     Ok(made)
 }
 
 // A place that a value of a shape goes to, where that is known.
 #[tactic(auto, using(circus_resolve::proofs::Finding::found_then))]
-fn filled(
+fn resolve_target(
     alloc: Global,
     context: &Context<'_, '_, '_, '_>,
     found: &mut Findings,
@@ -444,7 +444,7 @@ fn handlers_of(
     for (place, handler) in handlers.as_slice().iter().enumerate() {
         let followed = is_followed(handler, place + 1, handlers.len());
         found.note(followed, handler.at, CheckCause::Mistyped);
-        made.push(handled(alloc, context, found, offered, handler)?)?;
+        made.push(resolve_handler(alloc, context, found, offered, handler)?)?;
     }
     Ok(made)
 }
@@ -504,7 +504,7 @@ fn handler_places(
 // One handler.
 #[cycle(resolving)]
 #[tactic(auto, using(circus_resolve::proofs::Finding::found_then))]
-fn handled(
+fn resolve_handler(
     alloc: Global,
     context: &Context<'_, '_, '_, '_>,
     found: &mut Findings,

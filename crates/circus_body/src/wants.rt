@@ -76,7 +76,7 @@ pub fn error_of<'c>(
     ensures error { option_map reported_as result
         ≡ faults.reported_by (known_offer offered.entry) name.now }
 {
-    let error = offered?.reported(name.name.as_slice());
+    let error = offered?.error_named(name.name.as_slice());
     found.note(error.is_none(), name.at, CheckCause::Unknown);
     error
 }

@@ -29,7 +29,7 @@ use Rattle.circus_idl.specs.declared.interface.Interface.{Interface}
 use Rattle.circus_idl.specs.Obeys.{Obeys}
 use Rattle.circus_lang.specs.ModuleTree.{ModuleTree, ProcedureOf}
 use Rattle.circus_check.specs.Scope.{variables_of, offered_by, offered_in, called_in, called_of, error_of, context_of}
-use Rattle.circus_check.specs.Faults.{interface_faults, imports_faults, arguments_of, own_of, unknown, forms, fields_of, also_variables, context}
+use Rattle.circus_check.specs.Faults.{interface_faults, imports_faults, arguments_of, own_of, unknown_place, forms, fields_of, also_variables, context}
 use Rattle.circus_check.specs.Faults as faults
 use Rattle.circus_check.specs.Meaning.{ModuleMeant, import_numbers, interface_number, body_meant, module_meant, modules_meant}
 use Rattle.circus_check.specs.WellFormed.{IsAt, Implements, Raised, Offers, IsBody}
@@ -177,9 +177,9 @@ module _ (interfaces : List Interface) (modules : List ModuleTree) where
     -- a body, of what its procedure offers
     pub body_is : (before : ℕ) (earlier : List ℕ → Bool) (q : ProcedureOf StatementTree) (o : Offered) (arguments : List FieldTree) (Raises : ℕ → List ShapeTree → Type 0)
         → CleanProcedure interfaces modules n m before earlier q → StatementsAreOfBytes (s.statement_trees q.body.statements)
-        → (earlier_names : List ℕ → Bool) → AreClean (unknown interfaces modules n m) (forms interfaces modules n m) 0 earlier_names m.variables
-        → AreClean (unknown interfaces modules n m) (forms interfaces modules n m) before (faults.also_fields (field_trees arguments) (also_variables m.variables no_name)) q.body.variables
-        → faults.offered interfaces modules n m q ≡ Some o → o.arguments ≡ field_trees arguments → ArgumentsObey arguments
+        → (earlier_names : List ℕ → Bool) → AreClean (unknown_place interfaces modules n m) (forms interfaces modules n m) 0 earlier_names m.variables
+        → AreClean (unknown_place interfaces modules n m) (forms interfaces modules n m) before (faults.also_fields (field_trees arguments) (also_variables m.variables no_name)) q.body.variables
+        → faults.offer_of interfaces modules n m q ≡ Some o → o.arguments ≡ field_trees arguments → ArgumentsObey arguments
         → parts_of (shapes_of (fields_of (forms interfaces modules n m) m.variables)) ≤ before → before + parts_of (shapes_of (fields_of (forms interfaces modules n m) q.body.variables)) ≤ most_parts
         → ((x y : List ℕ) → Contains (names_of (fields_of (forms interfaces modules n m) m.variables)) x → Contains (names_of arguments) y → x ≢ y)
         → ((number : ℕ) (values : List ShapeTree) → IsReported o number values → Raises number values)

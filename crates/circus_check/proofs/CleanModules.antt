@@ -17,7 +17,7 @@ use Rattle.circus_lang.specs.ModuleTree.{ModuleTree, ProcedureOf}
 use Rattle.circus_limits.specs.Limits.{most_modules}
 use Rattle.circus_check.specs.Naming.{module_named}
 use Rattle.circus_check.specs.Reach.{shared_at}
-use Rattle.circus_check.specs.Faults.{is_later, name_faults, interface_faults, imports_faults, lacking, missing_faults, also_fields, also_variables, parameters_of, arguments_of, variables_faults, variables_parts, state_faults, interface, unknown, forms, offered, body_faults, unless_behind, procedure_faults, whole_procedure, procedures_faults, head_faults, module_faults, modules_faults, faults}
+use Rattle.circus_check.specs.Faults.{is_later, name_faults, interface_faults, imports_faults, first_missing, missing_faults, also_fields, also_variables, parameters_of, arguments_of, variables_faults, variables_parts, state_faults, interface, unknown_place, forms, offer_of, body_faults, unless_behind, procedure_faults, whole_procedure, procedures_faults, head_faults, module_faults, modules_faults, faults}
 use Rattle.circus_check.proofs.CleanVariables.{both_none}
 
 looked_into : (found own : Faults) → found ≡ [] → unless_behind found own ≡ own
@@ -28,9 +28,9 @@ module _ (interfaces : List Interface) (modules : List ModuleTree) where
   module _ (i : ℕ) (m : ModuleTree) where
     -- a procedure behind so many parts and earlier procedures
     pub record CleanProcedure (before : ℕ) (earlier : List ℕ → Bool) (p : ProcedureOf StatementTree) : Type 0 where
-      pub known : is_none (offered interfaces modules i m p) ≡ false
+      pub known : is_none (offer_of interfaces modules i m p) ≡ false
       pub ends : all_end (statement_trees p.body.statements) ≡ true
-      pub locals : variables_faults written_out (unknown interfaces modules i m) (forms interfaces modules i m) before (also_fields (arguments_of (offered interfaces modules i m p)) (also_variables m.variables no_name)) p.body.variables ≡ []
+      pub locals : variables_faults written_out (unknown_place interfaces modules i m) (forms interfaces modules i m) before (also_fields (arguments_of (offer_of interfaces modules i m p)) (also_variables m.variables no_name)) p.body.variables ≡ []
       pub body : body_faults interfaces modules i m p ≡ []
 
     abbrev pub CleanProcedures : ℕ → (List ℕ → Bool) → List (ProcedureOf StatementTree) → Type 0
@@ -49,7 +49,7 @@ module _ (interfaces : List Interface) (modules : List ModuleTree) where
         let whole = whole_procedure interfaces modules i m found before earlier p in
         let (own, rest) = none_in whole _ none in
         let (front, body) = none_in head (unless_behind (found ++ head) (body_faults interfaces modules i m p)) own in
-        let (three, locals) = none_in _ (variables_faults written_out (unknown interfaces modules i m) (forms interfaces modules i m) before (also_fields (arguments_of (offered interfaces modules i m p)) (also_variables m.variables no_name)) p.body.variables) front in
+        let (three, locals) = none_in _ (variables_faults written_out (unknown_place interfaces modules i m) (forms interfaces modules i m) before (also_fields (arguments_of (offer_of interfaces modules i m p)) (also_variables m.variables no_name)) p.body.variables) front in
         let (two, ending) = none_in _ _ three in
         let (known, repeated) = none_in _ (repeated_name of_type earlier p.name) two in
         let clean : CleanProcedure before earlier p = record { known = no_fault _ _ _ known; ends = is_not _ (no_fault _ _ _ ending); locals = locals; body = sym (looked_into (found ++ head) _ (both_none found head nothing front)) ∙ body } in
@@ -61,17 +61,17 @@ module _ (interfaces : List Interface) (modules : List ModuleTree) where
       pub alone : is_some (shared_at modules i) ≡ false
       pub implements : interface_faults interfaces m.interface ≡ []
       pub imports : imports_faults modules i m.imports ≡ []
-      pub complete : is_some (lacking (interface interfaces modules i m) m.procedures) ≡ false
-      pub state : variables_faults written_out (unknown interfaces modules i m) (forms interfaces modules i m) 0 (parameters_of (interface interfaces modules i m)) m.variables ≡ []
-      pub small : state_faults (unknown interfaces modules i m) (forms interfaces modules i m) (parameters_of (interface interfaces modules i m)) m ≡ []
+      pub complete : is_some (first_missing (interface interfaces modules i m) m.procedures) ≡ false
+      pub state : variables_faults written_out (unknown_place interfaces modules i m) (forms interfaces modules i m) 0 (parameters_of (interface interfaces modules i m)) m.variables ≡ []
+      pub small : state_faults (unknown_place interfaces modules i m) (forms interfaces modules i m) (parameters_of (interface interfaces modules i m)) m ≡ []
       pub procedures : CleanProcedures (variables_parts written_out (forms interfaces modules i m) 0 m.variables) no_name m.procedures
 
     pub module_clean : (found : Faults) → found ≡ [] → module_faults interfaces modules i m found ≡ [] → CleanModule
     module_clean found nothing none =
         let head = head_faults interfaces modules i m in
         let (front, rest) = none_in head _ none in
-        let (to_state, small) = none_in _ (state_faults (unknown interfaces modules i m) (forms interfaces modules i m) (parameters_of (interface interfaces modules i m)) m) front in
-        let (to_missing, state) = none_in _ (variables_faults written_out (unknown interfaces modules i m) (forms interfaces modules i m) 0 (parameters_of (interface interfaces modules i m)) m.variables) to_state in
+        let (to_state, small) = none_in _ (state_faults (unknown_place interfaces modules i m) (forms interfaces modules i m) (parameters_of (interface interfaces modules i m)) m) front in
+        let (to_missing, state) = none_in _ (variables_faults written_out (unknown_place interfaces modules i m) (forms interfaces modules i m) 0 (parameters_of (interface interfaces modules i m)) m.variables) to_state in
         let (to_imports, missing) = none_in _ (missing_faults (interface interfaces modules i m) m) to_missing in
         let (to_interface, imports) = none_in _ (imports_faults modules i m.imports) to_imports in
         let (names, known) = none_in (name_faults modules i m) (interface_faults interfaces m.interface) to_interface in

@@ -11,7 +11,7 @@ use Rattle.circus_fault.proofs.Items.{none_in}
 use Rattle.circus_type.specs.Distinct.{AreDistinct}
 use Rattle.circus_type.specs.Inside.{also_name, repeated_name, inside}
 use Rattle.circus_type.specs.Limits.{most_parts, most_zero_bytes}
-use Rattle.circus_type.specs.Meaning.{written}
+use Rattle.circus_type.specs.Meaning.{shape_of_type}
 use Rattle.circus_type.specs.Obeys.{ObeysInside, ObeysWhole}
 use Rattle.circus_type.specs.Scale.{written_out}
 use Rattle.circus_type.specs.Together.{shapes_of, names_of, parts_of, zero_size_of}
@@ -33,7 +33,7 @@ both_none xs ys a b = ap (λ zs. zs ++ ys) a ∙ b
 pub parts_counted : (forms : TypeName → ShapeTree) (before : ℕ) (vs : List VariableTree) → variables_parts written_out forms before vs ≡ before + parts_of (shapes_of (fields_of forms vs))
 parts_counted forms before [] = omega arith
 parts_counted forms before (v ∷ vs) =
-    omega (arith, parts_counted forms (before + 1 * parts (written forms v.shape)) vs, sum_by-cons parts (written forms v.shape) (shapes_of (fields_of forms vs)))
+    omega (arith, parts_counted forms (before + 1 * parts (shape_of_type forms v.shape)) vs, sum_by-cons parts (shape_of_type forms v.shape) (shapes_of (fields_of forms vs)))
 
 module _ (unknown : TypeName → Option ℕ) (forms : TypeName → ShapeTree) where
   -- variables behind earlier names and so many parts
@@ -53,7 +53,7 @@ module _ (unknown : TypeName → Option ℕ) (forms : TypeName → ShapeTree) wh
       let (front, rest) = none_in (repeated ++ faults) _ none in
       let (own, whole) = none_in repeated faults front in
       let (none_inside, obeys, small) = whole_obeys of_type unknown forms known before 1 v.shape good.0.1 whole in
-      let others = are_clean known (before + 1 * parts (written forms v.shape)) (also_name v.name.name earlier) vs good.1 rest in
+      let others = are_clean known (before + 1 * parts (shape_of_type forms v.shape)) (also_name v.name.name earlier) vs good.1 rest in
       let (early, apart) = names_apart earlier v.name.name (names_of (fields_of forms vs)) others.fresh in
       record {
         fresh = (no_fault _ _ _ own, early);

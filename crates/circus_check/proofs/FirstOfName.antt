@@ -3,7 +3,7 @@ use Rattle.std.proofs.Common.{◌≡◌, ℕ, ◌+◌, Bool, true, false, cond, 
 use Rattle.std.specs.Prelude.{bytes_eq}
 use Rattle.std.specs.List.{position_from}
 use Rattle.std.proofs.lemmas.Slice.Eq.{bytes_eq-Decides}
-use Rattle.circus_fault.specs.Known.{Known, also}
+use Rattle.circus_fault.specs.Known.{Known, add_name}
 use Rattle.circus_check.specs.Seen.Tables.{or_place, also_first}
 
 none_more : (o : Option ℕ) → o ≡ or_place o None
@@ -11,7 +11,7 @@ none_more None = refl
 none_more (Some k) = refl
 
 -- a name that has no place takes one
-pub place_taken : (known : Known) (name : List ℕ) (place : ℕ) → known name ≡ None → also name place known ≡ also_first name place known
+pub place_taken : (known : Known) (name : List ℕ) (place : ℕ) → known name ≡ None → add_name name place known ≡ also_first name place known
 place_taken known name place absent = λ i other. by_test other (bytes_eq name other) refl i
   where
     none : (o : Option ℕ) → o ≡ None → Some place ≡ or_place o (Some place)

@@ -13,7 +13,7 @@ use Rattle.circus_statement.specs.StatementTree.{StatementTree, statement_trees}
 use Rattle.circus_statement.specs.WrittenStatement.{semicolon, ending, spelling_statements, written_statements, spelling_listed}
 use Rattle.circus_lang.specs.ModuleTree.{ModuleTree, VariableTree, ProcedureOf}
 use Rattle.circus_lang.specs.ModuleStanding.{body_stands_for, procedure_stands_for, main_at, main_stands_for, module_stands_for}
-use Rattle.circus_lang.specs.WrittenModule.{WrittenBody, WrittenProcedure, WrittenModule, serving, root, spelling_imports, spelling_heading, spelling_variable, spelling_body, spelling_procedure, spelling_main, closing, spelling_module, IsVariable, IsBody, IsProcedure, IsModule}
+use Rattle.circus_lang.specs.WrittenModule.{WrittenBody, WrittenProcedure, WrittenModule, serving, root, spelling_imports, spelling_heading, spelling_variable, spelling_body, spelling_procedure, spelling_main, module_closing, spelling_module, IsVariable, IsBody, IsProcedure, IsModule}
 use Rattle.circus_fault.specs.Least.{faults_if, is_clean}
 use Rattle.circus_fault.proofs.Items.{of_each}
 use Rattle.circus_type.specs.Inside.{no_name, also_name, repeated_name, inside}
@@ -38,7 +38,7 @@ use Rattle.circus_check.specs.Naming.{Import, good, forward, interface_called, m
 use Rattle.circus_check.specs.Naming as naming
 use Rattle.circus_check.specs.Reach.{shared_at}
 use Rattle.circus_check.specs.Scope.{place_unknown}
-use Rattle.circus_check.specs.Faults.{is_later, name_faults, interface_faults, import_fault, imports_faults, lacking, missing_faults, also_fields, also_variables, parameters_of, variables_faults, variables_parts, plain_faults, fields_of, state_faults, arguments_of, interface, standing, unknown, forms, offered, context, body_faults, procedure_faults, head_faults}
+use Rattle.circus_check.specs.Faults.{is_later, name_faults, interface_faults, import_fault, imports_faults, first_missing, missing_faults, also_fields, also_variables, parameters_of, variables_faults, variables_parts, plain_faults, fields_of, state_faults, arguments_of, interface, standing_of, unknown_place, forms, offer_of, context, body_faults, procedure_faults, head_faults}
 use Rattle.circus_check.specs.Plain.{AreBefore, procedures_all, module_all, ProceduresInOrder, IsInOrder, ModulesInOrder, AreInOrder}
 use Rattle.circus_check.specs.TextOrder.{AreModulesOf}
 
@@ -87,8 +87,8 @@ before low mid high a b first second f g in_first in_second =
 
 module _ (interfaces : List Interface) (modules : List ModuleTree) where
   module _ (i : ℕ) (m : ModuleTree) where
-    told : (t : TypeName) (at : ℕ) → unknown interfaces modules i m t ≡ Some at → (at ≡ place_of_type t) ⊎ (at ≡ t.name.at)
-    told t at is = by_standing (standing interfaces modules i m t) t at is
+    told : (t : TypeName) (at : ℕ) → unknown_place interfaces modules i m t ≡ Some at → (at ≡ place_of_type t) ⊎ (at ≡ t.name.at)
+    told t at is = by_standing (standing_of interfaces modules i m t) t at is
 
     -- ---- procedures
 
@@ -110,9 +110,9 @@ module _ (interfaces : List Interface) (modules : List ModuleTree) where
         let name = lies_wider low mid low s.mid n.at (omega arith) over lies in
         let statements = unopened s.mid high (due (word (codes "BEGIN")) ∷ spelling_statements (written_statements b.statements))
         (front s.mid high (spelling_listed (codes "BEGIN") b.statements) ending s.back) in
-        let names = also_fields (arguments_of (offered interfaces modules i m p)) (also_variables m.variables no_name) in
-        let variables = variables_faults written_out (unknown interfaces modules i m) (forms interfaces modules i m) parts names b.variables in
-        let is_unknown = is_none (offered interfaces modules i m p) in
+        let names = also_fields (arguments_of (offer_of interfaces modules i m p)) (also_variables m.variables no_name) in
+        let variables = variables_faults written_out (unknown_place interfaces modules i m) (forms interfaces modules i m) parts names b.variables in
+        let is_unknown = is_none (offer_of interfaces modules i m p) in
         let goes_on = not (all_end (statement_trees p.body.statements)) in
         record {
           at = s.mid;
@@ -124,7 +124,7 @@ module _ (interfaces : List Interface) (modules : List ModuleTree) where
               (one low s.mid is_unknown n.at Unknown name) (one low s.mid (earlier n.name) n.at (of_type type_cause.Repeated) name))
               (one low s.mid goes_on n.at Unfinished name))
               (wider mid s.mid low s.mid variables up (omega arith)
-              (variables_in (unknown interfaces modules i m) told (forms interfaces modules i m) mid s.mid parts names b.variables well.0 s.front));
+              (variables_in (unknown_place interfaces modules i m) told (forms interfaces modules i m) mid s.mid parts names b.variables well.0 s.front));
           body = listed_in (context interfaces modules i m p) s.mid high b.statements well.1
               (behind s.mid high (due (word (codes "BEGIN"))) (spelling_statements (written_statements b.statements)) statements);
         }
@@ -205,7 +205,7 @@ module _ (interfaces : List Interface) (modules : List ModuleTree) where
       name : Lies low high m.name.at
       of_interface : AreIn low high (interface_faults interfaces m.interface)
       imports : AllByRecursion (λ (n : Named). Lies low high n.at) m.imports
-      variables : AreIn low high (variables_faults written_out (unknown interfaces modules i m) (forms interfaces modules i m) 0 (parameters_of (interface interfaces modules i m)) m.variables)
+      variables : AreIn low high (variables_faults written_out (unknown_place interfaces modules i m) (forms interfaces modules i m) 0 (parameters_of (interface interfaces modules i m)) m.variables)
 
     head_in : (low high : ℕ) → Headed low high → AreIn low high (head_faults interfaces modules i m)
     head_in low high h =
@@ -218,17 +218,17 @@ module _ (interfaces : List Interface) (modules : List ModuleTree) where
         let of_interface = interface_faults interfaces m.interface in
         let imports = imports_faults modules i m.imports in
         let missing = missing_faults own m in
-        let variables = variables_faults written_out (unknown interfaces modules i m) (forms interfaces modules i m) 0 (parameters_of own) m.variables in
-        let state = state_faults (unknown interfaces modules i m) (forms interfaces modules i m) (parameters_of own) m in
+        let variables = variables_faults written_out (unknown_place interfaces modules i m) (forms interfaces modules i m) 0 (parameters_of own) m.variables in
+        let state = state_faults (unknown_place interfaces modules i m) (forms interfaces modules i m) (parameters_of own) m in
         let names_in = joined low high (repeated ++ many) shared
         (joined low high repeated many (one low high (is_later (module_named modules m.name.name) i) at Repeated h.name) (one low high (i == most_modules) at TooMany h.name))
         (one low high (is_some (shared_at modules i)) at cause.Shared h.name) in
-        let is_large = is_clean (plain_faults (unknown interfaces modules i m) (parameters_of own) m.variables) && nat_lt most_zero_bytes (zero_size_of (fields_of (forms interfaces modules i m) m.variables)) in
+        let is_large = is_clean (plain_faults (unknown_place interfaces modules i m) (parameters_of own) m.variables) && nat_lt most_zero_bytes (zero_size_of (fields_of (forms interfaces modules i m) m.variables)) in
         joined low high ((((names ++ of_interface) ++ imports) ++ missing) ++ variables) state
         (joined low high (((names ++ of_interface) ++ imports) ++ missing) variables
         (joined low high ((names ++ of_interface) ++ imports) missing
         (joined low high (names ++ of_interface) imports (joined low high names of_interface names_in h.of_interface) (imports_in low high m.imports h.imports))
-        (one low high (is_some (lacking own m.procedures)) at Missing h.name))
+        (one low high (is_some (first_missing own m.procedures)) at Missing h.name))
         h.variables)
         (one low high is_large at TooLarge h.name)
 
@@ -259,12 +259,12 @@ module _ (interfaces : List Interface) (modules : List ModuleTree) where
       let procedures = each spelling_procedure ps in
       let named_so = due (word (codes "IMPLEMENTS")) ∷ due_name interface_name ∷ spelling_heading ns in
       let begun = due (word (codes "MODULE")) ∷ due_name n ∷ named_so in
-      let s = split low high begun (variables ++ (procedures ++ closing)) rise in
-      let t = split s.mid high variables (procedures ++ closing) s.back in
-      let u = split t.mid high procedures closing t.back in
+      let s = split low high begun (variables ++ (procedures ++ module_closing)) rise in
+      let t = split s.mid high variables (procedures ++ module_closing) s.back in
+      let u = split t.mid high procedures module_closing t.back in
       let over = below s.mid t.mid variables t.front in
       let up : low ≤ t.mid = omega (arith, below low s.mid begun s.front, over) in
-      let ends = below u.mid high closing u.back in
+      let ends = below u.mid high module_closing u.back in
       let name = behind low s.mid (due (word (codes "MODULE"))) (due_name n ∷ named_so) s.front in
       let of_interface = behind low s.mid (due (word (codes "IMPLEMENTS"))) (due_name interface_name ∷ spelling_heading ns) (behind low s.mid (due_name n) named_so name) in
       let imports = behind low s.mid (due_name interface_name) (spelling_heading ns) of_interface in
@@ -275,7 +275,7 @@ module _ (interfaces : List Interface) (modules : List ModuleTree) where
             (lies_wider low s.mid low t.mid interface_name.at (omega arith) over (named low s.mid interface_name (spelling_heading ns) of_interface));
         imports = all_wider low s.mid t.mid ns over (listed_imports i m low s.mid ns (semicolon ∷ due (word (codes "BEGIN")) ∷ []) imports);
         variables = wider s.mid t.mid low t.mid _ (below low s.mid begun s.front) (omega arith)
-            (variables_in (unknown interfaces modules i m) (told i m) (forms interfaces modules i m) s.mid t.mid 0 (parameters_of (interface interfaces modules i m)) vs variables_good t.front);
+            (variables_in (unknown_place interfaces modules i m) (told i m) (forms interfaces modules i m) s.mid t.mid 0 (parameters_of (interface interfaces modules i m)) vs variables_good t.front);
       })
       (λ earlier there. (
       let ordered = procedures_in i m t.mid u.mid earlier (variables_parts written_out (forms interfaces modules i m) 0 vs) no_name ps procedures_good there u.front in
@@ -285,20 +285,20 @@ module _ (interfaces : List Interface) (modules : List ModuleTree) where
       let variables = each spelling_variable vs in
       let main = spelling_main at b in
       let begun = due (word (codes "ROOT")) ∷ due_name n ∷ spelling_heading ns in
-      let s = split low high begun (variables ++ (main ++ closing)) rise in
-      let t = split s.mid high variables (main ++ closing) s.back in
+      let s = split low high begun (variables ++ (main ++ module_closing)) rise in
+      let t = split s.mid high variables (main ++ module_closing) s.back in
       let over = below s.mid t.mid variables t.front in
       let up : low ≤ t.mid = omega (arith, below low s.mid begun s.front, over) in
       let name = behind low s.mid (due (word (codes "ROOT"))) (due_name n ∷ spelling_heading ns) s.front in
       let imports = behind low s.mid (due_name n) (spelling_heading ns) name in
-      let body = front t.mid high main closing t.back in
+      let body = front t.mid high main module_closing t.back in
       whole i m low t.mid high found up (below t.mid high main body) before_it
       (record {
         name = lies_wider low s.mid low t.mid n.at (omega arith) over (named low s.mid n (spelling_heading ns) name);
         of_interface = tt;
         imports = all_wider low s.mid t.mid ns over (listed_imports i m low s.mid ns (semicolon ∷ due (word (codes "BEGIN")) ∷ []) imports);
         variables = wider s.mid t.mid low t.mid _ (below low s.mid begun s.front) (omega arith)
-            (variables_in (unknown interfaces modules i m) (told i m) (forms interfaces modules i m) s.mid t.mid 0 (parameters_of (interface interfaces modules i m)) vs variables_good t.front);
+            (variables_in (unknown_place interfaces modules i m) (told i m) (forms interfaces modules i m) s.mid t.mid 0 (parameters_of (interface interfaces modules i m)) vs variables_good t.front);
       })
       (λ earlier there. main_in i m t.mid high earlier (variables_parts written_out (forms interfaces modules i m) 0 vs) no_name at b body_good there body)
 

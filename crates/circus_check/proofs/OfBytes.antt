@@ -10,7 +10,7 @@ use Rattle.circus_syntax.specs.Placed.{in_quotes}
 use Rattle.circus_syntax.specs.Spelling.{IsText, IsEach, IfWritten}
 use Rattle.circus_expression.specs.declared.operator.Chain.{Chain}
 use Rattle.circus_expression.specs.ExpressionTree.{ExpressionTree, expression, expression_trees, suffix_trees}
-use Rattle.circus_expression.specs.Standing.{joined, beginning, stands_for, leaning, stand_for, suffixes_stand_for, place_stands_for}
+use Rattle.circus_expression.specs.Standing.{join_with, beginning, stands_for, lean_left, stand_for, suffixes_stand_for, place_stands_for}
 use Rattle.circus_expression.specs.Written as e
 use Rattle.circus_expression.specs.Written.{Written, Links, WrittenList, WrittenSuffixes, WrittenPlace, IsWritten, AreLinks, AreWritten, AreSuffixes}
 use Rattle.circus_statement.specs.StatementStanding as statement
@@ -67,9 +67,9 @@ mutual
   of_bytes (e.items t ws) good = list_of_bytes ws good.1
   of_bytes (e.place n ss) good = suffixes_of_bytes ss good.1
 
-  leans : (t : ExpressionTree) (c : Chain) (ls : Links) → IsOfBytes t → AreLinks c ls → IsOfBytes (leaning t ls)
+  leans : (t : ExpressionTree) (c : Chain) (ls : Links) → IsOfBytes t → AreLinks c ls → IsOfBytes (lean_left t ls)
   leans t c e.no_links own good = own
-  leans t c (e.link o w ls) own good = leans (joined o t (stands_for w)) c ls (own, of_bytes w good.2) good.3
+  leans t c (e.link o w ls) own good = leans (join_with o t (stands_for w)) c ls (own, of_bytes w good.2) good.3
 
   list_of_bytes : (ws : WrittenList) → AreWritten ws → AreOfBytes (expression_trees (stand_for ws))
   list_of_bytes e.no_items good = tt

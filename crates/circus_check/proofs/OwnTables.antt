@@ -19,7 +19,7 @@ use Rattle.circus_check.specs.declared.module.Own.{Own}
 use Rattle.circus_check.specs.declared.type_scope.TypeScope.{TypeScope}
 use Rattle.circus_check.specs.Naming.{Import, good, forward, no_module, at_number, interface_named, interface_called}
 use Rattle.circus_check.specs.Scope.{type_in, type_by, type_of, type_behind, type_named, import_named, place_unknown, shape_or}
-use Rattle.circus_check.specs.Faults.{is_later, unknown, forms, parameters_of, missing_faults}
+use Rattle.circus_check.specs.Faults.{is_later, unknown_place, forms, parameters_of, missing_faults}
 use Rattle.circus_check.specs.Seen.Known.{size_named}
 use Rattle.circus_check.specs.Seen.Programs.{AreTold, IsTable, IsTableOf, IsTableAt, IsImported, IsOwn, modules_in, interfaces_in, order_of, parameters_in, missing_among}
 use Rattle.circus_check.specs.Seen.Scoped.{interface_in, standing_in, module_name, known_in, size_among, unknown_in, form_in, size_in, AreSized}
@@ -148,7 +148,7 @@ scope_sized interfaces modules i m scope own imported t = size_found (interface_
 
 module _ (p : Program) (own : Own) (is : IsOwn p own) where
   -- what is unknown in names of types, their shapes and their sizes
-  pub unknown_are : unknown_in own.types ≡ unknown (interfaces_in p) (modules_in p) own.number (module_of own.text.now)
+  pub unknown_are : unknown_in own.types ≡ unknown_place (interfaces_in p) (modules_in p) own.number (module_of own.text.now)
   unknown_are = λ j t. place_unknown (is.types (module_name t) t.name.name j) t
 
   pub forms_are : form_in own.types ≡ forms (interfaces_in p) (modules_in p) own.number (module_of own.text.now)

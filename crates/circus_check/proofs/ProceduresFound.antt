@@ -24,8 +24,8 @@ use Rattle.circus_idl.specs.Obeys.{Obeys}
 use Rattle.circus_lang.specs.ModuleTree.{ModuleTree, ProcedureOf}
 use Rattle.circus_check.specs.Naming.{interface_called}
 use Rattle.circus_check.specs.Scope.{offered_behind, offered_by, offered_in, offered_here, implemented_by}
-use Rattle.circus_check.specs.Faults.{has_procedure, forms, offered, variables_parts, procedure_faults, body_faults, unless_behind, whole_procedure, procedures_faults}
-use Rattle.circus_check.specs.Meaning.{ordered}
+use Rattle.circus_check.specs.Faults.{has_procedure, forms, offer_of, variables_parts, procedure_faults, body_faults, unless_behind, whole_procedure, procedures_faults}
+use Rattle.circus_check.specs.Meaning.{in_interface_order}
 use Rattle.circus_check.specs.Seen.Programs.{order_of}
 use Rattle.circus_check.specs.Seen.Tables.{unless_kept}
 use Rattle.circus_check.proofs.BodiesPlaced.{AreApart, IsThere, in_place}
@@ -66,7 +66,7 @@ module _ (interfaces : List Interface) (modules : List ModuleTree) (i : ℕ) (m 
   whole_none found before names p best (Some f) first is some = whole_found found before names p best (Some f) (Some f) first is refl
 
   -- where nothing is found in it a procedure is offered, and is the first of its name
-  offered_clean : (before : ℕ) (names : List ℕ → Bool) (p : ProcedureOf StatementTree) → procedure_faults interfaces modules i m before names p ≡ [] → is_none (offered interfaces modules i m p) ≡ false
+  offered_clean : (before : ℕ) (names : List ℕ → Bool) (p : ProcedureOf StatementTree) → procedure_faults interfaces modules i m before names p ≡ [] → is_none (offer_of interfaces modules i m p) ≡ false
   offered_clean before names p clean =
       no_fault _ _ _ (none_in _ _ (none_in _ _ (none_in _ _ clean).0).0).0
 
@@ -76,10 +76,10 @@ module _ (interfaces : List Interface) (modules : List ModuleTree) (i : ℕ) (m 
 
   -- one that offers nothing has a fault
   pub nothing_offered : (before : ℕ) (names : List ℕ → Bool) (p : ProcedureOf StatementTree) (best new : Option (Fault CheckCause)) → new ≡ least_from rank best (procedure_faults interfaces modules i m before names p)
-      → offered interfaces modules i m p ≡ None → new ≡ None → ⊥
+      → offer_of interfaces modules i m p ≡ None → new ≡ None → ⊥
   nothing_offered before names p best new is nothing none =
       let offers = offered_clean before names p (found_none (procedure_faults interfaces modules i m before names p) best new is none) in
-      let gone : is_none (offered interfaces modules i m p) ≡ true = ap is_none nothing in
+      let gone : is_none (offer_of interfaces modules i m p) ≡ true = ap is_none nothing in
       cc
 
 -- ---- procedures of an interface
@@ -101,7 +101,7 @@ there_is (Some i) name is = by_place (position_from (λ (p : Procedure). bytes_e
     by_place (Some k) some = (k, some)
 
 -- the procedures in the order of an interface
-pub in_place_is : (interface : Option Interface) (ps : List (ProcedureOf StatementTree)) → in_place (order_of interface) ps ≡ ordered interface ps
+pub in_place_is : (interface : Option Interface) (ps : List (ProcedureOf StatementTree)) → in_place (order_of interface) ps ≡ in_interface_order interface ps
 in_place_is None ps = refl
 in_place_is (Some i) ps = refl
 
@@ -150,7 +150,7 @@ some_found (Some f) = (f ∷ [], refl)
 -- a procedure behind which no fault is kept
 pub record IsClean (interfaces : List Interface) (modules : List ModuleTree) (i : ℕ) (m : ModuleTree) (best : Option (Fault CheckCause)) (names : List ℕ → Bool) (p : ProcedureOf StatementTree) : Type 0 where
   pub nothing : best ≡ None
-  pub offers : is_none (offered interfaces modules i m p) ≡ false
+  pub offers : is_none (offer_of interfaces modules i m p) ≡ false
   pub new : names p.name.name ≡ false
 
 pub clean_is : (interfaces : List Interface) (modules : List ModuleTree) (i : ℕ) (m : ModuleTree) (best after : Option (Fault CheckCause)) (parts : ℕ) (names : List ℕ → Bool) (p : ProcedureOf StatementTree) → parts ≤ 1 + most_parts

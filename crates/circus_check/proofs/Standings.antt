@@ -18,7 +18,7 @@ use Rattle.circus_idl.specs.Obeys.{Obeys}
 use Rattle.circus_lang.specs.ModuleTree.{ModuleTree}
 use Rattle.circus_check.specs.Naming.{Import, good, forward, no_module, interface_named, interface_called, at_number}
 use Rattle.circus_check.specs.Scope.{types_among, type_in, type_by, type_of, type_imported, type_behind, type_named, import_named, place_unknown, shape_or, offered_in, called_in, called_of, called_at, called_by}
-use Rattle.circus_check.specs.Faults.{interface_faults, imports_faults, unknown, forms}
+use Rattle.circus_check.specs.Faults.{interface_faults, imports_faults, unknown_place, forms}
 use Rattle.circus_check.specs.Faults as faults
 use Rattle.circus_check.specs.Meaning.{import_numbers}
 use Rattle.circus_check.proofs.Declared.{type_declared, types_said}
@@ -88,10 +88,10 @@ module _ (interfaces : List Interface) (obey : AllByRecursion Obeys interfaces) 
   named_fits modules n m (Some other) type s is = behind_fits modules (import_named modules n m.imports other) type s is
 
   -- the shape of a name that is known
-  pub known_obeys : (modules : List ModuleTree) (n : ℕ) (m : ModuleTree) (t : TypeName) → unknown interfaces modules n m t ≡ None → ObeysInside (forms interfaces modules n m t)
-  known_obeys modules n m t none = by (faults.standing interfaces modules n m t) refl none
+  pub known_obeys : (modules : List ModuleTree) (n : ℕ) (m : ModuleTree) (t : TypeName) → unknown_place interfaces modules n m t ≡ None → ObeysInside (forms interfaces modules n m t)
+  known_obeys modules n m t none = by (faults.standing_of interfaces modules n m t) refl none
     where
-      by : (s : Standing) → faults.standing interfaces modules n m t ≡ s → place_unknown s t ≡ None → ObeysInside (shape_or s)
+      by : (s : Standing) → faults.standing_of interfaces modules n m t ≡ s → place_unknown s t ≡ None → ObeysInside (shape_or s)
       by (a_type s) is none = (named_fits modules n m (option_map (λ (x : Named). x.name) t.«module») t.name.name s is).inside
       by standing.no_module is none = tt
       by no_type is none = tt

@@ -110,7 +110,7 @@ context_is p own state around offered locals is =
 -- what the body of a procedure may name
 pub body_context : (p : Program) (own : Own) (around : Surroundings) (offered : Offered) (locals : List FieldTree) (procedure : ProcedureOf StatementTree) → IsOwn p own
     → IsAround p own (field_trees (fields_of (form_in own.types) (module_of own.text.now).variables)) around
-    → Some (offered_as offered) ≡ faults.offered (interfaces_in p) (modules_in p) own.number (module_of own.text.now) procedure
+    → Some (offered_as offered) ≡ faults.offer_of (interfaces_in p) (modules_in p) own.number (module_of own.text.now) procedure
     → locals ≡ fields_of (form_in own.types) procedure.body.variables
     → context_around around offered (field_trees locals) ≡ context (interfaces_in p) (modules_in p) own.number (module_of own.text.now) procedure
 body_context p own around offered locals procedure is_own is offers written =

@@ -10,7 +10,7 @@ use Rattle.circus_idl.specs.declared.interface.Interface.{Interface}
 use Rattle.circus_lang.specs.ModuleTree.{ModuleTree, ProcedureOf}
 use Rattle.circus_check.specs.declared.reach.Shared.{Shared as Found}
 use Rattle.circus_check.specs.Answer.{or_else, lacks, SharedBy, shared_by, shares}
-use Rattle.circus_check.specs.Faults.{lacking_of, lacking}
+use Rattle.circus_check.specs.Faults.{lacking_of, first_missing}
 use Rattle.circus_limits.specs.Limits.{most_modules}
 use Rattle.circus_check.specs.Reach.{Shared, shared_at}
 use Rattle.circus_check.specs.Scope.{implemented_by}
@@ -36,11 +36,11 @@ past modules i above = drop_all i (take (suc most_modules) modules) (omega (arit
 -- ---- what modules lack
 
 -- by the order of the interface
-pub lacked_by : (o : Option Interface) (order : List Procedure) (procedures : List (ProcedureOf StatementTree)) → Some order ≡ order_of o → lacking_of order procedures ≡ lacking o procedures
+pub lacked_by : (o : Option Interface) (order : List Procedure) (procedures : List (ProcedureOf StatementTree)) → Some order ≡ order_of o → lacking_of order procedures ≡ first_missing o procedures
 lacked_by None order procedures is = absurd (cc)
 lacked_by (Some i) order procedures is = ap (λ ps. lacking_of ps procedures) (same_Some order i.procedures is)
 
-pub none_lacked : (o : Option Interface) (procedures : List (ProcedureOf StatementTree)) → None ≡ order_of o → None ≡ lacking o procedures
+pub none_lacked : (o : Option Interface) (procedures : List (ProcedureOf StatementTree)) → None ≡ order_of o → None ≡ first_missing o procedures
 none_lacked None procedures is = refl
 none_lacked (Some i) procedures is = absurd (cc)
 
@@ -48,7 +48,7 @@ module _ (interfaces : List Interface) (modules : List ModuleTree) (place : ℕ)
   abbrev pub lacks_from : ℕ → Option Procedure
   lacks_from i = lacks interfaces place (drop i (take (suc most_modules) modules))
 
-  pub lacks_passed : (i : ℕ) (m : ModuleTree) → slice_get modules i ≡ Some m → (i < 33 → cond (m.name.at == place) (lacking (implemented_by interfaces m.interface) m.procedures) None ≡ None) → lacks_from (i + 1) ≡ lacks_from i
+  pub lacks_passed : (i : ℕ) (m : ModuleTree) → slice_get modules i ≡ Some m → (i < 33 → cond (m.name.at == place) (first_missing (implemented_by interfaces m.interface) m.procedures) None ≡ None) → lacks_from (i + 1) ≡ lacks_from i
   lacks_passed i m there none = by (cases_lt i 33)
     where
       by : (i < 33) ⊎ (33 ≤ i) → lacks_from (i + 1) ≡ lacks_from i
@@ -57,7 +57,7 @@ module _ (interfaces : List Interface) (modules : List ModuleTree) (place : ℕ)
           sym (ap (lacks interfaces place) (drop_taken modules (suc most_modules) i m below there) ∙ ap (λ o. or_else o (lacks interfaces place left)) (none below))
       by (inr above) = ap (lacks interfaces place) (past modules (i + 1) (omega (arith, above)) ∙ sym (past modules i above))
 
-  pub lacks_here : (i : ℕ) (m : ModuleTree) (p : Procedure) → slice_get modules i ≡ Some m → i < 33 → cond (m.name.at == place) (lacking (implemented_by interfaces m.interface) m.procedures) None ≡ Some p → lacks_from i ≡ Some p
+  pub lacks_here : (i : ℕ) (m : ModuleTree) (p : Procedure) → slice_get modules i ≡ Some m → i < 33 → cond (m.name.at == place) (first_missing (implemented_by interfaces m.interface) m.procedures) None ≡ Some p → lacks_from i ≡ Some p
   lacks_here i m p there below is =
       let left = drop (i + 1) (take (suc most_modules) modules) in
       ap (lacks interfaces place) (drop_taken modules (suc most_modules) i m below there) ∙ ap (λ o. or_else o (lacks interfaces place left)) is

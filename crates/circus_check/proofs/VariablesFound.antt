@@ -13,12 +13,12 @@ use Rattle.circus_fault.proofs.LeastMore.{least_then, least_step}
 use Rattle.circus_type.specs.declared.measuring.Measure.{Measure}
 use Rattle.circus_type.specs.Inside.{no_name, also_name, repeated_name, inside}
 use Rattle.circus_type.specs.Limits.{most_parts}
-use Rattle.circus_type.specs.Meaning.{written}
+use Rattle.circus_type.specs.Meaning.{shape_of_type}
 use Rattle.circus_type.specs.Scale.{written_out}
 use Rattle.circus_type.specs.Together.{shapes_of, zero_size_of}
 use Rattle.circus_type.specs.Whole.{whole_faults}
 use Rattle.circus_type.specs.Written.{parts, zero_size}
-use Rattle.circus_type.specs.Seen.Measured.{measured, more_parts, cut_off}
+use Rattle.circus_type.specs.Seen.Measured.{measure_of_type, more_parts, cut_off}
 use Rattle.circus_type.proofs.WholeTypes.{sizes_of, with_type, whole_cut}
 use Rattle.circus_resolve.specs.declared.cause.CheckCause.{CheckCause}
 use Rattle.circus_resolve.specs.Causes.{rank, of_type}
@@ -62,13 +62,13 @@ also_either (more_fields name s fs) outer own = ap (also_fields fs) (either_also
 module _ (unknown : TypeName → Option ℕ) where
   pub variables_step : (sizes : TypeName → Measure) (outer own own' : List ℕ → Bool) (v : VariableTree) (rest : List VariableTree) (best mid new whole : Option (Fault CheckCause)) (before after : ℕ)
       → mid ≡ least_from rank best (repeated_name of_type (either outer own) v.name) → own' ≡ also_name v.name.name own
-      → new ≡ least_from rank mid (whole_faults of_type cut_off unknown sizes None before 1 v.shape) → after ≡ more_parts before 1 (measured sizes v.shape)
+      → new ≡ least_from rank mid (whole_faults of_type cut_off unknown sizes None before 1 v.shape) → after ≡ more_parts before 1 (measure_of_type sizes v.shape)
       → least_from rank best (variables_faults cut_off unknown sizes before (either outer own) (v ∷ rest)) ≡ whole
       → least_from rank new (variables_faults cut_off unknown sizes after (either outer own') rest) ≡ whole
   variables_step sizes outer own own' v rest best mid new whole before after named added found counted left =
       (λ i. least_from rank new (variables_faults cut_off unknown sizes (counted i) ((ap (either outer) added ∙ sym (either_also v.name.name outer own)) i) rest))
       ∙ least_step rank new best whole (repeated_name of_type (either outer own) v.name ++ whole_faults of_type cut_off unknown sizes None before 1 v.shape)
-      (variables_faults cut_off unknown sizes (more_parts before 1 (measured sizes v.shape)) (also_name v.name.name (either outer own)) rest)
+      (variables_faults cut_off unknown sizes (more_parts before 1 (measure_of_type sizes v.shape)) (also_name v.name.name (either outer own)) rest)
       (least_then rank best mid new (repeated_name of_type (either outer own) v.name) (whole_faults of_type cut_off unknown sizes None before 1 v.shape) named found) left
 
   pub plain_step : (outer own own' : List ℕ → Bool) (v : VariableTree) (rest : List VariableTree) (best mid new whole : Option (Fault CheckCause))
@@ -84,13 +84,13 @@ module _ (unknown : TypeName → Option ℕ) where
   variables_cut forms before earlier [] = refl
   variables_cut forms before earlier (v ∷ vs) =
       let names = also_name v.name.name earlier in
-      let rest = ap (λ p. variables_faults cut_off unknown (sizes_of forms) p names vs) (with_type forms before 1 v.shape) ∙ variables_cut forms (before + 1 * parts (written forms v.shape)) names vs in
+      let rest = ap (λ p. variables_faults cut_off unknown (sizes_of forms) p names vs) (with_type forms before 1 v.shape) ∙ variables_cut forms (before + 1 * parts (shape_of_type forms v.shape)) names vs in
       λ i. (repeated_name of_type earlier v.name ++ whole_cut of_type unknown forms None before 1 v.shape i) ++ rest i
 
 pub variables_counted : (forms : TypeName → ShapeTree) (before : ℕ) (vs : List VariableTree) → variables_parts cut_off (sizes_of forms) (min before (1 + most_parts)) vs ≡ min (variables_parts written_out forms before vs) (1 + most_parts)
 variables_counted forms before [] = refl
 variables_counted forms before (v ∷ vs) =
-    ap (λ p. variables_parts cut_off (sizes_of forms) p vs) (with_type forms before 1 v.shape) ∙ variables_counted forms (before + 1 * parts (written forms v.shape)) vs
+    ap (λ p. variables_parts cut_off (sizes_of forms) p vs) (with_type forms before 1 v.shape) ∙ variables_counted forms (before + 1 * parts (shape_of_type forms v.shape)) vs
 
 -- the bytes of zero values, in a number that stops above the limit
 pub zeros_step : (bytes z next : ℕ) (f : FieldTree) (rest : List FieldTree) (whole : ℕ) → z ≡ min (zero_size f.shape) 65537 → next ≡ min (bytes + z) 65537 → min (bytes + zero_size_of (f ∷ rest)) 65537 ≡ whole → min (next + zero_size_of rest) 65537 ≡ whole

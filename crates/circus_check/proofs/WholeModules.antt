@@ -27,9 +27,9 @@ use Rattle.circus_check.specs.Read.{IsRead}
 use Rattle.circus_check.specs.Naming.{is_root}
 use Rattle.circus_check.specs.Reach.{reaches, shared_at, imports_of}
 use Rattle.circus_check.specs.Scope.{offered_by, main_offered, offered_here, implemented_by}
-use Rattle.circus_check.specs.Faults.{interface_faults, variables_parts, also_fields, also_variables, parameters_of, arguments_of, lacking_of, lacking, unknown, forms, fields_of, faults}
+use Rattle.circus_check.specs.Faults.{interface_faults, variables_parts, also_fields, also_variables, parameters_of, arguments_of, lacking_of, first_missing, unknown_place, forms, fields_of, faults}
 use Rattle.circus_check.specs.Faults as faults
-use Rattle.circus_check.specs.Meaning.{ModuleMeant, BodyMeant, import_numbers, interface_number, in_order, ordered, body_meant, module_meant, modules_meant}
+use Rattle.circus_check.specs.Meaning.{ModuleMeant, BodyMeant, import_numbers, interface_number, in_order, in_interface_order, body_meant, module_meant, modules_meant}
 use Rattle.circus_check.specs.WellFormed.{IsAt, Reaches, Raised, IsBody, AreBodies, IsMain, HasBodies, IsModule, AreWellFormed}
 use Rattle.circus_check.specs.WellFormed as w
 use Rattle.circus_check.proofs.Alone.{reaches_itself, reaches_through, same_root}
@@ -81,8 +81,8 @@ module _ (interfaces : List Interface) (modules : List ModuleTree) (obey : AllBy
     own : ModuleIsRead m
     own = is_read m (at_place IsRead modules n m read there)
 
-    state_clean : AreClean (unknown interfaces modules n m) form 0 (parameters_of (faults.interface interfaces modules n m)) m.variables
-    state_clean = are_clean (unknown interfaces modules n m) form (known_obeys interfaces obey modules n m) 0 (parameters_of (faults.interface interfaces modules n m)) m.variables own.variables its.state
+    state_clean : AreClean (unknown_place interfaces modules n m) form 0 (parameters_of (faults.interface interfaces modules n m)) m.variables
+    state_clean = are_clean (unknown_place interfaces modules n m) form (known_obeys interfaces obey modules n m) 0 (parameters_of (faults.interface interfaces modules n m)) m.variables own.variables its.state
 
     -- a procedure of the module, where it stands
     record Stands (q : ProcedureOf StatementTree) : Type 0 where
@@ -91,12 +91,12 @@ module _ (interfaces : List Interface) (modules : List ModuleTree) (obey : AllBy
       clean : CleanProcedure interfaces modules n m before earlier q
       is_read : ProcedureIsRead q
       state_few : parts_of (shapes_of state) ≤ before
-      locals : AreClean (unknown interfaces modules n m) form before (also_fields (arguments_of (faults.offered interfaces modules n m q)) (also_variables m.variables no_name)) q.body.variables
+      locals : AreClean (unknown_place interfaces modules n m) form before (also_fields (arguments_of (faults.offer_of interfaces modules n m q)) (also_variables m.variables no_name)) q.body.variables
       few : before + weight q ≤ most_parts
 
     one_stands : (before : ℕ) (earlier : List ℕ → Bool) (q : ProcedureOf StatementTree) → before ≤ most_parts → parts_of (shapes_of state) ≤ before → CleanProcedure interfaces modules n m before earlier q → ProcedureIsRead q → Stands q
     one_stands before earlier q few state_few one given =
-        let locals = are_clean (unknown interfaces modules n m) form (known_obeys interfaces obey modules n m) before (also_fields (arguments_of (faults.offered interfaces modules n m q)) (also_variables m.variables no_name)) q.body.variables given.variables one.locals in
+        let locals = are_clean (unknown_place interfaces modules n m) form (known_obeys interfaces obey modules n m) before (also_fields (arguments_of (faults.offer_of interfaces modules n m q)) (also_variables m.variables no_name)) q.body.variables given.variables one.locals in
         record { before = before; earlier = earlier; clean = one; is_read = given; state_few = state_few; locals = locals; few = omega (arith, locals.few few, parts_counted form before q.body.variables) }
 
     more_parts : (before : ℕ) (q : ProcedureOf StatementTree) → before ≤ variables_parts written_out form before q.body.variables
@@ -150,12 +150,12 @@ module _ (interfaces : List Interface) (modules : List ModuleTree) (obey : AllBy
         ap parts_of (map-append (λ (f : FieldTree). f.shape) locals rest) ∙ omega (arith, sum_by-append parts (shapes_of locals) (shapes_of rest), bodies_parts qs, sum_by-cons weight q qs)
 
     -- a body of a procedure whose offer is known
-    its_body : (q : ProcedureOf StatementTree) (o : Offered) (arguments : List FieldTree) (Raises : ℕ → List ShapeTree → Type 0) → Stands q → faults.offered interfaces modules n m q ≡ Some o → o.arguments ≡ field_trees arguments → ArgumentsObey arguments
+    its_body : (q : ProcedureOf StatementTree) (o : Offered) (arguments : List FieldTree) (Raises : ℕ → List ShapeTree → Type 0) → Stands q → faults.offer_of interfaces modules n m q ≡ Some o → o.arguments ≡ field_trees arguments → ArgumentsObey arguments
         → ((x y : List ℕ) → Contains (names_of state) x → Contains (names_of arguments) y → x ≢ y) → ((number : ℕ) (values : List ShapeTree) → IsReported o number values → Raises number values)
         → IsBody interfaces meant (module_meant interfaces modules n m) arguments (offered.shapes_of o.results) Raises (body_meant interfaces modules n m q)
     its_body q o arguments Raises s offered arguments_are obeyed apart raises =
-        let named : arguments_of (faults.offered interfaces modules n m q) ≡ field_trees arguments = ap arguments_of offered ∙ arguments_are in
-        let locals = subst (λ fs. AreClean (unknown interfaces modules n m) form s.before (also_fields fs (also_variables m.variables no_name)) q.body.variables) named s.locals in
+        let named : arguments_of (faults.offer_of interfaces modules n m q) ≡ field_trees arguments = ap arguments_of offered ∙ arguments_are in
+        let locals = subst (λ fs. AreClean (unknown_place interfaces modules n m) form s.before (also_fields fs (also_variables m.variables no_name)) q.body.variables) named s.locals in
         body_is interfaces modules obey known n m its.imports its.implements s.before s.earlier q o arguments Raises s.clean s.is_read.bytes (parameters_of (faults.interface interfaces modules n m)) state_clean locals offered arguments_are obeyed s.state_few s.few apart raises
 
     -- ---- a root
@@ -163,12 +163,12 @@ module _ (interfaces : List Interface) (modules : List ModuleTree) (obey : AllBy
     has_main : m.interface ≡ None → (p : ProcedureOf StatementTree) → m.procedures ≡ p ∷ [] → IsMain interfaces meant (module_meant interfaces modules n m) (module_meant interfaces modules n m).bodies
     has_main no_interface p alone =
         let here : Contains m.procedures p = subst (λ ps. Contains ps p) (sym alone) (contains_first p []) in
-        let offered : faults.offered interfaces modules n m p ≡ Some main_offered = ap (λ o. offered_here (implemented_by interfaces o) p.name.name) no_interface in
+        let offered : faults.offer_of interfaces modules n m p ≡ Some main_offered = ap (λ o. offered_here (implemented_by interfaces o) p.name.name) no_interface in
         let body = its_body p main_offered [] (λ _ _. ⊥) (standing p here) offered refl no_arguments (λ x y in_state (k, below, is). absurd (omega arith)) (λ number values reported. (let none : None ≡ Some reported.error = reported.found in absurd (cc))) in
         subst (IsMain interfaces meant (module_meant interfaces modules n m)) (sym bodies) body
       where
         bodies : (module_meant interfaces modules n m).bodies ≡ body_meant interfaces modules n m p ∷ []
-        bodies = ap (λ o. map (body_meant interfaces modules n m) (ordered (implemented_by interfaces o) m.procedures)) no_interface ∙ ap (map (body_meant interfaces modules n m)) alone
+        bodies = ap (λ o. map (body_meant interfaces modules n m) (in_interface_order (implemented_by interfaces o) m.procedures)) no_interface ∙ ap (map (body_meant interfaces modules n m)) alone
 
     -- ---- a module
 
@@ -202,24 +202,24 @@ module _ (interfaces : List Interface) (modules : List ModuleTree) (obey : AllBy
           (procedure_body p b.body (among p (contains_first p ps)) b.there b.named, others)
 
       bodies : (module_meant interfaces modules n m).bodies ≡ map (body_meant interfaces modules n m) (in_order k.interface.procedures m.procedures)
-      bodies = ap (λ o. map (body_meant interfaces modules n m) (ordered o m.procedures)) implemented
+      bodies = ap (λ o. map (body_meant interfaces modules n m) (in_interface_order o m.procedures)) implemented
 
       nothing_lacks : lacking_of k.interface.procedures m.procedures ≡ None
-      nothing_lacks = not_some (lacking_of k.interface.procedures m.procedures) (ap (λ o. is_some (lacking o m.procedures)) (sym implemented) ∙ its.complete)
+      nothing_lacks = not_some (lacking_of k.interface.procedures m.procedures) (ap (λ o. is_some (first_missing o m.procedures)) (sym implemented) ∙ its.complete)
 
       has_bodies : AreBodies interfaces meant (module_meant interfaces modules n m) k.interface k.interface.procedures (module_meant interfaces modules n m).bodies
       has_bodies = subst (AreBodies interfaces meant (module_meant interfaces modules n m) k.interface k.interface.procedures) (sym bodies) (bodies_are k.interface.procedures (λ p among. among) nothing_lacks)
 
-      in_order_few : sum_by weight (ordered (faults.interface interfaces modules n m) m.procedures) ≤ sum_by weight m.procedures
-      in_order_few = subst (λ o. sum_by weight (ordered o m.procedures) ≤ sum_by weight m.procedures) (sym implemented) (no_more weight k.interface.procedures m.procedures (procedures_distinct k.interface obeys))
+      in_order_few : sum_by weight (in_interface_order (faults.interface interfaces modules n m) m.procedures) ≤ sum_by weight m.procedures
+      in_order_few = subst (λ o. sum_by weight (in_interface_order o m.procedures) ≤ sum_by weight m.procedures) (sym implemented) (no_more weight k.interface.procedures m.procedures (procedures_distinct k.interface obeys))
 
     -- ---- either
 
     by_shape : (b : Bool) → HasShape b m.interface m.procedures
-        → HasBodies interfaces meant (module_meant interfaces modules n m) b (interface_number interfaces m.interface) × (sum_by weight (ordered (faults.interface interfaces modules n m) m.procedures) ≤ sum_by weight m.procedures)
+        → HasBodies interfaces meant (module_meant interfaces modules n m) b (interface_number interfaces m.interface) × (sum_by weight (in_interface_order (faults.interface interfaces modules n m) m.procedures) ≤ sum_by weight m.procedures)
     by_shape true (no_interface, p, alone) = (
       subst (HasBodies interfaces meant (module_meant interfaces modules n m) true) (ap (interface_number interfaces) (sym no_interface)) (has_main no_interface p alone),
-      subst (λ o. sum_by weight (ordered (implemented_by interfaces o) m.procedures) ≤ sum_by weight m.procedures) (sym no_interface) (omega arith),
+      subst (λ o. sum_by weight (in_interface_order (implemented_by interfaces o) m.procedures) ≤ sum_by weight m.procedures) (sym no_interface) (omega arith),
     )
     by_shape false (name, named) =
         let k = known_interface interfaces name (ap (interface_faults interfaces) (sym named) ∙ its.implements) in (
@@ -233,10 +233,10 @@ module _ (interfaces : List Interface) (modules : List ModuleTree) (obey : AllBy
         record {
           imports = all_map (IsEarlier modules n) _ (import_numbers modules n m.imports) earlier (imports_are_earlier modules n m.imports its.imports);
           types = state_clean.whole;
-          small = state_small (unknown interfaces modules n m) form (parameters_of (faults.interface interfaces modules n m)) m state_clean.plain its.small;
+          small = state_small (unknown_place interfaces modules n m) form (parameters_of (faults.interface interfaces modules n m)) m state_clean.plain its.small;
           parts = (
               let bodies = flat_map (λ (b : BodyMeant). b.locals) (module_meant interfaces modules n m).bodies in
-              omega (arith, ap parts_of (map-append (λ (f : FieldTree). f.shape) state bodies), sum_by-append parts (shapes_of state) (shapes_of bodies), bodies_parts (ordered (faults.interface interfaces modules n m) m.procedures), shape.1, all_few)
+              omega (arith, ap parts_of (map-append (λ (f : FieldTree). f.shape) state bodies), sum_by-append parts (shapes_of state) (shapes_of bodies), bodies_parts (in_interface_order (faults.interface interfaces modules n m) m.procedures), shape.1, all_few)
               );
           bodies = shape.0;
         }

@@ -11,7 +11,7 @@ use Rattle.circus_check.specs.declared.check_fault.CheckFault.TheVariants as ans
 use Rattle.circus_limits.specs.Limits.{most_modules}
 use Rattle.circus_check.specs.Reach.{Shared, shared_at}
 use Rattle.circus_check.specs.Scope.{implemented_by}
-use Rattle.circus_check.specs.Faults.{lacking}
+use Rattle.circus_check.specs.Faults.{first_missing}
 
 -- at a place: the first of the first ones there
 abbrev pub or_else : {X : Type 0} → Option X → Option X → Option X
@@ -22,7 +22,7 @@ or_else (Some x) other = Some x
 abbrev pub lacks : List Interface → ℕ → List ModuleTree → Option Procedure
 lacks interfaces place [] = None
 lacks interfaces place (m ∷ ms) =
-    or_else (cond (m.name.at == place) (lacking (implemented_by interfaces m.interface) m.procedures) None) (lacks interfaces place ms)
+    or_else (cond (m.name.at == place) (first_missing (implemented_by interfaces m.interface) m.procedures) None) (lacks interfaces place ms)
 
 -- which module the root whose name stands at a place shares, with which other root
 pub record SharedBy : Type 0 where

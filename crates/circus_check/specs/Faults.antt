@@ -8,7 +8,7 @@ use Rattle.circus_fault.specs.Least.{faults_if, is_clean}
 use Rattle.circus_statement.specs.StatementTree.{StatementTree, statement_trees}
 use Rattle.circus_type.specs.Inside.{no_name, also_name, repeated_name, inside}
 use Rattle.circus_type.specs.Limits.{most_zero_bytes}
-use Rattle.circus_type.specs.Meaning.{written}
+use Rattle.circus_type.specs.Meaning.{shape_of_type}
 use Rattle.circus_type.specs.Scale.{Scale, written_out}
 use Rattle.circus_type.specs.Together.{zero_size_of}
 use Rattle.circus_type.specs.Whole.{whole_faults}
@@ -64,12 +64,12 @@ abbrev pub lacking_of : List Procedure → List (ProcedureOf StatementTree) → 
 lacking_of [] procedures = None
 lacking_of (p ∷ ps) procedures = cond (has_procedure procedures p.name) (lacking_of ps procedures) (Some p)
 
-abbrev pub lacking : Option Interface → List (ProcedureOf StatementTree) → Option Procedure
-lacking None procedures = None
-lacking (Some i) procedures = lacking_of i.procedures procedures
+abbrev pub first_missing : Option Interface → List (ProcedureOf StatementTree) → Option Procedure
+first_missing None procedures = None
+first_missing (Some i) procedures = lacking_of i.procedures procedures
 
 abbrev pub missing_faults : Option Interface → ModuleTree → Faults
-missing_faults i m = faults_if (is_some (lacking i m.procedures)) m.name.at Missing
+missing_faults i m = faults_if (is_some (first_missing i m.procedures)) m.name.at Missing
 
 -- ---- variables
 
@@ -92,12 +92,12 @@ parameters_of None = no_name
 parameters_of (Some i) = also_parameters i.procedures no_name
 
 -- what names of types come to, in some scale, where this is the place of what is unknown in one
-module _ {S : Type 0} (scale : Scale S) (unknown : TypeName → Option ℕ) (sizes : TypeName → S) where
+module _ {S : Type 0} (scale : Scale S) (unknown_place : TypeName → Option ℕ) (sizes : TypeName → S) where
   -- variables behind so many parts and earlier names, each a whole type
   abbrev pub variables_faults : ℕ → (List ℕ → Bool) → List VariableTree → Faults
   variables_faults parts earlier [] = []
   variables_faults parts earlier (v ∷ vs) =
-      repeated_name of_type earlier v.name ++ whole_faults of_type scale unknown sizes None parts 1 v.shape
+      repeated_name of_type earlier v.name ++ whole_faults of_type scale unknown_place sizes None parts 1 v.shape
       ++ variables_faults (scale.parts_with parts 1 (scale.of_type sizes v.shape)) (also_name v.name.name earlier) vs
 
 -- the parts behind them
@@ -107,18 +107,18 @@ variables_parts scale sizes parts (v ∷ vs) = variables_parts scale sizes (scal
 
 -- the faults of variables but for those of size
 abbrev pub plain_faults : (TypeName → Option ℕ) → (List ℕ → Bool) → List VariableTree → Faults
-plain_faults unknown earlier [] = []
-plain_faults unknown earlier (v ∷ vs) =
-    repeated_name of_type earlier v.name ++ inside of_type unknown v.shape ++ plain_faults unknown (also_name v.name.name earlier) vs
+plain_faults unknown_place earlier [] = []
+plain_faults unknown_place earlier (v ∷ vs) =
+    repeated_name of_type earlier v.name ++ inside of_type unknown_place v.shape ++ plain_faults unknown_place (also_name v.name.name earlier) vs
 
 -- variables as fields, their types written out
 abbrev pub fields_of : (TypeName → ShapeTree) → List VariableTree → List FieldTree
-fields_of forms vs = map (λ (v : VariableTree). record { name = v.name.name; shape = written forms v.shape }) vs
+fields_of forms vs = map (λ (v : VariableTree). record { name = v.name.name; shape = shape_of_type forms v.shape }) vs
 
 -- the zero value of a state, at the module's name, where no other fault stands in the state
 abbrev pub state_faults : (TypeName → Option ℕ) → (TypeName → ShapeTree) → (List ℕ → Bool) → ModuleTree → Faults
-state_faults unknown forms earlier m =
-    faults_if (is_clean (plain_faults unknown earlier m.variables) && nat_lt most_zero_bytes (zero_size_of (fields_of forms m.variables))) m.name.at TooLarge
+state_faults unknown_place forms earlier m =
+    faults_if (is_clean (plain_faults unknown_place earlier m.variables) && nat_lt most_zero_bytes (zero_size_of (fields_of forms m.variables))) m.name.at TooLarge
 
 -- ---- procedures
 
@@ -142,24 +142,24 @@ module _ (interfaces : List Interface) (modules : List ModuleTree) (i : ℕ) (m 
   interface = implemented_by interfaces m.interface
 
   -- what the name of a type stands for, and what is unknown in it
-  abbrev pub standing : TypeName → Standing
-  standing t = type_named interfaces modules i m (option_map (λ (n : Named). n.name) t.«module») t.name.name
+  abbrev pub standing_of : TypeName → Standing
+  standing_of t = type_named interfaces modules i m (option_map (λ (n : Named). n.name) t.«module») t.name.name
 
-  abbrev pub unknown : TypeName → Option ℕ
-  unknown t = place_unknown (standing t) t
+  abbrev pub unknown_place : TypeName → Option ℕ
+  unknown_place t = place_unknown (standing_of t) t
 
   abbrev pub forms : TypeName → ShapeTree
-  forms t = shape_or (standing t)
+  forms t = shape_or (standing_of t)
 
   -- what a procedure offers
-  abbrev pub offered : ProcedureOf StatementTree → Option Offered
-  offered p = offered_here interface p.name.name
+  abbrev pub offer_of : ProcedureOf StatementTree → Option Offered
+  offer_of p = offered_here interface p.name.name
 
   abbrev pub context : ProcedureOf StatementTree → Context
   context p =
       context_of interfaces modules i m
-      (variables_of (field_trees (fields_of forms m.variables)) (arguments_of (offered p)) (field_trees (fields_of forms p.body.variables)))
-      (own_of (offered p))
+      (variables_of (field_trees (fields_of forms m.variables)) (arguments_of (offer_of p)) (field_trees (fields_of forms p.body.variables)))
+      (own_of (offer_of p))
 
   abbrev pub body_faults : ProcedureOf StatementTree → Faults
   body_faults p = all_faults (context p) (statement_trees p.body.statements)
@@ -167,9 +167,9 @@ module _ (interfaces : List Interface) (modules : List ModuleTree) (i : ℕ) (m 
   -- a procedure behind so many parts and earlier procedures, its statements aside
   abbrev pub procedure_faults : ℕ → (List ℕ → Bool) → ProcedureOf StatementTree → Faults
   procedure_faults parts earlier p =
-      faults_if (is_none (offered p)) p.name.at Unknown ++ repeated_name of_type earlier p.name
+      faults_if (is_none (offer_of p)) p.name.at Unknown ++ repeated_name of_type earlier p.name
       ++ faults_if (not (all_end (statement_trees p.body.statements))) p.name.at Unfinished
-      ++ variables_faults written_out unknown forms parts (also_fields (arguments_of (offered p)) (also_variables m.variables no_name)) p.body.variables
+      ++ variables_faults written_out unknown_place forms parts (also_fields (arguments_of (offer_of p)) (also_variables m.variables no_name)) p.body.variables
 
   -- its statements too
   abbrev pub whole_procedure : Faults → ℕ → (List ℕ → Bool) → ProcedureOf StatementTree → Faults
@@ -186,8 +186,8 @@ module _ (interfaces : List Interface) (modules : List ModuleTree) (i : ℕ) (m 
   abbrev pub head_faults : Faults
   head_faults =
       name_faults modules i m ++ interface_faults interfaces m.interface ++ imports_faults modules i m.imports ++ missing_faults interface m
-      ++ variables_faults written_out unknown forms 0 (parameters_of interface) m.variables
-      ++ state_faults unknown forms (parameters_of interface) m
+      ++ variables_faults written_out unknown_place forms 0 (parameters_of interface) m.variables
+      ++ state_faults unknown_place forms (parameters_of interface) m
 
   abbrev pub module_faults : Faults → Faults
   module_faults found =

@@ -48,9 +48,9 @@ abbrev pub in_order : List Procedure → List (ProcedureOf StatementTree) → Li
 in_order [] procedures = []
 in_order (p ∷ ps) procedures = body_named procedures p.name ++ in_order ps procedures
 
-abbrev pub ordered : Option Interface → List (ProcedureOf StatementTree) → List (ProcedureOf StatementTree)
-ordered None procedures = procedures
-ordered (Some i) procedures = in_order i.procedures procedures
+abbrev pub in_interface_order : Option Interface → List (ProcedureOf StatementTree) → List (ProcedureOf StatementTree)
+in_interface_order None procedures = procedures
+in_interface_order (Some i) procedures = in_order i.procedures procedures
 
 module _ (interfaces : List Interface) (modules : List ModuleTree) (i : ℕ) (m : ModuleTree) where
   abbrev pub body_meant : ProcedureOf StatementTree → BodyMeant
@@ -66,7 +66,7 @@ module _ (interfaces : List Interface) (modules : List ModuleTree) (i : ℕ) (m 
     interface = interface_number interfaces m.interface;
     imports = import_numbers modules i m.imports;
     variables = fields_of (forms interfaces modules i m) m.variables;
-    bodies = map body_meant (ordered (interface interfaces modules i m) m.procedures);
+    bodies = map body_meant (in_interface_order (interface interfaces modules i m) m.procedures);
   }
 
 -- modules from a number on

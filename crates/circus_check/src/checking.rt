@@ -11,7 +11,7 @@ ghost use Rattle.circus_check.specs.Answer.{answer_of, lacks, missing_at, shares
 ghost use Rattle.circus_limits.specs.Limits.{most_modules, most_interfaces};
 ghost use Rattle.circus_resolve.specs.Faults.{Faults};
 ghost use Rattle.circus_check.specs.Reach.{shared_at};
-ghost use Rattle.circus_check.specs.Faults.{faults, lacking, module_faults};
+ghost use Rattle.circus_check.specs.Faults.{faults, first_missing, module_faults};
 ghost use Rattle.circus_check.specs.Scope.{implemented_by};
 ghost use Rattle.circus_check.specs.Meaning.{modules_meant, module_meant, interface_number, import_numbers};
 ghost use Rattle.circus_check.specs.Read.{IsRead};
@@ -24,7 +24,7 @@ ghost use Rattle.circus_check.specs.WellFormed.{AreWellFormed};
 use crate::check_fault::CheckFault;
 use crate::checked::{Checked, Interfaces, ResolvedModule, ResolvedModules};
 use crate::known::Known;
-use crate::module::{Own, Program, check_head, lacking};
+use crate::module::{Own, Program, check_head, first_missing};
 use crate::naming::{Import, Naming};
 use crate::procedures::check_procedures;
 use crate::reach::{Reach, Shared};
@@ -79,7 +79,7 @@ pub fn check(
         × (least_from rank None (faults interfaces (map module_of modules)) ≡ Some f)
         × (e ≡ answer_of interfaces (map module_of modules) f))) }
 {
-    let resolved = resolved(alloc, interfaces.as_slice(), modules.as_slice())?;
+    let resolved = resolve_modules(alloc, interfaces.as_slice(), modules.as_slice())?;
     Ok(Checked {
         interfaces,
         modules: resolved,
@@ -97,7 +97,7 @@ fn known_all(alloc: Global, interfaces: &[Interface]) -> Result<Vec<Known<'_>>, 
     Ok(known)
 }
 
-fn resolved(
+fn resolve_modules(
     alloc: Global,
     interfaces: &[Interface],
     modules: &[ModuleText],
@@ -207,11 +207,11 @@ fn add_module<'s>(
     requires before { IsProgress program.now progress.old number }
     ensures { OnOk result (IsProgress program.now progress.new (number + 1)) }
 {
-    let own = program.own(number, text)?;
+    let own = program.own_names(number, text)?;
     progress
         .reach
         .add(program.alloc, program.naming, text.imports.as_slice())?;
-    let shared = progress.reach.shared(program.naming, number);
+    let shared = progress.reach.first_shared(program.naming, number);
     progress.shares.push(shared)?;
     let module = module(program, &mut progress.best, &own, shared)?;
     if progress.best.fault.is_none() {
@@ -304,14 +304,14 @@ fn answer(
         CheckCause::Mistyped => CheckFault::Mistyped(place),
         CheckCause::Unfinished => CheckFault::Unfinished(place),
         CheckCause::Forward => CheckFault::Forward(place),
-        CheckCause::Shared => shared(program, fault.place, shares),
-        CheckCause::Missing => missing(program, fault.place)?,
+        CheckCause::Shared => sharing_fault(program, fault.place, shares),
+        CheckCause::Missing => missing_fault(program, fault.place)?,
         CheckCause::TooMany => CheckFault::TooMany(place),
     })
 }
 
 // Which module the root whose name stands at the place shares, with which other root.
-fn shared(program: &Program<'_, '_>, place: u32, shares: &[Option<Shared>]) -> CheckFault
+fn sharing_fault(program: &Program<'_, '_>, place: u32, shares: &[Option<Shared>]) -> CheckFault
     requires { AreShares shares.now (modules_in program.now) }
     ensures { result
         ≡ shared_told place
@@ -337,24 +337,24 @@ fn shared(program: &Program<'_, '_>, place: u32, shares: &[Option<Shared>]) -> C
 }
 
 // The first procedure that a module lacks.
-fn lacked<'s>(
+fn procedure_missing_in<'s>(
     program: &Program<'_, 's>,
     text: &ModuleText,
 ) -> Result<Option<&'s Procedure>, NoMemory>
     requires { IsProgram program.now }
     ensures { IfOk result (λ found.
         option_map (λ p. p.now) found
-        ≡ lacking (implemented_by (interfaces_in program.now) text.now.interface)
+        ≡ first_missing (implemented_by (interfaces_in program.now) text.now.interface)
         (module_of text.now).procedures) }
 {
     match program.order(text) {
-        Some(order) => Ok(lacking(program.alloc, order, text.procedures.as_slice())?),
+        Some(order) => Ok(first_missing(program.alloc, order, text.procedures.as_slice())?),
         None => Ok(None),
     }
 }
 
 // What the module whose name stands at the place lacks.
-fn missing(program: &Program<'_, '_>, place: u32) -> Result<CheckFault, NoMemory>
+fn missing_fault(program: &Program<'_, '_>, place: u32) -> Result<CheckFault, NoMemory>
     requires { IsProgram program.now }
     ensures { IfOk result (λ e.
         e ≡ missing_at place
@@ -363,7 +363,7 @@ fn missing(program: &Program<'_, '_>, place: u32) -> Result<CheckFault, NoMemory
 {
     for (number, text) in program.naming.modules.iter().enumerate() {
         if number <= MOST_MODULES && text.name.at == place {
-            match lacked(program, text)? {
+            match procedure_missing_in(program, text)? {
                 Some(procedure) => {
                     return Ok(CheckFault::Missing(u64::from(place), procedure.name.copy()?));
                 }

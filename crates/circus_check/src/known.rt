@@ -53,7 +53,7 @@ impl<'s> Known<'s> {
             known.sizes.insert(name, shape_measure(&declared.shape))?;
         }
         for procedure in interface.procedures.as_slice() {
-            let offered = offered(alloc, &errors, procedure)?;
+            let offered = offer_of(alloc, &errors, procedure)?;
             known
                 .procedures
                 .table
@@ -82,7 +82,7 @@ fn put_error<'s>(
 }
 
 // A procedure that reports some of these errors, as those know it who call it.
-fn offered<'s>(
+fn offer_of<'s>(
     alloc: Global,
     errors: &ErrorsByNumber<'s>,
     procedure: &'s Procedure,

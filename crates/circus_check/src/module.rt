@@ -23,7 +23,7 @@ use crate::known::Known;
 use crate::naming::{Import, Naming};
 use crate::reach::Shared;
 use crate::type_scope::TypeScope;
-use crate::variables::{also, state_size, variables};
+use crate::variables::{add_name, state_size, variables};
 use circus_body::Offered;
 use circus_fault::{Best, Names};
 use circus_idl::Procedure;
@@ -60,7 +60,7 @@ pub struct Own<'p, 's> {
 
 impl<'p, 's> Program<'p, 's> {
     // The interface of this name.
-    fn named(&self, name: &Named) -> Option<&'p Known<'s>>
+    fn interface_named(&self, name: &Named) -> Option<&'p Known<'s>>
         requires { IsProgram self.now }
         ensures { IsTable (interface_called (interfaces_in self.now) name.now) result }
     {
@@ -77,12 +77,12 @@ impl<'p, 's> Program<'p, 's> {
     {
         match name {
             None => Some(self.nothing),
-            Some(name) => self.named(name),
+            Some(name) => self.interface_named(name),
         }
     }
 
     // That of the module of a number.
-    fn implemented(&self, number: usize) -> Option<&'p Known<'s>>
+    fn interface_of_module(&self, number: usize) -> Option<&'p Known<'s>>
         requires { IsProgram self.now }
         ensures { IsTableAt (interfaces_in self.now)
             (slice_get (modules_in self.now) number) result }
@@ -100,7 +100,7 @@ impl<'p, 's> Program<'p, 's> {
             ≡ order_of (implemented_by (interfaces_in self.now) text.now.interface) }
     {
         match &text.interface {
-            Some(name) => match self.named(name) {
+            Some(name) => match self.interface_named(name) {
                 Some(known) => Some(known.order),
                 None => None,
             },
@@ -109,13 +109,13 @@ impl<'p, 's> Program<'p, 's> {
     }
 
     // That of an import of a module.
-    fn imported(&self, importing: usize, name: &Named) -> Option<&'p Known<'s>>
+    fn imported_interface(&self, importing: usize, name: &Named) -> Option<&'p Known<'s>>
         requires { IsProgram self.now }
         ensures { IsImported (interfaces_in self.now) (modules_in self.now)
             (Some (import_of (modules_in self.now) importing name.now)) (Some result) }
     {
         match self.naming.import(importing, name) {
-            Import::Good(number) => self.implemented(number),
+            Import::Good(number) => self.interface_of_module(number),
             Import::Forward => None,
             Import::NoModule => None,
         }
@@ -135,13 +135,13 @@ impl<'p, 's> Program<'p, 's> {
     {
         let mut imported = BTreeMap::new(self.alloc);
         for name in imports {
-            imported.insert(name.name.as_slice(), self.imported(importing, name))?;
+            imported.insert(name.name.as_slice(), self.imported_interface(importing, name))?;
         }
         Ok(imported)
     }
 
     /// What the names of a module stand for.
-    pub fn own(&self, number: usize, text: &'s ModuleText) -> Result<Own<'p, 's>, NoMemory>
+    pub fn own_names(&self, number: usize, text: &'s ModuleText) -> Result<Own<'p, 's>, NoMemory>
         requires program { IsProgram self.now }
         requires number { number ≤ most_modules }
         ensures own { IfOk result (IsOwn self.now) }
@@ -217,13 +217,13 @@ fn procedure_names<'a>(
 {
     let mut names = Names::new(alloc);
     for procedure in procedures {
-        also(&mut names, &procedure.name.name)?;
+        add_name(&mut names, &procedure.name.name)?;
     }
     Ok(names)
 }
 
 /// The first procedure of an interface, in its order, that a module lacks.
-pub fn lacking<'p>(
+pub fn first_missing<'p>(
     alloc: Global,
     order: &'p [Procedure],
     procedures: &[ProcedureText],
@@ -248,7 +248,7 @@ pub fn also_fields<'a>(names: &mut Names<'a>, fields: &'a Fields) -> Result<(), 
         ≡ faults.also_fields (field_trees fields.now) (holds_name names.old)) }
 {
     for field in fields.as_slice() {
-        also(names, &field.name)?;
+        add_name(names, &field.name)?;
     }
     Ok(())
 }
@@ -277,7 +277,7 @@ fn check_missing(
         (missing_among (list_now own.now.order) (module_of own.now.text.now))) }
 {
     if let Some(order) = own.order {
-        let missing = lacking(alloc, order, own.text.procedures.as_slice())?;
+        let missing = first_missing(alloc, order, own.text.procedures.as_slice())?;
         best.note(missing.is_some(), own.text.name.at, CheckCause::Missing);
     }
     Ok(())

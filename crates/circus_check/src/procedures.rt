@@ -27,7 +27,7 @@ use crate::checked::{CheckedBodies, CheckedBody};
 use crate::module::{Own, Program, also_fields};
 use crate::naming::first_place;
 use crate::surroundings::Surroundings;
-use crate::variables::{also, fields, variables};
+use crate::variables::{add_name, fields, variables};
 use circus_body::{Callee, Context, Offered, all_end, resolve_statements};
 use circus_checked::CheckedStatements;
 use circus_fault::{Best, Names};
@@ -53,7 +53,7 @@ fn state_names<'a>(alloc: Global, state: &'a [VariableText]) -> Result<Names<'a>
 {
     let mut names = Names::new(alloc);
     for variable in state {
-        also(&mut names, &variable.name.name)?;
+        add_name(&mut names, &variable.name.name)?;
     }
     Ok(names)
 }
@@ -72,7 +72,7 @@ fn argument_names<'a>(alloc: Global, offered: Option<&Offered<'a>>) -> Result<Na
 }
 
 // What a procedure offers.
-fn offered<'p, 's>(
+fn offer_named<'p, 's>(
     program: &Program<'p, 's>,
     own: &Own<'p, 's>,
     name: &[u8],
@@ -126,7 +126,7 @@ fn head<'p, 's>(
 {
     let alloc = program.alloc;
     let name = &procedure.name;
-    let offers = offered(program, own, name.name.as_slice());
+    let offers = offer_named(program, own, name.name.as_slice());
     best.note(offers.is_none(), name.at, CheckCause::Unknown);
     meet_name(&mut so_far.procedures, best, name)?;
     best.note(
@@ -166,11 +166,11 @@ fn statements<'s>(
         (statement_trees procedure.now.statements)) }
 {
     let scope = around.scope(alloc, own.arguments, locals)?;
-    resolved(alloc, best, &scope, &around.callees, own, procedure)
+    resolve_procedure(alloc, best, &scope, &around.callees, own, procedure)
 }
 
 // The statements of a procedure over what it may name.
-fn resolved<'c, 'm, 's>(
+fn resolve_procedure<'c, 'm, 's>(
     alloc: Global,
     best: &mut Best<CheckCause>,
     scope: &'c Scope<'_, 'm, 's>,
@@ -215,7 +215,7 @@ fn body<'s>(
         (field_trees (faults.fields_of (form_in own.now.types)
         (module_of own.now.text.now).variables)) around.now) }
     requires offers { Some (offered_as offers.now)
-        ≡ faults.offered (interfaces_in program.now) (modules_in program.now) own.now.number
+        ≡ faults.offer_of (interfaces_in program.now) (modules_in program.now) own.now.number
         (module_of own.now.text.now) (procedure_of text.now) }
     ensures found { OnOk result
         (best.new.fault ≡ least_from rank best.old.fault

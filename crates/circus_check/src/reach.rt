@@ -73,7 +73,7 @@ impl Reach {
     }
 
     // Whether one of these modules reaches it.
-    fn through(&self, numbers: &[usize], to: usize) -> bool
+    fn any_reaches(&self, numbers: &[usize], to: usize) -> bool
         ensures { result ≡ list_any (λ k. says self.now k to) numbers.now }
     {
         for number in numbers {
@@ -112,7 +112,7 @@ impl Reach {
     {
         let mut row = ListOf::new(alloc);
         for to in 0..number {
-            row.push(self.through(goods, to))?;
+            row.push(self.any_reaches(goods, to))?;
         }
         row.push(true)?;
         Ok(row)
@@ -137,7 +137,7 @@ impl Reach {
     }
 
     /// The lowest module of which this root is the second that reaches it.
-    pub fn shared(&self, naming: &Naming<'_>, second: usize) -> Option<Shared>
+    pub fn first_shared(&self, naming: &Naming<'_>, second: usize) -> Option<Shared>
         requires told { Tells self.now (map module_of naming.now.modules.now) }
         requires there { (second < length self.now.rows) × (length self.now.rows ≤ 64) }
         ensures { option_map shared_as result

@@ -42,7 +42,7 @@ impl<'p, 's> TypeScope<'p, 's> {
     }
 
     // The shape that a name stands for.
-    fn found(&self, name: &TypeName) -> Option<&'s Shape>
+    fn shape_named(&self, name: &TypeName) -> Option<&'s Shape>
         ensures { shape_as result
             ≡ shape_among name.now.name.name
             (known_in (interface_in self.now (module_name name.now))) }
@@ -54,7 +54,7 @@ impl<'p, 's> TypeScope<'p, 's> {
     }
 
     // The size of what a name stands for.
-    fn sized(&self, name: &TypeName) -> Option<Measure>
+    fn size_named(&self, name: &TypeName) -> Option<Measure>
         ensures { unwrap_or result (measure_of boolean) ≡ size_in self.now name.now }
     {
         match self.interface(name) {
@@ -78,17 +78,17 @@ impl<'p, 's> TypeNames for TypeScope<'p, 's> {
             }
         }
         match self.interface(name) {
-            Some(_) if self.found(name).is_none() => Some(name.name.at),
+            Some(_) if self.shape_named(name).is_none() => Some(name.name.at),
             _ => None,
         }
     }
 
     fn measure(&self, name: &TypeName) -> Measure {
-        self.sized(name).unwrap_or(Measure::new(1, 0, 2))
+        self.size_named(name).unwrap_or(Measure::new(1, 0, 2))
     }
 
     fn shape(&self, name: &TypeName) -> Result<Shape, NoMemory> {
-        match self.found(name) {
+        match self.shape_named(name) {
             Some(shape) => shape.copy(),
             None => Ok(Shape::Boolean),
         }

@@ -18,12 +18,12 @@ use circus_fault::{Best, Names};
 use circus_lang::VariableText;
 use circus_resolve::CheckCause;
 use circus_syntax::Named;
-use circus_type::{MOST_ZERO_BYTES, inside, measured, whole, written};
+use circus_type::{MOST_ZERO_BYTES, check_inside, measure_of_type, whole, shape_of_type};
 use circus_value::{Duplicate, Field, Fields, Name, NoMemory};
 use std::alloc::Global;
 
 /// Adds a name to those that stand before.
-pub fn also<'a>(names: &mut Names<'a>, name: &'a Name) -> Result<(), NoMemory>
+pub fn add_name<'a>(names: &mut Names<'a>, name: &'a Name) -> Result<(), NoMemory>
     ensures { OnOk result (holds_name names.new ≡ also_name name.now (holds_name names.old)) }
 {
     names.insert(name.as_slice(), 0)?;
@@ -91,7 +91,7 @@ fn are_plain(
     let mut names = Names::new(alloc);
     for variable in list {
         meet(&mut own, outer, &mut names, &variable.name)?;
-        inside(alloc, scope, &mut own, &variable.shape)?;
+        check_inside(alloc, scope, &mut own, &variable.shape)?;
     }
     Ok(own.fault.is_none())
 }
@@ -105,7 +105,7 @@ fn zero_bytes(scope: &TypeScope<'_, '_>, list: &[VariableText]) -> u32
 {
     let mut bytes: u32 = 0;
     for variable in list {
-        bytes = (bytes + measured(scope, &variable.shape).zeros).min(MOST_ZERO_BYTES + 1);
+        bytes = (bytes + measure_of_type(scope, &variable.shape).zeros).min(MOST_ZERO_BYTES + 1);
     }
     bytes
 }
@@ -147,7 +147,7 @@ pub fn fields(
     for variable in list {
         fields.push(Field {
             name: variable.name.name.copy()?,
-            shape: written(alloc, scope, &variable.shape)?,
+            shape: shape_of_type(alloc, scope, &variable.shape)?,
         })?;
     }
     Ok(fields)

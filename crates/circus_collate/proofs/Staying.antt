@@ -11,7 +11,7 @@ use Rattle.circus_collate.specs.declared.kind.Kind.{Kind}
 use Rattle.circus_collate.specs.declared.kind.Kind.TheVariants as K
 use Rattle.circus_collate.specs.declared.collating.Collated.TheVariants.{Answer, Differ}
 use Rattle.circus_collate.specs.Giving.{first_place, passes_at, counts, votes, have_equal, has_majority, has_number, majority, reached, at_least, first, first_difference, given}
-use Rattle.circus_collate.specs.Collating.{answer, dispute, collated}
+use Rattle.circus_collate.specs.Collating.{answer, dispute, collate}
 use Rattle.circus_collate.proofs.Places.{IsFirst, first_place-only, first_place-nothing, both_pass}
 use Rattle.circus_collate.proofs.Later.{parts_of, is_false, passes_at-append, counts-append, have_equal-append, votes-append, votes-congr, votes-apart}
 use Rattle.circus_collate.proofs.Values.{some_at, below_at, first_majority, reaching}
@@ -44,7 +44,7 @@ module _ {V : Type 0} (eq : V → V → Bool) where
   never_differs (Some place) one other e = cc
 
   pub equal_values : (nodes down : List ℕ) (said : List (Said V)) (kind : Kind) (one other : ℕ) → ((place : ℕ) → place < length said → have_equal eq said 0 place ≡ true)
-      → collated eq nodes down said kind ≡ Differ one other → ⊥
+      → collate eq nodes down said kind ≡ Differ one other → ⊥
   equal_values nodes down said kind one other same e =
       let none = no_dispute nodes down said kind (no_difference said same) in
       never_differs (given eq (λ _. nodes) said kind down) one other (ap (answer (given eq (λ _. nodes) said kind down)) (sym none) ∙ e)
@@ -156,7 +156,7 @@ module _ {V : Type 0} (eq : V → V → Bool) where
   given_of (Some k) d place e = let same : k ≡ place = cc in ap Some same
 
   pub given_values : IsEquivalence eq → (nodes down : List ℕ) (said later : List (Said V)) (kind : Kind) (place : ℕ) → kind ≢ K.Unanimous
-      → collated eq nodes down said kind ≡ Answer place → collated eq nodes down (said ++ later) kind ≡ Answer place
+      → collate eq nodes down said kind ≡ Answer place → collate eq nodes down (said ++ later) kind ≡ Answer place
   given_values laws nodes down said later kind place other e =
       ap (λ o. answer o (dispute eq nodes down (said ++ later) kind))
       (given_stays laws nodes down said later kind place other (given_of (given eq (λ _. nodes) said kind down) (dispute eq nodes down said kind) place e))

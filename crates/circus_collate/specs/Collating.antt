@@ -22,5 +22,5 @@ module _ {V : Type 0} (eq : V → V → Bool) (nodes down : List ℕ) (said : Li
   dispute Majority = if all_have_said said down nodes then first_difference eq said else None
   dispute (AtLeast number) = if all_have_said said down nodes then first_difference eq said else None
 
-  abbrev pub collated : Kind → Collated
-  collated kind = answer (given eq (λ _. nodes) said kind down) (dispute kind)
+  abbrev pub collate : Kind → Collated
+  collate kind = answer (given eq (λ _. nodes) said kind down) (dispute kind)

@@ -4,7 +4,7 @@ ghost use Rattle.circus_collate.specs.Expecting.{nodes_of};
 ghost use Rattle.circus_collate.specs.Collating as collating;
 
 use crate::giving::{all_have_said, first_difference};
-use crate::{Expected, Kind, Said, given};
+use crate::{Expected, Kind, Said, place_given};
 use circus_value::{Duplicate, NoMemory, Nodes};
 
 /// What comes of what was said. Places are counted from 0, in order of arrival.
@@ -31,9 +31,9 @@ pub fn collate<V: Eq>(
     down: &Nodes,
     said: &[Said<V>],
 ) -> Collated
-    ensures { result ≡ collating.collated V.eq (nodes_of expected.now) down.now said.now kind }
+    ensures { result ≡ collating.collate V.eq (nodes_of expected.now) down.now said.now kind }
 {
-    if let Some(place) = given(kind, expected, down, said) {
+    if let Some(place) = place_given(kind, expected, down, said) {
         return Collated::Answer(place);
     }
     match dispute(kind, expected, down, said) {

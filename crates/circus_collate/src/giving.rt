@@ -21,7 +21,7 @@ pub struct Said<V> {
 ///
 /// Under `Majority` and `AtLeast` it is the first place that counts for the value. There what a node said first
 /// counts alone, where the node is expected to say that value.
-pub fn given<V: Eq, E: Expectation<V>>(
+pub fn place_given<V: Eq, E: Expectation<V>>(
     kind: Kind,
     expectation: &E,
     down: &Nodes,
@@ -30,22 +30,22 @@ pub fn given<V: Eq, E: Expectation<V>>(
     ensures { result ≡ giving.given V.eq (E.nodes expectation.now) said.now kind down.now }
 {
     match kind {
-        Kind::First | Kind::Watchdog => first(said),
-        Kind::Unanimous => unanimous(expectation, down, said),
+        Kind::First | Kind::Watchdog => first_place(said),
+        Kind::Unanimous => unanimous_place(expectation, down, said),
         Kind::Majority => majority(expectation, said),
         Kind::AtLeast(number) => at_least(expectation, said, number),
     }
 }
 
 #[tactic(auto, unfolding(crate::specs::Giving::first))]
-fn first<V>(said: &[Said<V>]) -> Option<usize>
+fn first_place<V>(said: &[Said<V>]) -> Option<usize>
     ensures { result ≡ giving.first said.now }
 {
     if said.is_empty() { None } else { Some(0) }
 }
 
 #[tactic(auto, unfolding(crate::specs::Giving::unanimous))]
-fn unanimous<V: Eq, E: Expectation<V>>(
+fn unanimous_place<V: Eq, E: Expectation<V>>(
     expectation: &E,
     down: &Nodes,
     said: &[Said<V>],
@@ -83,7 +83,7 @@ fn at_least<V: Eq, E: Expectation<V>>(
 ) -> Option<usize>
     ensures { result ≡ giving.at_least V.eq (E.nodes expectation.now) said.now number }
 {
-    let last = reached(expectation, said, number)?;
+    let last = reaching_place(expectation, said, number)?;
     for place in 0..said.len() {
         if counts(expectation, said, place) && have_equal(said, last, place) {
             return Some(place);
@@ -94,7 +94,7 @@ fn at_least<V: Eq, E: Expectation<V>>(
 
 // The arrival by which first a value has been said so often.
 #[tactic(auto, unfolding(crate::specs::Giving::reached))]
-fn reached<V: Eq, E: Expectation<V>>(
+fn reaching_place<V: Eq, E: Expectation<V>>(
     expectation: &E,
     said: &[Said<V>],
     number: u16,

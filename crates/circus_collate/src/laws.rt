@@ -53,13 +53,13 @@ pub fn values_are_given_by_votes<V: Eq>()
 pub fn equal_values_do_not_differ<V: Eq>()
     ensures { (nodes down : List ℕ) (said : List (Arrival V)) (collator : Collator) (one other : ℕ)
         → ((place : ℕ) → place < length said → giving.have_equal V.eq said 0 place ≡ true)
-        → collating.collated V.eq nodes down said collator ≢ answers.Differ one other }
+        → collating.collate V.eq nodes down said collator ≢ answers.Differ one other }
 {}
 
 /// More that is said later never takes a given value back, but for `Unanimous`.
 pub fn given_values_stay<V: Eq>()
     ensures { (nodes down : List ℕ) (said later : List (Arrival V)) (collator : Collator)
         (place : ℕ) → collator ≢ kind.Unanimous
-        → collating.collated V.eq nodes down said collator ≡ answers.Answer place
-        → collating.collated V.eq nodes down (said ++ later) collator ≡ answers.Answer place }
+        → collating.collate V.eq nodes down said collator ≡ answers.Answer place
+        → collating.collate V.eq nodes down (said ++ later) collator ≡ answers.Answer place }
 {}

@@ -17,7 +17,7 @@ mod view;
 pub use collating::{Collated, collate};
 pub use deployment::{Deployment, Host, Hosts, Troupe, Troupes};
 pub use expectation::Expectation;
-pub use giving::{Said, given};
+pub use giving::{Said, place_given};
 pub use kind::Kind;
 pub use laws::{
     equal_values_do_not_differ, given_values_stay, given_values_were_said,

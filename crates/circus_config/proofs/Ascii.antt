@@ -13,7 +13,7 @@ use Rattle.circus_syntax.specs.InterfaceTree.{InterfaceTree}
 use Rattle.circus_syntax.specs.Spelling.{IsEach, IsGrammatical}
 use Rattle.circus_fault.specs.declared.fault.Fault.{Fault}
 use Rattle.circus_fault.specs.Least.{is_before, faults_if, lesser, least_from}
-use Rattle.circus_fault.specs.Known.{Known, nobody, also}
+use Rattle.circus_fault.specs.Known.{Known, nobody, add_name}
 use Rattle.circus_fault.specs.Stopping.{cause_of, stop_faults}
 use Rattle.circus_idl.specs.declared.fault.Cause as idl
 use Rattle.circus_idl.specs.declared.fault.Cause.TheVariants as interface
@@ -31,7 +31,7 @@ use Rattle.circus_file.specs.ProgramTree.{ProgramTree}
 use Rattle.circus_limits.specs.Limits.{most_modules, most_interfaces}
 use Rattle.circus_check.specs.Naming.{at_number, interface_named, interface_called}
 use Rattle.circus_check.specs.Scope.{implemented_by}
-use Rattle.circus_check.specs.Faults.{has_procedure, lacking_of, lacking}
+use Rattle.circus_check.specs.Faults.{has_procedure, lacking_of, first_missing}
 use Rattle.circus_check.specs.Plain.{all}
 use Rattle.circus_check.specs.Answer.{SharedBy, or_else, lacks}
 use Rattle.circus_deployment.specs.declared.cause.Cause as deployed
@@ -119,18 +119,18 @@ called_named interfaces n each = by_number (interface_named interfaces n.name)
     by_number None = tt
     by_number (Some k) = interface_got interfaces k each
 
-lacking_named : (interfaces : List Interface) (o : Option Named) (m : ModuleTree) → AllByRecursion HasNames interfaces → IfSome (lacking (implemented_by interfaces o) m.procedures) HasName
+lacking_named : (interfaces : List Interface) (o : Option Named) (m : ModuleTree) → AllByRecursion HasNames interfaces → IfSome (first_missing (implemented_by interfaces o) m.procedures) HasName
 lacking_named interfaces None m each = tt
 lacking_named interfaces (Some n) m each = by_interface (interface_called interfaces n) (called_named interfaces n each)
   where
-    by_interface : (o : Option Interface) → IfSome o HasNames → IfSome (lacking o m.procedures) HasName
+    by_interface : (o : Option Interface) → IfSome o HasNames → IfSome (first_missing o m.procedures) HasName
     by_interface None named = tt
     by_interface (Some i) named = lacking_of_named i.procedures m named
 
 lacks_named : (interfaces : List Interface) (place : ℕ) (ms : List ModuleTree) → AllByRecursion HasNames interfaces → IfSome (lacks interfaces place ms) HasName
 lacks_named interfaces place [] each = tt
 lacks_named interfaces place (m ∷ ms) each =
-    either (m.name.at == place) (lacking (implemented_by interfaces m.interface) m.procedures) (lacking_named interfaces m.interface m each) (lacks_named interfaces place ms each)
+    either (m.name.at == place) (first_missing (implemented_by interfaces m.interface) m.procedures) (lacking_named interfaces m.interface m each) (lacks_named interfaces place ms each)
   where
     either : (t : Bool) (o : Option Procedure) → IfSome o HasName → IfSome (lacks interfaces place ms) HasName → IfSome (or_else (cond t o None) (lacks interfaces place ms)) HasName
     either true None named rest = rest
@@ -155,11 +155,11 @@ module _ (interfaces : List Interface) (modules : List ModuleTree) (named : AllB
   modules_tell (f ∷ fs) = (module_tells f.place f.cause, modules_tell fs)
 
 -- the module that has no troupe is one of them
-without_named : (troupes : Known) (modules : List ModuleTree) → AllByRecursion IsAscii (module_names modules) → IfSome (of_deployment.lacking troupes modules) IsAscii
+without_named : (troupes : Known) (modules : List ModuleTree) → AllByRecursion IsAscii (module_names modules) → IfSome (of_deployment.first_without_troupe troupes modules) IsAscii
 without_named troupes [] each = tt
 without_named troupes (m ∷ ms) each = either (is_none (troupes m.name.name)) (without_named troupes ms each.1)
   where
-    either : (t : Bool) → IfSome (of_deployment.lacking troupes ms) IsAscii → IfSome (cond t (Some m.name.name) (of_deployment.lacking troupes ms)) IsAscii
+    either : (t : Bool) → IfSome (of_deployment.first_without_troupe troupes ms) IsAscii → IfSome (cond t (Some m.name.name) (of_deployment.first_without_troupe troupes ms)) IsAscii
     either true rest = each.0
     either false rest = rest
 
@@ -232,9 +232,9 @@ rules_tell : (cut : Cut) (earlier : Known) (number : ℕ) (is : List InterfaceTr
 rules_tell cut earlier number [] = tt
 rules_tell cut earlier number (i ∷ is) =
     let own = map interface_told (interface_faults cut i) in
-    let rest = interfaces_faults cut (also i.name.name number earlier) (number + 1) is in
+    let rest = interfaces_faults cut (add_name i.name.name number earlier) (number + 1) is in
     appended (name_faults earlier number i ++ own) rest (appended (name_faults earlier number i) own (name_tells earlier number i) (interfaces_tell (interface_faults cut i)))
-    (rules_tell cut (also i.name.name number earlier) (number + 1) is)
+    (rules_tell cut (add_name i.name.name number earlier) (number + 1) is)
 
 read_tells : (stop : Option Stop) (is : List InterfaceTree) → AllByRecursion TellsAt (read_faults stop is)
 read_tells stop is = appended (stop_faults Syntax Deep stop) (interfaces_faults (cut_of stop) nobody 0 is) (stop_tells stop) (rules_tell (cut_of stop) nobody 0 is)
@@ -263,7 +263,7 @@ file_obeys text tree interfaces file =
 checked_tells : (text : List ℕ) (tree : ProgramTree) (interfaces : List Interface) (end : ℕ) → IsFile text tree interfaces → AllByRecursion TellsAt (checked_faults interfaces tree.modules end tree.deployment)
 checked_tells text tree interfaces end file =
     let names = names_ascii text tree interfaces file in
-    let lacks = of_deployment.lacking (troupe_numbers tree.deployment.troupes) tree.modules in
+    let lacks = of_deployment.first_without_troupe (troupe_numbers tree.deployment.troupes) tree.modules in
     appended (map (module_told interfaces tree.modules) (all interfaces tree.modules)) (map (deployment_told lacks) (deployment_faults tree.modules end tree.deployment))
     (modules_tell interfaces tree.modules (interfaces_named interfaces (file_obeys text tree interfaces file)) names (all interfaces tree.modules))
     (deployments_tell lacks (without_named (troupe_numbers tree.deployment.troupes) tree.modules names) (deployment_faults tree.modules end tree.deployment))

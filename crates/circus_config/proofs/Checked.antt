@@ -21,7 +21,7 @@ use Rattle.circus_deployment.specs.declared.deployment_fault.DeploymentFault.The
 use Rattle.circus_deployment.specs.Answer as of_deployed
 use Rattle.circus_deployment.specs.Rank as of_deployment
 use Rattle.circus_deployment.specs.Nodes.{troupe_numbers}
-use Rattle.circus_deployment.specs.Faults.{lacking, deployment_faults}
+use Rattle.circus_deployment.specs.Faults.{first_without_troupe, deployment_faults}
 use Rattle.circus_config.specs.declared.program_fault.ProgramCause.{ProgramCause}
 use Rattle.circus_config.specs.Rank.{rank_of}
 use Rattle.circus_config.specs.Told.{module_names, module_told, deployment_told}
@@ -36,11 +36,11 @@ use Rattle.circus_config.proofs.Answered.{told_is, told_something, modules_answe
 module _ (interfaces : List Interface) (modules : List ModuleTree) (end : ℕ) (d : DeploymentText) where
   -- the least of both is the lesser of the two
   both : (one other : Option (Fault ProgramCause)) → least_from rank_of None (map (module_told interfaces modules) (faults interfaces modules)) ≡ one
-      → least_from rank_of None (map (deployment_told (lacking (troupe_numbers d.troupes) modules)) (deployment_faults modules end d)) ≡ other
+      → least_from rank_of None (map (deployment_told (first_without_troupe (troupe_numbers d.troupes) modules)) (deployment_faults modules end d)) ≡ other
       → least_from rank_of None (looked_faults interfaces modules end d) ≡ joined rank_of one other
   both one other first second =
       let ms = map (module_told interfaces modules) (faults interfaces modules) in
-      let ds = map (deployment_told (lacking (troupe_numbers d.troupes) modules)) (deployment_faults modules end d) in
+      let ds = map (deployment_told (first_without_troupe (troupe_numbers d.troupes) modules)) (deployment_faults modules end d) in
       least_more rank_of None ms ds ∙ ap (λ b. least_from rank_of b ds) first ∙ sym (least_joined rank_of one ds) ∙ ap (joined rank_of one) second
 
   told_of_modules : (f : Fault CheckCause) → least_from rank None (faults interfaces modules) ≡ Some f
@@ -48,34 +48,34 @@ module _ (interfaces : List Interface) (modules : List ModuleTree) (end : ℕ) (
   told_of_modules f is = least_told (modules_in_order interfaces modules) None (faults interfaces modules) ∙ ap (option_map (module_told interfaces modules)) is
 
   told_of_deployment : (f : Fault deployed.Cause) → least_from of_deployment.rank_of None (deployment_faults modules end d) ≡ Some f
-      → least_from rank_of None (map (deployment_told (lacking (troupe_numbers d.troupes) modules)) (deployment_faults modules end d)) ≡ Some (deployment_told (lacking (troupe_numbers d.troupes) modules) f)
+      → least_from rank_of None (map (deployment_told (first_without_troupe (troupe_numbers d.troupes) modules)) (deployment_faults modules end d)) ≡ Some (deployment_told (first_without_troupe (troupe_numbers d.troupes) modules) f)
   told_of_deployment f is =
-      let o = lacking (troupe_numbers d.troupes) modules in
+      let o = first_without_troupe (troupe_numbers d.troupes) modules in
       least_told (deployments_in_order o) None (deployment_faults modules end d) ∙ ap (option_map (deployment_told o)) is
 
   -- a fault of modules alone
   pub first_alone : (f : Fault CheckCause) → least_from rank None (faults interfaces modules) ≡ Some f → deployment_faults modules end d ≡ []
       → least_from rank_of None (looked_faults interfaces modules end d) ≡ Some (module_told interfaces modules f)
   first_alone f is none =
-      both (Some (module_told interfaces modules f)) None (told_of_modules f is) (ap (λ fs. least_from rank_of None (map (deployment_told (lacking (troupe_numbers d.troupes) modules)) fs)) none)
+      both (Some (module_told interfaces modules f)) None (told_of_modules f is) (ap (λ fs. least_from rank_of None (map (deployment_told (first_without_troupe (troupe_numbers d.troupes) modules)) fs)) none)
 
   -- a fault of the deployment alone
   pub second_alone : (f : Fault deployed.Cause) → faults interfaces modules ≡ [] → least_from of_deployment.rank_of None (deployment_faults modules end d) ≡ Some f
-      → least_from rank_of None (looked_faults interfaces modules end d) ≡ Some (deployment_told (lacking (troupe_numbers d.troupes) modules) f)
+      → least_from rank_of None (looked_faults interfaces modules end d) ≡ Some (deployment_told (first_without_troupe (troupe_numbers d.troupes) modules) f)
   second_alone f none is =
-      both None (Some (deployment_told (lacking (troupe_numbers d.troupes) modules) f)) (ap (λ fs. least_from rank_of None (map (module_told interfaces modules) fs)) none) (told_of_deployment f is)
+      both None (Some (deployment_told (first_without_troupe (troupe_numbers d.troupes) modules) f)) (ap (λ fs. least_from rank_of None (map (module_told interfaces modules) fs)) none) (told_of_deployment f is)
 
   -- one of each
   pub of_both : (f : Fault CheckCause) (g : Fault deployed.Cause) (h : Fault ProgramCause) → least_from rank None (faults interfaces modules) ≡ Some f
       → least_from of_deployment.rank_of None (deployment_faults modules end d) ≡ Some g
-      → Some h ≡ lesser rank_of (Some (module_told interfaces modules f)) (deployment_told (lacking (troupe_numbers d.troupes) modules) g)
+      → Some h ≡ lesser rank_of (Some (module_told interfaces modules f)) (deployment_told (first_without_troupe (troupe_numbers d.troupes) modules) g)
       → least_from rank_of None (looked_faults interfaces modules end d) ≡ Some h
   of_both f g h first second is =
-      both (Some (module_told interfaces modules f)) (Some (deployment_told (lacking (troupe_numbers d.troupes) modules) g)) (told_of_modules f first) (told_of_deployment g second) ∙ sym is
+      both (Some (module_told interfaces modules f)) (Some (deployment_told (first_without_troupe (troupe_numbers d.troupes) modules) g)) (told_of_modules f first) (told_of_deployment g second) ∙ sym is
 
   pub neither : faults interfaces modules ≡ [] → deployment_faults modules end d ≡ [] → looked_faults interfaces modules end d ≡ []
   neither first second =
-      λ i. map (module_told interfaces modules) (first i) ++ map (deployment_told (lacking (troupe_numbers d.troupes) modules)) (second i)
+      λ i. map (module_told interfaces modules) (first i) ++ map (deployment_told (first_without_troupe (troupe_numbers d.troupes) modules)) (second i)
 
 -- ---- the answers
 
@@ -87,7 +87,7 @@ module _ (interfaces : List Interface) (modules : List ModuleTree) (end : ℕ) (
   abbrev pub DeploymentAnswers : DeploymentFault → Type 0
   DeploymentAnswers fault =
       (fault ≡ deployed_answer.NoMemory)
-      ⊎ ((f : Fault deployed.Cause) × (least_from of_deployment.rank_of None (deployment_faults modules end d) ≡ Some f) × (fault ≡ of_deployed.answer_of (lacking (troupe_numbers d.troupes) modules) f))
+      ⊎ ((f : Fault deployed.Cause) × (least_from of_deployment.rank_of None (deployment_faults modules end d) ≡ Some f) × (fault ≡ of_deployed.answer_of (first_without_troupe (troupe_numbers d.troupes) modules) f))
 
   abbrev pub IsGiven : ProgramFault → Type 0
   IsGiven answer = IsAnswerTo text (looked_faults interfaces modules end d) answer
@@ -101,10 +101,10 @@ module _ (interfaces : List Interface) (modules : List ModuleTree) (end : ℕ) (
   module_given fault x told = told_something (modules_answer (module_names modules)) fault check_answer.NoMemory x told refl
 
   -- and one of the deployment
-  deployment_is : (fault : DeploymentFault) (x : Fault ProgramCause) (f : Fault deployed.Cause) → deployment_answer fault ≡ Some x → fault ≡ of_deployed.answer_of (lacking (troupe_numbers d.troupes) modules) f
-      → x ≡ deployment_told (lacking (troupe_numbers d.troupes) modules) f
+  deployment_is : (fault : DeploymentFault) (x : Fault ProgramCause) (f : Fault deployed.Cause) → deployment_answer fault ≡ Some x → fault ≡ of_deployed.answer_of (first_without_troupe (troupe_numbers d.troupes) modules) f
+      → x ≡ deployment_told (first_without_troupe (troupe_numbers d.troupes) modules) f
   deployment_is fault x f told is =
-      let lacks = lacking (troupe_numbers d.troupes) modules in
+      let lacks = first_without_troupe (troupe_numbers d.troupes) modules in
       told_is deployment_answer fault (of_deployed.answer_of lacks f) x (deployment_told lacks f) told is (deployment_answered lacks f)
 
   deployment_given : (fault : DeploymentFault) (x : Fault ProgramCause) → deployment_answer fault ≡ Some x → fault ≡ deployed_answer.NoMemory → ⊥

@@ -25,17 +25,17 @@ use Rattle.circus_check.specs.TextOrder.{AreModulesOf}
 use Rattle.circus_check.proofs.ModulesInText.{in_order}
 use Rattle.circus_check.proofs.SameLeast.{modules_same}
 use Rattle.circus_deployment.specs.Nodes.{troupe_numbers}
-use Rattle.circus_deployment.specs.Faults.{lacking, deployment_faults}
+use Rattle.circus_deployment.specs.Faults.{first_without_troupe, deployment_faults}
 use Rattle.circus_config.specs.Rank.{rank_of}
 use Rattle.circus_config.specs.Told.{module_told, deployment_told}
 use Rattle.circus_config.specs.Checking.{checked_faults}
-use Rattle.circus_config.specs.Program.{placed}
+use Rattle.circus_config.specs.Program.{placed_tokens}
 use Rattle.circus_config.specs.Seen.{looked_faults}
 use Rattle.circus_config.proofs.LeastTold.{least_told}
 use Rattle.circus_config.proofs.ToldInOrder.{modules_in_order}
 
 -- the modules of a file stand in it
-pub modules_in_text : (text : List ℕ) (found : List Token) (w : WrittenProgram) → AreTokensOf text found → Are spelling_program IsProgram (placed text found) w → AreModulesOf text (program_stands_for w).modules
+pub modules_in_text : (text : List ℕ) (found : List Token) (w : WrittenProgram) → AreTokensOf text found → Are spelling_program IsProgram (placed_tokens text found) w → AreModulesOf text (program_stands_for w).modules
 modules_in_text text found w tokens are =
     let head = spelling_heading w.format in
     let interfaces = each spelling w.interfaces in
@@ -47,7 +47,7 @@ modules_in_text text found w tokens are =
       after = spelling_deployment w.deployment;
       written = w.modules;
       good = are.good.1;
-      spelled = subst (λ (ds : List Due). AreDue ds (placed text found)) (sym (append_assoc head interfaces rest)) are.spelled;
+      spelled = subst (λ (ds : List Due). AreDue ds (placed_tokens text found)) (sym (append_assoc head interfaces rest)) are.spelled;
       stand = refl;
     }
 
@@ -60,7 +60,7 @@ module _ (text : List ℕ) (interfaces : List Interface) (modules : List ModuleT
   pub same_least : least_from rank_of None (looked_faults interfaces modules end d) ≡ least_from rank_of None (checked_faults interfaces modules end d)
   same_least =
       let told = module_told interfaces modules in
-      let deployed = map (deployment_told (lacking (troupe_numbers d.troupes) modules)) (deployment_faults modules end d) in
+      let deployed = map (deployment_told (first_without_troupe (troupe_numbers d.troupes) modules)) (deployment_faults modules end d) in
       let order = modules_in_order interfaces modules in
       least_more rank_of None (map told (faults interfaces modules)) deployed
       ∙ ap (λ b. least_from rank_of b deployed)

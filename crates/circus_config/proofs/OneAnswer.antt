@@ -25,7 +25,7 @@ use Rattle.circus_config.specs.Rank.{rank_of}
 use Rattle.circus_config.specs.Told.{module_names}
 use Rattle.circus_config.specs.Reading.{read_faults}
 use Rattle.circus_config.specs.Checking.{checked_faults}
-use Rattle.circus_config.specs.Program.{EachMeans, placed, IsFile, IsProgramOf, SaysSame, IsAnswerTo, IsMisread, IsUnchecked, lexical_answer, IsRefused, format_number}
+use Rattle.circus_config.specs.Program.{EachMeans, placed_tokens, IsFile, IsProgramOf, SaysSame, IsAnswerTo, IsMisread, IsUnchecked, lexical_answer, IsRefused, format_number}
 
 -- ---- one tree
 
@@ -50,7 +50,7 @@ record IsSameFile (tree other : ProgramTree) (interfaces others : List Interface
 file_one : (text : List ℕ) (tree other : ProgramTree) (interfaces others : List Interface) → IsFile text tree interfaces → IsFile text other others → IsSameFile tree other interfaces others
 file_one text tree other interfaces others first second =
     let found = same_tokens text first.found second.found first.tokens second.tokens in
-    let written = program_one (placed text second.found) first.written second.written (subst (λ (ts : List Token). Are spelling_program IsProgram (placed text ts) first.written) found first.spelled) second.spelled in
+    let written = program_one (placed_tokens text second.found) first.written second.written (subst (λ (ts : List Token). Are spelling_program IsProgram (placed_tokens text ts) first.written) found first.spelled) second.spelled in
     let trees : tree ≡ other = first.stands ∙ ap program_stands_for written ∙ sym second.stands in
     record {
       trees = trees;
@@ -103,8 +103,8 @@ nothing_given text faults answer none (f, least, is) =
 well_read : (text : List ℕ) (found : List Token) (tree : ProgramTree) (interfaces : List Interface) (answer : ProgramFault) → AreTokensOf text found → IsFile text tree interfaces → IsMisread text found answer → ⊥
 well_read text found tree interfaces answer tokens file misread =
     let same = same_tokens text file.found found file.tokens tokens in
-    let spelled = subst (λ (ts : List Token). Are spelling_program IsProgram (placed text ts) file.written) same file.spelled in
-    let whole = program_read (placed text found) file.written (length text) spelled file.within in
+    let spelled = subst (λ (ts : List Token). Are spelling_program IsProgram (placed_tokens text ts) file.written) same file.spelled in
+    let whole = program_read (placed_tokens text found) file.written (length text) spelled file.within in
     let both : ◌≡◌ {A = WrittenProgram × Reader} (file.written, open_at [] (length text)) (misread.written, record { rest = misread.left; end = length text; stop = misread.stop }) = sym whole ∙ misread.is_read in
     let written = ap (λ (x : WrittenProgram × Reader). x.0) both in
     let stop = ap (λ (x : WrittenProgram × Reader). x.1.stop) both in

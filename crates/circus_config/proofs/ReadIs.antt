@@ -51,12 +51,12 @@ use Rattle.circus_config.specs.declared.program_fault.ProgramFault.{ProgramFault
 use Rattle.circus_config.specs.declared.program_fault.ProgramFault.TheVariants.{Refused, NoMemory}
 use Rattle.circus_config.specs.declared.least.Found.{Found}
 use Rattle.circus_config.specs.declared.least.Least.{Least}
-use Rattle.circus_config.specs.Seen.{fault_of, kept, looked_faults}
+use Rattle.circus_config.specs.Seen.{fault_of, least_fault, looked_faults}
 use Rattle.circus_config.specs.Rank.{rank_of}
 use Rattle.circus_config.specs.Told.{module_names}
 use Rattle.circus_config.specs.Checking.{checked_faults}
 use Rattle.circus_config.specs.Reading.{interfaces_faults, read_faults}
-use Rattle.circus_config.specs.Program.{EachMeans, placed, IsFile, IsStopOf, IsReadOf, IsAnswerTo, IsProgramOf, IsRefused, format_number, HaveTheirRoots, IsPlan}
+use Rattle.circus_config.specs.Program.{EachMeans, placed_tokens, IsFile, IsStopOf, IsReadOf, IsAnswerTo, IsProgramOf, IsRefused, format_number, HaveTheirRoots, IsPlan}
 use Rattle.circus_config.proofs.Looked.{modules_in_text, same_least, none_looked}
 use Rattle.circus_config.proofs.Rules.{clean_of, all_obey, as_many}
 
@@ -98,7 +98,7 @@ clean stop tree interfaces none means =
 
 -- nothing is kept of what is read
 pub clean_read : (stop given : Option Stop) (tree : ProgramTree) (trees : List InterfaceTree) (interfaces : List Interface) (l : Least) → given ≡ stop → trees ≡ tree.interfaces → l.found ≡ None
-    → kept l ≡ least_from rank_of None (read_faults given trees) → IfNone l.found (EachMeans trees interfaces) → IsClean stop tree interfaces
+    → least_fault l ≡ least_from rank_of None (read_faults given trees) → IfNone l.found (EachMeans trees interfaces) → IsClean stop tree interfaces
 clean_read stop given tree trees interfaces l same_stop same none found means =
     let empty = no_least rank_of (read_faults given trees) (sym found ∙ ap (option_map fault_of) none) in
     clean stop tree interfaces ((λ i. read_faults (sym same_stop i) (sym same i)) ∙ empty)
@@ -106,7 +106,7 @@ clean_read stop given tree trees interfaces l same_stop same none found means =
 
 -- a fault is
 pub least_read : (stop given : Option Stop) (tree : ProgramTree) (trees : List InterfaceTree) (l : Least) (fault : Found) → given ≡ stop → trees ≡ tree.interfaces → l.found ≡ Some fault
-    → kept l ≡ least_from rank_of None (read_faults given trees) → least_from rank_of None (read_faults stop tree.interfaces) ≡ Some (fault_of fault)
+    → least_fault l ≡ least_from rank_of None (read_faults given trees) → least_from rank_of None (read_faults stop tree.interfaces) ≡ Some (fault_of fault)
 least_read stop given tree trees l fault same_stop same is found =
     (λ i. least_from rank_of None (read_faults (sym same_stop i) (sym same i))) ∙ sym found ∙ ap (option_map fault_of) is
 
@@ -118,19 +118,19 @@ pub record IsGood (tree : ProgramTree) (interfaces : List Interface) : Type 0 wh
   pub written : IsDeploymentText tree.deployment
 
 module _ (text : List ℕ) (found : List Token) (tree : ProgramTree) (s : Reader) (each : All (IsTokenIn text) found)
-    (is : shown program_stands_for (program most_levels (open_at (placed text found) (length text))) ≡ (tree, s)) where
+    (is : shown program_stands_for (program most_levels (open_at (placed_tokens text found) (length text))) ≡ (tree, s)) where
   written : WrittenProgram
-  written = (program most_levels (open_at (placed text found) (length text))).0
+  written = (program most_levels (open_at (placed_tokens text found) (length text))).0
 
-  written_is : program most_levels (open_at (placed text found) (length text)) ≡ (written, reader s.stop s.rest (length text))
+  written_is : program most_levels (open_at (placed_tokens text found) (length text)) ≡ (written, reader s.stop s.rest (length text))
   unfolding written
-  written_is = of_text (placed text found) written s (length text) (λ i. (written, (is i).1))
+  written_is = of_text (placed_tokens text found) written s (length text) (λ i. (written, (is i).1))
 
   stands : tree ≡ program_stands_for written
   unfolding written
   stands = λ i. (sym is i).0
 
-  tokens_are : AreTokens (placed text found)
+  tokens_are : AreTokens (placed_tokens text found)
   tokens_are = text_tokens text found 0 each
 
   pub misread : (answer : ProgramFault) → length text ≤ longest_text → AreTokensOf text found → IsAnswerTo text (read_faults s.stop tree.interfaces) answer → IsRefused text answer
@@ -144,21 +144,21 @@ module _ (text : List ℕ) (found : List Token) (tree : ProgramTree) (s : Reader
         stop = s.stop;
         left = s.rest;
         is_read = written_is;
-        read_of = read_of (placed text found) s.rest written s.stop (length text) tokens_are written_is;
+        read_of = read_of (placed_tokens text found) s.rest written s.stop (length text) tokens_are written_is;
         given = subst (λ (t : ProgramTree). IsAnswerTo text (read_faults s.stop t.interfaces) answer) stands given;
       },
     ),
   )))
 
   module _ (interfaces : List Interface) (C : IsClean s.stop tree interfaces) where
-    whole : program most_levels (open_at (placed text found) (length text)) ≡ (written, reader None s.rest (length text))
+    whole : program most_levels (open_at (placed_tokens text found) (length text)) ≡ (written, reader None s.rest (length text))
     whole = written_is ∙ ap (λ o. (written, reader o s.rest (length text))) C.going
 
-    are : Are spelling_program IsProgram (placed text found) written
-    are = (program_whole (placed text found) s.rest written (length text) tokens_are whole).1
+    are : Are spelling_program IsProgram (placed_tokens text found) written
+    are = (program_whole (placed_tokens text found) s.rest written (length text) tokens_are whole).1
 
     within : AreWithin most_levels (spelling_program written)
-    within = (program_whole (placed text found) s.rest written (length text) tokens_are whole).2
+    within = (program_whole (placed_tokens text found) s.rest written (length text) tokens_are whole).2
 
     pub file : length text ≤ longest_text → AreTokensOf text found → IsFile text tree interfaces
     file short tokens = record {

@@ -12,7 +12,7 @@ use Rattle.circus_syntax.specs.Spelling.{IsEach, IsGrammatical}
 use Rattle.circus_fault.specs.declared.fault.Fault.{Fault}
 use Rattle.circus_fault.specs.Least.{is_before, faults_if, lesser, least_from}
 use Rattle.circus_fault.specs.Stopping.{cause_of, stop_faults}
-use Rattle.circus_fault.specs.Known.{Known, also}
+use Rattle.circus_fault.specs.Known.{Known, add_name}
 use Rattle.circus_fault.proofs.Items.{none_in}
 use Rattle.circus_fault.proofs.LeastIs.{never_lost, joined, least_joined}
 use Rattle.circus_fault.proofs.LeastMore.{least_more}
@@ -94,10 +94,10 @@ pub clean_of : (earlier : Known) (number : ℕ) (trees : List InterfaceTree) →
 clean_of earlier number [] none = record { each = tt; few = λ low. omega (arith, low) }
 clean_of earlier number (i ∷ is) none =
     let own = map interface_told (interface_faults (cut_of None) i) in
-    let (first, rest) = none_in (name_faults earlier number i ++ own) (interfaces_faults (cut_of None) (also i.name.name number earlier) (number + 1) is) none in
+    let (first, rest) = none_in (name_faults earlier number i ++ own) (interfaces_faults (cut_of None) (add_name i.name.name number earlier) (number + 1) is) none in
     let (name, rules) = none_in (name_faults earlier number i) own first in
     let (again, many) = none_in (faults_if (is_some (earlier i.name.name)) i.name.at _) (faults_if (number == most_interfaces) i.name.at TooMany) name in
-    let others = clean_of (also i.name.name number earlier) (number + 1) is rest in
+    let others = clean_of (add_name i.name.name number earlier) (number + 1) is rest in
     record {
       each = (none_told interface_told (interface_faults (cut_of None) i) rules, others.each);
       few = λ low.

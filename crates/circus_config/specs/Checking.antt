@@ -6,7 +6,7 @@ use Rattle.circus_lang.specs.ModuleTree.{ModuleTree}
 use Rattle.circus_check.specs.Plain.{all}
 use Rattle.circus_troupe.specs.declared.deployment_text.DeploymentText.{DeploymentText}
 use Rattle.circus_deployment.specs.Nodes.{troupe_numbers}
-use Rattle.circus_deployment.specs.Faults.{lacking, deployment_faults}
+use Rattle.circus_deployment.specs.Faults.{first_without_troupe, deployment_faults}
 use Rattle.circus_config.specs.declared.program_fault.ProgramCause.{ProgramCause}
 use Rattle.circus_config.specs.Told.{module_told, deployment_told}
 
@@ -14,4 +14,4 @@ use Rattle.circus_config.specs.Told.{module_told, deployment_told}
 abbrev pub checked_faults : List Interface → List ModuleTree → ℕ → DeploymentText → List (Fault ProgramCause)
 checked_faults interfaces modules end d =
     map (module_told interfaces modules) (all interfaces modules)
-    ++ map (deployment_told (lacking (troupe_numbers d.troupes) modules)) (deployment_faults modules end d)
+    ++ map (deployment_told (first_without_troupe (troupe_numbers d.troupes) modules)) (deployment_faults modules end d)

@@ -56,8 +56,8 @@ EachMeans (t ∷ ts) [] = ⊥
 EachMeans (t ∷ ts) (i ∷ is) = Means t i × EachMeans ts is
 
 -- the tokens of a text
-abbrev pub placed : List ℕ → List Token → List Placed
-placed text ts = placed_from text ts 0
+abbrev pub placed_tokens : List ℕ → List Token → List Placed
+placed_tokens text ts = placed_from text ts 0
 
 -- ---- programs
 
@@ -68,7 +68,7 @@ pub record IsFile (text : List ℕ) (tree : ProgramTree) (interfaces : List Inte
   pub found : List Token
   pub tokens : AreTokensOf text found
   pub written : WrittenProgram
-  pub spelled : Are spelling_program IsProgram (placed text found) written
+  pub spelled : Are spelling_program IsProgram (placed_tokens text found) written
   pub within : AreWithin most_levels (spelling_program written)
   pub stands : tree ≡ program_stands_for written
   pub faultless : read_faults None tree.interfaces ≡ []
@@ -125,8 +125,8 @@ pub record IsMisread (text : List ℕ) (found : List Token) (answer : ProgramFau
   pub written : WrittenProgram
   pub stop : Option Stop
   pub left : List Placed
-  pub is_read : program most_levels (open_at (placed text found) (length text)) ≡ (written, record { rest = left; end = length text; stop = stop })
-  pub read_of : IsReadOf (placed text found) (length text) stop written
+  pub is_read : program most_levels (open_at (placed_tokens text found) (length text)) ≡ (written, record { rest = left; end = length text; stop = stop })
+  pub read_of : IsReadOf (placed_tokens text found) (length text) stop written
   pub given : IsAnswerTo text (read_faults stop written.interfaces) answer
 
 -- the pass that checks finds a fault

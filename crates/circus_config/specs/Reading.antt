@@ -5,7 +5,7 @@ use Rattle.circus_syntax.specs.declared.stopping.Stop.{Stop}
 use Rattle.circus_syntax.specs.InterfaceTree.{InterfaceTree}
 use Rattle.circus_fault.specs.declared.fault.Fault.{Fault}
 use Rattle.circus_fault.specs.Least.{faults_if}
-use Rattle.circus_fault.specs.Known.{Known, nobody, also}
+use Rattle.circus_fault.specs.Known.{Known, nobody, add_name}
 use Rattle.circus_fault.specs.Stopping.{stop_faults}
 use Rattle.circus_idl.specs.Faults.{Cut, cut_of, interface_faults}
 use Rattle.circus_config.specs.declared.program_fault.ProgramCause.{ProgramCause}
@@ -22,7 +22,7 @@ name_faults earlier number i = faults_if (is_some (earlier i.name.name)) i.name.
 abbrev pub interfaces_faults : Cut → Known → ℕ → List InterfaceTree → List (Fault ProgramCause)
 interfaces_faults cut earlier number [] = []
 interfaces_faults cut earlier number (i ∷ is) =
-    name_faults earlier number i ++ map interface_told (interface_faults cut i) ++ interfaces_faults cut (also i.name.name number earlier) (number + 1) is
+    name_faults earlier number i ++ map interface_told (interface_faults cut i) ++ interfaces_faults cut (add_name i.name.name number earlier) (number + 1) is
 
 -- all faults of what is read of a file
 abbrev pub read_faults : Option Stop → List InterfaceTree → List (Fault ProgramCause)

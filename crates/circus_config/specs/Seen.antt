@@ -10,7 +10,7 @@ use Rattle.circus_check.specs.declared.check_fault.CheckFault.{CheckFault}
 use Rattle.circus_check.specs.declared.check_fault.CheckFault.TheVariants as check
 use Rattle.circus_troupe.specs.declared.deployment_text.DeploymentText.{DeploymentText}
 use Rattle.circus_deployment.specs.Nodes.{troupe_numbers}
-use Rattle.circus_deployment.specs.Faults.{lacking, deployment_faults}
+use Rattle.circus_deployment.specs.Faults.{first_without_troupe, deployment_faults}
 use Rattle.circus_deployment.specs.declared.deployment_fault.DeploymentFault.{DeploymentFault}
 use Rattle.circus_deployment.specs.declared.deployment_fault.DeploymentFault.TheVariants as deployment
 use Rattle.circus_config.specs.declared.program_fault.ProgramCause.{ProgramCause}
@@ -22,14 +22,14 @@ use Rattle.circus_config.specs.Told.{name_at, module_told, deployment_told}
 abbrev pub fault_of : Found → Fault ProgramCause
 fault_of f = record { place = f.place; cause = f.cause }
 
-abbrev pub kept : Least → Option (Fault ProgramCause)
-kept l = option_map fault_of l.found
+abbrev pub least_fault : Least → Option (Fault ProgramCause)
+least_fault l = option_map fault_of l.found
 
 -- the faults of the pass that checks, where bodies behind a fault aren't looked into
 abbrev pub looked_faults : List Interface → List ModuleTree → ℕ → DeploymentText → List (Fault ProgramCause)
 looked_faults interfaces modules end d =
     map (module_told interfaces modules) (faults interfaces modules)
-    ++ map (deployment_told (lacking (troupe_numbers d.troupes) modules)) (deployment_faults modules end d)
+    ++ map (deployment_told (first_without_troupe (troupe_numbers d.troupes) modules)) (deployment_faults modules end d)
 
 -- ---- answers of the crates below; want of memory is no fault of a file
 

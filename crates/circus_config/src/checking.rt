@@ -18,7 +18,7 @@ ghost use Rattle.circus_config.specs.Told.{module_names};
 ghost use Rattle.circus_config.specs.Seen.{looked_faults};
 ghost use Rattle.circus_config.specs.Program.{format_number, IsAnswerTo, HaveTheirRoots};
 
-use crate::least::refused;
+use crate::least::refusal_of;
 use crate::told::{of_deployment, of_modules};
 use crate::{ModuleNames, Plan, ProgramFault};
 use circus_check::Interfaces;
@@ -100,13 +100,13 @@ pub fn plan(
                 names,
                 checked,
             }),
-            Err(fault) => Err(refused(bytes, of_deployment(fault)?)),
+            Err(fault) => Err(refusal_of(bytes, of_deployment(fault)?)),
         },
         Err(fault) => {
             let found = of_modules(alloc, &names, fault)?;
             match deployed {
-                Ok(_) => Err(refused(bytes, found)),
-                Err(other) => Err(refused(bytes, found.lesser(of_deployment(other)?))),
+                Ok(_) => Err(refusal_of(bytes, found)),
+                Err(other) => Err(refusal_of(bytes, found.lesser_of(of_deployment(other)?))),
             }
         }
     }

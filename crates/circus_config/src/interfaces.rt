@@ -3,7 +3,7 @@ ghost use Rattle.std.specs.Prelude.{◌≡◌, ◌++◌, [], ◌∷◌, map, Non
 ghost use Rattle.circus_syntax.specs.InterfaceTree.{interface_of};
 ghost use Rattle.circus_fault.specs.Least.{least_from};
 ghost use Rattle.circus_fault.specs.Seen.Tables.{known_of};
-ghost use Rattle.circus_fault.specs.Known.{also};
+ghost use Rattle.circus_fault.specs.Known.{add_name};
 ghost use Rattle.circus_idl.specs.Faults as idl;
 ghost use Rattle.circus_idl.specs.declared.interface.Interface.{Interface};
 ghost use Rattle.circus_idl.specs.Means.{Means};
@@ -11,7 +11,7 @@ ghost use Rattle.circus_config.specs.Rank.{rank_of};
 ghost use Rattle.circus_config.specs.Told.{interface_told};
 ghost use Rattle.circus_config.specs.Reading.{name_faults, read_faults};
 ghost use Rattle.circus_config.specs.Program.{EachMeans};
-ghost use Rattle.circus_config.specs.Seen.{kept};
+ghost use Rattle.circus_config.specs.Seen.{least_fault};
 
 use crate::ProgramCause;
 use crate::least::Least;
@@ -31,10 +31,10 @@ fn name<'a>(
     text: &'a InterfaceText,
 ) -> Result<(), NoMemory>
     ensures found { OnOk result
-        (kept least.new ≡ least_from rank_of (kept least.old)
+        (least_fault least.new ≡ least_from rank_of (least_fault least.old)
         (name_faults (known_of names.old) number (interface_of text.now))) }
     ensures added { OnOk result
-        (known_of names.new ≡ also text.now.name.name number (known_of names.old)) }
+        (known_of names.new ≡ add_name text.now.name.name number (known_of names.old)) }
 {
     let earlier = names.insert(text.name.name.as_slice(), number)?;
     least.note(earlier.is_some(), text.name.at, ProgramCause::Repeated);
@@ -55,7 +55,7 @@ fn rules(
     text: &InterfaceText,
 ) -> Result<(), NoMemory>
     ensures found { OnOk result
-        (kept least.new ≡ least_from rank_of (kept least.old)
+        (least_fault least.new ≡ least_from rank_of (least_fault least.old)
         (map interface_told (idl.read_faults stop.now (interface_of text.now)))) }
     ensures meant { OnOk result
         (IfNone least.new.found
@@ -80,7 +80,7 @@ pub fn interfaces(
     stop: &Option<Stop>,
 ) -> Result<(Least, Interfaces), NoMemory>
     ensures found { IfOk result (λ read.
-        kept read.0 ≡ least_from rank_of None (read_faults stop.now (map interface_of texts.now))) }
+        least_fault read.0 ≡ least_from rank_of None (read_faults stop.now (map interface_of texts.now))) }
     ensures means { IfOk result (λ read.
         IfNone read.0.found (EachMeans (map interface_of texts.now) read.1)) }
 {

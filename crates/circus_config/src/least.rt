@@ -7,7 +7,7 @@ ghost use Rattle.circus_fault.specs.Stopping.{cause_of, stop_faults};
 ghost use Rattle.circus_config.specs.declared.program_fault.ProgramCause.TheVariants.{Syntax, Deep};
 ghost use Rattle.circus_config.specs.declared.program_fault.ProgramFault.{ProgramFault};
 ghost use Rattle.circus_config.specs.Rank.{rank_of};
-ghost use Rattle.circus_config.specs.Seen.{fault_of, kept};
+ghost use Rattle.circus_config.specs.Seen.{fault_of, least_fault};
 
 use crate::{ProgramCause, ProgramFault};
 use circus_syntax::{Stop, StopCause};
@@ -43,7 +43,7 @@ impl Found {
     }
 
     /// This fault, or another one that is found later where that is before it.
-    pub fn lesser(self, other: Found) -> Found
+    pub fn lesser_of(self, other: Found) -> Found
         ensures { Some (fault_of result) ≡ lesser rank_of (Some (fault_of self)) (fault_of other) }
     {
         if other.is_before(&self) { other } else { self }
@@ -62,7 +62,7 @@ fn stop_cause(cause: StopCause) -> ProgramCause
 impl Least {
     /// Where reading stopped, if it did.
     pub fn of_stop(stop: &Option<Stop>) -> Least
-        ensures { kept result ≡ least_from rank_of None (stop_faults Syntax Deep stop.now) }
+        ensures { least_fault result ≡ least_from rank_of None (stop_faults Syntax Deep stop.now) }
     {
         let found = match stop {
             Some(stop) => Some(Found::at(u64::from(stop.place), stop_cause(stop.cause))),
@@ -73,18 +73,18 @@ impl Least {
 
     /// Keeps the lesser of a fault that is found and the one so far.
     pub fn keep(&mut self, found: Found)
-        ensures { kept self.new ≡ lesser rank_of (kept self.old) (fault_of found) }
+        ensures { least_fault self.new ≡ lesser rank_of (least_fault self.old) (fault_of found) }
     {
         self.found = Some(match self.found.take() {
-            Some(kept) => kept.lesser(found),
+            Some(kept) => kept.lesser_of(found),
             None => found,
         });
     }
 
     /// Finds a fault at the place, if it is one.
     pub fn note(&mut self, is_fault: bool, place: u32, cause: ProgramCause)
-        ensures { kept self.new
-            ≡ least_from rank_of (kept self.old) (faults_if is_fault place cause) }
+        ensures { least_fault self.new
+            ≡ least_from rank_of (least_fault self.old) (faults_if is_fault place cause) }
     {
         if is_fault {
             self.keep(Found::at(u64::from(place), cause));
@@ -93,7 +93,7 @@ impl Least {
 }
 
 /// The refusal of a file for a fault.
-pub fn refused(text: &[u8], found: Found) -> ProgramFault
+pub fn refusal_of(text: &[u8], found: Found) -> ProgramFault
     requires { length text.now ≤ longest_text }
     ensures { result ≡ ProgramFault.Refused (line_of text.now found.place) found.cause }
 {

@@ -12,7 +12,7 @@ ghost use Rattle.circus_config.specs.Program.{lexical_answer, IsProgramOf, IsRef
 
 use crate::checking::plan;
 use crate::interfaces::interfaces;
-use crate::least::{Found, refused};
+use crate::least::{Found, refusal_of};
 use crate::{Plan, ProgramCause, ProgramFault};
 use circus_file::program;
 use circus_syntax::Reader;
@@ -25,16 +25,16 @@ fn lexical_answer(text: &[u8], fault: LexFault) -> ProgramFault
 {
     match fault {
         LexFault::BadCharacter(place) => {
-            refused(text, Found::at(place, ProgramCause::BadCharacter))
+            refusal_of(text, Found::at(place, ProgramCause::BadCharacter))
         }
-        LexFault::OpenString(place) => refused(text, Found::at(place, ProgramCause::OpenString)),
-        LexFault::LongNumber(place) => refused(text, Found::at(place, ProgramCause::LongNumber)),
+        LexFault::OpenString(place) => refusal_of(text, Found::at(place, ProgramCause::OpenString)),
+        LexFault::LongNumber(place) => refusal_of(text, Found::at(place, ProgramCause::LongNumber)),
         LexFault::NoMemory => ProgramFault::NoMemory,
     }
 }
 
 // The tokens of a file, if it isn't too long.
-fn lexed(alloc: Global, bytes: &[u8]) -> Result<TokenList, ProgramFault>
+fn tokens_of(alloc: Global, bytes: &[u8]) -> Result<TokenList, ProgramFault>
     ensures short { IfOk result (λ found. length bytes.now ≤ longest_text) }
     ensures found { IfOk result (AreTokensOf bytes.now) }
     ensures each { IfOk result (All (IsTokenIn bytes.now)) }
@@ -66,7 +66,7 @@ fn read_tokens(alloc: Global, bytes: &[u8], found: &[Token]) -> Result<Plan, Pro
     let (least, made) = interfaces(alloc, text.interfaces.as_slice(), &reader.stop())?;
     let kept = least.found;
     match kept {
-        Some(fault) => Err(refused(bytes, fault)),
+        Some(fault) => Err(refusal_of(bytes, fault)),
         None => plan(alloc, bytes, text, made),
     }
 }
@@ -94,7 +94,7 @@ fn read_lexed(alloc: Global, bytes: &[u8]) -> Result<Plan, ProgramFault>
     ensures roots { IfOk result HaveTheirRoots }
     ensures err { IfErr result (λ e. (e ≡ ProgramFault.NoMemory) ⊎ IsRefused bytes.now e) }
 {
-    match lexed(alloc, bytes) {
+    match tokens_of(alloc, bytes) {
         Ok(found) => read_tokens(alloc, bytes, found.as_slice()),
         Err(fault) => Err(fault),
     }

@@ -5,7 +5,7 @@ use Rattle.std.specs.List.{AllByRecursion}
 use Rattle.std.proofs.lemmas.Bool.{eq-eqb}
 use Rattle.std.proofs.lemmas.Slice.Eq.{bytes_eq-Decides}
 use Rattle.circus_fault.specs.Least.{faults_if, out_of}
-use Rattle.circus_fault.specs.Known.{Known, nobody, also, numbers_behind, numbers_of}
+use Rattle.circus_fault.specs.Known.{Known, nobody, add_name, numbers_behind, numbers_of}
 use Rattle.circus_fault.proofs.Items.{none_in}
 use Rattle.circus_fault.proofs.KnownNames.{IsFresh, apart}
 use Rattle.circus_fault.proofs.NoFaults.{no_fault, in_range}
@@ -18,7 +18,7 @@ use Rattle.circus_troupe.specs.declared.deployment_text.HostText.{HostText}
 use Rattle.circus_troupe.specs.declared.deployment_text.TroupeText.{TroupeText}
 use Rattle.circus_deployment.specs.declared.cause.Cause.TheVariants.{Unknown, Repeated, OutOfRange, TooMany}
 use Rattle.circus_limits.specs.Limits.{most_nodes, most_members, most_needed, greatest_port}
-use Rattle.circus_deployment.specs.Faults.{Before, node_faults, behind_node, nodes_faults, needed_faults, crowd_faults, troupe_faults, troupes_faults, lacking}
+use Rattle.circus_deployment.specs.Faults.{Before, node_faults, behind_node, nodes_faults, needed_faults, crowd_faults, troupe_faults, troupes_faults, first_without_troupe}
 
 abbrev pub host_name : HostText → List ℕ
 host_name h = h.name.name
@@ -103,14 +103,14 @@ pub record AreTroupes (modules earlier : Known) (ts : List TroupeText) : Type 0 
 pub troupes_clean : (modules earlier : Known) (number : ℕ) (ts : List TroupeText) → troupes_faults modules earlier number ts ≡ [] → AreTroupes modules earlier ts
 troupes_clean modules earlier number [] none = record { fresh = tt; names = tt; clean = tt }
 troupes_clean modules earlier number (t ∷ ts) none =
-    let (own, rest) = none_in (troupe_faults modules earlier t) (troupes_faults modules (also t.name.name number earlier) (number + 1) ts) none in
+    let (own, rest) = none_in (troupe_faults modules earlier t) (troupes_faults modules (add_name t.name.name number earlier) (number + 1) ts) none in
     let unknown_ones = faults_if (is_none (modules t.name.name)) t.name.at Unknown in
     let again_ones = faults_if (is_some (earlier t.name.name)) t.name.at Repeated in
     let (four, many) = none_in (unknown_ones ++ again_ones ++ needed_faults t.calls.kind ++ needed_faults t.replies.kind) (crowd_faults (slice_get t.members most_members)) own in
     let (three, replies) = none_in (unknown_ones ++ again_ones ++ needed_faults t.calls.kind) (needed_faults t.replies.kind) four in
     let (two, calls) = none_in (unknown_ones ++ again_ones) (needed_faults t.calls.kind) three in
     let (unknown, again) = none_in unknown_ones again_ones two in
-    let others = troupes_clean modules (also t.name.name number earlier) (number + 1) ts rest in
+    let others = troupes_clean modules (add_name t.name.name number earlier) (number + 1) ts rest in
     let (fresh_names, other_names) = apart (λ (n : List ℕ). n) earlier t.name.name number (map troupe_name ts) others.fresh in
     record {
       fresh = (no_fault _ _ _ again, fresh_names);
@@ -131,11 +131,11 @@ troupes_clean modules earlier number (t ∷ ts) none =
 abbrev pub module_name : ModuleTree → List ℕ
 module_name m = m.name.name
 
-pub none_lacks : (troupes : Known) (ms : List ModuleTree) → lacking troupes ms ≡ None → AllByRecursion (λ (m : ModuleTree). is_none (troupes m.name.name) ≡ false) ms
+pub none_lacks : (troupes : Known) (ms : List ModuleTree) → first_without_troupe troupes ms ≡ None → AllByRecursion (λ (m : ModuleTree). is_none (troupes m.name.name) ≡ false) ms
 none_lacks troupes [] none = tt
 none_lacks troupes (m ∷ ms) none = by_test (λ later. none_lacks troupes ms later) (is_none (troupes m.name.name)) refl none
   where
-    by_test : (lacking troupes ms ≡ None → AllByRecursion (λ (n : ModuleTree). is_none (troupes n.name.name) ≡ false) ms) → (b : Bool) → is_none (troupes m.name.name) ≡ b → cond b (Some m.name.name) (lacking troupes ms) ≡ None
+    by_test : (first_without_troupe troupes ms ≡ None → AllByRecursion (λ (n : ModuleTree). is_none (troupes n.name.name) ≡ false) ms) → (b : Bool) → is_none (troupes m.name.name) ≡ b → cond b (Some m.name.name) (first_without_troupe troupes ms) ≡ None
         → AllByRecursion (λ (n : ModuleTree). is_none (troupes n.name.name) ≡ false) (m ∷ ms)
     by_test others true is none = absurd (cc)
     by_test others false is none = (is, others none)
@@ -146,7 +146,7 @@ item_behind : {X : Type 0} (name_of : X → List ℕ) (known : Known) (n : ℕ) 
     → (known name ≡ Some k) ⊎ ((j : ℕ) × (k ≡ n + j) × (x : X) × (slice_get xs j ≡ Some x) × (name_of x ≡ name))
 item_behind name_of known n [] name k is = inl is
 item_behind {X} name_of known n (x ∷ xs) name k is =
-    elim (item_behind name_of (also (name_of x) n known) (n + 1) xs name k is) [
+    elim (item_behind name_of (add_name (name_of x) n known) (n + 1) xs name k is) [
       | inl before ↦ by_test (bytes_eq (name_of x) name) refl before
       | inr there ↦ inr (suc there.0, omega (arith, there.1), there.2, there.3, there.4)
     ]

@@ -33,9 +33,9 @@ use Rattle.circus_collate.specs.declared.deployment.Troupe.{Troupe}
 use Rattle.circus_collate.specs.declared.deployment.Host.{Host}
 use Rattle.circus_collate.specs.Deployment.{is_word, IsKind, IsTroupe, IsHost, IsDeployment}
 use Rattle.circus_limits.specs.Limits.{most_nodes, greatest_port}
-use Rattle.circus_deployment.specs.Nodes.{spares_of, hosts_of, ringmaster_host, nodes_of, numbered_from, numbered, module_numbers, troupe_numbers}
+use Rattle.circus_deployment.specs.Nodes.{spares_of, hosts_of, ringmaster_host, nodes_of, numbered_from, number_troupes, module_numbers, troupe_numbers}
 use Rattle.circus_deployment.specs.Nodes as nodes
-use Rattle.circus_deployment.specs.Faults.{no_nodes, nodes_faults, troupes_faults, lacking, deployment_faults}
+use Rattle.circus_deployment.specs.Faults.{no_nodes, nodes_faults, troupes_faults, first_without_troupe, deployment_faults}
 use Rattle.circus_deployment.specs.Meaning.{kind_of, host_meant, module_of_troupe, hosts_meant, nodes_meant, numbers_from, troupe_meant, troupe_at, troupes_meant, deployment_meant}
 use Rattle.circus_deployment.proofs.Clean.{host_name, host_port, troupe_name, module_name, AreNodes, nodes_clean, IsNeeded, IsTroupeClean, AreTroupes, troupes_clean, none_lacks, item_of, some_number}
 use Rattle.circus_deployment.proofs.Hosting.{numbers_more, numbered_at, numbered_in, in_place, mapped_at, Single, members_are}
@@ -227,8 +227,8 @@ number_there modules m own t distinct there named H =
 
 record TroupeOf (ts : List TroupeText) (m : ModuleTree) (x : nodes.Numbered) : Type 0 where
   place : ℕ
-  found_at : troupe_at (numbered ts) (troupe_numbers ts m.name.name) ≡ Some x
-  there : slice_get (numbered ts) place ≡ Some x
+  found_at : troupe_at (number_troupes ts) (troupe_numbers ts m.name.name) ≡ Some x
+  there : slice_get (number_troupes ts) place ≡ Some x
   named : x.troupe.name.name ≡ m.name.name
 
 numbered_there : (n : ℕ) (ts : List TroupeText) (k : ℕ) (t : TroupeText) → slice_get ts k ≡ Some t → (x : nodes.Numbered) × (slice_get (numbered_from n ts) k ≡ Some x) × (x.troupe ≡ t)
@@ -241,7 +241,7 @@ troupe_of ts m none =
     let (k, is) = some_number (troupe_numbers ts m.name.name) none in
     let (t, there, named) = item_of troupe_name ts m.name.name k is in
     let (x, here, own) = numbered_there 1 ts k t there in
-    (x, record { place = k; found_at = ap (troupe_at (numbered ts)) is ∙ here; there = here; named = ap troupe_name own ∙ named })
+    (x, record { place = k; found_at = ap (troupe_at (number_troupes ts)) is ∙ here; there = here; named = ap troupe_name own ∙ named })
 
 all_troupes : (ts : List TroupeText) (ms : List ModuleTree) → AllByRecursion (λ (m : ModuleTree). is_none (troupe_numbers ts m.name.name) ≡ false) ms → AllByRecursion (λ (m : ModuleTree). (x : nodes.Numbered) × TroupeOf ts m x) ms
 all_troupes ts [] all = tt
@@ -263,11 +263,11 @@ record AreMade (ts : List TroupeText) (ms : List ModuleTree) (troupes : List Tro
   many : length troupes ≡ length ms
   each : (k : ℕ) (troupe : Troupe) → slice_get troupes k ≡ Some troupe → Made ts ms k troupe
 
-made : (ts : List TroupeText) (ms : List ModuleTree) → AllByRecursion (λ (m : ModuleTree). (x : nodes.Numbered) × TroupeOf ts m x) ms → AreMade ts ms (troupes_meant (numbered ts) (troupe_numbers ts) ms)
+made : (ts : List TroupeText) (ms : List ModuleTree) → AllByRecursion (λ (m : ModuleTree). (x : nodes.Numbered) × TroupeOf ts m x) ms → AreMade ts ms (troupes_meant (number_troupes ts) (troupe_numbers ts) ms)
 made ts [] all = record { many = refl; each = λ k troupe is. absurd (cc) }
 made ts (m ∷ ms) all =
     let others = made ts ms all.1 in
-    let rest = troupes_meant (numbered ts) (troupe_numbers ts) ms in
+    let rest = troupes_meant (number_troupes ts) (troupe_numbers ts) ms in
     subst (AreMade ts (m ∷ ms)) (sym (ap (λ o. option_to_list (option_map (troupe_meant m) o) ++ rest) all.0.1.found_at))
     (record { many = omega (arith, others.many); each = made_more ts m ms all.0.0 rest all.0.1 others.each })
 
@@ -312,9 +312,9 @@ none_is (Some x) is = absurd (cc)
 
 -- each part has no fault
 none_in_each : (modules : List ModuleTree) (end : ℕ) (d : DeploymentText) → deployment_faults modules end d ≡ []
-    → (nodes_faults no_nodes (nodes_of d) ≡ []) × (troupes_faults (module_numbers modules) nobody 0 d.troupes ≡ []) × (lacking (troupe_numbers d.troupes) modules ≡ None)
+    → (nodes_faults no_nodes (nodes_of d) ≡ []) × (troupes_faults (module_numbers modules) nobody 0 d.troupes ≡ []) × (first_without_troupe (troupe_numbers d.troupes) modules ≡ None)
 none_in_each modules end d none =
-    let lacks = lacking (troupe_numbers d.troupes) modules in
+    let lacks = first_without_troupe (troupe_numbers d.troupes) modules in
     let (two, missing) = none_in (nodes_faults no_nodes (nodes_of d) ++ troupes_faults (module_numbers modules) nobody 0 d.troupes) (faults_if (is_some lacks) end _) none in
     let (nodes_none, troupes_none) = none_in (nodes_faults no_nodes (nodes_of d)) (troupes_faults (module_numbers modules) nobody 0 d.troupes) two in
     (nodes_none, troupes_none, none_is lacks (no_fault _ _ _ missing))
@@ -429,7 +429,7 @@ obeys modules end format d in_format few distinct good none =
       few_nodes = omega (arith, count, F.nodes_are.few (omega arith));
       format = in_format;
       troupes = λ m troupe is. troupe_good modules d m troupe F (A.each m troupe is);
-      nodes = λ k host is. node_good modules d (troupes_meant (numbered d.troupes) (troupe_numbers d.troupes) modules) A.many F k host is;
+      nodes = λ k host is. node_good modules d (troupes_meant (number_troupes d.troupes) (troupe_numbers d.troupes) modules) A.many F k host is;
       names_differ = distinct_pairs (λ (h : Host). h.name) all (subst AreDistinct (sym names) F.nodes_are.names);
       ports_differ = distinct_pairs (λ (h : Host). h.port) all (subst AreDistinct (sym ports) F.nodes_are.ports);
     }
@@ -441,11 +441,11 @@ few_nodes modules end d none = omega (arith, (nodes_clean no_nodes (nodes_of d) 
 -- ---- roots
 
 roots_of : (ts : List TroupeText) (ms : List ModuleTree) → AllByRecursion (λ (m : ModuleTree). is_none (troupe_numbers ts m.name.name) ≡ false) ms
-    → map (λ (t : Troupe). t.root) (troupes_meant (numbered ts) (troupe_numbers ts) ms) ≡ map (λ (m : ModuleTree). m.root) ms
+    → map (λ (t : Troupe). t.root) (troupes_meant (number_troupes ts) (troupe_numbers ts) ms) ≡ map (λ (m : ModuleTree). m.root) ms
 roots_of ts [] all = refl
 roots_of ts (m ∷ ms) all =
     let (x, found) = troupe_of ts m all.0 in
-    let rest = troupes_meant (numbered ts) (troupe_numbers ts) ms in
+    let rest = troupes_meant (number_troupes ts) (troupe_numbers ts) ms in
     ap (λ o. map (λ (t : Troupe). t.root) (option_to_list (option_map (troupe_meant m) o) ++ rest)) found.found_at
     ∙ ap (λ roots. m.root ∷ roots) (roots_of ts ms all.1)
 

@@ -4,7 +4,7 @@ use Rattle.circus_syntax.specs.declared.named.Named.{Named}
 use Rattle.circus_syntax.specs.declared.named.Numeral.{Numeral}
 use Rattle.circus_fault.specs.declared.fault.Fault.{Fault}
 use Rattle.circus_fault.specs.Least.{faults_if, out_of}
-use Rattle.circus_fault.specs.Known.{Known, nobody, also, no_number, also_number}
+use Rattle.circus_fault.specs.Known.{Known, nobody, add_name, no_number, also_number}
 use Rattle.circus_lang.specs.ModuleTree.{ModuleTree}
 use Rattle.circus_troupe.specs.declared.deployment_text.WrittenKind.{WrittenKind}
 use Rattle.circus_troupe.specs.declared.deployment_text.WrittenKind.TheVariants.{First, Majority, Unanimous, AtLeast, Watchdog}
@@ -37,7 +37,7 @@ node_faults before name port =
 
 abbrev pub behind_node : Before → Named → Numeral → Before
 behind_node before name port = record {
-  names = also name.name 0 before.names;
+  names = add_name name.name 0 before.names;
   ports = also_number port.value before.ports;
   count = min (before.count + 1) (most_nodes + 1);
 }
@@ -75,12 +75,12 @@ troupe_faults modules earlier t =
 -- troupes from a number on
 abbrev pub troupes_faults : Known → Known → ℕ → List TroupeText → Faults
 troupes_faults modules earlier number [] = []
-troupes_faults modules earlier number (t ∷ ts) = troupe_faults modules earlier t ++ troupes_faults modules (also t.name.name number earlier) (number + 1) ts
+troupes_faults modules earlier number (t ∷ ts) = troupe_faults modules earlier t ++ troupes_faults modules (add_name t.name.name number earlier) (number + 1) ts
 
 -- the first module that has no troupe
-abbrev pub lacking : Known → List ModuleTree → Option (List ℕ)
-lacking troupes [] = None
-lacking troupes (m ∷ ms) = cond (is_none (troupes m.name.name)) (Some m.name.name) (lacking troupes ms)
+abbrev pub first_without_troupe : Known → List ModuleTree → Option (List ℕ)
+first_without_troupe troupes [] = None
+first_without_troupe troupes (m ∷ ms) = cond (is_none (troupes m.name.name)) (Some m.name.name) (first_without_troupe troupes ms)
 
 -- ---- the whole
 
@@ -88,4 +88,4 @@ lacking troupes (m ∷ ms) = cond (is_none (troupes m.name.name)) (Some m.name.n
 abbrev pub deployment_faults : List ModuleTree → ℕ → DeploymentText → Faults
 deployment_faults modules end d =
     nodes_faults no_nodes (nodes_of d) ++ troupes_faults (module_numbers modules) nobody 0 d.troupes
-    ++ faults_if (is_some (lacking (troupe_numbers d.troupes) modules)) end Missing
+    ++ faults_if (is_some (first_without_troupe (troupe_numbers d.troupes) modules)) end Missing

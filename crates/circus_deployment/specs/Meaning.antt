@@ -16,7 +16,7 @@ use Rattle.circus_collate.specs.declared.kind.Kind.TheVariants.{First, Majority,
 use Rattle.circus_collate.specs.declared.deployment.Troupe.{Troupe}
 use Rattle.circus_collate.specs.declared.deployment.Host.{Host}
 use Rattle.circus_collate.specs.declared.deployment.Deployment.{Deployment}
-use Rattle.circus_deployment.specs.Nodes.{Numbered, spares_of, hosts_of, ringmaster_host, numbered, module_numbers, troupe_numbers}
+use Rattle.circus_deployment.specs.Nodes.{Numbered, spares_of, hosts_of, ringmaster_host, number_troupes, module_numbers, troupe_numbers}
 
 abbrev pub kind_of : WrittenKind → Kind
 kind_of written.First = First
@@ -65,7 +65,7 @@ troupes_meant troupes numbers modules =
 
 abbrev pub deployment_meant : List ModuleTree → ℕ → DeploymentText → Deployment
 deployment_meant modules format d = record {
-  troupes = troupes_meant (numbered d.troupes) (troupe_numbers d.troupes) modules;
+  troupes = troupes_meant (number_troupes d.troupes) (troupe_numbers d.troupes) modules;
   nodes = nodes_meant (module_numbers modules) d;
   format = format;
 }

@@ -33,8 +33,8 @@ numbered_from first [] = []
 numbered_from first (t ∷ ts) = record { troupe = t; first = first } ∷ numbered_from (first + length (hosts_of t)) ts
 
 -- troupes behind the Ringmaster, whose node is 0
-abbrev pub numbered : List TroupeText → List Numbered
-numbered troupes = numbered_from 1 troupes
+abbrev pub number_troupes : List TroupeText → List Numbered
+number_troupes troupes = numbered_from 1 troupes
 
 -- the numbers of modules by their names
 abbrev pub module_numbers : List ModuleTree → Known

@@ -14,13 +14,13 @@ ghost use Rattle.circus_deployment.specs.declared.deployment_fault.DeploymentFau
 ghost use Rattle.circus_deployment.specs.Rank.{rank_of};
 ghost use Rattle.circus_limits.specs.Limits.{most_nodes};
 ghost use Rattle.circus_deployment.specs.Nodes.{nodes_of, module_numbers, troupe_numbers};
-ghost use Rattle.circus_deployment.specs.Faults.{lacking, deployment_faults};
+ghost use Rattle.circus_deployment.specs.Faults.{first_without_troupe, deployment_faults};
 ghost use Rattle.circus_deployment.specs.Meaning.{deployment_meant};
 ghost use Rattle.circus_deployment.specs.Answer.{answer_of};
 
 use crate::cause::Cause;
 use crate::nodes::check_nodes;
-use crate::troupes::{check_troupes, lacking, module_numbers};
+use crate::troupes::{check_troupes, first_without_troupe, module_numbers};
 use crate::{DeploymentFault, meaning};
 use circus_collate::Deployment;
 use circus_fault::{Best, Fault, Names};
@@ -59,7 +59,7 @@ fn name_of(alloc: Global, lacks: Option<&Named>) -> Result<Name, NoMemory>
 }
 
 // The deployment that a text without a fault means.
-fn meant(
+fn deployment_of(
     alloc: Global,
     modules: &[ModuleText],
     text: &DeploymentText,
@@ -72,7 +72,7 @@ fn meant(
     requires troupes { known_of troupes.now ≡ troupe_numbers text.now.troupes }
     ensures { IfOk result (λ d. d ≡ deployment_meant (map module_of modules.now) format text.now) }
 {
-    let numbered = meaning::numbered(alloc, text.troupes.as_slice())?;
+    let numbered = meaning::number_troupes(alloc, text.troupes.as_slice())?;
     Ok(Deployment {
         troupes: meaning::troupes(alloc, modules, troupes, numbered.as_slice())?,
         nodes: meaning::nodes(alloc, numbers, text)?,
@@ -114,16 +114,16 @@ pub fn check(
         × (least_from rank_of None (deployment_faults (map module_of modules.now) end text.now)
         ≡ Some f)
         × (e ≡ answer_of
-        (lacking (troupe_numbers text.now.troupes) (map module_of modules.now)) f))) }
+        (first_without_troupe (troupe_numbers text.now.troupes) (map module_of modules.now)) f))) }
 {
     let mut best: Best<Cause> = Best { fault: None };
     let numbers = module_numbers(alloc, modules)?;
     check_nodes(alloc, &mut best, text)?;
     let troupes = check_troupes(alloc, &mut best, &numbers, text.troupes.as_slice())?;
-    let lacks = lacking(modules, &troupes);
+    let lacks = first_without_troupe(modules, &troupes);
     best.note(lacks.is_some(), end, Cause::Missing);
     match best.fault {
         Some(fault) => Err(answer(alloc, lacks, fault)?),
-        None => Ok(meant(alloc, modules, text, format, &numbers, &troupes)?),
+        None => Ok(deployment_of(alloc, modules, text, format, &numbers, &troupes)?),
     }
 }

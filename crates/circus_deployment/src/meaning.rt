@@ -4,7 +4,7 @@ ghost use Rattle.std.specs.List.{flat_map, AllByRecursion};
 ghost use Rattle.circus_fault.specs.Seen.Tables.{known_of};
 ghost use Rattle.circus_lang.specs.ModuleTree.{module_of};
 ghost use Rattle.circus_limits.specs.Limits.{most_nodes};
-ghost use Rattle.circus_deployment.specs.Nodes.{spares_of, hosts_of, numbered};
+ghost use Rattle.circus_deployment.specs.Nodes.{spares_of, hosts_of, number_troupes};
 ghost use Rattle.circus_deployment.specs.Meaning.{kind_of, host_meant, module_of_troupe, hosts_meant, nodes_meant, numbers_from, troupe_meant, troupe_at, troupes_meant};
 ghost use Rattle.circus_deployment.specs.declared.meaning.NumberedTroupe.{NumberedTroupe};
 ghost use Rattle.circus_deployment.specs.Seen.{numbered_as};
@@ -121,9 +121,9 @@ fn spares_len(troupe: &TroupeText) -> usize
 }
 
 /// Troupes with the numbers of their first nodes, where the Ringmaster's node is 0.
-pub fn numbered(alloc: Global, texts: &[TroupeText]) -> Result<Vec<NumberedTroupe<'_>>, NoMemory>
+pub fn number_troupes(alloc: Global, texts: &[TroupeText]) -> Result<Vec<NumberedTroupe<'_>>, NoMemory>
     requires { length (flat_map hosts_of texts.now) < most_nodes }
-    ensures { IfOk result (λ made. map numbered_as made.items ≡ numbered texts.now) }
+    ensures { IfOk result (λ made. map numbered_as made.items ≡ number_troupes texts.now) }
 {
     let mut numbered = Vec::new(alloc);
     let mut first: u16 = 1;

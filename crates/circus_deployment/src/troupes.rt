@@ -1,13 +1,13 @@
 // The faults of troupes.
 ghost use Rattle.std.specs.Prelude.{◌≡◌, map, option_map, option_copied, OnOk, IfOk};
 ghost use Rattle.circus_fault.specs.Least.{least_from};
-ghost use Rattle.circus_fault.specs.Known.{nobody, also};
+ghost use Rattle.circus_fault.specs.Known.{nobody, add_name};
 ghost use Rattle.circus_fault.specs.Seen.Tables.{known_of};
 ghost use Rattle.circus_syntax.specs.declared.named.Named.{Named};
 ghost use Rattle.circus_lang.specs.ModuleTree.{module_of};
 ghost use Rattle.circus_deployment.specs.Rank.{rank_of};
 ghost use Rattle.circus_deployment.specs.Nodes.{module_numbers, troupe_numbers};
-ghost use Rattle.circus_deployment.specs.Faults.{needed_faults, crowd_faults, troupe_faults, troupes_faults, lacking};
+ghost use Rattle.circus_deployment.specs.Faults.{needed_faults, crowd_faults, troupe_faults, troupes_faults, first_without_troupe};
 
 use crate::cause::Cause;
 use circus_fault::{Best, Names};
@@ -19,7 +19,7 @@ use circus_value::NoMemory;
 use std::alloc::Global;
 
 // The number behind LEAST.
-fn needed(best: &mut Best<Cause>, kind: KindText)
+fn check_least(best: &mut Best<Cause>, kind: KindText)
     ensures { best.new.fault ≡ least_from rank_of best.old.fault (needed_faults kind.kind) }
 {
     if let WrittenKind::AtLeast(number) = kind.kind {
@@ -48,14 +48,14 @@ fn troupe<'a>(
         (best.new.fault ≡ least_from rank_of best.old.fault
         (troupe_faults (known_of modules.now) (known_of troupes.old) text.now)) }
     ensures added { OnOk result
-        (known_of troupes.new ≡ also text.now.name.name number (known_of troupes.old)) }
+        (known_of troupes.new ≡ add_name text.now.name.name number (known_of troupes.old)) }
 {
     let name = text.name.name.as_slice();
     let earlier = troupes.insert(name, number)?;
     best.note(modules.get(name).is_none(), text.name.at, Cause::Unknown);
     best.note(earlier.is_some(), text.name.at, Cause::Repeated);
-    needed(best, text.calls);
-    needed(best, text.replies);
+    check_least(best, text.calls);
+    check_least(best, text.replies);
     crowd(best, text.members.get(MOST_MEMBERS));
     Ok(())
 }
@@ -93,9 +93,9 @@ pub fn module_numbers(alloc: Global, modules: &[ModuleText]) -> Result<Names<'_>
 }
 
 /// The name of the first module that has no troupe.
-pub fn lacking<'a>(modules: &'a [ModuleText], troupes: &Names) -> Option<&'a Named>
+pub fn first_without_troupe<'a>(modules: &'a [ModuleText], troupes: &Names) -> Option<&'a Named>
     ensures { option_map (λ (n : Named). n.name) (option_copied result)
-        ≡ lacking (known_of troupes.now) (map module_of modules.now) }
+        ≡ first_without_troupe (known_of troupes.now) (map module_of modules.now) }
 {
     for text in modules {
         if troupes.get(text.name.name.as_slice()).is_none() {

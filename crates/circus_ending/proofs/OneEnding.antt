@@ -16,7 +16,7 @@ use Rattle.circus_placing.specs.declared.place_fault.PlaceFault.TheVariants.{Ref
 use Rattle.circus_placing.specs.Grammar.{IsPlacing}
 use Rattle.circus_placing.specs.Written.{PlacingTree}
 use Rattle.circus_placing.specs.Means.{Means}
-use Rattle.circus_placing.specs.ReadAs.{placed, IsReadAs, IsRefused}
+use Rattle.circus_placing.specs.ReadAs.{placed_tokens, IsReadAs, IsRefused}
 use Rattle.circus_placing.proofs.Whole.{placing_one}
 use Rattle.circus_placing.proofs.ReadIs.{accepted}
 use Rattle.circus_placing.proofs.OneAnswer.{one_answer}
@@ -114,7 +114,7 @@ read_same : (text : List ℕ) (p q : Placing) → IsReadAs text p → IsReadAs t
 read_same text p q first second =
     let both : ◌≡◌ {A = Result (List Token) LexFault} (Ok first.found) (Ok second.found) = answer_one text (Ok first.found) (Ok second.found) first.tokens second.tokens in
     let found : first.found ≡ second.found = cc in
-    let tree = placing_one (placed text second.found) first.tree second.tree (subst (λ (f : List Token). IsPlacing (placed text f) first.tree) found first.spelled) second.spelled in
+    let tree = placing_one (placed_tokens text second.found) first.tree second.tree (subst (λ (f : List Token). IsPlacing (placed_tokens text f) first.tree) found first.spelled) second.spelled in
     meant_same second.tree p q (subst (λ (t : PlacingTree). Means t p) tree first.means) second.means
 
 -- what is read is not refused

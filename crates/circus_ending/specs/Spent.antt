@@ -6,5 +6,5 @@ use Rattle.circus_ending.specs.declared.status.Status.TheVariants.{Spent}
 use Rattle.circus_ending.specs.Ending.{Ending}
 
 -- a node has no number left for another one
-abbrev pub spent : Names → ℕ × ℕ → Ending
-spent names nodes = record { status = Spent; text = line (codes "spent " ++ names.node nodes.0 ++ codes " " ++ names.node nodes.1) }
+abbrev pub end_of_spent : Names → ℕ × ℕ → Ending
+end_of_spent names nodes = record { status = Spent; text = line (codes "spent " ++ names.node nodes.0 ++ codes " " ++ names.node nodes.1) }

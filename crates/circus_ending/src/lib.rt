@@ -1,7 +1,7 @@
 //! How a command ends, and what the commands of one file come to.
 //!
 //! `status` has how a command ends, and `ending` an end with what is written. `refused` says why a program is refused, and
-//! `spending` that a node has no call number left. `unreplicated` has the history of a program, `stubs` its stubs, and `placed`
+//! `spending` that a node has no call number left. `end_of_unreplicated` has the history of a program, `stubs` its stubs, and `end_of_placing`
 //! the best choice of a placing; `one_file` has these commands together, and `laws` what holds of every file.
 #![tactic(auto)]
 
@@ -19,5 +19,5 @@ pub use ending::Ending;
 pub use laws::one_end;
 pub use one_file::{OneFile, end_of};
 pub use refused::plan_of;
-pub use spending::spent;
+pub use spending::end_of_spent;
 pub use status::Status;

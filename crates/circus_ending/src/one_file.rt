@@ -5,9 +5,9 @@ ghost use Rattle.circus_ending.specs.Seen.Ending.{ending_of};
 ghost use Rattle.circus_ending.specs.Status.{is_end};
 
 use crate::Ending;
-use crate::placed::placed;
+use crate::placed::end_of_placing;
 use crate::stubs::stubs;
-use crate::unreplicated::unreplicated;
+use crate::unreplicated::end_of_unreplicated;
 use circus_value::NoMemory;
 use std::alloc::Global;
 
@@ -30,7 +30,7 @@ pub fn end_of(alloc: Global, command: OneFile, bytes: &[u8]) -> Result<Ending, N
 {
     match command {
         OneFile::Stubs => stubs(alloc, bytes),
-        OneFile::Run => unreplicated(alloc, bytes),
-        OneFile::Place => placed(alloc, bytes),
+        OneFile::Run => end_of_unreplicated(alloc, bytes),
+        OneFile::Place => end_of_placing(alloc, bytes),
     }
 }

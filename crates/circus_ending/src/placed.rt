@@ -137,7 +137,7 @@ fn best(alloc: Global, placing: &Placing) -> Result<Ending, NoMemory>
 }
 
 /// What comes of the text of a placing.
-pub fn placed(alloc: Global, text: &[u8]) -> Result<Ending, NoMemory>
+pub fn end_of_placing(alloc: Global, text: &[u8]) -> Result<Ending, NoMemory>
     ensures ending { IfOk result (λ ending. IsEndOfPlacing text.now (ending_of ending)) }
     ensures status { IfOk result (λ ending. IsTrue (is_end ending.status)) }
 {

@@ -82,7 +82,7 @@ fn append_line(text: &mut String, number: u32) -> Result<(), NoMemory>
 }
 
 // The end of a program that is refused.
-fn refused(alloc: Global, number: u32, cause: &ProgramCause) -> Result<Ending, NoMemory>
+fn end_of_refused(alloc: Global, number: u32, cause: &ProgramCause) -> Result<Ending, NoMemory>
     requires { AllByRecursion IsAscii (names_in cause.now) }
     ensures ending { IfOk result (λ ending.
         ending_of ending ≡ record { status = BadProgram; text = refused_text number cause.now }) }
@@ -105,7 +105,7 @@ pub fn plan_of(alloc: Global, bytes: &[u8]) -> Result<Result<Plan, Ending>, NoMe
 {
     match read_program(alloc, bytes) {
         Ok(plan) => Ok(Ok(plan)),
-        Err(ProgramFault::Refused(number, cause)) => Ok(Err(refused(alloc, number, &cause)?)),
+        Err(ProgramFault::Refused(number, cause)) => Ok(Err(end_of_refused(alloc, number, &cause)?)),
         Err(ProgramFault::NoMemory) => Err(AllocError),
     }
 }

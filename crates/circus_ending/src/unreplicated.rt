@@ -31,7 +31,7 @@ fn history_lines(alloc: Global, plan: Plan) -> Result<Octets, NoMemory>
 }
 
 /// What comes of a program that is run unreplicated.
-pub fn unreplicated(alloc: Global, bytes: &[u8]) -> Result<Ending, NoMemory>
+pub fn end_of_unreplicated(alloc: Global, bytes: &[u8]) -> Result<Ending, NoMemory>
     ensures ending { IfOk result (λ ending.
         IsEndOfProgram history_lines bytes.now (ending_of ending)) }
     ensures status { IfOk result (λ ending. IsTrue (is_end ending.status)) }

@@ -11,7 +11,7 @@ use Rattle.circus_model.specs.declared.language_error.LanguageError.{LanguageErr
 use Rattle.circus_model.specs.declared.language_error.LanguageError.TheVariants.{Index, WrongChoice}
 use Rattle.circus_checked.specs.Sorts.{field_in, arm_in}
 use Rattle.circus_evaluate.specs.Got.{Raising, and_then}
-use Rattle.circus_evaluate.specs.Parts.{Step, field, arm, item, list_of, item_under, part_by, part_at, with_item, with_part_by, with_part, inside}
+use Rattle.circus_evaluate.specs.Parts.{Step, field, arm, item, list_of, item_under, part_by, part_at, with_item, with_part_by, with_part, put_inside}
 
 -- ---- what is given, where nothing is raised
 
@@ -179,7 +179,7 @@ steps_fit _ _ _ t (more_steps step steps s r u to more) fit =
 
 -- where the first step leads
 put_by : (step : Step) (s r : ShapeTree) (t : ValueTree) (more : ValueTree → ValueTree) (p : Raising ValueTree) → part_by step t ≡ p → StepTo step s r → IsTrue (fits s t) → IfOk p (λ v. IsTrue (fits r v)) → ((v : ValueTree) → IsTrue (fits r v) → IsTrue (fits r (more v)))
-    → IsTrue (fits s (inside p t (λ inner. with_part_by step (more inner) t)))
+    → IsTrue (fits s (put_inside p t (λ inner. with_part_by step (more inner) t)))
 put_by step s r t more (Ok inner) there to fit first so = with_fits step s r t inner (more inner) to there fit (so inner first)
 put_by step s r t more (Err e) there to fit first so = fit
 

@@ -4,7 +4,7 @@ use Rattle.circus_value.specs.ValueTree.{ValueTree, ValueTrees, array, sequence,
 use Rattle.circus_value.specs.ExternalSize.{external_size, external_sizes, size_of_values}
 use Rattle.circus_model.specs.declared.language_error.LanguageError.{LanguageError}
 use Rattle.circus_evaluate.specs.Got.{Raising, and_then}
-use Rattle.circus_evaluate.specs.Parts.{Step, field, arm, item, list_of, part_by, part_at, with_part_by, with_part, inside}
+use Rattle.circus_evaluate.specs.Parts.{Step, field, arm, item, list_of, part_by, part_at, with_part_by, with_part, put_inside}
 use Rattle.circus_evaluate.specs.Putting.{put_over, with_put, grows_by, shrinks_by}
 use Rattle.circus_evaluate.specs.declared.part.Put.{Put}
 
@@ -49,7 +49,7 @@ step_size s t u v is = cc
 inside_size : (s : Step) (ss : List Step) (t u v : ValueTree) (r : Raising ValueTree) → part_by s t ≡ r
     → ((inner : ValueTree) → part_at ss inner ≡ Ok u → external_size (with_part ss v inner) + external_size u ≡ external_size inner + external_size v)
     → and_then r (part_at ss) ≡ Ok u
-    → external_size (inside r t (λ inner. with_part_by s (with_part ss v inner) t)) + external_size u ≡ external_size t + external_size v
+    → external_size (put_inside r t (λ inner. with_part_by s (with_part ss v inner) t)) + external_size u ≡ external_size t + external_size v
 inside_size s ss t u v (Ok inner) by below is = omega (arith, step_size s t inner (with_part ss v inner) by, below inner is)
 inside_size s ss t u v (Err e) by below is = cc
 
@@ -65,7 +65,7 @@ part_within ss t u is = omega (arith, part_size ss t u (array none) is)
 inside_put : (s : Step) (ss : List Step) (what : Put) (t old : ValueTree) (r : Raising ValueTree)
     → ((inner : ValueTree) → part_at ss inner ≡ Ok old → with_put ss what inner ≡ with_part ss (put_over what old) inner)
     → and_then r (part_at ss) ≡ Ok old
-    → inside r t (λ inner. with_part_by s (with_put ss what inner) t) ≡ inside r t (λ inner. with_part_by s (with_part ss (put_over what old) inner) t)
+    → put_inside r t (λ inner. with_part_by s (with_put ss what inner) t) ≡ put_inside r t (λ inner. with_part_by s (with_part ss (put_over what old) inner) t)
 inside_put s ss what t old (Ok inner) below is = ap (λ u. with_part_by s u t) (below inner is)
 inside_put s ss what t old (Err e) below is = cc
 

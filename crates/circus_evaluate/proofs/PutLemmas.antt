@@ -4,7 +4,7 @@ use Rattle.std.proofs.lemmas.List.{set-set}
 use Rattle.circus_value.specs.ValueTree.{ValueTree, array, sequence, «record», value_trees}
 use Rattle.circus_model.specs.declared.language_error.LanguageError.{LanguageError}
 use Rattle.circus_model.specs.declared.language_error.LanguageError.TheVariants.{Index, WrongChoice}
-use Rattle.circus_evaluate.specs.Parts.{Step, field, item, inside}
+use Rattle.circus_evaluate.specs.Parts.{Step, field, item, put_inside}
 use Rattle.circus_evaluate.specs.Putting.{with_put, with_put_item, item_put}
 use Rattle.circus_evaluate.specs.Seen.Subscripts.{with_put_under}
 use Rattle.circus_evaluate.specs.declared.part.Put.{Put}
@@ -12,7 +12,7 @@ use Rattle.circus_evaluate.proofs.Items.{list_of_trees}
 
 -- by the item that is there, if one is
 within : (form : List ValueTree → ValueTree) (ss : List Step) (what : Put) (n : ℕ) (ts : List ValueTree) (missing : LanguageError) (o : Option ValueTree)
-    → form (item_put ss what n ts o) ≡ inside (ok_or o missing) (form ts) (λ inner. form (slice_set ts n (with_put ss what inner)))
+    → form (item_put ss what n ts o) ≡ put_inside (ok_or o missing) (form ts) (λ inner. form (slice_set ts n (with_put ss what inner)))
 within form ss what n ts missing None = refl
 within form ss what n ts missing (Some t) = refl
 

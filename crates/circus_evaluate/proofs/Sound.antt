@@ -22,19 +22,19 @@ use Rattle.circus_checked.specs.declared.kinds.Form.TheVariants as form
 use Rattle.circus_checked.specs.ExpressionTree.{ExpressionTree, ExpressionTrees, SuffixTrees}
 use Rattle.circus_checked.specs.Sorts.{Sort, a_number, of, a_truth, sort_of, shape_of, count_of, Has, EachHas, FieldsHave, Leads}
 use Rattle.circus_checked.specs.Sorts as has
-use Rattle.circus_evaluate.specs.Got.{Got, number, whole, Raising, and_then, calculated, as_kind, got_of, truth_of, number_of, value_of, bytes_of, made, made_text, is_equal}
+use Rattle.circus_evaluate.specs.Got.{Got, number, whole, Raising, and_then, number_or_overflow, as_kind, got_of, truth_of, number_of, value_of, bytes_of, unless_large, made_text, is_equal}
 use Rattle.circus_evaluate.specs.Parts.{field, arm, item, part_by}
-use Rattle.circus_evaluate.specs.Evaluating.{truth, is_ordered, calculation, stands_at, length_given, formed, of_numbers, unless_decided, evaluate, evaluate_all, read_part, steps_of}
+use Rattle.circus_evaluate.specs.Evaluating.{truth, is_ordered, calculation, stands_at, length_given, value_of_form, of_numbers, unless_decided, evaluate, evaluate_all, read_part, steps_of}
 use Rattle.circus_evaluate.specs.Typed.{IsGot, Hold}
 use Rattle.circus_evaluate.proofs.Items.{count_of_trees}
 use Rattle.circus_evaluate.proofs.Fitting.{then_ok, then_any, if_ok, arm_put, to_field, to_arm, to_item_of_array, to_item_of_sequence, part_fits, StepsTo, no_steps, more_steps}
 
 -- ---- numbers
 
-calculated_is : (z : ℤ) → IfOk (calculated z) (IsGot a_number)
+calculated_is : (z : ℤ) → IfOk (number_or_overflow z) (IsGot a_number)
 calculated_is z = if_ok (IsGot a_number) (is_signed_below 9223372036854775808 z) (number z) Range (λ _. tt)
 
-unless_zero : (b : Bool) (z : ℤ) → IfOk (if b then Err Zero else calculated z) (IsGot a_number)
+unless_zero : (b : Bool) (z : ℤ) → IfOk (if b then Err Zero else number_or_overflow z) (IsGot a_number)
 unless_zero true z = tt
 unless_zero false z = calculated_is z
 
@@ -65,10 +65,10 @@ decided_by false d r = then_any (IsGot a_truth) r (λ y. Ok (truth (truth_of y))
 decided_is : (d : Bool) (a b : Raising Got) → IfOk (unless_decided d a b) (IsGot a_truth)
 decided_is d a b = then_any (IsGot a_truth) a (λ x. if beq d (truth_of x) then Ok (truth d) else and_then b (λ y. Ok (truth (truth_of y)))) (λ x. decided_by (beq d (truth_of x)) d b)
 
-made_is : (limit : ℕ) (s : ShapeTree) (t : ValueTree) → IsTrue (fits s t) → IfOk (made limit t) (IsGot (of s))
+made_is : (limit : ℕ) (s : ShapeTree) (t : ValueTree) → IsTrue (fits s t) → IfOk (unless_large limit t) (IsGot (of s))
 made_is limit s t fit = if_ok (IsGot (of s)) (nat_le (external_size t) limit) (whole t) TooLong (λ _. fit)
 
-text_by : (limit : ℕ) (bytes : List ℕ) (b : Bool) → nat_lt (length bytes) 65536 ≡ b → IsTrue (list_all (λ x. nat_lt x 256) bytes) → IfOk (if b then made limit (value.text bytes) else Err TooLong) (IsGot (of shape.text))
+text_by : (limit : ℕ) (bytes : List ℕ) (b : Bool) → nat_lt (length bytes) 65536 ≡ b → IsTrue (list_all (λ x. nat_lt x 256) bytes) → IfOk (if b then unless_large limit (value.text bytes) else Err TooLong) (IsGot (of shape.text))
 text_by limit bytes true short are = made_is limit shape.text (value.text bytes) (and_from (nat_lt (length bytes) 65536) (list_all (λ x. nat_lt x 256) bytes) short are)
 text_by limit bytes false long are = tt
 
@@ -150,7 +150,7 @@ module _ (limit : ℕ) (shapes : List ShapeTree) (variables : List ValueTree) (h
         (λ g. then_any (IsGot a_truth) (evaluate limit variables b) (λ h. Ok (truth (is_equal g h))) (λ h. refl))
     gives _ _ (has.compare o a b x y) = of_numbers_is a_truth (evaluate limit variables a) (evaluate limit variables b) (λ y z. Ok (truth (is_ordered o y z))) (λ y z. refl)
     gives _ _ (has.calculate o a b x y) = of_numbers_is a_number (evaluate limit variables a) (evaluate limit variables b) (calculation o) (calculation_is o)
-    gives _ _ (has.minus a x) = then_any (IsGot a_number) (and_then (evaluate limit variables a) number_of) (λ z. calculated (neg_ℤ z)) (λ z. calculated_is (neg_ℤ z))
+    gives _ _ (has.minus a x) = then_any (IsGot a_number) (and_then (evaluate limit variables a) number_of) (λ z. number_or_overflow (neg_ℤ z)) (λ z. calculated_is (neg_ℤ z))
     gives _ _ (has.join a b x y) =
         then_ok (λ xs. IsTrue (list_all (λ n. nat_lt n 256) xs)) (IsGot (of shape.text)) (and_then (evaluate limit variables a) bytes_of) (λ xs. and_then (and_then (evaluate limit variables b) bytes_of) (λ ys. made_text limit (xs ++ ys)))
         (then_ok (IsGot (of shape.text)) (λ xs. IsTrue (list_all (λ n. nat_lt n 256) xs)) (evaluate limit variables a) bytes_of (gives a (of shape.text) x) bytes_are)
@@ -166,20 +166,20 @@ module _ (limit : ℕ) (shapes : List ShapeTree) (variables : List ValueTree) (h
     gives _ _ (has.length_of_sequence a bound element x) = then_any (IsGot a_number) (evaluate limit variables a) length_given length_is
     gives _ _ (has.label n labels is) = is
     gives _ _ (has.arm n a arms t small is x) =
-        then_ok (λ u. IsTrue (fits t u)) (IsGot (of (shape.choice arms))) (and_then (evaluate limit variables a) value_of) (λ u. made limit (value.choice n u)) (value_given t (evaluate limit variables a) (gives a (of t) x))
+        then_ok (λ u. IsTrue (fits t u)) (IsGot (of (shape.choice arms))) (and_then (evaluate limit variables a) value_of) (λ u. unless_large limit (value.choice n u)) (value_given t (evaluate limit variables a) (gives a (of t) x))
         (λ u fit. made_is limit (shape.choice arms) (value.choice n u) (and_from (nat_lt n 65536) (arm_fits arms n u) (lt-ltb n 65536 small) (arm_put arms n t u is fit)))
     gives _ _ (has.array es element x) =
-        then_ok (AreItems element (count_of es)) (IsGot (of (shape.array (count_of es) element))) (evaluate_all limit variables es) (λ ts. made limit (formed form.Array ts)) (each_gives es element x)
+        then_ok (AreItems element (count_of es)) (IsGot (of (shape.array (count_of es) element))) (evaluate_all limit variables es) (λ ts. unless_large limit (value_of_form form.Array ts)) (each_gives es element x)
         (λ ts are.
         made_is limit (shape.array (count_of es) element) (value.array (value_trees ts))
         (and_from (fitting.count_of (value_trees ts) == count_of es) (every (fits element) (value_trees ts)) (eq-eqb (fitting.count_of (value_trees ts)) (count_of es) (count_of_trees ts ∙ are.1)) are.0))
     gives _ _ (has.sequence es bound element few x) =
-        then_ok (AreItems element (count_of es)) (IsGot (of (shape.sequence bound element))) (evaluate_all limit variables es) (λ ts. made limit (formed form.Sequence ts)) (each_gives es element x)
+        then_ok (AreItems element (count_of es)) (IsGot (of (shape.sequence bound element))) (evaluate_all limit variables es) (λ ts. unless_large limit (value_of_form form.Sequence ts)) (each_gives es element x)
         (λ ts are.
         made_is limit (shape.sequence bound element) (value.sequence (value_trees ts))
         (and_from (nat_le (fitting.count_of (value_trees ts)) bound) (every (fits element) (value_trees ts)) (le-leb (fitting.count_of (value_trees ts)) bound (omega (arith, count_of_trees ts, are.1, few))) are.0))
     gives _ _ (has.of_fields es fs x) =
-        then_ok (λ ts. IsTrue (fields_fit fs (value_trees ts))) (IsGot (of (shape.«record» fs))) (evaluate_all limit variables es) (λ ts. made limit (formed form.Record ts)) (fields_give es fs x)
+        then_ok (λ ts. IsTrue (fields_fit fs (value_trees ts))) (IsGot (of (shape.«record» fs))) (evaluate_all limit variables es) (λ ts. unless_large limit (value_of_form form.Record ts)) (fields_give es fs x)
         (λ ts fit. made_is limit (shape.«record» fs) (value.«record» (value_trees ts)) fit)
     gives _ _ (has.convert k a x) =
         then_ok (λ t. IsTrue (fits (shape_of k) t)) (IsGot (of (shape_of k))) (and_then (and_then (evaluate limit variables a) number_of) (as_kind k)) (λ t. Ok (whole t))

@@ -13,7 +13,7 @@ use Rattle.circus_checked.specs.declared.kinds.Form.{Form}
 use Rattle.circus_checked.specs.declared.kinds.Form.TheVariants as form
 use Rattle.circus_checked.specs.ExpressionTree.{ExpressionTree, ExpressionTrees, SuffixTrees, no_expressions, more_expressions, no_suffixes, in_field, in_arm, in_item}
 use Rattle.circus_checked.specs.ExpressionTree as e
-use Rattle.circus_evaluate.specs.Got.{Got, whole, Raising, and_then, calculated, as_kind, got_of, truth_of, number_of, value_of, bytes_of, made, made_text, is_equal}
+use Rattle.circus_evaluate.specs.Got.{Got, whole, Raising, and_then, number_or_overflow, as_kind, got_of, truth_of, number_of, value_of, bytes_of, unless_large, made_text, is_equal}
 use Rattle.circus_evaluate.specs.Parts.{Step, field, arm, item, part_by}
 
 -- a truth value that is given
@@ -29,11 +29,11 @@ is_ordered order.AtLeast y z = int_le z y
 
 -- division rounds toward zero, and the remainder has the sign of the dividend
 abbrev pub calculation : Calculation → ℤ → ℤ → Raising Got
-calculation by.Plus y z = calculated (y +ℤ z)
-calculation by.Minus y z = calculated (y -ℤ z)
-calculation by.Times y z = calculated (y *ℤ z)
-calculation by.Div y z = if int_eq z (pos 0) then Err Zero else calculated (int_div y z)
-calculation by.Mod y z = if int_eq z (pos 0) then Err Zero else calculated (int_rem y z)
+calculation by.Plus y z = number_or_overflow (y +ℤ z)
+calculation by.Minus y z = number_or_overflow (y -ℤ z)
+calculation by.Times y z = number_or_overflow (y *ℤ z)
+calculation by.Div y z = if int_eq z (pos 0) then Err Zero else number_or_overflow (int_div y z)
+calculation by.Mod y z = if int_eq z (pos 0) then Err Zero else number_or_overflow (int_rem y z)
 
 -- whether a choice stands at the arm with a number
 abbrev pub stands_at : ℕ → Got → Bool
@@ -42,15 +42,15 @@ stands_at n _ = false
 
 -- how long a text or a sequence is
 abbrev pub length_given : Got → Raising Got
-length_given (whole (text bytes)) = calculated (pos (length bytes))
-length_given (whole (sequence ts)) = calculated (pos (count_of ts))
+length_given (whole (text bytes)) = number_or_overflow (pos (length bytes))
+length_given (whole (sequence ts)) = number_or_overflow (pos (count_of ts))
 length_given _ = Err Range
 
 -- these items as one value
-abbrev pub formed : Form → List ValueTree → ValueTree
-formed form.Array ts = array (value_trees ts)
-formed form.Sequence ts = sequence (value_trees ts)
-formed form.Record ts = «record» (value_trees ts)
+abbrev pub value_of_form : Form → List ValueTree → ValueTree
+value_of_form form.Array ts = array (value_trees ts)
+value_of_form form.Sequence ts = sequence (value_trees ts)
+value_of_form form.Record ts = «record» (value_trees ts)
 
 -- of two numbers, the left one given first
 abbrev pub of_numbers : Raising Got → Raising Got → (ℤ → ℤ → Raising Got) → Raising Got
@@ -69,17 +69,17 @@ module _ (limit : ℕ) (variables : List ValueTree) where
     evaluate (e.equal a b) = and_then (evaluate a) (λ x. and_then (evaluate b) (λ y. Ok (truth (is_equal x y))))
     evaluate (e.compare o a b) = of_numbers (evaluate a) (evaluate b) (λ y z. Ok (truth (is_ordered o y z)))
     evaluate (e.calculate o a b) = of_numbers (evaluate a) (evaluate b) (calculation o)
-    evaluate (e.minus a) = and_then (and_then (evaluate a) number_of) (λ z. calculated (neg_ℤ z))
+    evaluate (e.minus a) = and_then (and_then (evaluate a) number_of) (λ z. number_or_overflow (neg_ℤ z))
     evaluate (e.join a b) =
         and_then (and_then (evaluate a) bytes_of) (λ xs. and_then (and_then (evaluate b) bytes_of) (λ ys. made_text limit (xs ++ ys)))
     evaluate (e.is_arm n a) = and_then (evaluate a) (λ x. Ok (truth (stands_at n x)))
-    evaluate (e.number n) = calculated (pos n)
+    evaluate (e.number n) = number_or_overflow (pos n)
     evaluate (e.text bytes) = made_text limit bytes
     evaluate (e.truth b) = Ok (truth b)
     evaluate (e.length_of a) = and_then (evaluate a) length_given
     evaluate (e.label n) = Ok (whole (enumeration n))
-    evaluate (e.arm n a) = and_then (and_then (evaluate a) value_of) (λ t. made limit (choice n t))
-    evaluate (e.items f es) = and_then (evaluate_all es) (λ ts. made limit (formed f ts))
+    evaluate (e.arm n a) = and_then (and_then (evaluate a) value_of) (λ t. unless_large limit (choice n t))
+    evaluate (e.items f es) = and_then (evaluate_all es) (λ ts. unless_large limit (value_of_form f ts))
     evaluate (e.convert k a) = and_then (and_then (and_then (evaluate a) number_of) (as_kind k)) (λ t. Ok (whole t))
     evaluate (e.read n ss) = and_then (and_then (ok_or (slice_get variables n) WrongChoice) (read_part ss)) (λ t. Ok (got_of t))
 

@@ -26,8 +26,8 @@ and_then (Err e) f = Err e
 -- ---- numbers
 
 -- a number of the language's arithmetic
-abbrev pub calculated : ℤ → Raising Got
-calculated z = if is_signed_below 9223372036854775808 z then Ok (number z) else Err Range
+abbrev pub number_or_overflow : ℤ → Raising Got
+number_or_overflow z = if is_signed_below 9223372036854775808 z then Ok (number z) else Err Range
 
 -- a number as one of a kind
 abbrev pub as_kind : NumberKind → ℤ → Raising ValueTree
@@ -75,12 +75,12 @@ bytes_of (whole (text bytes)) = Ok bytes
 bytes_of _ = Err Range
 
 -- a value that is made, if it isn't above the limit
-abbrev pub made : ℕ → ValueTree → Raising Got
-made limit t = if nat_le (external_size t) limit then Ok (whole t) else Err TooLong
+abbrev pub unless_large : ℕ → ValueTree → Raising Got
+unless_large limit t = if nat_le (external_size t) limit then Ok (whole t) else Err TooLong
 
 -- a text that is made
 abbrev pub made_text : ℕ → List ℕ → Raising Got
-made_text limit bytes = if nat_lt (length bytes) 65536 then made limit (text bytes) else Err TooLong
+made_text limit bytes = if nat_lt (length bytes) 65536 then unless_large limit (text bytes) else Err TooLong
 
 -- both are the same number or the same value
 abbrev pub is_equal : Got → Got → Bool

@@ -47,11 +47,11 @@ with_part_by (item z) part (sequence ts) = sequence (with_item z part ts)
 with_part_by _ part t = t
 
 -- where the first step leads to a value, what becomes of the whole
-abbrev pub inside : Raising ValueTree → ValueTree → (ValueTree → ValueTree) → ValueTree
-inside (Ok inner) t f = f inner
-inside (Err e) t f = t
+abbrev pub put_inside : Raising ValueTree → ValueTree → (ValueTree → ValueTree) → ValueTree
+put_inside (Ok inner) t f = f inner
+put_inside (Err e) t f = t
 
 -- a value with another part where several steps lead to
 abbrev pub with_part : List Step → ValueTree → ValueTree → ValueTree
 with_part [] part t = part
-with_part (s ∷ ss) part t = inside (part_by s t) t (λ inner. with_part_by s (with_part ss part inner) t)
+with_part (s ∷ ss) part t = put_inside (part_by s t) t (λ inner. with_part_by s (with_part ss part inner) t)

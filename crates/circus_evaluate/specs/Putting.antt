@@ -3,7 +3,7 @@ use Rattle.std.specs.Prelude.{ℕ, List, [], ◌∷◌, ◌++◌, Option, Some, 
 use Rattle.circus_value.specs.ValueTree.{ValueTree, boolean, cardinal, long_cardinal, integer, long_integer, text, enumeration, array, sequence, «record», choice, value_trees}
 use Rattle.circus_value.specs.ValueOf.{tree_of}
 use Rattle.circus_value.specs.ExternalSize.{external_size}
-use Rattle.circus_evaluate.specs.Parts.{Step, list_of, part_by, with_part_by, inside}
+use Rattle.circus_evaluate.specs.Parts.{Step, list_of, part_by, with_part_by, put_inside}
 use Rattle.circus_evaluate.specs.declared.part.Put.{Put}
 use Rattle.circus_evaluate.specs.declared.part.Put.TheVariants.{Whole, More}
 
@@ -28,7 +28,7 @@ put_over (More value) old = with_last (tree_of value) old
 
 abbrev pub with_put : List Step → Put → ValueTree → ValueTree
 with_put [] what t = put_over what t
-with_put (s ∷ ss) what t = inside (part_by s t) t (λ inner. with_part_by s (with_put ss what inner) t)
+with_put (s ∷ ss) what t = put_inside (part_by s t) t (λ inner. with_part_by s (with_put ss what inner) t)
 
 -- the items, once something was put into the one at a place
 abbrev pub item_put : List Step → Put → ℕ → List ValueTree → Option ValueTree → List ValueTree

@@ -11,8 +11,8 @@ ghost use Rattle.circus_evaluate.specs.Given.{got_as, given_as, Gives};
 ghost use Rattle.circus_evaluate.specs.Steps.{step_as};
 ghost use Rattle.circus_evaluate.specs.Seen.Suffixes.{step_of};
 
-use crate::got::{Given, Got, NoValue, made, made_text};
-use crate::number::{as_kind, calculate, is_ordered, literal, negated};
+use crate::got::{Given, Got, NoValue, unless_large, made_text};
+use crate::number::{as_kind, calculate, is_ordered, literal, negate};
 use crate::part::{Step, part_by};
 use circus_checked::{
     Calculation, CheckedExpression, CheckedExpressions, CheckedOperand, CheckedPlace,
@@ -36,28 +36,28 @@ pub(crate) fn evaluate<'a>(
 {
     use CheckedExpression::*;
     match expression {
-        Or(left, right) => decided(alloc, limit, variables, true, left, right),
-        And(left, right) => decided(alloc, limit, variables, false, left, right),
-        Not(operand) => denied(alloc, limit, variables, operand),
+        Or(left, right) => decide(alloc, limit, variables, true, left, right),
+        And(left, right) => decide(alloc, limit, variables, false, left, right),
+        Not(operand) => deny(alloc, limit, variables, operand),
         Equal(left, right) => compared_whole(alloc, limit, variables, left, right),
-        Compare(order, left, right) => compared(alloc, limit, variables, *order, left, right),
+        Compare(order, left, right) => compare_operands(alloc, limit, variables, *order, left, right),
         Calculate(calculation, left, right) => {
-            calculated(alloc, limit, variables, *calculation, left, right)
+            calculate_operands(alloc, limit, variables, *calculation, left, right)
         }
         Minus(operand) => minus(alloc, limit, variables, operand),
-        Join(left, right) => joined(alloc, limit, variables, left, right),
+        Join(left, right) => join_lists(alloc, limit, variables, left, right),
         Is(arm, operand) => stands(alloc, limit, variables, *arm, operand),
         Number(number) => literal(*number),
         Text(bytes) => made_text(bytes.copy()?, limit),
         Truth(truth) => Ok(Got::truth(*truth)),
         Length(operand) => length(alloc, limit, variables, operand),
         Label(number) => Ok(Got::Made(Value::Enumeration(*number))),
-        Arm(number, operand) => chosen(alloc, limit, variables, *number, operand),
-        Items(form, items) => made(
-            formed(*form, evaluate_all(alloc, limit, variables, items)?),
+        Arm(number, operand) => choice_at(alloc, limit, variables, *number, operand),
+        Items(form, items) => unless_large(
+            value_of_form(*form, evaluate_all(alloc, limit, variables, items)?),
             limit,
         ),
-        Convert(kind, operand) => converted(alloc, limit, variables, *kind, operand),
+        Convert(kind, operand) => convert_number(alloc, limit, variables, *kind, operand),
         Read(place) => read(alloc, limit, variables, place),
     }
 }
@@ -107,7 +107,7 @@ pub fn given_in(
     ensures { Gives given_as result
         (evaluating.evaluate limit variables.now (tree_of expression.now)) }
 {
-    Ok(evaluate(alloc, limit, variables, expression)?.apart()?)
+    Ok(evaluate(alloc, limit, variables, expression)?.detach()?)
 }
 
 // The value that an expression gives, which is no number.
@@ -129,7 +129,7 @@ fn value_in(
 
 // OR and AND: the right side is evaluated only where the left one isn't this truth value.
 #[cycle(evaluation)]
-fn decided(
+fn decide(
     alloc: Global,
     limit: u32,
     variables: &Values,
@@ -148,7 +148,7 @@ fn decided(
 }
 
 #[cycle(evaluation)]
-fn denied(
+fn deny(
     alloc: Global,
     limit: u32,
     variables: &Values,
@@ -178,7 +178,7 @@ fn compared_whole(
 }
 
 #[cycle(evaluation)]
-fn compared(
+fn compare_operands(
     alloc: Global,
     limit: u32,
     variables: &Values,
@@ -195,7 +195,7 @@ fn compared(
 }
 
 #[cycle(evaluation)]
-fn calculated(
+fn calculate_operands(
     alloc: Global,
     limit: u32,
     variables: &Values,
@@ -220,7 +220,7 @@ fn minus(
 ) -> Result<Got<'static>, NoValue>
     ensures { Gives got_as result (evaluating.evaluate limit variables.now (e.minus operand.now)) }
 {
-    negated(number_in(alloc, limit, variables, operand.expression())?)
+    negate(number_in(alloc, limit, variables, operand.expression())?)
 }
 
 // Adds the bytes of the text that an expression gives.
@@ -244,7 +244,7 @@ fn append_text(
 }
 
 #[cycle(evaluation)]
-fn joined(
+fn join_lists(
     alloc: Global,
     limit: u32,
     variables: &Values,
@@ -292,7 +292,7 @@ fn length(
 
 // A choice at this arm.
 #[cycle(evaluation)]
-fn chosen(
+fn choice_at(
     alloc: Global,
     limit: u32,
     variables: &Values,
@@ -303,11 +303,11 @@ fn chosen(
         (evaluating.evaluate limit variables.now (e.arm arm operand.now)) }
 {
     let value = value_in(alloc, limit, variables, operand.expression())?;
-    made(Value::Choice(arm, Chosen::new(alloc, value)?), limit)
+    unless_large(Value::Choice(arm, Chosen::new(alloc, value)?), limit)
 }
 
 #[cycle(evaluation)]
-fn converted(
+fn convert_number(
     alloc: Global,
     limit: u32,
     variables: &Values,
@@ -402,8 +402,8 @@ pub fn steps_of(
 }
 
 // These items as one value.
-fn formed(form: Form, items: Values) -> Value
-    ensures { values.tree_of result ≡ evaluating.formed form items }
+fn value_of_form(form: Form, items: Values) -> Value
+    ensures { values.tree_of result ≡ evaluating.value_of_form form items }
 {
     match form {
         Form::Array => Value::Array(items),

@@ -121,7 +121,7 @@ impl<'a> Got<'a> {
     }
 
     /// The same apart from the variables, of which it is copied, or `NoMemory`. Only what is lent is copied.
-    pub fn apart(self) -> Result<Given, NoMemory>
+    pub fn detach(self) -> Result<Given, NoMemory>
         ensures { IfOk result (λ given. given_as given ≡ got_as self.entry) }
     {
         Ok(match self {
@@ -164,8 +164,8 @@ impl<'a> Got<'a> {
 }
 
 /// A value that is made, unless it is above the limit.
-pub(crate) fn made(value: Value, limit: u32) -> Result<Got<'static>, NoValue>
-    ensures { Gives got_as result (got.made limit (tree_of value)) }
+pub(crate) fn unless_large(value: Value, limit: u32) -> Result<Got<'static>, NoValue>
+    ensures { Gives got_as result (got.unless_large limit (tree_of value)) }
 {
     if external_size(&value) <= u64::from(limit) {
         Ok(Got::Made(value))
@@ -179,7 +179,7 @@ pub(crate) fn made_text(bytes: Octets, limit: u32) -> Result<Got<'static>, NoVal
     ensures { Gives got_as result (got.made_text limit bytes) }
 {
     if bytes.len() <= MOST_TEXT {
-        made(Value::Text(bytes), limit)
+        unless_large(Value::Text(bytes), limit)
     } else {
         Err(NoValue::Raises(LanguageError::TooLong))
     }

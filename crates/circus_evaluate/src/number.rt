@@ -5,7 +5,7 @@ ghost use Rattle.circus_checked.specs.declared.kinds.Calculation.TheVariants.{Di
 ghost use Rattle.circus_evaluate.specs.Got as got;
 ghost use Rattle.circus_evaluate.specs.Evaluating as evaluating;
 ghost use Rattle.circus_evaluate.specs.Given.{got_as, Gives};
-ghost use Rattle.circus_evaluate.specs.Seen.Values.{ranged};
+ghost use Rattle.circus_evaluate.specs.Seen.Values.{number_in_range};
 
 use crate::got::{Got, NoValue};
 use circus_checked::{Calculation, NumberKind, Order};
@@ -24,13 +24,13 @@ pub(crate) fn calculate(
         Calculation::Plus => in_range(one.checked_add(two)),
         Calculation::Minus => in_range(one.checked_sub(two)),
         Calculation::Times => in_range(one.checked_mul(two)),
-        Calculation::Div => divided(one, two),
+        Calculation::Div => divide(one, two),
         Calculation::Mod => remainder(one, two),
     }
 }
 
 // A quotient, rounded toward zero.
-fn divided(one: i64, two: i64) -> Result<Got<'static>, NoValue>
+fn divide(one: i64, two: i64) -> Result<Got<'static>, NoValue>
     ensures { Gives got_as result (evaluating.calculation Div one two) }
 {
     if two == 0 {
@@ -54,22 +54,22 @@ fn remainder(one: i64, two: i64) -> Result<Got<'static>, NoValue>
 }
 
 /// A number with the other sign.
-pub(crate) fn negated(number: i64) -> Result<Got<'static>, NoValue>
-    ensures { Gives got_as result (got.calculated (neg_ℤ number)) }
+pub(crate) fn negate(number: i64) -> Result<Got<'static>, NoValue>
+    ensures { Gives got_as result (got.number_or_overflow (neg_ℤ number)) }
 {
     in_range(number.checked_neg())
 }
 
 /// A number of the text.
 pub(crate) fn literal(number: u64) -> Result<Got<'static>, NoValue>
-    ensures { Gives got_as result (got.calculated (pos number)) }
+    ensures { Gives got_as result (got.number_or_overflow (pos number)) }
 {
     in_range(i64::try_from(number).ok())
 }
 
 // A number, where the language has it.
 fn in_range(number: Option<i64>) -> Result<Got<'static>, NoValue>
-    ensures { Gives got_as result (ranged number) }
+    ensures { Gives got_as result (number_in_range number) }
 {
     match number {
         Some(number) => Ok(Got::Number(number)),

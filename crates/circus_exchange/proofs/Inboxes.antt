@@ -8,7 +8,7 @@ use Rattle.std.specs.FinMap.{FinMap, get, insert, remove, nat_cmp-IsAntisymmetri
 use Rattle.circus_exchange.specs.declared.progress.Progress.{Progress}
 use Rattle.circus_segment.specs.Segment.{Piece, has_data}
 use Rattle.circus_exchange.proofs.Finite.{put_back}
-use Rattle.circus_exchange.specs.Inbox.{Arriving, part_of, with_part, is_there, front, known, has, is_new, has_with, count_with, completes, data_with, joined, parts_with, added}
+use Rattle.circus_exchange.specs.Inbox.{Arriving, part_of, with_part, is_there, front, progress_so_far, has, is_new, has_with, count_with, completes, data_with, data_up_to, parts_with, add_segment}
 
 -- the numbers 1 to a pass
 abbrev pub PassTo : (ℕ → Bool) → ℕ → Type 0
@@ -48,18 +48,18 @@ new_parts full low there h = grind arith
 
 -- ---- a segment that comes, of a message of which this much is known
 
-pub is_new_is : (box : Arriving) (s : Piece) (p : Progress) (o : Option (FinMap nat_cmp (List ℕ))) → p ≡ known box s → o ≡ get box.parts s.call → (has_data s && not (is_there p o s.number)) ≡ is_new box s
+pub is_new_is : (box : Arriving) (s : Piece) (p : Progress) (o : Option (FinMap nat_cmp (List ℕ))) → p ≡ progress_so_far box s → o ≡ get box.parts s.call → (has_data s && not (is_there p o s.number)) ≡ is_new box s
 unfolding is_new has
-is_new_is box s p o is parts = ap (λ (q : Progress). has_data s && not (is_there q o s.number)) is ∙ ap (λ x. has_data s && not (is_there (known box s) x s.number)) parts
+is_new_is box s p o is parts = ap (λ (q : Progress). has_data s && not (is_there q o s.number)) is ∙ ap (λ x. has_data s && not (is_there (progress_so_far box s) x s.number)) parts
 
-pub count_of_new : (box : Arriving) (s : Piece) (p : Progress) (o : Option (FinMap nat_cmp (List ℕ))) → p ≡ known box s → o ≡ get box.parts s.call → is_new box s ≡ true → front (λ number. is_there p o number || eqb number s.number) s.total ≡ count_with box s
+pub count_of_new : (box : Arriving) (s : Piece) (p : Progress) (o : Option (FinMap nat_cmp (List ℕ))) → p ≡ progress_so_far box s → o ≡ get box.parts s.call → is_new box s ≡ true → front (λ number. is_there p o number || eqb number s.number) s.total ≡ count_with box s
 unfolding count_with has_with has
 count_of_new box s p o is parts new =
     ap (λ (q : Progress). front (λ number. is_there q o number || eqb number s.number) s.total) is
-    ∙ ap (λ x. front (λ number. is_there (known box s) x number || eqb number s.number) s.total) parts
-    ∙ sym (ap (λ b. cond b (front (λ number. is_there (known box s) (get box.parts s.call) number || eqb number s.number) s.total) (known box s).count) new)
+    ∙ ap (λ x. front (λ number. is_there (progress_so_far box s) x number || eqb number s.number) s.total) parts
+    ∙ sym (ap (λ b. cond b (front (λ number. is_there (progress_so_far box s) (get box.parts s.call) number || eqb number s.number) s.total) (progress_so_far box s).count) new)
 
-pub count_of_old : (box : Arriving) (s : Piece) (p : Progress) → p ≡ known box s → is_new box s ≡ false → p.count ≡ count_with box s
+pub count_of_old : (box : Arriving) (s : Piece) (p : Progress) → p ≡ progress_so_far box s → is_new box s ≡ false → p.count ≡ count_with box s
 unfolding count_with
 count_of_old box s p is old = rw old (ap (λ (q : Progress). q.count) is)
 
@@ -89,8 +89,8 @@ pub parts_part : (box : Arriving) (s : Piece) → is_new box s ≡ true → coun
 unfolding parts_with
 parts_part box s new open_ = rw (new, ne_eqb (count_with box s) s.total open_) refl
 
-pub added_is : (box : Arriving) (s : Piece) (count : ℕ) (noted : FinMap nat_cmp Progress) (parts : FinMap nat_cmp (FinMap nat_cmp (List ℕ))) → count ≡ count_with box s → noted ≡ insert box.progress s.call (record { total = s.total; count = count }) → parts ≡ parts_with box s → ◌≡◌ {A = Arriving} (record { progress = noted; parts = parts }) (added box s)
-unfolding added
+pub added_is : (box : Arriving) (s : Piece) (count : ℕ) (noted : FinMap nat_cmp Progress) (parts : FinMap nat_cmp (FinMap nat_cmp (List ℕ))) → count ≡ count_with box s → noted ≡ insert box.progress s.call (record { total = s.total; count = count }) → parts ≡ parts_with box s → ◌≡◌ {A = Arriving} (record { progress = noted; parts = parts }) (add_segment box s)
+unfolding add_segment
 added_is box s count noted parts is note part =
     ap (λ (m : FinMap nat_cmp Progress). record { progress = m; parts = parts }) note
     ∙ ap (λ (n : ℕ). record { progress = insert box.progress s.call (record { total = s.total; count = n }); parts = parts }) is
@@ -108,5 +108,5 @@ pub data_is : (box : Arriving) (s : Piece) (o : Option (FinMap nat_cmp (List ℕ
 unfolding data_with
 data_is box s o number is = ap (λ x. cond (eqb number s.number) s.part (unwrap_or (part_of x number) [])) is
 
-pub joined_more : (f : ℕ → List ℕ) (n : ℕ) (message data_ : List ℕ) → message ≡ joined f n → data_ ≡ f (n + 1) → message ++ data_ ≡ joined f (n + 1)
+pub joined_more : (f : ℕ → List ℕ) (n : ℕ) (message data_ : List ℕ) → message ≡ data_up_to f n → data_ ≡ f (n + 1) → message ++ data_ ≡ data_up_to f (n + 1)
 joined_more f n message data_ before here = rw (before, here, add-one) refl

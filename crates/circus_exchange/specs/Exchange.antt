@@ -9,8 +9,8 @@ use Rattle.circus_exchange.specs.declared.taken.Arrived.TheVariants.{Nothing, Ar
 use Rattle.circus_segment.specs.Segment.{Piece, part_size, most_segments, is_acknowledgement}
 use Rattle.circus_segment.specs.Cut.{Outgoing, segment_count, whole}
 use Rattle.circus_exchange.specs.Limits.{window, patience}
-use Rattle.circus_exchange.specs.Inbox.{fits, completes, data_with, joined, acknowledgement, added}
-use Rattle.circus_exchange.specs.Outbox.{agrees, outgoing_at, whole_of, handed, reached, becomes_whole, emptied, forgotten, reminders}
+use Rattle.circus_exchange.specs.Inbox.{fits, completes, data_with, data_up_to, acknowledgement, add_segment}
+use Rattle.circus_exchange.specs.Outbox.{agrees, outgoing_at, whole_of, hand_over, acknowledge_up_to, becomes_whole, drop_bytes, forget_message, reminders}
 
 -- a message that can be sent in a format
 abbrev pub IsSendable : ℕ → List ℕ → Type 0
@@ -37,12 +37,12 @@ start number format = record {
 unfoldable pub sends_at_once : Exchange → Bool
 sends_at_once e = nat_lt e.in_flight window && (e.sent == e.next)
 
-unfoldable pub called : Exchange → List ℕ → Exchange
-called e message = record e {
+unfoldable pub send_call : Exchange → List ℕ → Exchange
+send_call e message = record e {
   next = e.next + 1;
   sent = if sends_at_once e then e.sent + 1 else e.sent;
   in_flight = if sends_at_once e then e.in_flight + 1 else e.in_flight;
-  calls = handed e.calls e.next (segment_count message) message;
+  calls = hand_over e.calls e.next (segment_count message) message;
   ticks = if len e.calls.messages == 0 then 0 else e.ticks;
 }
 
@@ -54,8 +54,8 @@ datagrams_of_call e message = if sends_at_once e then whole (message_out e 0 e.n
 
 -- ---- a return is handed over
 
-unfoldable pub returned : Exchange → ℕ → List ℕ → Exchange
-returned e call message = record e { returns = handed e.returns call (segment_count message) message }
+unfoldable pub send_return : Exchange → ℕ → List ℕ → Exchange
+send_return e call message = record e { returns = hand_over e.returns call (segment_count message) message }
 
 unfoldable pub datagrams_of_return : Exchange → ℕ → List ℕ → List (List ℕ)
 datagrams_of_return e call message = whole (message_out e 1 call message)
@@ -101,13 +101,13 @@ in_flight_after e call count = if becomes_whole e.calls call count then e.in_fli
 -- the segments 1 to count of a call are acknowledged
 unfoldable pub call_reached : Exchange → ℕ → ℕ → Exchange
 call_reached e call count = record e {
-  calls = if becomes_whole e.calls call count then emptied (reached e.calls call count) call else reached e.calls call count;
+  calls = if becomes_whole e.calls call count then drop_bytes (acknowledge_up_to e.calls call count) call else acknowledge_up_to e.calls call count;
   in_flight = in_flight_after e call count;
 }
 
 -- the segments 1 to count of a return are acknowledged
 unfoldable pub return_reached : Exchange → ℕ → ℕ → Exchange
-return_reached e call count = record e { returns = if becomes_whole e.returns call count then forgotten (reached e.returns call count) call else reached e.returns call count }
+return_reached e call count = record e { returns = if becomes_whole e.returns call count then forget_message (acknowledge_up_to e.returns call count) call else acknowledge_up_to e.returns call count }
 
 abbrev pub total_or_none : Option Progress → ℕ
 total_or_none None = 0
@@ -118,13 +118,13 @@ unfoldable pub total_of : Exchange → ℕ → ℕ
 total_of e call = total_or_none (get e.calls.progress call)
 
 -- a call whose return is complete is forgotten
-unfoldable pub ended : Exchange → ℕ → Bool → Exchange
-ended e call complete = record e { calls = if complete then forgotten e.calls call else e.calls }
+unfoldable pub end_call : Exchange → ℕ → Bool → Exchange
+end_call e call complete = record e { calls = if complete then forget_message e.calls call else e.calls }
 
 -- with a segment of a return added, which acknowledges its call whole, and ends it where the return is complete
 unfoldable pub return_added : Exchange → Piece → Exchange
 return_added e s =
-    ended (call_reached (record e { arriving_returns = added e.arriving_returns s }) s.call (total_of e s.call)) s.call (completes e.arriving_returns s)
+    end_call (call_reached (record e { arriving_returns = add_segment e.arriving_returns s }) s.call (total_of e s.call)) s.call (completes e.arriving_returns s)
 
 -- once a segment was taken
 unfoldable pub after_taken : Exchange → Piece → Exchange
@@ -132,7 +132,7 @@ after_taken e s =
     record (
     if is_acknowledgement s
     then (if s.kind == 0 then let_go (call_reached e s.call s.number) else return_reached e s.call s.number)
-    else (if s.kind == 0 then record e { arriving_calls = added e.arriving_calls s } else let_go (return_added e s))
+    else (if s.kind == 0 then record e { arriving_calls = add_segment e.arriving_calls s } else let_go (return_added e s))
     ) { ticks = 0 }
 
 -- once a segment came
@@ -154,8 +154,8 @@ datagrams_after e s = if takes e s then datagrams_of_taken e s else []
 unfoldable pub arrived_of_taken : Exchange → Piece → Arrived
 arrived_of_taken e s =
     if s.kind == 0
-    then (if completes e.arriving_calls s then ArrivedCall s.call (joined (data_with e.arriving_calls s) s.total) else Nothing)
-    else (if completes e.arriving_returns s then ArrivedReturn s.call (joined (data_with e.arriving_returns s) s.total) else Nothing)
+    then (if completes e.arriving_calls s then ArrivedCall s.call (data_up_to (data_with e.arriving_calls s) s.total) else Nothing)
+    else (if completes e.arriving_returns s then ArrivedReturn s.call (data_up_to (data_with e.arriving_returns s) s.total) else Nothing)
 
 abbrev pub arrived_after : Exchange → Piece → Arrived
 arrived_after e s = if takes e s && not (is_acknowledgement s) then arrived_of_taken e s else Nothing
@@ -177,5 +177,5 @@ datagrams_of_tick e = reminders e.calls e.format 0 e.sent ++ reminders e.returns
 
 -- ---- the other end is down
 
-abbrev pub stopped : Exchange → Exchange
-stopped e = record e { stopped = true }
+abbrev pub stop_exchange : Exchange → Exchange
+stop_exchange e = record e { stopped = true }

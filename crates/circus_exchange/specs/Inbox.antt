@@ -16,12 +16,12 @@ front passes zero = 0
 front passes (suc m) = if (front passes m == m) && passes (suc m) then suc m else front passes m
 
 -- what is known of the message of a segment: what the first of its segments said
-unfoldable pub known : Arriving → Piece → Progress
-known box s = unwrap_or (get box.progress s.call) (record { total = s.total; count = 0 })
+unfoldable pub progress_so_far : Arriving → Piece → Progress
+progress_so_far box s = unwrap_or (get box.progress s.call) (record { total = s.total; count = 0 })
 
 -- the segment has the total of its message
 unfoldable pub fits : Arriving → Piece → Bool
-fits box s = (known box s).total == s.total
+fits box s = (progress_so_far box s).total == s.total
 
 abbrev pub part_of : Option (FinMap nat_cmp (List ℕ)) → ℕ → Option (List ℕ)
 part_of None number = None
@@ -33,7 +33,7 @@ is_there progress parts number = nat_le number progress.count || is_some (part_o
 
 -- the data of a number of its message is there already
 unfoldable pub has : Arriving → Piece → ℕ → Bool
-has box s number = is_there (known box s) (get box.parts s.call) number
+has box s number = is_there (progress_so_far box s) (get box.parts s.call) number
 
 -- the segment has data that is not there yet
 unfoldable pub is_new : Arriving → Piece → Bool
@@ -45,7 +45,7 @@ has_with box s number = has box s number || number == s.number
 
 -- how many segments of its message are there with this one, from the first on without a gap
 unfoldable pub count_with : Arriving → Piece → ℕ
-count_with box s = if is_new box s then front (has_with box s) s.total else (known box s).count
+count_with box s = if is_new box s then front (has_with box s) s.total else (progress_so_far box s).count
 
 -- the segment is the last that its message lacked
 unfoldable pub completes : Arriving → Piece → Bool
@@ -56,9 +56,9 @@ unfoldable pub data_with : Arriving → Piece → ℕ → List ℕ
 data_with box s number = if number == s.number then s.part else unwrap_or (part_of (get box.parts s.call) number) []
 
 -- the data of the numbers 1 to m, joined
-abbrev pub joined : (ℕ → List ℕ) → ℕ → List ℕ
-joined data_at zero = []
-joined data_at (suc m) = joined data_at m ++ data_at (suc m)
+abbrev pub data_up_to : (ℕ → List ℕ) → ℕ → List ℕ
+data_up_to data_at zero = []
+data_up_to data_at (suc m) = data_up_to data_at m ++ data_at (suc m)
 
 -- parts with one more, of a segment of a call
 abbrev pub with_part : FinMap nat_cmp (FinMap nat_cmp (List ℕ)) → ℕ → ℕ → List ℕ → FinMap nat_cmp (FinMap nat_cmp (List ℕ))
@@ -72,15 +72,15 @@ parts_with box s =
     else box.parts
 
 -- with one more segment
-unfoldable pub added : Arriving → Piece → Arriving
-added box s = record { progress = insert box.progress s.call (record { total = s.total; count = count_with box s }); parts = parts_with box s }
+unfoldable pub add_segment : Arriving → Piece → Arriving
+add_segment box s = record { progress = insert box.progress s.call (record { total = s.total; count = count_with box s }); parts = parts_with box s }
 
 -- the acknowledgement that a segment gets which completes its message or doesn't, and with which so many are there from the first on without a gap: where it asks for one, completes its message, or leaves a smaller number missing, and the other end isn't down
-unfoldable pub acknowledged : Bool → Piece → Bool → ℕ → List (List ℕ)
-acknowledged stopped s complete count =
+unfoldable pub acknowledgement_for : Bool → Piece → Bool → ℕ → List (List ℕ)
+acknowledgement_for stopped s complete count =
     if not stopped && (s.control == 2 || (complete || nat_lt count s.number))
     then spelling (record { format = s.format; kind = s.kind; control = 1; total = s.total; number = count; call = s.call; part = [] }) ∷ []
     else []
 
 abbrev pub acknowledgement : Bool → Arriving → Piece → List (List ℕ)
-acknowledgement stopped box s = acknowledged stopped s (completes box s) (count_with box s)
+acknowledgement stopped box s = acknowledgement_for stopped s (completes box s) (count_with box s)

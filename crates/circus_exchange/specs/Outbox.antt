@@ -33,16 +33,16 @@ whole_of None = []
 whole_of (Some m) = whole m
 
 -- with a message handed over
-unfoldable pub handed : HandedOver → ℕ → ℕ → List ℕ → HandedOver
-handed box call total message = record { progress = insert box.progress call (record { total = total; count = 0 }); messages = insert box.messages call message }
+unfoldable pub hand_over : HandedOver → ℕ → ℕ → List ℕ → HandedOver
+hand_over box call total message = record { progress = insert box.progress call (record { total = total; count = 0 }); messages = insert box.messages call message }
 
-abbrev pub raised : FinMap nat_cmp Progress → ℕ → Option Progress → ℕ → FinMap nat_cmp Progress
-raised progress call None count = progress
-raised progress call (Some p) count = if nat_lt p.count count then insert progress call (record { total = p.total; count = count }) else progress
+abbrev pub raise_progress : FinMap nat_cmp Progress → ℕ → Option Progress → ℕ → FinMap nat_cmp Progress
+raise_progress progress call None count = progress
+raise_progress progress call (Some p) count = if nat_lt p.count count then insert progress call (record { total = p.total; count = count }) else progress
 
 -- once the segments 1 to count are acknowledged
-unfoldable pub reached : HandedOver → ℕ → ℕ → HandedOver
-reached box call count = record box { progress = raised box.progress call (get box.progress call) count }
+unfoldable pub acknowledge_up_to : HandedOver → ℕ → ℕ → HandedOver
+acknowledge_up_to box call count = record box { progress = raise_progress box.progress call (get box.progress call) count }
 
 abbrev pub whole_by : Option Progress → ℕ → Bool
 whole_by None count = false
@@ -53,12 +53,12 @@ unfoldable pub becomes_whole : HandedOver → ℕ → ℕ → Bool
 becomes_whole box call count = whole_by (get box.progress call) count
 
 -- without the bytes of a message, whose call still waits for its return
-unfoldable pub emptied : HandedOver → ℕ → HandedOver
-emptied box call = record box { messages = if contains_key box.messages call then insert box.messages call [] else box.messages }
+unfoldable pub drop_bytes : HandedOver → ℕ → HandedOver
+drop_bytes box call = record box { messages = if contains_key box.messages call then insert box.messages call [] else box.messages }
 
 -- without a message
-unfoldable pub forgotten : HandedOver → ℕ → HandedOver
-forgotten box call = record box { messages = remove box.messages call }
+unfoldable pub forget_message : HandedOver → ℕ → HandedOver
+forget_message box call = record box { messages = remove box.messages call }
 
 -- the probe of a call
 abbrev pub probe : ℕ → ℕ → ℕ → ℕ → Piece

@@ -1,7 +1,7 @@
 // How far a segment brings its message.
 ghost use Rattle.std.specs.Prelude.{◌≡◌, ◌&&◌, ◌==◌, IfOk};
 ghost use Rattle.circus_segment.specs.Seen.Pieces.{piece};
-ghost use Rattle.circus_exchange.specs.Inbox.{acknowledged};
+ghost use Rattle.circus_exchange.specs.Inbox.{acknowledgement_for};
 
 use circus_segment::{ACKNOWLEDGEMENT, Datagrams, PLEASE_ACKNOWLEDGE, Segment};
 use circus_value::NoMemory;
@@ -25,7 +25,7 @@ impl Advance {
     }
 
     /// The acknowledgement that the segment gets, if it gets one and the other end is not down.
-    #[tactic(auto, unfolding(crate::specs::Inbox::acknowledged))]
+    #[tactic(auto, unfolding(crate::specs::Inbox::acknowledgement_for))]
     pub fn acknowledgement(
         self,
         alloc: Global,
@@ -33,7 +33,7 @@ impl Advance {
         segment: &Segment<'_>,
     ) -> Result<Datagrams, NoMemory>
         ensures { IfOk result (λ datagrams.
-            datagrams ≡ acknowledged stopped (piece segment.now)
+            datagrams ≡ acknowledgement_for stopped (piece segment.now)
             (self.is_new && (self.count == segment.now.total)) self.count) }
     {
         let mut datagrams = Datagrams::new(alloc);

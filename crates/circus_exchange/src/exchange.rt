@@ -61,7 +61,7 @@ impl Drop for Exchange {
 }
 
 impl Exchange {
-    ghost use Rattle.circus_exchange.specs.Exchange.{start, called, datagrams_of_call, returned, datagrams_of_return, awaits_return, was_sent, takes, lets_go, let_go, datagrams_let_go, in_flight_after, call_reached, return_reached, total_of, ended, return_added, after_taken, after, datagrams_of_taken, datagrams_after, arrived_of_taken, arrived_after, ticked, is_suspect, datagrams_of_tick, stopped, sends_at_once};
+    ghost use Rattle.circus_exchange.specs.Exchange.{start, send_call, datagrams_of_call, send_return, datagrams_of_return, awaits_return, was_sent, takes, lets_go, let_go, datagrams_let_go, in_flight_after, call_reached, return_reached, total_of, end_call, return_added, after_taken, after, datagrams_of_taken, datagrams_after, arrived_of_taken, arrived_after, ticked, is_suspect, datagrams_of_tick, stop_exchange, sends_at_once};
 
     /// An end without calls and returns, whose first call gets this number. It grows with this allocator, and sends in this
     /// format, which is 1 or 2.
@@ -111,14 +111,14 @@ impl Exchange {
     }
 
     /// Hands a call over. After `NoMemory` nothing has changed.
-    #[tactic(auto, unfolding(crate::specs::Exchange::called))]
+    #[tactic(auto, unfolding(crate::specs::Exchange::send_call))]
     pub fn send_call(&mut self, alloc: Global, message: Message) -> Result<Datagrams, NoMemory>
         requires long { length message ≤ LONGEST }
         requires number { self.old.next < never_used }
         requires fresh { map.get self.old.calls.progress self.old.next ≡ None }
         ensures datagrams { IfOk result (λ datagrams.
             datagrams ≡ datagrams_of_call self.old message) }
-        ensures state { OnOk result (self.new ≡ called self.old message) }
+        ensures state { OnOk result (self.new ≡ send_call self.old message) }
         ensures err { OnErr result (self.new ≡ self.old) }
     {
         let datagrams = self.datagrams_of_call(alloc, message.as_slice())?;
@@ -156,7 +156,7 @@ impl Exchange {
     }
 
     /// Hands a return over. After `NoMemory` nothing has changed.
-    #[tactic(auto, unfolding(crate::specs::Exchange::returned, crate::specs::Exchange::datagrams_of_return))]
+    #[tactic(auto, unfolding(crate::specs::Exchange::send_return, crate::specs::Exchange::datagrams_of_return))]
     pub fn send_return(
         &mut self,
         alloc: Global,
@@ -167,7 +167,7 @@ impl Exchange {
         requires fresh { map.get self.old.returns.progress call ≡ None }
         ensures datagrams { IfOk result (λ datagrams.
             datagrams ≡ datagrams_of_return self.old call message) }
-        ensures state { OnOk result (self.new ≡ returned self.old call message) }
+        ensures state { OnOk result (self.new ≡ send_return self.old call message) }
         ensures err { OnErr result (self.new ≡ self.old) }
     {
         let mut datagrams = Datagrams::new(alloc);
@@ -239,7 +239,7 @@ impl Exchange {
         if !self.lets_go(in_flight) {
             return Ok(());
         }
-        match self.calls.outgoing(self.format, CALL, self.sent) {
+        match self.calls.message_under_way(self.format, CALL, self.sent) {
             Some(cut) => cut.send_whole(alloc, datagrams),
             None => Ok(()),
         }
@@ -265,7 +265,7 @@ impl Exchange {
         self.in_flight = self.in_flight_after(call, count);
         self.calls.reach(call, count);
         if whole {
-            self.calls.empty(alloc, call);
+            self.calls.drop_bytes(alloc, call);
         }
     }
 
@@ -282,9 +282,9 @@ impl Exchange {
     }
 
     // Forgets a call whose return is complete.
-    #[tactic(auto, unfolding(crate::specs::Exchange::ended))]
+    #[tactic(auto, unfolding(crate::specs::Exchange::end_call))]
     fn end_call(&mut self, call: u32, complete: bool)
-        ensures { self.new ≡ ended self.old call complete }
+        ensures { self.new ≡ end_call self.old call complete }
     {
         if complete {
             self.calls.forget(call);
@@ -520,7 +520,7 @@ impl Exchange {
 
     /// The other end is down.
     pub fn stop(&mut self)
-        ensures { self.new ≡ stopped self.old }
+        ensures { self.new ≡ stop_exchange self.old }
     {
         self.stopped = true;
     }

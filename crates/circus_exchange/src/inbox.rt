@@ -42,7 +42,7 @@ impl Model for Inbox {
 }
 
 impl Inbox {
-    ghost use Rattle.circus_exchange.specs.Inbox.{known, fits, is_new, count_with, completes, data_with, joined, added};
+    ghost use Rattle.circus_exchange.specs.Inbox.{progress_so_far, fits, is_new, count_with, completes, data_with, data_up_to, add_segment};
 
     /// No messages; that of this number is expected first.
     pub fn new(alloc: Global, first: u32) -> Self
@@ -63,9 +63,9 @@ impl Inbox {
     }
 
     // What is known of the message of a segment.
-    #[tactic(auto, unfolding(crate::specs::Inbox::known))]
-    fn known(&self, segment: &Segment<'_>) -> Progress
-        ensures { result ≡ known self.now (piece segment.now) }
+    #[tactic(auto, unfolding(crate::specs::Inbox::progress_so_far))]
+    fn progress_so_far(&self, segment: &Segment<'_>) -> Progress
+        ensures { result ≡ progress_so_far self.now (piece segment.now) }
     {
         match self.progress_of(segment.call) {
             Some(progress) => progress,
@@ -81,7 +81,7 @@ impl Inbox {
     pub fn fits(&self, segment: &Segment<'_>) -> bool
         ensures { result ≡ fits self.now (piece segment.now) }
     {
-        self.known(segment).total == segment.total
+        self.progress_so_far(segment).total == segment.total
     }
 
     /// How far a segment brings its message.
@@ -92,7 +92,7 @@ impl Inbox {
         ensures completes { (result.is_new && (result.count == segment.now.total))
             ≡ completes self.now (piece segment.now) }
     {
-        let known = self.known(segment);
+        let known = self.progress_so_far(segment);
         let parts = self.parts.of(segment.call);
         let is_new = is_new(known, parts, segment);
         let count = if is_new {
@@ -118,7 +118,7 @@ impl Inbox {
             ≡ completes self.now (piece segment.now) }
         ensures { IfOk result (λ message.
             message ≡ (if completes self.now (piece segment.now)
-            then Some (joined (data_with self.now (piece segment.now)) segment.now.total)
+            then Some (data_up_to (data_with self.now (piece segment.now)) segment.now.total)
             else None)) }
     {
         if !advance.completes(segment) {
@@ -132,7 +132,7 @@ impl Inbox {
         requires short { length part.now ≤ part_size }
         requires total { segment.now.total ≤ most_segments 2 }
         ensures { IfOk result (λ message.
-            message ≡ joined (data_with self.now (piece segment.now)) segment.now.total) }
+            message ≡ data_up_to (data_with self.now (piece segment.now)) segment.now.total) }
     {
         let parts = self.parts.of(segment.call);
         let mut message = Parts::new(alloc);
@@ -154,7 +154,7 @@ impl Inbox {
         requires short { length part ≤ part_size }
         requires is_new { advance.is_new ≡ is_new self.old (piece segment.now) }
         requires count { advance.count ≡ count_with self.old (piece segment.now) }
-        ensures ok { OnOk result (self.new ≡ added self.old (piece segment.now)) }
+        ensures ok { OnOk result (self.new ≡ add_segment self.old (piece segment.now)) }
         ensures err { OnErr result (self.new ≡ self.old) }
     {
         let progress = Progress {

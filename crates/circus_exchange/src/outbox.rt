@@ -39,8 +39,8 @@ impl Model for Outbox {
 }
 
 impl Outbox {
-    ghost use Rattle.circus_segment.specs.Seen.Outgoing.{outgoing};
-    ghost use Rattle.circus_exchange.specs.Outbox.{agrees, outgoing_at, handed, reached, becomes_whole, emptied, forgotten, reminder_of, reminders};
+    ghost use Rattle.circus_segment.specs.Seen.Outgoing.{outgoing_of};
+    ghost use Rattle.circus_exchange.specs.Outbox.{agrees, outgoing_at, hand_over, acknowledge_up_to, becomes_whole, drop_bytes, forget_message, reminder_of, reminders};
 
     /// No messages; that of this number is expected first.
     pub fn new(alloc: Global, first: u32) -> Self
@@ -80,8 +80,8 @@ impl Outbox {
 
     /// The message of a call on its way.
     #[tactic(auto, unfolding(crate::specs::Outbox::outgoing_at))]
-    pub fn outgoing(&self, format: u8, kind: u8, call: u32) -> Option<Cut<'_>>
-        ensures { option_map outgoing result ≡ outgoing_at self.now format kind call }
+    pub fn message_under_way(&self, format: u8, kind: u8, call: u32) -> Option<Cut<'_>>
+        ensures { option_map outgoing_of result ≡ outgoing_at self.now format kind call }
     {
         match (self.progress_of(call), self.messages.get(call)) {
             (Some(progress), Some(message)) => Some(Cut {
@@ -98,7 +98,7 @@ impl Outbox {
     /// Takes a message. After `NoMemory` nothing has changed.
     pub fn hand(&mut self, call: u32, total: u16, message: Message) -> Result<(), NoMemory>
         requires { map.get self.old.progress call ≡ None }
-        ensures ok { OnOk result (self.new ≡ handed self.old call total message) }
+        ensures ok { OnOk result (self.new ≡ hand_over self.old call total message) }
         ensures err { OnErr result (self.new ≡ self.old) }
     {
         self.messages.insert(call, message)?;
@@ -121,9 +121,9 @@ impl Outbox {
     }
 
     /// Notes that the segments up to a count are acknowledged.
-    #[tactic(auto, unfolding(crate::specs::Outbox::reached))]
+    #[tactic(auto, unfolding(crate::specs::Outbox::acknowledge_up_to))]
     pub fn reach(&mut self, call: u32, count: u16)
-        ensures { self.new ≡ reached self.old call count }
+        ensures { self.new ≡ acknowledge_up_to self.old call count }
     {
         if let Some(progress) = self.progress_of(call) {
             if progress.count < count {
@@ -134,9 +134,9 @@ impl Outbox {
     }
 
     /// Gives up the bytes of a message.
-    #[tactic(auto, unfolding(crate::specs::Outbox::emptied))]
-    pub fn empty(&mut self, alloc: Global, call: u32)
-        ensures { self.new ≡ emptied self.old call }
+    #[tactic(auto, unfolding(crate::specs::Outbox::drop_bytes))]
+    pub fn drop_bytes(&mut self, alloc: Global, call: u32)
+        ensures { self.new ≡ drop_bytes self.old call }
     {
         if self.messages.get(call).is_some() {
             self.messages.set(call, Message::new(alloc));
@@ -144,9 +144,9 @@ impl Outbox {
     }
 
     /// Gives up a message.
-    #[tactic(auto, unfolding(crate::specs::Outbox::forgotten))]
+    #[tactic(auto, unfolding(crate::specs::Outbox::forget_message))]
     pub fn forget(&mut self, call: u32)
-        ensures { self.new ≡ forgotten self.old call }
+        ensures { self.new ≡ forget_message self.old call }
     {
         self.messages.remove(call);
     }

@@ -3,7 +3,7 @@ ghost use Rattle.std.specs.Prelude.{◌≡◌, ◌+◌, ◌<◌, true, None, Som
 ghost use Rattle.std.specs.BTreeMap.{get, Updates, IsUnchanged};
 ghost use Rattle.std.specs.FinMap as map;
 ghost use Rattle.std.specs.Ordering.{nat_cmp};
-ghost use Rattle.circus_exchange.specs.Seen.Numbered.{IsOff, seen};
+ghost use Rattle.circus_exchange.specs.Seen.Numbered.{IsOff, map_of_row};
 
 use circus_value::NoMemory;
 use std::alloc::Global;
@@ -23,13 +23,13 @@ impl<V> Model for Series<V> {
     ghost use Rattle.std.specs.Ordering.{nat_cmp};
     ghost use Rattle.std.specs.FinMap as map;
     ghost use Rattle.std.specs.Coded.{coded_ℕ};
-    ghost use Rattle.circus_exchange.specs.Seen.Numbered.{seen};
+    ghost use Rattle.circus_exchange.specs.Seen.Numbered.{map_of_row};
 
     ghost Value = { map.FinMap nat_cmp V };
 
     ghost coded = { map.code coded_ℕ V.code };
 
-    ghost view = { λ a. seen a.first a.row.items a.others.entries };
+    ghost view = { λ a. map_of_row a.first a.row.items a.others.entries };
 }
 
 impl<V> Series<V> {
@@ -109,12 +109,12 @@ fn put_off_row<V: Drop>(
 ) -> Result<(), NoMemory>
     requires { IsOff first (length row.old.items) number }
     ensures ok { OnOk result
-        (seen first row.new.items others.new.entries
-        ≡ map.insert (seen first row.old.items others.old.entries) number value) }
+        (map_of_row first row.new.items others.new.entries
+        ≡ map.insert (map_of_row first row.old.items others.old.entries) number value) }
     ensures err { OnErr result
-        (seen first row.new.items others.new.entries
-        ≡ seen first row.old.items others.old.entries) }
-    ensures known { IsSome (map.get (seen first row.old.items others.old.entries) number)
+        (map_of_row first row.new.items others.new.entries
+        ≡ map_of_row first row.old.items others.old.entries) }
+    ensures known { IsSome (map.get (map_of_row first row.old.items others.old.entries) number)
         → IsOk result }
 {
     if !follows(first, row, others, number) {
@@ -146,8 +146,8 @@ fn put_other<V: Drop>(others: &mut BTreeMap<u32, V>, number: u32, value: V) -> R
 
 // Moves the values of the numbers that follow a row into it, as far as there is memory.
 fn gather<V: Drop>(first: u32, row: &mut Vec<V>, others: &mut BTreeMap<u32, V>)
-    ensures { seen first row.new.items others.new.entries
-        ≡ seen first row.old.items others.old.entries }
+    ensures { map_of_row first row.new.items others.new.entries
+        ≡ map_of_row first row.old.items others.old.entries }
 {
     while !others.is_empty() && row.reserve(1).is_ok() {
         let Some(number) = number_behind(first, row) else {

@@ -6,9 +6,9 @@ use Rattle.circus_text.specs.Token.{Lexeme, IsSpelling}
 use Rattle.circus_syntax.specs.declared.stopping.StopCause.{StopCause}
 use Rattle.circus_syntax.specs.declared.stopping.StopCause.TheVariants.{Unexpected, TooDeep}
 use Rattle.circus_syntax.specs.Reserved.{is_reserved, reserved_words}
-use Rattle.circus_syntax.specs.Placed.{Placed, first, word, sign, is_lexeme, Due, due, due_name, opened, AreWithin, AreDue}
-use Rattle.circus_syntax.specs.Reader.{Reader, passes, next, stopped, nothing, both, mapped, either, either_case}
-use Rattle.circus_syntax.specs.Reading.{fixed, fixed_at, name, filled_name, behind, listed}
+use Rattle.circus_syntax.specs.Placed.{Placed, first, word, sign, is_lexeme, Due, due, due_name, open_level, AreWithin, AreDue}
+use Rattle.circus_syntax.specs.Reader.{Reader, passes, next, stop_reading, nothing, both, map_read, either, either_case}
+use Rattle.circus_syntax.specs.Reading.{expect_token, fixed_at, name, filled_name, behind, comma_list}
 use Rattle.circus_syntax.specs.Spelling.{each, with_commas, comma, IsListed, IsEach}
 use Rattle.circus_syntax.proofs.Opened.{StandsDeeper}
 use Rattle.circus_syntax.proofs.Sound.{Sound, reader, AreDue-split, AreDue-none, sound_nothing, sound_mapped, sound_both, sound_opened, sound_cased}
@@ -24,7 +24,7 @@ use Rattle.circus_expression.specs.declared.starts.PrimaryStart.{PrimaryStart}
 use Rattle.circus_expression.specs.declared.starts.PrimaryStart.TheVariants as begins
 use Rattle.circus_expression.specs.Operators.{lexeme_of}
 use Rattle.circus_expression.specs.Written.{Written, Links, WrittenSuffixes, written_list, chain, negation, comparison, is_arm, minus, number, text, truth, parentheses, length_of, label, arm, items, place, no_links, link, no_suffixes, field, subscript, spelling, spelling_links, spelling_argument, spelling_list, spelling_items, spelling_more_items, spelling_suffixes, production_of_chain, operand_of, IsWritten, AreLinks, AreSuffixes}
-use Rattle.circus_expression.specs.ExpressionReading.{filled, first_operator, joint, joins, Openers, required, is_bracket, is_parenthesis, is_hash, is_suffix, further_suffixes, suffixes_with, any_suffixes, is_dot, listing, labelled, built_with, builds, goes_on, built_of_both, follows, second, second_with, Following, by_hash, by_dot, by_neither, following, behind_name, named, named_with, start_of_primary, primary_by, is_minus, factor_with, links_with, chain_of, chain_with, sum_with, alone, compared, arm_named, related, Relating, comparing, naming, ending, relating, related_by, relation_with, is_not, negated_with, operand_with, expression_with, in_brackets, items_with, opening, none_left, openers}
+use Rattle.circus_expression.specs.ExpressionReading.{filler, first_operator, joint, joins, Openers, expect_where, is_bracket, is_parenthesis, is_hash, is_suffix, further_suffixes, suffixes_with, any_suffixes, is_dot, listing, labelled, built_with, builds, goes_on, built_of_both, follows, second, second_with, Following, by_hash, by_dot, by_neither, following_of, behind_name, name_with_tail, named_with, start_of_primary, primary_by, is_minus, factor_with, links_with, chain_of, chain_with, sum_with, alone, compared, arm_named, with_relation, Relating, comparing, naming, ending, relating_of, related_by, relation_with, is_not, negated_with, operand_with, expression_with, in_brackets, items_with, openers_within, none_left, openers}
 use Rattle.circus_expression.proofs.Follows.{first_joins, lawful_joint, lawful_compares, shrinks_joint, Stays, grip_of, grip_due, comma_stays, along, at}
 use Rattle.circus_expression.proofs.Productions.{IsOf, AreSome, AreSomeSuffixes, AreAll, spelling_subscript, Opened, LawfulOpeners, is_length, IsNegation, IsMinus, IsParenthesized, IsLength, some_suffixes, spelling_made, spelling_built, IsBuilt, spelling_second, IsSecond, spelling_behind, IsBehind, behind_good, second_spelled, second_kept, named_spelled, named_kept, named_good, some_links, chain_spelled, chain_kept, spelling_related, IsRelated, related_spelled, related_kept, clash_at, name_no_sign, no_lead, lawful_suffixes, lawful_factor, lawful_negated, lawful_operand, lawful_links, lawful_expression}
 
@@ -38,11 +38,11 @@ pub record SoundOpeners (o : Openers) : Type 0 where
   pub argument : Sound o.argument spelling_argument IsWritten
   pub subscript : Sound o.subscript spelling_subscript IsWritten
   pub list : Sound o.list spelling_list AreAll
-  pub links : (c : Chain) → Sound (o.links c) (λ ls. opened (spelling_links ls)) (AreSome c)
-  pub suffixes : Sound o.suffixes (λ ss. opened (spelling_suffixes ss)) AreSomeSuffixes
+  pub links : (c : Chain) → Sound (o.links c) (λ ls. open_level (spelling_links ls)) (AreSome c)
+  pub suffixes : Sound o.suffixes (λ ss. open_level (spelling_suffixes ss)) AreSomeSuffixes
 
-sound_further : {o : Openers} → SoundOpeners o → Sound (further_suffixes o) (λ ss. opened (spelling_suffixes ss)) AreSuffixes
-sound_further S = sound_either is_suffix (sound_good AreSuffixes some_suffixes S.suffixes) (sound_nothing no_suffixes (λ ss. opened (spelling_suffixes ss)) AreSuffixes tt refl)
+sound_further : {o : Openers} → SoundOpeners o → Sound (further_suffixes o) (λ ss. open_level (spelling_suffixes ss)) AreSuffixes
+sound_further S = sound_either is_suffix (sound_good AreSuffixes some_suffixes S.suffixes) (sound_nothing no_suffixes (λ ss. open_level (spelling_suffixes ss)) AreSuffixes tt refl)
 
 sound_suffixes : {o : Openers} → SoundOpeners o → Sound (suffixes_with o) spelling_suffixes AreSomeSuffixes
 sound_suffixes S =
@@ -72,8 +72,8 @@ sound_behind_name S by_neither = sound_mapped goes_on spelling_behind IsBehind (
 
 sound_named : {o : Openers} → SoundOpeners o → Sound (named_with o) spelling (IsOf 7)
 sound_named {o} S =
-    sound_mapped (λ x. named x.0 x.1) spelling (IsOf 7) named_spelled (λ x g. named_good (named x.0 x.1) (named_kept x g))
-    (sound_both sound_name (sound_cased following (behind_name o) (sound_behind_name S)))
+    sound_mapped (λ x. name_with_tail x.0 x.1) spelling (IsOf 7) named_spelled (λ x g. named_good (name_with_tail x.0 x.1) (named_kept x g))
+    (sound_both sound_name (sound_cased following_of (behind_name o) (sound_behind_name S)))
 
 sound_primary_by : {o : Openers} → SoundOpeners o → (k : PrimaryStart) → Sound (primary_by o k) spelling (IsOf 7)
 sound_primary_by S begins.Number = sound_mapped number spelling (IsOf 7) (λ x. refl) (λ x g. (omega arith, g)) sound_number
@@ -92,7 +92,7 @@ sound_links : (c : Chain) {p : Reader → Written × Reader} {o : Openers} → S
 sound_links c S P =
     sound_mapped (λ x. link x.0 x.1.0 x.1.1) spelling_links (AreSome c) (λ x. refl) (λ x g. (g.0, g.1.0.0, g.1.0.1, g.1.1))
     (sound_both (lawful_joint 0 c).narrow
-    (sound_both P (sound_either (joins c) (sound_good (AreLinks c) (some_links c) (S.links c)) (sound_nothing no_links (λ ls. opened (spelling_links ls)) (AreLinks c) tt refl))))
+    (sound_both P (sound_either (joins c) (sound_good (AreLinks c) (some_links c) (S.links c)) (sound_nothing no_links (λ ls. open_level (spelling_links ls)) (AreLinks c) tt refl))))
 
 sound_chain : (c : Chain) {p : Reader → Written × Reader} {o : Openers} → SoundOpeners o → Sound p spelling (IsOf (operand_of c)) → Sound (chain_with c p o) spelling (IsOf (production_of_chain c))
 sound_chain c S P =
@@ -109,7 +109,7 @@ sound_related_by S ending = sound_nothing alone spelling_related IsRelated tt re
 
 sound_relation : {o : Openers} → SoundOpeners o → Sound (relation_with o) spelling (IsOf 3)
 sound_relation {o} S =
-    sound_mapped (λ x. related x.0 x.1) spelling (IsOf 3) related_spelled related_kept (sound_both (sound_sum S) (sound_cased relating (related_by o) (sound_related_by S)))
+    sound_mapped (λ x. with_relation x.0 x.1) spelling (IsOf 3) related_spelled related_kept (sound_both (sound_sum S) (sound_cased relating_of (related_by o) (sound_related_by S)))
 
 sound_negated : {o : Openers} → SoundOpeners o → Sound (negated_with o) spelling (IsOf 2)
 sound_negated S = sound_either is_not S.negation (sound_good (IsOf 2) (λ w g. (omega (arith, g.0), g.1)) (sound_relation S))
@@ -165,29 +165,29 @@ x_is_word = record { formed = (refl, refl); no_bad_byte = refl; no_long_number =
 abbrev x_at : ℕ → Placed
 x_at p = record { kind = Word; bytes = codes "x"; start = p }
 
-filled_good : (p : ℕ) → IsWritten (filled p)
+filled_good : (p : ℕ) → IsWritten (filler p)
 filled_good p = ((x_is_word, x_is_free), tt)
 
-sound_filled : (cause : StopCause) (k : ℕ) → k ≤ 7 → Sound (stopped cause filled) spelling (IsOf k)
-sound_filled cause k few = sound_stopped cause filled spelling (IsOf k) (λ p. ((omega arith, filled_good p), x_at p ∷ [], (refl, tt), ((refl, refl, refl), tt)))
+sound_filled : (cause : StopCause) (k : ℕ) → k ≤ 7 → Sound (stop_reading cause filler) spelling (IsOf k)
+sound_filled cause k few = sound_stopped cause filler spelling (IsOf k) (λ p. ((omega arith, filled_good p), x_at p ∷ [], (refl, tt), ((refl, refl, refl), tt)))
 
-sound_filled_argument : (cause : StopCause) → Sound (stopped cause filled) spelling_argument IsWritten
+sound_filled_argument : (cause : StopCause) → Sound (stop_reading cause filler) spelling_argument IsWritten
 sound_filled_argument cause =
-    sound_stopped cause filled spelling_argument IsWritten
+    sound_stopped cause filler spelling_argument IsWritten
     (λ p. (filled_good p, at (sign (codes "(")) p ∷ x_at p ∷ at (sign (codes ")")) p ∷ [], (refl, (refl, (refl, tt))), ((refl, refl), ((refl, refl, refl), ((refl, refl), tt)))))
 
-sound_filled_subscript : (cause : StopCause) → Sound (stopped cause filled) spelling_subscript IsWritten
+sound_filled_subscript : (cause : StopCause) → Sound (stop_reading cause filler) spelling_subscript IsWritten
 sound_filled_subscript cause =
-    sound_stopped cause filled spelling_subscript IsWritten
+    sound_stopped cause filler spelling_subscript IsWritten
     (λ p. (filled_good p, at (sign (codes "[")) p ∷ x_at p ∷ at (sign (codes "]")) p ∷ [], (refl, (refl, (refl, tt))), ((refl, refl), ((refl, refl, refl), ((refl, refl), tt)))))
 
-pub sound_filled_list : (cause : StopCause) → Sound (stopped cause (λ p. [])) spelling_list AreAll
+pub sound_filled_list : (cause : StopCause) → Sound (stop_reading cause (λ p. [])) spelling_list AreAll
 sound_filled_list cause =
     sound_stopped cause (λ p. []) spelling_list AreAll (λ p. (tt, at (sign (codes "[")) p ∷ at (sign (codes "]")) p ∷ [], (refl, (refl, tt)), ((refl, refl), ((refl, refl), tt))))
 
-sound_filled_links : (cause : StopCause) (c : Chain) → Sound (stopped cause (λ p. link (first_operator c) (filled p) no_links)) (λ ls. opened (spelling_links ls)) (AreSome c)
+sound_filled_links : (cause : StopCause) (c : Chain) → Sound (stop_reading cause (λ p. link (first_operator c) (filler p) no_links)) (λ ls. open_level (spelling_links ls)) (AreSome c)
 sound_filled_links cause c =
-    sound_stopped cause (λ p. link (first_operator c) (filled p) no_links) (λ ls. opened (spelling_links ls)) (AreSome c)
+    sound_stopped cause (λ p. link (first_operator c) (filler p) no_links) (λ ls. open_level (spelling_links ls)) (AreSome c)
     (λ p. ((first_joins c, operand_few c, filled_good p, tt), at (lexeme_of (first_operator c)) p ∷ x_at p ∷ [], (refl, (refl, tt)), ((refl, refl), ((refl, refl, refl), tt))))
   where
     operand_few : (c : Chain) → operand_of c ≤ 7
@@ -196,12 +196,12 @@ sound_filled_links cause c =
     operand_few of.Sum = omega arith
     operand_few of.Term = omega arith
 
-sound_filled_suffixes : (cause : StopCause) → Sound (stopped cause (λ p. field (filled_name p) no_suffixes)) (λ ss. opened (spelling_suffixes ss)) AreSomeSuffixes
+sound_filled_suffixes : (cause : StopCause) → Sound (stop_reading cause (λ p. field (filled_name p) no_suffixes)) (λ ss. open_level (spelling_suffixes ss)) AreSomeSuffixes
 sound_filled_suffixes cause =
-    sound_stopped cause (λ p. field (filled_name p) no_suffixes) (λ ss. opened (spelling_suffixes ss)) AreSomeSuffixes
+    sound_stopped cause (λ p. field (filled_name p) no_suffixes) (λ ss. open_level (spelling_suffixes ss)) AreSomeSuffixes
     (λ p. (((x_is_word, x_is_free), tt), at (sign (codes ".")) p ∷ x_at p ∷ [], (refl, (refl, tt)), ((refl, refl), ((refl, refl, refl), tt))))
 
-sound_opening : {o : Openers} → SoundOpeners o → SoundOpeners (opening o)
+sound_opening : {o : Openers} → SoundOpeners o → SoundOpeners (openers_within o)
 sound_opening {o} S = record {
   negation =
       sound_mapped (λ x. negation x.0 x.1) spelling (IsOf 2) (λ x. refl) (λ x g. (omega arith, g.1)) (sound_opened (sound_both (sound_fixed_at (word (codes "NOT"))) (sound_negated S)));
@@ -290,7 +290,7 @@ closes l none u ts rest d = let binds = grip_due l 0 [] ts rest none d in omega 
 
 -- an expression in signs
 lawful_enclosed : (n : ℕ) (before after : Lexeme) → ((s : ℕ) → grip_of (at after s) ≡ 0) → {o o' : Openers} → LawfulOpeners n o o'
-    → Lawful n (both (fixed before) (both (expression_with o) (fixed after))) (both (fixed before) (both (expression_with o') (fixed after)))
+    → Lawful n (both (expect_token before) (both (expression_with o) (expect_token after))) (both (expect_token before) (both (expression_with o') (expect_token after)))
     (λ x. due before ∷ (spelling x.1.0 ++ due after ∷ [])) (λ x. Unit {0} × (IsWritten x.1.0 × Unit {0})) Any
 lawful_enclosed n before after none L =
     lawful_then n (lawful_fixed n before) (lawful_both n (lawful_expression n L) (lawful_fixed n after) (λ u ts rest g d stays. closes after none u ts rest d))
@@ -308,14 +308,14 @@ no_closing (chain c w no_links) ts rest good d = absurd good
 no_closing (chain c w (link o v ls)) ts rest good d =
     let (us, vs, same, front, back) = AreDue-split (spelling w) (spelling_links (link o v ls)) ts d in
     subst (λ (l : List Placed). passes is_closing (first l) ≡ false) (sym (ap (λ l. l ++ rest) same ∙ append_assoc us vs rest)) (no_closing w us (vs ++ rest) good.1 front)
-no_closing (negation p w) ts rest good d = clash_at (word (codes "NOT")) p (opened (spelling w)) ts rest is_closing (λ s. refl) d
+no_closing (negation p w) ts rest good d = clash_at (word (codes "NOT")) p (open_level (spelling w)) ts rest is_closing (λ s. refl) d
 no_closing (comparison a o b) ts rest good d =
     let (us, vs, same, front, back) = AreDue-split (spelling a) (due (lexeme_of o) ∷ spelling b) ts d in
     subst (λ (l : List Placed). passes is_closing (first l) ≡ false) (sym (ap (λ l. l ++ rest) same ∙ append_assoc us vs rest)) (no_closing a us (vs ++ rest) good.1 front)
 no_closing (is_arm a m) ts rest good d =
     let (us, vs, same, front, back) = AreDue-split (spelling a) (due (word (codes "IS")) ∷ due_name m ∷ []) ts d in
     subst (λ (l : List Placed). passes is_closing (first l) ≡ false) (sym (ap (λ l. l ++ rest) same ∙ append_assoc us vs rest)) (no_closing a us (vs ++ rest) good.1 front)
-no_closing (minus p w) ts rest good d = clash_at (sign (codes "-")) p (opened (spelling w)) ts rest is_closing (λ s. refl) d
+no_closing (minus p w) ts rest good d = clash_at (sign (codes "-")) p (open_level (spelling w)) ts rest is_closing (λ s. refl) d
 no_closing (number m) ts rest good d = no_lead (sign (codes "]")) closing_starts (name_no_sign (codes "]")) (number m) ts rest (omega arith, good) d
 no_closing (text t p) ts rest good d = no_lead (sign (codes "]")) closing_starts (name_no_sign (codes "]")) (text t p) ts rest (omega arith, good) d
 no_closing (truth b p) ts rest good d = no_lead (sign (codes "]")) closing_starts (name_no_sign (codes "]")) (truth b p) ts rest (omega arith, good) d
@@ -358,12 +358,12 @@ items_back [] is = absurd is
 items_back (w ∷ ws) is = (w ∷ ws, refl, all_each (w ∷ ws) is)
 
 abbrev items_by : Openers → Bool → Reader → List Written × Reader
-items_by o = either_case (nothing []) (listed (expression_with o))
+items_by o = either_case (nothing []) (comma_list (expression_with o))
 
 lawful_items : (n : ℕ) {o o' : Openers} → LawfulOpeners n o o' → Lawful n (items_with o) (items_with o') spelling_each AreAll Closed
 lawful_items n {o} {o'} L = lawful_cased (passes is_closing) n (items_by o) (items_by o') ItemsAre branches lists.levels.filled items_begin
   where
-    lists : Lawful n (listed (expression_with o)) (listed (expression_with o')) spelling_each (ItemsAre false) Closed
+    lists : Lawful n (comma_list (expression_with o)) (comma_list (expression_with o')) spelling_each (ItemsAre false) Closed
     lists =
         lawful_weaker n Closed (λ t closed. (closed_stays t closed, closed_no_comma t closed))
         (lawful_mapped n (λ ws. ws) spelling_each (ItemsAre false) items_spelled listed_good items_back (lawful_listed n (comma_stays 0) (lawful_expression n L)))
@@ -390,9 +390,9 @@ lawful_items n {o} {o'} L = lawful_cased (passes is_closing) n (items_by o) (ite
         )
 
 open_argument : Opens spelling_argument IsWritten is_parenthesis
-open_argument w ts rest good d = opens_due (sign (codes "(")) (opened (spelling w ++ due (sign (codes ")")) ∷ [])) ts rest d
+open_argument w ts rest good d = opens_due (sign (codes "(")) (open_level (spelling w ++ due (sign (codes ")")) ∷ [])) ts rest d
 
-lawful_opening : (n : ℕ) {o o' : Openers} → LawfulOpeners n o o' → LawfulOpeners (suc n) (opening o) (opening o')
+lawful_opening : (n : ℕ) {o o' : Openers} → LawfulOpeners n o o' → LawfulOpeners (suc n) (openers_within o) (openers_within o')
 lawful_opening n {o} {o'} L = record {
   negation =
       opened_of is_not 2 (suc n) (IsOf 2) negation_good
@@ -414,7 +414,7 @@ lawful_opening n {o} {o'} L = record {
       (any_stays 7 (suc n)
       (lawful_mapped (suc n) (λ x. length_of x.0 x.1) spelling IsLength (λ x. refl) (λ x g. g.1) length_back
       (lawful_opened n
-      (lawful_then n (lawful_fixed_at n (word (codes "LENGTH"))) (lawful_required is_parenthesis n filled open_argument (sound_filled_argument Unexpected) L.argument)))));
+      (lawful_then n (lawful_fixed_at n (word (codes "LENGTH"))) (lawful_required is_parenthesis n filler open_argument (sound_filled_argument Unexpected) L.argument)))));
   argument =
       lawful_at is_parenthesis (suc n)
       (lawful_mapped (suc n) (λ x. x.1.0) spelling_argument IsWritten (λ x. refl) (λ x g. g.1.0) (λ w g. ((tt, (w, tt)), refl, (tt, (g, tt))))
@@ -435,13 +435,13 @@ lawful_opening n {o} {o'} L = record {
 
 -- Where no level is left.
 
-opened_too_deep : (test : Placed → Bool) (k : ℕ) {q : Reader → Written × Reader} {Good Is : Written → Type 0} → Sound (stopped TooDeep filled) spelling Good → Sound q spelling Good → Shrinks test q
-    → ((r : Reader) → StandsDeeper 0 (spelling (q r).0) []) → ((w : Written) → Is w → StandsDeeper 0 (spelling w) []) → Opened test k 0 (stopped TooDeep filled) q Good Is
+opened_too_deep : (test : Placed → Bool) (k : ℕ) {q : Reader → Written × Reader} {Good Is : Written → Type 0} → Sound (stop_reading TooDeep filler) spelling Good → Sound q spelling Good → Shrinks test q
+    → ((r : Reader) → StandsDeeper 0 (spelling (q r).0) []) → ((w : Written) → Is w → StandsDeeper 0 (spelling w) []) → Opened test k 0 (stop_reading TooDeep filler) q Good Is
 opened_too_deep test k S S' shrinks answers deep = record {
   narrow = S;
   wide = S';
   complete = record { reads = λ w ts rest e good d stays. absurd (without_level (spelling w) (deep w good.0) good.1) };
-  levels = levels_too_deep test filled S (calm_of S') shrinks answers;
+  levels = levels_too_deep test filler S (calm_of S') shrinks answers;
 }
 
 negation_deep : (w : Written) → IsNegation w → StandsDeeper 0 (spelling w) []
@@ -460,20 +460,20 @@ length_deep : (w : Written) → IsLength w → StandsDeeper 0 (spelling w) []
 length_deep (length_of p w) is = omega arith
 length_deep _ is = absurd is
 
-links_deep : (c : Chain) (ls : Links) → AreSome c ls → StandsDeeper 0 (opened (spelling_links ls)) []
+links_deep : (c : Chain) (ls : Links) → AreSome c ls → StandsDeeper 0 (open_level (spelling_links ls)) []
 links_deep c no_links good = absurd good
 links_deep c (link o w ls) good = omega arith
 
-suffixes_deep : (ss : WrittenSuffixes) → AreSomeSuffixes ss → StandsDeeper 0 (opened (spelling_suffixes ss)) []
+suffixes_deep : (ss : WrittenSuffixes) → AreSomeSuffixes ss → StandsDeeper 0 (open_level (spelling_suffixes ss)) []
 suffixes_deep no_suffixes good = absurd good
 suffixes_deep (field n ss) good = omega arith
 suffixes_deep (subscript w ss) good = omega arith
 
 -- suffixes of which a subscript may open its level
-suffixes_answer : (o : Openers) (r : Reader) → StandsDeeper 0 (opened (spelling_suffixes (suffixes_with o r).0)) []
+suffixes_answer : (o : Openers) (r : Reader) → StandsDeeper 0 (open_level (spelling_suffixes (suffixes_with o r).0)) []
 suffixes_answer o r = by_test (passes is_bracket (next r))
   where
-    by_test : (b : Bool) → StandsDeeper 0 (opened (spelling_suffixes (either_case (mapped (λ x. subscript x.0 x.1) (both o.subscript (further_suffixes o))) (mapped (λ x. field x.0 x.1) (both (behind (sign (codes ".")) name) (further_suffixes o))) b r).0)) []
+    by_test : (b : Bool) → StandsDeeper 0 (open_level (spelling_suffixes (either_case (map_read (λ x. subscript x.0 x.1) (both o.subscript (further_suffixes o))) (map_read (λ x. field x.0 x.1) (both (behind (sign (codes ".")) name) (further_suffixes o))) b r).0)) []
     by_test true = omega arith
     by_test false = omega arith
 
@@ -486,63 +486,63 @@ suffix_of (Some t) hit missed = by_tests (is_dot t) (is_bracket t) hit missed
     by_tests false true hit missed = absurd cc
     by_tests false false hit missed = absurd cc
 
-shrinks_suffixes : {o : Openers} → SoundOpeners (opening o) → SoundOpeners o → Shrinks is_suffix (suffixes_with (opening o))
+shrinks_suffixes : {o : Openers} → SoundOpeners (openers_within o) → SoundOpeners o → Shrinks is_suffix (suffixes_with (openers_within o))
 shrinks_suffixes {o} S inner r hit = by_test (passes is_bracket (next r)) refl
   where
     by_test : (b : Bool) → passes is_bracket (next r) ≡ b
-        → length (either_case (mapped (λ x. subscript x.0 x.1) (both (opening o).subscript (further_suffixes (opening o)))) (mapped (λ x. field x.0 x.1) (both (behind (sign (codes ".")) name) (further_suffixes (opening o)))) b r).1.rest < length r.rest
+        → length (either_case (map_read (λ x. subscript x.0 x.1) (both (openers_within o).subscript (further_suffixes (openers_within o)))) (map_read (λ x. field x.0 x.1) (both (behind (sign (codes ".")) name) (further_suffixes (openers_within o)))) b r).1.rest < length r.rest
     by_test true is =
-        shrinks_both is_bracket (in_brackets (expression_with o)) (further_suffixes (opening o))
-        (λ s h. shrinks_both is_bracket (fixed (sign (codes "["))) (both (expression_with o) (fixed (sign (codes "]")))) (shrinks_fixed (sign (codes "["))) (sound_both (sound_expression inner) (sound_fixed (sign (codes "]")))) s h)
+        shrinks_both is_bracket (in_brackets (expression_with o)) (further_suffixes (openers_within o))
+        (λ s h. shrinks_both is_bracket (expect_token (sign (codes "["))) (both (expression_with o) (expect_token (sign (codes "]")))) (shrinks_fixed (sign (codes "["))) (sound_both (sound_expression inner) (sound_fixed (sign (codes "]")))) s h)
         (sound_further S) r is
     by_test false is =
-        shrinks_both is_dot (behind (sign (codes ".")) name) (further_suffixes (opening o)) (shrinks_behind (sign (codes ".")) sound_name) (sound_further S) r (suffix_of (next r) hit is)
+        shrinks_both is_dot (behind (sign (codes ".")) name) (further_suffixes (openers_within o)) (shrinks_behind (sign (codes ".")) sound_name) (sound_further S) r (suffix_of (next r) hit is)
 
-lawful_none_left : {o : Openers} → SoundOpeners o → LawfulOpeners 0 none_left (opening (opening o))
+lawful_none_left : {o : Openers} → SoundOpeners o → LawfulOpeners 0 none_left (openers_within (openers_within o))
 lawful_none_left {o} inner = record {
   negation =
-      opened_too_deep is_not 2 N.negation S.negation (λ r hit. shrinks_both is_not (fixed_at (word (codes "NOT"))) (negated_with (opening o)) (shrinks_at (word (codes "NOT"))) (sound_negated I) r hit)
+      opened_too_deep is_not 2 N.negation S.negation (λ r hit. shrinks_both is_not (fixed_at (word (codes "NOT"))) (negated_with (openers_within o)) (shrinks_at (word (codes "NOT"))) (sound_negated I) r hit)
       (λ r. omega arith) negation_deep;
   minus =
-      opened_too_deep is_minus 6 N.minus S.minus (λ r hit. shrinks_both is_minus (fixed_at (sign (codes "-"))) (factor_with (opening o)) (shrinks_at (sign (codes "-"))) (sound_factor I) r hit)
+      opened_too_deep is_minus 6 N.minus S.minus (λ r hit. shrinks_both is_minus (fixed_at (sign (codes "-"))) (factor_with (openers_within o)) (shrinks_at (sign (codes "-"))) (sound_factor I) r hit)
       (λ r. omega arith) minus_deep;
   parentheses =
       opened_too_deep is_parenthesis 7 N.parentheses S.parentheses
-      (λ r hit. shrinks_both is_parenthesis (fixed_at (sign (codes "("))) (both (expression_with (opening o)) (fixed (sign (codes ")")))) (shrinks_at (sign (codes "("))) (sound_both (sound_expression I) (sound_fixed (sign (codes ")")))) r hit)
+      (λ r hit. shrinks_both is_parenthesis (fixed_at (sign (codes "("))) (both (expression_with (openers_within o)) (expect_token (sign (codes ")")))) (shrinks_at (sign (codes "("))) (sound_both (sound_expression I) (sound_fixed (sign (codes ")")))) r hit)
       (λ r. omega arith) parenthesized_deep;
   length =
       opened_too_deep is_length 7 N.length S.length
-      (λ r hit. shrinks_both is_length (fixed_at (word (codes "LENGTH"))) (required is_parenthesis filled (opening o).argument) (shrinks_at (word (codes "LENGTH")))
+      (λ r hit. shrinks_both is_length (fixed_at (word (codes "LENGTH"))) (expect_where is_parenthesis filler (openers_within o).argument) (shrinks_at (word (codes "LENGTH")))
       (sound_either is_parenthesis I.argument (sound_filled_argument Unexpected)) r hit)
       (λ r. omega arith) length_deep;
   argument =
-      lawful_too_deep is_parenthesis filled N.argument S.argument
-      (λ r hit. shrinks_both is_parenthesis (fixed (sign (codes "("))) (both (expression_with (opening o)) (fixed (sign (codes ")")))) (shrinks_fixed (sign (codes "("))) (sound_both (sound_expression I) (sound_fixed (sign (codes ")")))) r hit)
+      lawful_too_deep is_parenthesis filler N.argument S.argument
+      (λ r hit. shrinks_both is_parenthesis (expect_token (sign (codes "("))) (both (expression_with (openers_within o)) (expect_token (sign (codes ")")))) (shrinks_fixed (sign (codes "("))) (sound_both (sound_expression I) (sound_fixed (sign (codes ")")))) r hit)
       (λ r. omega arith) (λ w g. omega arith);
   subscript =
-      lawful_too_deep is_bracket filled N.subscript S.subscript
-      (λ r hit. shrinks_both is_bracket (fixed (sign (codes "["))) (both (expression_with (opening o)) (fixed (sign (codes "]")))) (shrinks_fixed (sign (codes "["))) (sound_both (sound_expression I) (sound_fixed (sign (codes "]")))) r hit)
+      lawful_too_deep is_bracket filler N.subscript S.subscript
+      (λ r hit. shrinks_both is_bracket (expect_token (sign (codes "["))) (both (expression_with (openers_within o)) (expect_token (sign (codes "]")))) (shrinks_fixed (sign (codes "["))) (sound_both (sound_expression I) (sound_fixed (sign (codes "]")))) r hit)
       (λ r. omega arith) (λ w g. omega arith);
   list =
       lawful_too_deep is_bracket (λ p. []) N.list S.list
-      (λ r hit. shrinks_both is_bracket (fixed (sign (codes "["))) (both (items_with (opening o)) (fixed (sign (codes "]")))) (shrinks_fixed (sign (codes "["))) (sound_both (sound_items I) (sound_fixed (sign (codes "]")))) r hit)
+      (λ r hit. shrinks_both is_bracket (expect_token (sign (codes "["))) (both (items_with (openers_within o)) (expect_token (sign (codes "]")))) (shrinks_fixed (sign (codes "["))) (sound_both (sound_items I) (sound_fixed (sign (codes "]")))) r hit)
       (λ r. omega arith) (λ w g. omega arith);
   links = λ c.
-      lawful_too_deep (joins c) (λ p. link (first_operator c) (filled p) no_links) (N.links c) (S.links c)
-      (λ r hit. shrinks_both (joins c) (joint c) (both (operand_with (opening o) c) (either (joins c) ((opening o).links c) (nothing no_links))) (shrinks_joint c)
-      (sound_both (sound_operand I c) (sound_either (joins c) (sound_good (AreLinks c) (some_links c) (I.links c)) (sound_nothing no_links (λ ls. opened (spelling_links ls)) (AreLinks c) tt refl))) r hit)
+      lawful_too_deep (joins c) (λ p. link (first_operator c) (filler p) no_links) (N.links c) (S.links c)
+      (λ r hit. shrinks_both (joins c) (joint c) (both (operand_with (openers_within o) c) (either (joins c) ((openers_within o).links c) (nothing no_links))) (shrinks_joint c)
+      (sound_both (sound_operand I c) (sound_either (joins c) (sound_good (AreLinks c) (some_links c) (I.links c)) (sound_nothing no_links (λ ls. open_level (spelling_links ls)) (AreLinks c) tt refl))) r hit)
       (λ r. omega arith) (links_deep c);
   suffixes =
-      lawful_too_deep is_suffix (λ p. field (filled_name p) no_suffixes) N.suffixes S.suffixes (shrinks_suffixes I inner) (suffixes_answer (opening o)) suffixes_deep;
+      lawful_too_deep is_suffix (λ p. field (filled_name p) no_suffixes) N.suffixes S.suffixes (shrinks_suffixes I inner) (suffixes_answer (openers_within o)) suffixes_deep;
 }
   where
     N : SoundOpeners none_left
     N = sound_none_left
 
-    I : SoundOpeners (opening o)
+    I : SoundOpeners (openers_within o)
     I = sound_opening inner
 
-    S : SoundOpeners (opening (opening o))
+    S : SoundOpeners (openers_within (openers_within o))
     S = sound_opening (sound_opening inner)
 
 -- two levels more are enough for each token

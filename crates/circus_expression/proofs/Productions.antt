@@ -10,9 +10,9 @@ use Rattle.circus_syntax.specs.declared.named.Named.{Named}
 use Rattle.circus_syntax.specs.declared.named.Numeral.{Numeral}
 use Rattle.circus_syntax.specs.declared.named.TypeName.{TypeName}
 use Rattle.circus_syntax.specs.declared.stopping.Stop.{Stop}
-use Rattle.circus_syntax.specs.Placed.{Placed, first, same_kind, word, sign, is_lexeme, is_name, is_number, Due, due, due_at, due_name, due_text, opened, AreWithin, AreDue}
+use Rattle.circus_syntax.specs.Placed.{Placed, first, same_kind, word, sign, is_lexeme, is_name, is_number, Due, due, due_at, due_name, due_text, open_level, AreWithin, AreDue}
 use Rattle.circus_syntax.specs.Reserved.{is_reserved, reserved_words}
-use Rattle.circus_syntax.specs.Reader.{Reader, passes, nothing, both, mapped, cased, either_case, optional}
+use Rattle.circus_syntax.specs.Reader.{Reader, passes, nothing, both, map_read, choose_by, either_case, optional}
 use Rattle.circus_syntax.specs.Reading.{name, behind, type_name}
 use Rattle.circus_syntax.specs.Spelling.{if_written, spelling_name, IsName, IsNumeral, IsText, IfWritten}
 use Rattle.circus_syntax.proofs.Opened.{opened_due}
@@ -30,7 +30,7 @@ use Rattle.circus_expression.specs.declared.starts.PrimaryStart.{PrimaryStart}
 use Rattle.circus_expression.specs.declared.starts.PrimaryStart.TheVariants as begins
 use Rattle.circus_expression.specs.Operators.{lexeme_of, comparisons, is_operator, Joins, Compares}
 use Rattle.circus_expression.specs.Written.{Written, Links, WrittenList, WrittenSuffixes, written_list, chain, negation, comparison, is_arm, minus, number, text, truth, parentheses, length_of, label, arm, items, place, no_links, link, no_items, more_items, no_suffixes, field, subscript, spelling, spelling_links, spelling_argument, spelling_list, spelling_items, spelling_suffixes, spelling_place, production_of_chain, operand_of, production_of, IsTypeName, IsWritten, AreLinks, AreWritten, AreSuffixes, IsPlace}
-use Rattle.circus_expression.specs.ExpressionReading.{joins, Openers, is_dot, is_bracket, is_parenthesis, is_hash, is_suffix, further_suffixes, suffixes_with, any_suffixes, place_with, Built, labelled, listing, built_with, Behind, builds, goes_on, named, Second, built_of_both, follows, second, second_with, Following, by_hash, by_dot, by_neither, following, behind_name, named_with, start_of_primary, primary_by, primary_with, is_minus, factor_with, links_with, chain_of, chain_with, sum_with, Related, alone, compared, arm_named, related, Relating, comparing, naming, ending, relating, compares, related_by, relation_with, is_not, negated_with, operand_with, expression_with}
+use Rattle.circus_expression.specs.ExpressionReading.{joins, Openers, is_dot, is_bracket, is_parenthesis, is_hash, is_suffix, further_suffixes, suffixes_with, any_suffixes, place_with, Built, labelled, listing, built_with, Behind, builds, goes_on, name_with_tail, Second, built_of_both, follows, second, second_with, Following, by_hash, by_dot, by_neither, following_of, behind_name, named_with, start_of_primary, primary_by, primary_with, is_minus, factor_with, links_with, chain_of, chain_with, sum_with, Related, alone, compared, arm_named, with_relation, Relating, comparing, naming, ending, relating_of, compares, related_by, relation_with, is_not, negated_with, operand_with, expression_with}
 use Rattle.circus_expression.proofs.Follows.{lawful_joint, lawful_compares, opens_joint, Stays, at, along, grip_joint, grip_comparison, grip_due, joins_missed, compares_missed, is_missed, dot_missed, parenthesis_missed, hash_missed, suffix_missed}
 
 -- an expression of this production
@@ -50,7 +50,7 @@ abbrev pub AreAll : List Written → Type 0
 AreAll ws = AreWritten (written_list ws)
 
 abbrev pub spelling_subscript : Written → List Due
-spelling_subscript w = opened (due (sign (codes "[")) ∷ (spelling w ++ due (sign (codes "]")) ∷ []))
+spelling_subscript w = open_level (due (sign (codes "[")) ∷ (spelling w ++ due (sign (codes "]")) ∷ []))
 
 -- What opens a level, and is one of the ways to read something.
 
@@ -96,8 +96,8 @@ pub record LawfulOpeners (n : ℕ) (o o' : Openers) : Type 0 where
   pub argument : LawfulAt is_parenthesis n o.argument o'.argument spelling_argument IsWritten Any
   pub subscript : LawfulAt is_bracket n o.subscript o'.subscript spelling_subscript IsWritten Any
   pub list : LawfulAt is_bracket n o.list o'.list spelling_list AreAll Any
-  pub links : (c : Chain) → LawfulAt (joins c) n (o.links c) (o'.links c) (λ ls. opened (spelling_links ls)) (AreSome c) (Stays (production_of_chain c))
-  pub suffixes : LawfulAt is_suffix n o.suffixes o'.suffixes (λ ss. opened (spelling_suffixes ss)) AreSomeSuffixes (Stays 7)
+  pub links : (c : Chain) → LawfulAt (joins c) n (o.links c) (o'.links c) (λ ls. open_level (spelling_links ls)) (AreSome c) (Stays (production_of_chain c))
+  pub suffixes : LawfulAt is_suffix n o.suffixes o'.suffixes (λ ss. open_level (spelling_suffixes ss)) AreSomeSuffixes (Stays 7)
 
 -- Places.
 
@@ -117,17 +117,17 @@ suffix_due l ds (t ∷ ts) rest is d = (λ i. is_suffix (record { kind = d.0.0 i
 
 open_suffixes : Opens spelling_suffixes AreSomeSuffixes is_suffix
 open_suffixes no_suffixes ts rest good d = absurd good
-open_suffixes (field n ss) ts rest good d = suffix_due (sign (codes ".")) (due_name n ∷ opened (spelling_suffixes ss)) ts rest (λ s. refl) d
+open_suffixes (field n ss) ts rest good d = suffix_due (sign (codes ".")) (due_name n ∷ open_level (spelling_suffixes ss)) ts rest (λ s. refl) d
 open_suffixes (subscript w ss) ts rest good d =
-    suffix_due (sign (codes "[")) (opened (spelling w ++ due (sign (codes "]")) ∷ []) ++ opened (spelling_suffixes ss)) ts rest (λ s. refl) d
+    suffix_due (sign (codes "[")) (open_level (spelling w ++ due (sign (codes "]")) ∷ []) ++ open_level (spelling_suffixes ss)) ts rest (λ s. refl) d
 
-open_deeper_suffixes : Opens (λ ss. opened (spelling_suffixes ss)) AreSomeSuffixes is_suffix
+open_deeper_suffixes : Opens (λ ss. open_level (spelling_suffixes ss)) AreSomeSuffixes is_suffix
 open_deeper_suffixes no_suffixes ts rest good d = absurd good
-open_deeper_suffixes (field n ss) ts rest good d = suffix_due (sign (codes ".")) (opened (due_name n ∷ opened (spelling_suffixes ss))) ts rest (λ s. refl) d
+open_deeper_suffixes (field n ss) ts rest good d = suffix_due (sign (codes ".")) (open_level (due_name n ∷ open_level (spelling_suffixes ss))) ts rest (λ s. refl) d
 open_deeper_suffixes (subscript w ss) ts rest good d =
-    suffix_due (sign (codes "[")) (opened (opened (spelling w ++ due (sign (codes "]")) ∷ []) ++ opened (spelling_suffixes ss))) ts rest (λ s. refl) d
+    suffix_due (sign (codes "[")) (open_level (open_level (spelling w ++ due (sign (codes "]")) ∷ []) ++ open_level (spelling_suffixes ss))) ts rest (λ s. refl) d
 
-lawful_further : (n : ℕ) {o o' : Openers} → LawfulOpeners n o o' → Lawful n (further_suffixes o) (further_suffixes o') (λ ss. opened (spelling_suffixes ss)) AreSuffixes (Stays 7)
+lawful_further : (n : ℕ) {o o' : Openers} → LawfulOpeners n o o' → Lawful n (further_suffixes o) (further_suffixes o') (λ ss. open_level (spelling_suffixes ss)) AreSuffixes (Stays 7)
 lawful_further n L =
     lawful_weaker n (Stays 7) (λ t stays. (stays, suffix_missed 7 t (omega arith) stays))
     (lawful_rest is_suffix n no_suffixes AreSuffixes refl tt some_suffixes suffixes_parts open_deeper_suffixes L.suffixes)
@@ -158,34 +158,34 @@ field_back (subscript w ss) is = absurd is
 pub lawful_suffixes : (n : ℕ) {o o' : Openers} → LawfulOpeners n o o' → Lawful n (suffixes_with o) (suffixes_with o') spelling_suffixes AreSomeSuffixes (Stays 7)
 lawful_suffixes n {o} {o'} L =
     lawful_cased (passes is_bracket) n
-    (either_case (mapped (λ x. subscript x.0 x.1) (both o.subscript (further_suffixes o))) (mapped (λ x. field x.0 x.1) (both (behind (sign (codes ".")) name) (further_suffixes o))))
-    (either_case (mapped (λ x. subscript x.0 x.1) (both o'.subscript (further_suffixes o'))) (mapped (λ x. field x.0 x.1) (both (behind (sign (codes ".")) name) (further_suffixes o'))))
+    (either_case (map_read (λ x. subscript x.0 x.1) (both o.subscript (further_suffixes o))) (map_read (λ x. field x.0 x.1) (both (behind (sign (codes ".")) name) (further_suffixes o))))
+    (either_case (map_read (λ x. subscript x.0 x.1) (both o'.subscript (further_suffixes o'))) (map_read (λ x. field x.0 x.1) (both (behind (sign (codes ".")) name) (further_suffixes o'))))
     SuffixIs branches fields.levels.filled begins
   where
-    fields : Lawful n (mapped (λ x. field x.0 x.1) (both (behind (sign (codes ".")) name) (further_suffixes o))) (mapped (λ x. field x.0 x.1) (both (behind (sign (codes ".")) name) (further_suffixes o')))
+    fields : Lawful n (map_read (λ x. field x.0 x.1) (both (behind (sign (codes ".")) name) (further_suffixes o))) (map_read (λ x. field x.0 x.1) (both (behind (sign (codes ".")) name) (further_suffixes o')))
         spelling_suffixes (SuffixIs false) (Stays 7)
     fields =
         lawful_mapped n (λ x. field x.0 x.1) spelling_suffixes (SuffixIs false) (λ x. refl) (λ x g. g) field_back
         (lawful_then n (lawful_behind n (sign (codes ".")) (lawful_name n)) (lawful_further n L))
 
-    subscripts : LawfulAt is_bracket n (mapped (λ x. subscript x.0 x.1) (both o.subscript (further_suffixes o))) (mapped (λ x. subscript x.0 x.1) (both o'.subscript (further_suffixes o')))
+    subscripts : LawfulAt is_bracket n (map_read (λ x. subscript x.0 x.1) (both o.subscript (further_suffixes o))) (map_read (λ x. subscript x.0 x.1) (both o'.subscript (further_suffixes o')))
         spelling_suffixes (SuffixIs true) (Stays 7)
     subscripts =
         lawful_at_mapped is_bracket n (λ x. subscript x.0 x.1) spelling_suffixes (SuffixIs true) (λ x. refl) (λ x g. g) subscript_back
         (lawful_at_both is_bracket n L.subscript (lawful_further n L) (λ ss ts rest g d stays. tt))
 
     branches : (b : Bool) → Branch (passes is_bracket) b n
-        (either_case (mapped (λ x. subscript x.0 x.1) (both o.subscript (further_suffixes o))) (mapped (λ x. field x.0 x.1) (both (behind (sign (codes ".")) name) (further_suffixes o))) b)
-        (either_case (mapped (λ x. subscript x.0 x.1) (both o'.subscript (further_suffixes o'))) (mapped (λ x. field x.0 x.1) (both (behind (sign (codes ".")) name) (further_suffixes o'))) b)
+        (either_case (map_read (λ x. subscript x.0 x.1) (both o.subscript (further_suffixes o))) (map_read (λ x. field x.0 x.1) (both (behind (sign (codes ".")) name) (further_suffixes o))) b)
+        (either_case (map_read (λ x. subscript x.0 x.1) (both o'.subscript (further_suffixes o'))) (map_read (λ x. field x.0 x.1) (both (behind (sign (codes ".")) name) (further_suffixes o'))) b)
         spelling_suffixes AreSomeSuffixes (SuffixIs b) (Stays 7)
     branches true = branch_at (passes is_bracket) true is_bracket n AreSomeSuffixes (suffix_good true) (λ ts is. is) subscripts
     branches false = branch_of (passes is_bracket) false n AreSomeSuffixes (suffix_good false) fields
 
     begins : (ss : WrittenSuffixes) (ts rest : List Placed) → AreSomeSuffixes ss → AreDue (spelling_suffixes ss) ts → Stays 7 (first rest) → (b : Bool) × (passes is_bracket (first (ts ++ rest)) ≡ b) × SuffixIs b ss
     begins no_suffixes ts rest good d stays = absurd good
-    begins (field n ss) ts rest good d stays = (false, clash (sign (codes ".")) (due_name n ∷ opened (spelling_suffixes ss)) ts rest is_bracket (λ s. refl) d, good)
+    begins (field n ss) ts rest good d stays = (false, clash (sign (codes ".")) (due_name n ∷ open_level (spelling_suffixes ss)) ts rest is_bracket (λ s. refl) d, good)
     begins (subscript w ss) ts rest good d stays =
-        (true, opens_due (sign (codes "[")) (opened (spelling w ++ due (sign (codes "]")) ∷ []) ++ opened (spelling_suffixes ss)) ts rest d, good)
+        (true, opens_due (sign (codes "[")) (open_level (spelling w ++ due (sign (codes "]")) ∷ []) ++ open_level (spelling_suffixes ss)) ts rest d, good)
 
 lawful_any_suffixes : (n : ℕ) {o o' : Openers} → LawfulOpeners n o o' → Lawful n (any_suffixes o) (any_suffixes o') spelling_suffixes AreSuffixes (Stays 7)
 lawful_any_suffixes n L =
@@ -245,21 +245,21 @@ labelled_back (labelled k v) is = ((k, v), refl, is)
 labelled_back (listing ws) is = absurd is
 
 open_argument : Opens spelling_argument IsWritten is_parenthesis
-open_argument w ts rest good d = opens_due (sign (codes "(")) (opened (spelling w ++ due (sign (codes ")")) ∷ [])) ts rest d
+open_argument w ts rest good d = opens_due (sign (codes "(")) (open_level (spelling w ++ due (sign (codes ")")) ∷ [])) ts rest d
 
 abbrev pub made_with : Openers → Bool → Reader → Built × Reader
-made_with o = either_case (mapped listing o.list) (mapped (λ x. labelled x.0 x.1) (both name (optional is_parenthesis o.argument)))
+made_with o = either_case (map_read listing o.list) (map_read (λ x. labelled x.0 x.1) (both name (optional is_parenthesis o.argument)))
 
-lawful_made : (n : ℕ) {o o' : Openers} → LawfulOpeners n o o' → Lawful n (cased (passes is_bracket) (made_with o)) (cased (passes is_bracket) (made_with o')) spelling_made IsBuilt (Stays 7)
+lawful_made : (n : ℕ) {o o' : Openers} → LawfulOpeners n o o' → Lawful n (choose_by (passes is_bracket) (made_with o)) (choose_by (passes is_bracket) (made_with o')) spelling_made IsBuilt (Stays 7)
 lawful_made n {o} {o'} L = lawful_cased (passes is_bracket) n (made_with o) (made_with o') MadeIs branches labels.levels.filled begins
   where
-    labels : Lawful n (mapped (λ x. labelled x.0 x.1) (both name (optional is_parenthesis o.argument))) (mapped (λ x. labelled x.0 x.1) (both name (optional is_parenthesis o'.argument))) spelling_made (MadeIs false) (Stays 7)
+    labels : Lawful n (map_read (λ x. labelled x.0 x.1) (both name (optional is_parenthesis o.argument))) (map_read (λ x. labelled x.0 x.1) (both name (optional is_parenthesis o'.argument))) spelling_made (MadeIs false) (Stays 7)
     labels =
         lawful_mapped n (λ x. labelled x.0 x.1) spelling_made (MadeIs false) (λ x. refl) (λ x g. g) labelled_back
         (lawful_then n (lawful_name n)
         (lawful_weaker n (Stays 7) (λ t stays. (tt, parenthesis_missed 7 t (omega arith) stays)) (lawful_optional is_parenthesis n open_argument L.argument)))
 
-    lists : LawfulAt is_bracket n (mapped listing o.list) (mapped listing o'.list) spelling_made (MadeIs true) (Stays 7)
+    lists : LawfulAt is_bracket n (map_read listing o.list) (map_read listing o'.list) spelling_made (MadeIs true) (Stays 7)
     lists = at_weaker is_bracket 7 n (lawful_at_mapped is_bracket n listing spelling_made (MadeIs true) (λ x. refl) (λ x g. g) listing_back L.list)
 
     branches : (b : Bool) → Branch (passes is_bracket) b n (made_with o b) (made_with o' b) spelling_made IsBuilt (MadeIs b) (Stays 7)
@@ -270,7 +270,7 @@ lawful_made n {o} {o'} L = lawful_cased (passes is_bracket) n (made_with o) (mad
     begins (labelled k v) ts rest good d stays =
         (false, name_no_sign (codes "[") (first (ts ++ rest)) (opens_name k (if_written spelling_argument v) ts rest good.0 d), good)
     begins (listing ws) ts rest good d stays =
-        (true, opens_due (sign (codes "[")) (opened (spelling_items (written_list ws) ++ due (sign (codes "]")) ∷ [])) ts rest d, good)
+        (true, opens_due (sign (codes "[")) (open_level (spelling_items (written_list ws) ++ due (sign (codes "]")) ∷ [])) ts rest d, good)
 
 lawful_built : (n : ℕ) {o o' : Openers} → LawfulOpeners n o o' → Lawful n (built_with o) (built_with o') spelling_built IsBuilt (Stays 7)
 lawful_built n L = lawful_behind n (sign (codes "#")) (lawful_made n L)
@@ -279,7 +279,7 @@ lawful_built n L = lawful_behind n (sign (codes "#")) (lawful_made n L)
 
 abbrev pub spelling_second : Second → List Due
 spelling_second (built_of_both b) = spelling_built b
-spelling_second (follows ss) = opened (spelling_suffixes ss)
+spelling_second (follows ss) = open_level (spelling_suffixes ss)
 
 abbrev pub IsSecond : Second → Type 0
 IsSecond (built_of_both b) = IsBuilt b
@@ -305,23 +305,23 @@ follows_back (follows ss) is = (ss, refl, is)
 follows_back (built_of_both b) is = absurd is
 
 abbrev pub second_by : Openers → Bool → Reader → Second × Reader
-second_by o = either_case (mapped built_of_both (built_with o)) (mapped follows (further_suffixes o))
+second_by o = either_case (map_read built_of_both (built_with o)) (map_read follows (further_suffixes o))
 
 -- the tokens of the suffixes, or what stands behind them, are no hash
-suffixes_no_hash : (ss : WrittenSuffixes) (ts rest : List Placed) → AreDue (opened (spelling_suffixes ss)) ts → Stays 7 (first rest) → passes is_hash (first (ts ++ rest)) ≡ false
+suffixes_no_hash : (ss : WrittenSuffixes) (ts rest : List Placed) → AreDue (open_level (spelling_suffixes ss)) ts → Stays 7 (first rest) → passes is_hash (first (ts ++ rest)) ≡ false
 suffixes_no_hash no_suffixes ts rest d stays =
     subst (λ (us : List Placed). passes is_hash (first (us ++ rest)) ≡ false) (sym (AreDue-none ts d)) (hash_missed 7 (first rest) (omega arith) stays)
-suffixes_no_hash (field n ss) ts rest d stays = clash (sign (codes ".")) (opened (due_name n ∷ opened (spelling_suffixes ss))) ts rest is_hash (λ s. refl) d
+suffixes_no_hash (field n ss) ts rest d stays = clash (sign (codes ".")) (open_level (due_name n ∷ open_level (spelling_suffixes ss))) ts rest is_hash (λ s. refl) d
 suffixes_no_hash (subscript w ss) ts rest d stays =
-    clash (sign (codes "[")) (opened (opened (spelling w ++ due (sign (codes "]")) ∷ []) ++ opened (spelling_suffixes ss))) ts rest is_hash (λ s. refl) d
+    clash (sign (codes "[")) (open_level (open_level (spelling w ++ due (sign (codes "]")) ∷ []) ++ open_level (spelling_suffixes ss))) ts rest is_hash (λ s. refl) d
 
-lawful_second_by : (n : ℕ) {o o' : Openers} → LawfulOpeners n o o' → Lawful n (cased (passes is_hash) (second_by o)) (cased (passes is_hash) (second_by o')) spelling_second IsSecond (Stays 7)
+lawful_second_by : (n : ℕ) {o o' : Openers} → LawfulOpeners n o o' → Lawful n (choose_by (passes is_hash) (second_by o)) (choose_by (passes is_hash) (second_by o')) spelling_second IsSecond (Stays 7)
 lawful_second_by n {o} {o'} L = lawful_cased (passes is_hash) n (second_by o) (second_by o') SecondIs branches suffixes.levels.filled begins
   where
-    suffixes : Lawful n (mapped follows (further_suffixes o)) (mapped follows (further_suffixes o')) spelling_second (SecondIs false) (Stays 7)
+    suffixes : Lawful n (map_read follows (further_suffixes o)) (map_read follows (further_suffixes o')) spelling_second (SecondIs false) (Stays 7)
     suffixes = lawful_mapped n follows spelling_second (SecondIs false) (λ x. refl) (λ x g. g) follows_back (lawful_further n L)
 
-    builts : Lawful n (mapped built_of_both (built_with o)) (mapped built_of_both (built_with o')) spelling_second (SecondIs true) (Stays 7)
+    builts : Lawful n (map_read built_of_both (built_with o)) (map_read built_of_both (built_with o')) spelling_second (SecondIs true) (Stays 7)
     builts = lawful_mapped n built_of_both spelling_second (SecondIs true) (λ x. refl) (λ x g. g) both_back (lawful_built n L)
 
     branches : (b : Bool) → Branch (passes is_hash) b n (second_by o b) (second_by o' b) spelling_second IsSecond (SecondIs b) (Stays 7)
@@ -390,18 +390,18 @@ second_kept y g = by_second y.1 g.1
     by_second (built_of_both b) h = (g.0, h)
     by_second (follows ss) h = (g.0, h)
 
-following_due : (l : Lexeme) (k : Following) (ds : List Due) (ts rest : List Placed) → ((s : ℕ) → following (Some (at l s)) ≡ k) → AreDue (due l ∷ ds) ts → following (first (ts ++ rest)) ≡ k
+following_due : (l : Lexeme) (k : Following) (ds : List Due) (ts rest : List Placed) → ((s : ℕ) → following_of (Some (at l s)) ≡ k) → AreDue (due l ∷ ds) ts → following_of (first (ts ++ rest)) ≡ k
 following_due l k ds [] rest is d = absurd d
-following_due l k ds (t ∷ ts) rest is d = (λ i. following (Some (record { kind = d.0.0 i; bytes = d.0.1 i; start = t.start }))) ∙ is t.start
+following_due l k ds (t ∷ ts) rest is d = (λ i. following_of (Some (record { kind = d.0.0 i; bytes = d.0.1 i; start = t.start }))) ∙ is t.start
 
-following_neither : (o : Option Placed) → passes is_hash o ≡ false → passes is_dot o ≡ false → following o ≡ by_neither
+following_neither : (o : Option Placed) → passes is_hash o ≡ false → passes is_dot o ≡ false → following_of o ≡ by_neither
 following_neither None hash dot = refl
 following_neither (Some t) hash dot = rw (hash, dot) refl
 
-lawful_behind_name : (n : ℕ) {o o' : Openers} → LawfulOpeners n o o' → Lawful n (cased following (behind_name o)) (cased following (behind_name o')) spelling_behind IsBehind (Stays 7)
-lawful_behind_name n {o} {o'} L = lawful_cased following n (behind_name o) (behind_name o') BehindIs branches neither.levels.filled begins
+lawful_behind_name : (n : ℕ) {o o' : Openers} → LawfulOpeners n o o' → Lawful n (choose_by following_of (behind_name o)) (choose_by following_of (behind_name o')) spelling_behind IsBehind (Stays 7)
+lawful_behind_name n {o} {o'} L = lawful_cased following_of n (behind_name o) (behind_name o') BehindIs branches neither.levels.filled begins
   where
-    hash : Lawful n (mapped (builds None) (built_with o)) (mapped (builds None) (built_with o')) spelling_behind (BehindIs by_hash) (Stays 7)
+    hash : Lawful n (map_read (builds None) (built_with o)) (map_read (builds None) (built_with o')) spelling_behind (BehindIs by_hash) (Stays 7)
     hash = lawful_mapped n (builds None) spelling_behind (BehindIs by_hash) (λ x. refl) (λ x g. g) hash_back (lawful_built n L)
 
     dot : Lawful n (second_with o) (second_with o') spelling_behind (BehindIs by_dot) (Stays 7)
@@ -409,26 +409,26 @@ lawful_behind_name n {o} {o'} L = lawful_cased following n (behind_name o) (behi
         lawful_mapped n (λ x. second x.0 x.1) spelling_behind (BehindIs by_dot) second_spelled second_kept dot_back
         (lawful_then n (lawful_behind n (sign (codes ".")) (lawful_name n)) (lawful_second_by n L))
 
-    neither : Lawful n (mapped goes_on (any_suffixes o)) (mapped goes_on (any_suffixes o')) spelling_behind (BehindIs by_neither) (Stays 7)
+    neither : Lawful n (map_read goes_on (any_suffixes o)) (map_read goes_on (any_suffixes o')) spelling_behind (BehindIs by_neither) (Stays 7)
     neither = lawful_mapped n goes_on spelling_behind (BehindIs by_neither) (λ x. refl) (λ x g. g) neither_back (lawful_any_suffixes n L)
 
-    branches : (k : Following) → Branch following k n (behind_name o k) (behind_name o' k) spelling_behind IsBehind (BehindIs k) (Stays 7)
-    branches by_hash = branch_of following by_hash n IsBehind (behind_good by_hash) hash
-    branches by_dot = branch_of following by_dot n IsBehind (behind_good by_dot) dot
-    branches by_neither = branch_of following by_neither n IsBehind (behind_good by_neither) neither
+    branches : (k : Following) → Branch following_of k n (behind_name o k) (behind_name o' k) spelling_behind IsBehind (BehindIs k) (Stays 7)
+    branches by_hash = branch_of following_of by_hash n IsBehind (behind_good by_hash) hash
+    branches by_dot = branch_of following_of by_dot n IsBehind (behind_good by_dot) dot
+    branches by_neither = branch_of following_of by_neither n IsBehind (behind_good by_neither) neither
 
-    begins : (x : Behind) (ts rest : List Placed) → IsBehind x → AreDue (spelling_behind x) ts → Stays 7 (first rest) → (k : Following) × (following (first (ts ++ rest)) ≡ k) × BehindIs k x
+    begins : (x : Behind) (ts rest : List Placed) → IsBehind x → AreDue (spelling_behind x) ts → Stays 7 (first rest) → (k : Following) × (following_of (first (ts ++ rest)) ≡ k) × BehindIs k x
     begins (builds None b) ts rest good d stays = (by_hash, following_due (sign (codes "#")) by_hash (spelling_made b) ts rest (λ s. refl) d, good.1)
     begins (builds (Some m) b) ts rest good d stays = (by_dot, following_due (sign (codes ".")) by_dot (due_name m ∷ spelling_built b) ts rest (λ s. refl) d, good)
     begins (goes_on no_suffixes) ts rest good d stays = (
       by_neither,
-      subst (λ (us : List Placed). following (first (us ++ rest)) ≡ by_neither) (sym (AreDue-none ts d))
+      subst (λ (us : List Placed). following_of (first (us ++ rest)) ≡ by_neither) (sym (AreDue-none ts d))
           (following_neither (first rest) (hash_missed 7 (first rest) (omega arith) stays) (dot_missed 7 (first rest) (omega arith) stays)),
       good,
     )
-    begins (goes_on (field m ss)) ts rest good d stays = (by_dot, following_due (sign (codes ".")) by_dot (due_name m ∷ opened (spelling_suffixes ss)) ts rest (λ s. refl) d, good)
+    begins (goes_on (field m ss)) ts rest good d stays = (by_dot, following_due (sign (codes ".")) by_dot (due_name m ∷ open_level (spelling_suffixes ss)) ts rest (λ s. refl) d, good)
     begins (goes_on (subscript w ss)) ts rest good d stays =
-        (by_neither, following_due (sign (codes "[")) by_neither (opened (spelling w ++ due (sign (codes "]")) ∷ []) ++ opened (spelling_suffixes ss)) ts rest (λ s. refl) d, good)
+        (by_neither, following_due (sign (codes "[")) by_neither (open_level (spelling w ++ due (sign (codes "]")) ∷ []) ++ open_level (spelling_suffixes ss)) ts rest (λ s. refl) d, good)
 
 -- Primaries.
 
@@ -439,10 +439,10 @@ IsNamed (items t ws) = IsWritten (items t ws)
 IsNamed (place n ss) = IsWritten (place n ss)
 IsNamed _ = ⊥
 
-pub named_spelled : (x : Named × Behind) → spelling (named x.0 x.1) ≡ spelling_name x.0 ++ spelling_behind x.1
+pub named_spelled : (x : Named × Behind) → spelling (name_with_tail x.0 x.1) ≡ spelling_name x.0 ++ spelling_behind x.1
 named_spelled x = by_behind x.1
   where
-    by_behind : (b : Behind) → spelling (named x.0 b) ≡ spelling_name x.0 ++ spelling_behind b
+    by_behind : (b : Behind) → spelling (name_with_tail x.0 b) ≡ spelling_name x.0 ++ spelling_behind b
     by_behind (builds None (labelled k None)) = refl
     by_behind (builds None (labelled k (Some w))) = refl
     by_behind (builds None (listing ws)) = refl
@@ -451,10 +451,10 @@ named_spelled x = by_behind x.1
     by_behind (builds (Some m) (listing ws)) = refl
     by_behind (goes_on ss) = refl
 
-pub named_kept : (x : Named × Behind) → IsName x.0 × IsBehind x.1 → IsNamed (named x.0 x.1)
+pub named_kept : (x : Named × Behind) → IsName x.0 × IsBehind x.1 → IsNamed (name_with_tail x.0 x.1)
 named_kept x g = by_behind x.1 g.1
   where
-    by_behind : (b : Behind) → IsBehind b → IsNamed (named x.0 b)
+    by_behind : (b : Behind) → IsBehind b → IsNamed (name_with_tail x.0 b)
     by_behind (builds None (labelled k None)) h = ((tt, g.0), h.1.0)
     by_behind (builds None (labelled k (Some w))) h = ((tt, g.0), h.1.0, h.1.1)
     by_behind (builds None (listing ws)) h = ((tt, g.0), h.1)
@@ -483,15 +483,15 @@ type_parts B P is t good = by_parts t.«module» t.name good
     by_parts None n g = (n, None, is n None, g.1, tt)
     by_parts (Some m) n g = (m, Some n, is m (Some n), g.0, g.1)
 
-named_back : (w : Written) → IsNamed w → (x : Named × Behind) × (named x.0 x.1 ≡ w) × (IsName x.0 × IsBehind x.1)
+named_back : (w : Written) → IsNamed w → (x : Named × Behind) × (name_with_tail x.0 x.1 ≡ w) × (IsName x.0 × IsBehind x.1)
 named_back (label t k) good =
-    let (n, m, is, first_named, second_named) = type_parts (λ u. label u k) (λ n m. named n (builds m (labelled k None))) (λ n m. refl) t good.0 in
+    let (n, m, is, first_named, second_named) = type_parts (λ u. label u k) (λ n m. name_with_tail n (builds m (labelled k None))) (λ n m. refl) t good.0 in
     ((n, builds m (labelled k None)), is, (first_named, (second_named, (good.1, tt))))
 named_back (arm t k w) good =
-    let (n, m, is, first_named, second_named) = type_parts (λ u. arm u k w) (λ n m. named n (builds m (labelled k (Some w)))) (λ n m. refl) t good.0 in
+    let (n, m, is, first_named, second_named) = type_parts (λ u. arm u k w) (λ n m. name_with_tail n (builds m (labelled k (Some w)))) (λ n m. refl) t good.0 in
     ((n, builds m (labelled k (Some w))), is, (first_named, (second_named, (good.1, good.2))))
 named_back (items t ws) good =
-    let (n, m, is, first_named, second_named) = type_parts (λ u. items u ws) (λ n m. named n (builds m (listing (list_of ws)))) (λ n m. ap (items (type_name n m)) (list_is ws)) t good.0 in
+    let (n, m, is, first_named, second_named) = type_parts (λ u. items u ws) (λ n m. name_with_tail n (builds m (listing (list_of ws)))) (λ n m. ap (items (type_name n m)) (list_is ws)) t good.0 in
     ((n, builds m (listing (list_of ws))), is, (first_named, (second_named, subst AreWritten (sym (list_is ws)) good.1)))
 named_back (place n ss) good = ((n, goes_on ss), refl, good)
 named_back (chain c w ls) good = absurd good
@@ -506,7 +506,7 @@ named_back (parentheses p w) good = absurd good
 named_back (length_of p w) good = absurd good
 
 lawful_named : (n : ℕ) {o o' : Openers} → LawfulOpeners n o o' → Lawful n (named_with o) (named_with o') spelling IsNamed (Stays 7)
-lawful_named n L = lawful_mapped n (λ x. named x.0 x.1) spelling IsNamed named_spelled named_kept named_back (lawful_then n (lawful_name n) (lawful_behind_name n L))
+lawful_named n L = lawful_mapped n (λ x. name_with_tail x.0 x.1) spelling IsNamed named_spelled named_kept named_back (lawful_then n (lawful_name n) (lawful_behind_name n L))
 
 abbrev pub PrimaryIs : PrimaryStart → Written → Type 0
 PrimaryIs begins.Number (number n) = IsNumeral n
@@ -656,8 +656,8 @@ primary_begins (text content p) ts rest good d = (begins.Text, start_text conten
 primary_begins (truth true p) ts rest good d = (begins.True, start_due (word (codes "TRUE")) begins.True p [] ts rest true_starts d, tt)
 primary_begins (truth false p) ts rest good d = (begins.False, start_due (word (codes "FALSE")) begins.False p [] ts rest false_starts d, tt)
 primary_begins (parentheses p w) ts rest good d =
-    (begins.Parenthesis, start_due (sign (codes "(")) begins.Parenthesis p (opened (spelling w ++ due (sign (codes ")")) ∷ [])) ts rest parenthesis_starts d, good.1)
-primary_begins (length_of p w) ts rest good d = (begins.Length, start_due (word (codes "LENGTH")) begins.Length p (opened (spelling_argument w)) ts rest length_starts d, good.1)
+    (begins.Parenthesis, start_due (sign (codes "(")) begins.Parenthesis p (open_level (spelling w ++ due (sign (codes ")")) ∷ [])) ts rest parenthesis_starts d, good.1)
+primary_begins (length_of p w) ts rest good d = (begins.Length, start_due (word (codes "LENGTH")) begins.Length p (open_level (spelling_argument w)) ts rest length_starts d, good.1)
 primary_begins (label t m) ts rest good d = (begins.Name, start_named (label t m) ts rest good.1 d, good.1)
 primary_begins (arm t m w) ts rest good d = (begins.Name, start_named (arm t m w) ts rest good.1 d, good.1)
 primary_begins (items t ws) ts rest good d = (begins.Name, start_named (items t ws) ts rest good.1 d, good.1)
@@ -761,7 +761,7 @@ lawful_factor n {o} {o'} L =
         (lawful_weaker n (Stays 6) (λ t stays. omega arith) (lawful_primary n L))
 
     factor_begins : (w : Written) (ts rest : List Placed) → IsOf 6 w → AreDue (spelling w) ts → Stays 6 (first rest) → (b : Bool) × (passes is_minus (first (ts ++ rest)) ≡ b) × FactorIs b w
-    factor_begins (minus p w) ts rest good d stays = (true, opens_due_at (sign (codes "-")) p (opened (spelling w)) ts rest d, good.1)
+    factor_begins (minus p w) ts rest good d stays = (true, opens_due_at (sign (codes "-")) p (open_level (spelling w)) ts rest d, good.1)
     factor_begins (number m) ts rest good d stays = (false, no_lead (sign (codes "-")) minus_starts (name_no_sign (codes "-")) (number m) ts rest (omega arith, good.1) d, (omega arith, good.1))
     factor_begins (text c p) ts rest good d stays = (false, no_lead (sign (codes "-")) minus_starts (name_no_sign (codes "-")) (text c p) ts rest (omega arith, good.1) d, (omega arith, good.1))
     factor_begins (truth b p) ts rest good d stays = (false, no_lead (sign (codes "-")) minus_starts (name_no_sign (codes "-")) (truth b p) ts rest (omega arith, good.1) d, (omega arith, good.1))
@@ -795,11 +795,11 @@ link_back c (link o w ls) good = ((o, (w, ls)), refl, (good.0, ((good.1, good.2)
 
 open_links : (c : Chain) → Opens spelling_links (AreSome c) (joins c)
 open_links c no_links ts rest good d = absurd good
-open_links c (link o w ls) ts rest good d = opens_joint c o (spelling w ++ opened (spelling_links ls)) ts rest good.0 d
+open_links c (link o w ls) ts rest good d = opens_joint c o (spelling w ++ open_level (spelling_links ls)) ts rest good.0 d
 
-open_deeper_links : (c : Chain) → Opens (λ ls. opened (spelling_links ls)) (AreSome c) (joins c)
+open_deeper_links : (c : Chain) → Opens (λ ls. open_level (spelling_links ls)) (AreSome c) (joins c)
 open_deeper_links c no_links ts rest good d = absurd good
-open_deeper_links c (link o w ls) ts rest good d = opens_joint c o (opened (spelling w ++ opened (spelling_links ls))) ts rest good.0 d
+open_deeper_links c (link o w ls) ts rest good d = opens_joint c o (open_level (spelling w ++ open_level (spelling_links ls))) ts rest good.0 d
 
 operand_above : (c : Chain) → operand_of c ≡ suc (production_of_chain c)
 operand_above of.Expression = refl
@@ -812,10 +812,10 @@ links_stay : (c : Chain) (ls : Links) (ts rest : List Placed) → AreLinks c ls 
 links_stay c no_links ts rest good d stays =
     subst (λ (us : List Placed). Stays (operand_of c) (first (us ++ rest))) (sym (AreDue-none ts d)) (omega (arith, operand_above c))
 links_stay c (link o w ls) ts rest good d stays =
-    let binds = grip_due (lexeme_of o) (suc (production_of_chain c)) (spelling w ++ opened (spelling_links ls)) ts rest (grip_joint c o good.0) d in
+    let binds = grip_due (lexeme_of o) (suc (production_of_chain c)) (spelling w ++ open_level (spelling_links ls)) ts rest (grip_joint c o good.0) d in
     omega (arith, operand_above c)
 
-deeper_links_stay : (c : Chain) (ls : Links) (ts rest : List Placed) → AreLinks c ls → AreDue (opened (spelling_links ls)) ts → Stays (production_of_chain c) (first rest) → Stays (operand_of c) (first (ts ++ rest))
+deeper_links_stay : (c : Chain) (ls : Links) (ts rest : List Placed) → AreLinks c ls → AreDue (open_level (spelling_links ls)) ts → Stays (production_of_chain c) (first rest) → Stays (operand_of c) (first (ts ++ rest))
 deeper_links_stay c ls ts rest good d stays = links_stay c ls ts rest good (opened_due (spelling_links ls) ts d) stays
 
 pub lawful_links : (n : ℕ) (c : Chain) {p q : Reader → Written × Reader} {o o' : Openers} → LawfulOpeners n o o' → Lawful n p q spelling (IsOf (operand_of c)) (Stays (operand_of c))
@@ -947,7 +947,7 @@ arm_back (arm_named n) is = (n, refl, is)
 arm_back alone is = absurd is
 arm_back (compared o w) is = absurd is
 
-relating_comparison : (o : Operator) → Compares o → (s : ℕ) → relating (Some (at (lexeme_of o) s)) ≡ comparing
+relating_comparison : (o : Operator) → Compares o → (s : ℕ) → relating_of (Some (at (lexeme_of o) s)) ≡ comparing
 relating_comparison op.Equal j s = refl
 relating_comparison op.Unequal j s = refl
 relating_comparison op.Less j s = refl
@@ -956,27 +956,27 @@ relating_comparison op.Greater j s = refl
 relating_comparison op.AtLeast j s = refl
 relating_comparison _ j s = absurd j
 
-relating_due : (l : Lexeme) (k : Relating) (ds : List Due) (ts rest : List Placed) → ((s : ℕ) → relating (Some (at l s)) ≡ k) → AreDue (due l ∷ ds) ts → relating (first (ts ++ rest)) ≡ k
+relating_due : (l : Lexeme) (k : Relating) (ds : List Due) (ts rest : List Placed) → ((s : ℕ) → relating_of (Some (at l s)) ≡ k) → AreDue (due l ∷ ds) ts → relating_of (first (ts ++ rest)) ≡ k
 relating_due l k ds [] rest is d = absurd d
-relating_due l k ds (t ∷ ts) rest is d = (λ i. relating (Some (record { kind = d.0.0 i; bytes = d.0.1 i; start = t.start }))) ∙ is t.start
+relating_due l k ds (t ∷ ts) rest is d = (λ i. relating_of (Some (record { kind = d.0.0 i; bytes = d.0.1 i; start = t.start }))) ∙ is t.start
 
-relating_ends : (o : Option Placed) → passes (is_operator comparisons) o ≡ false → passes (is_lexeme (word (codes "IS"))) o ≡ false → relating o ≡ ending
+relating_ends : (o : Option Placed) → passes (is_operator comparisons) o ≡ false → passes (is_lexeme (word (codes "IS"))) o ≡ false → relating_of o ≡ ending
 relating_ends None compares is = refl
 relating_ends (Some t) compares is = rw (compares, is) refl
 
 lawful_sum : (n : ℕ) {o o' : Openers} → LawfulOpeners n o o' → Lawful n (sum_with o) (sum_with o') spelling (IsOf 4) (Stays 4)
 lawful_sum n L = lawful_chain n of.Sum L (lawful_chain n of.Term L (lawful_factor n L))
 
-lawful_related : (n : ℕ) {o o' : Openers} → LawfulOpeners n o o' → Lawful n (cased relating (related_by o)) (cased relating (related_by o')) spelling_related IsRelated (Stays 3)
-lawful_related n {o} {o'} L = lawful_cased relating n (related_by o) (related_by o') RelatedIs branches (λ s ts e. refl) begins
+lawful_related : (n : ℕ) {o o' : Openers} → LawfulOpeners n o o' → Lawful n (choose_by relating_of (related_by o)) (choose_by relating_of (related_by o')) spelling_related IsRelated (Stays 3)
+lawful_related n {o} {o'} L = lawful_cased relating_of n (related_by o) (related_by o') RelatedIs branches (λ s ts e. refl) begins
   where
-    branches : (k : Relating) → Branch relating k n (related_by o k) (related_by o' k) spelling_related IsRelated (RelatedIs k) (Stays 3)
+    branches : (k : Relating) → Branch relating_of k n (related_by o k) (related_by o' k) spelling_related IsRelated (RelatedIs k) (Stays 3)
     branches comparing =
-        branch_of relating comparing n IsRelated (related_good comparing)
+        branch_of relating_of comparing n IsRelated (related_good comparing)
         (lawful_weaker n (Stays 3) (λ t stays. omega arith)
         (lawful_mapped n (λ x. compared x.0 x.1) spelling_related (RelatedIs comparing) (λ x. refl) (λ x g. g) compared_back (lawful_then n (lawful_compares n) (lawful_sum n L))))
     branches naming =
-        branch_of relating naming n IsRelated (related_good naming)
+        branch_of relating_of naming n IsRelated (related_good naming)
         (lawful_stays 3 n (lawful_mapped n arm_named spelling_related (RelatedIs naming) (λ x. refl) (λ x g. g) arm_back (lawful_behind n (word (codes "IS")) (lawful_name n))))
     branches ending = record {
       narrow = sound_nothing alone spelling_related IsRelated tt refl;
@@ -992,34 +992,34 @@ lawful_related n {o} {o'} L = lawful_cased relating n (related_by o) (related_by
         ends (compared o w) ts rest e good d stays = absurd good.0
         ends (arm_named m) ts rest e good d stays = absurd good.0
 
-    begins : (x : Related) (ts rest : List Placed) → IsRelated x → AreDue (spelling_related x) ts → Stays 3 (first rest) → (k : Relating) × (relating (first (ts ++ rest)) ≡ k) × RelatedIs k x
+    begins : (x : Related) (ts rest : List Placed) → IsRelated x → AreDue (spelling_related x) ts → Stays 3 (first rest) → (k : Relating) × (relating_of (first (ts ++ rest)) ≡ k) × RelatedIs k x
     begins alone ts rest good d stays = (
       ending,
-      subst (λ (us : List Placed). relating (first (us ++ rest)) ≡ ending) (sym (AreDue-none ts d))
+      subst (λ (us : List Placed). relating_of (first (us ++ rest)) ≡ ending) (sym (AreDue-none ts d))
           (relating_ends (first rest) (compares_missed 3 (first rest) (omega arith) stays) (is_missed 3 (first rest) (omega arith) stays)),
       tt,
     )
     begins (compared o w) ts rest good d stays = (comparing, relating_due (lexeme_of o) comparing (spelling w) ts rest (relating_comparison o good.0) d, good)
     begins (arm_named m) ts rest good d stays = (naming, relating_due (word (codes "IS")) naming (due_name m ∷ []) ts rest (λ s. refl) d, good)
 
-pub related_spelled : (x : Written × Related) → spelling (related x.0 x.1) ≡ spelling x.0 ++ spelling_related x.1
+pub related_spelled : (x : Written × Related) → spelling (with_relation x.0 x.1) ≡ spelling x.0 ++ spelling_related x.1
 related_spelled x = by_related x.1
   where
-    by_related : (y : Related) → spelling (related x.0 y) ≡ spelling x.0 ++ spelling_related y
+    by_related : (y : Related) → spelling (with_relation x.0 y) ≡ spelling x.0 ++ spelling_related y
     by_related alone = sym (append-nil (spelling x.0))
     by_related (compared o w) = refl
     by_related (arm_named n) = refl
 
-pub related_kept : (x : Written × Related) → IsOf 4 x.0 × IsRelated x.1 → IsOf 3 (related x.0 x.1)
+pub related_kept : (x : Written × Related) → IsOf 4 x.0 × IsRelated x.1 → IsOf 3 (with_relation x.0 x.1)
 related_kept x g = by_related x.1 g.1
   where
-    by_related : (y : Related) → IsRelated y → IsOf 3 (related x.0 y)
+    by_related : (y : Related) → IsRelated y → IsOf 3 (with_relation x.0 y)
     by_related alone h = (omega (arith, g.0.0), g.0.1)
     by_related (compared o w) h = (omega arith, (g.0.0, g.0.1, h.0, h.1.0, h.1.1))
     by_related (arm_named n) h = (omega arith, (g.0.0, g.0.1, h))
 
 abbrev RelationBack : Written → Type 0
-RelationBack a = (x : Written × Related) × (related x.0 x.1 ≡ a) × (IsOf 4 x.0 × IsRelated x.1)
+RelationBack a = (x : Written × Related) × (with_relation x.0 x.1 ≡ a) × (IsOf 4 x.0 × IsRelated x.1)
 
 no_relation : (a : Written) → 4 ≤ production_of a → IsWritten a → RelationBack a
 no_relation a above good = ((a, alone), refl, ((above, good), tt))
@@ -1051,7 +1051,7 @@ related_stays (arm_named n) ts rest good d stays = let binds = grip_due (word (c
 
 lawful_relation : (n : ℕ) {o o' : Openers} → LawfulOpeners n o o' → Lawful n (relation_with o) (relation_with o') spelling (IsOf 3) (Stays 3)
 lawful_relation n L =
-    lawful_mapped n (λ x. related x.0 x.1) spelling (IsOf 3) related_spelled related_kept related_back (lawful_both n (lawful_sum n L) (lawful_related n L) related_stays)
+    lawful_mapped n (λ x. with_relation x.0 x.1) spelling (IsOf 3) related_spelled related_kept related_back (lawful_both n (lawful_sum n L) (lawful_related n L) related_stays)
 
 -- Negations.
 
@@ -1085,7 +1085,7 @@ no_not (is_arm a m) ts rest good d =
     let (us, vs, same, front, back) = AreDue-split (spelling a) (due (word (codes "IS")) ∷ due_name m ∷ []) ts d in
     subst (λ (l : List Placed). passes is_not (first l) ≡ false) (sym (ap (λ l. l ++ rest) same ∙ append_assoc us vs rest))
     (no_not a us (vs ++ rest) (omega (arith, good.1.0), good.1.1) front)
-no_not (minus p w) ts rest good d = clash_at (sign (codes "-")) p (opened (spelling w)) ts rest is_not (λ s. refl) d
+no_not (minus p w) ts rest good d = clash_at (sign (codes "-")) p (open_level (spelling w)) ts rest is_not (λ s. refl) d
 no_not (number m) ts rest good d = no_lead (word (codes "NOT")) not_starts not_is_no_name (number m) ts rest (omega arith, good.1) d
 no_not (text t p) ts rest good d = no_lead (word (codes "NOT")) not_starts not_is_no_name (text t p) ts rest (omega arith, good.1) d
 no_not (truth b p) ts rest good d = no_lead (word (codes "NOT")) not_starts not_is_no_name (truth b p) ts rest (omega arith, good.1) d
@@ -1114,7 +1114,7 @@ lawful_negated n {o} {o'} L =
     as_relation w ts rest above good d = (false, no_not w ts rest (above, good) d, (above, good))
 
     negated_begins : (w : Written) (ts rest : List Placed) → IsOf 2 w → AreDue (spelling w) ts → Stays 2 (first rest) → (b : Bool) × (passes is_not (first (ts ++ rest)) ≡ b) × NegatedIs b w
-    negated_begins (negation p w) ts rest good d stays = (true, opens_due_at (word (codes "NOT")) p (opened (spelling w)) ts rest d, good.1)
+    negated_begins (negation p w) ts rest good d stays = (true, opens_due_at (word (codes "NOT")) p (open_level (spelling w)) ts rest d, good.1)
     negated_begins (chain of.Expression w ls) ts rest good d stays = absurd (omega (arith, good.0))
     negated_begins (chain of.Conjunct w ls) ts rest good d stays = absurd (omega (arith, good.0))
     negated_begins (chain of.Sum w ls) ts rest good d stays = as_relation (chain of.Sum w ls) ts rest (omega arith) good.1 d

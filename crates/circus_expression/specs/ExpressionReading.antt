@@ -5,9 +5,9 @@ use Rattle.circus_syntax.specs.declared.named.Named.{Named}
 use Rattle.circus_syntax.specs.declared.named.TypeName.{TypeName}
 use Rattle.circus_syntax.specs.declared.stopping.StopCause.TheVariants.{Unexpected, TooDeep}
 use Rattle.circus_syntax.specs.Placed.{Placed, word, sign, is_lexeme, is_number, is_text}
-use Rattle.circus_syntax.specs.Reader.{Reader, token, stopped, nothing, both, mapped, cased, either, optional}
+use Rattle.circus_syntax.specs.Reader.{Reader, token, stop_reading, nothing, both, map_read, choose_by, either, optional}
 use Rattle.circus_syntax.specs.Reading as reading
-use Rattle.circus_syntax.specs.Reading.{fixed, fixed_at, name, quoted, filled_name, behind, listed, type_name}
+use Rattle.circus_syntax.specs.Reading.{expect_token, fixed_at, name, quoted_text, filled_name, behind, comma_list, type_name}
 use Rattle.circus_expression.specs.declared.operator.Operator.{Operator}
 use Rattle.circus_expression.specs.declared.operator.Operator.TheVariants as op
 use Rattle.circus_expression.specs.declared.operator.Chain.{Chain}
@@ -18,8 +18,8 @@ use Rattle.circus_expression.specs.Operators.{operators, comparisons, operator_i
 use Rattle.circus_expression.specs.Written.{Written, Links, WrittenSuffixes, WrittenPlace, written_list, chain, negation, comparison, is_arm, minus, number, text, truth, parentheses, length_of, label, arm, items, place, no_links, link, no_suffixes, field, subscript}
 
 -- what fills in for an expression
-abbrev pub filled : ℕ → Written
-filled at = place (filled_name at) no_suffixes
+abbrev pub filler : ℕ → Written
+filler at = place (filled_name at) no_suffixes
 
 -- one of these operators, the first of which fills in
 abbrev pub operator_of : List Operator → Operator → Reader → Operator × Reader
@@ -50,8 +50,8 @@ pub record Openers : Type 0 where
   pub suffixes : Reader → WrittenSuffixes × Reader
 
 -- p where the test is passed, else the token is missing
-abbrev pub required : {A : Type 0} → (Placed → Bool) → (ℕ → A) → (Reader → A × Reader) → Reader → A × Reader
-required test default p = either test p (stopped Unexpected default)
+abbrev pub expect_where : {A : Type 0} → (Placed → Bool) → (ℕ → A) → (Reader → A × Reader) → Reader → A × Reader
+expect_where test default p = either test p (stop_reading Unexpected default)
 
 -- Places.
 
@@ -77,14 +77,14 @@ further_suffixes o = either is_suffix o.suffixes (nothing no_suffixes)
 -- a suffix and those that follow it
 abbrev pub suffixes_with : Openers → Reader → WrittenSuffixes × Reader
 suffixes_with o =
-    either is_bracket (mapped (λ x. subscript x.0 x.1) (both o.subscript (further_suffixes o)))
-    (mapped (λ x. field x.0 x.1) (both (behind (sign (codes ".")) name) (further_suffixes o)))
+    either is_bracket (map_read (λ x. subscript x.0 x.1) (both o.subscript (further_suffixes o)))
+    (map_read (λ x. field x.0 x.1) (both (behind (sign (codes ".")) name) (further_suffixes o)))
 
 abbrev pub any_suffixes : Openers → Reader → WrittenSuffixes × Reader
 any_suffixes o = either is_suffix (suffixes_with o) (nothing no_suffixes)
 
 abbrev pub place_with : Openers → Reader → WrittenPlace × Reader
-place_with o = mapped (λ x. record { name = x.0; suffixes = x.1 }) (both name (any_suffixes o))
+place_with o = map_read (λ x. record { name = x.0; suffixes = x.1 }) (both name (any_suffixes o))
 
 -- Primaries.
 
@@ -96,21 +96,21 @@ pub data Built : Type 0 where
 abbrev pub built_with : Openers → Reader → Built × Reader
 built_with o =
     behind (sign (codes "#"))
-    (either is_bracket (mapped listing o.list) (mapped (λ x. labelled x.0 x.1) (both name (optional is_parenthesis o.argument))))
+    (either is_bracket (map_read listing o.list) (map_read (λ x. labelled x.0 x.1) (both name (optional is_parenthesis o.argument))))
 
 -- what stands behind a name: what is built of the type that it names, by itself or with a second name, or suffixes
 pub data Behind : Type 0 where
   builds : Option Named → Built → Behind
   goes_on : WrittenSuffixes → Behind
 
-abbrev pub built : TypeName → Built → Written
-built t (labelled k None) = label t k
-built t (labelled k (Some w)) = arm t k w
-built t (listing ws) = items t (written_list ws)
+abbrev pub construction : TypeName → Built → Written
+construction t (labelled k None) = label t k
+construction t (labelled k (Some w)) = arm t k w
+construction t (listing ws) = items t (written_list ws)
 
-abbrev pub named : Named → Behind → Written
-named n (builds m b) = built (type_name n m) b
-named n (goes_on ss) = place n ss
+abbrev pub name_with_tail : Named → Behind → Written
+name_with_tail n (builds m b) = construction (type_name n m) b
+name_with_tail n (goes_on ss) = place n ss
 
 -- behind a dot and a name
 pub data Second : Type 0 where
@@ -123,8 +123,8 @@ second n (follows ss) = goes_on (field n ss)
 
 abbrev pub second_with : Openers → Reader → Behind × Reader
 second_with o =
-    mapped (λ x. second x.0 x.1)
-    (both (behind (sign (codes ".")) name) (either is_hash (mapped built_of_both (built_with o)) (mapped follows (further_suffixes o))))
+    map_read (λ x. second x.0 x.1)
+    (both (behind (sign (codes ".")) name) (either is_hash (map_read built_of_both (built_with o)) (map_read follows (further_suffixes o))))
 
 -- which of its ways goes on behind a name
 pub data Following : Type 0 where
@@ -132,17 +132,17 @@ pub data Following : Type 0 where
   by_dot : Following
   by_neither : Following
 
-abbrev pub following : Option Placed → Following
-following None = by_neither
-following (Some t) = if is_hash t then by_hash else (if is_dot t then by_dot else by_neither)
+abbrev pub following_of : Option Placed → Following
+following_of None = by_neither
+following_of (Some t) = if is_hash t then by_hash else (if is_dot t then by_dot else by_neither)
 
 abbrev pub behind_name : Openers → Following → Reader → Behind × Reader
-behind_name o by_hash = mapped (builds None) (built_with o)
+behind_name o by_hash = map_read (builds None) (built_with o)
 behind_name o by_dot = second_with o
-behind_name o by_neither = mapped goes_on (any_suffixes o)
+behind_name o by_neither = map_read goes_on (any_suffixes o)
 
 abbrev pub named_with : Openers → Reader → Written × Reader
-named_with o = mapped (λ x. named x.0 x.1) (both name (cased following (behind_name o)))
+named_with o = map_read (λ x. name_with_tail x.0 x.1) (both name (choose_by following_of (behind_name o)))
 
 -- what a primary begins with
 abbrev pub primary_start : Option Placed → PrimaryStart
@@ -160,16 +160,16 @@ unfoldable pub start_of_primary : Option Placed → PrimaryStart
 start_of_primary = primary_start
 
 abbrev pub primary_by : Openers → PrimaryStart → Reader → Written × Reader
-primary_by o begins.Number = mapped number reading.number
-primary_by o begins.Text = mapped (λ x. text x.0 x.1) quoted
-primary_by o begins.True = mapped (truth true) (fixed_at (word (codes "TRUE")))
-primary_by o begins.False = mapped (truth false) (fixed_at (word (codes "FALSE")))
+primary_by o begins.Number = map_read number reading.number
+primary_by o begins.Text = map_read (λ x. text x.0 x.1) quoted_text
+primary_by o begins.True = map_read (truth true) (fixed_at (word (codes "TRUE")))
+primary_by o begins.False = map_read (truth false) (fixed_at (word (codes "FALSE")))
 primary_by o begins.Parenthesis = o.parentheses
 primary_by o begins.Length = o.length
 primary_by o begins.Name = named_with o
 
 abbrev pub primary_with : Openers → Reader → Written × Reader
-primary_with o = cased start_of_primary (primary_by o)
+primary_with o = choose_by start_of_primary (primary_by o)
 
 -- The productions above.
 
@@ -182,7 +182,7 @@ factor_with o = either is_minus o.minus (primary_with o)
 -- an operator, its operand, and those that follow it
 abbrev pub links_with : Chain → (Reader → Written × Reader) → Openers → Reader → Links × Reader
 links_with c operand o =
-    mapped (λ x. link x.0 x.1.0 x.1.1) (both (joint c) (both operand (either (joins c) (o.links c) (nothing no_links))))
+    map_read (λ x. link x.0 x.1.0 x.1.1) (both (joint c) (both operand (either (joins c) (o.links c) (nothing no_links))))
 
 abbrev pub chain_of : Chain → Written → Links → Written
 chain_of c w no_links = w
@@ -190,7 +190,7 @@ chain_of c w (link o v ls) = chain c w (link o v ls)
 
 abbrev pub chain_with : Chain → (Reader → Written × Reader) → Openers → Reader → Written × Reader
 chain_with c operand o =
-    mapped (λ x. chain_of c x.0 x.1) (both operand (either (joins c) (links_with c operand o) (nothing no_links)))
+    map_read (λ x. chain_of c x.0 x.1) (both operand (either (joins c) (links_with c operand o) (nothing no_links)))
 
 abbrev pub sum_with : Openers → Reader → Written × Reader
 sum_with o = chain_with of.Sum (chain_with of.Term (factor_with o) o) o
@@ -201,31 +201,31 @@ pub data Related : Type 0 where
   compared : Operator → Written → Related
   arm_named : Named → Related
 
-abbrev pub related : Written → Related → Written
-related w alone = w
-related w (compared o v) = comparison w o v
-related w (arm_named n) = is_arm w n
+abbrev pub with_relation : Written → Related → Written
+with_relation w alone = w
+with_relation w (compared o v) = comparison w o v
+with_relation w (arm_named n) = is_arm w n
 
 pub data Relating : Type 0 where
   comparing : Relating
   naming : Relating
   ending : Relating
 
-abbrev pub relating : Option Placed → Relating
-relating None = ending
-relating (Some t) =
+abbrev pub relating_of : Option Placed → Relating
+relating_of None = ending
+relating_of (Some t) =
     if is_lexeme (word (codes "IS")) t then naming else (if is_operator comparisons t then comparing else ending)
 
 unfoldable pub compares : Reader → Operator × Reader
 compares = operator_of comparisons op.Equal
 
 abbrev pub related_by : Openers → Relating → Reader → Related × Reader
-related_by o comparing = mapped (λ x. compared x.0 x.1) (both compares (sum_with o))
-related_by o naming = mapped arm_named (behind (word (codes "IS")) name)
+related_by o comparing = map_read (λ x. compared x.0 x.1) (both compares (sum_with o))
+related_by o naming = map_read arm_named (behind (word (codes "IS")) name)
 related_by o ending = nothing alone
 
 abbrev pub relation_with : Openers → Reader → Written × Reader
-relation_with o = mapped (λ x. related x.0 x.1) (both (sum_with o) (cased relating (related_by o)))
+relation_with o = map_read (λ x. with_relation x.0 x.1) (both (sum_with o) (choose_by relating_of (related_by o)))
 
 abbrev pub is_not : Placed → Bool
 is_not = is_lexeme (word (codes "NOT"))
@@ -245,22 +245,22 @@ expression_with o = chain_with of.Expression (operand_with o of.Expression) o
 
 -- expression, and expressions with commas between them, in brackets
 abbrev pub in_parentheses : {A : Type 0} → (Reader → A × Reader) → Reader → A × Reader
-in_parentheses p = mapped (λ x. x.1.0) (both (fixed (sign (codes "("))) (both p (fixed (sign (codes ")")))))
+in_parentheses p = map_read (λ x. x.1.0) (both (expect_token (sign (codes "("))) (both p (expect_token (sign (codes ")")))))
 
 abbrev pub in_brackets : {A : Type 0} → (Reader → A × Reader) → Reader → A × Reader
-in_brackets p = mapped (λ x. x.1.0) (both (fixed (sign (codes "["))) (both p (fixed (sign (codes "]")))))
+in_brackets p = map_read (λ x. x.1.0) (both (expect_token (sign (codes "["))) (both p (expect_token (sign (codes "]")))))
 
 abbrev pub items_with : Openers → Reader → List Written × Reader
-items_with o = either (is_lexeme (sign (codes "]"))) (nothing []) (listed (expression_with o))
+items_with o = either (is_lexeme (sign (codes "]"))) (nothing []) (comma_list (expression_with o))
 
 -- what opens a level where what stands in it may open these
-abbrev pub opening : Openers → Openers
-opening o = record {
-  negation = mapped (λ x. negation x.0 x.1) (both (fixed_at (word (codes "NOT"))) (negated_with o));
-  minus = mapped (λ x. minus x.0 x.1) (both (fixed_at (sign (codes "-"))) (factor_with o));
+abbrev pub openers_within : Openers → Openers
+openers_within o = record {
+  negation = map_read (λ x. negation x.0 x.1) (both (fixed_at (word (codes "NOT"))) (negated_with o));
+  minus = map_read (λ x. minus x.0 x.1) (both (fixed_at (sign (codes "-"))) (factor_with o));
   parentheses =
-      mapped (λ x. parentheses x.0 x.1.0) (both (fixed_at (sign (codes "("))) (both (expression_with o) (fixed (sign (codes ")")))));
-  length = mapped (λ x. length_of x.0 x.1) (both (fixed_at (word (codes "LENGTH"))) (required is_parenthesis filled o.argument));
+      map_read (λ x. parentheses x.0 x.1.0) (both (fixed_at (sign (codes "("))) (both (expression_with o) (expect_token (sign (codes ")")))));
+  length = map_read (λ x. length_of x.0 x.1) (both (fixed_at (word (codes "LENGTH"))) (expect_where is_parenthesis filler o.argument));
   argument = in_parentheses (expression_with o);
   subscript = in_brackets (expression_with o);
   list = in_brackets (items_with o);
@@ -269,26 +269,26 @@ opening o = record {
 }
 
 abbrev pub no_further : Chain → Reader → Links × Reader
-no_further c = stopped TooDeep (λ at. link (first_operator c) (filled at) no_links)
+no_further c = stop_reading TooDeep (λ at. link (first_operator c) (filler at) no_links)
 
 -- where no level is left
 abbrev pub none_left : Openers
 none_left = record {
-  negation = stopped TooDeep filled;
-  minus = stopped TooDeep filled;
-  parentheses = stopped TooDeep filled;
-  length = stopped TooDeep filled;
-  argument = stopped TooDeep filled;
-  subscript = stopped TooDeep filled;
-  list = stopped TooDeep (λ at. []);
+  negation = stop_reading TooDeep filler;
+  minus = stop_reading TooDeep filler;
+  parentheses = stop_reading TooDeep filler;
+  length = stop_reading TooDeep filler;
+  argument = stop_reading TooDeep filler;
+  subscript = stop_reading TooDeep filler;
+  list = stop_reading TooDeep (λ at. []);
   links = no_further;
-  suffixes = stopped TooDeep (λ at. field (filled_name at) no_suffixes);
+  suffixes = stop_reading TooDeep (λ at. field (filled_name at) no_suffixes);
 }
 
 -- what may be opened where so many levels are left
 unfoldable pub openers : ℕ → Openers
 openers zero = none_left
-openers (suc levels) = opening (openers levels)
+openers (suc levels) = openers_within (openers levels)
 
 -- The productions where so many levels are left.
 
@@ -305,15 +305,15 @@ links levels c = links_with c (operand_with (openers levels) c) (openers levels)
 unfoldable pub further_links : ℕ → Chain → Reader → Links × Reader
 further_links levels = (openers levels).links
 
-unfoldable pub negated : ℕ → Reader → Written × Reader
-negated levels = negated_with (openers levels)
+unfoldable pub minus_operand : ℕ → Reader → Written × Reader
+minus_operand levels = negated_with (openers levels)
 
 unfoldable pub relation : ℕ → Reader → Written × Reader
 relation levels = relation_with (openers levels)
 
 -- what stands behind the first sum of a relation
 unfoldable pub related_within : ℕ → Reader → Related × Reader
-related_within levels = cased relating (related_by (openers levels))
+related_within levels = choose_by relating_of (related_by (openers levels))
 
 unfoldable pub factor : ℕ → Reader → Written × Reader
 factor levels = factor_with (openers levels)
@@ -329,17 +329,17 @@ length_primary levels = (openers levels).length
 
 -- what stands in the parentheses behind LENGTH
 unfoldable pub required_argument : ℕ → Reader → Written × Reader
-required_argument levels = required is_parenthesis filled (openers levels).argument
+required_argument levels = expect_where is_parenthesis filler (openers levels).argument
 
 -- what stands behind a name and a dot
-unfoldable pub dotted : ℕ → Reader → Behind × Reader
-dotted levels = second_with (openers levels)
+unfoldable pub tail_behind_dot : ℕ → Reader → Behind × Reader
+tail_behind_dot levels = second_with (openers levels)
 
 unfoldable pub argument : ℕ → Reader → Written × Reader
 argument levels = (openers levels).argument
 
-unfoldable pub subscripted : ℕ → Reader → Written × Reader
-subscripted levels = (openers levels).subscript
+unfoldable pub read_subscript : ℕ → Reader → Written × Reader
+read_subscript levels = (openers levels).subscript
 
 unfoldable pub list : ℕ → Reader → List Written × Reader
 list levels = (openers levels).list

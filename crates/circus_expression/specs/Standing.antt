@@ -15,8 +15,8 @@ abbrev pub place_of_tree : ExpressionTree → ℕ
 place_of_tree (expression at kind) = at
 
 -- two expressions as one, which begins with the first
-abbrev pub joined : Operator → ExpressionTree → ExpressionTree → ExpressionTree
-joined o a b = expression (place_of_tree a) (tree.binary o a b)
+abbrev pub join_with : Operator → ExpressionTree → ExpressionTree → ExpressionTree
+join_with o a b = expression (place_of_tree a) (tree.binary o a b)
 
 -- the same expression, beginning here
 abbrev pub beginning : ℕ → ExpressionTree → ExpressionTree
@@ -28,9 +28,9 @@ type_place t = type_name_place t.«module» t.name
 
 abbrev mutual
   pub stands_for : Written → ExpressionTree
-  stands_for (chain c w ls) = leaning (stands_for w) ls
+  stands_for (chain c w ls) = lean_left (stands_for w) ls
   stands_for (negation at w) = expression at (tree.negation (stands_for w))
-  stands_for (comparison a o b) = joined o (stands_for a) (stands_for b)
+  stands_for (comparison a o b) = join_with o (stands_for a) (stands_for b)
   stands_for (is_arm a n) = expression (place_of_tree (stands_for a)) (tree.is_arm (stands_for a) n)
   stands_for (minus at w) = expression at (tree.minus (stands_for w))
   stands_for (number n) = expression n.at (tree.number n.value)
@@ -44,9 +44,9 @@ abbrev mutual
   stands_for (place n ss) = expression n.at (tree.read n (suffix_trees (suffixes_stand_for ss)))
 
   -- what stands in front, joined to one operand after the other
-  pub leaning : ExpressionTree → Links → ExpressionTree
-  leaning e no_links = e
-  leaning e (link o w ls) = leaning (joined o e (stands_for w)) ls
+  pub lean_left : ExpressionTree → Links → ExpressionTree
+  lean_left e no_links = e
+  lean_left e (link o w ls) = lean_left (join_with o e (stands_for w)) ls
 
   pub stand_for : WrittenList → List ExpressionTree
   stand_for no_items = []
@@ -63,7 +63,7 @@ place_stands_for p = record { name = p.name; suffixes = suffixes_stand_for p.suf
 -- a sum with what stands behind it
 abbrev pub related_tree : ExpressionTree → Related → ExpressionTree
 related_tree e alone = e
-related_tree e (compared o w) = joined o e (stands_for w)
+related_tree e (compared o w) = join_with o e (stands_for w)
 related_tree e (arm_named n) = expression (place_of_tree e) (tree.is_arm e n)
 
 -- what is read, as it stands for something else

@@ -5,7 +5,7 @@ use Rattle.circus_text.specs.Token.{Lexeme}
 use Rattle.circus_syntax.specs.declared.named.Named.{Named}
 use Rattle.circus_syntax.specs.declared.named.Numeral.{Numeral}
 use Rattle.circus_syntax.specs.declared.named.TypeName.{TypeName}
-use Rattle.circus_syntax.specs.Placed.{word, sign, Due, due, due_at, due_name, due_number, due_text, opened}
+use Rattle.circus_syntax.specs.Placed.{word, sign, Due, due, due_at, due_name, due_number, due_text, open_level}
 use Rattle.circus_syntax.specs.Spelling.{comma, spelling_type_name, IsName, IsNumeral, IsText, IfWritten}
 use Rattle.circus_expression.specs.declared.operator.Operator.{Operator}
 use Rattle.circus_expression.specs.declared.operator.Chain.{Chain}
@@ -65,29 +65,29 @@ abbrev mutual
   -- conjunct {"OR" conjunct}, negated {"AND" negated}, term {("+" | "-" | "&") term}, factor {("*" | "DIV" | "MOD") factor}
   spelling (chain c w ls) = spelling w ++ spelling_links ls
   -- "NOT" negated
-  spelling (negation at w) = opened (due_at (word (codes "NOT")) at ∷ spelling w)
+  spelling (negation at w) = open_level (due_at (word (codes "NOT")) at ∷ spelling w)
   -- sum ("=" | "<>" | "<" | "<=" | ">" | ">=") sum
   spelling (comparison a o b) = spelling a ++ due (lexeme_of o) ∷ spelling b
   -- sum "IS" name
   spelling (is_arm a n) = spelling a ++ due (word (codes "IS")) ∷ due_name n ∷ []
   -- "-" factor
-  spelling (minus at w) = opened (due_at (sign (codes "-")) at ∷ spelling w)
+  spelling (minus at w) = open_level (due_at (sign (codes "-")) at ∷ spelling w)
   spelling (number n) = due_number n ∷ []
   spelling (text content at) = due_text content at ∷ []
   spelling (truth b at) = due_at (truth_lexeme b) at ∷ []
   -- "(" expression ")"
-  spelling (parentheses at w) = opened (due_at (sign (codes "(")) at ∷ (spelling w ++ due (sign (codes ")")) ∷ []))
+  spelling (parentheses at w) = open_level (due_at (sign (codes "(")) at ∷ (spelling w ++ due (sign (codes ")")) ∷ []))
   -- "LENGTH" "(" expression ")"
-  spelling (length_of at w) = opened (due_at (word (codes "LENGTH")) at ∷ opened (due (sign (codes "(")) ∷ (spelling w ++ due (sign (codes ")")) ∷ [])))
+  spelling (length_of at w) = open_level (due_at (word (codes "LENGTH")) at ∷ open_level (due (sign (codes "(")) ∷ (spelling w ++ due (sign (codes ")")) ∷ [])))
   -- name ["." name] "#" (name ["(" expression ")"] | list)
   spelling (label t n) = spelling_type_name t ++ due (sign (codes "#")) ∷ due_name n ∷ []
-  spelling (arm t n w) = spelling_type_name t ++ due (sign (codes "#")) ∷ due_name n ∷ opened (due (sign (codes "(")) ∷ (spelling w ++ due (sign (codes ")")) ∷ []))
-  spelling (items t ws) = spelling_type_name t ++ due (sign (codes "#")) ∷ opened (due (sign (codes "[")) ∷ (spelling_items ws ++ due (sign (codes "]")) ∷ []))
+  spelling (arm t n w) = spelling_type_name t ++ due (sign (codes "#")) ∷ due_name n ∷ open_level (due (sign (codes "(")) ∷ (spelling w ++ due (sign (codes ")")) ∷ []))
+  spelling (items t ws) = spelling_type_name t ++ due (sign (codes "#")) ∷ open_level (due (sign (codes "[")) ∷ (spelling_items ws ++ due (sign (codes "]")) ∷ []))
   spelling (place n ss) = due_name n ∷ spelling_suffixes ss
 
   pub spelling_links : Links → List Due
   spelling_links no_links = []
-  spelling_links (link o w ls) = due (lexeme_of o) ∷ (spelling w ++ opened (spelling_links ls))
+  spelling_links (link o w ls) = due (lexeme_of o) ∷ (spelling w ++ open_level (spelling_links ls))
 
   -- [expression {"," expression}]
   pub spelling_items : WrittenList → List Due
@@ -101,17 +101,17 @@ abbrev mutual
   -- {"." name | "[" expression "]"}
   pub spelling_suffixes : WrittenSuffixes → List Due
   spelling_suffixes no_suffixes = []
-  spelling_suffixes (field n ss) = due (sign (codes ".")) ∷ due_name n ∷ opened (spelling_suffixes ss)
+  spelling_suffixes (field n ss) = due (sign (codes ".")) ∷ due_name n ∷ open_level (spelling_suffixes ss)
   spelling_suffixes (subscript w ss) =
-      opened (due (sign (codes "[")) ∷ (spelling w ++ due (sign (codes "]")) ∷ [])) ++ opened (spelling_suffixes ss)
+      open_level (due (sign (codes "[")) ∷ (spelling w ++ due (sign (codes "]")) ∷ [])) ++ open_level (spelling_suffixes ss)
 
 -- "(" expression ")"
 abbrev pub spelling_argument : Written → List Due
-spelling_argument w = opened (due (sign (codes "(")) ∷ (spelling w ++ due (sign (codes ")")) ∷ []))
+spelling_argument w = open_level (due (sign (codes "(")) ∷ (spelling w ++ due (sign (codes ")")) ∷ []))
 
 -- list = "[" [expression {"," expression}] "]"
 abbrev pub spelling_list : List Written → List Due
-spelling_list ws = opened (due (sign (codes "[")) ∷ (spelling_items (written_list ws) ++ due (sign (codes "]")) ∷ []))
+spelling_list ws = open_level (due (sign (codes "[")) ∷ (spelling_items (written_list ws) ++ due (sign (codes "]")) ∷ []))
 
 -- place = name {"." name | "[" expression "]"}
 abbrev pub spelling_place : WrittenPlace → List Due

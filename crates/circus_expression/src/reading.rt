@@ -2,12 +2,12 @@
 ghost use Rattle.std.specs.Prelude.{◌≡◌, ◌++◌, map, Some, IfOk, OnOk, codes};
 ghost use Rattle.circus_syntax.specs.Placed.{word};
 ghost use Rattle.circus_syntax.specs.Reading.{behind, name};
-ghost use Rattle.circus_syntax.specs.Reader.{next, place, stopped, skipped_by};
+ghost use Rattle.circus_syntax.specs.Reader.{next, place, stop_reading, skipped_by};
 ghost use Rattle.circus_expression.specs.ExpressionOf.{tree_of, kind_tree, place_of};
 ghost use Rattle.circus_expression.specs.ExpressionTree.{expression, binary, is_arm};
 ghost use Rattle.circus_expression.specs.Operators.{operators, next_operator};
-ghost use Rattle.circus_expression.specs.Standing.{shown, stands_for, leaning, suffixes_stand_for, place_stands_for, type_place, joined, related_tree};
-ghost use Rattle.circus_expression.specs.ExpressionReading.{filled, first_operator, chained, operand, links, further_links, no_further, negated, relation, related_within, factor, primary, length_primary, required_argument, named_primary, argument, subscripted, list, items_within, suffixes, any, further, built_behind, dotted, read_place, built, named};
+ghost use Rattle.circus_expression.specs.Standing.{shown, stands_for, lean_left, suffixes_stand_for, place_stands_for, type_place, join_with, related_tree};
+ghost use Rattle.circus_expression.specs.ExpressionReading.{filler, first_operator, chained, operand, links, further_links, no_further, minus_operand, relation, related_within, factor, primary, length_primary, required_argument, named_primary, argument, read_subscript, list, items_within, suffixes, any, further, built_behind, tail_behind_dot, read_place, construction, name_with_tail};
 
 use crate::seeing::{comparison, operator, primary_start, sees_suffix};
 use crate::{
@@ -34,14 +34,14 @@ fn chain(reader: &mut Reader<'_>, of: Chain, levels: u8) -> Result<Expression, N
 {
     let left = operand(reader, of, levels)?;
     match operator(reader, of) {
-        Some(joint) => linked(reader, left, joint, of, levels),
+        Some(joint) => link(reader, left, joint, of, levels),
         None => Ok(left),
     }
 }
 
 // The operator, its operand, and what follows them, joined to what stands in front.
 #[cycle(reading)]
-fn linked(
+fn link(
     reader: &mut Reader<'_>,
     left: Expression,
     joint: Operator,
@@ -50,7 +50,7 @@ fn linked(
 ) -> Result<Expression, NoMemory>
     requires { next_operator (operators of) (next reader.old) ≡ Some joint }
     ensures { IfOk result (λ read.
-        shown (leaning (tree_of left)) (links levels of reader.old) ≡ (tree_of read, reader.new)) }
+        shown (lean_left (tree_of left)) (links levels of reader.old) ≡ (tree_of read, reader.new)) }
 {
     let at = left.at;
     let left = Operand::new(reader.alloc(), left)?;
@@ -58,14 +58,14 @@ fn linked(
     let right = operand(reader, of, levels)?;
     let both = join(reader, at, joint, left, right)?;
     match operator(reader, of) {
-        Some(further) => further_linked(reader, both, further, of, levels),
+        Some(further) => further_link(reader, both, further, of, levels),
         None => Ok(both),
     }
 }
 
 // A further operator of a chain and all behind it are a level more.
 #[cycle(reading)]
-fn further_linked(
+fn further_link(
     reader: &mut Reader<'_>,
     left: Expression,
     joint: Operator,
@@ -74,13 +74,13 @@ fn further_linked(
 ) -> Result<Expression, NoMemory>
     requires { next_operator (operators of) (next reader.old) ≡ Some joint }
     ensures { IfOk result (λ read.
-        shown (leaning (tree_of left)) (further_links levels of reader.old)
+        shown (lean_left (tree_of left)) (further_links levels of reader.old)
         ≡ (tree_of read, reader.new)) }
 {
     if levels == 0 {
         return stop_linked(reader, left, of);
     }
-    linked(reader, left, joint, of, levels - 1)
+    link(reader, left, joint, of, levels - 1)
 }
 
 #[cycle(reading)]
@@ -90,16 +90,16 @@ fn operand(reader: &mut Reader<'_>, of: Chain, levels: u8) -> Result<Expression,
 {
     match of {
         Chain::Expression => chain(reader, Chain::Conjunct, levels),
-        Chain::Conjunct => negated(reader, levels),
+        Chain::Conjunct => minus_operand(reader, levels),
         Chain::Sum => chain(reader, Chain::Term, levels),
         Chain::Term => factor(reader, levels),
     }
 }
 
 #[cycle(reading)]
-fn negated(reader: &mut Reader<'_>, levels: u8) -> Result<Expression, NoMemory>
+fn minus_operand(reader: &mut Reader<'_>, levels: u8) -> Result<Expression, NoMemory>
     ensures { IfOk result (λ read.
-        shown stands_for (negated levels reader.old) ≡ (tree_of read, reader.new)) }
+        shown stands_for (minus_operand levels reader.old) ≡ (tree_of read, reader.new)) }
 {
     if !reader.sees_word(b"NOT") {
         return relation(reader, levels);
@@ -109,7 +109,7 @@ fn negated(reader: &mut Reader<'_>, levels: u8) -> Result<Expression, NoMemory>
     }
     let at = reader.place();
     reader.word(b"NOT");
-    let inner = negated(reader, levels - 1)?;
+    let inner = minus_operand(reader, levels - 1)?;
     let operand = Operand::new(reader.alloc(), inner)?;
     Ok(Expression {
         at,
@@ -123,12 +123,12 @@ fn relation(reader: &mut Reader<'_>, levels: u8) -> Result<Expression, NoMemory>
         shown stands_for (relation levels reader.old) ≡ (tree_of read, reader.new)) }
 {
     let left = chain(reader, Chain::Sum, levels)?;
-    related(reader, left, levels)
+    rest_of_relation(reader, left, levels)
 }
 
 // What stands behind the first sum of a relation, joined to it.
 #[cycle(reading)]
-fn related(reader: &mut Reader<'_>, left: Expression, levels: u8) -> Result<Expression, NoMemory>
+fn rest_of_relation(reader: &mut Reader<'_>, left: Expression, levels: u8) -> Result<Expression, NoMemory>
     ensures { IfOk result (λ read.
         shown (related_tree (tree_of left)) (related_within levels reader.old)
         ≡ (tree_of read, reader.new)) }
@@ -137,21 +137,21 @@ fn related(reader: &mut Reader<'_>, left: Expression, levels: u8) -> Result<Expr
         return arm_test(reader, left);
     }
     match comparison(reader) {
-        Some(joint) => compared(reader, left, joint, levels),
+        Some(joint) => rest_of_comparison(reader, left, joint, levels),
         None => Ok(left),
     }
 }
 
 // The next token, which compares, and the sum behind it, joined to what stands in front.
 #[cycle(reading)]
-fn compared(
+fn rest_of_comparison(
     reader: &mut Reader<'_>,
     left: Expression,
     joint: Operator,
     levels: u8,
 ) -> Result<Expression, NoMemory>
     ensures { IfOk result (λ read.
-        shown (λ w. joined joint (tree_of left) (stands_for w))
+        shown (λ w. join_with joint (tree_of left) (stands_for w))
         (chained levels Chain.Sum (skipped_by reader.old.stop reader.old.rest reader.old.end))
         ≡ (tree_of read, reader.new)) }
 {
@@ -210,9 +210,9 @@ fn primary_kind(reader: &mut Reader<'_>, levels: u8) -> Result<ExpressionKind, N
             reader.word(b"FALSE");
             Ok(ExpressionKind::Truth(false))
         }
-        PrimaryStart::Parenthesis => Ok(enclosed(reader, levels)?.kind),
+        PrimaryStart::Parenthesis => Ok(group_in_parentheses(reader, levels)?.kind),
         PrimaryStart::Length => length(reader, levels),
-        PrimaryStart::Name => named(reader, levels),
+        PrimaryStart::Name => kind_by_name(reader, levels),
     }
 }
 
@@ -226,18 +226,18 @@ fn length(reader: &mut Reader<'_>, levels: u8) -> Result<ExpressionKind, NoMemor
         return Ok(stop(reader, StopCause::TooDeep)?.kind);
     }
     reader.word(b"LENGTH");
-    let inner = measured(reader, levels - 1)?;
+    let inner = length_argument(reader, levels - 1)?;
     Ok(ExpressionKind::Length(Operand::new(reader.alloc(), inner)?))
 }
 
 // What stands in the parentheses behind LENGTH.
 #[cycle(reading)]
-fn measured(reader: &mut Reader<'_>, levels: u8) -> Result<Expression, NoMemory>
+fn length_argument(reader: &mut Reader<'_>, levels: u8) -> Result<Expression, NoMemory>
     ensures { IfOk result (λ read.
         shown stands_for (required_argument levels reader.old) ≡ (tree_of read, reader.new)) }
 {
     if reader.sees_sign(b"(") {
-        enclosed(reader, levels)
+        group_in_parentheses(reader, levels)
     } else {
         stop(reader, StopCause::Unexpected)
     }
@@ -245,7 +245,7 @@ fn measured(reader: &mut Reader<'_>, levels: u8) -> Result<Expression, NoMemory>
 
 // An expression in parentheses, which are a level.
 #[cycle(reading)]
-fn enclosed(reader: &mut Reader<'_>, levels: u8) -> Result<Expression, NoMemory>
+fn group_in_parentheses(reader: &mut Reader<'_>, levels: u8) -> Result<Expression, NoMemory>
     ensures { IfOk result (λ read.
         shown stands_for (argument levels reader.old) ≡ (tree_of read, reader.new)) }
 {
@@ -259,17 +259,17 @@ fn enclosed(reader: &mut Reader<'_>, levels: u8) -> Result<Expression, NoMemory>
 }
 
 #[cycle(reading)]
-fn named(reader: &mut Reader<'_>, levels: u8) -> Result<ExpressionKind, NoMemory>
+fn kind_by_name(reader: &mut Reader<'_>, levels: u8) -> Result<ExpressionKind, NoMemory>
     ensures { IfOk result (λ kind.
         shown stands_for (named_primary levels reader.old)
         ≡ (expression (place reader.old) (kind_tree kind), reader.new)) }
 {
     let name = reader.name()?;
     if reader.sees_sign(b"#") {
-        return built(reader, TypeName { module: None, name }, levels);
+        return kind_of_type(reader, TypeName { module: None, name }, levels);
     }
     if reader.sees_sign(b".") {
-        return dotted(reader, name, levels);
+        return kind_behind_dot(reader, name, levels);
     }
     let suffixes = any_suffixes(reader, levels)?;
     Ok(ExpressionKind::Read(PlaceText { name, suffixes }))
@@ -277,9 +277,9 @@ fn named(reader: &mut Reader<'_>, levels: u8) -> Result<ExpressionKind, NoMemory
 
 // What stands behind a name, where a dot follows it.
 #[cycle(reading)]
-fn dotted(reader: &mut Reader<'_>, name: Named, levels: u8) -> Result<ExpressionKind, NoMemory>
+fn kind_behind_dot(reader: &mut Reader<'_>, name: Named, levels: u8) -> Result<ExpressionKind, NoMemory>
     ensures { IfOk result (λ kind.
-        shown (λ behind. stands_for (named name behind)) (dotted levels reader.old)
+        shown (λ behind. stands_for (name_with_tail name behind)) (tail_behind_dot levels reader.old)
         ≡ (expression name.at (kind_tree kind), reader.new)) }
 {
     reader.sign(b".");
@@ -289,7 +289,7 @@ fn dotted(reader: &mut Reader<'_>, name: Named, levels: u8) -> Result<Expression
             module: Some(name),
             name: second,
         };
-        return built(reader, of, levels);
+        return kind_of_type(reader, of, levels);
     }
     let mut suffixes = Suffixes::new(reader.alloc());
     suffixes.push(Suffix::Field(second))?;
@@ -299,9 +299,9 @@ fn dotted(reader: &mut Reader<'_>, name: Named, levels: u8) -> Result<Expression
 
 // What stands behind the name of a type: a hash, and a label, an arm with its value, or items.
 #[cycle(reading)]
-fn built(reader: &mut Reader<'_>, of: TypeName, levels: u8) -> Result<ExpressionKind, NoMemory>
+fn kind_of_type(reader: &mut Reader<'_>, of: TypeName, levels: u8) -> Result<ExpressionKind, NoMemory>
     ensures { IfOk result (λ kind.
-        shown (λ made. stands_for (built of made)) (built_behind levels reader.old)
+        shown (λ made. stands_for (construction of made)) (built_behind levels reader.old)
         ≡ (expression (type_place of) (kind_tree kind), reader.new)) }
 {
     reader.sign(b"#");
@@ -312,7 +312,7 @@ fn built(reader: &mut Reader<'_>, of: TypeName, levels: u8) -> Result<Expression
     if !reader.sees_sign(b"(") {
         return Ok(ExpressionKind::Arm(of, name, None));
     }
-    let value = enclosed(reader, levels)?;
+    let value = group_in_parentheses(reader, levels)?;
     let operand = Operand::new(reader.alloc(), value)?;
     Ok(ExpressionKind::Arm(of, name, Some(operand)))
 }
@@ -381,7 +381,7 @@ fn further_suffixes(
 #[cycle(reading)]
 fn subscript(reader: &mut Reader<'_>, levels: u8) -> Result<Expression, NoMemory>
     ensures { IfOk result (λ read.
-        shown stands_for (subscripted levels reader.old) ≡ (tree_of read, reader.new)) }
+        shown stands_for (read_subscript levels reader.old) ≡ (tree_of read, reader.new)) }
 {
     if levels == 0 {
         return stop(reader, StopCause::TooDeep);
@@ -462,7 +462,7 @@ fn arm_test(reader: &mut Reader<'_>, left: Expression) -> Result<Expression, NoM
 // Stops where a further operator of the chain would be a level too many.
 fn stop_linked(reader: &mut Reader<'_>, left: Expression, of: Chain) -> Result<Expression, NoMemory>
     ensures { IfOk result (λ read.
-        shown (leaning (tree_of left)) (no_further of reader.old) ≡ (tree_of read, reader.new)) }
+        shown (lean_left (tree_of left)) (no_further of reader.old) ≡ (tree_of read, reader.new)) }
 {
     let at = left.at;
     let left = Operand::new(reader.alloc(), left)?;
@@ -473,7 +473,7 @@ fn stop_linked(reader: &mut Reader<'_>, left: Expression, of: Chain) -> Result<E
 // Stops here, and fills in for an expression.
 fn stop(reader: &mut Reader<'_>, cause: StopCause) -> Result<Expression, NoMemory>
     ensures { IfOk result (λ made.
-        shown stands_for (stopped cause filled reader.old) ≡ (tree_of made, reader.new)) }
+        shown stands_for (stop_reading cause filler reader.old) ≡ (tree_of made, reader.new)) }
 {
     reader.stop_here(cause);
     let name = reader.name()?;

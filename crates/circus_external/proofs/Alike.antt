@@ -1,6 +1,6 @@
 -- Piece by piece, the spellings of two values of a shape go on alike for as long as they are equal.
 use Rattle.std.proofs.Common.{◌≡◌, ◌⊎◌, inl, inr, ℕ, List, [], ◌∷◌, ◌++◌, length, refl, sym, ap, ◌∙◌, arith, append_assoc, length-append}
-use Rattle.circus_external.specs.Spelling.{Piece, number, content, pad, piece_bytes, joined}
+use Rattle.circus_external.specs.Spelling.{Piece, number, content, pad, piece_bytes, bytes_of_pieces}
 
 -- two pieces of one kind and size
 abbrev pub SameForm : Piece → Piece → Type 0
@@ -57,9 +57,9 @@ piece_same (content a) (content b) x y form same =
 piece_same (number a) (content b) x y form same = absurd form
 piece_same (content a) (number b) x y form same = absurd form
 
-pub joined-append : (us vs : List Piece) → joined (us ++ vs) ≡ joined us ++ joined vs
+pub joined-append : (us vs : List Piece) → bytes_of_pieces (us ++ vs) ≡ bytes_of_pieces us ++ bytes_of_pieces vs
 joined-append [] vs = refl
-joined-append (u ∷ us) vs = ap (λ l. piece_bytes u ++ l) (joined-append us vs) ∙ sym (append_assoc (piece_bytes u) (joined us) (joined vs))
+joined-append (u ∷ us) vs = ap (λ l. piece_bytes u ++ l) (joined-append us vs) ∙ sym (append_assoc (piece_bytes u) (bytes_of_pieces us) (bytes_of_pieces vs))
 
 -- ---- two lists of pieces that go on alike
 
@@ -92,7 +92,7 @@ pub record Ahead (end : Type 0) (done tail done' tail' : List Piece) (rest rest'
   pub next : Piece
   pub others : List Piece
   pub further : done' ≡ done ++ (next ∷ others)
-  pub bytes : rest ≡ piece_bytes next ++ (joined others ++ rest')
+  pub bytes : rest ≡ piece_bytes next ++ (bytes_of_pieces others ++ rest')
   pub alike : Alike end tail (next ∷ (others ++ tail'))
 
 -- both stop at one place
@@ -110,14 +110,14 @@ alike_sym end (content a ∷ us) (number b ∷ vs) alike = absurd alike.0
 alike_sym end [] (v ∷ vs) alike = absurd alike
 alike_sym end (u ∷ us) [] alike = absurd alike
 
-pub walk : (end : Type 0) (done tail done' tail' : List Piece) (rest rest' : List ℕ) → Alike end (done ++ tail) (done' ++ tail') → joined done ++ rest ≡ joined done' ++ rest' → Together end done tail done' tail' rest rest' ⊎ (Ahead end done tail done' tail' rest rest' ⊎ Ahead end done' tail' done tail rest' rest)
+pub walk : (end : Type 0) (done tail done' tail' : List Piece) (rest rest' : List ℕ) → Alike end (done ++ tail) (done' ++ tail') → bytes_of_pieces done ++ rest ≡ bytes_of_pieces done' ++ rest' → Together end done tail done' tail' rest rest' ⊎ (Ahead end done tail done' tail' rest rest' ⊎ Ahead end done' tail' done tail rest' rest)
 walk end [] tail [] tail' rest rest' alike bytes = inl (record { same = refl; bytes = bytes; alike = alike })
 walk end [] tail (v ∷ done') tail' rest rest' alike bytes =
-    inr (inl (record { next = v; others = done'; further = refl; bytes = bytes ∙ append_assoc (piece_bytes v) (joined done') rest'; alike = alike }))
+    inr (inl (record { next = v; others = done'; further = refl; bytes = bytes ∙ append_assoc (piece_bytes v) (bytes_of_pieces done') rest'; alike = alike }))
 walk end (u ∷ done) tail [] tail' rest rest' alike bytes =
-    inr (inr (record { next = u; others = done; further = refl; bytes = sym bytes ∙ append_assoc (piece_bytes u) (joined done) rest; alike = alike_sym end (u ∷ (done ++ tail)) tail' alike }))
+    inr (inr (record { next = u; others = done; further = refl; bytes = sym bytes ∙ append_assoc (piece_bytes u) (bytes_of_pieces done) rest; alike = alike_sym end (u ∷ (done ++ tail)) tail' alike }))
 walk end (u ∷ done) tail (v ∷ done') tail' rest rest' alike bytes =
-    let first = piece_same u v (joined done ++ rest) (joined done' ++ rest') alike.0 (sym (append_assoc (piece_bytes u) (joined done) rest) ∙ bytes ∙ append_assoc (piece_bytes v) (joined done') rest') in
+    let first = piece_same u v (bytes_of_pieces done ++ rest) (bytes_of_pieces done' ++ rest') alike.0 (sym (append_assoc (piece_bytes u) (bytes_of_pieces done) rest) ∙ bytes ∙ append_assoc (piece_bytes v) (bytes_of_pieces done') rest') in
     elim (walk end done tail done' tail' rest rest' (alike.1 first.0) first.1) [
       | inl t ↦ inl (record { same = λ i. first.0 i ∷ t.same i; bytes = t.bytes; alike = t.alike })
       | inr both ↦ elim both [

@@ -10,7 +10,7 @@ use Rattle.circus_value.specs.ShapeTree as S
 use Rattle.circus_value.specs.declared.shape.Label.{Label}
 use Rattle.circus_value.specs.Fits.{fits, fields_fit, arm_fits, is_truth, is_cardinal, is_long_cardinal, is_integer, is_long_integer, is_text, is_labelled, is_array, is_sequence, is_record, is_choice, every, count_of}
 use Rattle.circus_external.specs.Octets.{word, long}
-use Rattle.circus_external.specs.Spelling.{contents, pad, truth_number, pieces, pieces_of_items, joined, spelling, spelling_of_all, fields_admit}
+use Rattle.circus_external.specs.Spelling.{contents, pad, truth_number, pieces, pieces_of_items, bytes_of_pieces, spelling, spelling_of_all, fields_admit}
 use Rattle.circus_value.specs.Parts.{AreOctets}
 use Rattle.circus_value.proofs.Octets.{none_octets, both_octets}
 use Rattle.circus_external.proofs.Alike.{joined-append}
@@ -62,7 +62,7 @@ long_integer_are _ fit = cc
 text_are : (v : ValueTree) → is_text v ≡ true → AreOctets (spelling v)
 text_are (V.text bytes) fit =
     let all = (and_both (nat_lt (length bytes) 65536) (list_all (λ b. nat_lt b 256) bytes) fit).1 in
-    both_octets (word (length bytes)) (joined (contents bytes)) (word_octets (length bytes))
+    both_octets (word (length bytes)) (bytes_of_pieces (contents bytes)) (word_octets (length bytes))
     (subst AreOctets (sym (content_given (length bytes) bytes refl)) (both_octets bytes (pad (length bytes)) (text_octets bytes all) (zeros_are (length bytes % 2))))
 text_are _ fit = cc
 
@@ -70,11 +70,11 @@ label_are : (labels : List Label) (v : ValueTree) → is_labelled labels v ≡ t
 label_are labels (V.enumeration n) fit = word_octets n
 label_are labels _ fit = cc
 
-items_are : (p : ValueTree → Bool) → ((t : ValueTree) → p t ≡ true → AreOctets (spelling t)) → (ts : ValueTrees) → every p ts ≡ true → AreOctets (joined (pieces_of_items ts))
+items_are : (p : ValueTree → Bool) → ((t : ValueTree) → p t ≡ true → AreOctets (spelling t)) → (ts : ValueTrees) → every p ts ≡ true → AreOctets (bytes_of_pieces (pieces_of_items ts))
 items_are p each none all = none_octets
 items_are p each (more t ts) all =
     let q = and_both (p t) (every p ts) all in
-    subst AreOctets (sym (joined-append (pieces t) (pieces_of_items ts))) (both_octets (spelling t) (joined (pieces_of_items ts)) (each t q.0) (items_are p each ts q.1))
+    subst AreOctets (sym (joined-append (pieces t) (pieces_of_items ts))) (both_octets (spelling t) (bytes_of_pieces (pieces_of_items ts)) (each t q.0) (items_are p each ts q.1))
 
 array_are : (len : ℕ) (p : ValueTree → Bool) → ((t : ValueTree) → p t ≡ true → AreOctets (spelling t)) → (v : ValueTree) → is_array len p v ≡ true → AreOctets (spelling v)
 array_are len p each (V.array ts) fit = items_are p each ts (and_both (nat_eq (count_of ts) len) (every p ts) fit).1
@@ -82,10 +82,10 @@ array_are len p each _ fit = cc
 
 sequence_are : (bound : ℕ) (p : ValueTree → Bool) → ((t : ValueTree) → p t ≡ true → AreOctets (spelling t)) → (v : ValueTree) → is_sequence bound p v ≡ true → AreOctets (spelling v)
 sequence_are bound p each (V.sequence ts) fit =
-    both_octets (word (count_of ts)) (joined (pieces_of_items ts)) (word_octets (count_of ts)) (items_are p each ts (and_both (nat_le (count_of ts) bound) (every p ts) fit).1)
+    both_octets (word (count_of ts)) (bytes_of_pieces (pieces_of_items ts)) (word_octets (count_of ts)) (items_are p each ts (and_both (nat_le (count_of ts) bound) (every p ts) fit).1)
 sequence_are bound p each _ fit = cc
 
-record_are : (p : ValueTrees → Bool) → ((ts : ValueTrees) → p ts ≡ true → AreOctets (joined (pieces_of_items ts))) → (v : ValueTree) → is_record p v ≡ true → AreOctets (spelling v)
+record_are : (p : ValueTrees → Bool) → ((ts : ValueTrees) → p ts ≡ true → AreOctets (bytes_of_pieces (pieces_of_items ts))) → (v : ValueTree) → is_record p v ≡ true → AreOctets (spelling v)
 record_are p each (V.«record» ts) fit = each ts fit
 record_are p each _ fit = cc
 
@@ -107,13 +107,13 @@ mutual
   spelled_octets (S.«record» fs) = record_are (fields_fit fs) (items_octets fs)
   spelled_octets (S.choice arms) = choice_are (arm_fits arms) (arm_octets arms)
 
-  items_octets : (fs : FieldTrees) (ts : ValueTrees) → fields_fit fs ts ≡ true → AreOctets (joined (pieces_of_items ts))
+  items_octets : (fs : FieldTrees) (ts : ValueTrees) → fields_fit fs ts ≡ true → AreOctets (bytes_of_pieces (pieces_of_items ts))
   items_octets no_fields none fit = none_octets
   items_octets no_fields (more t ts) fit = cc
   items_octets (more_fields name s fs) none fit = cc
   items_octets (more_fields name s fs) (more t ts) fit =
       let q = and_both (fits s t) (fields_fit fs ts) fit in
-      subst AreOctets (sym (joined-append (pieces t) (pieces_of_items ts))) (both_octets (spelling t) (joined (pieces_of_items ts)) (spelled_octets s t q.0) (items_octets fs ts q.1))
+      subst AreOctets (sym (joined-append (pieces t) (pieces_of_items ts))) (both_octets (spelling t) (bytes_of_pieces (pieces_of_items ts)) (spelled_octets s t q.0) (items_octets fs ts q.1))
 
   arm_octets : (arms : ArmTrees) (n : ℕ) (t : ValueTree) → arm_fits arms n t ≡ true → AreOctets (spelling t)
   arm_octets no_arms n t fit = cc

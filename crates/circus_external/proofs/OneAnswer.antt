@@ -1,6 +1,6 @@
 -- Bytes have one answer, where the spellings of any two admitted values go on alike.
 use Rattle.std.proofs.Common.{◌≡◌, ◌≢◌, inl, inr, ℕ, ◌+◌, ◌%◌, ◌<◌, Bool, true, List, [], ◌∷◌, ◌++◌, length, refl, sym, ap, ◌∙◌, subst, arith, append_assoc, append-nil, length-append}
-use Rattle.circus_external.specs.Spelling.{Piece, number, content, pad, piece_bytes, joined}
+use Rattle.circus_external.specs.Spelling.{Piece, number, content, pad, piece_bytes, bytes_of_pieces}
 use Rattle.circus_external.specs.Answer.{Answer, found, short, not_a_value, bad_pad}
 use Rattle.circus_external.specs.Refusal.{GoesOn, IsAnswer}
 use Rattle.circus_external.proofs.Alike.{SameForm, Alike, append_same, form_size, piece_same, walk, Together}
@@ -42,7 +42,7 @@ pub record Stop {X : Type 0} (admits : X → Bool) (pieces_of : X → List Piece
   pub rest : List ℕ
   pub admitted : admits value ≡ true
   pub pieces : pieces_of value ≡ done ++ tail
-  pub whole : bytes ≡ joined done ++ rest
+  pub whole : bytes ≡ bytes_of_pieces done ++ rest
 
 met : {X : Type 0} (admits : X → Bool) (pieces_of : X → List Piece) (bytes : List ℕ) (a b : Stop admits pieces_of bytes) (end : Type 0)
     → Alike end (pieces_of a.value) (pieces_of b.value) → Halts admits pieces_of end a.done a.tail a.rest → Halts admits pieces_of end b.done b.tail b.rest
@@ -52,13 +52,13 @@ met admits pieces_of bytes a b end alike halts halts' =
     elim (walk end a.done a.tail b.done b.tail a.rest b.rest along (sym a.whole ∙ b.whole)) [
       | inl t ↦ t
       | inr both ↦ elim both [
-        | inl h ↦ absurd (halts h.next (h.others ++ b.tail) (joined h.others ++ b.rest) h.alike h.bytes (record {
+        | inl h ↦ absurd (halts h.next (h.others ++ b.tail) (bytes_of_pieces h.others ++ b.rest) h.alike h.bytes (record {
           value = b.value;
           admitted = b.admitted;
           others = h.others ++ b.tail;
           pieces = b.pieces ∙ ap (λ ps. ps ++ b.tail) h.further ∙ append_assoc a.done (h.next ∷ h.others) b.tail;
         }))
-        | inr h ↦ absurd (halts' h.next (h.others ++ a.tail) (joined h.others ++ a.rest) h.alike h.bytes (record {
+        | inr h ↦ absurd (halts' h.next (h.others ++ a.tail) (bytes_of_pieces h.others ++ a.rest) h.alike h.bytes (record {
           value = a.value;
           admitted = a.admitted;
           others = h.others ++ a.tail;
@@ -110,15 +110,15 @@ form_sym (content a) (number b) same = absurd same
 
 agree : {X : Type 0} (admits : X → Bool) (pieces_of : X → List Piece) (at : ℕ) (bytes : List ℕ) (a b : Answer X) (is : IsAnswer admits pieces_of at bytes a) (js : IsAnswer admits pieces_of at bytes b) → Meets admits pieces_of at bytes a b is js → a ≡ b
 agree admits pieces_of at bytes (found v next rest) (found w next' rest') is js m =
-    let there : next ≡ next' = same_place at is.0 js.0 next next' is.1 js.1 (is.2.offset_is ∙ ap (λ d. length (joined d)) m.same ∙ sym js.2.offset_is) in
+    let there : next ≡ next' = same_place at is.0 js.0 next next' is.1 js.1 (is.2.offset_is ∙ ap (λ d. length (bytes_of_pieces d)) m.same ∙ sym js.2.offset_is) in
     (λ i. found (m.alike i) (there i) (m.bytes i))
 agree admits pieces_of at bytes (short p) (short q) is js m =
-    ap short (same_place at is.0 js.0 p q is.1 js.1 (is.2.offset_is ∙ ap (λ d. length (joined d)) m.same ∙ sym js.2.offset_is))
+    ap short (same_place at is.0 js.0 p q is.1 js.1 (is.2.offset_is ∙ ap (λ d. length (bytes_of_pieces d)) m.same ∙ sym js.2.offset_is))
 agree admits pieces_of at bytes (not_a_value p) (not_a_value q) is js m =
-    ap not_a_value (same_place at is.0 js.0 p q is.1 js.1 (is.2.offset_is ∙ ap (λ d. length (joined d)) m.same ∙ sym js.2.offset_is))
+    ap not_a_value (same_place at is.0 js.0 p q is.1 js.1 (is.2.offset_is ∙ ap (λ d. length (bytes_of_pieces d)) m.same ∙ sym js.2.offset_is))
 agree admits pieces_of at bytes (bad_pad p) (bad_pad q) is js m =
     let strings : length is.2.string ≡ length js.2.string = is.2.size ∙ m.alike.0 ∙ sym js.2.size in
-    ap bad_pad (same_place at is.0 js.0 p q is.1 js.1 (is.2.offset_is ∙ (λ i. length (joined (m.same i)) + strings i) ∙ sym js.2.offset_is))
+    ap bad_pad (same_place at is.0 js.0 p q is.1 js.1 (is.2.offset_is ∙ (λ i. length (bytes_of_pieces (m.same i)) + strings i) ∙ sym js.2.offset_is))
 agree admits pieces_of at bytes (found v next rest) (short q) is js m = absurd m.alike
 agree admits pieces_of at bytes (found v next rest) (not_a_value q) is js m = absurd m.alike
 agree admits pieces_of at bytes (found v next rest) (bad_pad q) is js m = absurd m.alike
@@ -146,10 +146,10 @@ one_answer admits pieces_of each at bytes a b is js =
 
 -- ---- no spelling begins another
 
-pub begins_alone : (end : Type 0) (us vs : List Piece) (x y : List ℕ) → Alike end us vs → joined us ++ x ≡ joined vs ++ y → end × (x ≡ y)
+pub begins_alone : (end : Type 0) (us vs : List Piece) (x y : List ℕ) → Alike end us vs → bytes_of_pieces us ++ x ≡ bytes_of_pieces vs ++ y → end × (x ≡ y)
 begins_alone end [] [] x y alike same = (alike, same)
 begins_alone end (u ∷ us) (v ∷ vs) x y alike same =
-    let first = piece_same u v (joined us ++ x) (joined vs ++ y) alike.0 (sym (append_assoc (piece_bytes u) (joined us) x) ∙ same ∙ append_assoc (piece_bytes v) (joined vs) y) in
+    let first = piece_same u v (bytes_of_pieces us ++ x) (bytes_of_pieces vs ++ y) alike.0 (sym (append_assoc (piece_bytes u) (bytes_of_pieces us) x) ∙ same ∙ append_assoc (piece_bytes v) (bytes_of_pieces vs) y) in
     begins_alone end us vs x y (alike.1 first.0) first.1
 begins_alone end [] (v ∷ vs) x y alike same = absurd alike
 begins_alone end (u ∷ us) [] x y alike same = absurd alike

@@ -8,11 +8,11 @@ use Rattle.std.proofs.lemmas.List.{take-append-drop, length-replicate, length-ta
 use Rattle.std.proofs.Math.Dec.{eqb-suc-zero}
 use Rattle.std.proofs.Math.Seq.{drop-cons}
 use Rattle.circus_external.specs.Octets.{word, long}
-use Rattle.circus_external.specs.Spelling.{Piece, number, content, contents, pad, joined}
+use Rattle.circus_external.specs.Spelling.{Piece, number, content, contents, pad, bytes_of_pieces}
 use Rattle.circus_external.specs.Answer.{found, short, bad_pad}
 use Rattle.circus_value.specs.Parts.{AreOctets}
 use Rattle.circus_external.specs.Refusal.{GoesOn}
-use Rattle.circus_external.specs.Reading.{meant, one_word, two_words, is_bad_pad, content_read}
+use Rattle.circus_external.specs.Reading.{meaning_or_fault, one_word, two_words, is_bad_pad, content_read}
 use Rattle.circus_external.proofs.ShapesAlike.{and_both}
 use Rattle.circus_external.proofs.Sound.{Sound}
 
@@ -34,10 +34,10 @@ missing_sound {digits = digits} m at bytes few = λ holds.
 
 number_sound : {X : Type 0} {h : Type 0} {bound : ℕ} {digits : ℕ → List ℕ} {admits : X → Bool} {pieces_of : X → List Piece} {mean : ℕ → Option X} → Meaning h bound digits admits pieces_of mean
     → (at n size : ℕ) (bytes rest : List ℕ) → n < bound → bytes ≡ digits n ++ rest → size ≡ length (digits n) → ((k : ℕ) → length (digits k) ≡ size)
-    → (o : Option X) → mean n ≡ o → Sound h admits pieces_of at bytes (meant o at (at + size) rest)
+    → (o : Option X) → mean n ≡ o → Sound h admits pieces_of at bytes (meaning_or_fault o at (at + size) rest)
 number_sound {digits = digits} {pieces_of = pieces_of} m at n size bytes rest few whole sized sizes (Some x) is =
     let p = m.means n x few is in
-    let all : joined (pieces_of x) ≡ digits n = ap joined p.1 ∙ append-nil (digits n) in
+    let all : bytes_of_pieces (pieces_of x) ≡ digits n = ap bytes_of_pieces p.1 ∙ append-nil (digits n) in
     (size, refl, record { admitted = p.0; whole = whole ∙ ap (λ l. l ++ rest) (sym all); offset_is = sized ∙ ap length (sym all) })
 number_sound {digits = digits} m at n size bytes rest few whole sized sizes None is = λ holds. (
   0,
@@ -145,7 +145,7 @@ pad_there n bytes enough good =
           (sym (take-append-drop n bytes) ∙ ap (λ l. take n bytes ++ l) (drop-cons bytes n 0 within ∙ (λ i. last i ∷ drop (here i) bytes)))
     ]
 
-pub content_given : (n : ℕ) (bytes : List ℕ) → length bytes ≡ n → joined (contents bytes) ≡ bytes ++ pad n
+pub content_given : (n : ℕ) (bytes : List ℕ) → length bytes ≡ n → bytes_of_pieces (contents bytes) ≡ bytes ++ pad n
 content_given n [] size = ap pad size
 content_given n (b ∷ bytes) size = append-nil ((b ∷ bytes) ++ pad (length (b ∷ bytes))) ∙ ap (λ m. (b ∷ bytes) ++ pad m) size
 

@@ -18,7 +18,7 @@ use Rattle.circus_external.specs.Spelling.{Piece, number, contents, pieces, piec
 use Rattle.circus_external.specs.Answer.{Answer, found, short, not_a_value, bad_pad}
 use Rattle.circus_value.specs.Parts.{AreOctets}
 use Rattle.circus_external.specs.Refusal.{is_proper, are_proper, arms_are_proper, has_arm}
-use Rattle.circus_external.specs.Reading.{and_then, answer_map, word_read, meant, truth_of, label_of, one_word, content_read, items_read, count_within, sequence_read, reading, fields_reading, arm_reading}
+use Rattle.circus_external.specs.Reading.{and_then, answer_map, word_read, meaning_or_fault, truth_of, label_of, one_word, content_read, items_read, count_within, sequence_read, reading, fields_reading, arm_reading}
 use Rattle.circus_external.proofs.Alike.{Alike}
 use Rattle.circus_external.proofs.ShapesAlike.{and_both, word_same, word_first, EachAlike, alike}
 use Rattle.circus_external.proofs.Sound.{Sound, sound_weaker, Joint, then_sound, Seen, seen_sound}
@@ -330,11 +330,11 @@ arm_unnamed (more_arms name k s arms) at n next rest named =
       | false ↦ λ x. arm_unnamed arms at n next rest x
     ] named
 
-arm_tested : (arms : ArmTrees) (at n next : ℕ) (rest : List ℕ) (b : Bool) → names arms n ≡ b → and_then (meant (cond b (Some n) None) at next rest) (λ m later bytes. answer_map (λ t. V.choice m t) (arm_only arms m later bytes)) ≡ arm_reading arms at n next rest
+arm_tested : (arms : ArmTrees) (at n next : ℕ) (rest : List ℕ) (b : Bool) → names arms n ≡ b → and_then (meaning_or_fault (cond b (Some n) None) at next rest) (λ m later bytes. answer_map (λ t. V.choice m t) (arm_only arms m later bytes)) ≡ arm_reading arms at n next rest
 arm_tested arms at n next rest true named = arm_named arms at n next rest named
 arm_tested arms at n next rest false named = arm_unnamed arms at n next rest named
 
-choice_is : (arms : ArmTrees) (at : ℕ) (a : Answer ℕ) → and_then (and_then a (λ n next rest. meant (cond (names arms n) (Some n) None) at next rest)) (λ m later bytes. answer_map (λ t. V.choice m t) (arm_only arms m later bytes)) ≡ and_then a (arm_reading arms at)
+choice_is : (arms : ArmTrees) (at : ℕ) (a : Answer ℕ) → and_then (and_then a (λ n next rest. meaning_or_fault (cond (names arms n) (Some n) None) at next rest)) (λ m later bytes. answer_map (λ t. V.choice m t) (arm_only arms m later bytes)) ≡ and_then a (arm_reading arms at)
 choice_is arms at (found n next rest) = arm_tested arms at n next rest (names arms n) refl
 choice_is arms at (short p) = refl
 choice_is arms at (not_a_value p) = refl

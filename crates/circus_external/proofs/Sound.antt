@@ -1,6 +1,6 @@
 -- Reading answers what the bytes have: one reading behind another.
 use Rattle.std.proofs.Common.{◌≡◌, ℕ, suc, ◌+◌, Bool, true, List, [], ◌∷◌, ◌++◌, length, refl, sym, ap, ◌∙◌, subst, arith, append_assoc, length-append}
-use Rattle.circus_external.specs.Spelling.{Piece, number, content, joined}
+use Rattle.circus_external.specs.Spelling.{Piece, number, content, bytes_of_pieces}
 use Rattle.circus_external.specs.Answer.{Answer, found, short, not_a_value, bad_pad}
 use Rattle.circus_value.specs.Parts.{AreOctets}
 use Rattle.circus_external.specs.Refusal.{GoesOn, IsShort, IsNotAValue, IsBadPad, IsFound, From, IsAnswer}
@@ -40,12 +40,12 @@ pub record Joint {X Y Z : Type 0} (h : Type 0) (first : X → Bool) (first_piece
   pub each : h → (x x' : X) → first x ≡ true → first x' ≡ true → Alike (x ≡ x') (first_pieces x) (first_pieces x')
   pub some : h → (x : X) → first x ≡ true → (y : Y) × (second x y ≡ true)
 
-lift_whole : (bytes rest tail : List ℕ) (us vs : List Piece) → bytes ≡ joined us ++ rest → rest ≡ joined vs ++ tail → bytes ≡ joined (us ++ vs) ++ tail
+lift_whole : (bytes rest tail : List ℕ) (us vs : List Piece) → bytes ≡ bytes_of_pieces us ++ rest → rest ≡ bytes_of_pieces vs ++ tail → bytes ≡ bytes_of_pieces (us ++ vs) ++ tail
 lift_whole bytes rest tail us vs e f =
-    e ∙ ap (λ l. joined us ++ l) f ∙ sym (append_assoc (joined us) (joined vs) tail) ∙ ap (λ l. l ++ tail) (sym (joined-append us vs))
+    e ∙ ap (λ l. bytes_of_pieces us ++ l) f ∙ sym (append_assoc (bytes_of_pieces us) (bytes_of_pieces vs) tail) ∙ ap (λ l. l ++ tail) (sym (joined-append us vs))
 
-lift_length : (us vs : List Piece) → length (joined (us ++ vs)) ≡ length (joined us) + length (joined vs)
-lift_length us vs = ap length (joined-append us vs) ∙ length-append (joined us) (joined vs)
+lift_length : (us vs : List Piece) → length (bytes_of_pieces (us ++ vs)) ≡ length (bytes_of_pieces us) + length (bytes_of_pieces vs)
+lift_length us vs = ap length (joined-append us vs) ∙ length-append (bytes_of_pieces us) (bytes_of_pieces vs)
 
 -- a piece of the second part, behind the first
 second_goes : {X Y Z : Type 0} {h : Type 0} {first : X → Bool} {first_pieces : X → List Piece} {second : X → Y → Bool} {second_pieces : Y → List Piece} {admits : Z → Bool} {pieces_of : Z → List Piece} {both : X → Y → Z} → Joint h first first_pieces second second_pieces admits pieces_of both
@@ -102,13 +102,13 @@ second_sound : {X Y Z : Type 0} {h : Type 0} {first : X → Bool} {first_pieces 
 second_sound {first_pieces = first_pieces} {second_pieces = second_pieces} {pieces_of = pieces_of} {both = both} j at bytes x next rest begun (found y next' rest') is =
     let f = begun.2 in
     let s = is.2 in
-    let size : length (joined (pieces_of (both x y))) ≡ begun.0 + is.0 =
-    ap (λ ps. length (joined ps)) (j.spelled x y s.admitted) ∙ lift_length (first_pieces x) (second_pieces y) ∙ (λ i. sym f.offset_is i + sym s.offset_is i) in (
-      length (joined (pieces_of (both x y))),
+    let size : length (bytes_of_pieces (pieces_of (both x y))) ≡ begun.0 + is.0 =
+    ap (λ ps. length (bytes_of_pieces ps)) (j.spelled x y s.admitted) ∙ lift_length (first_pieces x) (second_pieces y) ∙ (λ i. sym f.offset_is i + sym s.offset_is i) in (
+      length (bytes_of_pieces (pieces_of (both x y))),
       further at next next' begun.0 is.0 _ begun.1 is.1 size,
       record {
         admitted = j.admitted x y f.admitted s.admitted;
-        whole = lift_whole bytes rest rest' (first_pieces x) (second_pieces y) f.whole s.whole ∙ ap (λ ps. joined ps ++ rest') (sym (j.spelled x y s.admitted));
+        whole = lift_whole bytes rest rest' (first_pieces x) (second_pieces y) f.whole s.whole ∙ ap (λ ps. bytes_of_pieces ps ++ rest') (sym (j.spelled x y s.admitted));
         offset_is = refl;
       },
     )
@@ -116,8 +116,8 @@ second_sound {first_pieces = first_pieces} j at bytes x next rest begun (short p
     let f = begun.2 in
     let o = is holds in
     let s = o.2 in
-    let size : length (joined (first_pieces x ++ s.done)) ≡ begun.0 + o.0 = lift_length (first_pieces x) s.done ∙ (λ i. sym f.offset_is i + sym s.offset_is i) in (
-      length (joined (first_pieces x ++ s.done)),
+    let size : length (bytes_of_pieces (first_pieces x ++ s.done)) ≡ begun.0 + o.0 = lift_length (first_pieces x) s.done ∙ (λ i. sym f.offset_is i + sym s.offset_is i) in (
+      length (bytes_of_pieces (first_pieces x ++ s.done)),
       further at next place begun.0 o.0 _ begun.1 o.1 size,
       record {
         done = first_pieces x ++ s.done;
@@ -133,8 +133,8 @@ second_sound {first_pieces = first_pieces} j at bytes x next rest begun (not_a_v
     let f = begun.2 in
     let o = is holds in
     let s = o.2 in
-    let size : length (joined (first_pieces x ++ s.done)) ≡ begun.0 + o.0 = lift_length (first_pieces x) s.done ∙ (λ i. sym f.offset_is i + sym s.offset_is i) in (
-      length (joined (first_pieces x ++ s.done)),
+    let size : length (bytes_of_pieces (first_pieces x ++ s.done)) ≡ begun.0 + o.0 = lift_length (first_pieces x) s.done ∙ (λ i. sym f.offset_is i + sym s.offset_is i) in (
+      length (bytes_of_pieces (first_pieces x ++ s.done)),
       further at next place begun.0 o.0 _ begun.1 o.1 size,
       record {
         done = first_pieces x ++ s.done;
@@ -152,9 +152,9 @@ second_sound {first_pieces = first_pieces} j at bytes x next rest begun (bad_pad
     let f = begun.2 in
     let o = is holds in
     let s = o.2 in
-    let size : length (joined (first_pieces x ++ s.done)) + length s.string ≡ begun.0 + o.0 =
+    let size : length (bytes_of_pieces (first_pieces x ++ s.done)) + length s.string ≡ begun.0 + o.0 =
     omega (arith, lift_length (first_pieces x) s.done, f.offset_is, s.offset_is) in (
-      length (joined (first_pieces x ++ s.done)) + length s.string,
+      length (bytes_of_pieces (first_pieces x ++ s.done)) + length s.string,
       further at next place begun.0 o.0 _ begun.1 o.1 size,
       record {
         done = first_pieces x ++ s.done;
@@ -177,7 +177,7 @@ pub then_sound : {X Y Z : Type 0} {h : Type 0} {first : X → Bool} {first_piece
     → (b : X → ℕ → List ℕ → Answer Y) → ((x : X) (next : ℕ) (rest : List ℕ) → first x ≡ true → AreOctets rest → Sound h (second x) second_pieces next rest (b x next rest))
     → Sound h admits pieces_of at bytes (and_then a (λ x next rest. answer_map (both x) (b x next rest)))
 then_sound {first_pieces = first_pieces} j at bytes are (found x next rest) is b each =
-    second_sound j at bytes x next rest is (b x next rest) (each x next rest is.2.admitted (octets_behind (joined (first_pieces x)) rest (subst AreOctets is.2.whole are)))
+    second_sound j at bytes x next rest is (b x next rest) (each x next rest is.2.admitted (octets_behind (bytes_of_pieces (first_pieces x)) rest (subst AreOctets is.2.whole are)))
 then_sound j at bytes are (short p) is b each = λ holds. let o = is holds in let s = o.2 in
     (o.0, o.1, record { done = s.done; next = s.next; rest = s.rest; goes_on = first_goes j holds s.done s.next s.goes_on; whole = s.whole; missing = s.missing; offset_is = s.offset_is })
 then_sound j at bytes are (not_a_value p) is b each = λ holds. let o = is holds in let s = o.2 in (

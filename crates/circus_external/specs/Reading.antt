@@ -38,9 +38,9 @@ abbrev pub long_read : ℕ → List ℕ → Answer ℕ
 long_read at bytes = number_read (first_long bytes) 4 at bytes
 
 -- the value that a number stands for, where it stands for one
-abbrev pub meant : {X : Type 0} → Option X → ℕ → ℕ → List ℕ → Answer X
-meant (Some x) at next rest = found x next rest
-meant None at next rest = not_a_value at
+abbrev pub meaning_or_fault : {X : Type 0} → Option X → ℕ → ℕ → List ℕ → Answer X
+meaning_or_fault (Some x) at next rest = found x next rest
+meaning_or_fault None at next rest = not_a_value at
 
 -- a truth value
 abbrev pub truth_of : ℕ → Option ValueTree
@@ -52,11 +52,11 @@ label_of labels n = cond (list_any (λ (l : Label). l.number == n) labels) (Some
 
 -- a value that one word stands for
 abbrev pub one_word : {X : Type 0} → (ℕ → Option X) → ℕ → List ℕ → Answer X
-one_word mean at bytes = and_then (word_read at bytes) (λ n next rest. meant (mean n) at next rest)
+one_word mean at bytes = and_then (word_read at bytes) (λ n next rest. meaning_or_fault (mean n) at next rest)
 
 -- a value that two words stand for
 abbrev pub two_words : {X : Type 0} → (ℕ → Option X) → ℕ → List ℕ → Answer X
-two_words mean at bytes = and_then (long_read at bytes) (λ n next rest. meant (mean n) at next rest)
+two_words mean at bytes = and_then (long_read at bytes) (λ n next rest. meaning_or_fault (mean n) at next rest)
 
 -- so many bytes are odd in number, and another byte than zero stands behind them
 abbrev pub is_bad_pad : ℕ → List ℕ → Bool

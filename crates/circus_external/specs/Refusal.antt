@@ -3,7 +3,7 @@ use Rattle.std.specs.Prelude.{◌≡◌, ◌≢◌, ℕ, ◌+◌, ◌%◌, ◌<�
 use Rattle.std.specs.List.{list_any}
 use Rattle.circus_value.specs.ShapeTree.{ShapeTree, FieldTrees, ArmTrees, boolean, cardinal, long_cardinal, integer, long_integer, text, enumeration, array, sequence, «record», choice, no_fields, more_fields, no_arms, more_arms}
 use Rattle.circus_value.specs.declared.shape.Label.{Label}
-use Rattle.circus_external.specs.Spelling.{Piece, number, content, piece_bytes, joined}
+use Rattle.circus_external.specs.Spelling.{Piece, number, content, piece_bytes, bytes_of_pieces}
 use Rattle.circus_external.specs.Answer.{Answer, found, short, not_a_value, bad_pad}
 
 -- behind these pieces, this piece stands in some value that is admitted
@@ -19,9 +19,9 @@ pub record IsShort {X : Type 0} (admits : X → Bool) (pieces_of : X → List Pi
   pub next : Piece
   pub rest : List ℕ
   pub goes_on : GoesOn admits pieces_of done next
-  pub whole : bytes ≡ joined done ++ rest
+  pub whole : bytes ≡ bytes_of_pieces done ++ rest
   pub missing : length rest < length (piece_bytes next)
-  pub offset_is : offset ≡ length (joined done)
+  pub offset_is : offset ≡ length (bytes_of_pieces done)
 
 -- they are whole pieces of some value, whose next is a number, and then a number that no value goes on with
 pub record IsNotAValue {X : Type 0} (admits : X → Bool) (pieces_of : X → List Piece) (bytes : List ℕ) (offset : ℕ) : Type 0 where
@@ -30,10 +30,10 @@ pub record IsNotAValue {X : Type 0} (admits : X → Bool) (pieces_of : X → Lis
   pub digits : List ℕ
   pub rest : List ℕ
   pub goes_on : GoesOn admits pieces_of done (number next)
-  pub whole : bytes ≡ joined done ++ (digits ++ rest)
+  pub whole : bytes ≡ bytes_of_pieces done ++ (digits ++ rest)
   pub size : length digits ≡ length next
   pub refused : GoesOn admits pieces_of done (number digits) → ⊥
-  pub offset_is : offset ≡ length (joined done)
+  pub offset_is : offset ≡ length (bytes_of_pieces done)
 
 -- they are whole pieces of some value, whose next is an odd number of bytes, and then as many bytes and one that isn't zero
 pub record IsBadPad {X : Type 0} (admits : X → Bool) (pieces_of : X → List Piece) (bytes : List ℕ) (offset : ℕ) : Type 0 where
@@ -44,16 +44,16 @@ pub record IsBadPad {X : Type 0} (admits : X → Bool) (pieces_of : X → List P
   pub rest : List ℕ
   pub goes_on : GoesOn admits pieces_of done (content next)
   pub odd : length next % 2 ≡ 1
-  pub whole : bytes ≡ joined done ++ (string ++ (last ∷ rest))
+  pub whole : bytes ≡ bytes_of_pieces done ++ (string ++ (last ∷ rest))
   pub size : length string ≡ length next
   pub not_zero : last ≢ 0
-  pub offset_is : offset ≡ length (joined done) + length string
+  pub offset_is : offset ≡ length (bytes_of_pieces done) + length string
 
 -- the bytes begin with those of the value, and this stands behind
 pub record IsFound {X : Type 0} (admits : X → Bool) (pieces_of : X → List Piece) (bytes : List ℕ) (value : X) (offset : ℕ) (rest : List ℕ) : Type 0 where
   pub admitted : admits value ≡ true
-  pub whole : bytes ≡ joined (pieces_of value) ++ rest
-  pub offset_is : offset ≡ length (joined (pieces_of value))
+  pub whole : bytes ≡ bytes_of_pieces (pieces_of value) ++ rest
+  pub offset_is : offset ≡ length (bytes_of_pieces (pieces_of value))
 
 -- a place is an offset from here on
 abbrev pub From : (ℕ → Type 0) → ℕ → ℕ → Type 0

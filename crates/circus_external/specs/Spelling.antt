@@ -55,16 +55,16 @@ abbrev pub pieces_of_all : List ValueTree → List Piece
 pieces_of_all ts = pieces_of_items (value_trees ts)
 
 -- the bytes of pieces one after another
-abbrev pub joined : List Piece → List ℕ
-joined ps = flat_map piece_bytes ps
+abbrev pub bytes_of_pieces : List Piece → List ℕ
+bytes_of_pieces ps = flat_map piece_bytes ps
 
 -- the bytes of a value
 abbrev pub spelling : ValueTree → List ℕ
-spelling t = joined (pieces t)
+spelling t = bytes_of_pieces (pieces t)
 
 -- the bytes of values one after another
 abbrev pub spelling_of_all : List ValueTree → List ℕ
-spelling_of_all ts = joined (pieces_of_all ts)
+spelling_of_all ts = bytes_of_pieces (pieces_of_all ts)
 
 -- the bytes are those of a value of the shape
 pub record IsSpelling (shape : ShapeTree) (value : ValueTree) (bytes : List ℕ) : Type 0 where

@@ -24,5 +24,5 @@ pub use laws::{
 pub use piece::{read_long, read_word, write_content, write_long, write_word};
 pub use proper::is_proper;
 pub use reading::{read_fields, read_from};
-pub use source::{ByteSource, copied, long_at, word_at};
+pub use source::{ByteSource, copy_range, long_at, word_at};
 pub use writing::{write, write_all};

@@ -1,11 +1,11 @@
 // The pieces that values are spelled with: numbers, and the bytes of strings.
 ghost use Rattle.std.specs.Prelude.{◌≡◌, ◌+◌, ◌++◌, ◌%◌, ◌≤◌, List, ℕ, length, drop, OnOk, OnErr};
 ghost use Rattle.circus_external.specs.Octets.{word, long};
-ghost use Rattle.circus_external.specs.Spelling.{joined, contents};
+ghost use Rattle.circus_external.specs.Spelling.{bytes_of_pieces, contents};
 ghost use Rattle.circus_external.specs.Seen.Given.{Gives};
 ghost use Rattle.circus_external.specs.Reading.{word_read, long_read, is_bad_pad, content_read};
 
-use crate::{ByteSource, ExternalFault, copied, long_at, word_at};
+use crate::{ByteSource, ExternalFault, copy_range, long_at, word_at};
 use circus_value::{Message, NoMemory, Octets};
 use std::alloc::Global;
 
@@ -55,7 +55,7 @@ pub fn read_content<S: ByteSource>(
     if has_bad_pad(source, at, len) {
         return Err(ExternalFault::BadPad((at + len) as u64));
     }
-    let octets = copied(alloc, source, at, at + len)?;
+    let octets = copy_range(alloc, source, at, at + len)?;
     Ok((octets, at + padded))
 }
 
@@ -89,7 +89,7 @@ pub fn write_long(number: u32, out: &mut Message) -> Result<(), NoMemory>
 /// Appends the bytes of a string, and a zero byte where they are odd in number (docs/FORMATS.md, "External
 /// data"). After `NoMemory` the bytes of the string may stand at the end.
 pub fn write_content(content: &[u8], out: &mut Message) -> Result<(), NoMemory>
-    ensures ok { OnOk result (out.new ≡ out.old ++ joined (contents content.now)) }
+    ensures ok { OnOk result (out.new ≡ out.old ++ bytes_of_pieces (contents content.now)) }
     ensures err { OnErr result ((added : List ℕ) × (out.new ≡ out.old ++ added)) }
 {
     out.append(content)?;

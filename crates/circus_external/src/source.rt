@@ -89,7 +89,7 @@ fn octet<S: ByteSource>(source: &S, at: usize) -> u8
 }
 
 /// A copy of the bytes from one place up to another. `NoMemory` is the one fault.
-pub fn copied<S: ByteSource>(
+pub fn copy_range<S: ByteSource>(
     alloc: Global,
     source: &S,
     from: usize,

@@ -5,7 +5,7 @@ ghost use Rattle.circus_value.specs.ShapeOf as shapes;
 ghost use Rattle.circus_value.specs.ShapeTree.{FieldTrees};
 ghost use Rattle.circus_value.specs.Fits as fit;
 ghost use Rattle.circus_external.specs.Octets.{word};
-ghost use Rattle.circus_external.specs.Spelling.{spelling, spelling_of_all, fields_admit, joined, number, contents};
+ghost use Rattle.circus_external.specs.Spelling.{spelling, spelling_of_all, fields_admit, bytes_of_pieces, number, contents};
 
 use crate::piece::{write_content, write_long, write_word};
 use circus_value::{ListOf, Message, NoMemory, Shape, Value, Values, fits};
@@ -79,7 +79,7 @@ fn spell_count(count: usize, out: &mut Message) -> Result<(), NoMemory>
 
 fn spell_text(bytes: &[u8], out: &mut Message) -> Result<(), NoMemory>
     ensures { OnOk result
-        (out.new ≡ out.old ++ joined (number (word (length bytes.now)) ∷ contents bytes.now)) }
+        (out.new ≡ out.old ++ bytes_of_pieces (number (word (length bytes.now)) ∷ contents bytes.now)) }
 {
     spell_count(bytes.len(), out)?;
     write_content(bytes, out)

@@ -8,7 +8,7 @@ use Rattle.circus_value.specs.Among.{is_among}
 use Rattle.circus_collate.specs.declared.view.View.{View}
 use Rattle.circus_fanout.specs.declared.known.Want.{Want}
 use Rattle.circus_fanout.specs.Notices.{Told, Declared, Wanted, LookedUp, Answered, Notices, none_yet, more, views_of, IsHighest, was_declared, greatest_wanted}
-use Rattle.circus_fanout.specs.Knowing.{Knowing, unwanted, is_newer, told, declared, with_want, asked_of, lookups, asked_all, known_by}
+use Rattle.circus_fanout.specs.Knowing.{Knowing, no_want, is_newer, note_view, note_down, with_want, asked_of, lookups, asked_all, known_by}
 
 -- ---- lists
 
@@ -90,7 +90,7 @@ by_none views all view t nowhere highest false same v is = highest v is
 
 -- the views once a table came
 told_views : (k : Knowing) (view : View) (o : Option View) → slice_get k.views view.troupe ≡ o
-    → (told k view).views ≡ option_map_or (λ (known : View). if nat_lt known.incarnation view.incarnation then slice_set k.views view.troupe view else k.views) o k.views
+    → (note_view k view).views ≡ option_map_or (λ (known : View). if nat_lt known.incarnation view.incarnation then slice_set k.views view.troupe view else k.views) o k.views
 told_views k view None is = rw is refl
 told_views k view (Some known) is = rw is (by_newer (nat_lt known.incarnation view.incarnation))
   where
@@ -99,12 +99,12 @@ told_views k view (Some known) is = rw is (by_newer (nat_lt known.incarnation vi
     by_newer false = refl
 
 told_highest : (k : Knowing) (all : List View) (view : View) (t : ℕ) → ((v : View) → slice_get k.views t ≡ Some v → IsHighest all v)
-    → (o : Option View) → slice_get k.views view.troupe ≡ o → (v : View) → slice_get (told k view).views t ≡ Some v → IsHighest (if view.troupe == t then all ++ view ∷ [] else all) v
+    → (o : Option View) → slice_get k.views view.troupe ≡ o → (v : View) → slice_get (note_view k view).views t ≡ Some v → IsHighest (if view.troupe == t then all ++ view ∷ [] else all) v
 told_highest k all view t highest None is v known = by_none k.views all view t is highest (view.troupe == t) refl v (ap (λ vs. slice_get vs t) (sym (told_views k view None is)) ∙ known)
 told_highest k all view t highest (Some old) is v known =
     by_table k.views all view old t is highest (view.troupe == t) (nat_lt old.incarnation view.incarnation) refl refl v (ap (λ vs. slice_get vs t) (sym (told_views k view (Some old) is)) ∙ known)
 
-declared_views : (k : Knowing) (node : ℕ) → (declared k node).views ≡ k.views
+declared_views : (k : Knowing) (node : ℕ) → (note_down k node).views ≡ k.views
 declared_views k node = by_case (is_among k.down node)
   where
     by_case : (b : Bool) → (if◌then◌else◌ {A = Knowing} b k (record k { down = k.down ++ node ∷ [] })).views ≡ k.views
@@ -132,7 +132,7 @@ among_behind (k ∷ ns) m n = ap (λ b. (k == n) || b) (among_behind ns m n) ∙
     swapped true false c = refl
     swapped false b c = refl
 
-told_down : (k : Knowing) (view : View) → (told k view).down ≡ k.down
+told_down : (k : Knowing) (view : View) → (note_view k view).down ≡ k.down
 told_down k view = by_case (is_newer k view)
   where
     by_case : (b : Bool) → (if◌then◌else◌ {A = Knowing} b (record k { views = slice_set k.views view.troupe view }) k).down ≡ k.down
@@ -160,14 +160,14 @@ down_declared boot (more notices (Answered troupe)) n = down_declared boot notic
 
 -- ---- what is wanted
 
-told_wants : (k : Knowing) (view : View) → (told k view).wants ≡ k.wants
+told_wants : (k : Knowing) (view : View) → (note_view k view).wants ≡ k.wants
 told_wants k view = by_case (is_newer k view)
   where
     by_case : (b : Bool) → (if◌then◌else◌ {A = Knowing} b (record k { views = slice_set k.views view.troupe view }) k).wants ≡ k.wants
     by_case true = refl
     by_case false = refl
 
-declared_wants : (k : Knowing) (node : ℕ) → (declared k node).wants ≡ k.wants
+declared_wants : (k : Knowing) (node : ℕ) → (note_down k node).wants ≡ k.wants
 declared_wants k node = by_case (is_among k.down node)
   where
     by_case : (b : Bool) → (if◌then◌else◌ {A = Knowing} b k (record k { down = k.down ++ node ∷ [] })).wants ≡ k.wants
@@ -218,7 +218,7 @@ wanted_much wants troupe incarnation t greatest is =
     by_same true (Some w) is = let e : w.incarnation ≡ greatest = cc in ap (λ n. Some (max n incarnation)) e
     by_same false o is = is
 
-boot_much : (boot : List View) (t : ℕ) → t < length boot → much (slice_get (map unwanted boot) t) ≡ Some 0
+boot_much : (boot : List View) (t : ℕ) → t < length boot → much (slice_get (map no_want boot) t) ≡ Some 0
 boot_much [] t few = absurd (omega arith)
 boot_much (v ∷ boot) zero few = refl
 boot_much (v ∷ boot) (suc t) few = boot_much boot t (omega arith)

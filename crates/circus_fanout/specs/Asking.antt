@@ -13,7 +13,7 @@ use Rattle.circus_collate.specs.declared.view.View.{View}
 use Rattle.circus_collate.specs.declared.giving.Said.{Said}
 use Rattle.circus_collate.specs.declared.collating.Collated.{Collated}
 use Rattle.circus_collate.specs.Expecting.{expected_nodes, has_node}
-use Rattle.circus_collate.specs.Collating.{collated}
+use Rattle.circus_collate.specs.Collating.{collate}
 use Rattle.circus_fanout.specs.declared.asked.Sending.{Sending}
 use Rattle.circus_fanout.specs.declared.asked.Sending.TheVariants.{Unanswered, Settled, Stale}
 use Rattle.circus_fanout.specs.declared.asked.Asked.{Asked}
@@ -34,8 +34,8 @@ pub record Asking : Type 0 where
   pub said : List (Said Reply)
 
 -- before any sending
-abbrev pub begun : CallHeader → List ℕ → Kind → Asking
-begun header body kind = record { header = header; body = body; kind = kind; asked = []; said = [] }
+abbrev pub begin_asking : CallHeader → List ℕ → Kind → Asking
+begin_asking header body kind = record { header = header; body = body; kind = kind; asked = []; said = [] }
 
 -- ---- who was sent the call
 
@@ -50,13 +50,13 @@ sending_to asked node = option_map (λ (a : Asked). a.sending) (find (is_of node
 abbrev pub once_marked : ℕ → Sending → Asked → Asked
 once_marked node sending a = if is_of node a then record { node = node; sending = sending } else a
 
-abbrev pub marked : List Asked → ℕ → Sending → List Asked
-marked asked node sending = map (once_marked node sending) asked
+abbrev pub mark_asked : List Asked → ℕ → Sending → List Asked
+mark_asked asked node sending = map (once_marked node sending) asked
 
 -- once the call was sent to a node
 abbrev pub with_sent : List Asked → ℕ → List Asked
 with_sent asked node =
-    if list_any (is_of node) asked then marked asked node Unanswered else asked ++ record { node = node; sending = Unanswered } ∷ []
+    if list_any (is_of node) asked then mark_asked asked node Unanswered else asked ++ record { node = node; sending = Unanswered } ∷ []
 
 -- ---- calls for a view
 
@@ -91,7 +91,7 @@ with_view view down a = record a { asked = with_calls a.asked (calls_for_a_view 
 -- once a node replied
 abbrev pub with_reply : ℕ → Reply → Asking → Asking
 with_reply node reply a =
-    record a { asked = marked a.asked node Settled; said = a.said ++ record { node = node; value = reply } ∷ [] }
+    record a { asked = mark_asked a.asked node Settled; said = a.said ++ record { node = node; value = reply } ∷ [] }
 
 abbrev pub is_watchdog : Kind → Bool
 is_watchdog First = false
@@ -110,7 +110,7 @@ watched kind said reply = if is_watchdog kind && differs said reply then Differs
 
 -- once a node answered that the call is before its first one
 abbrev pub with_before : ℕ → Asking → Asking
-with_before node a = record a { asked = marked a.asked node Settled }
+with_before node a = record a { asked = mark_asked a.asked node Settled }
 
 -- what follows a Stale: its view has to be looked up where it is above the one that is known, and else the call is sent again where the node is an entry of that one and isn't down
 unfoldable pub next : View → List ℕ → ℕ → ℕ → Next
@@ -128,7 +128,7 @@ after_stale N.Leave incarnation = Stale incarnation
 -- once a node answered that the call was of an older view
 abbrev pub with_stale : View → List ℕ → ℕ → ℕ → Asking → Asking
 with_stale view down node incarnation a =
-    record a { asked = marked a.asked node (after_stale (next view down node incarnation) incarnation) }
+    record a { asked = mark_asked a.asked node (after_stale (next view down node incarnation) incarnation) }
 
 -- ---- what the fan-out comes to
 
@@ -138,7 +138,7 @@ index_of header = slice_index header.clock header.server
 
 -- what the collator answers
 abbrev pub answer : View → List ℕ → Asking → Collated
-answer view down a = collated reply_eq (expected_nodes view (index_of a.header)) down a.said a.kind
+answer view down a = collate reply_eq (expected_nodes view (index_of a.header)) down a.said a.kind
 
 -- the reply at a place
 abbrev pub reply_at : Asking → ℕ → Option Reply

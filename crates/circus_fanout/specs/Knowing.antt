@@ -12,36 +12,36 @@ pub record Knowing : Type 0 where
   pub down : List ℕ
   pub wants : List Want
 
-abbrev pub unwanted : View → Want
-unwanted view = record { incarnation = 0; asked = false }
+abbrev pub no_want : View → Want
+no_want view = record { incarnation = 0; asked = false }
 
 -- with the boot views alone
 abbrev pub at_boot : List View → Knowing
-at_boot boot = record { views = boot; down = []; wants = map unwanted boot }
+at_boot boot = record { views = boot; down = []; wants = map no_want boot }
 
 -- a view is newer than the one that is known
 abbrev pub is_newer : Knowing → View → Bool
 is_newer k view = option_map_or (λ (known : View). nat_lt known.incarnation view.incarnation) (slice_get k.views view.troupe) false
 
-abbrev pub told : Knowing → View → Knowing
-told k view = if is_newer k view then record k { views = slice_set k.views view.troupe view } else k
+abbrev pub note_view : Knowing → View → Knowing
+note_view k view = if is_newer k view then record k { views = slice_set k.views view.troupe view } else k
 
-abbrev pub declared : Knowing → ℕ → Knowing
-declared k node = if is_among k.down node then k else record k { down = k.down ++ node ∷ [] }
+abbrev pub note_down : Knowing → ℕ → Knowing
+note_down k node = if is_among k.down node then k else record k { down = k.down ++ node ∷ [] }
 
 -- what is wanted of one troupe, in another way
 abbrev pub with_want : (Want → Want) → List Want → ℕ → List Want
 with_want change wants troupe = option_map_or (λ want. slice_set wants troupe (change want)) (slice_get wants troupe) wants
 
-abbrev pub wanted : Knowing → ℕ → ℕ → Knowing
-wanted k troupe incarnation = record k { wants = with_want (λ w. record { incarnation = max w.incarnation incarnation; asked = w.asked }) k.wants troupe }
+abbrev pub want_view : Knowing → ℕ → ℕ → Knowing
+want_view k troupe incarnation = record k { wants = with_want (λ w. record { incarnation = max w.incarnation incarnation; asked = w.asked }) k.wants troupe }
 
 -- the Ringmaster was asked for a troupe's view, or has answered
 abbrev pub asked_of : Bool → List Want → ℕ → List Want
 asked_of asked wants troupe = with_want (λ w. record { incarnation = w.incarnation; asked = asked }) wants troupe
 
-abbrev pub answered : Knowing → ℕ → Knowing
-answered k troupe = record k { wants = asked_of false k.wants troupe }
+abbrev pub note_answer : Knowing → ℕ → Knowing
+note_answer k troupe = record k { wants = asked_of false k.wants troupe }
 
 -- a later view is wanted than is known, and no Lookup waits for its answer
 abbrev pub is_due : View → Want → Bool
@@ -66,17 +66,17 @@ abbrev pub asked_all : List Want → List ℕ → List Want
 asked_all wants [] = wants
 asked_all wants (troupe ∷ troupes) = asked_all (asked_of true wants troupe) troupes
 
-abbrev pub looked_up : Knowing → ℕ → Knowing
-looked_up k ringmaster = record k { wants = asked_all k.wants (lookups k ringmaster) }
+abbrev pub note_lookup : Knowing → ℕ → Knowing
+note_lookup k ringmaster = record k { wants = asked_all k.wants (lookups k ringmaster) }
 
 -- ---- over a list of notices
 
 abbrev pub after : Knowing → Notice → Knowing
-after k (Told view) = told k view
-after k (Declared node) = declared k node
-after k (Wanted troupe incarnation) = wanted k troupe incarnation
-after k (LookedUp ringmaster) = looked_up k ringmaster
-after k (Answered troupe) = answered k troupe
+after k (Told view) = note_view k view
+after k (Declared node) = note_down k node
+after k (Wanted troupe incarnation) = want_view k troupe incarnation
+after k (LookedUp ringmaster) = note_lookup k ringmaster
+after k (Answered troupe) = note_answer k troupe
 
 abbrev pub known_by : List View → Notices → Knowing
 known_by boot none_yet = at_boot boot

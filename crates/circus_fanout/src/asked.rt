@@ -38,7 +38,7 @@ pub fn sending_to(asked: &[Asked], node: u16) -> Option<Sending>
 /// Notes what became of the last sending to a node.
 #[tactic(auto, using(crate::proofs::Writing::written_all))]
 pub fn mark(asked: &mut [Asked], node: u16, sending: Sending)
-    ensures { asked.new ≡ asking.marked asked.old node sending }
+    ensures { asked.new ≡ asking.mark_asked asked.old node sending }
 {
     for one in asked.iter_mut() {
         *one = once_marked(*one, node, sending);

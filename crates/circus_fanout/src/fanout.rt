@@ -60,7 +60,7 @@ impl Fanout {
         down: &Nodes,
     ) -> Result<(Fanout, Sends), NoMemory>
         ensures fanout { IfOk result (λ begun.
-            begun.0 ≡ asking.with_view view.now down.now (asking.begun header body kind)) }
+            begun.0 ≡ asking.with_view view.now down.now (asking.begin_asking header body kind)) }
         ensures sends { IfOk result (λ begun.
             begun.1 ≡ asking.calls_for_a_view view.now down.now []) }
     {
@@ -97,7 +97,7 @@ impl Fanout {
             watched ≡ asking.watched self.old.kind self.old.said reply) }
         ensures refused { OnErr result (self.new ≡ self.old) }
     {
-        let watched = watched(self.kind, self.said.as_slice(), &reply);
+        let watched = watch(self.kind, self.said.as_slice(), &reply);
         self.said.push(Said { node, value: reply })?;
         mark(self.asked.as_mut_slice(), node, Sending::Settled);
         Ok(watched)
@@ -191,7 +191,7 @@ fn index_of(header: &CallHeader) -> u32
 }
 
 // Whether a reply differs from the first of those before it, where that is watched.
-fn watched(kind: Kind, said: &[Said<Reply>], reply: &Reply) -> Watched
+fn watch(kind: Kind, said: &[Said<Reply>], reply: &Reply) -> Watched
     ensures { result ≡ asking.watched kind said.now reply.now }
 {
     match (kind, said.first()) {

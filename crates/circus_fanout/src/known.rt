@@ -76,7 +76,7 @@ impl Known {
     }
 
     /// The nodes that are down. It takes no memory.
-    pub fn down(&self) -> &Nodes
+    pub fn down_nodes(&self) -> &Nodes
         ensures { result.now ≡ self.now.down }
     {
         &self.down
@@ -99,7 +99,7 @@ impl Known {
     /// Takes the view of a table, and answers whether it is newer than the one that was known. It takes no memory.
     pub fn tell(&mut self, view: View) -> bool
         ensures newer { result ≡ knowing.is_newer self.old view }
-        ensures known { self.new ≡ knowing.told self.old view }
+        ensures known { self.new ≡ knowing.note_view self.old view }
     {
         let place = usize::from(view.troupe);
         let newer = match self.views.get(place) {
@@ -114,7 +114,7 @@ impl Known {
 
     /// A node was declared down. After `NoMemory` nothing has changed.
     pub fn declare(&mut self, node: u16) -> Result<(), NoMemory>
-        ensures known { OnOk result (self.new ≡ knowing.declared self.old node) }
+        ensures known { OnOk result (self.new ≡ knowing.note_down self.old node) }
         ensures refused { OnErr result (self.new ≡ self.old) }
     {
         if self.is_down(node) {
@@ -125,7 +125,7 @@ impl Known {
 
     /// A view of a troupe is wanted in an incarnation. It takes no memory.
     pub fn want(&mut self, troupe: u16, incarnation: u32)
-        ensures { self.new ≡ knowing.wanted self.old troupe incarnation }
+        ensures { self.new ≡ knowing.want_view self.old troupe incarnation }
     {
         let place = usize::from(troupe);
         if let Some(want) = self.wants.get(place).copied() {
@@ -137,7 +137,7 @@ impl Known {
 
     /// The Ringmaster answered for a troupe. It takes no memory.
     pub fn answer(&mut self, troupe: u16)
-        ensures { self.new ≡ knowing.answered self.old troupe }
+        ensures { self.new ≡ knowing.note_answer self.old troupe }
     {
         ask(&mut self.wants, troupe, false);
     }
@@ -146,13 +146,13 @@ impl Known {
     /// down. Each of them is asked for from now on. After `NoMemory` nothing has changed.
     pub fn look_up(&mut self, ringmaster: u16) -> Result<Numbers, NoMemory>
         ensures due { IfOk result (λ troupes. troupes ≡ knowing.lookups self.old ringmaster) }
-        ensures known { OnOk result (self.new ≡ knowing.looked_up self.old ringmaster) }
+        ensures known { OnOk result (self.new ≡ knowing.note_lookup self.old ringmaster) }
         ensures refused { OnErr result (self.new ≡ self.old) }
     {
         if self.is_down(ringmaster) {
             return Ok(ListOf::new(self.alloc));
         }
-        let troupes = due(self.alloc, self.views.as_slice(), self.wants.as_slice())?;
+        let troupes = troupes_due(self.alloc, self.views.as_slice(), self.wants.as_slice())?;
         ask_all(&mut self.wants, troupes.as_slice());
         Ok(troupes)
     }
@@ -160,17 +160,17 @@ impl Known {
 
 #[tactic(auto, using(circus_collate::proofs::Going::map_more, circus_collate::proofs::Going::map_all))]
 fn nothing_wanted(alloc: Global, views: &[View]) -> Result<Wants, NoMemory>
-    ensures { IfOk result (λ wants. wants ≡ map knowing.unwanted views.now) }
+    ensures { IfOk result (λ wants. wants ≡ map knowing.no_want views.now) }
 {
     let mut wants = ListOf::new(alloc);
     for view in views {
-        wants.push(unwanted(view))?;
+        wants.push(no_want(view))?;
     }
     Ok(wants)
 }
 
-fn unwanted(_view: &View) -> Want
-    ensures { result ≡ knowing.unwanted _view.now }
+fn no_want(_view: &View) -> Want
+    ensures { result ≡ knowing.no_want _view.now }
 {
     Want {
         incarnation: 0,
@@ -201,7 +201,7 @@ fn ask_all(wants: &mut Wants, troupes: &[u16])
 }
 
 // The troupes whose views are to be looked up.
-fn due(alloc: Global, views: &[View], wants: &[Want]) -> Result<Numbers, NoMemory>
+fn troupes_due(alloc: Global, views: &[View], wants: &[Want]) -> Result<Numbers, NoMemory>
     requires few { length views.now ≤ 65536 }
     requires both { length wants.now ≡ length views.now }
     ensures { IfOk result (λ troupes. troupes ≡ knowing.due_from 0 views.now wants.now) }

@@ -1,6 +1,6 @@
 // Names with their numbers, and numbers, in tables that are filled from the front of a text on.
 ghost use Rattle.std.specs.Prelude.{◌≡◌, not, OnOk, IfOk};
-ghost use Rattle.circus_fault.specs.Known.{nobody, also, no_number, also_number};
+ghost use Rattle.circus_fault.specs.Known.{nobody, add_name, no_number, also_number};
 ghost use Rattle.circus_fault.specs.Seen.Tables.{known_of, holds_number};
 
 use circus_value::NoMemory;
@@ -40,7 +40,7 @@ impl<'a> Names<'a> {
     /// Gives a name a number in place of the one that it had, which it answers.
     pub fn insert(&mut self, name: &'a [u8], number: usize) -> Result<Option<usize>, NoMemory>
         ensures earlier { IfOk result (λ earlier. earlier ≡ known_of self.old name.now) }
-        ensures added { OnOk result (known_of self.new ≡ also name.now number (known_of self.old)) }
+        ensures added { OnOk result (known_of self.new ≡ add_name name.now number (known_of self.old)) }
     {
         Ok(self.table.insert(name, number)?)
     }

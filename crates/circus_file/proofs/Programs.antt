@@ -4,8 +4,8 @@ use Rattle.std.specs.Prelude.{Option, codes}
 use Rattle.circus_text.specs.declared.token.TokenKind.TheVariants.{Word}
 use Rattle.circus_syntax.specs.Reserved.{is_reserved, reserved_words}
 use Rattle.circus_syntax.specs.Placed.{Placed, first, word, sign, digits, is_lexeme, is_name, Due, due, due_name, due_number, AreDue}
-use Rattle.circus_syntax.specs.Reader.{Reader, passes, mapped, either_case}
-use Rattle.circus_syntax.specs.Reading.{fixed}
+use Rattle.circus_syntax.specs.Reader.{Reader, passes, map_read, either_case}
+use Rattle.circus_syntax.specs.Reading.{expect_token}
 use Rattle.circus_syntax.specs.Spelling.{each, spelling, IsEach, IsGrammatical}
 use Rattle.circus_syntax.proofs.Complete.{Any, Links}
 use Rattle.circus_syntax.proofs.Tokens.{Always, opens_due}
@@ -35,13 +35,13 @@ abbrev is_two : Option Placed → Bool
 is_two = passes (is_lexeme (digits (codes "2")))
 
 abbrev format_by : Bool → Reader → Format × Reader
-format_by = either_case (mapped (λ x. Two) (fixed (digits (codes "2")))) (mapped (λ x. One) (fixed (digits (codes "1"))))
+format_by = either_case (map_read (λ x. Two) (expect_token (digits (codes "2")))) (map_read (λ x. One) (expect_token (digits (codes "1"))))
 
 abbrev format_when : Bool → Format
 format_when true = Two
 format_when false = One
 
-lawful_this : (n : ℕ) (f : Format) → Lawful n (mapped (λ x. f) (fixed (digits (format_digits f)))) (mapped (λ x. f) (fixed (digits (format_digits f)))) spelling_format (λ g. g ≡ f) Any
+lawful_this : (n : ℕ) (f : Format) → Lawful n (map_read (λ x. f) (expect_token (digits (format_digits f)))) (map_read (λ x. f) (expect_token (digits (format_digits f)))) spelling_format (λ g. g ≡ f) Any
 lawful_this n f =
     lawful_mapped n (λ x. f) spelling_format (λ g. g ≡ f) (λ x. refl) (λ x g. refl) (λ g same. (tt, sym same, tt)) (lawful_fixed n (digits (format_digits f)))
 
@@ -103,8 +103,8 @@ module_word (root k ns vs at b) = codes "ROOT"
 
 behind_module : WrittenModule → List Due
 behind_module (serving k i ns vs ps) =
-    due_name k ∷ due (word (codes "IMPLEMENTS")) ∷ due_name i ∷ (written.spelling_heading ns ++ (each spelling_variable vs ++ (each spelling_procedure ps ++ written.closing)))
-behind_module (root k ns vs at b) = due_name k ∷ (written.spelling_heading ns ++ (each spelling_variable vs ++ (spelling_main at b ++ written.closing)))
+    due_name k ∷ due (word (codes "IMPLEMENTS")) ∷ due_name i ∷ (written.spelling_heading ns ++ (each spelling_variable vs ++ (each spelling_procedure ps ++ written.module_closing)))
+behind_module (root k ns vs at b) = due_name k ∷ (written.spelling_heading ns ++ (each spelling_variable vs ++ (spelling_main at b ++ written.module_closing)))
 
 module_parts : (w : WrittenModule) → spelling_module w ≡ due (word (module_word w)) ∷ behind_module w
 unfolding module_word behind_module

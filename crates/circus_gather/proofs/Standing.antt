@@ -11,14 +11,14 @@ use Rattle.circus_gather.specs.declared.held.HeldCall.{HeldCall}
 use Rattle.circus_gather.specs.declared.group.Group.{Group}
 use Rattle.circus_gather.specs.Gathering.{index_of, is_of_index}
 use Rattle.circus_gather.specs.Seen.Groups.{is_in_group, stays, spared}
-use Rattle.circus_gather.specs.Seen.Slots.{kept, places_from, standing, calls_at, emptied}
+use Rattle.circus_gather.specs.Seen.Slots.{items_in, places_from, item_at, calls_at, empty_slots}
 use Rattle.circus_collate.proofs.Going.{front}
 
 module _ {X : Type 0} where
   -- ---- the calls at places, one after another
 
   pub stood_more : (slots : List (Option X)) (places : List ℕ) (i : ℕ) (x y : X) (done whole : List X) → i < length places
-      → Some x ≡ standing slots (get_or places i 0) → y ≡ x
+      → Some x ≡ item_at slots (get_or places i 0) → y ≡ x
       → whole ≡ done ++ calls_at slots (drop i places) → whole ≡ (done ++ y ∷ []) ++ calls_at slots (drop (i + 1) places)
   stood_more slots places i x y done whole few there made all =
       let rest : List X = calls_at slots (drop (i + 1) places) in
@@ -27,7 +27,7 @@ module _ {X : Type 0} where
       ∙ ap (λ z. done ++ (z ∷ rest)) (sym made) ∙ sym (append_assoc done (y ∷ []) rest)
 
   pub stood_none : (slots : List (Option X)) (places : List ℕ) (i : ℕ) (done whole : List X) → i < length places
-      → None ≡ standing slots (get_or places i 0)
+      → None ≡ item_at slots (get_or places i 0)
       → whole ≡ done ++ calls_at slots (drop i places) → whole ≡ done ++ calls_at slots (drop (i + 1) places)
   stood_none slots places i done whole few there all =
       let rest : List X = calls_at slots (drop (i + 1) places) in
@@ -41,23 +41,23 @@ module _ {X : Type 0} where
   -- ---- all calls, one after another
 
   pub kept_more : (slots : List (Option X)) (i : ℕ) (o : Option X) (x y : X) (done whole : List X) → i < length slots → o ≡ get_or slots i o
-      → Some x ≡ o → y ≡ x → whole ≡ done ++ kept (drop i slots) → whole ≡ (done ++ y ∷ []) ++ kept (drop (i + 1) slots)
+      → Some x ≡ o → y ≡ x → whole ≡ done ++ items_in (drop i slots) → whole ≡ (done ++ y ∷ []) ++ items_in (drop (i + 1) slots)
   kept_more slots i o x y done whole few is there made all =
-      let rest : List X = kept (drop (i + 1) slots) in
-      all ∙ ap (λ os. done ++ kept os) (front slots i o few is ∙ ap (λ p. p ∷ drop (i + 1) slots) (sym there))
+      let rest : List X = items_in (drop (i + 1) slots) in
+      all ∙ ap (λ os. done ++ items_in os) (front slots i o few is ∙ ap (λ p. p ∷ drop (i + 1) slots) (sym there))
       ∙ ap (λ z. done ++ (z ∷ rest)) (sym made) ∙ sym (append_assoc done (y ∷ []) rest)
 
   pub kept_none : (slots : List (Option X)) (i : ℕ) (o : Option X) (done whole : List X) → i < length slots → o ≡ get_or slots i o
-      → None ≡ o → whole ≡ done ++ kept (drop i slots) → whole ≡ done ++ kept (drop (i + 1) slots)
+      → None ≡ o → whole ≡ done ++ items_in (drop i slots) → whole ≡ done ++ items_in (drop (i + 1) slots)
   kept_none slots i o done whole few is there all =
-      all ∙ ap (λ os. done ++ kept os) (front slots i o few is ∙ ap (λ p. p ∷ drop (i + 1) slots) (sym there))
+      all ∙ ap (λ os. done ++ items_in os) (front slots i o few is ∙ ap (λ p. p ∷ drop (i + 1) slots) (sym there))
 
-  pub kept_all : (slots : List (Option X)) (i : ℕ) (done whole : List X) → length slots ≤ i → whole ≡ done ++ kept (drop i slots) → done ≡ whole
-  kept_all slots i done whole all is = sym (is ∙ ap (λ os. done ++ kept os) (drop_all i slots all) ∙ append-nil done)
+  pub kept_all : (slots : List (Option X)) (i : ℕ) (done whole : List X) → length slots ≤ i → whole ≡ done ++ items_in (drop i slots) → done ≡ whole
+  kept_all slots i done whole all is = sym (is ∙ ap (λ os. done ++ items_in os) (drop_all i slots all) ∙ append-nil done)
 
   -- ---- one slot more
 
-  pub kept-append : (slots : List (Option X)) (x : X) → kept (slots ++ Some x ∷ []) ≡ kept slots ++ x ∷ []
+  pub kept-append : (slots : List (Option X)) (x : X) → items_in (slots ++ Some x ∷ []) ≡ items_in slots ++ x ∷ []
   kept-append [] x = refl
   kept-append (None ∷ slots) x = kept-append slots x
   kept-append (Some y ∷ slots) x = ap (λ ys. y ∷ ys) (kept-append slots x)
@@ -84,22 +84,22 @@ module _ {X : Type 0} where
   longer before o n is = omega (arith, is, length-append before (o ∷ []))
 
   stood_at : (p : X → Bool) (all before slots : List (Option X)) (n : ℕ) → all ≡ before ++ slots → n ≡ length before
-      → calls_at all (places_from p n slots) ≡ filter p (kept slots)
+      → calls_at all (places_from p n slots) ≡ filter p (items_in slots)
   stood_at p all before [] n is upto = refl
   stood_at p all before (None ∷ slots) n is upto =
       stood_at p all (before ++ None ∷ []) slots (suc n) (is ∙ sym (append_assoc before (None ∷ []) slots)) (longer before None n upto)
   stood_at p all before (Some x ∷ slots) n is upto =
       let rest = stood_at p all (before ++ Some x ∷ []) slots (suc n) (is ∙ sym (append_assoc before (Some x ∷ []) slots)) (longer before (Some x) n upto) in
-      let there : standing all n ≡ Some x =
-      ap (λ os. standing os n) is ∙ ap (λ k. standing (before ++ Some x ∷ slots) k) upto ∙ ap (λ o. option_and_then (λ z. z) o) (seam before slots (Some x)) in
+      let there : item_at all n ≡ Some x =
+      ap (λ os. item_at os n) is ∙ ap (λ k. item_at (before ++ Some x ∷ slots) k) upto ∙ ap (λ o. option_and_then (λ z. z) o) (seam before slots (Some x)) in
       let others : List X = calls_at all (places_from p (suc n) slots) in
-      elim (p x) as (λ b. calls_at all (cond b (n ∷ places_from p (suc n) slots) (places_from p (suc n) slots)) ≡ cond b (x ∷ filter p (kept slots)) (filter p (kept slots))) [
+      elim (p x) as (λ b. calls_at all (cond b (n ∷ places_from p (suc n) slots) (places_from p (suc n) slots)) ≡ cond b (x ∷ filter p (items_in slots)) (filter p (items_in slots))) [
         | true ↦ ap (λ o. option_map_or (λ z. z ∷ others) o others) there ∙ ap (λ r. x ∷ r) rest
         | false ↦ rest
       ]
 
   -- what stands there are those that pass
-  pub calls-places : (p : X → Bool) (slots : List (Option X)) → calls_at slots (places_from p 0 slots) ≡ filter p (kept slots)
+  pub calls-places : (p : X → Bool) (slots : List (Option X)) → calls_at slots (places_from p 0 slots) ≡ filter p (items_in slots)
   calls-places p slots = stood_at p slots [] slots 0 refl refl
 
   -- once those that pass are gone
@@ -109,7 +109,7 @@ module _ {X : Type 0} where
   cleared p (Some x ∷ slots) = cond (p x) None (Some x) ∷ cleared p slots
 
   emptied_at : (p : X → Bool) (all before slots : List (Option X)) (n : ℕ) → all ≡ before ++ slots → n ≡ length before
-      → emptied all (places_from p n slots) ≡ before ++ cleared p slots
+      → empty_slots all (places_from p n slots) ≡ before ++ cleared p slots
   emptied_at p all before [] n is upto = is
   emptied_at p all before (None ∷ slots) n is upto =
       emptied_at p all (before ++ None ∷ []) slots (suc n) (is ∙ sym (append_assoc before (None ∷ []) slots)) (longer before None n upto)
@@ -118,22 +118,22 @@ module _ {X : Type 0} where
       let set : slice_set all n None ≡ (before ++ None ∷ []) ++ slots =
       ap (λ os. slice_set os n None) is ∙ ap (λ k. slice_set (before ++ Some x ∷ slots) k None) upto ∙ set-append_seam before (Some x) slots None
       ∙ sym (append_assoc before (None ∷ []) slots) in
-      elim (p x) as (λ b. emptied all (cond b (n ∷ places_from p (suc n) slots) (places_from p (suc n) slots)) ≡ before ++ (cond b None (Some x) ∷ cleared p slots)) [
+      elim (p x) as (λ b. empty_slots all (cond b (n ∷ places_from p (suc n) slots) (places_from p (suc n) slots)) ≡ before ++ (cond b None (Some x) ∷ cleared p slots)) [
         | true ↦ emptied_at p (slice_set all n None) (before ++ None ∷ []) slots (suc n) set (longer before None n upto)
             ∙ append_assoc before (None ∷ []) (cleared p slots)
         | false ↦ emptied_at p all (before ++ Some x ∷ []) slots (suc n) (is ∙ sym (append_assoc before (Some x ∷ []) slots)) (longer before (Some x) n upto)
             ∙ append_assoc before (Some x ∷ []) (cleared p slots)
       ]
 
-  emptied-places : (p : X → Bool) (slots : List (Option X)) → emptied slots (places_from p 0 slots) ≡ cleared p slots
+  emptied-places : (p : X → Bool) (slots : List (Option X)) → empty_slots slots (places_from p 0 slots) ≡ cleared p slots
   emptied-places p slots = emptied_at p slots [] slots 0 refl refl
 
-  kept-cleared : (p : X → Bool) (slots : List (Option X)) → kept (cleared p slots) ≡ filter (λ x. not (p x)) (kept slots)
+  kept-cleared : (p : X → Bool) (slots : List (Option X)) → items_in (cleared p slots) ≡ filter (λ x. not (p x)) (items_in slots)
   kept-cleared p [] = refl
   kept-cleared p (None ∷ slots) = kept-cleared p slots
   kept-cleared p (Some x ∷ slots) =
-      let rest : List X = filter (λ y. not (p y)) (kept slots) in
-      elim (p x) as (λ b. kept (cond b None (Some x) ∷ cleared p slots) ≡ cond (not b) (x ∷ rest) rest) [
+      let rest : List X = filter (λ y. not (p y)) (items_in slots) in
+      elim (p x) as (λ b. items_in (cond b None (Some x) ∷ cleared p slots) ≡ cond (not b) (x ∷ rest) rest) [
         | true ↦ kept-cleared p slots
         | false ↦ ap (λ ys. x ∷ ys) (kept-cleared p slots)
       ]
@@ -159,8 +159,8 @@ module _ {X : Type 0} where
   places-none q none at (Some x ∷ slots) = ap (λ b. cond b (at ∷ places_from q (suc at) slots) (places_from q (suc at) slots)) (none x) ∙ places-none q none (suc at) slots
 
   -- without those that pass
-  pub kept-emptied : (p : X → Bool) (slots : List (Option X)) → kept (emptied slots (places_from p 0 slots)) ≡ filter (λ x. not (p x)) (kept slots)
-  kept-emptied p slots = ap kept (emptied-places p slots) ∙ kept-cleared p slots
+  pub kept-emptied : (p : X → Bool) (slots : List (Option X)) → items_in (empty_slots slots (places_from p 0 slots)) ≡ filter (λ x. not (p x)) (items_in slots)
+  kept-emptied p slots = ap items_in (emptied-places p slots) ∙ kept-cleared p slots
 
   narrow_by : (p q : X → Bool) (x : X) (xs : List X) (b : Bool) → p x ≡ b → (p x ≡ false → q x ≡ false) → filter q (filter p xs) ≡ filter q xs
       → filter q (cond b (x ∷ filter p xs) (filter p xs)) ≡ cond (q x) (x ∷ filter q xs) (filter q xs)
@@ -194,7 +194,7 @@ apart n index other differ = elim (cases_eq n other) [
 module _ («module» : ℕ) where
   -- once the calls of an index are gone, those of the others are where they were
   pub places-left : (slots : List (Option HeldCall)) (index other : ℕ)
-      → places_from (is_of_index «module» other) 0 (emptied slots (places_from (is_of_index «module» index) 0 slots))
+      → places_from (is_of_index «module» other) 0 (empty_slots slots (places_from (is_of_index «module» index) 0 slots))
       ≡ cond (nat_eq index other) [] (places_from (is_of_index «module» other) 0 slots)
   places-left slots index other =
       ap (places_from (is_of_index «module» other) 0) (emptied-places (is_of_index «module» index) slots)
@@ -212,7 +212,7 @@ module _ («module» : ℕ) where
           (λ x. apart (index_of «module» x.header) index other is) 0 slots
 
   -- where no index has a call there is none
-  pub none_left : (at : ℕ) (slots : List (Option HeldCall)) → ((index : ℕ) → places_from (is_of_index «module» index) at slots ≡ []) → kept slots ≡ []
+  pub none_left : (at : ℕ) (slots : List (Option HeldCall)) → ((index : ℕ) → places_from (is_of_index «module» index) at slots ≡ []) → items_in slots ≡ []
   none_left at [] none = refl
   none_left at (None ∷ slots) none = none_left (suc at) slots none
   none_left at (Some x ∷ slots) none =
@@ -222,12 +222,12 @@ module _ («module» : ℕ) where
       cc
 
   -- once the calls of a group are gone
-  pub kept-spared : (group : Group) (slots : List (Option HeldCall)) → kept (filter (stays «module» group) slots) ≡ filter (λ c. not (is_in_group «module» group c)) (kept slots)
+  pub kept-spared : (group : Group) (slots : List (Option HeldCall)) → items_in (filter (stays «module» group) slots) ≡ filter (λ c. not (is_in_group «module» group c)) (items_in slots)
   kept-spared group [] = refl
   kept-spared group (None ∷ slots) = kept-spared group slots
   kept-spared group (Some c ∷ slots) =
-      elim (not (is_in_group «module» group c)) as (λ b. kept (cond b (Some c ∷ filter (stays «module» group) slots) (filter (stays «module» group) slots))
-      ≡ cond b (c ∷ filter (λ d. not (is_in_group «module» group d)) (kept slots)) (filter (λ d. not (is_in_group «module» group d)) (kept slots))) [
+      elim (not (is_in_group «module» group c)) as (λ b. items_in (cond b (Some c ∷ filter (stays «module» group) slots) (filter (stays «module» group) slots))
+      ≡ cond b (c ∷ filter (λ d. not (is_in_group «module» group d)) (items_in slots)) (filter (λ d. not (is_in_group «module» group d)) (items_in slots))) [
         | true ↦ ap (λ cs. c ∷ cs) (kept-spared group slots)
         | false ↦ kept-spared group slots
       ]

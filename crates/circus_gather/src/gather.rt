@@ -9,7 +9,7 @@ use crate::group::Group;
 use crate::held::index_of;
 use crate::waiting::Waiting;
 use crate::{Added, HeldCall};
-use circus_collate::{Kind, Said, View, Views, given};
+use circus_collate::{Kind, Said, View, Views, place_given};
 use circus_header::{CallHeader, Reply};
 use circus_value::{Caller, Callers, Duplicate, ListOf, NoMemory, Nodes, Parts};
 use indexmap::IndexMap;
@@ -116,7 +116,7 @@ impl Gather {
     }
 
     /// The greatest incarnation of the state requests so far, or 0. It takes no memory.
-    pub fn required(&self) -> u32
+    pub fn required_incarnation(&self) -> u32
         ensures { result ≡ self.now.required }
     {
         self.required
@@ -139,7 +139,7 @@ impl Gather {
             incarnation: 0,
             entries: ListOf::new(self.alloc),
         };
-        let said = self.waiting.said(self.required, views, index)?;
+        let said = self.waiting.values_said(self.required, views, index)?;
         let callers = ExpectedCallers {
             views,
             nobody: &nobody,
@@ -226,7 +226,7 @@ fn given_call<'a>(
     ensures { option_copied result
         ≡ gathering.given_call callers.now.views.now down.now kind said.now }
 {
-    let place = given(kind, callers, down, said)?;
+    let place = place_given(kind, callers, down, said)?;
     let said = said.get(place)?;
     Some(said.value.call())
 }

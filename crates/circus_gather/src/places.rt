@@ -23,8 +23,8 @@ pub(crate) fn note(
     place: usize,
 ) -> Result<(), NoMemory>
     ensures ok { OnOk result
-        ((q : ℕ) → slots_seen.found places.new.entries q
-        ≡ slots_seen.found places.old.entries q ++ (if nat_eq index q then place ∷ [] else [])) }
+        ((q : ℕ) → slots_seen.slots_of_index places.new.entries q
+        ≡ slots_seen.slots_of_index places.old.entries q ++ (if nat_eq index q then place ∷ [] else [])) }
     ensures err { OnErr result (places.new.entries ≡ places.old.entries) }
 {
     match places.get_mut(&index) {
@@ -35,10 +35,10 @@ pub(crate) fn note(
 
 // Notes the slot of the first call of an index.
 fn begin(alloc: Global, places: &mut Places, index: u32, place: usize) -> Result<(), NoMemory>
-    requires { slots_seen.found places.old.entries index ≡ [] }
+    requires { slots_seen.slots_of_index places.old.entries index ≡ [] }
     ensures ok { OnOk result
-        ((q : ℕ) → slots_seen.found places.new.entries q
-        ≡ slots_seen.found places.old.entries q ++ (if nat_eq index q then place ∷ [] else [])) }
+        ((q : ℕ) → slots_seen.slots_of_index places.new.entries q
+        ≡ slots_seen.slots_of_index places.old.entries q ++ (if nat_eq index q then place ∷ [] else [])) }
     ensures err { OnErr result (places.new.entries ≡ places.old.entries) }
 {
     let mut of_index = ListOf::new(alloc);
@@ -49,10 +49,10 @@ fn begin(alloc: Global, places: &mut Places, index: u32, place: usize) -> Result
 
 /// Takes out the slots of an index.
 pub(crate) fn take(alloc: Global, places: &mut Places, index: u32) -> ListOf<usize>
-    ensures taken { result ≡ slots_seen.found places.old.entries index }
+    ensures taken { result ≡ slots_seen.slots_of_index places.old.entries index }
     ensures left { (q : ℕ)
-        → slots_seen.found places.new.entries q
-        ≡ (if nat_eq index q then [] else slots_seen.found places.old.entries q) }
+        → slots_seen.slots_of_index places.new.entries q
+        ≡ (if nat_eq index q then [] else slots_seen.slots_of_index places.old.entries q) }
 {
     match places.swap_remove(&index) {
         Some(of_index) => of_index,
@@ -68,14 +68,14 @@ pub(crate) fn places_without(
     group: Group,
 ) -> Result<Places, NoMemory>
     ensures { IfOk result (λ places.
-        (q : ℕ) → slots_seen.found places.entries q
+        (q : ℕ) → slots_seen.slots_of_index places.entries q
         ≡ slots_seen.places_from (gathering.is_of_index «module» q) 0
         (filter (stays «module» group) slots.now)) }
 {
     let mut places = IndexMap::new(alloc);
     let mut place = 0;
     for slot in slots {
-        if let Some(call) = spared(module, slot, group) {
+        if let Some(call) = call_outside(module, slot, group) {
             note(alloc, &mut places, index_of(module, &call.header), place)?;
             place += 1;
         }
@@ -84,7 +84,7 @@ pub(crate) fn places_without(
 }
 
 // The call of a slot, where it is in no group.
-fn spared(module: u16, slot: &Option<HeldCall>, group: Group) -> Option<&HeldCall>
+fn call_outside(module: u16, slot: &Option<HeldCall>, group: Group) -> Option<&HeldCall>
     ensures { option_copied result ≡ groups.spared «module» group slot.now }
 {
     match slot.as_ref() {

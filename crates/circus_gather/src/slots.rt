@@ -13,7 +13,7 @@ pub(crate) type Calls<'a> = ListOf<CallValue<'a>>;
 
 // The call in a slot.
 fn call_at(slots: &[Option<HeldCall>], place: usize) -> Option<&HeldCall>
-    ensures { option_copied result ≡ slots_seen.standing slots.now place }
+    ensures { option_copied result ≡ slots_seen.item_at slots.now place }
 {
     match slots.get(place) {
         Some(slot) => slot.as_ref(),
@@ -42,7 +42,7 @@ pub(crate) fn calls_at<'a>(
 /// All calls.
 #[tactic(auto, using(crate::proofs::Standing::kept_more, crate::proofs::Standing::kept_none, crate::proofs::Standing::kept_all))]
 pub(crate) fn all_calls(alloc: Global, slots: &[Option<HeldCall>]) -> Result<Calls<'_>, NoMemory>
-    ensures { IfOk result (λ calls. calls ≡ slots_seen.kept slots.now) }
+    ensures { IfOk result (λ calls. calls ≡ slots_seen.items_in slots.now) }
 {
     let mut calls = ListOf::new(alloc);
     for slot in slots {
@@ -56,7 +56,7 @@ pub(crate) fn all_calls(alloc: Global, slots: &[Option<HeldCall>]) -> Result<Cal
 // Empties the slots at places.
 #[tactic(auto, using(circus_collate::proofs::Going::fold_more, circus_collate::proofs::Going::fold_all, std::proofs::lemmas::List::set_past))]
 fn empty_at(slots: &mut [Option<HeldCall>], places: &[usize])
-    ensures { slots.new ≡ slots_seen.emptied slots.old places.now }
+    ensures { slots.new ≡ slots_seen.empty_slots slots.old places.now }
 {
     for place in places {
         empty_one(slots, *place);
@@ -72,8 +72,8 @@ fn empty_one(slots: &mut [Option<HeldCall>], place: usize)
 }
 
 /// Empties the slots at places.
-pub(crate) fn empty(slots: &mut Vec<Option<HeldCall>>, places: &[usize])
-    ensures { slots.new.items ≡ slots_seen.emptied slots.old.items places.now }
+pub(crate) fn empty_slots(slots: &mut Vec<Option<HeldCall>>, places: &[usize])
+    ensures { slots.new.items ≡ slots_seen.empty_slots slots.old.items places.now }
 {
     empty_at(slots.as_mut_slice(), places);
 }

@@ -8,7 +8,7 @@ use crate::call_value::CallValue;
 use crate::group::{Group, is_of_index};
 use crate::held::index_of;
 use crate::places::{Places, note, places_without, take};
-use crate::slots::{Calls, all_calls, calls_at, empty, give_up};
+use crate::slots::{Calls, all_calls, calls_at, empty_slots, give_up};
 use circus_collate::{Said, Views};
 use circus_value::{Callers, ListOf, NoMemory};
 use indexmap::IndexMap;
@@ -26,11 +26,11 @@ pub(crate) struct Waiting {
 
 impl Model for Waiting {
     ghost use Rattle.circus_gather.specs.Seen.Groups.{Waits};
-    ghost use Rattle.circus_gather.specs.Seen.Slots.{kept, AreFound};
+    ghost use Rattle.circus_gather.specs.Seen.Slots.{items_in, AreFound};
 
     ghost Value = { Waits };
 
-    ghost view = { λ a. record { «module» = a.module; calls = kept a.slots.items } };
+    ghost view = { λ a. record { «module» = a.module; calls = items_in a.slots.items } };
 
     ghost invariant = { λ a. AreFound a.module a.slots.items a.places.entries };
 }
@@ -99,7 +99,7 @@ impl Waiting {
             } }
     {
         let places = take(self.alloc, &mut self.places, index);
-        empty(&mut self.slots, places.as_slice());
+        empty_slots(&mut self.slots, places.as_slice());
         give_up(&mut self.slots, &self.places);
     }
 
@@ -127,7 +127,7 @@ impl Waiting {
     }
 
     /// What is said by the calls that count for a run, in order of arrival.
-    pub fn said(
+    pub fn values_said(
         &self,
         required: u32,
         views: &Views,
@@ -139,7 +139,7 @@ impl Waiting {
             self.now.calls)) }
     {
         let calls = self.of_index(index)?;
-        counted(
+        calls_that_count(
             self.alloc,
             self.module,
             calls.as_slice(),
@@ -181,7 +181,7 @@ fn callers_in(
 }
 
 #[tactic(auto, using(circus_collate::proofs::Going::made_more, circus_collate::proofs::Going::passed_over, circus_collate::proofs::Going::made_all))]
-fn counted<'a>(
+fn calls_that_count<'a>(
     alloc: Global,
     module: u16,
     calls: &[CallValue<'a>],

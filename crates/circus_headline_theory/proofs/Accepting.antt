@@ -22,11 +22,11 @@ use Rattle.circus_model.specs.NextTurn.{NextTurn}
 use Rattle.circus_model.specs.declared.signature.Signature.{Signature}
 use Rattle.circus_record.specs.declared.record.MemberRecord.{MemberRecord}
 use Rattle.circus_performing.specs.Record.{behaviour}
-use Rattle.circus_pair.specs.Handed.{made}
+use Rattle.circus_pair.specs.Handed.{calls_made}
 use Rattle.circus_pair.specs.Sending.{takes_after}
 use Rattle.circus_pair.specs.Standing.{arrival_after}
 use Rattle.circus_fanout.specs.Asking.{Asking}
-use Rattle.circus_wire.specs.Wire.{WireState, Beginning, IsOther, heard_from, told, told_return}
+use Rattle.circus_wire.specs.Wire.{WireState, Beginning, IsOther, heard_from, hear_arrival, told_return}
 use Rattle.circus_wire.specs.WireActs.{WireActs, begun, followed_by, CallTo, AnswerTo, CameFrom, TickAll, StopOf, acts_at, purpose_of}
 use Rattle.circus_wire.specs.WireStanding.{WireStands, pair_of}
 use Rattle.circus_wire.specs.declared.delivery.Heard.{Heard}
@@ -44,7 +44,7 @@ use Rattle.circus_member_rules.specs.OpenAsks.{asking_of}
 use Rattle.circus_member_rules.specs.Happening.{IsHome}
 use Rattle.circus_member_rules.specs.MemberState.{MemberState}
 use Rattle.circus_node.specs.Accepting as accepting
-use Rattle.circus_node.specs.Accepting.{accepted_call, accepted_table, accepted_state, imported, recorded_ask, called_by}
+use Rattle.circus_node.specs.Accepting.{accepted_call, accepted_table, accepted_state, imported_procedure, recorded_ask, called_by}
 use Rattle.circus_node.specs.Bodies.{outcome_at}
 use Rattle.circus_node.specs.Headers.{return_in}
 use Rattle.circus_member_theory.proofs.Accepting.Taken.{imported_as, called_open}
@@ -59,7 +59,7 @@ use Rattle.circus_headline_theory.proofs.Owed.Lives.{rises}
 use Rattle.circus_headline_theory.proofs.Datagrams.Asked.{found_there, IsEntry, open_all, call_was_due}
 use Rattle.circus_headline_theory.proofs.Datagrams.Membership.{all_in, filtered_in}
 use Rattle.circus_headline_theory.specs.Trace.{heard_in}
-use Rattle.circus_headline_theory.specs.NodeRun.{accepted, accepted_answer}
+use Rattle.circus_headline_theory.specs.NodeRun.{occurrence_by_record, accepted_answer}
 use Rattle.circus_headline_theory.proofs.Asks.{Callee, callee_of, recorded, recorded_at, imported_recorded}
 
 -- ---- what is heard
@@ -75,13 +75,13 @@ pub purposed : (b : Beginning) (node : ℕ) (acts : WireActs Purpose) (number : 
     → (message : List ℕ) × IsAmong acts (CallTo node message purpose)
 purposed b node begun number purpose is = absurd (let clash : ◌≡◌ {A = Option Purpose} None (Some purpose) = is in cc)
 purposed b node (followed_by acts (CallTo to message other)) number purpose is =
-    by_test (λ rest. let p = purposed b node acts number purpose rest in (p.0, inl p.1)) (eqb to node && eqb number ((pair_of b).next + made (acts_at (pair_of b) node acts))) refl is
+    by_test (λ rest. let p = purposed b node acts number purpose rest in (p.0, inl p.1)) (eqb to node && eqb number ((pair_of b).next + calls_made (acts_at (pair_of b) node acts))) refl is
   where
     by_test : (purpose_of (pair_of b) node acts number ≡ Some purpose → (m : List ℕ) × IsAmong (followed_by acts (CallTo to message other)) (CallTo node m purpose))
-        → (t : Bool) → (eqb to node && eqb number ((pair_of b).next + made (acts_at (pair_of b) node acts))) ≡ t → cond t (Some other) (purpose_of (pair_of b) node acts number) ≡ Some purpose
+        → (t : Bool) → (eqb to node && eqb number ((pair_of b).next + calls_made (acts_at (pair_of b) node acts))) ≡ t → cond t (Some other) (purpose_of (pair_of b) node acts number) ≡ Some purpose
         → (m : List ℕ) × IsAmong (followed_by acts (CallTo to message other)) (CallTo node m purpose)
     by_test rest true test found =
-        let same : to ≡ node = eqb-true to node (and_parts (eqb to node) (eqb number ((pair_of b).next + made (acts_at (pair_of b) node acts))) test).0 in
+        let same : to ≡ node = eqb-true to node (and_parts (eqb to node) (eqb number ((pair_of b).next + calls_made (acts_at (pair_of b) node acts))) test).0 in
         let says : other ≡ purpose = same_Some other purpose found in
         (message, inr (λ i. CallTo (same i) message (says i)))
     by_test rest false test found = rest found
@@ -116,12 +116,12 @@ answers_record kept b acts from each (Ok s) = by_test (takes_after (pair_of b) (
     by_purpose number message None is = tt
     by_purpose number message (Some purpose) is = (let p = purposed b from acts number purpose is in each purpose p.0 p.1)
 
-    by_arrived : (a : Arrived) → AnswersRecord kept (told (purpose_of (pair_of b) from acts) from a)
+    by_arrived : (a : Arrived) → AnswersRecord kept (hear_arrival (purpose_of (pair_of b) from acts) from a)
     by_arrived Nothing = tt
     by_arrived (ArrivedCall number message) = tt
     by_arrived (ArrivedReturn number message) = by_purpose number message (purpose_of (pair_of b) from acts number) refl
 
-    by_test : (t : Bool) → AnswersRecord kept (if t then told (purpose_of (pair_of b) from acts) from (arrival_after (pair_of b) (acts_at (pair_of b) from acts) s) else Dropped)
+    by_test : (t : Bool) → AnswersRecord kept (if t then hear_arrival (purpose_of (pair_of b) from acts) from (arrival_after (pair_of b) (acts_at (pair_of b) from acts) s) else Dropped)
     by_test true = by_arrived (arrival_after (pair_of b) (acts_at (pair_of b) from acts) s)
     by_test false = tt
 
@@ -131,7 +131,7 @@ answers_record kept b acts from each (Ok s) = by_test (takes_after (pair_of b) (
 module _ {M : Type 0} (d : Deployment) (declared : Signature) (m : MemberState M) (own : ℕ) (earlier kept : MemberRecord) (hosts : m.place.troupe ≡ own) (from : ℕ) where
   -- the two say the same of the procedure that an ask calls
   abbrev pub SaysSame : AskName → Type 0
-  SaysSame name = option_and_then (imported declared) (called_by m name) ≡ option_and_then (imported declared) (recorded_ask kept name)
+  SaysSame name = option_and_then (imported_procedure declared) (called_by m name) ≡ option_and_then (imported_procedure declared) (recorded_ask kept name)
 
   answer_as : (name : AskName) (server : ℕ) (message : List ℕ) → SaysSame name → (o : Option (ReturnHeader × ℕ))
       → option_and_then (λ (read : ReturnHeader × ℕ). accepting.taken_answer d declared m name server from read.0 read.1 message) o
@@ -149,13 +149,13 @@ module _ {M : Type 0} (d : Deployment) (declared : Signature) (m : MemberState M
   answer_as name server message same (Some (says.Table, at)) = refl
 
   return_as : (purpose : Purpose) (message : List ℕ) → ((name : AskName) → IsRecorded earlier name → SaysSame name) → IsOfRecord earlier purpose → (number : ℕ)
-      → accepting.accepted d declared m from (Returned number purpose message) ≡ accepted d declared own kept from (Returned number purpose message)
+      → accepting.occurrence_of_heard d declared m from (Returned number purpose message) ≡ occurrence_by_record d declared own kept from (Returned number purpose message)
   return_as (for.Ask name server) message each is number = answer_as name server message (each name is) (return_in message)
   return_as (for.Ring request) message each is number = refl
   return_as for.Fetch message each is number = refl
 
   pub accepted_as : ((name : AskName) → IsRecorded earlier name → SaysSame name) → (h : Heard Purpose) → AnswersRecord earlier h
-      → accepting.accepted d declared m from h ≡ accepted d declared own kept from h
+      → accepting.occurrence_of_heard d declared m from h ≡ occurrence_by_record d declared own kept from h
   accepted_as each Dropped is = refl
   accepted_as each Taken is = refl
   accepted_as each (Called sender message) is = ap (λ n. accepted_call d declared n sender message) hosts
@@ -178,14 +178,14 @@ module _ {M : Type 0} (declared : M → Signature) (turn : M → List ValueTree 
   c = called_all declared turn first lawful place views beginning hosted home p may
 
   -- an open ask calls what the record says
-  pub called_is : (s : Signature) (name : AskName) (x : Callee) → recorded kept name ≡ Some x → option_and_then (imported s) (called_by life name) ≡ imported_as s x.0 x.1
+  pub called_is : (s : Signature) (name : AskName) (x : Callee) → recorded kept name ≡ Some x → option_and_then (imported_procedure s) (called_by life name) ≡ imported_as s x.0 x.1
   called_is s name x there = by_ask (asking_of life.asks name) refl
     where
-      by_ask : (o : Option Asking) → asking_of life.asks name ≡ o → option_and_then (imported s) (called_by life name) ≡ imported_as s x.0 x.1
+      by_ask : (o : Option Asking) → asking_of life.asks name ≡ o → option_and_then (imported_procedure s) (called_by life name) ≡ imported_as s x.0 x.1
       by_ask None is = closed is ∙ imported_recorded s kept name x there
         where
-          closed : asking_of life.asks name ≡ None → option_and_then (imported s) (called_by life name) ≡ option_and_then (imported s) (recorded_ask kept name)
-          closed none = ap (λ o. option_and_then (imported s) (option_map_or (λ (a : Asking). Some (record { troupe = a.header.server; procedure = a.header.procedure })) o (recorded_ask kept name))) none
+          closed : asking_of life.asks name ≡ None → option_and_then (imported_procedure s) (called_by life name) ≡ option_and_then (imported_procedure s) (recorded_ask kept name)
+          closed none = ap (λ o. option_and_then (imported_procedure s) (option_map_or (λ (a : Asking). Some (record { troupe = a.header.server; procedure = a.header.procedure })) o (recorded_ask kept name))) none
       by_ask (Some a) is =
           let asks = open_asks place views kept p in
           let t = found_there asks name a (ap (λ l. asking_of l name) (sym c.asks_are) ∙ is) in

@@ -8,7 +8,7 @@ use Rattle.std.proofs.lemmas.Option.{same_Some, slice_get_within}
 use Rattle.circus_value.specs.ValueTree.{ValueTree}
 use Rattle.circus_header.specs.declared.answer.Reply.{Reply}
 use Rattle.circus_header.specs.ReplyEquality.{reply_eq}
-use Rattle.circus_collate.specs.Collating.{collated}
+use Rattle.circus_collate.specs.Collating.{collate}
 use Rattle.circus_collate.specs.Expecting.{expected_nodes}
 use Rattle.circus_collate.specs.declared.table.Table.{Table}
 use Rattle.circus_collate.specs.declared.view.View.{View}
@@ -31,7 +31,7 @@ use Rattle.circus_member_rules.specs.declared.occurrence.Occurrence.{Occurrence}
 use Rattle.circus_member_rules.specs.declared.occurrence.Occurrence.TheVariants as comes
 use Rattle.circus_member_rules.specs.Step.{start_by_call, is_join}
 use Rattle.circus_timely.specs.First.{at_end, or_else, first_given}
-use Rattle.circus_timely.specs.Past.{Past, booted, followed, now, Rises, known, down, said, is_outside, is_asking, is_done, taken_in, phase, fetched}
+use Rattle.circus_timely.specs.Past.{Past, booted, followed, now, Rises, views_known, nodes_declared_down, replies_to, is_outside, is_asking, is_done, taken_in, phase, snapshot_fetched}
 use Rattle.circus_timely.specs.Timely.{given_value, ShowsAnswer, IsMain, has_ended, is_free_for, may_start, may_answer, collated_call, collated_reply, name_of, IsTimely}
 use Rattle.circus_member_theory.proofs.Timely.Firsts.{none_now}
 use Rattle.circus_timely.specs.Snapshots.{began}
@@ -117,7 +117,7 @@ passes false o x is = absurd (none_is_some None x refl is)
 module _ (begins : Joiner) where
   record StaysActive (p q : Past) : Type 0 where
     active : is_active (phase begins q) ≡ true
-    fetched_is : fetched begins q ≡ fetched begins p
+    fetched_is : snapshot_fetched begins q ≡ snapshot_fetched begins p
 
   active_by_join : (j : Joiner) → is_active j ≡ true → is_active (if is_outside j then phases.Asking else j) ≡ true
   active_by_join phases.Outside is = cc
@@ -145,7 +145,7 @@ module _ (begins : Joiner) where
       let no = fetches_no_more (phase begins p) is in
       record {
         active = ap (λ t. is_active (if t then phases.Active count else phase begins p)) no ∙ is;
-        fetched_is = ap (λ t. if t then Some (state, count) else fetched begins p) no;
+        fetched_is = ap (λ t. if t then Some (state, count) else snapshot_fetched begins p) no;
       }
   stays_active p step (comes.Asked header body sender) is = record { active = is; fetched_is = refl }
   stays_active p step (comes.Fetched incarnation sender) is = record { active = is; fetched_is = refl }
@@ -155,19 +155,19 @@ module _ (begins : Joiner) where
   stays_active p step (comes.Declared node) is = record { active = is; fetched_is = refl }
 
   active_since : (p q : Past) → WasSo p q → is_active (phase begins q) ≡ true → StaysActive q p
-  active_since booted q same is = record { active = ap (λ x. is_active (phase begins x)) (sym same) ∙ is; fetched_is = ap (fetched begins) (sym same) }
-  active_since (followed p step o) q (inl same) is = record { active = ap (λ x. is_active (phase begins x)) (sym same) ∙ is; fetched_is = ap (fetched begins) (sym same) }
+  active_since booted q same is = record { active = ap (λ x. is_active (phase begins x)) (sym same) ∙ is; fetched_is = ap (snapshot_fetched begins) (sym same) }
+  active_since (followed p step o) q (inl same) is = record { active = ap (λ x. is_active (phase begins x)) (sym same) ∙ is; fetched_is = ap (snapshot_fetched begins) (sym same) }
   active_since (followed p step o) q (inr was) is =
       let a = active_since p q was is in
       let b = stays_active p step o a.active in
       record { active = b.active; fetched_is = b.fetched_is ∙ a.fetched_is }
 
   -- one that wasn't active at boot has a state
-  active_by_state : is_active begins ≡ false → (q : Past) → is_active (phase begins q) ≡ true → fetched begins q ≡ None → ⊥
+  active_by_state : is_active begins ≡ false → (q : Past) → is_active (phase begins q) ≡ true → snapshot_fetched begins q ≡ None → ⊥
   active_by_state inactive booted is none = true≢false (sym is ∙ inactive)
   active_by_state inactive (followed p step comes.Joins) is none = by_phase (active_by_state inactive p) (phase begins p) refl is
     where
-      by_phase : (is_active (phase begins p) ≡ true → fetched begins p ≡ None → ⊥) → (j : Joiner) → phase begins p ≡ j → is_active (if is_outside j then phases.Asking else j) ≡ true → ⊥
+      by_phase : (is_active (phase begins p) ≡ true → snapshot_fetched begins p ≡ None → ⊥) → (j : Joiner) → phase begins p ≡ j → is_active (if is_outside j then phases.Asking else j) ≡ true → ⊥
       by_phase rest phases.Outside there now_is = cc
       by_phase rest phases.Asking there now_is = cc
       by_phase rest (phases.Fetching incarnation) there now_is = cc
@@ -178,13 +178,13 @@ module _ (begins : Joiner) where
       not_taken true x = cc
       not_taken false x = cc
 
-      by_test : (is_active (phase begins p) ≡ true → fetched begins p ≡ None → ⊥) → (t : Bool) → is_active (if t then taken_in table else phase begins p) ≡ true → ⊥
+      by_test : (is_active (phase begins p) ≡ true → snapshot_fetched begins p ≡ None → ⊥) → (t : Bool) → is_active (if t then taken_in table else phase begins p) ≡ true → ⊥
       by_test rest true now_is = not_taken (is_done table.result) now_is
       by_test rest false now_is = rest now_is none
   active_by_state inactive (followed p step (comes.Restored state count)) is none = by_test (active_by_state inactive p) (is_fetching (phase begins p)) is none
     where
-      by_test : (is_active (phase begins p) ≡ true → fetched begins p ≡ None → ⊥) → (t : Bool) → is_active (if t then phases.Active count else phase begins p) ≡ true
-          → (if t then Some (state, count) else fetched begins p) ≡ None → ⊥
+      by_test : (is_active (phase begins p) ≡ true → snapshot_fetched begins p ≡ None → ⊥) → (t : Bool) → is_active (if t then phases.Active count else phase begins p) ≡ true
+          → (if t then Some (state, count) else snapshot_fetched begins p) ≡ None → ⊥
       by_test rest true now_is is_none = cc
       by_test rest false now_is is_none = rest now_is is_none
   active_by_state inactive (followed p step (comes.Asked header body sender)) is none = active_by_state inactive p is none
@@ -624,9 +624,9 @@ module _ (place : Place) (boot : List View) (begins : Joiner) (procedures : List
             answers_may = λ j u.
                 if nat_le (asked j) (now u)
                 then option_and_then
-                (λ (view : View). given_value (said (asked j) (let n : AskName = record { run = from j + length before; ask = length made } in n) u)
-                (collated reply_eq (expected_nodes view (index j)) (down u) (said (asked j) (let n : AskName = record { run = from j + length before; ask = length made } in n) u) place.replies))
-                (slice_get (known boot u) (callee j))
+                (λ (view : View). given_value (replies_to (asked j) (let n : AskName = record { run = from j + length before; ask = length made } in n) u)
+                (collate reply_eq (expected_nodes view (index j)) (nodes_declared_down u) (replies_to (asked j) (let n : AskName = record { run = from j + length before; ask = length made } in n) u) place.replies))
+                (slice_get (views_known boot u) (callee j))
                 else None
 
             answers_given : (v : Past) → first_given (may_answer place boot begins (name_of place boot begins procedures at_boot one p (length before) (length made)) c) v ≡ first_given (may_answer place boot begins (name_of place boot begins procedures at_boot other r (length before) (length made)) e) v
@@ -813,22 +813,22 @@ module _ (place : Place) (boot : List View) (begins : Joiner) (procedures : List
       since : (x : Past) (kept : MemberRecord) → IsSince q x kept → For (began begins first x) x kept
       since x kept i = record { is = record { timely = i.is.timely; follows = i.is.follows }; rises = i.rises; was = i.was }
 
-      from_then : (x : Past) (kept : MemberRecord) → IsSince q x kept → is_active (phase begins q) ≡ true → (o : Option (ℕ × (List ValueTree × ℕ))) → first_given (fetched begins) q ≡ o
+      from_then : (x : Past) (kept : MemberRecord) → IsSince q x kept → is_active (phase begins q) ≡ true → (o : Option (ℕ × (List ValueTree × ℕ))) → first_given (snapshot_fetched begins) q ≡ o
           → kept.from ≡ option_map_or (λ (g : ℕ × (List ValueTree × ℕ)). g.1.1) o 0
       from_then x kept i active o there = by_boot (is_active begins) refl o there
         where
-          by_boot : (t : Bool) → is_active begins ≡ t → (o : Option (ℕ × (List ValueTree × ℕ))) → first_given (fetched begins) q ≡ o → kept.from ≡ option_map_or (λ (g : ℕ × (List ValueTree × ℕ)). g.1.1) o 0
+          by_boot : (t : Bool) → is_active begins ≡ t → (o : Option (ℕ × (List ValueTree × ℕ))) → first_given (snapshot_fetched begins) q ≡ o → kept.from ≡ option_map_or (λ (g : ℕ × (List ValueTree × ℕ)). g.1.1) o 0
           by_boot true is None none = (i.is.from_first (none_given begins is x)).0
-          by_boot true is (Some g) some = absurd (none_is_some (first_given (fetched begins) q) g (none_given begins is q) some)
-          by_boot false is None none = absurd (active_by_state begins is q active (none_now (fetched begins) q none))
-          by_boot false is (Some g) some = (i.is.timely.active is g.0 g.1.0 g.1.1 (given_stays (fetched begins) x q g i.was some)).1
+          by_boot true is (Some g) some = absurd (none_is_some (first_given (snapshot_fetched begins) q) g (none_given begins is q) some)
+          by_boot false is None none = absurd (active_by_state begins is q active (none_now (snapshot_fetched begins) q none))
+          by_boot false is (Some g) some = (i.is.timely.active is g.0 g.1.0 g.1.1 (given_stays (snapshot_fetched begins) x q g i.was some)).1
 
       state_then : (x : Past) (kept : MemberRecord) → IsSince q x kept → is_active (phase begins q) ≡ true → began begins first x ≡ began begins first q
       state_then x kept i active = ap (λ o. option_map_or (λ (g : List ValueTree × ℕ). g.0) o first) (active_since begins x q i.was active).fetched_is
 
       by_active : (t : Bool) → is_active (phase begins q) ≡ t → Agree (now q) one other
       by_active true active =
-          let from = from_then p one h active (first_given (fetched begins) q) refl ∙ sym (from_then r other k active (first_given (fetched begins) q) refl) in
+          let from = from_then p one h active (first_given (snapshot_fetched begins) q) refl ∙ sym (from_then r other k active (first_given (snapshot_fetched begins) q) refl) in
           record {
             runs = runs_agree place boot begins procedures at_boot b few active_boot (began begins first q) q p r one other from
                 (subst (λ state. For state p one) (state_then p one h active) (since p one h))

@@ -22,7 +22,7 @@ use Rattle.circus_member_rules.specs.Messages.{reply_message, stale_message, bef
 use Rattle.circus_member_rules.specs.declared.occurrence.AskName.{AskName}
 use Rattle.circus_member_rules.specs.declared.place.Place.{Place}
 use Rattle.circus_member_rules.specs.Step.{reply_of_run}
-use Rattle.circus_timely.specs.Past.{Past, now, Rises, phase, required}
+use Rattle.circus_timely.specs.Past.{Past, now, Rises, phase, required_incarnation}
 use Rattle.circus_member_theory.proofs.Timely.Firsts.{same_first}
 use Rattle.circus_timely.specs.Asks.{is_new, is_waiting, as_made, asks_from, asks_of, knows, first_calls, calls_behind, open_asks, new_asks}
 use Rattle.circus_timely.specs.Made.{asks, requests}
@@ -240,13 +240,13 @@ module _ (s : ℕ) (one other : MemberRecord) (a : Agree s one other) where
 
     stale_same : (step : ℕ) (call : HeldCall) (p : Past) → now p ≤ s → is_stale troupe begins one step call p ≡ is_stale troupe begins other step call p
     stale_same step call p low =
-        ap (λ t. nat_lt call.header.server_incarnation (required p) && (nat_eq step (now p) || not t)) (started_same (index_of troupe call.header) (now p) low)
+        ap (λ t. nat_lt call.header.server_incarnation (required_incarnation p) && (nat_eq step (now p) || not t)) (started_same (index_of troupe call.header) (now p) low)
 
     return_same : (step : ℕ) (call : HeldCall) (p : Past) → now p ≤ s → return_at troupe begins one step call p ≡ return_at troupe begins other step call p
     return_same step call p low =
         λ j.
         if nat_lt (now p) step then None
-        else if stale_same step call p low j then Some (stale_message (required p))
+        else if stale_same step call p low j then Some (stale_message (required_incarnation p))
         else if is_before troupe begins one call p then Some (before_message (first_of (phase begins p)))
         else replies_same call p low j
 

@@ -36,7 +36,7 @@ use Rattle.circus_node.specs.Trace as trace
 use Rattle.circus_headline_theory.specs.Trace.{events_of}
 use Rattle.circus_headline_theory.specs.Lived.{then_on, with_events}
 use Rattle.circus_headline_theory.specs.Coming.{events_along, AreOfOthers}
-use Rattle.circus_headline_theory.specs.Events.{arriving, event_for, is_crash_of, is_join_of, in_step, events_behind, crash_behind, joins_in}
+use Rattle.circus_headline_theory.specs.Events.{event_of_sent, event_for, is_crash_of, is_join_of, in_step, events_behind, crash_behind, joins_in}
 use Rattle.circus_headline_theory.specs.Sendings.{given_in, given_of, as_sent, SentWhatWasGiven}
 use Rattle.circus_headline_theory.proofs.Boots.{get_first}
 use Rattle.circus_headline_theory.proofs.Walks.{IsStill, HasMoved, Walks, line_walks}
@@ -100,7 +100,7 @@ module _ {M : Type 0} (declared : M → Signature) (turn : M → List ValueTree 
         → event_for node sent line ≡ event_for node w.sent line
     event_later (Deliver place) w next leads sent more is =
         let found = get_there w.sent place (ltb-true place (length w.sent) (below_sent (nat_lt place (length w.sent)) place (length w.sent) leads.legal)) in
-        ap (option_and_then (arriving node)) (ap (λ (l : List Sent). slice_get l place) is ∙ get_first w.sent more place found.0 found.1 ∙ sym found.1)
+        ap (option_and_then (event_of_sent node)) (ap (λ (l : List Sent). slice_get l place) is ∙ get_first w.sent more place found.0 found.1 ∙ sym found.1)
     event_later (Tick other) w next leads sent more is = refl
     event_later (Crash other) w next leads sent more is = refl
     event_later (Down other told) w next leads sent more is = refl

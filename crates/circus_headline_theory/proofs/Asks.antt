@@ -14,7 +14,7 @@ use Rattle.circus_record.specs.declared.record.AskRecord.{AskRecord}
 use Rattle.circus_record.specs.declared.record.MemberRecord.{MemberRecord}
 use Rattle.circus_record.specs.declared.record.RunRecord.{RunRecord}
 use Rattle.circus_performing.specs.declared.start.RunStart.{RunStart}
-use Rattle.circus_performing.specs.Performing.{clock_after, begun, made_ask, answered_ask, refusal, with_ask, with_refusal, turned, gone_on, replies_of, state_after, most_turns}
+use Rattle.circus_performing.specs.Performing.{clock_after, begin_run, made_ask, answered_ask, refusal, with_ask, with_refusal, turn_run, gone_on, replies_of, state_after, most_turns}
 use Rattle.circus_performing.specs.Record.{behaviour, start_of, turns}
 use Rattle.circus_performing.proofs.Records.{with_answer, answered_is}
 use Rattle.circus_member_rules.specs.declared.place.Beginning.{Beginning}
@@ -26,7 +26,7 @@ use Rattle.circus_member_rules.specs.MemberState.{Doing}
 use Rattle.circus_member_rules.proofs.Entering.{HasValue, with_entered, with_answered}
 use Rattle.circus_member_rules.proofs.Starting.{IsSoundNow}
 use Rattle.circus_member_rules.proofs.Writing.{one_is_performing}
-use Rattle.circus_node.specs.Accepting.{imported, recorded_ask}
+use Rattle.circus_node.specs.Accepting.{imported_procedure, recorded_ask}
 use Rattle.circus_member_theory.proofs.Accepting.Taken.{imported_as}
 use Rattle.circus_timely.specs.Past.{Past, followed}
 use Rattle.circus_member_theory.specs.Living.{MayLive, kept_after}
@@ -67,7 +67,7 @@ unfolding gone_on
 stay_gone step turn zero run = λ n c is. is
 stay_gone step turn (suc left) run = by_turn (stay_gone step turn left) (turn (replies_of run.asks))
   where
-    by_turn : ((r : RunRecord) → Stay r.asks (gone_on step turn left r).asks) → (next : NextTurn) → Stay run.asks (turned step (gone_on step turn left) run next).asks
+    by_turn : ((r : RunRecord) → Stay r.asks (gone_on step turn left r).asks) → (next : NextTurn) → Stay run.asks (turn_run step (gone_on step turn left) run next).asks
     by_turn rest (ends outcome state) = λ n c is. is
     by_turn rest (asks callee procedure arguments state) = by_test (is_spent (clock_after run.entry run.asks))
       where
@@ -101,11 +101,11 @@ abbrev pub recorded : MemberRecord → AskName → Option Callee
 recorded kept name = called_by_runs kept.runs (name.run - kept.from) name.ask
 
 -- so does what is accepted
-pub imported_recorded : (declared : Signature) (kept : MemberRecord) (name : AskName) (c : Callee) → recorded kept name ≡ Some c → option_and_then (imported declared) (recorded_ask kept name) ≡ imported_as declared c.0 c.1
+pub imported_recorded : (declared : Signature) (kept : MemberRecord) (name : AskName) (c : Callee) → recorded kept name ≡ Some c → option_and_then (imported_procedure declared) (recorded_ask kept name) ≡ imported_as declared c.0 c.1
 imported_recorded declared kept name c is = by_ask (option_and_then (λ (r : RunRecord). slice_get r.asks name.ask) (slice_get kept.runs (name.run - kept.from))) is
   where
     by_ask : (o : Option AskRecord) → option_map callee_of o ≡ Some c
-        → option_and_then (imported declared) (option_map (λ (a : AskRecord). record { troupe = a.callee; procedure = a.procedure }) o) ≡ imported_as declared c.0 c.1
+        → option_and_then (imported_procedure declared) (option_map (λ (a : AskRecord). record { troupe = a.callee; procedure = a.procedure }) o) ≡ imported_as declared c.0 c.1
     by_ask None there = absurd (no_callee c there)
     by_ask (Some a) there = ap (λ (x : Callee). imported_as declared x.0 x.1) (same_Some (callee_of a) c there)
 
@@ -126,7 +126,7 @@ module _ {M : Type 0} (declared : M → Signature) (turn : M → List ValueTree 
     enters d start h =
         let kept = d.member.performing.kept in
         let t = turn d.member.performing.hosted kept.state start.procedure start.arguments in
-        λ number n c is. runs_more kept.runs (gone_on step t most_turns (begun step start)) number n c (h number n c is)
+        λ number n c is. runs_more kept.runs (gone_on step t most_turns (begin_run step start)) number n c (h number n c is)
 
     answers : (d : Doing M) (reply : Reply) → IsSoundNow declared turn first lawful d.member → HasValue (behaves declared turn first lawful d) d.member reply → StaysIn d
         → StaysIn (record d { member = with_answered (behaves declared turn first lawful d) (lawful d.member.performing.hosted) d.member step reply })
@@ -151,8 +151,8 @@ module _ {M : Type 0} (declared : M → Signature) (turn : M → List ValueTree 
           gives = λ d sound idle h. h;
           enters = λ d start sound may none h. enters d start h;
           answers = answers;
-          opens = λ d run ask view turned at is there h. h;
-          ends = λ d run turned at none h. h;
+          opens = λ d run ask view turn_run at is there h. h;
+          ends = λ d run turn_run at none h. h;
         }
 
   -- ---- a step

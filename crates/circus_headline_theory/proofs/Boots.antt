@@ -10,7 +10,7 @@ use Rattle.circus_value.specs.declared.outcome.Outcome.{Outcome}
 use Rattle.circus_collate.specs.declared.deployment.Deployment.{Deployment}
 use Rattle.circus_model.specs.NextTurn.{NextTurn}
 use Rattle.circus_model.specs.declared.signature.Signature.{Signature}
-use Rattle.circus_node.specs.Booting.{booted}
+use Rattle.circus_node.specs.Booting.{boot_node}
 use Rattle.circus_node.specs.NodeState.{NodeState}
 use Rattle.circus_node.specs.Step as node_step
 use Rattle.circus_node.specs.declared.event.Outputs.{Outputs}
@@ -42,7 +42,7 @@ module _ {M : Type 0} (declared : M → Signature) (turn : M → List ValueTree 
     own_is : slice_get hosted node ≡ Some own
     begun : NodeState M
     outputs : Outputs
-    boots : booted declared turn first d own node ≡ Ok (begun, outputs)
+    boots : boot_node declared turn first d own node ≡ Ok (begun, outputs)
     there : slice_get w.nodes node ≡ Some (fresh begun)
     sent_is : sent_from node w.sent ≡ map (sent_by 0 node) outputs.gives
 
@@ -57,7 +57,7 @@ module _ {M : Type 0} (declared : M → Signature) (turn : M → List ValueTree 
     so : IsToBoot w ⊎ HasBooted w
 
   module _ (w : WorldState M) (own : Option M) (ended : NodeState M × Outputs) (so_far : SoFar w) (at : slice_get hosted (length w.nodes) ≡ Some own)
-      (ends : booted declared turn first w.deployment own (length w.nodes) ≡ Ok ended) where
+      (ends : boot_node declared turn first w.deployment own (length w.nodes) ≡ Ok ended) where
     abbrev then_ : WorldState M
     then_ = record w { nodes = w.nodes ++ fresh ended.0 ∷ []; sent = w.sent ++ map (sent_by 0 (length w.nodes)) ended.1.gives }
 
@@ -86,7 +86,7 @@ module _ {M : Type 0} (declared : M → Signature) (turn : M → List ValueTree 
       own_is = ap (slice_get hosted) (sym same) ∙ at;
       begun = ended.0;
       outputs = ended.1;
-      boots = ap (λ k. booted declared turn first d own k) (sym same) ∙ ap (λ x. booted declared turn first x own (length w.nodes)) (sym so_far.deployment) ∙ ends;
+      boots = ap (λ k. boot_node declared turn first d own k) (sym same) ∙ ap (λ x. boot_node declared turn first x own (length w.nodes)) (sym so_far.deployment) ∙ ends;
       there = ap (slice_get (w.nodes ++ fresh ended.0 ∷ [])) (sym same) ∙ get_last w.nodes (fresh ended.0);
       sent_is = sent_then ∙ ap (λ l. l ++ sent_from node (map (sent_by 0 (length w.nodes)) ended.1.gives)) left.none
           ∙ ap (λ k. sent_from node (map (sent_by 0 k) ended.1.gives)) same ∙ all_from 0 node ended.1.gives;
@@ -117,9 +117,9 @@ module _ {M : Type 0} (declared : M → Signature) (turn : M → List ValueTree 
       → all_booted declared turn first others w ≡ Ok last → SoFar last
 
   next_so_far : (own : Option M) (others : List (Option M)) → LeaveSoFar others → LeaveSoFar (own ∷ others)
-  next_so_far own others leave w last so_far are_there is = by_end (booted declared turn first w.deployment own (length w.nodes)) refl is
+  next_so_far own others leave w last so_far are_there is = by_end (boot_node declared turn first w.deployment own (length w.nodes)) refl is
     where
-      by_end : (e : node_step.Ended M) → booted declared turn first w.deployment own (length w.nodes) ≡ e
+      by_end : (e : node_step.Ended M) → boot_node declared turn first w.deployment own (length w.nodes) ≡ e
           → then_others (all_booted declared turn first others) (joined_by w e) ≡ Ok last → SoFar last
       by_end (Err peer) ends is = absurd (let clash : ◌≡◌ {A = Stepped M} (Err (length w.nodes, peer)) (Ok last) = is in cc)
       by_end (Ok ended) ends is =
@@ -139,7 +139,7 @@ module _ {M : Type 0} (declared : M → Signature) (turn : M → List ValueTree 
   pub record IsBegun (own : Option M) (w : WorldState M) (s : Standing M) : Type 0 where
     pub steps : w.steps ≡ 0
     pub outputs : Outputs
-    pub boots : booted declared turn first d own node ≡ Ok (s.node, outputs)
+    pub boots : boot_node declared turn first d own node ≡ Ok (s.node, outputs)
     pub sent_is : sent_from node w.sent ≡ map (sent_by 0 node) outputs.gives
     pub live : s.crashed ≡ None
     pub no_join : s.joins ≡ false

@@ -34,7 +34,7 @@ use Rattle.circus_member_rules.specs.declared.occurrence.Purpose.{Purpose}
 use Rattle.circus_member_rules.specs.Happening.{IsHome, CanHappen}
 use Rattle.circus_member_rules.specs.MemberState.{MemberState}
 use Rattle.circus_node.specs.Accepting as accepting
-use Rattle.circus_node.specs.Accepting.{troupe_at, imported, recorded_ask, called_by}
+use Rattle.circus_node.specs.Accepting.{troupe_at, imported_procedure, recorded_ask, called_by}
 use Rattle.circus_node.specs.Booting.{beginning_in, home_in, home_of, made_at_boot, fresh_wire}
 use Rattle.circus_node.specs.Booting as booting
 use Rattle.circus_node.specs.NodeState.{Acting, member, ringmaster, NodeState}
@@ -157,7 +157,7 @@ module _ {M : Type 0} (declared : M → Signature) (turn : M → List ValueTree 
   tells_of : (n : NodeState M) → n.deployment ≡ d → (event : Event) (a : Acting M) (o : Occurrence) → happens_by declared event (record n { acting = a }) ≡ Some o → TellsOf (Hosts d) o
   tells_of n same (comes.Datagram from bytes) (member m) o is =
       let h = heard_from n.wire from (reading bytes) in
-      (accepted_is d good (declared m.performing.hosted) m from h o (ap (λ (x : Deployment). accepting.accepted x (declared m.performing.hosted) m from h) (sym same) ∙ is)).tells
+      (accepted_is d good (declared m.performing.hosted) m from h o (ap (λ (x : Deployment). accepting.occurrence_of_heard x (declared m.performing.hosted) m from h) (sym same) ∙ is)).tells
   tells_of n same comes.Tick (member m) o is = absurd (let clash : ◌≡◌ {A = Option Occurrence} None (Some o) = is in cc)
   tells_of n same (comes.Down other) (member m) o is = subst (TellsOf (Hosts d)) (same_Some (occurs.Declared other) o is) tt
   tells_of n same comes.Join (member m) o is = subst (TellsOf (Hosts d)) (same_Some occurs.Joins o is) tt
@@ -166,7 +166,7 @@ module _ {M : Type 0} (declared : M → Signature) (turn : M → List ValueTree 
   -- ---- a step
 
   module _ (t : Trace) (p : Past) (acts : WireActs Purpose) (n : NodeState M) (f : Follows t p acts n) (step : ℕ) (event : Event) (ended : NodeState M × Outputs) (later : now p < step)
-      (octets : IsOfBytes event) (other : IsOfOther d node event) (ends : node_step.stepped declared turn step event n ≡ Ok ended) where
+      (octets : IsOfBytes event) (other : IsOfOther d node event) (ends : node_step.step_node declared turn step event n ≡ Ok ended) where
     abbrev happened : Option Occurrence
     happened = happens_by declared event n
 
@@ -268,9 +268,9 @@ module _ {M : Type 0} (declared : M → Signature) (turn : M → List ValueTree 
       happens_as (ringmaster ring) l = absurd l
       happens_as (member m) l = by_event event other (is_read event octets)
         where
-          named : (name : AskName) → IsRecorded (kept_at p) name → option_and_then (imported (declared own)) (called_by m name) ≡ option_and_then (imported (declared own)) (recorded_ask kept name)
+          named : (name : AskName) → IsRecorded (kept_at p) name → option_and_then (imported_procedure (declared own)) (called_by m name) ≡ option_and_then (imported_procedure (declared own)) (recorded_ask kept name)
           named name is =
-              ap (λ (x : MemberState M). option_and_then (imported (declared own)) (called_by x name)) l.is ∙ called_is declared turn first lawful place views beginning own home p may_now (declared own) name is.0 is.1
+              ap (λ (x : MemberState M). option_and_then (imported_procedure (declared own)) (called_by x name)) l.is ∙ called_is declared turn first lawful place views beginning own home p may_now (declared own) name is.0 is.1
               ∙ sym (imported_recorded (declared own) kept name is.0 (says.recorded_so name is.0 is.1))
 
           troupe_is : m.place.troupe ≡ number
@@ -284,7 +284,7 @@ module _ {M : Type 0} (declared : M → Signature) (turn : M → List ValueTree 
               (λ purpose message among. let was = f.goes.made (effect.Call from message purpose) among in
               made_is_recorded declared turn first lawful place views beginning own home p may_now from message purpose was.0 was.1) (reading bytes) in
               sym (accepted_as d (declared own) m number (kept_at p) kept troupe_is from named h answers)
-              ∙ (λ j. accepting.accepted (sym f.goes.deployment j) (declared (sym l.hosts j)) m from (same j))
+              ∙ (λ j. accepting.occurrence_of_heard (sym f.goes.deployment j) (declared (sym l.hosts j)) m from (same j))
           by_event comes.Tick is read = refl
           by_event (comes.Down down) is read = refl
           by_event comes.Join is read = refl
@@ -323,7 +323,7 @@ module _ {M : Type 0} (declared : M → Signature) (turn : M → List ValueTree 
 
   -- ---- boot
 
-  pub follows_at_boot : (begun_ : NodeState M) (outputs : Outputs) → node < length d.nodes → slice_get d.troupes number ≡ Some troupe → booting.booted declared turn first d (Some own) node ≡ Ok (begun_, outputs)
+  pub follows_at_boot : (begun_ : NodeState M) (outputs : Outputs) → node < length d.nodes → slice_get d.troupes number ≡ Some troupe → booting.boot_node declared turn first d (Some own) node ≡ Ok (begun_, outputs)
       → Follows (trace.booted (effects_at_boot declared turn first d (Some own) node) outputs) booted (boot_acts declared turn first d own node) begun_
   follows_at_boot begun_ outputs within there is =
       let h = has_booted declared turn first lawful d good node number troupe own begun_ outputs within hosts there home is in

@@ -8,7 +8,7 @@ use Rattle.circus_value.specs.ValueTree.{ValueTree}
 use Rattle.circus_value.specs.declared.outcome.Outcome.{Outcome}
 use Rattle.circus_header.specs.declared.answer.Reply.{Reply}
 use Rattle.circus_header.specs.ReplyEquality.{reply_eq}
-use Rattle.circus_collate.specs.Collating.{collated}
+use Rattle.circus_collate.specs.Collating.{collate}
 use Rattle.circus_collate.specs.Expecting.{expected_nodes}
 use Rattle.circus_collate.specs.declared.view.View.{View}
 use Rattle.circus_transfer.specs.declared.joiner.Joiner.{Joiner}
@@ -30,7 +30,7 @@ use Rattle.circus_member_rules.specs.declared.occurrence.AskName.{AskName}
 use Rattle.circus_member_rules.specs.declared.occurrence.Occurrence.TheVariants as comes
 use Rattle.circus_member_rules.specs.Step.{start_by_call, is_join}
 use Rattle.circus_timely.specs.First.{at_end, or_else, first_given}
-use Rattle.circus_timely.specs.Past.{Past, booted, followed, now, known, down, said, is_outside, is_asking, taken_in, phase, fetched}
+use Rattle.circus_timely.specs.Past.{Past, booted, followed, now, views_known, nodes_declared_down, replies_to, is_outside, is_asking, taken_in, phase, snapshot_fetched}
 use Rattle.circus_member_theory.specs.Living.{phase_at_boot}
 use Rattle.circus_timely.specs.Snapshots.{began}
 use Rattle.circus_ring.specs.RingTable.{boot_views}
@@ -263,10 +263,10 @@ module _ (begins : Joiner) (active : is_active begins ≡ true) where
   stays_active (followed p step (comes.IsBefore name from)) = stays_active p
   stays_active (followed p step (comes.Declared node)) = stays_active p
 
-  none_fetched : (p : Past) → fetched begins p ≡ None
+  none_fetched : (p : Past) → snapshot_fetched begins p ≡ None
   none_fetched booted = refl
   none_fetched (followed p step (comes.Restored state count)) =
-      ap (λ t. if t then Some (state, count) else fetched begins p) (fetches_not (phase begins p) (stays_active p)) ∙ none_fetched p
+      ap (λ t. if t then Some (state, count) else snapshot_fetched begins p) (fetches_not (phase begins p) (stays_active p)) ∙ none_fetched p
   none_fetched (followed p step comes.Joins) = none_fetched p
   none_fetched (followed p step (comes.Told request table)) = none_fetched p
   none_fetched (followed p step (comes.Asked header body sender)) = none_fetched p
@@ -276,11 +276,11 @@ module _ (begins : Joiner) (active : is_active begins ≡ true) where
   none_fetched (followed p step (comes.IsBefore name from)) = none_fetched p
   none_fetched (followed p step (comes.Declared node)) = none_fetched p
 
-  pub none_given : (p : Past) → first_given (fetched begins) p ≡ None
+  pub none_given : (p : Past) → first_given (snapshot_fetched begins) p ≡ None
   unfolding first_given
   none_given booted = refl
   none_given (followed p step o) =
-      ap (λ x. or_else x (at_end (followed p step o) (fetched begins (followed p step o)))) (none_given p) ∙ ap (at_end (followed p step o)) (none_fetched (followed p step o))
+      ap (λ x. or_else x (at_end (followed p step o) (snapshot_fetched begins (followed p step o)))) (none_given p) ∙ ap (at_end (followed p step o)) (none_fetched (followed p step o))
 
 -- ---- two records for the same past
 
@@ -289,7 +289,7 @@ module _ (begins : Joiner) (active : is_active begins ≡ true) where
 module _ (place : Place) (boot : List View) (begins : Joiner) (procedures : List ProcedureShape) (at_boot : ℕ) (b : Behaviour) (began : List ValueTree) (p : Past) where
   pub record IsOne (kept : MemberRecord) : Type 0 where
     pub timely : IsTimely place boot begins procedures at_boot kept p
-    pub from_first : first_given (fetched begins) p ≡ None → (kept.from ≡ 0) × (kept.active_at ≡ 0)
+    pub from_first : first_given (snapshot_fetched begins) p ≡ None → (kept.from ≡ 0) × (kept.active_at ≡ 0)
     pub follows : IsRecord b began kept
 
   module _ (one other : MemberRecord) (h : IsOne one) (k : IsOne other) where
@@ -302,7 +302,7 @@ module _ (place : Place) (boot : List View) (begins : Joiner) (procedures : List
     from_same : Same
     from_same = by_phase (is_active begins) refl
       where
-        by_given : is_active begins ≡ false → (o : Option (ℕ × (List ValueTree × ℕ))) → first_given (fetched begins) p ≡ o → Same
+        by_given : is_active begins ≡ false → (o : Option (ℕ × (List ValueTree × ℕ))) → first_given (snapshot_fetched begins) p ≡ o → Same
         by_given inactive None none =
             record { from = (h.from_first none).0 ∙ sym (k.from_first none).0; active_at = (h.from_first none).1 ∙ sym (k.from_first none).1 }
         by_given inactive (Some g) some =
@@ -314,7 +314,7 @@ module _ (place : Place) (boot : List View) (begins : Joiner) (procedures : List
         by_phase true is =
             let none = none_given begins is p in
             record { from = (h.from_first none).0 ∙ sym (k.from_first none).0; active_at = (h.from_first none).1 ∙ sym (k.from_first none).1 }
-        by_phase false is = by_given is (first_given (fetched begins) p) refl
+        by_phase false is = by_given is (first_given (snapshot_fetched begins) p) refl
 
     from : one.from ≡ other.from
     from = from_same.from
@@ -441,9 +441,9 @@ module _ (place : Place) (boot : List View) (begins : Joiner) (procedures : List
         answers_may = λ j q.
             if nat_le (asked j) (now q)
             then option_and_then
-            (λ (view : View). given_value (said (asked j) (let n : AskName = record { run = from one other h k j + length before; ask = length made } in n) q)
-            (collated reply_eq (expected_nodes view (index j)) (down q) (said (asked j) (let n : AskName = record { run = from one other h k j + length before; ask = length made } in n) q) place.replies))
-            (slice_get (known boot q) (callee j))
+            (λ (view : View). given_value (replies_to (asked j) (let n : AskName = record { run = from one other h k j + length before; ask = length made } in n) q)
+            (collate reply_eq (expected_nodes view (index j)) (nodes_declared_down q) (replies_to (asked j) (let n : AskName = record { run = from one other h k j + length before; ask = length made } in n) q) place.replies))
+            (slice_get (views_known boot q) (callee j))
             else None
 
         shows : (o : Option (ℕ × Reply)) → ShowsAnswer c o → ShowsAnswer e o → AnsweredSame

@@ -26,7 +26,7 @@ use Rattle.circus_gather.specs.declared.held.HeldCall.{HeldCall}
 use Rattle.circus_performing.specs.Performing.{is_active}
 use Rattle.circus_pair.specs.Sending.{takes_after}
 use Rattle.circus_pair.specs.Standing.{arrival_after}
-use Rattle.circus_wire.specs.Wire.{Beginning, told, told_return}
+use Rattle.circus_wire.specs.Wire.{Beginning, hear_arrival, told_return}
 use Rattle.circus_wire.specs.WireActs.{WireAct, WireActs, begun, CallTo, AnswerTo, CameFrom, TickAll, StopOf, acts_at, purpose_of}
 use Rattle.circus_wire.specs.WireStanding.{pair_of}
 use Rattle.circus_wire.specs.declared.delivery.Heard.{Heard}
@@ -41,12 +41,12 @@ use Rattle.circus_member_rules.specs.declared.occurrence.Occurrence.{Occurrence}
 use Rattle.circus_member_rules.specs.declared.occurrence.Occurrence.TheVariants as occurs
 use Rattle.circus_member_rules.specs.declared.occurrence.Purpose.{Purpose}
 use Rattle.circus_member_rules.specs.declared.occurrence.Purpose.TheVariants as for
-use Rattle.circus_node.specs.Accepting.{imported, recorded_ask}
+use Rattle.circus_node.specs.Accepting.{imported_procedure, recorded_ask}
 use Rattle.circus_node.specs.Bodies.{outcome_at}
 use Rattle.circus_node.specs.Headers.{return_in}
 use Rattle.circus_world_theory.proofs.Border.Makers.{IsIn, IsAmong, among_all, in_both, in_flat_map}
 use Rattle.circus_talks.specs.Histories.{beginning_of}
-use Rattle.circus_talks.specs.NodeActs.{with_all, came_by, coming}
+use Rattle.circus_talks.specs.NodeActs.{with_all, came_by, acts_of_datagram}
 use Rattle.circus_node.specs.Booting.{beginning_in, home_in}
 use Rattle.circus_node.specs.Sending.{is_sendable}
 use Rattle.circus_node.specs.Trace.{Trace, booted, stepped}
@@ -67,7 +67,7 @@ use Rattle.circus_headline_theory.proofs.Datagrams.Asked.{call_was_due}
 use Rattle.circus_headline_theory.proofs.Datagrams.Membership.{in_first, in_second, in_map, mapped_in, filtered_in}
 use Rattle.circus_headline_theory.proofs.Datagrams.Requested.{WasDue}
 use Rattle.circus_headline_theory.proofs.Datagrams.Returning.{is_so, return_was_due}
-use Rattle.circus_headline_theory.specs.NodeRun.{accepted, accepted_answer, accepted_return, happens_by, past_of, runs_at_boot, IsOrderedFor, IsOrdered, IsNodeRun}
+use Rattle.circus_headline_theory.specs.NodeRun.{occurrence_by_record, accepted_answer, accepted_return, happens_by, past_of, runs_at_boot, IsOrderedFor, IsOrdered, IsNodeRun}
 use Rattle.circus_headline_theory.specs.Trace.{events_of, made_of, told_of, now, Rises, handed_over, acts_in_step, acts_of, gives_for_all, suspects_in, heard_in, SendsWhatIsOwed}
 use Rattle.circus_headline_theory.proofs.Accepting.{purposed}
 use Rattle.circus_headline_theory.proofs.Asks.{callee_of, recorded, imported_recorded}
@@ -198,7 +198,7 @@ module _ (b : Beginning) where
   came_no_call : (event : Event) (to : ℕ) (message : List ℕ) (purpose : Purpose) → IsIn (came_by event) (CallTo to message purpose) → ⊥
   came_no_call (comes.Datagram from bytes) to message purpose at = by_reading (reading bytes) at
     where
-      by_reading : (r : Result Piece SegmentFault) → IsIn (coming from r) (CallTo to message purpose) → ⊥
+      by_reading : (r : Result Piece SegmentFault) → IsIn (acts_of_datagram from r) (CallTo to message purpose) → ⊥
       by_reading (Ok s) (inl same) = no_call (CameFrom from s) to message purpose refl same
       by_reading (Ok s) (inr none) = none
       by_reading (Err fault) none = none
@@ -231,7 +231,7 @@ module _ (b : Beginning) where
 module _ (d : Deployment) (declared : Signature) (own : ℕ) (one other : MemberRecord) (from : ℕ) where
   -- the two say the same of what a return answers
   abbrev SaysSame : Purpose → Type 0
-  SaysSame (for.Ask name server) = option_and_then (imported declared) (recorded_ask one name) ≡ option_and_then (imported declared) (recorded_ask other name)
+  SaysSame (for.Ask name server) = option_and_then (imported_procedure declared) (recorded_ask one name) ≡ option_and_then (imported_procedure declared) (recorded_ask other name)
   SaysSame (for.Ring request) = Unit {0}
   SaysSame for.Fetch = Unit {0}
 
@@ -250,12 +250,12 @@ module _ (d : Deployment) (declared : Signature) (own : ℕ) (one other : Member
       by_purpose number message None is = tt
       by_purpose number message (Some purpose) is = (let p = purposed b from acts number purpose is in each purpose p.0 p.1)
 
-      by_arrived : (x : Arrived) → AnswersSame (told (purpose_of (pair_of b) from acts) from x)
+      by_arrived : (x : Arrived) → AnswersSame (hear_arrival (purpose_of (pair_of b) from acts) from x)
       by_arrived Nothing = tt
       by_arrived (ArrivedCall number message) = tt
       by_arrived (ArrivedReturn number message) = by_purpose number message (purpose_of (pair_of b) from acts number) refl
 
-      by_test : (t : Bool) → AnswersSame (if t then told (purpose_of (pair_of b) from acts) from (arrival_after (pair_of b) (acts_at (pair_of b) from acts) s) else Dropped)
+      by_test : (t : Bool) → AnswersSame (if t then hear_arrival (purpose_of (pair_of b) from acts) from (arrival_after (pair_of b) (acts_at (pair_of b) from acts) s) else Dropped)
       by_test true = by_arrived (arrival_after (pair_of b) (acts_at (pair_of b) from acts) s)
       by_test false = tt
 
@@ -278,7 +278,7 @@ module _ (d : Deployment) (declared : Signature) (own : ℕ) (one other : Member
   return_same (for.Ring request) message same = refl
   return_same for.Fetch message same = refl
 
-  accepted_same : (h : Heard Purpose) → AnswersSame h → accepted d declared own one from h ≡ accepted d declared own other from h
+  accepted_same : (h : Heard Purpose) → AnswersSame h → occurrence_by_record d declared own one from h ≡ occurrence_by_record d declared own other from h
   accepted_same Dropped same = refl
   accepted_same Taken same = refl
   accepted_same (Called sender message) same = refl
@@ -361,12 +361,12 @@ outputs_same one other gives suspects differences = λ j. record { gives = gives
 
 module _ (b : Beginning) where
   traces_same : (t u : Trace) → Rises t → Rises u → SameBut b t u → told_of t ≡ told_of u → t ≡ u
-  traces_same (booted made outputs) (booted others sent) t_rises u_rises same told =
-      let differences = sym (of_own 0 outputs.differences) ∙ ap (of_step 0) told ∙ of_own 0 sent.differences in
+  traces_same (booted made outputs) (booted others sent) t_rises u_rises same hear_arrival =
+      let differences = sym (of_own 0 outputs.differences) ∙ ap (of_step 0) hear_arrival ∙ of_own 0 sent.differences in
       λ j. booted (same.0 j) (outputs_same outputs sent same.1 same.2 differences j)
-  traces_same (booted made outputs) (stepped u n e others sent) t_rises u_rises same told = absurd same
-  traces_same (stepped t at event made outputs) (booted others sent) t_rises u_rises same told = absurd same
-  traces_same (stepped t at event made outputs) (stepped u n e others sent) t_rises u_rises same told =
+  traces_same (booted made outputs) (stepped u n e others sent) t_rises u_rises same hear_arrival = absurd same
+  traces_same (stepped t at event made outputs) (booted others sent) t_rises u_rises same hear_arrival = absurd same
+  traces_same (stepped t at event made outputs) (stepped u n e others sent) t_rises u_rises same hear_arrival =
       let before = traces_same t u t_rises.0 u_rises.0 same.0 earlier in
       λ j. stepped (before j) (same.1 j) (same.2 j) (same.3.0 j) (outputs_same outputs sent same.3.1 same.3.2 differences j)
     where
@@ -375,7 +375,7 @@ module _ (b : Beginning) where
           of_step-append at (told_of x) (told_in at xs) ∙ ap (λ l. l ++ of_step at (told_in at xs)) (none_told x at rise later) ∙ of_own at xs
 
       told_so : told_of t ++ told_in at outputs.differences ≡ told_of u ++ told_in at sent.differences
-      told_so = told ∙ ap (λ k. told_of u ++ told_in k sent.differences) (sym same.1)
+      told_so = hear_arrival ∙ ap (λ k. told_of u ++ told_in k sent.differences) (sym same.1)
 
       differences : outputs.differences ≡ sent.differences
       differences =
@@ -740,7 +740,7 @@ module _ (d : Deployment) (b : Behaviour) (node number : ℕ) (troupe : Troupe) 
 
 pub there_is_one_run : (d : Deployment) (b : Behaviour) (node number : ℕ) (troupe : Troupe) (one other : Trace) (kept last : MemberRecord) → IsNodeRun d b node number troupe one kept
     → IsNodeRun d b node number troupe other last → Rises one → events_of one ≡ events_of other → (kept ≡ last) × (one ≡ other)
-there_is_one_run d b node number troupe one other kept last h k rises events = (kept_is, traces_same (pairs d b node number troupe) one other rises other_rises f.same told)
+there_is_one_run d b node number troupe one other kept last h k rises events = (kept_is, traces_same (pairs d b node number troupe) one other rises other_rises f.same hear_arrival)
   where
     other_rises : Rises other
     other_rises = (rise_alike one other events rises).1
@@ -751,8 +751,8 @@ there_is_one_run d b node number troupe one other kept last h k rises events = (
     kept_is : kept ≡ last
     kept_is = there_is_one_record d b node number troupe one other kept last h k f.past_is
 
-    told : told_of one ≡ told_of other
-    told =
+    hear_arrival : told_of one ≡ told_of other
+    hear_arrival =
         h.makes.differed
         ∙ (λ j. differences (home_in d node number troupe).place (boot_views d.troupes) (kept_is j) (f.past_is j))
         ∙ sym k.makes.differed

@@ -174,7 +174,7 @@ module _ {M : Type 0} (declared : M → Signature) (turn : M → List ValueTree 
       same_request (comes.Down down) is segment = refl
       same_request comes.Join is segment = refl
 
-      module _ (step : ℕ) (ended : NodeState M × Outputs) (ends : node_step.stepped declared turn step event n ≡ Ok ended) where
+      module _ (step : ℕ) (ended : NodeState M × Outputs) (ends : node_step.step_node declared turn step event n ≡ Ok ended) where
         abbrev new : Requests
         new = request_in d node (requests_of d node t) (acts_of b t) event
 
@@ -215,7 +215,7 @@ module _ {M : Type 0} (declared : M → Signature) (turn : M → List ValueTree 
     -- ---- boot
 
     module _ (first : M → List ValueTree) where
-      pub rings_at_boot : (n : NodeState M) (outputs : Outputs) → node < length d.nodes → booting.booted declared turn first d None node ≡ Ok (n, outputs) → Rings (trace.booted [] outputs) n
+      pub rings_at_boot : (n : NodeState M) (outputs : Outputs) → node < length d.nodes → booting.boot_node declared turn first d None node ≡ Ok (n, outputs) → Rings (trace.booted [] outputs) n
       rings_at_boot n outputs within is =
           let m = made_at_boot declared turn first d (home_of d node) None in
           let c = concludes (record { deployment = d; wire = fresh_wire d node; acting = m.acting; dropped = 0 }) [] m (n, outputs) is in

@@ -20,7 +20,7 @@ use Rattle.circus_pair.specs.TwoEnds.{with_act}
 use Rattle.circus_pair.proofs.Following as following
 use Rattle.circus_pair.proofs.Lasting.{lasts_called, lasts_returned}
 use Rattle.circus_wire.specs.declared.delivery.Batch.{Batch}
-use Rattle.circus_wire.specs.Wire.{PeerState, WireState, Beginning, IsOther, place_of, changed_at, changed, peer_at, of_peer, sent_to, is_up, next_number, is_awaited, peer_called, peer_answered, called_to, sent_by_call, answered, sent_by_answer, after_datagram, sent_by_datagram, heard_from, stopped_at}
+use Rattle.circus_wire.specs.Wire.{PeerState, WireState, Beginning, IsOther, place_of, changed_at, change_peer, peer_at, of_peer, sent_to, is_up, next_number, is_awaited, peer_called, peer_answered, called_to, sent_by_call, answer_caller, sent_by_answer, after_datagram, sent_by_datagram, heard_from, stopped_at}
 use Rattle.circus_wire.specs.WireActs.{WireAct, WireActs, begun, followed_by, CallTo, AnswerTo, CameFrom, TickAll, StopOf, acts_at, awaits_after}
 use Rattle.circus_wire.specs.WireStanding.{WireStands, pair_of, outputs_for}
 use Rattle.circus_wire.proofs.Changing.{found_by, peer_is}
@@ -34,13 +34,13 @@ use Rattle.circus_node.specs.declared.event.Event.{Event}
 use Rattle.circus_node.specs.declared.event.Event.TheVariants as comes
 use Rattle.circus_node.specs.declared.event.Give.{Give}
 use Rattle.circus_node.specs.declared.event.Outputs.{Outputs}
-use Rattle.circus_node.specs.Booting.{home_of, made_at_boot, booted, fresh_wire}
+use Rattle.circus_node.specs.Booting.{home_of, made_at_boot, boot_node, fresh_wire}
 use Rattle.circus_node.specs.Making.{Made, hears, learns_down, is_told_to_join}
 use Rattle.circus_node.specs.NodeState.{NodeState}
-use Rattle.circus_node.specs.Sending.{Sending, sent, spent, gives_of, is_sendable, handed, all_handed}
-use Rattle.circus_node.specs.Step.{CanCome, ended, concluded, stepped}
+use Rattle.circus_node.specs.Sending.{Sending, sent, spent, gives_of, is_sendable, hand_over, all_handed}
+use Rattle.circus_node.specs.Step.{CanCome, end_step, conclude_step, step_node}
 use Rattle.circus_talks.specs.Histories.{beginning_of}
-use Rattle.circus_talks.specs.NodeActs.{with_all, coming, came_by, handed_by, wire_behind, acts_in, acts_at_boot}
+use Rattle.circus_talks.specs.NodeActs.{with_all, acts_of_datagram, came_by, handed_by, wire_behind, acts_in, acts_at_boot}
 use Rattle.circus_talks.proofs.Given.{IsPeer, peer_by, with_both, same_end}
 use Rattle.circus_talks.proofs.Spelled.{few_made}
 use Rattle.circus_talks.proofs.Steps.{IsRead}
@@ -142,7 +142,7 @@ module _ (change : PeerState Purpose → PeerState Purpose) (same : (p : PeerSta
   up_either true o q is = refl
   up_either false o q is = is
 
-  up_changed : (w : WireState Purpose) (at node : ℕ) → is_up (changed change w at) node ≡ is_up w node
+  up_changed : (w : WireState Purpose) (at node : ℕ) → is_up (change_peer change w at) node ≡ is_up w node
   unfolding peer_at
   up_changed w at node =
       up_either (eqb node w.own) (slice_get (changed_at change w.peers (place_of w.own at)) (place_of w.own node)) (slice_get w.peers (place_of w.own node))
@@ -151,7 +151,7 @@ module _ (change : PeerState Purpose → PeerState Purpose) (same : (p : PeerSta
 up_called : (w : WireState Purpose) (to node : ℕ) (message : List ℕ) (purpose : Purpose) → is_up (called_to w to message purpose) node ≡ is_up w node
 up_called w to node message purpose = up_changed (λ p. peer_called p message purpose) (λ p. (lasts_called p.exchange message).stopped) w to node
 
-up_answered : (w : WireState Purpose) (caller : Caller) (message : List ℕ) (node : ℕ) → is_up (changed (λ p. peer_answered p caller.number message) w caller.node) node ≡ is_up w node
+up_answered : (w : WireState Purpose) (caller : Caller) (message : List ℕ) (node : ℕ) → is_up (change_peer (λ p. peer_answered p caller.number message) w caller.node) node ≡ is_up w node
 up_answered w caller message node =
     up_changed (λ p. peer_answered p caller.number message) (λ p. (lasts_returned p.exchange caller.number message).stopped) w caller.node node
 
@@ -187,7 +187,7 @@ module _ (b : Beginning) (low : b.first ≤ never_used) (acts : WireActs Purpose
       omega (arith, next, most, other)
 
   call_on : (to : ℕ) (message : List ℕ) (purpose : Purpose)
-      → HandsSo b (with_all acts (handed_by w (made.Call to message purpose))) old (gives ++ gives_for_all b acts (handed_by w (made.Call to message purpose))) (handed w gives (made.Call to message purpose))
+      → HandsSo b (with_all acts (handed_by w (made.Call to message purpose))) old (gives ++ gives_for_all b acts (handed_by w (made.Call to message purpose))) (hand_over w gives (made.Call to message purpose))
   call_on to message purpose = by_test (is_up w to && is_sendable w.format message) refl
     where
       next : WireState Purpose
@@ -228,11 +228,11 @@ module _ (b : Beginning) (low : b.first ≤ never_used) (acts : WireActs Purpose
   ]
 
   answer_on : (caller : Caller) (message : List ℕ)
-      → HandsSo b (with_all acts (handed_by w (made.Answer caller message))) old (gives ++ gives_for_all b acts (handed_by w (made.Answer caller message))) (handed w gives (made.Answer caller message))
+      → HandsSo b (with_all acts (handed_by w (made.Answer caller message))) old (gives ++ gives_for_all b acts (handed_by w (made.Answer caller message))) (hand_over w gives (made.Answer caller message))
   answer_on caller message = by_test (is_sendable w.format message) refl
     where
       next : WireState Purpose
-      next = changed (λ p. peer_answered p caller.number message) w caller.node
+      next = change_peer (λ p. peer_answered p caller.number message) w caller.node
 
       sends : Batch
       sends = sent_to (λ p. datagrams_of_return p.exchange caller.number message) w caller.node
@@ -265,7 +265,7 @@ module _ (b : Beginning) (low : b.first ≤ never_used) (acts : WireActs Purpose
 
       by_test : (test : Bool) → is_sendable w.format message ≡ test
           → HandsSo b (with_all acts (if test then AnswerTo caller message ∷ [] else [])) old (gives ++ gives_for_all b acts (if test then AnswerTo caller message ∷ [] else []))
-          (if test then sent (answered w caller message) (gives ++ gives_of (sent_by_answer w caller message)) else sent w gives)
+          (if test then sent (answer_caller w caller message) (gives ++ gives_of (sent_by_answer w caller message)) else sent w gives)
       by_test true is = by_call (can_send w.format message is) (is_awaited w caller) refl
       by_test false is = (so_far, sym (append-nil gives))
 
@@ -278,12 +278,12 @@ handed_alike b acts old w (made.Answer caller message) so_far =
     λ i. if is_sendable (so_far.format i) message then AnswerTo caller message ∷ [] else []
 
 one_on : (b : Beginning) → b.first ≤ never_used → (acts : WireActs Purpose) (old w : WireState Purpose) (gives : List Give) (e : Effect) → Hands b acts old w
-    → HandsSo b (with_all acts (handed_by old e)) old (gives ++ gives_for_all b acts (handed_by old e)) (handed w gives e)
+    → HandsSo b (with_all acts (handed_by old e)) old (gives ++ gives_for_all b acts (handed_by old e)) (hand_over w gives e)
 one_on b low acts old w gives (made.Call to message purpose) so_far =
-    subst (λ l. HandsSo b (with_all acts l) old (gives ++ gives_for_all b acts l) (handed w gives (made.Call to message purpose))) (handed_alike b acts old w (made.Call to message purpose) so_far)
+    subst (λ l. HandsSo b (with_all acts l) old (gives ++ gives_for_all b acts l) (hand_over w gives (made.Call to message purpose))) (handed_alike b acts old w (made.Call to message purpose) so_far)
     (call_on b low acts old w gives so_far to message purpose)
 one_on b low acts old w gives (made.Answer caller message) so_far =
-    subst (λ l. HandsSo b (with_all acts l) old (gives ++ gives_for_all b acts l) (handed w gives (made.Answer caller message))) (handed_alike b acts old w (made.Answer caller message) so_far)
+    subst (λ l. HandsSo b (with_all acts l) old (gives ++ gives_for_all b acts l) (hand_over w gives (made.Answer caller message))) (handed_alike b acts old w (made.Answer caller message) so_far)
     (answer_on b low acts old w gives so_far caller message)
 
 spent_on : (b : Beginning) (acts : WireActs Purpose) (old : WireState Purpose) (given : List Give) (node : ℕ) (effects : List Effect) → HandsSo b acts old given (all_handed (spent node) effects)
@@ -302,11 +302,11 @@ all_on b low acts old (sent w gives) given (e ∷ effects) so_far =
     let now = handed_by old e in
     let rest = flat_map (handed_by old) effects in
     let one = one_on b low acts old w gives e so_far.0 in
-    let all = all_on b low (with_all acts now) old (handed w gives e) (gives ++ gives_for_all b acts now) effects one in
+    let all = all_on b low (with_all acts now) old (hand_over w gives e) (gives ++ gives_for_all b acts now) effects one in
     let same : (gives ++ gives_for_all b acts now) ++ gives_for_all b (with_all acts now) rest ≡ given ++ gives_for_all b acts (now ++ rest) =
     append_assoc gives (gives_for_all b acts now) (gives_for_all b (with_all acts now) rest) ∙ ap (λ l. gives ++ l) (sym (gives_both b acts now rest)) ∙ ap (λ l. l ++ gives_for_all b acts (now ++ rest)) so_far.1 in
-    subst (λ x. HandsSo b x old (given ++ gives_for_all b acts (now ++ rest)) (all_handed (handed w gives e) effects)) (sym (with_both acts now rest))
-    (given_as b (with_all (with_all acts now) rest) old (all_handed (handed w gives e) effects) _ _ same all)
+    subst (λ x. HandsSo b x old (given ++ gives_for_all b acts (now ++ rest)) (all_handed (hand_over w gives e) effects)) (sym (with_both acts now rest))
+    (given_as b (with_all (with_all acts now) rest) old (all_handed (hand_over w gives e) effects) _ _ same all)
 
 -- ---- a step
 
@@ -319,14 +319,14 @@ pub record Sends {M : Type 0} (b : Beginning) (acts : WireActs Purpose) (gives :
 
 module _ {M : Type 0} where
   ended_sends : (b : Beginning) (acts : WireActs Purpose) (old : WireState Purpose) (given : List Give) (n : NodeState M) (m : Made M) (s : Sending) (r : NodeState M × Outputs)
-      → HandsSo b acts old given s → ended n m.came s ≡ Ok r → Sends b acts given [] r
+      → HandsSo b acts old given s → end_step n m.came s ≡ Ok r → Sends b acts given [] r
   ended_sends b acts old given n m (sent w gives) r on is =
       subst (Sends b acts given []) (same_end _ r is) (record { stands = on.0.stands; of_peers = on.0.of_peers; gives_are = on.1; suspects_are = refl })
   ended_sends b acts old given n m (spent node) r on is = absurd (let clash : ◌≡◌ {A = Result (NodeState M × Outputs) ℕ} (Err node) (Ok r) = is in cc)
 
   -- what came of an event is sent
   concluded_sends : (b : Beginning) → b.first ≤ never_used → (acts : WireActs Purpose) (n : NodeState M) (gives : List Give) (m : Made M) (r : NodeState M × Outputs)
-      → WireStands n.wire b acts → ComeOfPeers b acts → concluded n gives m.came ≡ Ok r
+      → WireStands n.wire b acts → ComeOfPeers b acts → conclude_step n gives m.came ≡ Ok r
       → Sends b (with_all acts (flat_map (handed_by n.wire) m.came.effects)) (gives ++ gives_for_all b acts (flat_map (handed_by n.wire) m.came.effects)) [] r
   concluded_sends b low acts n gives m r stands of_peers is =
       ended_sends b (with_all acts (flat_map (handed_by n.wire) m.came.effects)) n.wire (gives ++ gives_for_all b acts (flat_map (handed_by n.wire) m.came.effects)) n m (all_handed (sent n.wire gives) m.came.effects) r
@@ -335,16 +335,16 @@ module _ {M : Type 0} where
 
 module _ (b : Beginning) (acts : WireActs Purpose) (w : WireState Purpose) (from : ℕ) (other : IsOther w from) (stands : WireStands w b acts) (of_peers : ComeOfPeers b acts) where
   datagram_stands : (segment : Result Piece SegmentFault) → ((s : Piece) → segment ≡ Ok s → IsSegment s)
-      → WireStands (after_datagram w from segment) b (with_all acts (coming from segment))
+      → WireStands (after_datagram w from segment) b (with_all acts (acts_of_datagram from segment))
   datagram_stands (Ok s) is = came_stands b acts w from s s other stands refl (is s refl) (after_datagram w from (Ok s)) refl
   datagram_stands (Err fault) is = stands
 
-  datagram_of : (segment : Result Piece SegmentFault) → ComeOfPeers b (with_all acts (coming from segment))
+  datagram_of : (segment : Result Piece SegmentFault) → ComeOfPeers b (with_all acts (acts_of_datagram from segment))
   datagram_of (Ok s) = (of_peers, peer_by b acts w from stands other)
   datagram_of (Err fault) = of_peers
 
   datagram_gives : (segment : Result Piece SegmentFault) → ((s : Piece) → segment ≡ Ok s → IsSegment s)
-      → gives_of (sent_by_datagram w from segment) ≡ gives_for_all b acts (coming from segment)
+      → gives_of (sent_by_datagram w from segment) ≡ gives_for_all b acts (acts_of_datagram from segment)
   datagram_gives (Ok s) is =
       ap gives_of (came_owes b acts w from s s other stands refl (is s refl)) ∙ sym (append-nil (gives_for b acts (CameFrom from s)))
   datagram_gives (Err fault) is = refl
@@ -370,13 +370,13 @@ module _ {M : Type 0} (declared : M → Signature) (turn : M → List ValueTree 
       }
 
   pub step_sends : (b : Beginning) → b.first ≤ never_used → (acts : WireActs Purpose) (at : ℕ) (event : Event) (n : NodeState M) (r : NodeState M × Outputs)
-      → WireStands n.wire b acts → ComeOfPeers b acts → CanCome n event → IsRead event → stepped declared turn at event n ≡ Ok r
+      → WireStands n.wire b acts → ComeOfPeers b acts → CanCome n event → IsRead event → step_node declared turn at event n ≡ Ok r
       → Sends b (with_all acts (acts_in declared turn at event n)) (gives_for_all b acts (acts_in declared turn at event n)) (suspects_in b acts event) r
   step_sends b low acts at (comes.Datagram from bytes) n r stands of_peers can read is =
       let m = hears declared turn n.deployment at from (heard_from n.wire from (reading bytes)) n.acting in
       let wire = after_datagram n.wire from (reading bytes) in
-      behind b acts (coming from (reading bytes)) _ (gives_of (sent_by_datagram n.wire from (reading bytes))) r (datagram_gives b acts n.wire from can stands of_peers (reading bytes) read)
-      (concluded_sends b low (with_all acts (coming from (reading bytes))) (record n { wire = wire; acting = m.acting }) (gives_of (sent_by_datagram n.wire from (reading bytes))) m r
+      behind b acts (acts_of_datagram from (reading bytes)) _ (gives_of (sent_by_datagram n.wire from (reading bytes))) r (datagram_gives b acts n.wire from can stands of_peers (reading bytes) read)
+      (concluded_sends b low (with_all acts (acts_of_datagram from (reading bytes))) (record n { wire = wire; acting = m.acting }) (gives_of (sent_by_datagram n.wire from (reading bytes))) m r
       (datagram_stands b acts n.wire from can stands of_peers (reading bytes) read) (datagram_of b acts n.wire from can stands of_peers (reading bytes)) is)
   step_sends b low acts at comes.Tick n r stands of_peers can read is =
       subst (Sends b (followed_by acts TickAll) (gives_for_all b acts (TickAll ∷ [])) (suspects_in b acts comes.Tick)) (same_end _ r is)
@@ -396,7 +396,7 @@ module _ {M : Type 0} (declared : M → Signature) (turn : M → List ValueTree 
 
   module _ (first : M → List ValueTree) where
     pub boot_sends : (d : Deployment) (hosted : Option M) (node : ℕ) (r : NodeState M × Outputs) → node < length d.nodes
-        → booted declared turn first d hosted node ≡ Ok r
+        → boot_node declared turn first d hosted node ≡ Ok r
         → Sends (beginning_of d node) (with_all begun (acts_at_boot declared turn first d hosted node)) (gives_for_all (beginning_of d node) begun (acts_at_boot declared turn first d hosted node)) [] r
     boot_sends d hosted node r within is =
         let m = made_at_boot declared turn first d (home_of d node) hosted in

@@ -32,7 +32,7 @@ use Rattle.circus_node.proofs.NodeLemmas.{boot_is_of, step_is_of}
 use Rattle.circus_serve.specs.declared.happening.Happening.{Happening}
 use Rattle.circus_serve.specs.declared.happening.Happening.TheVariants.{Booted, Stepped, Foreign}
 use Rattle.circus_serve.specs.Happened.{peer_at}
-use Rattle.circus_serve.specs.Serving.{Served, Progress, on, spent, happened_by, and_then, concluded, with_foreign, is_spare, at_boot, event_comes, suspected, all_declared, comes, took, all_took, begun, served}
+use Rattle.circus_serve.specs.Serving.{Served, Progress, on, spent, happened_by, and_then, conclude_event, with_foreign, is_spare, at_boot, event_comes, suspects_by, all_declared, comes, take_comes, all_took, begin_serving, serve_takes}
 use Rattle.circus_serve.proofs.EventLemmas.{peer_is_other}
 use Rattle.circus_serve.proofs.SuspectLemmas.{suspects_others}
 use Rattle.circus_world_theory.specs.NodeLives.{IsOfBytes}
@@ -97,9 +97,9 @@ module _ {M : Type 0} (declared : M → Signature) (turn : M → List ValueTree 
 
   goes_event : (event : Event) (s : Served M) → Reached s → IsOfOther d node event → IsOfBytes event → GoesOn (event_comes declared turn event s)
   unfolding event_comes
-  goes_event event s r other octets = by_end (step.stepped declared turn s.next event s.node) refl
+  goes_event event s r other octets = by_end (step.step_node declared turn s.next event s.node) refl
     where
-      by_end : (end : step.Ended M) → step.stepped declared turn s.next event s.node ≡ end → GoesOn (concluded event s end)
+      by_end : (end : step.Ended M) → step.step_node declared turn s.next event s.node ≡ end → GoesOn (conclude_event event s end)
       by_end (Ok ended) is =
           record {
             lived = trace.stepped r.lived s.next event (effects_in declared turn s.next event s.node) ended.1;
@@ -125,9 +125,9 @@ module _ {M : Type 0} (declared : M → Signature) (turn : M → List ValueTree 
 
   goes_comes : (event : Event) (s : Served M) → Reached s → IsOfOther d node event → IsOfBytes event → GoesOn (comes declared turn event s)
   goes_comes event s r other octets =
-      goes_then (all_declared declared turn (suspected declared turn event s))
-      (λ t reached. goes_declared (suspected declared turn event s) t reached
-      (all_of_others s.node r.of (suspected declared turn event s) (suspects_others declared turn d node event s s.node (suspected declared turn event s) r.of r.of refl)))
+      goes_then (all_declared declared turn (suspects_by declared turn event s))
+      (λ t reached. goes_declared (suspects_by declared turn event s) t reached
+      (all_of_others s.node r.of (suspects_by declared turn event s) (suspects_others declared turn d node event s s.node (suspects_by declared turn event s) r.of r.of refl)))
       (event_comes declared turn event s) (goes_event event s r other octets)
 
   goes_foreign : (port : ℕ) (bytes : List ℕ) (s : Served M) → Reached s → Reached (with_foreign port bytes s)
@@ -142,7 +142,7 @@ module _ {M : Type 0} (declared : M → Signature) (turn : M → List ValueTree 
     of = r.of;
   }
 
-  goes_took : (taken : TakenFrom) (s : Served M) → Reached s → IsOfOctets taken → GoesOn (took declared turn d node taken s)
+  goes_took : (taken : TakenFrom) (s : Served M) → Reached s → IsOfOctets taken → GoesOn (take_comes declared turn d node taken s)
   goes_took (From port bytes) s r octets = by_peer (peer_at d node port) refl
     where
       by_peer : (peer : Option ℕ) → peer_at d node port ≡ peer → GoesOn (option_map_or (λ from. comes declared turn (Datagram from bytes) s) peer (on (with_foreign port bytes s)))
@@ -154,9 +154,9 @@ module _ {M : Type 0} (declared : M → Signature) (turn : M → List ValueTree 
   goes_all [] s r all = r
   goes_all (taken ∷ others) s r all =
       goes_then (all_took declared turn d node others) (λ t reached. goes_all others t reached (All-tail IsOfOctets taken others all))
-      (took declared turn d node taken s) (goes_took taken s r (All-head IsOfOctets taken others all))
+      (take_comes declared turn d node taken s) (goes_took taken s r (All-head IsOfOctets taken others all))
 
-  module _ (begun_ : NodeState M) (outputs : Outputs) (boots : booting.booted declared turn first d (Some own) node ≡ Ok (begun_, outputs)) where
+  module _ (begun_ : NodeState M) (outputs : Outputs) (boots : booting.boot_node declared turn first d (Some own) node ≡ Ok (begun_, outputs)) where
     goes_boot : Reached (at_boot begun_ outputs.gives)
     goes_boot = record {
       lived = trace.booted (effects_at_boot declared turn first d (Some own) node) outputs;
@@ -169,15 +169,15 @@ module _ {M : Type 0} (declared : M → Signature) (turn : M → List ValueTree 
       of = boot_is_of declared turn first (Ok (begun_, outputs)) d (Some own) node can boots;
     }
 
-    goes_begun : GoesOn (begun declared turn begun_ outputs.gives)
+    goes_begun : GoesOn (begin_serving declared turn begun_ outputs.gives)
     goes_begun = by_spare (is_spare begun_)
       where
         by_spare : (b : Bool) → GoesOn (if b then comes declared turn Join (at_boot begun_ outputs.gives) else on (at_boot begun_ outputs.gives))
         by_spare true = goes_comes Join (at_boot begun_ outputs.gives) goes_boot tt tt
         by_spare false = goes_boot
 
-    reached_all : (takes : List TakenFrom) → All IsOfOctets takes → GoesOn (served declared turn d node begun_ outputs.gives takes)
-    reached_all takes octets = goes_then (all_took declared turn d node takes) (λ s r. goes_all takes s r octets) (begun declared turn begun_ outputs.gives) goes_begun
+    reached_all : (takes : List TakenFrom) → All IsOfOctets takes → GoesOn (serve_takes declared turn d node begun_ outputs.gives takes)
+    reached_all takes octets = goes_then (all_took declared turn d node takes) (λ s r. goes_all takes s r octets) (begin_serving declared turn begun_ outputs.gives) goes_begun
 
 module _ {M : Type 0} (declared : M → Signature) (turn : M → List ValueTree → ℕ → List ValueTree → List Outcome → NextTurn) (first : M → List ValueTree)
     (d : Deployment) (own : M) (node : ℕ) where
@@ -193,23 +193,23 @@ module _ {M : Type 0} (declared : M → Signature) (turn : M → List ValueTree 
           is = core_is_a_node_run declared turn first d own node lawful can number troupe r.lived s.node kept r.stands r.rises r.others hosts there at;
         }
 
-    module _ (begun_ : NodeState M) (outputs : Outputs) (takes : List TakenFrom) (boots : booting.booted declared turn first d (Some own) node ≡ Ok (begun_, outputs))
+    module _ (begun_ : NodeState M) (outputs : Outputs) (takes : List TakenFrom) (boots : booting.boot_node declared turn first d (Some own) node ≡ Ok (begun_, outputs))
         (octets : All IsOfOctets takes) where
-      reached : GoesOn declared turn first d own node can (served declared turn d node begun_ outputs.gives takes)
+      reached : GoesOn declared turn first d own node can (serve_takes declared turn d node begun_ outputs.gives takes)
       reached = reached_all declared turn first d own node can begun_ outputs boots takes octets
 
-      pub served_is_a_node_run : (last : Served M) (kept : MemberRecord) → served declared turn d node begun_ outputs.gives takes ≡ on last → member_record last.node.acting ≡ Some kept
+      pub served_is_a_node_run : (last : Served M) (kept : MemberRecord) → serve_takes declared turn d node begun_ outputs.gives takes ≡ on last → member_record last.node.acting ≡ Some kept
           → IsServedRun d (behaviour declared turn first own) node number troupe last.happened kept
       served_is_a_node_run last kept is at = is_served_run last (subst (GoesOn declared turn first d own node can) is reached) kept at
 
-      pub served_so_far : IsServedSoFar d (behaviour declared turn first own) node number troupe (happened_by (served declared turn d node begun_ outputs.gives takes))
+      pub served_so_far : IsServedSoFar d (behaviour declared turn first own) node number troupe (happened_by (serve_takes declared turn d node begun_ outputs.gives takes))
       served_so_far = by_record (member_record so_far.last.node.acting) refl (so_far.reached.of.member (subst (λ (o : Option ℕ). IsSome o) (sym hosts) refl))
         where
-          so_far : HasReached declared turn first d own node can (happened_by (served declared turn d node begun_ outputs.gives takes))
-          so_far = reached_so_far declared turn first d own node can (served declared turn d node begun_ outputs.gives takes) reached
+          so_far : HasReached declared turn first d own node can (happened_by (serve_takes declared turn d node begun_ outputs.gives takes))
+          so_far = reached_so_far declared turn first d own node can (serve_takes declared turn d node begun_ outputs.gives takes) reached
 
           by_record : (o : Option MemberRecord) → member_record so_far.last.node.acting ≡ o → IsSome o
-              → IsServedSoFar d (behaviour declared turn first own) node number troupe (happened_by (served declared turn d node begun_ outputs.gives takes))
+              → IsServedSoFar d (behaviour declared turn first own) node number troupe (happened_by (serve_takes declared turn d node begun_ outputs.gives takes))
           by_record (Some kept) at some =
               record {
                 kept = kept;

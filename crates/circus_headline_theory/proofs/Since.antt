@@ -21,12 +21,12 @@ use Rattle.circus_member_rules.specs.declared.occurrence.Occurrence.{Occurrence}
 use Rattle.circus_member_rules.specs.declared.occurrence.Occurrence.TheVariants as comes
 use Rattle.circus_member_rules.specs.Happening.{IsHome}
 use Rattle.circus_member_rules.specs.MemberState.{MemberState, Doing}
-use Rattle.circus_member_rules.specs.Step.{is_join, handled}
+use Rattle.circus_member_rules.specs.Step.{is_join, handle}
 use Rattle.circus_member_rules.proofs.Entering.{HasValue, with_answered}
 use Rattle.circus_member_rules.proofs.Starting.{IsSoundNow}
 use Rattle.circus_member_rules.proofs.Writing.{one_is_performing}
 use Rattle.circus_member_theory.proofs.Resting.{at_boot}
-use Rattle.circus_timely.specs.Past.{Past, booted, followed, phase, fetched}
+use Rattle.circus_timely.specs.Past.{Past, booted, followed, phase, snapshot_fetched}
 use Rattle.circus_timely.specs.First.{or_else, first_given}
 use Rattle.circus_member_theory.specs.Living.{MayLive, after, kept_after, phase_at_boot}
 use Rattle.circus_member_theory.proofs.Timely.Firsts.{first_is, none_now}
@@ -47,7 +47,7 @@ none_before (Some given) last is = cc
 module _ {M : Type 0} (at : ℕ) (m : MemberState M) where
   -- but for a state that is taken
   handled_first : (o : Occurrence) → ((state : List ValueTree) (count : ℕ) → o ≡ comes.Restored state count → is_fetching m.performing.kept.phase ≡ false) → IsFromFirst m.performing.kept
-      → IsFromFirst (handled at o m).member.performing.kept
+      → IsFromFirst (handle at o m).member.performing.kept
   handled_first (comes.Asked header body sender) none h = h
   handled_first (comes.Fetched incarnation sender) none h = h
   handled_first (comes.Replied name from reply) none h = h
@@ -104,19 +104,19 @@ module _ {M : Type 0} (declared : M → Signature) (turn : M → List ValueTree 
     before_any Founder = (refl, refl)
     before_any Spare = (refl, refl)
 
-    pub from_first : (p : Past) → MayLive declared turn first place views beginning hosted p → first_given (fetched begins) p ≡ None → IsFromFirst (kept_after declared turn first place views beginning hosted p)
+    pub from_first : (p : Past) → MayLive declared turn first place views beginning hosted p → first_given (snapshot_fetched begins) p ≡ None → IsFromFirst (kept_after declared turn first place views beginning hosted p)
     from_first booted may none = booted_keeps declared turn first lawful place views hosted home (IsFirstIn 0) (IsFirstIn 0) (first_keeps 0) beginning (before_any beginning)
     from_first (followed p at o) may none =
         let m = after declared turn first place views beginning hosted p in
-        let before : first_given (fetched begins) p ≡ None = none_before _ _ (sym (first_is (fetched begins) (followed p at o)) ∙ none) in
+        let before : first_given (snapshot_fetched begins) p ≡ None = none_before _ _ (sym (first_is (snapshot_fetched begins) (followed p at o)) ∙ none) in
         let k = known declared turn first lawful place views beginning hosted home p may.0 in
         let s = step_is declared turn first lawful place views beginning hosted home p at o may k in
-        executed_keeps declared turn first lawful at (IsFirstIn at) (IsFirstIn at) (first_keeps at) (handled at o m) s.sound
-        (handled_first at m o (λ state count is. ap is_fetching k.knows.phase_is ∙ not_fetching state count is (none_now (fetched begins) (followed p at o) none)) (from_first p may.0 before))
+        executed_keeps declared turn first lawful at (IsFirstIn at) (IsFirstIn at) (first_keeps at) (handle at o m) s.sound
+        (handled_first at m o (λ state count is. ap is_fetching k.knows.phase_is ∙ not_fetching state count is (none_now (snapshot_fetched begins) (followed p at o) none)) (from_first p may.0 before))
       where
-        not_fetching : (state : List ValueTree) (count : ℕ) → o ≡ comes.Restored state count → fetched begins (followed p at o) ≡ None → is_fetching (phase begins p) ≡ false
-        not_fetching state count is nothing = by_test (is_fetching (phase begins p)) (ap (λ x. fetched begins (followed p at x)) (sym is) ∙ nothing)
+        not_fetching : (state : List ValueTree) (count : ℕ) → o ≡ comes.Restored state count → snapshot_fetched begins (followed p at o) ≡ None → is_fetching (phase begins p) ≡ false
+        not_fetching state count is nothing = by_test (is_fetching (phase begins p)) (ap (λ x. snapshot_fetched begins (followed p at x)) (sym is) ∙ nothing)
           where
-            by_test : (t : Bool) → (if t then Some (state, count) else fetched begins p) ≡ None → t ≡ false
+            by_test : (t : Bool) → (if t then Some (state, count) else snapshot_fetched begins p) ≡ None → t ≡ false
             by_test true clash = absurd (let same : ◌≡◌ {A = Option (List ValueTree × ℕ)} (Some (state, count)) None = clash in cc)
             by_test false clash = refl

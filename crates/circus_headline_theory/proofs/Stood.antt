@@ -47,9 +47,9 @@ all_others d node (trace.stepped t at event made outputs) others =
 
 module _ {M : Type 0} (declared : M → Signature) (turn : M → List ValueTree → ℕ → List ValueTree → List Outcome → NextTurn) where
   comes_on : (events : Events) (a b : NodeState M) (e : ℕ × Event) (ended : NodeState M × Outputs) → Comes declared turn events a b → IsOfBytes e.1
-      → node_step.stepped declared turn e.0 e.1 b ≡ Ok ended → Comes declared turn (events ++ e ∷ []) a ended.0
+      → node_step.step_node declared turn e.0 e.1 b ≡ Ok ended → Comes declared turn (events ++ e ∷ []) a ended.0
   comes_on [] a b e ended come octets is =
-      (ended, octets, subst (λ (x : NodeState M). node_step.stepped declared turn e.0 e.1 x ≡ Ok ended) come is, refl)
+      (ended, octets, subst (λ (x : NodeState M). node_step.step_node declared turn e.0 e.1 x ≡ Ok ended) come is, refl)
   comes_on (x ∷ events) a b e ended come octets is = (come.0, come.1, come.2, comes_on events come.0.0 b e ended come.3 octets is)
 
   abbrev grown : Trace → Events → NodeState M → Trace
@@ -58,12 +58,12 @@ module _ {M : Type 0} (declared : M → Signature) (turn : M → List ValueTree 
   abbrev grown_by : Trace → ℕ × Event → Events → NodeState M → node_step.Ended M → Trace
   grown_by t next events n e = lived.then_on (λ (x : Trace) (m : NodeState M). grown x events m) t (trace.stepped t next.0 next.1 (effects_in declared turn next.0 next.1 n)) e
 
-  one_more : (t : Trace) (n : NodeState M) (e : ℕ × Event) (ended : NodeState M × Outputs) → node_step.stepped declared turn e.0 e.1 n ≡ Ok ended
+  one_more : (t : Trace) (n : NodeState M) (e : ℕ × Event) (ended : NodeState M × Outputs) → node_step.step_node declared turn e.0 e.1 n ≡ Ok ended
       → grown t (e ∷ []) n ≡ trace.stepped t e.0 e.1 (effects_in declared turn e.0 e.1 n) ended.1
   one_more t n e ended is = λ j. grown_by t e [] n (is j)
 
   grown_on : (t : Trace) (events : Events) (a b : NodeState M) (e : ℕ × Event) (ended : NodeState M × Outputs) → Comes declared turn events a b
-      → node_step.stepped declared turn e.0 e.1 b ≡ Ok ended
+      → node_step.step_node declared turn e.0 e.1 b ≡ Ok ended
       → grown t (events ++ e ∷ []) a ≡ trace.stepped (grown t events a) e.0 e.1 (effects_in declared turn e.0 e.1 b) ended.1
   grown_on t [] a b e ended come is =
       subst (λ (x : NodeState M). grown t (e ∷ []) x ≡ trace.stepped t e.0 e.1 (effects_in declared turn e.0 e.1 b) ended.1) come (one_more t b e ended is)
@@ -78,7 +78,7 @@ module _ {M : Type 0} (declared : M → Signature) (turn : M → List ValueTree 
     record HasLivedIt (t : Trace) (n : NodeState M) : Type 0 where
       begun : NodeState M
       outputs : Outputs
-      boots : booting.booted declared turn first d (Some own) node ≡ Ok (begun, outputs)
+      boots : booting.boot_node declared turn first d (Some own) node ≡ Ok (begun, outputs)
       comes : Comes declared turn (events_of t) begun n
       rising : Rising 0 (events_of t)
       last : last_step 0 (events_of t) ≡ now t

@@ -35,7 +35,7 @@ use Rattle.circus_node.specs.declared.event.Event.{Event}
 use Rattle.circus_node.specs.declared.event.Outputs.{Outputs}
 use Rattle.circus_talks.specs.NodeActs.{with_all, acts_in}
 use Rattle.circus_node.specs.Trace.{effects_in, effects_at_boot, Trace}
-use Rattle.circus_timely.specs.Past.{Past, booted, now, fetched}
+use Rattle.circus_timely.specs.Past.{Past, booted, now, snapshot_fetched}
 use Rattle.circus_timely.specs.First.{first_given}
 use Rattle.circus_timely.specs.Timely.{IsTimely}
 use Rattle.circus_member_theory.specs.Living.{after, kept_after, phase_at_boot}
@@ -100,7 +100,7 @@ module _ {M : Type 0} (declared : M → Signature) (turn : M → List ValueTree 
 
   -- nothing is told at boot
   module _ (first : M → List ValueTree) (d : Deployment) (own : M) (node number : ℕ) (troupe : Troupe) (hosts : troupe_at d node ≡ Some number) (there : slice_get d.troupes number ≡ Some troupe) where
-    boot_tells : (ended : NodeState M × Outputs) → booting.booted declared turn first d (Some own) node ≡ Ok ended → ended.1.differences ≡ []
+    boot_tells : (ended : NodeState M × Outputs) → booting.boot_node declared turn first d (Some own) node ≡ Ok ended → ended.1.differences ≡ []
     boot_tells ended is = by_sending (all_handed (sent (fresh_wire d node) []) m.came.effects) is ∙ subst (λ h. (made_at_boot declared turn first d h (Some own)).came.differences ≡ []) (sym home_is) refl
       where
         m : Made M
@@ -112,7 +112,7 @@ module _ {M : Type 0} (declared : M → Signature) (turn : M → List ValueTree 
         home_is : home_of d node ≡ Some (home_in d node number troupe)
         home_is = ap (option_and_then (λ k. option_map (home_in d node k) (slice_get d.troupes k))) hosts ∙ ap (option_map (home_in d node number)) there
 
-        by_sending : (s : Sending) → node_step.ended n m.came s ≡ Ok ended → ended.1.differences ≡ m.came.differences
+        by_sending : (s : Sending) → node_step.end_step n m.came s ≡ Ok ended → ended.1.differences ≡ m.came.differences
         by_sending (sent w given) ends = subst (λ (e : NodeState M × Outputs). e.1.differences ≡ m.came.differences) (same_ended _ ended ends) refl
         by_sending (spent peer) ends = absurd (let clash : ◌≡◌ {A = node_step.Ended M} (Err peer) (Ok ended) = ends in cc)
 
@@ -156,7 +156,7 @@ module _ {M : Type 0} (declared : M → Signature) (turn : M → List ValueTree 
         timely = subst (λ n. IsTimely place views begins (declared own).procedures n kept (past_of d b node number troupe kept t)) (runs_are own beginning)
             (subst (IsTimely place views begins (declared own).procedures (member_living.runs_at_boot declared beginning own) kept) (sym past_so)
             (node_records_are_timely declared turn first lawful d own node events begun_ last life number troupe kept hosts there at));
-        from_first = subst (λ q. first_given (fetched begins) q ≡ None → (kept.from ≡ 0) × (kept.active_at ≡ 0)) (sym past_so)
+        from_first = subst (λ q. first_given (snapshot_fetched begins) q ≡ None → (kept.from ≡ 0) × (kept.active_at ≡ 0)) (sym past_so)
             (λ none. subst IsFromFirst kept_is (from_first declared turn first lawful place views beginning own home p (may_live declared turn first lawful d good node number troupe own hosts home p last.acting f.goes.lives) none));
         follows = subst (λ q. IsRecord b (began begins b.first q) kept) (sym past_so) follows_so;
         makes = subst (λ q. MakesWhatIsOwed d node number troupe b.first kept q (made_of t) (told_of t)) (sym past_so) makes_so;

@@ -27,7 +27,7 @@ use Rattle.circus_world.specs.declared.cause.LineCause.TheVariants.{NotLive, Not
 use Rattle.circus_world.specs.declared.sent.Sent.{Sent}
 use Rattle.circus_world.specs.WorldState.{WorldState, Standing, is_live, has_crashed}
 use Rattle.circus_world.specs.Legal.{unless_told, is_spare}
-use Rattle.circus_world.specs.Course.{Stepped, sent_by, noted, passed, told_to_join, concluded, comes_to, stepped}
+use Rattle.circus_world.specs.Course.{Stepped, sent_by, noted, pass_step, told_to_join, conclude_step, comes_to, step_line}
 use Rattle.circus_world.specs.Lines.{Leads}
 use Rattle.circus_world.proofs.ComeLemmas.{live_then, datagram_may_come, delivered_at, down_differs}
 use Rattle.circus_world.proofs.SlotLemmas.{get_there, all_at}
@@ -39,7 +39,7 @@ use Rattle.circus_world_theory.specs.NodeLives.{Events, IsOfBytes}
 use Rattle.circus_headline_theory.specs.Owed.Makes.{by_line}
 use Rattle.circus_headline_theory.specs.Datagrams.Lives.{IsOfOther}
 use Rattle.circus_headline_theory.specs.Coming.{comes_then}
-use Rattle.circus_headline_theory.specs.Events.{arriving, event_for, is_crash_of, is_join_of}
+use Rattle.circus_headline_theory.specs.Events.{event_of_sent, event_for, is_crash_of, is_join_of}
 use Rattle.circus_headline_theory.specs.Sendings.{is_from, sent_from}
 
 -- ---- lists
@@ -93,18 +93,18 @@ module _ {M : Type 0} (declared : M → Signature) (turn : M → List ValueTree 
   -- something has come to a node of a world
   record HasCome (v next : WorldState M) (other : ℕ) (event : Event) (u : Standing M) : Type 0 where
     ended : NodeState M × Outputs
-    ends : node_step.stepped declared turn (v.steps + 1) event u.node ≡ Ok ended
+    ends : node_step.step_node declared turn (v.steps + 1) event u.node ≡ Ok ended
     nodes_are : next.nodes ≡ set v.nodes other (record u { node = ended.0 })
     sent_are : next.sent ≡ v.sent ++ map (sent_by (v.steps + 1) other) ended.1.gives
     steps_are : next.steps ≡ v.steps + 1
 
   has_come : (v next : WorldState M) (other : ℕ) (event : Event) (u : Standing M) → slice_get v.nodes other ≡ Some u → comes_to declared turn other event v ≡ Ok next
       → HasCome v next other event u
-  has_come v next other event u at is = by_end (node_step.stepped declared turn (v.steps + 1) event u.node) refl
+  has_come v next other event u at is = by_end (node_step.step_node declared turn (v.steps + 1) event u.node) refl
     where
-      by_end : (e : node_step.Ended M) → node_step.stepped declared turn (v.steps + 1) event u.node ≡ e → HasCome v next other event u
+      by_end : (e : node_step.Ended M) → node_step.step_node declared turn (v.steps + 1) event u.node ≡ e → HasCome v next other event u
       by_end (Ok ended) ends =
-          let same = same_world _ next (sym (comes_is declared turn v other event u at ∙ ap (concluded other u v) ends) ∙ is) in
+          let same = same_world _ next (sym (comes_is declared turn v other event u at ∙ ap (conclude_step other u v) ends) ∙ is) in
           record {
             ended = ended;
             ends = ends;
@@ -112,7 +112,7 @@ module _ {M : Type 0} (declared : M → Signature) (turn : M → List ValueTree 
             sent_are = ap (λ (x : WorldState M). x.sent) (sym same);
             steps_are = ap (λ (x : WorldState M). x.steps) (sym same);
           }
-      by_end (Err peer) ends = absurd (let clash : ◌≡◌ {A = Stepped M} (Err (other, peer)) (Ok next) = sym (comes_is declared turn v other event u at ∙ ap (concluded other u v) ends) ∙ is in cc)
+      by_end (Err peer) ends = absurd (let clash : ◌≡◌ {A = Stepped M} (Err (other, peer)) (Ok next) = sym (comes_is declared turn v other event u at ∙ ap (conclude_step other u v) ends) ∙ is in cc)
 
   module _ (d : Deployment) (node : ℕ) where
     -- nothing comes to the node by the line
@@ -132,7 +132,7 @@ module _ {M : Type 0} (declared : M → Signature) (turn : M → List ValueTree 
     pub record HasMoved (line : Line) (w next : WorldState M) (s : Standing M) : Type 0 where
       pub event : Event
       pub ended : NodeState M × Outputs
-      pub ends : node_step.stepped declared turn (w.steps + 1) event s.node ≡ Ok ended
+      pub ends : node_step.step_node declared turn (w.steps + 1) event s.node ≡ Ok ended
       pub after : Standing M
       pub there : slice_get next.nodes node ≡ Some after
       pub node_is : after.node ≡ ended.0
@@ -211,8 +211,8 @@ module _ {M : Type 0} (declared : M → Signature) (turn : M → List ValueTree 
           record {
             event = event;
             ended = h.ended;
-            ends = ap (λ (n : NodeState M). node_step.stepped declared turn (w.steps + 1) event n) (sym (ap (λ (x : Standing M). x.node) u_is ∙ node_same))
-                ∙ ap (λ k. node_step.stepped declared turn (k + 1) event u.node) (sym steps_same) ∙ h.ends;
+            ends = ap (λ (n : NodeState M). node_step.step_node declared turn (w.steps + 1) event n) (sym (ap (λ (x : Standing M). x.node) u_is ∙ node_same))
+                ∙ ap (λ k. node_step.step_node declared turn (k + 1) event u.node) (sym steps_same) ∙ h.ends;
             after = record u { node = h.ended.0 };
             there = ap (λ (l : List (Standing M)). slice_get l node) h.nodes_are ∙ ap (slice_get (set v.nodes other (record u { node = h.ended.0 }))) (sym same)
                 ∙ get_same v.nodes other (record u { node = h.ended.0 }) u at_other;
@@ -262,7 +262,7 @@ module _ {M : Type 0} (declared : M → Signature) (turn : M → List ValueTree 
       if_elsewhere : (other : ℕ) (e : Event) → other ≢ node → (if other == node then Some e else None) ≡ None
       if_elsewhere other e differ = ap (λ b. if b then Some e else None) (ne_eqb other node differ)
 
-      delivered : (place : ℕ) (sent : Sent) (live : Bool) → slice_get w.sent place ≡ Some sent → is_live w sent.to ≡ live → stepped declared turn (Deliver place) w ≡ Ok next
+      delivered : (place : ℕ) (sent : Sent) (live : Bool) → slice_get w.sent place ≡ Some sent → is_live w sent.to ≡ live → step_line declared turn (Deliver place) w ≡ Ok next
           → Walks (Deliver place) w next s
       delivered place sent true there live is =
           let u = live_there (slice_get w.nodes sent.to) live in
@@ -270,33 +270,33 @@ module _ {M : Type 0} (declared : M → Signature) (turn : M → List ValueTree 
           let e : Event = comes.Datagram sent.from sent.bytes in
           walks (Deliver place) w w next sent.to e s s u.0 refl refl u.1 at at refl refl refl
           (ap (option_and_then (delivery w)) there ∙ ap (λ b. if b then Some (sent.to, e) else None) live) refl live
-          (λ same. ap (option_and_then (arriving node)) there ∙ if_here sent.to e same)
-          (λ differ. ap (option_and_then (arriving node)) there ∙ if_elsewhere sent.to e differ)
+          (λ same. ap (option_and_then (event_of_sent node)) there ∙ if_here sent.to e same)
+          (λ differ. ap (option_and_then (event_of_sent node)) there ∙ if_elsewhere sent.to e differ)
           (all_at (λ (x : Sent). AreOctets x.bytes) w.sent place sent all_octets there) (may.1, in_deployment sent.from may.0)
           (sym (delivered_at declared turn w place sent true there live) ∙ is)
       delivered place sent false there lost is =
           let e : Event = comes.Datagram sent.from sent.bytes in
-          let same = same_world (passed w) next (sym (delivered_at declared turn w place sent false there lost) ∙ is) in
+          let same = same_world (pass_step w) next (sym (delivered_at declared turn w place sent false there lost) ∙ is) in
           inl (unmoved (Deliver place) w next s s (ap (λ (x : WorldState M). slice_get x.nodes node) (sym same) ∙ at) refl (ap (λ (x : WorldState M). x.steps) (sym same)) (ap (λ (x : WorldState M). x.sent) (sym same))
           (ap (option_and_then (delivery w)) there ∙ ap (λ b. if b then Some (sent.to, e) else None) lost)
-          (λ alive none. (alive, ap (option_and_then (arriving node)) there ∙ if_elsewhere sent.to e (λ to_it. lost_at w node s at (ap (λ k. is_live w k) (sym to_it) ∙ lost) alive)))
+          (λ alive none. (alive, ap (option_and_then (event_of_sent node)) there ∙ if_elsewhere sent.to e (λ to_it. lost_at w node s at (ap (λ k. is_live w k) (sym to_it) ∙ lost) alive)))
           (λ gone. refl) (λ crash. absurd (let clash : false ≡ true = crash in cc)) refl)
 
-      crashed_here : (other : ℕ) → stepped declared turn (Crash other) w ≡ Ok next → other ≡ node → is_live w other ≡ true → IsStill (Crash other) w next s
+      crashed_here : (other : ℕ) → step_line declared turn (Crash other) w ≡ Ok next → other ≡ node → is_live w other ≡ true → IsStill (Crash other) w next s
       crashed_here other is same live =
           let alive : s.crashed ≡ None = live_at w node s at (ap (λ k. is_live w k) (sym same) ∙ live) in
           let note : Standing M → Standing M = λ x. record x { crashed = Some (w.steps + 1) } in
-          let world_is = same_world (passed (noted note other w)) next is in
+          let world_is = same_world (pass_step (noted note other w)) next is in
           unmoved (Crash other) w next s (note s)
           (ap (λ (x : WorldState M). slice_get x.nodes node) (sym world_is) ∙ ap (λ k. slice_get (noted note k w).nodes node) same ∙ noted_at note node w s at)
           refl (ap (λ (x : WorldState M). x.steps) (sym world_is)) (ap (λ (x : WorldState M). x.sent) (sym world_is)) refl
           (λ alive none. absurd (let clash : false ≡ true = sym none ∙ eq-eqb other node same in cc))
           (λ gone. absurd (let clash : false ≡ true = sym (ap is_some alive) ∙ gone in cc)) (λ crash. refl) refl
 
-      crashed_elsewhere : (other : ℕ) → stepped declared turn (Crash other) w ≡ Ok next → other ≢ node → other < length w.nodes → IsStill (Crash other) w next s
+      crashed_elsewhere : (other : ℕ) → step_line declared turn (Crash other) w ≡ Ok next → other ≢ node → other < length w.nodes → IsStill (Crash other) w next s
       crashed_elsewhere other is differ below =
           let note : Standing M → Standing M = λ x. record x { crashed = Some (w.steps + 1) } in
-          let world_is = same_world (passed (noted note other w)) next is in
+          let world_is = same_world (pass_step (noted note other w)) next is in
           let u = get_there w.nodes other below in
           unmoved (Crash other) w next s s
           (ap (λ (x : WorldState M). slice_get x.nodes node) (sym world_is)

@@ -29,7 +29,7 @@ module _ {M : Type 0} (declared : M → Signature) (turn : M → List ValueTree 
   -- each with its step, as far as the lines are stepped
   abbrev pub events_along : List Line → WorldState M → Events
   events_along [] w = []
-  events_along (line ∷ lines) w = then_along (by_line declared turn node comes_then line w) (events_along lines) (course.stepped declared turn line w)
+  events_along (line ∷ lines) w = then_along (by_line declared turn node comes_then line w) (events_along lines) (course.step_line declared turn line w)
 
 -- all of it is of other nodes
 abbrev pub AreOfOthers : Deployment → ℕ → Events → Type 0
@@ -41,7 +41,7 @@ module _ {M : Type 0} (declared : M → Signature) (turn : M → List ValueTree 
   pub record IsRingLife (node : ℕ) (events : Events) (begun last : NodeState M) : Type 0 where
     pub can : CanBoot d node None
     pub outputs : Outputs
-    pub boots : booting.booted declared turn first d None node ≡ Ok (begun, outputs)
+    pub boots : booting.boot_node declared turn first d None node ≡ Ok (begun, outputs)
     pub rising : Rising 0 events
     pub comes : Comes declared turn events begun last
 
@@ -54,7 +54,7 @@ module _ {M : Type 0} (declared : M → Signature) (turn : M → List ValueTree 
   abbrev pub NodesSendWhatTheyGive : List (Option M) → List Line → WorldState M → WorldState M → Type 0
   NodesSendWhatTheyGive hosted lines begun last =
       (node : ℕ) (own : Option M) (before after : Standing M) (made : List Effect) (outputs : Outputs) → slice_get hosted node ≡ Some own
-      → slice_get begun.nodes node ≡ Some before → slice_get last.nodes node ≡ Some after → booting.booted declared turn first d own node ≡ Ok (before.node, outputs)
+      → slice_get begun.nodes node ≡ Some before → slice_get last.nodes node ≡ Some after → booting.boot_node declared turn first d own node ≡ Ok (before.node, outputs)
       → SentWhatWasGiven node last.sent (with_events declared turn (booted made outputs) (events_along declared turn node lines begun) before.node)
 
   -- each node, as it booted and as it is in the last world, with what it hosts

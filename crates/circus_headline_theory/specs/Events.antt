@@ -8,12 +8,12 @@ use Rattle.circus_world.specs.declared.sent.Sent.{Sent}
 use Rattle.circus_world_theory.specs.NodeLives.{Events}
 
 -- a datagram, where it is to the node
-abbrev pub arriving : ℕ → Sent → Option Event
-arriving node sent = if sent.to == node then Some (comes.Datagram sent.from sent.bytes) else None
+abbrev pub event_of_sent : ℕ → Sent → Option Event
+event_of_sent node sent = if sent.to == node then Some (comes.Datagram sent.from sent.bytes) else None
 
 -- what a line gives to a node that hasn't crashed
 abbrev pub event_for : ℕ → List Sent → Line → Option Event
-event_for node sent (Deliver number) = option_and_then (arriving node) (slice_get sent number)
+event_for node sent (Deliver number) = option_and_then (event_of_sent node) (slice_get sent number)
 event_for node sent (Tick other) = if other == node then Some comes.Tick else None
 event_for node sent (Crash other) = None
 event_for node sent (Down other told) = if told == node then Some (comes.Down other) else None

@@ -24,7 +24,7 @@ module _ {M : Type 0} (declared : M → Signature) (turn : M → List ValueTree 
   with_events t (next ∷ events) n =
       then_on (λ grown after. with_events grown events after) t
       (stepped t next.0 next.1 (effects_in declared turn next.0 next.1 n))
-      (step.stepped declared turn next.0 next.1 n)
+      (step.step_node declared turn next.0 next.1 n)
 
   -- from boot on, where a node hosts this and gives that at boot
   abbrev pub trace_behind : (M → List ValueTree) → Deployment → M → ℕ → Outputs → Events → NodeState M → Trace

@@ -25,14 +25,14 @@ use Rattle.circus_member_rules.specs.declared.occurrence.Occurrence.{Occurrence}
 use Rattle.circus_member_rules.specs.declared.occurrence.Occurrence.TheVariants as occurs
 use Rattle.circus_member_rules.specs.declared.occurrence.Purpose.{Purpose}
 use Rattle.circus_member_rules.specs.declared.occurrence.Purpose.TheVariants as for
-use Rattle.circus_node.specs.Accepting.{accepted_call, accepted_table, accepted_state, imported, recorded_ask}
+use Rattle.circus_node.specs.Accepting.{accepted_call, accepted_table, accepted_state, imported_procedure, recorded_ask}
 use Rattle.circus_node.specs.Bodies.{outcome_at}
 use Rattle.circus_node.specs.Headers.{return_in}
 use Rattle.circus_node.specs.Booting.{beginning_in, home_in}
 use Rattle.circus_node.specs.declared.event.Event.{Event}
 use Rattle.circus_node.specs.declared.event.Event.TheVariants as comes
 use Rattle.circus_talks.specs.Histories.{beginning_of}
-use Rattle.circus_timely.specs.Past.{Past, booted, fetched}
+use Rattle.circus_timely.specs.Past.{Past, booted, snapshot_fetched}
 use Rattle.circus_timely.specs.First.{first_given}
 use Rattle.circus_timely.specs.Timely.{IsTimely}
 use Rattle.circus_member_theory.specs.Living.{phase_at_boot}
@@ -53,7 +53,7 @@ accepted_reply d declared kept name clock at message =
     if length clock == length d.troupes
     then option_map (λ outcome. record { clock = clock; outcome = outcome })
     (option_and_then (λ p. outcome_at p (limit_of d.format) at message)
-    (option_and_then (imported declared) (recorded_ask kept name)))
+    (option_and_then (imported_procedure declared) (recorded_ask kept name)))
     else None
 
 -- what a return to an ask says
@@ -73,16 +73,16 @@ accepted_return d declared kept from (for.Ring request) message = accepted_table
 accepted_return d declared kept from for.Fetch message = accepted_state declared message
 
 -- what happens to a member of a troupe by what its node hears of another one
-abbrev pub accepted : Deployment → Signature → ℕ → MemberRecord → ℕ → Heard Purpose → Option Occurrence
-accepted d declared own kept from Dropped = None
-accepted d declared own kept from Taken = None
-accepted d declared own kept from (Called sender message) = accepted_call d declared own sender message
-accepted d declared own kept from (Returned number purpose message) = accepted_return d declared kept from purpose message
+abbrev pub occurrence_by_record : Deployment → Signature → ℕ → MemberRecord → ℕ → Heard Purpose → Option Occurrence
+occurrence_by_record d declared own kept from Dropped = None
+occurrence_by_record d declared own kept from Taken = None
+occurrence_by_record d declared own kept from (Called sender message) = accepted_call d declared own sender message
+occurrence_by_record d declared own kept from (Returned number purpose message) = accepted_return d declared kept from purpose message
 
 -- and by what comes to it
 abbrev pub happens_by : Deployment → Signature → ℕ → ℕ → MemberRecord → WireActs Purpose → Event → Option Occurrence
 happens_by d declared node own kept acts (comes.Datagram from bytes) =
-    accepted d declared own kept from (heard_in (beginning_of d node) acts from (reading bytes))
+    occurrence_by_record d declared own kept from (heard_in (beginning_of d node) acts from (reading bytes))
 happens_by d declared node own kept acts comes.Tick = None
 happens_by d declared node own kept acts (comes.Down other) = Some (occurs.Declared other)
 happens_by d declared node own kept acts comes.Join = Some occurs.Joins
@@ -124,7 +124,7 @@ module _ (d : Deployment) (b : Behaviour) (node number : ℕ) (troupe : Troupe) 
     -- each start, answer and activation came in the first step that allows it, and what may come has come
     pub timely : IsTimely place (boot_views d.troupes) begins b.declared.procedures runs_at_boot kept (past_of kept t)
     -- one that took no state performs from the first call on, since boot
-    pub from_first : first_given (fetched begins) (past_of kept t) ≡ None → (kept.from ≡ 0) × (kept.active_at ≡ 0)
+    pub from_first : first_given (snapshot_fetched begins) (past_of kept t) ≡ None → (kept.from ≡ 0) × (kept.active_at ≡ 0)
     -- runs, asks, outcomes and states are turns of the module on the replies so far, from the state with which it became active
     -- (the first one of its module, or the first that came to it as a spare); one that isn't active has done nothing
     pub follows : IsRecord b (began begins b.first (past_of kept t)) kept

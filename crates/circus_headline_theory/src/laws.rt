@@ -26,7 +26,7 @@ ghost use Rattle.circus_alike.specs.Alike.{declared_of, turn_of, first_of};
 ghost use Rattle.circus_outside.specs.declared.link.TakenFrom.{TakenFrom};
 ghost use Rattle.circus_node.specs.Booting as booting;
 ghost use Rattle.circus_node.specs.declared.event.Outputs.{Outputs};
-ghost use Rattle.circus_serve.specs.Serving.{Served, on, happened_by, served};
+ghost use Rattle.circus_serve.specs.Serving.{Served, on, happened_by, serve_takes};
 ghost use Rattle.circus_headline_theory.specs.ServedRun.{IsOfOctets, IsServedRun, IsServedSoFar};
 
 use circus_model::Module;
@@ -100,8 +100,8 @@ pub fn served_nodes_are_node_runs<M: Module>()
         (begun : NodeState M) (outputs : Outputs) (takes : List TakenFrom) (last : Served M)
         (kept : MemberRecord)
         → CanBoot d node (Some (M.declared own))
-        → booting.booted M.declared M.turn M.first d (Some own) node ≡ Ok (begun, outputs)
-        → served M.declared M.turn d node begun outputs.gives takes ≡ on last
+        → booting.boot_node M.declared M.turn M.first d (Some own) node ≡ Ok (begun, outputs)
+        → serve_takes M.declared M.turn d node begun outputs.gives takes ≡ on last
         → All IsOfOctets takes
         → troupe_at d node ≡ Some number → slice_get d.troupes number ≡ Some troupe
         → member_record last.node.acting ≡ Some kept
@@ -110,11 +110,11 @@ pub fn served_nodes_are_node_runs<M: Module>()
     ensures so_far { (d : Deployment) (own : M) (node number : ℕ) (troupe : Troupe)
         (begun : NodeState M) (outputs : Outputs) (takes : List TakenFrom)
         → CanBoot d node (Some (M.declared own))
-        → booting.booted M.declared M.turn M.first d (Some own) node ≡ Ok (begun, outputs)
+        → booting.boot_node M.declared M.turn M.first d (Some own) node ≡ Ok (begun, outputs)
         → All IsOfOctets takes
         → troupe_at d node ≡ Some number → slice_get d.troupes number ≡ Some troupe
         → IsServedSoFar d (behaviour M.declared M.turn M.first own) node number troupe
-        (happened_by (served M.declared M.turn d node begun outputs.gives takes)) }
+        (happened_by (serve_takes M.declared M.turn d node begun outputs.gives takes)) }
 {}
 
 /// So it is with a behaviour that keeps to the laws of modules, in place of a module.
@@ -124,8 +124,8 @@ pub fn plain_served_nodes_are_node_runs()
         (last : Served Behaviour) (kept : MemberRecord)
         → IsModule b
         → CanBoot d node (Some b.declared)
-        → booting.booted declared_of turn_of first_of d (Some b) node ≡ Ok (begun, outputs)
-        → served declared_of turn_of d node begun outputs.gives takes ≡ on last
+        → booting.boot_node declared_of turn_of first_of d (Some b) node ≡ Ok (begun, outputs)
+        → serve_takes declared_of turn_of d node begun outputs.gives takes ≡ on last
         → All IsOfOctets takes
         → troupe_at d node ≡ Some number → slice_get d.troupes number ≡ Some troupe
         → member_record last.node.acting ≡ Some kept
@@ -134,11 +134,11 @@ pub fn plain_served_nodes_are_node_runs()
         (begun : NodeState Behaviour) (outputs : Outputs) (takes : List TakenFrom)
         → IsModule b
         → CanBoot d node (Some b.declared)
-        → booting.booted declared_of turn_of first_of d (Some b) node ≡ Ok (begun, outputs)
+        → booting.boot_node declared_of turn_of first_of d (Some b) node ≡ Ok (begun, outputs)
         → All IsOfOctets takes
         → troupe_at d node ≡ Some number → slice_get d.troupes number ≡ Some troupe
         → IsServedSoFar d b node number troupe
-        (happened_by (served declared_of turn_of d node begun outputs.gives takes)) }
+        (happened_by (serve_takes declared_of turn_of d node begun outputs.gives takes)) }
 {}
 
 /// In every world that lines lead to each node lives by itself through what came to it: it boots,

@@ -13,14 +13,14 @@ use Rattle.circus_type.specs.declared.measuring.Measure.{Measure}
 use Rattle.circus_type.specs.Limits.{greatest_word, most_parts, most_zero_bytes}
 use Rattle.circus_idl.specs.Limits.{greatest_error}
 use Rattle.circus_type.specs.Written.{parts}
-use Rattle.circus_idl.specs.Meaning.{written, written_groups, standing_for}
+use Rattle.circus_idl.specs.Meaning.{shape_of_type, written_groups, standing_for}
 use Rattle.circus_type.specs.Scale.{written_out}
 use Rattle.circus_type.specs.Inside.{no_name, also_name, group_names}
 use Rattle.circus_idl.specs.Inside.{repeated_name, repeated_number, repeated_names, above, inside_groups, by_name, unknown_in}
 use Rattle.circus_idl.specs.OfTypes.{of_type}
 use Rattle.circus_idl.specs.Faults.{Before, Cut, nothing, groups_faults, groups_parts, fields_faults, fields_parts, together_faults, reports_faults, declared_faults, behind, declarations_faults}
 use Rattle.circus_type.specs.Whole.{is_place}
-use Rattle.circus_type.specs.Seen.Measured.{measure_of, measured, measured_groups, cut_off}
+use Rattle.circus_type.specs.Seen.Measured.{measure_of, measure_of_type, measured_groups, cut_off}
 use Rattle.circus_type.proofs.WholeTypes.{above_cut, with_type, whole_cut}
 use Rattle.circus_type.proofs.Sizes.{measured_is, groups_measured, zeros_together}
 
@@ -32,7 +32,7 @@ groups_parts_cut : (forms : List ℕ → ShapeTree) (so_far : ℕ) (groups : Gro
 groups_parts_cut forms so_far no_groups = refl
 groups_parts_cut forms so_far (more_groups names t groups) =
     ap (λ p. groups_parts cut_off (sizes_of forms) p groups) (with_type (by_name forms) so_far (length names) t)
-    ∙ groups_parts_cut forms (so_far + length names * parts (written forms t)) groups
+    ∙ groups_parts_cut forms (so_far + length names * parts (shape_of_type forms t)) groups
 
 fields_parts_cut : (forms : List ℕ → ShapeTree) (so_far : ℕ) (fields : Option FieldsText) → fields_parts cut_off (sizes_of forms) (min so_far (1 + most_parts)) fields ≡ min (fields_parts written_out forms so_far fields) (1 + most_parts)
 fields_parts_cut forms so_far None = refl
@@ -42,7 +42,7 @@ module _ (cut : Cut) (types : List ℕ → Bool) (forms : List ℕ → ShapeTree
   groups_cut : (so_far : ℕ) (groups : GroupTrees) → groups_faults cut_off cut types (sizes_of forms) (min so_far (1 + most_parts)) groups ≡ groups_faults written_out cut types forms so_far groups
   groups_cut so_far no_groups = refl
   groups_cut so_far (more_groups names t groups) =
-      let rest = ap (λ p. groups_faults cut_off cut types (sizes_of forms) p groups) (with_type (by_name forms) so_far (length names) t) ∙ groups_cut (so_far + length names * parts (written forms t)) groups in
+      let rest = ap (λ p. groups_faults cut_off cut types (sizes_of forms) p groups) (with_type (by_name forms) so_far (length names) t) ∙ groups_cut (so_far + length names * parts (shape_of_type forms t)) groups in
       λ i. whole_cut of_type (unknown_in types) (by_name forms) cut.within so_far (length names) t i ++ rest i
 
   fields_cut : (so_far : ℕ) (fields : Option FieldsText) → fields_faults cut_off cut types (sizes_of forms) (min so_far (1 + most_parts)) fields ≡ fields_faults written_out cut types forms so_far fields
@@ -83,10 +83,10 @@ declared_cut cut b (a_procedure p) =
     ++ reports_faults b.errors p.reports ++ repeated_number b.procedure_numbers p.number ++ above greatest_word p.number
 
 -- what a name stands for
-name_cut : (forms : List ℕ → ShapeTree) (name : List ℕ) (t : TypeTree) (other : List ℕ) → standing_for name (measured (by_name (sizes_of forms)) t) (sizes_of forms) other ≡ measure_of (standing_for name (written forms t) forms other)
+name_cut : (forms : List ℕ → ShapeTree) (name : List ℕ) (t : TypeTree) (other : List ℕ) → standing_for name (measure_of_type (by_name (sizes_of forms)) t) (sizes_of forms) other ≡ measure_of (standing_for name (shape_of_type forms t) forms other)
 name_cut forms name t other = ap (λ m. cond (bytes_eq name other) m (measure_of (forms other))) (measured_is (by_name forms) t) ∙ pulled (bytes_eq name other)
   where
-    pulled : (b : Bool) → cond b (measure_of (written forms t)) (measure_of (forms other)) ≡ measure_of (cond b (written forms t) (forms other))
+    pulled : (b : Bool) → cond b (measure_of (shape_of_type forms t)) (measure_of (forms other)) ≡ measure_of (cond b (shape_of_type forms t) (forms other))
     pulled true = refl
     pulled false = refl
 

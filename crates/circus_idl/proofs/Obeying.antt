@@ -22,7 +22,7 @@ use Rattle.circus_idl.specs.declared.interface.Interface.{Interface}
 use Rattle.circus_type.specs.Written.{parts}
 use Rattle.circus_type.specs.Scale.{written_out}
 use Rattle.circus_type.specs.Meaning.{word_of}
-use Rattle.circus_idl.specs.Meaning.{written}
+use Rattle.circus_idl.specs.Meaning.{shape_of_type}
 use Rattle.circus_idl.specs.OfTypes.{of_type}
 use Rattle.circus_idl.specs.Means.{NamedShape, named_shape, Meant, and_then, fields_meant, numbers_meant, reports_meant, declared_meant, errors_behind, declarations_meant, meant_of, Means}
 use Rattle.circus_type.specs.Inside.{also_name}
@@ -118,7 +118,7 @@ module _ (all : List DeclaredError) (before : Before ShapeTree) (linked : Linked
         few = omega (arith, few);
       }
     where
-      known : ObeysWhole (written before.sizes t) → (n : List ℕ) (b : Bool) → (b || before.types n) ≡ true → ObeysInside (cond b (written before.sizes t) (before.sizes n))
+      known : ObeysWhole (shape_of_type before.sizes t) → (n : List ℕ) (b : Bool) → (b || before.types n) ≡ true → ObeysInside (cond b (shape_of_type before.sizes t) (before.sizes n))
       known obeys n true is = obeys.inside
       known obeys n false is = linked.known n is
 
@@ -131,7 +131,7 @@ module _ (all : List DeclaredError) (before : Before ShapeTree) (linked : Linked
         types = (obeys, rest.types);
         error_types = rest.error_types;
         procedure_types = rest.procedure_types;
-        few = omega (arith, rest.few, sum_by-cons parts (written before.sizes t) (type_shapes m));
+        few = omega (arith, rest.few, sum_by-cons parts (shape_of_type before.sizes t) (type_shapes m));
         errors = rest.errors;
         error_numbers = rest.error_numbers;
         procedures = rest.procedures;

@@ -7,7 +7,7 @@ use Rattle.circus_text.specs.Token.{Lexeme, IsSpelling, AreSpelled}
 use Rattle.circus_text.proofs.Numbers.{decimal_spelling}
 use Rattle.circus_syntax.specs.declared.named.Named.{Named}
 use Rattle.circus_syntax.specs.declared.named.Numeral.{Numeral}
-use Rattle.circus_syntax.specs.Placed.{word, Placed, Due, due, due_at, due_name, due_number, opened, IsDue, AreDue}
+use Rattle.circus_syntax.specs.Placed.{word, Placed, Due, due, due_at, due_name, due_number, open_level, IsDue, AreDue}
 use Rattle.circus_idl.specs.Lexemes.{number}
 use Rattle.circus_type.specs.Obeys.{IsName}
 
@@ -61,7 +61,7 @@ shown_then none back = back
 shown_then (more is spelled rest) back = more is spelled (shown_then rest back)
 
 -- so is a level of it
-pub level_shown : {ds : List Due} {ls : List Lexeme} {ps : List ℕ} → AreShown ds ls ps → AreShown (opened ds) ls ps
+pub level_shown : {ds : List Due} {ls : List Lexeme} {ps : List ℕ} → AreShown ds ls ps → AreShown (open_level ds) ls ps
 level_shown none = none
 level_shown (more is spelled rest) = more is spelled (level_shown rest)
 

@@ -11,7 +11,7 @@ use Rattle.circus_syntax.specs.declared.named.Named.{Named}
 use Rattle.circus_type.specs.Limits.{most_parts, most_zero_bytes}
 use Rattle.circus_type.specs.Distinct.{AreDistinct}
 use Rattle.circus_type.specs.Written.{levels, parts, zero_size, zero_values}
-use Rattle.circus_idl.specs.Meaning.{written, written_groups}
+use Rattle.circus_idl.specs.Meaning.{shape_of_type, written_groups}
 use Rattle.circus_type.specs.Scale.{is_large, written_out}
 use Rattle.circus_idl.specs.Shown.{type_lexemes}
 use Rattle.circus_type.specs.Inside.{no_name, group_names}
@@ -33,7 +33,7 @@ not_large count s obeys room =
     rw (le-ltb most_zero_bytes (zero_size s) obeys.small, le-ltb most_levels (levels s) obeys.shallow, le-ltb most_parts (count + parts s) room) refl
 
 -- the parts with those of one more type, from its tree
-pub whole_counted : (s : ShapeTree) (ps : List ℕ) (forms : List ℕ → ShapeTree) (count : ℕ) → ObeysWhole s → count + 1 * parts (written forms (type_at s ps)) ≡ count + parts s
+pub whole_counted : (s : ShapeTree) (ps : List ℕ) (forms : List ℕ → ShapeTree) (count : ℕ) → ObeysWhole s → count + 1 * parts (shape_of_type forms (type_at s ps)) ≡ count + parts s
 whole_counted s ps forms count obeys = omega (arith, ap parts (type_written s ps forms obeys.inside))
 
 pub whole_clean : (s : ShapeTree) (ps : List ℕ) (types : List ℕ → Bool) (forms : List ℕ → ShapeTree) (count : ℕ) → ObeysWhole s → count + parts s ≤ most_parts → whole_faults written_out (cut_of None) types forms count 1 (type_at s ps) ≡ []

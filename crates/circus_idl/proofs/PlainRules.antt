@@ -20,7 +20,7 @@ use Rattle.circus_idl.specs.declared.fault.Cause.{Cause}
 use Rattle.circus_type.specs.Written.{levels, field_levels, arm_levels}
 use Rattle.circus_type.specs.Distinct.{AreDistinct}
 use Rattle.circus_type.specs.Inside.{no_name, also_name, label_faults, labels_faults, group_names, arm_labels, is_bare, is_empty_record, length_faults, inside_arms}
-use Rattle.circus_idl.specs.Inside.{repeated_names, above, inside, inside_groups, unknown_in}
+use Rattle.circus_idl.specs.Inside.{repeated_names, above, inside_faults, inside_groups, unknown_in}
 use Rattle.circus_idl.specs.OfTypes.{of_type}
 use Rattle.circus_type.specs.Obeys.{IsName, ObeysInside, ObeyFields, ObeyArmTypes, ObeyLabels, field_names, arm_names, arm_numbers}
 use Rattle.circus_idl.proofs.Places.{here}
@@ -97,7 +97,7 @@ length_clean n some fits = no_fault _ _ _ (grind (arith, nat_tests))
 
 -- no fault stands inside of the tree
 mutual
-  pub inside_clean : (s : ShapeTree) (ps : List ℕ) (is_known : List ℕ → Bool) → ObeysInside s → inside is_known (type_at s ps) ≡ []
+  pub inside_clean : (s : ShapeTree) (ps : List ℕ) (is_known : List ℕ → Bool) → ObeysInside s → inside_faults is_known (type_at s ps) ≡ []
   inside_clean shape.boolean ps is_known obeys = refl
   inside_clean shape.cardinal ps is_known obeys = refl
   inside_clean shape.long_cardinal ps is_known obeys = refl
@@ -123,7 +123,7 @@ mutual
   inside_arms_clean shape.no_arms ps is_known obey = refl
   inside_arms_clean (shape.more_arms name n s arms) ps is_known obey =
       none_then _ _
-      (by_arm (λ t. (qs : List ℕ) → cond (is_empty_record (type_at t qs)) [] (inside is_known (type_at t qs)) ≡ []) s obey.0 (λ qs. refl)
+      (by_arm (λ t. (qs : List ℕ) → cond (is_empty_record (type_at t qs)) [] (inside_faults is_known (type_at t qs)) ≡ []) s obey.0 (λ qs. refl)
       (λ obeys qs. either_none _ _ (inside_clean s qs is_known obeys)) _)
       (inside_arms_clean arms _ is_known obey.1)
 

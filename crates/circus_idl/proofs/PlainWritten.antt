@@ -7,7 +7,7 @@ use Rattle.circus_value.specs.ShapeTree as shape
 use Rattle.circus_value.specs.ShapeTree.{ShapeTree, FieldTrees, no_fields, more_fields, field_trees, arm_trees}
 use Rattle.circus_type.specs.Meaning.{label_meant, written_arms}
 use Rattle.circus_idl.specs.Inside.{by_name}
-use Rattle.circus_idl.specs.Meaning.{written, written_groups}
+use Rattle.circus_idl.specs.Meaning.{shape_of_type, written_groups}
 use Rattle.circus_type.specs.Obeys.{ObeysInside, ObeyFields, ObeyArmTypes, arm_numbers}
 use Rattle.circus_idl.proofs.PlainTypes.{labels_at, type_at, groups_at, arms_at, by_arm}
 
@@ -21,7 +21,7 @@ labels_written (l ∷ ls) ps fit = ap₂ (λ n ms. record { name = l.name; numbe
 
 mutual
   -- the tree means the shape
-  pub type_written : (s : ShapeTree) (ps : List ℕ) (form : List ℕ → ShapeTree) → ObeysInside s → written form (type_at s ps) ≡ s
+  pub type_written : (s : ShapeTree) (ps : List ℕ) (form : List ℕ → ShapeTree) → ObeysInside s → shape_of_type form (type_at s ps) ≡ s
   type_written shape.boolean ps form obeys = refl
   type_written shape.cardinal ps form obeys = refl
   type_written shape.long_cardinal ps form obeys = refl
@@ -41,5 +41,5 @@ mutual
   arms_written : (arms : shape.ArmTrees) (ps : List ℕ) (form : List ℕ → ShapeTree) → AllByRecursion (λ n. n ≤ 65535) (arm_numbers arms) → ObeyArmTypes arms → arm_trees (written_arms (by_name form) (arms_at arms ps)) ≡ arms
   arms_written shape.no_arms ps form fit obey = refl
   arms_written (shape.more_arms name n s arms) ps form fit obey =
-      let inner = by_arm (λ t. (qs : List ℕ) → written form (type_at t qs) ≡ t) s obey.0 (λ qs. refl) (λ obeys qs. type_written s qs form obeys) in
+      let inner = by_arm (λ t. (qs : List ℕ) → shape_of_type form (type_at t qs) ≡ t) s obey.0 (λ qs. refl) (λ obeys qs. type_written s qs form obeys) in
       ap₂ (λ (more : shape.ArmTrees → shape.ArmTrees) others. more others) (ap₂ (λ m t others. shape.more_arms name m t others) (word_meant n fit.0) (inner _)) (arms_written arms _ form fit.1 obey.1)

@@ -14,11 +14,11 @@ use Rattle.circus_fault.specs.Known.{no_number, also_number}
 use Rattle.circus_idl.specs.declared.fault.Cause.{Cause}
 use Rattle.circus_idl.specs.declared.fault.Cause.TheVariants.{Unknown, OutOfRange}
 use Rattle.circus_idl.specs.Rank.{rank_of}
-use Rattle.circus_idl.specs.Inside.{repeated_name, repeated_number, repeated_names, above, inside, inside_groups, unknown_in}
+use Rattle.circus_idl.specs.Inside.{repeated_name, repeated_number, repeated_names, above, inside_faults, inside_groups, unknown_in}
 use Rattle.circus_idl.specs.OfTypes.{of_type}
 use Rattle.circus_type.specs.Inside.{label_faults, labels_faults, group_names, arm_labels, length_faults, bound_faults, is_bare, is_empty_record, no_name, also_name, inside_arms, unknown_faults}
 use Rattle.circus_type.specs.Written.{parts as shape_parts}
-use Rattle.circus_idl.specs.Meaning.{written}
+use Rattle.circus_idl.specs.Meaning.{shape_of_type}
 use Rattle.circus_type.specs.Scale.{written_out}
 use Rattle.circus_idl.specs.Faults.{Before, Cut, nothing, whole_faults, groups_faults, fields_faults, fields_parts, together_faults, unknown_errors, reports_faults, declared_faults, behind, declarations_faults, interface_faults}
 use Rattle.circus_type.proofs.Items.{all_appended}
@@ -66,7 +66,7 @@ unless false fs of_rules = of_rules
 
 module _ (types : List ℕ → Bool) where
   mutual
-    inside_rule : (t : TypeTree) → OfRules (inside types t)
+    inside_rule : (t : TypeTree) → OfRules (inside_faults types t)
     inside_rule (boolean _) = tt
     inside_rule (cardinal _) = tt
     inside_rule (long_cardinal _) = tt
@@ -74,8 +74,8 @@ module _ (types : List ℕ → Bool) where
     inside_rule (long_integer _) = tt
     inside_rule (text _) = tt
     inside_rule (enumeration _ labels) = labels_rule no_name no_number labels
-    inside_rule (array _ n t) = and (length_faults of_type n) (inside types t) (one_of _ _ _ (omega arith)) (inside_rule t)
-    inside_rule (sequence _ bound t) = and (bound_faults of_type bound) (inside types t) (bound_rule bound) (inside_rule t)
+    inside_rule (array _ n t) = and (length_faults of_type n) (inside_faults types t) (one_of _ _ _ (omega arith)) (inside_rule t)
+    inside_rule (sequence _ bound t) = and (bound_faults of_type bound) (inside_faults types t) (bound_rule bound) (inside_rule t)
     inside_rule («record» at groups) =
         and (faults_if (is_bare groups) at OutOfRange ++ repeated_names no_name (group_names groups)) (inside_groups types groups)
         (and (faults_if (is_bare groups) at OutOfRange) (repeated_names no_name (group_names groups)) (one_of _ _ _ (omega arith)) (names_rule no_name (group_names groups)))
@@ -85,22 +85,22 @@ module _ (types : List ℕ → Bool) where
 
     groups_inside_rule : (groups : GroupTrees) → OfRules (inside_groups types groups)
     groups_inside_rule no_groups = tt
-    groups_inside_rule (more_groups _ t groups) = and (inside types t) (inside_groups types groups) (inside_rule t) (groups_inside_rule groups)
+    groups_inside_rule (more_groups _ t groups) = and (inside_faults types t) (inside_groups types groups) (inside_rule t) (groups_inside_rule groups)
 
     arms_inside_rule : (arms : ArmTrees) → OfRules (inside_arms of_type (unknown_in types) arms)
     arms_inside_rule no_arms = tt
     arms_inside_rule (more_arms _ _ t arms) =
-        and (cond (is_empty_record t) [] (inside types t)) (inside_arms of_type (unknown_in types) arms) (unless (is_empty_record t) (inside types t) (inside_rule t)) (arms_inside_rule arms)
+        and (cond (is_empty_record t) [] (inside_faults types t)) (inside_arms of_type (unknown_in types) arms) (unless (is_empty_record t) (inside_faults types t) (inside_rule t)) (arms_inside_rule arms)
 
 module _ (cut : Cut) where
   whole_rule : (types : List ℕ → Bool) (forms : List ℕ → ShapeTree) (parts n : ℕ) (t : TypeTree) → OfRules (whole_faults written_out cut types forms parts n t)
-  whole_rule types forms parts n t = and (inside types t) _ (inside_rule types t) (one_of _ _ _ (omega arith))
+  whole_rule types forms parts n t = and (inside_faults types t) _ (inside_rule types t) (one_of _ _ _ (omega arith))
 
   groups_rule : (types : List ℕ → Bool) (forms : List ℕ → ShapeTree) (parts : ℕ) (groups : GroupTrees) → OfRules (groups_faults written_out cut types forms parts groups)
   groups_rule types forms parts no_groups = tt
   groups_rule types forms parts (more_groups names t groups) =
       and (whole_faults written_out cut types forms parts (length names) t) _ (whole_rule types forms parts (length names) t)
-      (groups_rule types forms (parts + length names * shape_parts (written forms t)) groups)
+      (groups_rule types forms (parts + length names * shape_parts (shape_of_type forms t)) groups)
 
   fields_rule : (types : List ℕ → Bool) (forms : List ℕ → ShapeTree) (parts : ℕ) (fields : Option FieldsText) → OfRules (fields_faults written_out cut types forms parts fields)
   fields_rule types forms parts None = tt

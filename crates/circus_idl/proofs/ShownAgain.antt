@@ -3,7 +3,7 @@ use Rattle.std.proofs.Common.{◌≡◌, ℕ, List, [], ◌∷◌, ◌++◌, Res
 use Rattle.std.specs.Prelude.{None}
 use Rattle.circus_text.specs.declared.token.Token.{Token}
 use Rattle.circus_text.specs.declared.lex_fault.LexFault.{LexFault}
-use Rattle.circus_text.specs.Token.{Lexeme, lexeme_of, lexemes_of, spaced, AreSpelled}
+use Rattle.circus_text.specs.Token.{Lexeme, lexeme_of, lexemes_of, text_with_spaces, AreSpelled}
 use Rattle.circus_text.specs.Division.{AreTokensOf}
 use Rattle.circus_text.proofs.Divisions.{answer_one}
 use Rattle.circus_text.proofs.Spaced.{spaced_read}
@@ -27,10 +27,10 @@ use Rattle.circus_idl.proofs.PlainMeaning.{interface_means, one_meant}
 use Rattle.circus_idl.proofs.PlainShown.{interface_shown}
 
 -- the tokens of what is written with spaces have its lexemes
-found_lexemes : (ls : List Lexeme) (found : List Token) → AreSpelled ls → AreTokensOf (spaced ls) found → lexemes_of (spaced ls) found ≡ ls
+found_lexemes : (ls : List Lexeme) (found : List Token) → AreSpelled ls → AreTokensOf (text_with_spaces ls) found → lexemes_of (text_with_spaces ls) found ≡ ls
 found_lexemes ls found spelled are =
     let (others, also, read) = spaced_read ls spelled in
-    ap (lexemes_of (spaced ls)) (same_tokens (answer_one (spaced ls) (Ok found) (Ok others) are also)) ∙ read
+    ap (lexemes_of (text_with_spaces ls)) (same_tokens (answer_one (text_with_spaces ls) (Ok found) (Ok others) are also)) ∙ read
   where
     same_tokens : {ts us : List Token} → ◌≡◌ {A = Result (List Token) LexFault} (Ok ts) (Ok us) → ts ≡ us
     same_tokens same = cc
@@ -47,17 +47,17 @@ placed_at ts ls same = placed_is ts ∙ ap (λ ms. placed ms (map (λ (t : Place
 shown_spelled : (i : Interface) → Obeys i → AreSpelled (lexemes i)
 shown_spelled i obeys = are_spelled (interface_shown i [] obeys (parts_obey i obeys))
 
-pub shown_again : (i : Interface) (found : List Token) → Obeys i → AreTokensOf (spaced (lexemes i)) found
-    → (tree : InterfaceTree) × IsInterface (placed_from (spaced (lexemes i)) found 0) tree × IsWithin most_levels tree
+pub shown_again : (i : Interface) (found : List Token) → Obeys i → AreTokensOf (text_with_spaces (lexemes i)) found
+    → (tree : InterfaceTree) × IsInterface (placed_from (text_with_spaces (lexemes i)) found 0) tree × IsWithin most_levels tree
     × (interface_faults (cut_of None) tree ≡ [])
     × Means tree i × ((j : Interface) → Means tree j → j ≡ i)
 shown_again i found obeys are =
     let obey = parts_obey i obeys in
-    let ts = placed_from (spaced (lexemes i)) found 0 in
+    let ts = placed_from (text_with_spaces (lexemes i)) found 0 in
     let ps = map (λ (t : Placed). t.start) ts in
     let tree = interface_at i ps in
     let shown = interface_shown i ps obeys obey in
-    let same = placed_at ts (lexemes i) (placed_lexemes (spaced (lexemes i)) found ∙ found_lexemes (lexemes i) found (are_spelled shown) are) in
+    let same = placed_at ts (lexemes i) (placed_lexemes (text_with_spaces (lexemes i)) found ∙ found_lexemes (lexemes i) found (are_spelled shown) are) in
     let means = interface_means i ps obeys obey in (
       tree,
       record { grammatical = interface_grammatical i ps obeys obey; spelled = subst (AreDue (spelling tree)) (sym same) (are_due shown) },
@@ -68,15 +68,15 @@ shown_again i found obeys are =
     )
 
 -- the text has tokens, and they are the interface again
-pub shown_read : (i : Interface) → Obeys i → IsReadAs (spaced (lexemes i)) i
+pub shown_read : (i : Interface) → Obeys i → IsReadAs (text_with_spaces (lexemes i)) i
 shown_read i obeys =
     let (found, are, shown) = spaced_read (lexemes i) (shown_spelled i obeys) in
     let (tree, spelled, within, clean, means, only) = shown_again i found obeys are in
     record { found = found; tokens = are; shown = shown; tree = tree; spelled = spelled; within = within; faultless = clean; means = means; only = only }
 
 -- what is read from these tokens is the interface, and nothing is left
-pub shown_whole : (i j : Interface) (found : List Token) (own rest : List Placed) (tree : InterfaceTree) → Obeys i → AreTokensOf (spaced (lexemes i)) found
-    → placed_from (spaced (lexemes i)) found 0 ≡ own ++ rest → IsInterface own tree → Means tree j → (j ≡ i) × (rest ≡ [])
+pub shown_whole : (i j : Interface) (found : List Token) (own rest : List Placed) (tree : InterfaceTree) → Obeys i → AreTokensOf (text_with_spaces (lexemes i)) found
+    → placed_from (text_with_spaces (lexemes i)) found 0 ≡ own ++ rest → IsInterface own tree → Means tree j → (j ≡ i) × (rest ≡ [])
 shown_whole i j found own rest tree obeys are whole is means =
     let (other, also, within, clean, meant, one) = shown_again i found obeys are in
     let (none, same) = interface_one own rest tree other is (subst (λ ts. IsInterface ts other) whole also) in

@@ -14,10 +14,10 @@ use Rattle.circus_type.specs.Limits.{most_parts, most_zero_bytes}
 use Rattle.circus_type.specs.Written.{parts}
 use Rattle.circus_type.specs.Scale.{written_out}
 use Rattle.circus_type.specs.Meaning.{fields_named}
-use Rattle.circus_idl.specs.Meaning.{written, written_groups}
+use Rattle.circus_idl.specs.Meaning.{shape_of_type, written_groups}
 use Rattle.circus_idl.specs.Means.{fields_meant}
 use Rattle.circus_type.specs.Inside.{no_name, group_names}
-use Rattle.circus_idl.specs.Inside.{repeated_names, inside, inside_groups, by_name, unknown_at, unknown_in}
+use Rattle.circus_idl.specs.Inside.{repeated_names, inside_faults, inside_groups, by_name, unknown_at, unknown_in}
 use Rattle.circus_idl.specs.OfTypes.{of_type}
 use Rattle.circus_idl.specs.Faults.{Cut, cut_of, whole_faults, groups_faults, groups_parts, fields_faults, fields_parts, together_faults}
 use Rattle.circus_fault.specs.Least.{is_clean}
@@ -60,7 +60,7 @@ module _ (types : List ℕ → Bool) (form : List ℕ → ShapeTree) (known : (n
 
   -- a whole type, which so many names share
   pub whole_obeys : (before n : ℕ) (t : TypeTree) → IsType t → whole_faults written_out uncut types form before n t ≡ []
-      → (inside types t ≡ []) × ObeysWhole (written form t) × (before + n * parts (written form t) ≤ most_parts)
+      → (inside_faults types t ≡ []) × ObeysWhole (shape_of_type form t) × (before + n * parts (shape_of_type form t) ≤ most_parts)
   whole_obeys before n t good clean = type_obeys of_type (unknown_in types) (by_name form) known_stands before n t good clean
 
   pub groups_whole : (before : ℕ) (groups : GroupTrees) → before ≤ most_parts → AreGroups groups → groups_faults written_out uncut types form before groups ≡ []
@@ -69,11 +69,11 @@ module _ (types : List ℕ → Bool) (form : List ℕ → ShapeTree) (known : (n
   groups_whole before (more_groups names t groups) few good clean =
       let (own, rest) = none_in (whole_faults written_out uncut types form before (length names) t) _ clean in
       let (none, obeys, fewer) = whole_obeys before (length names) t good.1 own in
-      let (none_behind, others) = groups_whole (before + length names * parts (written form t)) groups fewer good.2 rest in (
+      let (none_behind, others) = groups_whole (before + length names * parts (shape_of_type form t)) groups fewer good.2 rest in (
         ap (λ fs. fs ++ inside_groups types groups) none ∙ none_behind,
         record {
-          types = shared names (written form t) (written_groups form groups) obeys others.types;
-          counted_is = omega (arith, others.counted_is, shared_parts names (written form t) (written_groups form groups));
+          types = shared names (shape_of_type form t) (written_groups form groups) obeys others.types;
+          counted_is = omega (arith, others.counted_is, shared_parts names (shape_of_type form t) (written_groups form groups));
           few = others.few;
         },
       )

@@ -34,8 +34,8 @@ above = type.above of_type
 abbrev pub repeated_names : (List ℕ → Bool) → List Named → List (Fault Cause)
 repeated_names = type.repeated_names of_type
 
-abbrev pub inside : (List ℕ → Bool) → TypeTree → List (Fault Cause)
-inside is_known t = type.inside of_type (unknown_in is_known) t
+abbrev pub inside_faults : (List ℕ → Bool) → TypeTree → List (Fault Cause)
+inside_faults is_known t = type.inside of_type (unknown_in is_known) t
 
 abbrev pub inside_groups : (List ℕ → Bool) → GroupTrees → List (Fault Cause)
 inside_groups is_known groups = type.inside_groups of_type (unknown_in is_known) groups

@@ -10,5 +10,5 @@ abbrev pub number : ℕ → Lexeme
 number n = record { kind = kind.Number; bytes = decimal n }
 
 -- a space before each
-abbrev pub led : List Lexeme → List ℕ
-led lexemes = flat_map (λ l. 32 ∷ l.bytes) lexemes
+abbrev pub lexemes_behind_spaces : List Lexeme → List ℕ
+lexemes_behind_spaces lexemes = flat_map (λ l. 32 ∷ l.bytes) lexemes

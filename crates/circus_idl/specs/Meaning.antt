@@ -5,8 +5,8 @@ use Rattle.circus_syntax.specs.TypeTree.{TypeTree, GroupTrees}
 use Rattle.circus_type.specs.Meaning as type
 use Rattle.circus_idl.specs.Inside.{by_name}
 
-abbrev pub written : (List ℕ → ShapeTree) → TypeTree → ShapeTree
-written form t = type.written (by_name form) t
+abbrev pub shape_of_type : (List ℕ → ShapeTree) → TypeTree → ShapeTree
+shape_of_type form t = type.shape_of_type (by_name form) t
 
 abbrev pub written_groups : (List ℕ → ShapeTree) → GroupTrees → List FieldTree
 written_groups form groups = type.written_groups (by_name form) groups

@@ -15,7 +15,7 @@ use Rattle.circus_idl.specs.declared.interface.Interface.{Interface}
 use Rattle.circus_type.specs.Limits.{greatest_word}
 use Rattle.circus_idl.specs.Limits.{greatest_program}
 use Rattle.circus_type.specs.Meaning.{word_of}
-use Rattle.circus_idl.specs.Meaning.{written, written_groups, standing_for}
+use Rattle.circus_idl.specs.Meaning.{shape_of_type, written_groups, standing_for}
 
 -- a declared type, its shape as a tree
 pub record NamedShape : Type 0 where
@@ -65,13 +65,13 @@ procedure_meant form errors p = record {
 
 -- one declaration, where this is what the names of types and errors before it stand for
 abbrev pub declared_meant : (List ℕ → ShapeTree) → (List ℕ → Option ℕ) → DeclaredTree → Meant
-declared_meant form errors (a_type name t) = record { types = record { name = name.name; shape = written form t } ∷ []; errors = []; procedures = [] }
+declared_meant form errors (a_type name t) = record { types = record { name = name.name; shape = shape_of_type form t } ∷ []; errors = []; procedures = [] }
 declared_meant form errors (an_error e) = record { types = []; errors = error_meant form e ∷ []; procedures = [] }
 declared_meant form errors (a_procedure p) = record { types = []; errors = []; procedures = procedure_meant form errors p ∷ [] }
 
 -- what the names of types stand for behind a declaration, and those of errors
 abbrev pub forms_behind : (List ℕ → ShapeTree) → DeclaredTree → List ℕ → ShapeTree
-forms_behind form (a_type name t) = standing_for name.name (written form t) form
+forms_behind form (a_type name t) = standing_for name.name (shape_of_type form t) form
 forms_behind form (an_error e) = form
 forms_behind form (a_procedure p) = form
 

@@ -13,8 +13,8 @@ use Rattle.circus_idl.specs.declared.interface.Interface.{Interface}
 use Rattle.circus_idl.specs.Lexemes.{number}
 
 -- what stands between brackets of this kind
-abbrev pub enclosed : List ℕ → List Lexeme → List ℕ → List Lexeme
-enclosed opening inside closing = sign opening ∷ inside ++ sign closing ∷ []
+abbrev pub bracketed_lexemes : List ℕ → List Lexeme → List ℕ → List Lexeme
+bracketed_lexemes opening inside closing = sign opening ∷ inside ++ sign closing ∷ []
 
 -- name ( number )
 abbrev pub label_lexemes : List ℕ → ℕ → List Lexeme
@@ -50,12 +50,12 @@ abbrev mutual
   type_lexemes integer = word (codes "INTEGER") ∷ []
   type_lexemes long_integer = word (codes "LONG") ∷ word (codes "INTEGER") ∷ []
   type_lexemes text = word (codes "STRING") ∷ []
-  type_lexemes (enumeration labels) = enclosed (codes "{") (labels_lexemes labels) (codes "}")
+  type_lexemes (enumeration labels) = bracketed_lexemes (codes "{") (labels_lexemes labels) (codes "}")
   type_lexemes (array n s) = word (codes "ARRAY") ∷ items_lexemes n (type_lexemes s)
   type_lexemes (sequence n s) = word (codes "SEQUENCE") ∷ items_lexemes n (type_lexemes s)
-  type_lexemes («record» fs) = word (codes "RECORD") ∷ enclosed (codes "[") (fields_inside fs) (codes "]")
+  type_lexemes («record» fs) = word (codes "RECORD") ∷ bracketed_lexemes (codes "[") (fields_inside fs) (codes "]")
   type_lexemes (choice arms) =
-      word (codes "CHOICE") ∷ word (codes "OF") ∷ enclosed (codes "{") (arms_inside arms) (codes "}")
+      word (codes "CHOICE") ∷ word (codes "OF") ∷ bracketed_lexemes (codes "{") (arms_inside arms) (codes "}")
 
   -- fields with a comma between two
   pub fields_inside : FieldTrees → List Lexeme
@@ -79,11 +79,11 @@ abbrev mutual
 
 -- fields in brackets
 abbrev pub fields_lexemes : List FieldTree → List Lexeme
-fields_lexemes fields = enclosed (codes "[") (fields_inside (field_trees fields)) (codes "]")
+fields_lexemes fields = bracketed_lexemes (codes "[") (fields_inside (field_trees fields)) (codes "]")
 
 -- arms in braces
 abbrev pub arms_lexemes : List ArmTree → List Lexeme
-arms_lexemes arms = enclosed (codes "{") (arms_inside (arm_trees arms)) (codes "}")
+arms_lexemes arms = bracketed_lexemes (codes "{") (arms_inside (arm_trees arms)) (codes "}")
 
 -- fields in brackets, and nothing where there are none
 abbrev pub optional_fields : List FieldTree → List Lexeme
@@ -115,7 +115,7 @@ names_inside errors (n ∷ numbers) = word (error_name errors n) ∷ later_names
 
 -- the names of errors in brackets
 abbrev pub names_lexemes : List DeclaredError → List ℕ → List Lexeme
-names_lexemes errors numbers = enclosed (codes "[") (names_inside errors numbers) (codes "]")
+names_lexemes errors numbers = bracketed_lexemes (codes "[") (names_inside errors numbers) (codes "]")
 
 -- REPORTS and the names of the errors, and nothing where there are none
 abbrev pub reports_lexemes : List DeclaredError → List ℕ → List Lexeme

@@ -14,7 +14,7 @@ ghost use Rattle.circus_idl.specs.Limits.{greatest_program};
 ghost use Rattle.circus_idl.specs.Seen.Known.{type_form};
 ghost use Rattle.circus_type.specs.Seen.Measured.{cut_off};
 ghost use Rattle.circus_idl.specs.Seen.Scoped.{before_of, cut_in};
-ghost use Rattle.circus_idl.specs.Seen.Drafted.{drafted};
+ghost use Rattle.circus_idl.specs.Seen.Drafted.{draft_meaning};
 ghost use Rattle.circus_idl.specs.Answer.{answer_of};
 ghost use Rattle.circus_idl.specs.Faults.{nothing, cut_of, declarations_faults, read_faults};
 ghost use Rattle.circus_idl.specs.Means.{Means, meant_of, and_then, nothing_meant, declarations_meant};
@@ -71,7 +71,7 @@ fn start<'a>(alloc: Global, stop: &Option<Stop>) -> Draft<'a>
     ensures cut { cut_in result.scope ≡ cut_of stop.now }
     ensures before { before_of result.scope ≡ nothing cut_off }
     ensures formed { type_form result.scope.types ≡ (λ _. boolean) }
-    ensures drafted { drafted result ≡ nothing_meant }
+    ensures drafted { draft_meaning result ≡ nothing_meant }
 {
     let scope = Scope {
         alloc,
@@ -101,8 +101,8 @@ fn declare_all<'a>(draft: &mut Draft<'a>, declared: &'a [DeclaredText]) -> Resul
         (map declared_of declared.now))) }
     ensures meant { OnOk result
         (IfNone draft.new.scope.best.fault
-        (drafted draft.new
-        ≡ and_then (drafted draft.old)
+        (draft_meaning draft.new
+        ≡ and_then (draft_meaning draft.old)
         (declarations_meant (type_form draft.old.scope.types) (known_of draft.old.scope.errors)
         (map declared_of declared.now)))) }
 {
@@ -133,13 +133,13 @@ pub fn check(
     declare_all(&mut draft, tree.declared.as_slice())?;
     match draft.scope.best.fault {
         Some(fault) => Err(answer(fault)),
-        None => Ok(named(tree, draft)?),
+        None => Ok(interface_of_draft(tree, draft)?),
     }
 }
 
 // The interface of a draft, with its name and its numbers.
-fn named(tree: &InterfaceText, draft: Draft) -> Result<Interface, NoMemory>
-    ensures declared { IfOk result (λ i. meant_of i ≡ drafted draft.entry) }
+fn interface_of_draft(tree: &InterfaceText, draft: Draft) -> Result<Interface, NoMemory>
+    ensures declared { IfOk result (λ i. meant_of i ≡ draft_meaning draft.entry) }
     ensures name { IfOk result (λ i. i.name ≡ tree.now.name.name) }
     ensures number { IfOk result (λ i. i.number ≡ min tree.now.number.value greatest_program) }
     ensures version { IfOk result (λ i. i.version ≡ word_of tree.now.version) }

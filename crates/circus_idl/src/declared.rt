@@ -8,12 +8,12 @@ ghost use Rattle.circus_idl.specs.Seen.Scoped.{before_of, cut_in};
 ghost use Rattle.circus_idl.specs.Faults.{declared_faults, behind};
 ghost use Rattle.circus_idl.specs.Seen.Known.{type_form, tree_or};
 ghost use Rattle.circus_type.specs.Seen.Measured.{cut_off};
-ghost use Rattle.circus_idl.specs.Meaning.{written, standing_for};
+ghost use Rattle.circus_idl.specs.Meaning.{shape_of_type, standing_for};
 
 use crate::limits::GREATEST_ERROR;
 use crate::scope::Scope;
 use circus_syntax::{ErrorText, Named, ProcedureText, TypeText};
-use circus_type::{GREATEST_WORD, meet_name, meet_number, note_above, written};
+use circus_type::{GREATEST_WORD, meet_name, meet_number, note_above, shape_of_type};
 use circus_value::{NoMemory, Shape};
 
 impl<'a> Scope<'a> {
@@ -50,7 +50,7 @@ impl<'a> Scope<'a> {
         ensures types { OnOk result (self.new.types ≡ self.old.types) }
     {
         meet_name(&mut self.names, &mut self.best, &procedure.name)?;
-        self.together(&procedure.name, &procedure.arguments)?;
+        self.arguments_together(&procedure.name, &procedure.arguments)?;
         self.fields(&procedure.arguments)?;
         self.fields(&procedure.results)?;
         self.reports(&procedure.reports);
@@ -79,7 +79,7 @@ impl<'a> Scope<'a> {
         ensures formed { OnOk result
             (IfNone self.new.best.fault
             (type_form self.new.types
-            ≡ standing_for name.now.name (written (type_form self.old.types) (tree_of shape.now))
+            ≡ standing_for name.now.name (shape_of_type (type_form self.old.types) (tree_of shape.now))
             (type_form self.old.types))) }
     {
         meet_name(&mut self.names, &mut self.best, name)?;
@@ -93,10 +93,10 @@ impl<'a> Scope<'a> {
     fn shape_meant(&self, shape: &TypeText) -> Result<Option<Shape>, NoMemory>
         ensures { IfOk result (λ meant.
             IfNone self.now.best.fault
-            (tree_or meant ≡ written (type_form self.now.types) (tree_of shape.now))) }
+            (tree_or meant ≡ shape_of_type (type_form self.now.types) (tree_of shape.now))) }
     {
         match self.best.fault {
-            None => Ok(Some(written(self.alloc, &self.types, shape)?)),
+            None => Ok(Some(shape_of_type(self.alloc, &self.types, shape)?)),
             Some(_) => Ok(None),
         }
     }

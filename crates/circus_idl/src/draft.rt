@@ -9,7 +9,7 @@ ghost use Rattle.circus_idl.specs.Seen.Known.{type_form};
 ghost use Rattle.circus_type.specs.Seen.Measured.{cut_off};
 ghost use Rattle.circus_idl.specs.Seen.Scoped.{before_of, cut_in};
 ghost use Rattle.circus_idl.specs.Faults.{declared_faults, behind};
-ghost use Rattle.circus_idl.specs.Seen.Drafted.{drafted};
+ghost use Rattle.circus_idl.specs.Seen.Drafted.{draft_meaning};
 ghost use Rattle.circus_idl.specs.Means.{and_then, fields_meant, reports_meant, numbers_meant, procedure_meant, declared_meant, forms_behind};
 
 use crate::interface::{Declared, DeclaredError, DeclaredType, Errors, Procedure, Procedures};
@@ -83,8 +83,8 @@ impl<'a> Draft<'a> {
             (a_type name.now (tree_of shape.now)))) }
         ensures meant { OnOk result
             (IfNone self.new.scope.best.fault
-            (drafted self.new
-            ≡ and_then (drafted self.old)
+            (draft_meaning self.new
+            ≡ and_then (draft_meaning self.old)
             (declared_meant (type_form self.old.scope.types) (known_of self.old.scope.errors)
             (a_type name.now (tree_of shape.now))))) }
     {
@@ -92,7 +92,7 @@ impl<'a> Draft<'a> {
         if self.scope.best.fault.is_none() {
             self.types.push(DeclaredType {
                 name: name.name.copy()?,
-                shape: self.scope.types.shaped(name.name.as_slice())?,
+                shape: self.scope.types.shape_of_name(name.name.as_slice())?,
             })?;
         }
         Ok(())
@@ -112,8 +112,8 @@ impl<'a> Draft<'a> {
             (type_form self.new.scope.types ≡ type_form self.old.scope.types) }
         ensures meant { OnOk result
             (IfNone self.new.scope.best.fault
-            (drafted self.new
-            ≡ and_then (drafted self.old)
+            (draft_meaning self.new
+            ≡ and_then (draft_meaning self.old)
             (declared_meant (type_form self.old.scope.types) (known_of self.old.scope.errors)
             (an_error error.now)))) }
     {
@@ -142,8 +142,8 @@ impl<'a> Draft<'a> {
             (type_form self.new.scope.types ≡ type_form self.old.scope.types) }
         ensures meant { OnOk result
             (IfNone self.new.scope.best.fault
-            (drafted self.new
-            ≡ and_then (drafted self.old)
+            (draft_meaning self.new
+            ≡ and_then (draft_meaning self.old)
             (declared_meant (type_form self.old.scope.types) (known_of self.old.scope.errors)
             (a_procedure procedure.now)))) }
     {
@@ -172,8 +172,8 @@ impl<'a> Draft<'a> {
             ≡ forms_behind (type_form self.old.scope.types) (declared_of declared.now))) }
         ensures meant { OnOk result
             (IfNone self.new.scope.best.fault
-            (drafted self.new
-            ≡ and_then (drafted self.old)
+            (draft_meaning self.new
+            ≡ and_then (draft_meaning self.old)
             (declared_meant (type_form self.old.scope.types) (known_of self.old.scope.errors)
             (declared_of declared.now)))) }
     {

@@ -1,7 +1,7 @@
 // What holds of every interface that obeys the rules.
 ghost use Rattle.std.specs.Prelude.{◌≡◌, List, [], None};
 ghost use Rattle.circus_text.specs.declared.token.Token.{Token};
-ghost use Rattle.circus_text.specs.Token.{spaced};
+ghost use Rattle.circus_text.specs.Token.{text_with_spaces};
 ghost use Rattle.circus_text.specs.Division.{AreTokensOf};
 ghost use Rattle.circus_syntax.specs.InterfaceTree.{InterfaceTree};
 ghost use Rattle.circus_syntax.specs.Read.{placed_from};
@@ -15,14 +15,14 @@ ghost use Rattle.circus_idl.specs.Shown.{lexemes};
 
 /// The text of an interface that obeys the rules has tokens, which are that interface and no other.
 pub fn shown_has_tokens()
-    ensures { (i : Interface) → Obeys i → IsReadAs (spaced (lexemes i)) i }
+    ensures { (i : Interface) → Obeys i → IsReadAs (text_with_spaces (lexemes i)) i }
 {}
 
 /// The tokens of an interface's text are that interface again: they break no rule, and mean it and no other.
 pub fn shown_is_read()
     ensures { (i : Interface) (found : List Token) → Obeys i
-        → AreTokensOf (spaced (lexemes i)) found
-        → (tree : InterfaceTree) × IsInterface (placed_from (spaced (lexemes i)) found 0) tree
+        → AreTokensOf (text_with_spaces (lexemes i)) found
+        → (tree : InterfaceTree) × IsInterface (placed_from (text_with_spaces (lexemes i)) found 0) tree
         × IsWithin most_levels tree
         × (interface_faults (cut_of None) tree ≡ [])
         × Means tree i × ((j : Interface) → Means tree j → j ≡ i) }

@@ -1,7 +1,7 @@
 //! Interfaces of modules: what they hold, the rules that they obey, and their text.
 //!
 //! `interface` has an interface and its parts, and `idl_fault` what can be wrong with the text of one. `read`
-//! reads one: `check` goes over its tree, `draft` makes the interface from it, `declared` and `scope` keep what
+//! reads one: `check` goes over its tree, `draft` makes the interface from it, `declarations` and `scope` keep what
 //! is declared before a place, and `types` is the table of the types; `limits` has the limits, and `fault` why a text is
 //! refused. `show` writes an interface, token by token in `writer`, with the names of errors in `errors_by_number`. `laws` has
 //! what holds of every text that is shown.

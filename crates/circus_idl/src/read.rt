@@ -1,7 +1,7 @@
 // Reading interfaces.
 ghost use Rattle.std.specs.Prelude.{◌≡◌, ℕ, ◌≤◌, ◌⊎◌, List, [], ◌++◌, length, All, None, Err, IfOk, IfErr};
 ghost use Rattle.circus_text.specs.Form.{longest_text};
-ghost use Rattle.circus_text.specs.Token.{IsTokenIn, spaced};
+ghost use Rattle.circus_text.specs.Token.{IsTokenIn, text_with_spaces};
 ghost use Rattle.circus_text.specs.Division.{AreTokensOf};
 ghost use Rattle.circus_syntax.specs.InterfaceTree.{InterfaceTree};
 ghost use Rattle.circus_syntax.specs.Placed.{Placed};
@@ -61,7 +61,7 @@ pub fn read_interface(
         → IfErr result (λ e. e ≡ IdlFault.NoMemory) }
 
     // The text of an interface that obeys the rules is read as that interface, to its end.
-    ensures again { (i : Interface) → Obeys i → text.now ≡ spaced (lexemes i)
+    ensures again { (i : Interface) → Obeys i → text.now ≡ text_with_spaces (lexemes i)
         → AreTokensOf text.now tokens.now → at ≡ 0
         → IfOk result (λ read. (read.0 ≡ i) × (read.1 ≡ length tokens.now))
         × IfErr result (λ e. e ≡ IdlFault.NoMemory) }

@@ -6,7 +6,7 @@ ghost use Rattle.circus_fault.specs.Least.{least_from, is_clean};
 ghost use Rattle.circus_fault.specs.Seen.Tables.{known_of};
 ghost use Rattle.circus_idl.specs.Rank.{rank_of};
 ghost use Rattle.circus_type.specs.Inside.{no_name, group_names};
-ghost use Rattle.circus_type.specs.Seen.Measured.{measured, more_parts, cut_off};
+ghost use Rattle.circus_type.specs.Seen.Measured.{measure_of_type, more_parts, cut_off};
 ghost use Rattle.circus_idl.specs.Seen.Known.{is_known, type_measure};
 ghost use Rattle.circus_idl.specs.Inside as faults;
 ghost use Rattle.circus_idl.specs.Inside.{by_name};
@@ -62,10 +62,10 @@ impl<'a> Scope<'a> {
             (self.new ≡ record self.old {
               best = self.new.best;
               parts = more_parts self.old.parts count
-                  (measured (by_name (type_measure self.old.types)) (tree_of shape.now));
+                  (measure_of_type (by_name (type_measure self.old.types)) (tree_of shape.now));
             }) }
         ensures sized { IfOk result (λ measure.
-            measure ≡ measured (by_name (type_measure self.old.types)) (tree_of shape.now)) }
+            measure ≡ measure_of_type (by_name (type_measure self.old.types)) (tree_of shape.now)) }
     {
         whole(
             self.alloc,
@@ -116,7 +116,7 @@ impl<'a> Scope<'a> {
     }
 
     /// The arguments of a procedure together.
-    pub fn together(&mut self, name: &Named, fields: &Option<FieldsText>) -> Result<(), NoMemory>
+    pub fn arguments_together(&mut self, name: &Named, fields: &Option<FieldsText>) -> Result<(), NoMemory>
         ensures found { OnOk result (self.new.best.fault ≡ least_from rank_of self.old.best.fault
             (whole.together_faults cut_off (cut_in self.old) (is_known self.old.types)
             (type_measure self.old.types) name.now fields.now)) }

@@ -1,6 +1,6 @@
 // The text of an interface.
 ghost use Rattle.std.specs.Prelude.{◌≡◌, IfOk};
-ghost use Rattle.circus_text.specs.Token.{spaced};
+ghost use Rattle.circus_text.specs.Token.{text_with_spaces};
 ghost use Rattle.circus_idl.specs.Obeys.{Obeys};
 ghost use Rattle.circus_idl.specs.ReadAgain.{IsReadAs};
 ghost use Rattle.circus_idl.specs.Shown.{lexemes};
@@ -16,14 +16,14 @@ use std::alloc::Global;
 /// Where the interface obeys the rules and the text has at most 1,048,576 bytes, `read_interface` reads it as
 /// that interface.
 pub fn show_interface(alloc: Global, interface: &Interface) -> Result<Octets, NoMemory>
-    ensures text { IfOk result (λ text. text ≡ spaced (lexemes interface.now)) }
+    ensures text { IfOk result (λ text. text ≡ text_with_spaces (lexemes interface.now)) }
 
     // The text has tokens, which are that interface and no other.
     ensures again { IfOk result (λ text. Obeys interface.now → IsReadAs text interface.now) }
 {
     let mut writer = Writer::new(alloc, &interface.name)?;
     writer.heading(interface)?;
-    writer.declared(interface)?;
+    writer.declarations(interface)?;
     writer.words(" END .")?;
     Ok(writer.text())
 }

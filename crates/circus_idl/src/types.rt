@@ -47,7 +47,7 @@ impl<'a> Types<'a> {
     }
 
     /// The size of the type of this name, or that of BOOLEAN where there is none.
-    pub fn measured(&self, name: &[u8]) -> Measure
+    pub fn measure_named(&self, name: &[u8]) -> Measure
         ensures { result ≡ type_measure self.now name.now }
     {
         match self.table.get(name) {
@@ -57,7 +57,7 @@ impl<'a> Types<'a> {
     }
 
     /// A copy of the shape of this name, or BOOLEAN where there is none.
-    pub fn shaped(&self, name: &[u8]) -> Result<Shape, NoMemory>
+    pub fn shape_of_name(&self, name: &[u8]) -> Result<Shape, NoMemory>
         ensures { IfOk result (λ shape. tree_of shape ≡ type_form self.now name.now) }
     {
         let Some(known) = self.table.get(name) else {
@@ -103,10 +103,10 @@ impl<'a> TypeNames for Types<'a> {
     }
 
     fn measure(&self, name: &TypeName) -> Measure {
-        self.measured(name.name.name.as_slice())
+        self.measure_named(name.name.name.as_slice())
     }
 
     fn shape(&self, name: &TypeName) -> Result<Shape, NoMemory> {
-        self.shaped(name.name.name.as_slice())
+        self.shape_of_name(name.name.name.as_slice())
     }
 }

@@ -3,8 +3,8 @@ use Rattle.std.proofs.Common.{◌≡◌, ℕ, ◌+◌, suc, ◌<◌, Bool, true,
 use Rattle.std.specs.Prelude.{◌||◌, Option, Some, None, codes}
 use Rattle.circus_syntax.specs.declared.named.Named.{Named}
 use Rattle.circus_syntax.specs.Placed.{Placed, first, word, sign, Due, due, due_at, due_name, IsDue, AreDue}
-use Rattle.circus_syntax.specs.Reader.{Reader, next, passes, sees, both, either_case, repeated}
-use Rattle.circus_syntax.specs.Reading.{fixed, name, names, behind}
+use Rattle.circus_syntax.specs.Reader.{Reader, next, passes, sees, both, either_case, repeat_while}
+use Rattle.circus_syntax.specs.Reading.{expect_token, name, names, behind}
 use Rattle.circus_syntax.specs.Spelling.{each, comma, spelling_name, spelling_type, IsName, IsEach, IsListed}
 use Rattle.circus_syntax.proofs.Sound.{Sound, sound_both}
 use Rattle.circus_syntax.proofs.Repeats.{Shrinks}
@@ -23,7 +23,7 @@ use Rattle.circus_statement.proofs.Lawfulness.{stays_lexeme, link_first, link_du
 use Rattle.circus_lang.specs.ModuleTree.{VariableTree}
 use Rattle.circus_lang.specs.WrittenModule.{WrittenBody, WrittenProcedure, WrittenModule, serving, root, spelling_imports, spelling_heading, spelling_variable, spelling_body, spelling_procedure, spelling_main, spelling_module, IsVariable, IsBody, IsProcedure, IsModule}
 use Rattle.circus_lang.specs.WrittenModule as written
-use Rattle.circus_lang.specs.ModuleReading.{imports, heading, variable, variables, body, procedure, procedures, main_procedure, closing, serving_module, root_module, module_text, begins_module}
+use Rattle.circus_lang.specs.ModuleReading.{imports, heading, variable, variables, body, procedure, procedures, main_procedure, module_end, serving_module, root_module, module_text, begins_module}
 
 -- What stands in front of the variables.
 
@@ -37,7 +37,7 @@ AreFirst x = IsName x.0 × IsEach IsName x.1
 abbrev NoComma : Option Placed → Type 0
 NoComma o = Any o × (passes is_comma o ≡ false)
 
-lawful_names : (n : ℕ) → Lawful n (both name (repeated is_comma (behind comma_sign name))) (both name (repeated is_comma (behind comma_sign name))) spelling_first AreFirst NoComma
+lawful_names : (n : ℕ) → Lawful n (both name (repeat_while is_comma (behind comma_sign name))) (both name (repeat_while is_comma (behind comma_sign name))) spelling_first AreFirst NoComma
 lawful_names n =
     lawful_both n (lawful_name n)
     (lawful_repeated is_comma n (shrinks_behind comma_sign sound_name) (shrinks_behind comma_sign sound_name) (λ m ts rest g d. opens_due comma_sign (spelling_name m) ts rest d) (λ o hit. tt)
@@ -91,7 +91,7 @@ lawful_variable n m above =
 pub shrinks_variable : (n : ℕ) → Shrinks (is_word (codes "VAR")) (variable n)
 unfolding variable
 shrinks_variable n r hit =
-    shrinks_both (is_word (codes "VAR")) (fixed (word (codes "VAR"))) _ (shrinks_fixed (word (codes "VAR")))
+    shrinks_both (is_word (codes "VAR")) (expect_token (word (codes "VAR"))) _ (shrinks_fixed (word (codes "VAR")))
     (sound_both sound_name (sound_both (sound_fixed (sign (codes ":"))) (sound_both (sound_type n) (sound_fixed (sign (codes ";")))))) r hit
 
 abbrev NoVariable : Option Placed → Type 0
@@ -127,7 +127,7 @@ sound_body n = (lawful_body n (n + 2) (omega arith)).narrow
 pub shrinks_procedure : (n : ℕ) → Shrinks (is_word (codes "PROCEDURE")) (procedure n)
 unfolding procedure
 shrinks_procedure n r hit =
-    shrinks_both (is_word (codes "PROCEDURE")) (fixed (word (codes "PROCEDURE"))) (both name (body n)) (shrinks_fixed (word (codes "PROCEDURE"))) (sound_both sound_name (sound_body n)) r hit
+    shrinks_both (is_word (codes "PROCEDURE")) (expect_token (word (codes "PROCEDURE"))) (both name (body n)) (shrinks_fixed (word (codes "PROCEDURE"))) (sound_both sound_name (sound_body n)) r hit
 
 abbrev NoProcedure : Option Placed → Type 0
 NoProcedure o = Any o × (passes (is_word (codes "PROCEDURE")) o ≡ false)
@@ -144,10 +144,10 @@ lawful_main : (n m : ℕ) → suc n < m → Lawful n (main_procedure n) (main_pr
 unfolding main_procedure
 lawful_main n m above = lawful_then n (lawful_fixed_at n (word (codes "MAIN"))) (lawful_body n m above)
 
-lawful_closing : (n : ℕ) → Lawful n closing closing (λ u. written.closing) Always Any
-unfolding closing
+lawful_closing : (n : ℕ) → Lawful n module_end module_end (λ u. written.module_closing) Always Any
+unfolding module_end
 lawful_closing n =
-    lawful_mapped n (λ x. tt) (λ u. written.closing) Always (λ x. refl) (λ x g. tt) (λ u g. ((tt, tt), refl, (tt, tt)))
+    lawful_mapped n (λ x. tt) (λ u. written.module_closing) Always (λ x. refl) (λ x g. tt) (λ u g. ((tt, tt), refl, (tt, tt)))
     (lawful_then n (lawful_fixed n (word (codes "END"))) (lawful_fixed n (sign (codes "."))))
 
 -- Modules.
@@ -170,9 +170,9 @@ procedures_first (p ∷ ps) = due (word (codes "PROCEDURE"))
 
 procedures_rest : List WrittenProcedure → List Due
 procedures_rest [] = due (sign (codes ".")) ∷ []
-procedures_rest (p ∷ ps) = ((due_name p.name ∷ spelling_body p.body) ++ each spelling_procedure ps) ++ written.closing
+procedures_rest (p ∷ ps) = ((due_name p.name ∷ spelling_body p.body) ++ each spelling_procedure ps) ++ written.module_closing
 
-procedures_parts : (ps : List WrittenProcedure) → each spelling_procedure ps ++ written.closing ≡ procedures_first ps ∷ procedures_rest ps
+procedures_parts : (ps : List WrittenProcedure) → each spelling_procedure ps ++ written.module_closing ≡ procedures_first ps ∷ procedures_rest ps
 unfolding procedures_first procedures_rest
 procedures_parts [] = refl
 procedures_parts (p ∷ ps) = refl
@@ -220,7 +220,7 @@ lawful_root n m above =
     lawful_mapped n root_of spelling_module (ModuleIs true) (λ x. refl) (λ x g. (g.1.0, g.1.1.0, g.1.1.1.0, g.1.1.1.1.0.1)) root_back
     (lawful_then n (lawful_fixed n (word (codes "ROOT"))) (lawful_then n (lawful_name n) (lawful_then n (lawful_heading n)
     (lawful_both n (lawful_variables n m above) (lawful_then n (lawful_main n m above) (lawful_closing n))
-    (link_first _ Any NoVariable (λ y. due_at (word (codes "MAIN")) y.0.0) (λ y. spelling_body y.0.1 ++ written.closing) (λ y. refl)
+    (link_first _ Any NoVariable (λ y. due_at (word (codes "MAIN")) y.0.0) (λ y. spelling_body y.0.1 ++ written.module_closing) (λ y. refl)
     (λ y t g d. stays_lexeme NoVariable (word (codes "MAIN")) (λ s. (tt, refl)) t d.0 d.1))))))
 
 abbrev module_by : ℕ → Bool → Reader → WrittenModule × Reader
@@ -232,10 +232,10 @@ no_root ds (t ∷ ts) rest d = stays_lexeme (λ o. passes (is_word (codes "ROOT"
 
 module_begins : (w : WrittenModule) (ts rest : List Placed) → IsModule w → AreDue (spelling_module w) ts → Any (first rest) → (b : Bool) × (passes (is_word (codes "ROOT")) (first (ts ++ rest)) ≡ b) × ModuleIs b w
 module_begins (serving k i ns vs ps) ts rest good d stays =
-    let behind_it = due_name k ∷ due (word (codes "IMPLEMENTS")) ∷ due_name i ∷ (spelling_heading ns ++ (each spelling_variable vs ++ (each spelling_procedure ps ++ written.closing))) in
+    let behind_it = due_name k ∷ due (word (codes "IMPLEMENTS")) ∷ due_name i ∷ (spelling_heading ns ++ (each spelling_variable vs ++ (each spelling_procedure ps ++ written.module_closing))) in
     (false, no_root behind_it ts rest d, good)
 module_begins (root k ns vs at b) ts rest good d stays =
-    let behind_it = due_name k ∷ (spelling_heading ns ++ (each spelling_variable vs ++ (spelling_main at b ++ written.closing))) in
+    let behind_it = due_name k ∷ (spelling_heading ns ++ (each spelling_variable vs ++ (spelling_main at b ++ written.module_closing))) in
     (true, opens_due (word (codes "ROOT")) behind_it ts rest d, good)
 
 pub modules_lawful : AllLawful module_text spelling_module IsModule Any
@@ -259,14 +259,14 @@ or_true false = refl
 shrinks_serving : (n : ℕ) → Shrinks (is_word (codes "MODULE")) (serving_module n)
 unfolding serving_module
 shrinks_serving n r hit =
-    shrinks_both (is_word (codes "MODULE")) (fixed (word (codes "MODULE"))) _ (shrinks_fixed (word (codes "MODULE")))
+    shrinks_both (is_word (codes "MODULE")) (expect_token (word (codes "MODULE"))) _ (shrinks_fixed (word (codes "MODULE")))
     (sound_both sound_name (sound_both (sound_fixed (word (codes "IMPLEMENTS"))) (sound_both sound_name (sound_both (lawful_heading n).narrow
     (sound_both (lawful_variables n (n + 2) (omega arith)).narrow (sound_both (lawful_procedures n (n + 2) (omega arith)).narrow (lawful_closing n).narrow)))))) r hit
 
 shrinks_root : (n : ℕ) → Shrinks (is_word (codes "ROOT")) (root_module n)
 unfolding root_module
 shrinks_root n r hit =
-    shrinks_both (is_word (codes "ROOT")) (fixed (word (codes "ROOT"))) _ (shrinks_fixed (word (codes "ROOT")))
+    shrinks_both (is_word (codes "ROOT")) (expect_token (word (codes "ROOT"))) _ (shrinks_fixed (word (codes "ROOT")))
     (sound_both sound_name (sound_both (lawful_heading n).narrow (sound_both (lawful_variables n (n + 2) (omega arith)).narrow (sound_both (lawful_main n (n + 2) (omega arith)).narrow (lawful_closing n).narrow)))) r hit
 
 pub shrinks_module : (n : ℕ) → Shrinks begins_module (module_text n)
@@ -294,8 +294,8 @@ module_opens w ts rest good d = by_first (first (ts ++ rest)) (begun w ts rest d
 
     begun : (v : WrittenModule) (us more : List Placed) → AreDue (spelling_module v) us → Begun (first (us ++ more))
     begun (serving k i ns vs ps) us more e =
-        inl (opens_due (word (codes "MODULE")) (due_name k ∷ due (word (codes "IMPLEMENTS")) ∷ due_name i ∷ (spelling_heading ns ++ (each spelling_variable vs ++ (each spelling_procedure ps ++ written.closing)))) us more e)
-    begun (root k ns vs at b) us more e = inr (opens_due (word (codes "ROOT")) (due_name k ∷ (spelling_heading ns ++ (each spelling_variable vs ++ (spelling_main at b ++ written.closing)))) us more e)
+        inl (opens_due (word (codes "MODULE")) (due_name k ∷ due (word (codes "IMPLEMENTS")) ∷ due_name i ∷ (spelling_heading ns ++ (each spelling_variable vs ++ (each spelling_procedure ps ++ written.module_closing)))) us more e)
+    begun (root k ns vs at b) us more e = inr (opens_due (word (codes "ROOT")) (due_name k ∷ (spelling_heading ns ++ (each spelling_variable vs ++ (spelling_main at b ++ written.module_closing)))) us more e)
 
     by_first : (o : Option Placed) → Begun o → passes begins_module o ≡ true
     by_first None (inl is) = cc

@@ -5,21 +5,21 @@ use Rattle.circus_syntax.specs.declared.named.Named.{Named}
 use Rattle.circus_syntax.specs.TypeTree.{TypeTree}
 use Rattle.circus_syntax.specs.Placed.{word, sign}
 use Rattle.circus_syntax.specs.Reader.{Reader, place, sees, nothing}
-use Rattle.circus_syntax.specs.Reading.{fixed, name, names, behind, type}
+use Rattle.circus_syntax.specs.Reading.{expect_token, name, names, behind, type}
 use Rattle.circus_syntax.proofs.ByWord.{fixed_at_is}
 use Rattle.circus_syntax.proofs.Loops.{goes_on, goes_end, goes_step, shorter}
 use Rattle.circus_expression.specs.Standing.{shown}
 use Rattle.circus_expression.proofs.Stands.{either_hit, either_missed}
 use Rattle.circus_statement.specs.StatementTree.{StatementTree}
-use Rattle.circus_statement.specs.StatementReading.{is_word, ended, block}
+use Rattle.circus_statement.specs.StatementReading.{is_word, list_end, block}
 use Rattle.circus_statement.specs.StatementStanding as statement
 use Rattle.circus_statement.proofs.Steps.{go_on}
 use Rattle.circus_lang.specs.ModuleTree.{VariableTree, BodyOf, ProcedureOf, ModuleTree}
-use Rattle.circus_lang.specs.ModuleReading.{imports, heading, variable, variables, body, procedure, procedures, main_procedure, closing, serving_module, root_module, module_text}
+use Rattle.circus_lang.specs.ModuleReading.{imports, heading, variable, variables, body, procedure, procedures, main_procedure, module_end, serving_module, root_module, module_text}
 use Rattle.circus_lang.specs.ModuleStanding.{body_stands_for, procedure_stands_for, main_at, main_stands_for, module_stands_for}
 use Rattle.circus_lang.proofs.Modules.{shrinks_variable}
 
-pub imports_some : (r s t : Reader) (ns : List Named) (b : Bool) → b ≡ sees (is_word (codes "IMPORTS")) r → b ≡ true → fixed (word (codes "IMPORTS")) r ≡ (tt, s) → names s ≡ (ns, t) → imports r ≡ (ns, t)
+pub imports_some : (r s t : Reader) (ns : List Named) (b : Bool) → b ≡ sees (is_word (codes "IMPORTS")) r → b ≡ true → expect_token (word (codes "IMPORTS")) r ≡ (tt, s) → names s ≡ (ns, t) → imports r ≡ (ns, t)
 unfolding imports
 imports_some r s t ns b seen hit first second =
     either_hit (is_word (codes "IMPORTS")) (behind (word (codes "IMPORTS")) names) (nothing []) r b seen hit ∙ ap (λ (z : Unit {0} × Reader). names z.1) first ∙ second
@@ -28,15 +28,15 @@ pub imports_none : (r : Reader) (ns : List Named) (b : Bool) → b ≡ sees (is_
 unfolding imports
 imports_none r ns b seen missed none = either_missed (is_word (codes "IMPORTS")) (behind (word (codes "IMPORTS")) names) (nothing []) r b seen missed ∙ ap (λ l. (l, r)) (sym none)
 
-pub heading_is : (r s t u : Reader) (ns : List Named) → imports r ≡ (ns, s) → fixed (sign (codes ";")) s ≡ (tt, t) → fixed (word (codes "BEGIN")) t ≡ (tt, u) → heading r ≡ (ns, u)
+pub heading_is : (r s t u : Reader) (ns : List Named) → imports r ≡ (ns, s) → expect_token (sign (codes ";")) s ≡ (tt, t) → expect_token (word (codes "BEGIN")) t ≡ (tt, u) → heading r ≡ (ns, u)
 unfolding heading
 heading_is r s t u ns a b c = rw (a, b, c) refl
 
-pub closing_is : (r s t : Reader) → fixed (word (codes "END")) r ≡ (tt, s) → fixed (sign (codes ".")) s ≡ (tt, t) → closing r ≡ (tt, t)
-unfolding closing
+pub closing_is : (r s t : Reader) → expect_token (word (codes "END")) r ≡ (tt, s) → expect_token (sign (codes ".")) s ≡ (tt, t) → module_end r ≡ (tt, t)
+unfolding module_end
 closing_is r s t a b = rw (a, b) refl
 
-pub variable_is : (n : ℕ) (r s t u v w : Reader) (k : Named) (e : TypeTree) → fixed (word (codes "VAR")) r ≡ (tt, s) → name s ≡ (k, t) → fixed (sign (codes ":")) t ≡ (tt, u) → type n u ≡ (e, v) → fixed (sign (codes ";")) v ≡ (tt, w)
+pub variable_is : (n : ℕ) (r s t u v w : Reader) (k : Named) (e : TypeTree) → expect_token (word (codes "VAR")) r ≡ (tt, s) → name s ≡ (k, t) → expect_token (sign (codes ":")) t ≡ (tt, u) → type n u ≡ (e, v) → expect_token (sign (codes ";")) v ≡ (tt, w)
     → variable n r ≡ (record { name = k; shape = e }, w)
 unfolding variable
 variable_is n r s t u v w k e a b c d f = rw (a, b, c, d, f) refl
@@ -60,18 +60,18 @@ body_tree : List VariableTree → List StatementTree → BodyOf StatementTree
 body_tree vs ss = record { variables = vs; statements = ss }
 
 pub body_is : (n : ℕ) (r s t u v : Reader) (vs : List VariableTree) (ss : List StatementTree) → variables n r ≡ (vs, s) → shown (map statement.stands_for) (block n (codes "BEGIN") s) ≡ (ss, t)
-    → fixed (word (codes "END")) t ≡ (tt, u) → fixed (sign (codes ";")) u ≡ (tt, v) → shown body_stands_for (body n r) ≡ (record { variables = vs; statements = ss }, v)
-unfolding body ended body_tree
+    → expect_token (word (codes "END")) t ≡ (tt, u) → expect_token (sign (codes ";")) u ≡ (tt, v) → shown body_stands_for (body n r) ≡ (record { variables = vs; statements = ss }, v)
+unfolding body list_end body_tree
 body_is n r s t u v vs ss first second third fourth =
-    ap (λ (z : List VariableTree × Reader). (body_tree z.0 (map statement.stands_for (block n (codes "BEGIN") z.1).0), (fixed (sign (codes ";")) (fixed (word (codes "END")) (block n (codes "BEGIN") z.1).1).1).1)) first
-    ∙ ap (λ (z : List StatementTree × Reader). (body_tree vs z.0, (fixed (sign (codes ";")) (fixed (word (codes "END")) z.1).1).1)) second
-    ∙ ap (λ (z : Unit {0} × Reader). (body_tree vs ss, (fixed (sign (codes ";")) z.1).1)) third
+    ap (λ (z : List VariableTree × Reader). (body_tree z.0 (map statement.stands_for (block n (codes "BEGIN") z.1).0), (expect_token (sign (codes ";")) (expect_token (word (codes "END")) (block n (codes "BEGIN") z.1).1).1).1)) first
+    ∙ ap (λ (z : List StatementTree × Reader). (body_tree vs z.0, (expect_token (sign (codes ";")) (expect_token (word (codes "END")) z.1).1).1)) second
+    ∙ ap (λ (z : Unit {0} × Reader). (body_tree vs ss, (expect_token (sign (codes ";")) z.1).1)) third
     ∙ ap (λ (z : Unit {0} × Reader). (body_tree vs ss, z.1)) fourth
 
 procedure_tree : Named → BodyOf StatementTree → ProcedureOf StatementTree
 procedure_tree k b = record { name = k; body = b }
 
-pub procedure_is : (n : ℕ) (r s t u : Reader) (k : Named) (b : BodyOf StatementTree) → fixed (word (codes "PROCEDURE")) r ≡ (tt, s) → name s ≡ (k, t) → shown body_stands_for (body n t) ≡ (b, u)
+pub procedure_is : (n : ℕ) (r s t u : Reader) (k : Named) (b : BodyOf StatementTree) → expect_token (word (codes "PROCEDURE")) r ≡ (tt, s) → name s ≡ (k, t) → shown body_stands_for (body n t) ≡ (b, u)
     → shown procedure_stands_for (procedure n r) ≡ (record { name = k; body = b }, u)
 unfolding procedure procedure_tree
 procedure_is n r s t u k b first second third =
@@ -82,7 +82,7 @@ procedure_is n r s t u k b first second third =
 named_at : List ℕ → ℕ → Named
 named_at w p = record { name = w; at = p }
 
-pub main_is : (n : ℕ) (r s t : Reader) (w : List ℕ) (p : ℕ) (b : BodyOf StatementTree) → w ≡ codes "MAIN" → p ≡ place r → fixed (word (codes "MAIN")) r ≡ (tt, s) → shown body_stands_for (body n s) ≡ (b, t)
+pub main_is : (n : ℕ) (r s t : Reader) (w : List ℕ) (p : ℕ) (b : BodyOf StatementTree) → w ≡ codes "MAIN" → p ≡ place r → expect_token (word (codes "MAIN")) r ≡ (tt, s) → shown body_stands_for (body n s) ≡ (b, t)
     → shown main_stands_for (main_procedure n r) ≡ (record { name = record { name = w; at = p }; body = b }, t)
 unfolding main_procedure procedure_tree named_at
 main_is n r s t w p b word_is there first second =
@@ -100,29 +100,29 @@ module_tree : Bool → Named → Option Named → List Named → List VariableTr
 module_tree b k i ns vs ps = record { root = b; name = k; interface = i; imports = ns; variables = vs; procedures = ps }
 
 pub serving_is : (n : ℕ) (r s t u v w x y z : Reader) (k i : Named) (ns : List Named) (vs : List VariableTree) (ps : List (ProcedureOf StatementTree))
-    → fixed (word (codes "MODULE")) r ≡ (tt, s) → name s ≡ (k, t) → fixed (word (codes "IMPLEMENTS")) t ≡ (tt, u) → name u ≡ (i, v) → heading v ≡ (ns, w) → variables n w ≡ (vs, x)
-    → shown (map procedure_stands_for) (procedures n x) ≡ (ps, y) → closing y ≡ (tt, z)
+    → expect_token (word (codes "MODULE")) r ≡ (tt, s) → name s ≡ (k, t) → expect_token (word (codes "IMPLEMENTS")) t ≡ (tt, u) → name u ≡ (i, v) → heading v ≡ (ns, w) → variables n w ≡ (vs, x)
+    → shown (map procedure_stands_for) (procedures n x) ≡ (ps, y) → module_end y ≡ (tt, z)
     → shown module_stands_for (serving_module n r) ≡ (record { root = false; name = k; interface = Some i; imports = ns; variables = vs; procedures = ps }, z)
 unfolding serving_module module_tree
 serving_is n r s t u v w x y z k i ns vs ps a b c d e f g h =
     front
-    ∙ ap (λ (q : List (ProcedureOf StatementTree) × Reader). (module_tree false k (Some i) ns vs q.0, (closing q.1).1)) g
+    ∙ ap (λ (q : List (ProcedureOf StatementTree) × Reader). (module_tree false k (Some i) ns vs q.0, (module_end q.1).1)) g
     ∙ ap (λ (q : Unit {0} × Reader). (module_tree false k (Some i) ns vs ps, q.1)) h
   where
-    front : shown module_stands_for (serving_module n r) ≡ (module_tree false k (Some i) ns vs (map procedure_stands_for (procedures n x).0), (closing (procedures n x).1).1)
+    front : shown module_stands_for (serving_module n r) ≡ (module_tree false k (Some i) ns vs (map procedure_stands_for (procedures n x).0), (module_end (procedures n x).1).1)
     front = rw (a, b, c, d, e, f) refl
 
 pub root_is : (n : ℕ) (r s t u v w x : Reader) (k : Named) (ns : List Named) (vs : List VariableTree) (p : ProcedureOf StatementTree) (ps : List (ProcedureOf StatementTree))
-    → fixed (word (codes "ROOT")) r ≡ (tt, s) → name s ≡ (k, t) → heading t ≡ (ns, u) → variables n u ≡ (vs, v) → shown main_stands_for (main_procedure n v) ≡ (p, w) → ps ≡ p ∷ [] → closing w ≡ (tt, x)
+    → expect_token (word (codes "ROOT")) r ≡ (tt, s) → name s ≡ (k, t) → heading t ≡ (ns, u) → variables n u ≡ (vs, v) → shown main_stands_for (main_procedure n v) ≡ (p, w) → ps ≡ p ∷ [] → module_end w ≡ (tt, x)
     → shown module_stands_for (root_module n r) ≡ (record { root = true; name = k; interface = None; imports = ns; variables = vs; procedures = ps }, x)
 unfolding root_module module_tree
 root_is n r s t u v w x k ns vs p ps a b c d e one f =
     front
-    ∙ ap (λ (q : ProcedureOf StatementTree × Reader). (module_tree true k None ns vs (q.0 ∷ []), (closing q.1).1)) e
+    ∙ ap (λ (q : ProcedureOf StatementTree × Reader). (module_tree true k None ns vs (q.0 ∷ []), (module_end q.1).1)) e
     ∙ ap (λ (q : Unit {0} × Reader). (module_tree true k None ns vs (p ∷ []), q.1)) f
     ∙ ap (λ l. (module_tree true k None ns vs l, x)) (sym one)
   where
-    front : shown module_stands_for (root_module n r) ≡ (module_tree true k None ns vs (main_stands_for (main_procedure n v).0 ∷ []), (closing (main_procedure n v).1).1)
+    front : shown module_stands_for (root_module n r) ≡ (module_tree true k None ns vs (main_stands_for (main_procedure n v).0 ∷ []), (module_end (main_procedure n v).1).1)
     front = rw (a, b, c, d) refl
 
 pub module_is_root : (n : ℕ) (r : Reader) (b : Bool) → b ≡ sees (is_word (codes "ROOT")) r → b ≡ true → module_text n r ≡ root_module n r

@@ -45,17 +45,17 @@ abbrev pub spelling_main : ℕ → WrittenBody → List Due
 spelling_main at b = due_at (word (codes "MAIN")) at ∷ spelling_body b
 
 -- "END" "."
-abbrev pub closing : List Due
-closing = due (word (codes "END")) ∷ due (sign (codes ".")) ∷ []
+abbrev pub module_closing : List Due
+module_closing = due (word (codes "END")) ∷ due (sign (codes ".")) ∷ []
 
 abbrev pub spelling_module : WrittenModule → List Due
 -- "MODULE" name "IMPLEMENTS" name imports ";" "BEGIN" {variable} {"PROCEDURE" name body} "END" "."
 spelling_module (serving n i ns vs ps) =
     due (word (codes "MODULE")) ∷ due_name n ∷ due (word (codes "IMPLEMENTS")) ∷ due_name i
-    ∷ (spelling_heading ns ++ (each spelling_variable vs ++ (each spelling_procedure ps ++ closing)))
+    ∷ (spelling_heading ns ++ (each spelling_variable vs ++ (each spelling_procedure ps ++ module_closing)))
 -- "ROOT" name imports ";" "BEGIN" {variable} "MAIN" body "END" "."
 spelling_module (root n ns vs at b) =
-    due (word (codes "ROOT")) ∷ due_name n ∷ (spelling_heading ns ++ (each spelling_variable vs ++ (spelling_main at b ++ closing)))
+    due (word (codes "ROOT")) ∷ due_name n ∷ (spelling_heading ns ++ (each spelling_variable vs ++ (spelling_main at b ++ module_closing)))
 
 abbrev pub IsVariable : VariableTree → Type 0
 IsVariable v = IsName v.name × IsType v.shape

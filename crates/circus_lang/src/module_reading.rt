@@ -5,7 +5,7 @@ ghost use Rattle.circus_syntax.specs.Spelling.{most_levels};
 ghost use Rattle.circus_expression.specs.Standing.{shown};
 ghost use Rattle.circus_lang.specs.ModuleTree.{variable_of, procedure_of, module_of};
 ghost use Rattle.circus_lang.specs.ModuleStanding.{body_stands_for, procedure_stands_for, main_stands_for, module_stands_for};
-ghost use Rattle.circus_lang.specs.ModuleReading.{variable, variables, body, procedure, procedures, main_procedure, imports, heading, closing, serving_module, root_module, module_text, begins_module};
+ghost use Rattle.circus_lang.specs.ModuleReading.{variable, variables, body, procedure, procedures, main_procedure, imports, heading, module_end, serving_module, root_module, module_text, begins_module};
 
 use crate::{ModuleText, ProcedureText, ProcedureTexts, VariableText, VariableTexts};
 use circus_statement::{Statements, statements_text};
@@ -45,7 +45,7 @@ fn serving(reader: &mut Reader<'_>) -> Result<ModuleText, NoMemory>
     let imports = heading(reader)?;
     let variables = variables(reader)?;
     let procedures = procedures(reader)?;
-    closing(reader);
+    module_end(reader);
     Ok(ModuleText {
         root: false,
         name,
@@ -67,7 +67,7 @@ fn root(reader: &mut Reader<'_>) -> Result<ModuleText, NoMemory>
     let variables = variables(reader)?;
     let mut procedures = ProcedureTexts::new(reader.alloc());
     procedures.push(main_procedure(reader)?)?;
-    closing(reader);
+    module_end(reader);
     Ok(ModuleText {
         root: true,
         name,
@@ -179,8 +179,8 @@ fn body(reader: &mut Reader<'_>) -> Result<(VariableTexts, Statements), NoMemory
     Ok((variables, statements))
 }
 
-fn closing(reader: &mut Reader<'_>)
-    ensures { closing reader.old ≡ (tt, reader.new) }
+fn module_end(reader: &mut Reader<'_>)
+    ensures { module_end reader.old ≡ (tt, reader.new) }
 {
     reader.word(b"END");
     reader.sign(b".");

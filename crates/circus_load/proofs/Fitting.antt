@@ -15,7 +15,7 @@ use Rattle.circus_model.specs.Agree.{Agree, IsAt}
 use Rattle.circus_model.specs.Behaviour.{Behaviour}
 use Rattle.circus_model.specs.Lawful.{import_of}
 use Rattle.circus_model.specs.declared.signature.Import.{Import}
-use Rattle.circus_modules.specs.Signatures.{implemented}
+use Rattle.circus_modules.specs.Signatures.{interface_numbers}
 use Rattle.circus_modules.specs.Behaviours.{behaviour_of, program_of}
 use Rattle.circus_node.specs.Accepting.{is_root}
 use Rattle.circus_node.specs.Booting.{IsOfTroupe, AreOfTroupes}
@@ -88,7 +88,7 @@ roots_meant limit interfaces numbers (m ∷ ms) = ap (λ roots. m.root ∷ roots
 limits_meant : (limit : ℕ) (interfaces : List Interface) (modules : List ModuleMeant) (place : ℕ) (b : Behaviour) → IsAt (program_of limit interfaces modules) place b → b.declared.limit ≤ limit
 limits_meant limit interfaces modules place b at =
     let same : limit ≤ limit = omega (arith) in
-    let (m, there, is) = image_at (behaviour_of limit interfaces (implemented modules)) modules place b at in
+    let (m, there, is) = image_at (behaviour_of limit interfaces (interface_numbers modules)) modules place b at in
     subst (λ (x : Behaviour). x.declared.limit ≤ limit) is same
 
 declared_by : {M : Type 0} (behaviour : M → Behaviour) (modules : List M) → map (λ (b : Behaviour). b.declared) (map behaviour modules) ≡ map (λ m. (behaviour m).declared) modules
@@ -103,7 +103,7 @@ pub meant_of_troupes : {M : Type 0} (behaviour : M → Behaviour) (made : List M
 meant_of_troupes behaviour made d interfaces modules roots is agree =
     subst (AreOfTroupes d) (declared_by behaviour made)
     (of_troupes d (map behaviour made)
-    (roots ∙ sym (roots_meant (limit_of d.format) interfaces (implemented modules) modules) ∙ ap (map (λ (b : Behaviour). b.declared.root)) (sym is))
+    (roots ∙ sym (roots_meant (limit_of d.format) interfaces (interface_numbers modules) modules) ∙ ap (map (λ (b : Behaviour). b.declared.root)) (sym is))
     agree
     (subst (λ p. (place : ℕ) (b : Behaviour) → IsAt p place b → b.declared.limit ≤ limit_of d.format) (sym is)
     (limits_meant (limit_of d.format) interfaces modules)))

@@ -17,7 +17,7 @@ use Rattle.circus_checked.specs.Sorts.{sort_of, kind_of, shape_of, Holds, at}
 use Rattle.circus_evaluate.specs.Got.{Got, number, whole, Raising, and_then, as_kind, number_of}
 use Rattle.circus_evaluate.specs.Parts.{list_of, part_at, with_part}
 use Rattle.circus_evaluate.specs.Evaluating.{steps_of}
-use Rattle.circus_machine.specs.Storing.{stored_over, as_item, with_more, appended_over, kept, stored}
+use Rattle.circus_machine.specs.Storing.{stored_over, as_item, with_more, appended_over, replace_variable, store_at}
 use Rattle.circus_evaluate.specs.Typed.{IsGot, Hold}
 use Rattle.circus_machine.specs.Typed.{AreWell}
 use Rattle.circus_evaluate.proofs.Alike.{some_same}
@@ -36,7 +36,7 @@ module _ (limit states : ℕ) (shapes : List ShapeTree) where
   state_within true variables n t inside small within = leb-true _ limit small
   state_within false variables n t outside small within = subst (λ ts. size_of_values ts ≤ limit) (sym (take-set-le states variables n t (ltb-false n states outside))) within
 
-  kept_well : (variables : List ValueTree) (n : ℕ) (s : ShapeTree) (t : ValueTree) → AreWell limit states shapes variables → slice_get shapes n ≡ Some s → IsTrue (fits s t) → IfOk (kept limit states variables n t) (AreWell limit states shapes)
+  kept_well : (variables : List ValueTree) (n : ℕ) (s : ShapeTree) (t : ValueTree) → AreWell limit states shapes variables → slice_get shapes n ≡ Some s → IsTrue (fits s t) → IfOk (replace_variable limit states variables n t) (AreWell limit states shapes)
   kept_well variables n s t well is fit =
       let within = nat_le (size_of_values (take states (slice_set variables n t))) limit in
       if_ok (AreWell limit states shapes) (nat_le (external_size t) limit && (not (nat_lt n states) || within)) (slice_set variables n t) TooLong
@@ -44,18 +44,18 @@ module _ (limit states : ℕ) (shapes : List ShapeTree) where
 
   -- where what is made of an old value fits
   pub stored_well : (variables : List ValueTree) (place : CheckedPlace) (u : ShapeTree) (change : ValueTree → Raising ValueTree) → Holds shapes place u → AreWell limit states shapes variables → ((old : ValueTree) → IsTrue (fits u old) → IfOk (change old) (λ t. IsTrue (fits u t)))
-      → IfOk (stored limit states variables place change) (AreWell limit states shapes)
+      → IfOk (store_at limit states variables place change) (AreWell limit states shapes)
   stored_well variables _ _ change (at place t u is leads) well so =
       then_ok (λ steps. StepsTo steps t u) (AreWell limit states shapes) (steps_of limit variables (suffix_trees place.suffixes))
-      (λ steps. and_then (ok_or (slice_get variables place.variable) WrongChoice) (λ v. and_then (part_at steps v) (λ old. and_then (change old) (λ new. kept limit states variables place.variable (with_part steps new v)))))
+      (λ steps. and_then (ok_or (slice_get variables place.variable) WrongChoice) (λ v. and_then (part_at steps v) (λ old. and_then (change old) (λ new. replace_variable limit states variables place.variable (with_part steps new v)))))
       (steps_are limit shapes variables well.hold (suffix_trees place.suffixes) t u leads)
       (λ steps to.
       then_ok (λ v. IsTrue (fits t v)) (AreWell limit states shapes) (ok_or (slice_get variables place.variable) WrongChoice)
-      (λ v. and_then (part_at steps v) (λ old. and_then (change old) (λ new. kept limit states variables place.variable (with_part steps new v)))) (hold_get shapes variables place.variable t WrongChoice well.hold is)
+      (λ v. and_then (part_at steps v) (λ old. and_then (change old) (λ new. replace_variable limit states variables place.variable (with_part steps new v)))) (hold_get shapes variables place.variable t WrongChoice well.hold is)
       (λ v fit.
-      then_ok (λ old. IsTrue (fits u old)) (AreWell limit states shapes) (part_at steps v) (λ old. and_then (change old) (λ new. kept limit states variables place.variable (with_part steps new v))) (steps_fit steps t u v to fit)
+      then_ok (λ old. IsTrue (fits u old)) (AreWell limit states shapes) (part_at steps v) (λ old. and_then (change old) (λ new. replace_variable limit states variables place.variable (with_part steps new v))) (steps_fit steps t u v to fit)
       (λ old old_fits.
-      then_ok (λ new. IsTrue (fits u new)) (AreWell limit states shapes) (change old) (λ new. kept limit states variables place.variable (with_part steps new v)) (so old old_fits)
+      then_ok (λ new. IsTrue (fits u new)) (AreWell limit states shapes) (change old) (λ new. replace_variable limit states variables place.variable (with_part steps new v)) (so old old_fits)
       (λ new new_fits. kept_well variables place.variable t (with_part steps new v) well is (put_fits steps t u v new to fit new_fits)))))
 
 -- ---- what is made of an old value

@@ -14,7 +14,7 @@ use Rattle.circus_model.specs.declared.language_error.LanguageError.TheVariants.
 use Rattle.circus_model.specs.declared.signature.ProcedureShape.{ProcedureShape}
 use Rattle.circus_model.specs.declared.signature.Signature.{Signature}
 use Rattle.circus_evaluate.specs.Got.{Raising}
-use Rattle.circus_machine.specs.Meaning.{Going, Flow, goes_on, ends, asks, then_does, raising, fails, stepped}
+use Rattle.circus_machine.specs.Meaning.{Going, Flow, goes_on, ends, asks, then_does, value_or_end, fails, count_step}
 use Rattle.circus_machine.specs.Typed.{AreWell}
 
 -- an execution with these variables, steps and asks, and the replies that are left
@@ -70,13 +70,13 @@ module _ (signature : Signature) (p : ProcedureShape) (shapes : List ShapeTree) 
 
     -- a value is got, or an error raised in its place
     pub raised : {B : Type 0} (P : B → Type 0) (n : ℕ) (r : Raising B) (variables : List ValueTree) (steps : ℕ) (g : B → List Outcome → Flow X) → IfOk r P → Well variables → ((b : B) → P b → Behaves n (g b))
-        → Behaves n (λ replies. then_does (raising r (going_with variables steps n replies)) (λ b. g b replies))
+        → Behaves n (λ replies. then_does (value_or_end r (going_with variables steps n replies)) (λ b. g b replies))
     raised P n (Ok b) variables steps g got well each = each b got
     raised P n (Err error) variables steps g got well each = failing n error variables well
 
     -- a step is taken
     pub in_step : (n : ℕ) (variables : List ValueTree) (steps : ℕ) (g : Going → Flow X) → Well variables → ((left : ℕ) → Behaves n (λ replies. g (going_with variables left n replies)))
-        → Behaves n (λ replies. then_does (stepped (going_with variables steps n replies)) g)
+        → Behaves n (λ replies. then_does (count_step (going_with variables steps n replies)) g)
     in_step n variables zero g well each = failing n StepLimit variables well
     in_step n variables (suc left) g well each = each left
 

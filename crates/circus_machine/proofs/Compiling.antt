@@ -11,8 +11,8 @@ use Rattle.circus_checked.specs.declared.expression.CheckedPlace.{CheckedPlace}
 use Rattle.circus_checked.specs.ExpressionTree.{ExpressionTree}
 use Rattle.circus_checked.specs.StatementTree.{StatementTree, StatementTrees, HandlerTrees, no_statements, more_statements, no_handlers, more_handlers}
 use Rattle.circus_checked.specs.StatementTree as statement
-use Rattle.circus_machine.specs.Meaning.{Going, Flow, goes_on, ends, asks, then_does, filled, tested, called, turns, answered, catches, does, does_all, handled}
-use Rattle.circus_machine.specs.Seen.Code.{Act, assign, append, unless, jump, again, ask, give, raise, code_of, codes_of, handlers_code, table_of, caught, replied, act, Comes, Follows, behind_all, further, ended, asked}
+use Rattle.circus_machine.specs.Meaning.{Going, Flow, goes_on, ends, asks, then_does, fill_places, test_condition, make_call, turns, after_reply, catches, does, does_all, handled}
+use Rattle.circus_machine.specs.Seen.Code.{Act, assign, append, unless, jump, again, ask, give, raise, code_of, codes_of, handlers_code, table_of, catch_place, reply_place, act, Comes, Follows, behind_all, further, ended, asked}
 use Rattle.circus_machine.proofs.Flows.{assoc, Leaves, left, leaves_is, does_leaves, filled_leaves, tested_less, called_leaves}
 
 -- these instructions stand at a place
@@ -98,18 +98,18 @@ module _ (limit states : ℕ) (code : List Act) where
     loops zero c few goes = absurd (omega (arith, few))
     loops (suc n) c few goes =
         let q = suc p + length (codes_of body) in
-        subst (λ f. Comes limit states code f q c) (sym (assoc (tested limit states e c) _ k))
+        subst (λ f. Comes limit states code f q c) (sym (assoc (test_condition limit states e c) _ k))
         (by_act _ (again e (length (codes_of body))) q c is
-        (follows_then (tested limit states e c) _ _
-        (λ x on. round n (loops n) x.0 x.1 (omega (arith, few, fewer (λ y. suc y.1.steps) c.steps (tested limit states e c) (tested_less limit states e c) x on))
-        (λ d less. goes d (omega (arith, less, fewer (λ y. suc y.1.steps) c.steps (tested limit states e c) (tested_less limit states e c) x on))))))
+        (follows_then (test_condition limit states e c) _ _
+        (λ x on. round n (loops n) x.0 x.1 (omega (arith, few, fewer (λ y. suc y.1.steps) c.steps (test_condition limit states e c) (tested_less limit states e c) x on))
+        (λ d less. goes d (omega (arith, less, fewer (λ y. suc y.1.steps) c.steps (test_condition limit states e c) (tested_less limit states e c) x on))))))
 
-  replied_code : (places : List CheckedPlace) (hs : HandlerTrees) (p : ℕ) (d : Going) (k : Going → Flow Going) → ((error : ℕ) (values : List ValueTree) → Follows limit states code (then_does (handled limit states hs error values d) k) (caught limit states p (table_of 0 hs) error values d))
+  replied_code : (places : List CheckedPlace) (hs : HandlerTrees) (p : ℕ) (d : Going) (k : Going → Flow Going) → ((error : ℕ) (values : List ValueTree) → Follows limit states code (then_does (handled limit states hs error values d) k) (catch_place limit states p (table_of 0 hs) error values d))
       → Goes d.steps (suc p + length (handlers_code hs)) k → (reply : Outcome)
-      → Follows limit states code (then_does (answered limit states places (handled limit states hs) reply d) k) (replied limit states p places (table_of 0 hs) (length (handlers_code hs)) reply d)
+      → Follows limit states code (then_does (after_reply limit states places (handled limit states hs) reply d) k) (reply_place limit states p places (table_of 0 hs) (length (handlers_code hs)) reply d)
   replied_code places hs p d k each goes (Returned results) =
-      follows_then (filled limit states places results d) k _
-      (λ u on. goes u (fewer left d.steps (filled limit states places results d) (filled_leaves limit states places results d) u on))
+      follows_then (fill_places limit states places results d) k _
+      (λ u on. goes u (fewer left d.steps (fill_places limit states places results d) (filled_leaves limit states places results d) u on))
   replied_code places hs p d k each goes (Raised error values) = each error values
 
   mutual
@@ -126,12 +126,12 @@ module _ (limit states : ℕ) (code : List Act) where
         let (first, second) = stands_apart code (suc p) a (jump (length b) ∷ b) stands.1 in
         let both = length-append a (jump (length b) ∷ b) in
         let behind : Goes c.steps (suc (suc p + length a) + length b) k = at_place c.steps k _ _ (omega (arith, both)) goes in
-        subst (λ f. Comes limit states code f p c) (sym (assoc (tested limit states e c) _ k))
+        subst (λ f. Comes limit states code f p c) (sym (assoc (test_condition limit states e c) _ k))
         (by_act _ (unless e (length a + 1)) p c stands.0
-        (follows_then (tested limit states e c) _ _
+        (follows_then (test_condition limit states e c) _ _
         (λ x on. branches ss others p x.0 x.1 k (does_all_code ss (suc p) first) (does_all_code others (suc p + (length a + 1)) (subst (λ q. Stands code q b) (omega arith) second.1))
-        (λ d few. jumps (suc p + length a) (length b) c.steps k second.0 behind d (omega (arith, few, fewer (λ y. suc y.1.steps) c.steps (tested limit states e c) (tested_less limit states e c) x on)))
-        (λ d few. at_place c.steps k _ _ (omega arith) behind d (omega (arith, few, fewer (λ y. suc y.1.steps) c.steps (tested limit states e c) (tested_less limit states e c) x on))))))
+        (λ d few. jumps (suc p + length a) (length b) c.steps k second.0 behind d (omega (arith, few, fewer (λ y. suc y.1.steps) c.steps (test_condition limit states e c) (tested_less limit states e c) x on)))
+        (λ d few. at_place c.steps k _ _ (omega arith) behind d (omega (arith, few, fewer (λ y. suc y.1.steps) c.steps (test_condition limit states e c) (tested_less limit states e c) x on))))))
     does_code (statement.repeat e body) p stands c k goes =
         let b = codes_of body in
         let (first, second) = stands_apart code (suc p) b (again e (length b) ∷ []) stands.1 in
@@ -139,18 +139,18 @@ module _ (limit states : ℕ) (code : List Act) where
         by_act _ (jump (length b)) p c stands.0
         (loops e body p k (does_all_code body (suc p) first) second.0 (suc c.steps) c (omega arith) (at_place c.steps k _ _ (omega (arith, both)) goes))
     does_code (statement.call callee procedure es places hs) p stands c k goes =
-        subst (λ f. Comes limit states code f p c) (sym (assoc (called limit states callee procedure es c) _ k))
+        subst (λ f. Comes limit states code f p c) (sym (assoc (make_call limit states callee procedure es c) _ k))
         (by_act _ (ask callee procedure es places (table_of 0 hs) (length (handlers_code hs))) p c stands.0
-        (follows_then (called limit states callee procedure es c) _ _
+        (follows_then (make_call limit states callee procedure es c) _ _
         (λ x on.
         let goes_there : Goes x.1.steps (suc p + length (handlers_code hs)) k =
-        λ d few. at_place c.steps k _ _ (omega arith) goes d (omega (arith, few, fewer (λ y. y.1.steps) c.steps (called limit states callee procedure es c) (called_leaves limit states callee procedure es c) x on)) in
+        λ d few. at_place c.steps k _ _ (omega arith) goes d (omega (arith, few, fewer (λ y. y.1.steps) c.steps (make_call limit states callee procedure es c) (called_leaves limit states callee procedure es c) x on)) in
         replied_code places hs p x.1 k
         (λ error values. caught_code hs 0 p (subst (λ q. Stands code q (handlers_code hs)) (omega arith) stands.1) error values x.1 k (at_place x.1.steps k _ _ (omega arith) goes_there))
         goes_there x.0)))
 
     caught_code : (hs : HandlerTrees) (at p : ℕ) → Stands code (suc p + at) (handlers_code hs) → (error : ℕ) (values : List ValueTree) (d : Going) (k : Going → Flow Going) → Goes d.steps (suc p + at + length (handlers_code hs)) k
-        → Follows limit states code (then_does (handled limit states hs error values d) k) (caught limit states p (table_of at hs) error values d)
+        → Follows limit states code (then_does (handled limit states hs error values d) k) (catch_place limit states p (table_of at hs) error values d)
     caught_code no_handlers at p stands error values d k goes = by_case (is_language_error error) _ _ k _ _ refl refl
     caught_code (more_handlers e places ss hs) at p stands error values d k goes =
         let s = codes_of ss in
@@ -159,10 +159,10 @@ module _ (limit states : ℕ) (code : List Act) where
         let both = length-append s (jump (length h) ∷ h) in
         let behind : Goes d.steps (suc (suc p + at + length s) + length h) k = at_place d.steps k _ _ (omega (arith, both)) goes in
         by_case (catches e error) _ _ k _ _
-        (subst (λ f. Follows limit states code f (then_does (filled limit states places values d) (λ u. goes_on (suc p + at, u)))) (sym (assoc (filled limit states places values d) (does_all limit states ss) k))
-        (follows_then (filled limit states places values d) (λ u. then_does (does_all limit states ss u) k) _
+        (subst (λ f. Follows limit states code f (then_does (fill_places limit states places values d) (λ u. goes_on (suc p + at, u)))) (sym (assoc (fill_places limit states places values d) (does_all limit states ss) k))
+        (follows_then (fill_places limit states places values d) (λ u. then_does (does_all limit states ss u) k) _
         (λ u on. does_all_code ss (suc p + at) first u k
-        (λ v few. jumps (suc p + at + length s) (length h) d.steps k second.0 behind v (omega (arith, few, fewer left d.steps (filled limit states places values d) (filled_leaves limit states places values d) u on))))))
+        (λ v few. jumps (suc p + at + length s) (length h) d.steps k second.0 behind v (omega (arith, few, fewer left d.steps (fill_places limit states places values d) (filled_leaves limit states places values d) u on))))))
         (caught_code hs (at + (length s + 1)) p (subst (λ q. Stands code q h) (omega arith) second.1) error values d k (at_place d.steps k _ _ (omega arith) behind))
 
     pub does_all_code : (ss : StatementTrees) (p : ℕ) → Stands code p (codes_of ss) → Does ss p

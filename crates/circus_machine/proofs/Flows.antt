@@ -10,8 +10,8 @@ use Rattle.circus_limits.specs.Limits.{most_asks}
 use Rattle.circus_model.specs.LanguageError.{is_language_error}
 use Rattle.circus_evaluate.specs.Got.{Got, Raising, got_of, truth_of}
 use Rattle.circus_evaluate.specs.Evaluating.{evaluate}
-use Rattle.circus_machine.specs.Storing.{stored_over, appended_over, stored}
-use Rattle.circus_machine.specs.Meaning.{Going, Flow, goes_on, ends, asks, then_does, raising, step_of, stepped, with_variables, leaving, assigned, filled, tested, left_with, takes, called, turns, answered, unhandled, catches, does, does_all, handled}
+use Rattle.circus_machine.specs.Storing.{stored_over, appended_over, store_at}
+use Rattle.circus_machine.specs.Meaning.{Going, Flow, goes_on, ends, asks, then_does, value_or_end, step_of, count_step, with_variables, leave_together, assign_value, fill_places, test_condition, left_with, takes, make_call, turns, after_reply, raise_again, catches, does, does_all, handled}
 
 pub assoc : {X Y Z : Type 0} (f : Flow X) (g : X → Flow Y) (h : Y → Flow Z) → then_does (then_does f g) h ≡ then_does f (λ x. then_does (g x) h)
 assoc (goes_on x) g h = refl
@@ -46,7 +46,7 @@ pub stepped_less : (n : ℕ) (c : Going) → Leaves (λ d. suc d.steps) n (step_
 stepped_less zero c = tt
 stepped_less (suc n) c = omega arith
 
-pub one_less : (c : Going) → Leaves (λ d. suc d.steps) c.steps (stepped c)
+pub one_less : (c : Going) → Leaves (λ d. suc d.steps) c.steps (count_step c)
 one_less c = stepped_less c.steps c
 
 weaker : {X : Type 0} (s : X → ℕ) (n : ℕ) (f : Flow X) → Leaves (λ x. suc (s x)) n f → Leaves s n f
@@ -54,37 +54,37 @@ weaker s n (goes_on x) some = omega (arith, some)
 weaker s n (ends outcome variables) some = tt
 weaker s n (asks callee procedure arguments c) some = tt
 
-step_leaves : (c : Going) → Leaves left c.steps (stepped c)
-step_leaves c = weaker left c.steps (stepped c) (one_less c)
+step_leaves : (c : Going) → Leaves left c.steps (count_step c)
+step_leaves c = weaker left c.steps (count_step c) (one_less c)
 
 reflexive : (n : ℕ) → n ≤ n
 reflexive n = omega arith
 
 module _ {A X : Type 0} (s : X → ℕ) (n : ℕ) (c : Going) (g : A → Flow X) where
-  pub raising_leaves : (r : Raising A) → ((a : A) → Leaves s n (g a)) → Leaves s n (then_does (raising r c) g)
+  pub raising_leaves : (r : Raising A) → ((a : A) → Leaves s n (g a)) → Leaves s n (then_does (value_or_end r c) g)
   raising_leaves (Ok a) each = each a
   raising_leaves (Err error) each = tt
 
 module _ (limit states : ℕ) where
-  assigned_leaves : (p : CheckedPlace) (change : ValueTree → Raising ValueTree) (c : Going) → Leaves left c.steps (assigned limit states p change c)
+  assigned_leaves : (p : CheckedPlace) (change : ValueTree → Raising ValueTree) (c : Going) → Leaves left c.steps (assign_value limit states p change c)
   assigned_leaves p change c =
-      raising_leaves left c.steps c (λ variables. goes_on (with_variables c variables)) (stored limit states c.variables p change) (λ variables. reflexive c.steps)
+      raising_leaves left c.steps c (λ variables. goes_on (with_variables c variables)) (store_at limit states c.variables p change) (λ variables. reflexive c.steps)
 
-  pub filled_leaves : (ps : List CheckedPlace) (ts : List ValueTree) (c : Going) → Leaves left c.steps (filled limit states ps ts c)
+  pub filled_leaves : (ps : List CheckedPlace) (ts : List ValueTree) (c : Going) → Leaves left c.steps (fill_places limit states ps ts c)
   filled_leaves [] ts c = omega arith
   filled_leaves (p ∷ ps) [] c = omega arith
   filled_leaves (p ∷ ps) (t ∷ ts) c =
-      leaves_then left left c.steps (assigned limit states p (stored_over (got_of t)) c) (filled limit states ps ts) (assigned_leaves p (stored_over (got_of t)) c) (filled_leaves ps ts)
+      leaves_then left left c.steps (assign_value limit states p (stored_over (got_of t)) c) (fill_places limit states ps ts) (assigned_leaves p (stored_over (got_of t)) c) (filled_leaves ps ts)
 
-  pub tested_less : (e : ExpressionTree) (c : Going) → Leaves (λ x. suc x.1.steps) c.steps (tested limit states e c)
+  pub tested_less : (e : ExpressionTree) (c : Going) → Leaves (λ x. suc x.1.steps) c.steps (test_condition limit states e c)
   tested_less e c =
-      leaves_then (λ d. suc d.steps) (λ x. suc x.1.steps) c.steps (stepped c) _ (one_less c)
+      leaves_then (λ d. suc d.steps) (λ x. suc x.1.steps) c.steps (count_step c) _ (one_less c)
       (λ d. raising_leaves {A = Got} {X = Bool × Going} (λ x. suc x.1.steps) (suc d.steps) d (λ x. goes_on (truth_of x, d)) (evaluate limit d.variables e) (λ x. reflexive (suc d.steps)))
 
   pub left_with_leaves : (es : List ExpressionTree) (c : Going) → Leaves (λ x. x.1.steps) c.steps (left_with limit states es c)
   left_with_leaves es c =
-      leaves_then left (λ x. x.1.steps) c.steps (stepped c) _ (step_leaves c)
-      (λ d. raising_leaves {A = List ValueTree} {X = List ValueTree × Going} (λ x. x.1.steps) d.steps d (λ ts. goes_on (ts, d)) (leaving limit states es d.variables) (λ ts. reflexive d.steps))
+      leaves_then left (λ x. x.1.steps) c.steps (count_step c) _ (step_leaves c)
+      (λ d. raising_leaves {A = List ValueTree} {X = List ValueTree × Going} (λ x. x.1.steps) d.steps d (λ ts. goes_on (ts, d)) (leave_together limit states es d.variables) (λ ts. reflexive d.steps))
 
   takes_leaves : (callee procedure : ℕ) (arguments : List ValueTree) (replies : List Outcome) (c : Going) → Leaves (λ x. x.1.steps) c.steps (takes callee procedure arguments replies c)
   takes_leaves callee procedure arguments [] c = tt
@@ -94,7 +94,7 @@ module _ (limit states : ℕ) where
   by_test s n true f g p q = p
   by_test s n false f g p q = q
 
-  pub called_leaves : (callee procedure : ℕ) (es : List ExpressionTree) (c : Going) → Leaves (λ x. x.1.steps) c.steps (called limit states callee procedure es c)
+  pub called_leaves : (callee procedure : ℕ) (es : List ExpressionTree) (c : Going) → Leaves (λ x. x.1.steps) c.steps (make_call limit states callee procedure es c)
   called_leaves callee procedure es c =
       leaves_then (λ x. x.1.steps) (λ x. x.1.steps) c.steps (left_with limit states es c) _ (left_with_leaves es c)
       (λ x. by_test (λ y. y.1.steps) x.1.steps (nat_lt x.1.asks most_asks) _ _ (takes_leaves callee procedure x.0 x.1.replies x.1) tt)
@@ -102,29 +102,29 @@ module _ (limit states : ℕ) where
   turns_leave : (n : ℕ) (e : ExpressionTree) (body : Going → Flow Going) (c : Going) → ((d : Going) → Leaves left d.steps (body d)) → Leaves left c.steps (turns limit states n e body c)
   turns_leave zero e body c each = tt
   turns_leave (suc n) e body c each =
-      leaves_then (λ x. x.1.steps) left c.steps (tested limit states e c) _ (weaker (λ x. x.1.steps) c.steps (tested limit states e c) (tested_less e c))
+      leaves_then (λ x. x.1.steps) left c.steps (test_condition limit states e c) _ (weaker (λ x. x.1.steps) c.steps (test_condition limit states e c) (tested_less e c))
       (λ x. by_test left x.1.steps x.0 _ _ (leaves_then left left x.1.steps (body x.1) (turns limit states n e body) (each x.1) (λ d. turns_leave n e body d each)) (omega arith))
 
-  unhandled_leaves : (error : ℕ) (variables : List ValueTree) (n : ℕ) → Leaves left n (unhandled error variables)
+  unhandled_leaves : (error : ℕ) (variables : List ValueTree) (n : ℕ) → Leaves left n (raise_again error variables)
   unhandled_leaves error variables n = by_test left n (is_language_error error) _ _ tt tt
 
   answered_leaves : (places : List CheckedPlace) (h : ℕ → List ValueTree → Going → Flow Going) → ((error : ℕ) (values : List ValueTree) (c : Going) → Leaves left c.steps (h error values c)) → (reply : Outcome) (c : Going)
-      → Leaves left c.steps (answered limit states places h reply c)
+      → Leaves left c.steps (after_reply limit states places h reply c)
   answered_leaves places h each (Returned results) c = filled_leaves places results c
   answered_leaves places h each (Raised error values) c = each error values c
 
   mutual
     pub does_leaves : (s : StatementTree) (c : Going) → Leaves left c.steps (does limit states s c)
     does_leaves (assign p e) c =
-        leaves_then left left c.steps (stepped c) _ (step_leaves c) (λ d. raising_leaves {A = Got} {X = Going} left d.steps d (λ x. assigned limit states p (stored_over x) d) (evaluate limit d.variables e) (λ x. assigned_leaves p (stored_over x) d))
+        leaves_then left left c.steps (count_step c) _ (step_leaves c) (λ d. raising_leaves {A = Got} {X = Going} left d.steps d (λ x. assign_value limit states p (stored_over x) d) (evaluate limit d.variables e) (λ x. assigned_leaves p (stored_over x) d))
     does_leaves (append e p bound k) c =
-        leaves_then left left c.steps (stepped c) _ (step_leaves c) (λ d. raising_leaves {A = Got} {X = Going} left d.steps d (λ x. assigned limit states p (appended_over bound k x) d) (evaluate limit d.variables e) (λ x. assigned_leaves p (appended_over bound k x) d))
+        leaves_then left left c.steps (count_step c) _ (step_leaves c) (λ d. raising_leaves {A = Got} {X = Going} left d.steps d (λ x. assign_value limit states p (appended_over bound k x) d) (evaluate limit d.variables e) (λ x. assigned_leaves p (appended_over bound k x) d))
     does_leaves (branch e ss others) c =
-        leaves_then (λ x. x.1.steps) left c.steps (tested limit states e c) _ (weaker (λ x. x.1.steps) c.steps (tested limit states e c) (tested_less e c))
+        leaves_then (λ x. x.1.steps) left c.steps (test_condition limit states e c) _ (weaker (λ x. x.1.steps) c.steps (test_condition limit states e c) (tested_less e c))
         (λ x. by_test left x.1.steps x.0 _ _ (does_all_leaves ss x.1) (does_all_leaves others x.1))
     does_leaves (repeat e body) c = turns_leave (suc c.steps) e (does_all limit states body) c (does_all_leaves body)
     does_leaves (call callee procedure es places handlers) c =
-        leaves_then (λ x. x.1.steps) left c.steps (called limit states callee procedure es c) _ (called_leaves callee procedure es c)
+        leaves_then (λ x. x.1.steps) left c.steps (make_call limit states callee procedure es c) _ (called_leaves callee procedure es c)
         (λ x. answered_leaves places (handled limit states handlers) (handled_leaves handlers) x.0 x.1)
     does_leaves (give es) c = leaves_then (λ x. x.1.steps) left c.steps (left_with limit states es c) _ (left_with_leaves es c) (λ x. tt)
     does_leaves (raise error es) c = leaves_then (λ x. x.1.steps) left c.steps (left_with limit states es c) _ (left_with_leaves es c) (λ x. tt)
@@ -137,5 +137,5 @@ module _ (limit states : ℕ) where
     handled_leaves no_handlers error values c = unhandled_leaves error c.variables c.steps
     handled_leaves (more_handlers e places ss hs) error values c =
         by_test left c.steps (catches e error) _ _
-        (leaves_then left left c.steps (filled limit states places values c) (does_all limit states ss) (filled_leaves places values c) (does_all_leaves ss))
+        (leaves_then left left c.steps (fill_places limit states places values c) (does_all limit states ss) (filled_leaves places values c) (does_all_leaves ss))
         (handled_leaves hs error values c)

@@ -19,7 +19,7 @@ use Rattle.circus_checked.specs.Sorts.{of}
 use Rattle.circus_checked.specs.WellTyped.{EachGives, no_values, more_values}
 use Rattle.circus_evaluate.specs.Got.{and_then, value_of}
 use Rattle.circus_evaluate.specs.Evaluating.{evaluate, evaluate_all}
-use Rattle.circus_machine.specs.Meaning.{leaving}
+use Rattle.circus_machine.specs.Meaning.{leave_together}
 use Rattle.circus_evaluate.specs.Typed.{Hold}
 use Rattle.circus_machine.specs.Modules.{trees, IsImported, Raises}
 use Rattle.circus_evaluate.proofs.Alike.{some_same}
@@ -69,7 +69,7 @@ module _ (limit : ℕ) (shapes : List ShapeTree) (variables : List ValueTree) (h
       (λ t fit. then_ok (Hold given) (Hold (s ∷ given)) (evaluate_all limit variables (expression_trees es)) (λ ts. Ok (t ∷ ts)) (each_given es given more) (λ ts holds. (fit, holds)))
 
   -- values that leave together
-  pub leaving_given : (states : ℕ) (es : List ExpressionTree) (given : List ShapeTree) → EachGives shapes es given → IfOk (leaving limit states es variables) (λ ts. Hold given ts × (size_of_values ts ≤ limit))
+  pub leaving_given : (states : ℕ) (es : List ExpressionTree) (given : List ShapeTree) → EachGives shapes es given → IfOk (leave_together limit states es variables) (λ ts. Hold given ts × (size_of_values ts ≤ limit))
   leaving_given states es given each =
       then_ok (Hold given) (λ ts. Hold given ts × (size_of_values ts ≤ limit)) (evaluate_all limit variables (expression_trees es)) _ (each_given es given each)
       (λ ts holds. if_ok (λ ts. Hold given ts × (size_of_values ts ≤ limit)) (nat_le (size_of_values ts) limit) ts TooLong (λ small. (holds, leb-true (size_of_values ts) limit small)))

@@ -15,7 +15,7 @@ use Rattle.circus_checked.specs.ExpressionTree.{suffix_trees}
 use Rattle.circus_evaluate.specs.Got.{Raising, and_then}
 use Rattle.circus_evaluate.specs.Parts.{Step, part_at, with_part}
 use Rattle.circus_evaluate.specs.Evaluating.{steps_of}
-use Rattle.circus_machine.specs.Storing.{kept, stored}
+use Rattle.circus_machine.specs.Storing.{replace_variable, store_at}
 use Rattle.circus_machine.specs.Seen.Changing.{AreSized, Resized, Changed}
 use Rattle.circus_evaluate.specs.Putting.{put_over, with_put_item, item_put, grows_by, shrinks_by}
 use Rattle.circus_evaluate.specs.declared.part.Put.{Put}
@@ -43,12 +43,12 @@ state_too_great_by true false within values there great = cc
 state_too_great_by false inside within values there great = refl
 
 module _ (limit states : ℕ) (values : List ValueTree) (n : ℕ) (w : ValueTree) where
-  is_kept : external_size w ≤ limit → (n < states → size_of_values (take states (slice_set values n w)) ≤ limit) → kept limit states values n w ≡ Ok (slice_set values n w)
+  is_kept : external_size w ≤ limit → (n < states → size_of_values (take states (slice_set values n w)) ≤ limit) → replace_variable limit states values n w ≡ Ok (slice_set values n w)
   is_kept small within =
       kept_by (nat_le (external_size w) limit) (nat_lt n states) (nat_le (size_of_values (take states (slice_set values n w))) limit) (slice_set values n w)
       (le-leb (external_size w) limit small) (λ inside. le-leb (size_of_values (take states (slice_set values n w))) limit (within (ltb-true n states inside)))
 
-  state_is_too_great : n < states → limit < size_of_values (take states (slice_set values n w)) → kept limit states values n w ≡ Err TooLong
+  state_is_too_great : n < states → limit < size_of_values (take states (slice_set values n w)) → replace_variable limit states values n w ≡ Err TooLong
   state_is_too_great inside great =
       state_too_great_by (nat_le (external_size w) limit) (nat_lt n states) (nat_le (size_of_values (take states (slice_set values n w))) limit) (slice_set values n w)
       (lt-ltb n states inside) (lt-leb (size_of_values (take states (slice_set values n w))) limit great)
@@ -83,7 +83,7 @@ module _ (most g grows : ℕ) (is : grows ≡ min g most) where
 
 module _ (limit most : ℕ) (v : Variables) (index grows g shrinks : ℕ) (t w : ValueTree) (sized : AreSized v) (cut : grows ≡ min g most) (there : slice_get v.values index ≡ Some t)
     (same : external_size w + shrinks ≡ external_size t + g) where
-  pub state_too_great : index < v.states → limit + shrinks < v.state_size + grows → kept limit v.states v.values index w ≡ Err TooLong
+  pub state_too_great : index < v.states → limit + shrinks < v.state_size + grows → replace_variable limit v.states v.values index w ≡ Err TooLong
   state_too_great inside great =
       state_is_too_great limit v.states v.values index w inside (omega (arith, great, sized.state, state_size v.values index v.states t w inside there, at_most most g grows cut, same))
 
@@ -101,7 +101,7 @@ module _ (limit most : ℕ) (v : Variables) (index grows g shrinks : ℕ) (t w :
     all_small = All-set (λ n. n < 4294967296) v.sizes index size (omega (arith, small, short)) sized.small
 
     pub state_kept : (state : ℕ) → index < v.states → state + shrinks ≡ v.state_size + grows → state ≤ limit
-        → (kept limit v.states v.values index w ≡ Ok (slice_set v.values index w)) × AreSized (record { values = slice_set v.values index w; states = v.states; sizes = slice_set v.sizes index size; state_size = state })
+        → (replace_variable limit v.states v.values index w ≡ Ok (slice_set v.values index w)) × AreSized (record { values = slice_set v.values index w; states = v.states; sizes = slice_set v.sizes index size; state_size = state })
     state_kept state inside was within =
         let state_is : state ≡ size_of_values (take v.states (slice_set v.values index w)) = omega (arith, was, sized.state, state_size v.values index v.states t w inside there, grows_so, same) in (
           is_kept limit v.states v.values index w (omega (arith, size_is, small)) (λ _. omega (arith, state_is, within)),
@@ -109,7 +109,7 @@ module _ (limit most : ℕ) (v : Variables) (index grows g shrinks : ℕ) (t w :
         )
 
     pub other_kept : v.states ≤ index
-        → (kept limit v.states v.values index w ≡ Ok (slice_set v.values index w)) × AreSized (record { values = slice_set v.values index w; states = v.states; sizes = slice_set v.sizes index size; state_size = v.state_size })
+        → (replace_variable limit v.states v.values index w ≡ Ok (slice_set v.values index w)) × AreSized (record { values = slice_set v.values index w; states = v.states; sizes = slice_set v.sizes index size; state_size = v.state_size })
     other_kept outside = (
       is_kept limit v.states v.values index w (omega (arith, size_is, small)) (λ inside. absurd (omega (arith, inside, outside))),
       record { each = sizes_are; state = sized.state ∙ ap size_of_values (sym (take-set-le v.states v.values index w outside)); small = all_small; small_state = sized.small_state },
@@ -120,13 +120,13 @@ module _ (limit most : ℕ) (v : Variables) (index grows g shrinks : ℕ) (t w :
 module _ (limit states : ℕ) (values : List ValueTree) (place : CheckedPlace) (index : ℕ) (change : ValueTree → Raising ValueTree) (steps : List Step) (t old new : ValueTree)
     (at : index ≡ place.variable) (are : steps_of limit values (suffix_trees place.suffixes) ≡ Ok steps) (there : ok_or (slice_get values index) WrongChoice ≡ Ok t) (part : part_at steps t ≡ Ok old) (made : change old ≡ Ok new) where
   -- by the value that is made
-  pub stored_is : stored limit states values place change ≡ kept limit states values index (with_part steps new t)
+  pub stored_is : store_at limit states values place change ≡ replace_variable limit states values index (with_part steps new t)
   stored_is =
-      ap (λ i. and_then (steps_of limit values (suffix_trees place.suffixes)) (λ ss. and_then (ok_or (slice_get values i) WrongChoice) (λ u. and_then (part_at ss u) (λ o. and_then (change o) (λ n. kept limit states values i (with_part ss n u)))))) (sym at)
-      ∙ ap (λ r. and_then r (λ ss. and_then (ok_or (slice_get values index) WrongChoice) (λ u. and_then (part_at ss u) (λ o. and_then (change o) (λ n. kept limit states values index (with_part ss n u)))))) are
-      ∙ ap (λ r. and_then r (λ u. and_then (part_at steps u) (λ o. and_then (change o) (λ n. kept limit states values index (with_part steps n u))))) there
-      ∙ ap (λ r. and_then r (λ o. and_then (change o) (λ n. kept limit states values index (with_part steps n t)))) part
-      ∙ ap (λ r. and_then r (λ n. kept limit states values index (with_part steps n t))) made
+      ap (λ i. and_then (steps_of limit values (suffix_trees place.suffixes)) (λ ss. and_then (ok_or (slice_get values i) WrongChoice) (λ u. and_then (part_at ss u) (λ o. and_then (change o) (λ n. replace_variable limit states values i (with_part ss n u)))))) (sym at)
+      ∙ ap (λ r. and_then r (λ ss. and_then (ok_or (slice_get values index) WrongChoice) (λ u. and_then (part_at ss u) (λ o. and_then (change o) (λ n. replace_variable limit states values index (with_part ss n u)))))) are
+      ∙ ap (λ r. and_then r (λ u. and_then (part_at steps u) (λ o. and_then (change o) (λ n. replace_variable limit states values index (with_part steps n u))))) there
+      ∙ ap (λ r. and_then r (λ o. and_then (change o) (λ n. replace_variable limit states values index (with_part steps n t)))) part
+      ∙ ap (λ r. and_then r (λ n. replace_variable limit states values index (with_part steps n t))) made
 
 pub small_variable : (v : Variables) (index : ℕ) (t : ValueTree) → AreSized v → slice_get v.values index ≡ Some t → external_size t < 4294967296
 small_variable v index t sized there =
@@ -170,7 +170,7 @@ module _ (limit most : ℕ) (v : Variables) (index : ℕ) (change : ValueTree �
 pub raised : (r : Result (Unit {0}) NoValue) (meant : Raising (List ValueTree)) (v : Variables) (e : LanguageError) → IsErr r × IsErrAnd r (λ f. f ≡ Raises e) → meant ≡ Err e → Changed r meant v v
 raised r meant v e p same = rw (handed_on r (Raises e) p) (same, refl)
 
-pub too_great : (r : Result Sizes LanguageError) (limit : ℕ) (v : Variables) (index : ℕ) (w : ValueTree) (e : LanguageError) → IsErr r × IsErrAnd r (λ f. f ≡ e) → e ≡ TooLong → kept limit v.states v.values index w ≡ Err TooLong → Resized limit v index w r
+pub too_great : (r : Result Sizes LanguageError) (limit : ℕ) (v : Variables) (index : ℕ) (w : ValueTree) (e : LanguageError) → IsErr r × IsErrAnd r (λ f. f ≡ e) → e ≡ TooLong → replace_variable limit v.states v.values index w ≡ Err TooLong → Resized limit v index w r
 too_great r limit v index w e p long is = rw (handed_on r e p, long) is
 
 -- what is true of the value that is there

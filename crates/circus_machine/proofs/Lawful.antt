@@ -22,8 +22,8 @@ use Rattle.circus_checked.specs.WellTyped.{EachGives, EachTakes, Take, IsTyped, 
 use Rattle.circus_checked.specs.WellTyped as w
 use Rattle.circus_evaluate.specs.Got.{Got, Raising, got_of, truth_of}
 use Rattle.circus_evaluate.specs.Evaluating.{evaluate}
-use Rattle.circus_machine.specs.Storing.{stored_over, appended_over, stored}
-use Rattle.circus_machine.specs.Meaning.{Going, Flow, goes_on, ends, then_does, raising, leaving, assigned, stores, filled, tested, left_with, takes, called, turns, answered, does, does_all, handled}
+use Rattle.circus_machine.specs.Storing.{stored_over, appended_over, store_at}
+use Rattle.circus_machine.specs.Meaning.{Going, Flow, goes_on, ends, then_does, value_or_end, leave_together, assign_value, stores, fill_places, test_condition, left_with, takes, make_call, turns, after_reply, does, does_all, handled}
 use Rattle.circus_evaluate.specs.Typed.{IsGot, Hold}
 use Rattle.circus_machine.specs.Modules.{trees, IsImported, Takes, Raises, Reports}
 use Rattle.circus_evaluate.proofs.Sound.{gives, got_is}
@@ -55,45 +55,45 @@ module _ (signature : Signature) (p : ProcedureShape) (shapes : List ShapeTree) 
   -- ---- what is stored
 
   assigned_goes : (n : ℕ) (place : CheckedPlace) (u : ShapeTree) (change : ValueTree → Raising ValueTree) (variables : List ValueTree) (steps : ℕ) → Holds shapes place u → ((old : ValueTree) → IsTrue (fits u old) → IfOk (change old) (λ new. IsTrue (fits u new)))
-      → Well signature p shapes states variables → Goes n (λ replies. assigned limit states place change (going_with variables steps n replies))
+      → Well signature p shapes states variables → Goes n (λ replies. assign_value limit states place change (going_with variables steps n replies))
   assigned_goes n place u change variables steps holds so well =
-      raised signature p shapes states alone nothing (Well signature p shapes states) n (stored limit states variables place change) variables steps (λ after replies. goes_on (going_with after steps n replies))
+      raised signature p shapes states alone nothing (Well signature p shapes states) n (store_at limit states variables place change) variables steps (λ after replies. goes_on (going_with after steps n replies))
       (stored_well limit states shapes variables place u change holds well so) well (λ after still. goes n after steps still)
 
   stores_goes : (n : ℕ) (place : CheckedPlace) (u s : ShapeTree) (change : Got → ValueTree → Raising ValueTree) (e : ExpressionTree) (variables : List ValueTree) (steps : ℕ) → Holds shapes place u → Has shapes e (sort_of s)
       → ((x : Got) (old : ValueTree) → IsGot (sort_of s) x → IsTrue (fits u old) → IfOk (change x old) (λ new. IsTrue (fits u new))) → Well signature p shapes states variables → Goes n (λ replies. stores limit states place change e (going_with variables steps n replies))
   stores_goes n place u s change e variables steps holds has so well =
-      in_step signature p shapes states alone nothing n variables steps (λ d. then_does (raising (evaluate limit d.variables e) d) (λ x. assigned limit states place (change x) d)) well
+      in_step signature p shapes states alone nothing n variables steps (λ d. then_does (value_or_end (evaluate limit d.variables e) d) (λ x. assign_value limit states place (change x) d)) well
       (λ left.
-      raised signature p shapes states alone nothing (IsGot (sort_of s)) n (evaluate limit variables e) variables left (λ x replies. assigned limit states place (change x) (going_with variables left n replies))
+      raised signature p shapes states alone nothing (IsGot (sort_of s)) n (evaluate limit variables e) variables left (λ x replies. assign_value limit states place (change x) (going_with variables left n replies))
       (gives limit shapes variables well.hold e (sort_of s) has) well (λ x is. assigned_goes n place u (change x) variables left holds (λ old fit. so x old is fit) well))
 
   -- values go where they are taken
   filled_goes : (n : ℕ) (places : List CheckedPlace) (given : List ShapeTree) (ts : List ValueTree) (variables : List ValueTree) (steps : ℕ) → EachTakes shapes places given → Hold given ts → Well signature p shapes states variables
-      → Goes n (λ replies. filled limit states places ts (going_with variables steps n replies))
+      → Goes n (λ replies. fill_places limit states places ts (going_with variables steps n replies))
   filled_goes n _ _ ts variables steps w.no_places hold well = goes n variables steps well
   filled_goes n _ _ [] variables steps (w.more_places place places t s given holds same rest) hold well = absurd hold
   filled_goes n _ _ (u ∷ ts) variables steps (w.more_places place places t s given holds same rest) hold well =
-      behind signature p shapes states alone nothing alone nothing (filled limit states places ts) n (λ replies. assigned limit states place (stored_over (got_of u)) (going_with variables steps n replies))
+      behind signature p shapes states alone nothing alone nothing (fill_places limit states places ts) n (λ replies. assign_value limit states place (stored_over (got_of u)) (going_with variables steps n replies))
       (assigned_goes n place t (stored_over (got_of u)) variables steps holds (λ old fit. over_fits t (got_of u) old (subst (λ x. IsGot x (got_of u)) (sym same) (got_is s u hold.0)) fit) well)
       (λ m _ after left _ still. filled_goes m places given ts after left rest hold.1 still)
 
   take_goes : (n : ℕ) (places : List CheckedPlace) (given : List ShapeTree) (ts : List ValueTree) (variables : List ValueTree) (steps : ℕ) → Take shapes places given → Hold given ts → Well signature p shapes states variables
-      → Goes n (λ replies. filled limit states places ts (going_with variables steps n replies))
+      → Goes n (λ replies. fill_places limit states places ts (going_with variables steps n replies))
   take_goes n _ _ ts variables steps (w.dropped given) hold well = goes n variables steps well
   take_goes n _ _ ts variables steps (w.taken places given each) hold well = filled_goes n places given ts variables steps each hold well
 
   -- where there are no values nothing is stored
-  none_goes : (n : ℕ) (places : List CheckedPlace) (variables : List ValueTree) (steps : ℕ) → Well signature p shapes states variables → Goes n (λ replies. filled limit states places [] (going_with variables steps n replies))
+  none_goes : (n : ℕ) (places : List CheckedPlace) (variables : List ValueTree) (steps : ℕ) → Well signature p shapes states variables → Goes n (λ replies. fill_places limit states places [] (going_with variables steps n replies))
   none_goes n [] variables steps well = goes n variables steps well
   none_goes n (place ∷ places) variables steps well = goes n variables steps well
 
   -- ---- conditions, values that leave, and calls
 
   tested_goes : (n : ℕ) (e : ExpressionTree) (variables : List ValueTree) (steps : ℕ) → Has shapes e a_truth → Well signature p shapes states variables
-      → Behaves signature p shapes states (beside {A = Bool}) (λ _. Unit {0}) n (λ replies. tested limit states e (going_with variables steps n replies))
+      → Behaves signature p shapes states (beside {A = Bool}) (λ _. Unit {0}) n (λ replies. test_condition limit states e (going_with variables steps n replies))
   tested_goes n e variables steps has well =
-      in_step signature p shapes states (beside {A = Bool}) (λ _. Unit {0}) n variables steps (λ d. then_does (raising (evaluate limit d.variables e) d) (λ x. goes_on (truth_of x, d))) well
+      in_step signature p shapes states (beside {A = Bool}) (λ _. Unit {0}) n variables steps (λ d. then_does (value_or_end (evaluate limit d.variables e) d) (λ x. goes_on (truth_of x, d))) well
       (λ left.
       raised signature p shapes states (beside {A = Bool}) (λ _. Unit {0}) (IsGot a_truth) n (evaluate limit variables e) variables left (λ x replies. goes_on (truth_of x, going_with variables left n replies))
       (gives limit shapes variables well.hold e a_truth has) well (λ x is. on n (λ replies. goes_on (truth_of x, going_with variables left n replies)) (truth_of x) variables left tt well (λ replies. refl)))
@@ -104,9 +104,9 @@ module _ (signature : Signature) (p : ProcedureShape) (shapes : List ShapeTree) 
   left_goes : (n : ℕ) (es : List ExpressionTree) (given : List ShapeTree) (variables : List ValueTree) (steps : ℕ) → EachGives shapes es given → Well signature p shapes states variables
       → Behaves signature p shapes states (beside {A = List ValueTree}) (Leave given) n (λ replies. left_with limit states es (going_with variables steps n replies))
   left_goes n es given variables steps each well =
-      in_step signature p shapes states (beside {A = List ValueTree}) (Leave given) n variables steps (λ d. then_does (raising (leaving limit states es d.variables) d) (λ ts. goes_on (ts, d))) well
+      in_step signature p shapes states (beside {A = List ValueTree}) (Leave given) n variables steps (λ d. then_does (value_or_end (leave_together limit states es d.variables) d) (λ ts. goes_on (ts, d))) well
       (λ left.
-      raised signature p shapes states (beside {A = List ValueTree}) (Leave given) (Leave given) n (leaving limit states es variables) variables left (λ ts replies. goes_on (ts, going_with variables left n replies))
+      raised signature p shapes states (beside {A = List ValueTree}) (Leave given) (Leave given) n (leave_together limit states es variables) variables left (λ ts replies. goes_on (ts, going_with variables left n replies))
       (leaving_given limit shapes variables well.hold states es given each) well (λ ts leave. on n (λ replies. goes_on (ts, going_with variables left n replies)) ts variables left leave well (λ replies. refl)))
 
   module _ (callee procedure : ℕ) (q : ProcedureShape) (imported : IsImported signature.imports callee procedure q) where
@@ -125,7 +125,7 @@ module _ (signature : Signature) (p : ProcedureShape) (shapes : List ShapeTree) 
     takes_goes false n ts variables steps few leave well = failing signature p shapes states (beside {A = Outcome}) Replies n CallLimit variables well
 
     called_goes : (n : ℕ) (es : List ExpressionTree) (variables : List ValueTree) (steps : ℕ) → EachGives shapes es (trees q.arguments) → Well signature p shapes states variables
-        → Behaves signature p shapes states (beside {A = Outcome}) Replies n (λ replies. called limit states callee procedure es (going_with variables steps n replies))
+        → Behaves signature p shapes states (beside {A = Outcome}) Replies n (λ replies. make_call limit states callee procedure es (going_with variables steps n replies))
     called_goes n es variables steps each well =
         behind signature p shapes states (beside {A = List ValueTree}) (Leave (trees q.arguments)) (beside {A = Outcome}) Replies
         (λ x. if nat_lt x.1.asks most_asks then takes callee procedure x.0 x.1.replies x.1 else ends (Raised 60006 []) x.1.variables) n (λ replies. left_with limit states es (going_with variables steps n replies))
@@ -144,7 +144,7 @@ module _ (signature : Signature) (p : ProcedureShape) (shapes : List ShapeTree) 
   turns_goes : (most : ℕ) (e : ExpressionTree) (body : Going → Flow Going) → Has shapes e a_truth → Safe body → Safe (turns limit states most e body)
   turns_goes zero e body has safe n variables steps well = failing signature p shapes states alone nothing n StepLimit variables well
   turns_goes (suc most) e body has safe n variables steps well =
-      behind signature p shapes states (beside {A = Bool}) (λ _. Unit {0}) alone nothing (λ x. if x.0 then then_does (body x.1) (turns limit states most e body) else goes_on x.1) n (λ replies. tested limit states e (going_with variables steps n replies))
+      behind signature p shapes states (beside {A = Bool}) (λ _. Unit {0}) alone nothing (λ x. if x.0 then then_does (body x.1) (turns limit states most e body) else goes_on x.1) n (λ replies. test_condition limit states e (going_with variables steps n replies))
       (tested_goes n e variables steps has well)
       (λ m b after left _ still.
       by_truth b m (λ replies. then_does (body (going_with after left m replies)) (turns limit states most e body)) (λ replies. goes_on (going_with after left m replies))
@@ -160,11 +160,11 @@ module _ (signature : Signature) (p : ProcedureShape) (shapes : List ShapeTree) 
     raises_same : Raises q.errors number given
     raises_same = subst (λ r. Raises r.errors number given) (same_imported signature.imports callee procedure reports.shape q reports.imported imported) reports.raises
 
-    named_goes : (places : List CheckedPlace) (ts : List ValueTree) → Take shapes places given → IsTrue (outcome_fits q (Raised number ts)) → Safe (filled limit states places ts)
+    named_goes : (places : List CheckedPlace) (ts : List ValueTree) → Take shapes places given → IsTrue (outcome_fits q (Raised number ts)) → Safe (fill_places limit states places ts)
     named_goes places ts take fits n variables steps well =
         elim (or_cases (is_reported q.errors number ts) (is_raised_by_language number ts) fits) [
           | inl reported ↦ take_goes n places given ts variables steps take (reported_holds q.errors number given ts raises_same reported) well
-          | inr language ↦ subst (λ us. Goes n (λ replies. filled limit states places us (going_with variables steps n replies))) (sym (language_alone number ts language)) (none_goes n places variables steps well)
+          | inr language ↦ subst (λ us. Goes n (λ replies. fill_places limit states places us (going_with variables steps n replies))) (sym (language_alone number ts language)) (none_goes n places variables steps well)
         ]
 
   abbrev Typed : StatementTree → Type 0
@@ -180,25 +180,25 @@ module _ (signature : Signature) (p : ProcedureShape) (shapes : List ShapeTree) 
   abbrev Handles : ProcedureShape → (ℕ → List ValueTree → Going → Flow Going) → Type 0
   Handles q handle = (error : ℕ) (ts : List ValueTree) → IsTrue (outcome_fits q (Raised error ts)) → Safe (handle error ts)
 
-  answered_goes : (q : ProcedureShape) (places : List CheckedPlace) (handle : ℕ → List ValueTree → Going → Flow Going) → Take shapes places (trees q.results) → Handles q handle → (reply : Outcome) → IsTrue (outcome_fits q reply) → Safe (answered limit states places handle reply)
+  answered_goes : (q : ProcedureShape) (places : List CheckedPlace) (handle : ℕ → List ValueTree → Going → Flow Going) → Take shapes places (trees q.results) → Handles q handle → (reply : Outcome) → IsTrue (outcome_fits q reply) → Safe (after_reply limit states places handle reply)
   answered_goes q places handle take each (Returned ts) fits n variables steps well = take_goes n places (trees q.results) ts variables steps take (fit_hold q.results ts fits) well
   answered_goes q places handle take each (Raised error ts) fits n variables steps well = each error ts fits n variables steps well
 
   call_goes : (callee procedure : ℕ) (es : List ExpressionTree) (places : List CheckedPlace) (handlers : HandlerTrees) (arguments results : List ShapeTree) → Takes signature.imports callee procedure arguments results → EachGives shapes es arguments → Take shapes places results
       → ((q : ProcedureShape) → IsImported signature.imports callee procedure q → Handles q (handled limit states handlers))
-      → Safe (λ c. then_does (called limit states callee procedure es c) (λ x. answered limit states places (handled limit states handlers) x.0 x.1))
+      → Safe (λ c. then_does (make_call limit states callee procedure es c) (λ x. after_reply limit states places (handled limit states handlers) x.0 x.1))
   call_goes callee procedure es places handlers arguments results takes each take handles n variables steps well =
       let q = takes.shape in
-      behind signature p shapes states (beside {A = Outcome}) (λ reply. IsTrue (outcome_fits q reply)) alone nothing (λ x. answered limit states places (handled limit states handlers) x.0 x.1) n
-      (λ replies. called limit states callee procedure es (going_with variables steps n replies))
+      behind signature p shapes states (beside {A = Outcome}) (λ reply. IsTrue (outcome_fits q reply)) alone nothing (λ x. after_reply limit states places (handled limit states handlers) x.0 x.1) n
+      (λ replies. make_call limit states callee procedure es (going_with variables steps n replies))
       (called_goes callee procedure q takes.imported n es variables steps (subst (EachGives shapes es) (sym takes.takes) each) well)
       (λ m reply after left fits still. answered_goes q places (handled limit states handlers) (subst (Take shapes places) (sym takes.gives) take) (handles q takes.imported) reply fits m after left still)
 
   -- the handler of an error, or the ones behind it
-  handler_goes : (is : Bool) (places : List CheckedPlace) (ss : StatementTrees) (ts : List ValueTree) (others : Going → Flow Going) → (is ≡ true → Safe (filled limit states places ts)) → Safe (does_all limit states ss) → Safe others
-      → Safe (λ c. if is then then_does (filled limit states places ts c) (does_all limit states ss) else others c)
+  handler_goes : (is : Bool) (places : List CheckedPlace) (ss : StatementTrees) (ts : List ValueTree) (others : Going → Flow Going) → (is ≡ true → Safe (fill_places limit states places ts)) → Safe (does_all limit states ss) → Safe others
+      → Safe (λ c. if is then then_does (fill_places limit states places ts c) (does_all limit states ss) else others c)
   handler_goes true places ss ts others fills body rest n variables steps well =
-      behind signature p shapes states alone nothing alone nothing (does_all limit states ss) n (λ replies. filled limit states places ts (going_with variables steps n replies)) (fills refl n variables steps well) (λ m _ after left _ still. body m after left still)
+      behind signature p shapes states alone nothing alone nothing (does_all limit states ss) n (λ replies. fill_places limit states places ts (going_with variables steps n replies)) (fills refl n variables steps well) (λ m _ after left _ still. body m after left still)
   handler_goes false places ss ts others fills body rest n variables steps well = rest n variables steps well
 
   mutual
@@ -208,7 +208,7 @@ module _ (signature : Signature) (p : ProcedureShape) (shapes : List ShapeTree) 
     does_safe _ (w.append e place bound t holds has) n variables steps well =
         stores_goes n place (shape.sequence bound t) t (appended_over bound (kind_of t)) e variables steps holds has (λ x old is fit. append_fits bound t x old is fit) well
     does_safe _ (w.branch e ss others has first second) n variables steps well =
-        behind signature p shapes states (beside {A = Bool}) (λ _. Unit {0}) alone nothing (λ x. if x.0 then does_all limit states ss x.1 else does_all limit states others x.1) n (λ replies. tested limit states e (going_with variables steps n replies))
+        behind signature p shapes states (beside {A = Bool}) (λ _. Unit {0}) alone nothing (λ x. if x.0 then does_all limit states ss x.1 else does_all limit states others x.1) n (λ replies. test_condition limit states e (going_with variables steps n replies))
         (tested_goes n e variables steps has well)
         (λ m b after left _ still.
         by_truth b m (λ replies. does_all limit states ss (going_with after left m replies)) (λ replies. does_all limit states others (going_with after left m replies))
@@ -236,7 +236,7 @@ module _ (signature : Signature) (p : ProcedureShape) (shapes : List ShapeTree) 
     handled_safe : (callee procedure : ℕ) (hs : HandlerTrees) → HandlersTyped callee procedure hs → (q : ProcedureShape) → IsImported signature.imports callee procedure q → Handles q (handled limit states hs)
     handled_safe _ _ _ (w.nothing callee procedure) q imported error ts fits n variables steps well = unhandled_goes (is_language_error error) error n variables refl well
     handled_safe _ _ _ (w.other callee procedure ss hs body rest) q imported error ts fits n variables steps well =
-        behind signature p shapes states alone nothing alone nothing (does_all limit states ss) n (λ replies. filled limit states [] ts (going_with variables steps n replies)) (goes n variables steps well) (λ m _ after left _ still. does_all_safe ss body m after left still)
+        behind signature p shapes states alone nothing alone nothing (does_all limit states ss) n (λ replies. fill_places limit states [] ts (going_with variables steps n replies)) (goes n variables steps well) (λ m _ after left _ still. does_all_safe ss body m after left still)
     handled_safe _ _ _ (w.named callee procedure number places ss hs values reports take body rest) q imported error ts fits n variables steps well =
         handler_goes (number == error) places ss ts (handled limit states hs error ts)
         (λ same. named_goes callee procedure number q imported values reports places ts take (subst (λ e. IsTrue (outcome_fits q (Raised e ts))) (sym (eqb-true number error same)) fits))

@@ -7,10 +7,10 @@ use Rattle.circus_value.specs.declared.outcome.Outcome.{Outcome}
 use Rattle.circus_model.specs.declared.language_error.LanguageError.{LanguageError}
 use Rattle.circus_checked.specs.declared.expression.CheckedPlace.{CheckedPlace}
 use Rattle.circus_evaluate.specs.Got.{Got, Raising, got_of}
-use Rattle.circus_machine.specs.Storing.{stored, stored_over}
-use Rattle.circus_machine.specs.Meaning.{Going, Flow, goes_on, then_does, fails, raising, with_variables, assigned, filled}
+use Rattle.circus_machine.specs.Storing.{store_at, stored_over}
+use Rattle.circus_machine.specs.Meaning.{Going, Flow, goes_on, then_does, fails, value_or_end, with_variables, assign_value, fill_places}
 use Rattle.circus_machine.specs.Seen.Changing.{Changed}
-use Rattle.circus_machine.specs.Seen.Running.{going, Keeps, Does, nothing}
+use Rattle.circus_machine.specs.Seen.Running.{going_of, Keeps, Does, nothing}
 use Rattle.circus_evaluate.specs.declared.got.NoValue.{NoValue}
 use Rattle.circus_evaluate.specs.declared.got.NoValue.TheVariants.{Raises, NoMemory}
 use Rattle.circus_machine.specs.declared.store.Variables.{Variables}
@@ -24,13 +24,13 @@ pub then_fails : {X Y : Type 0} (f : Flow X) (e : LanguageError) (v : List Value
 then_fails f e v g is = ap (λ r. then_does r g) is
 
 module _ (limit states : ℕ) where
-  pub assigned_goes : (p : CheckedPlace) (change : ValueTree → Raising ValueTree) (c : Going) (vs : List ValueTree) → stored limit states c.variables p change ≡ Ok vs → assigned limit states p change c ≡ goes_on (with_variables c vs)
-  assigned_goes p change c vs is = ap (λ r. then_does (raising r c) (λ variables. goes_on (with_variables c variables))) is
+  pub assigned_goes : (p : CheckedPlace) (change : ValueTree → Raising ValueTree) (c : Going) (vs : List ValueTree) → store_at limit states c.variables p change ≡ Ok vs → assign_value limit states p change c ≡ goes_on (with_variables c vs)
+  assigned_goes p change c vs is = ap (λ r. then_does (value_or_end r c) (λ variables. goes_on (with_variables c variables))) is
 
-  pub assigned_fails : (p : CheckedPlace) (change : ValueTree → Raising ValueTree) (c : Going) (e : LanguageError) → stored limit states c.variables p change ≡ Err e → assigned limit states p change c ≡ fails e c.variables
-  assigned_fails p change c e is = ap (λ r. then_does (raising r c) (λ variables. goes_on (with_variables c variables))) is
+  pub assigned_fails : (p : CheckedPlace) (change : ValueTree → Raising ValueTree) (c : Going) (e : LanguageError) → store_at limit states c.variables p change ≡ Err e → assign_value limit states p change c ≡ fails e c.variables
+  assigned_fails p change c e is = ap (λ r. then_does (value_or_end r c) (λ variables. goes_on (with_variables c variables))) is
 
-  pub filled_none : (ps : List CheckedPlace) (c : Going) → filled limit states ps [] c ≡ goes_on c
+  pub filled_none : (ps : List CheckedPlace) (c : Going) → fill_places limit states ps [] c ≡ goes_on c
   filled_none [] c = refl
   filled_none (p ∷ ps) c = refl
 
@@ -57,11 +57,11 @@ take_get xs i x done more is so_far grown =
 
 -- the first place that is left is filled
 pub filled_step : (limit states : ℕ) (ps : List CheckedPlace) (ts : List ValueTree) (i : ℕ) (p : CheckedPlace) (t : ValueTree) (g : Got) (c : Going) → i < length ps → p ≡ get_or ps i p → slice_get ts i ≡ Some t → g ≡ got_of t
-    → filled limit states (drop i ps) (drop i ts) c ≡ then_does (assigned limit states p (stored_over g) c) (filled limit states (drop (i + 1) ps) (drop (i + 1) ts))
+    → fill_places limit states (drop i ps) (drop i ts) c ≡ then_does (assign_value limit states p (stored_over g) c) (fill_places limit states (drop (i + 1) ps) (drop (i + 1) ts))
 filled_step limit states ps ts i p t g c few is there same =
-    ap (λ qs. filled limit states qs (drop i ts) c) (drop_more ps i p few ∙ ap (λ q. q ∷ drop (i + 1) ps) (sym is))
-    ∙ ap (λ us. filled limit states (p ∷ drop (i + 1) ps) us c) (drop_get ts i t there)
-    ∙ ap (λ x. then_does (assigned limit states p (stored_over x) c) (filled limit states (drop (i + 1) ps) (drop (i + 1) ts))) (sym same)
+    ap (λ qs. fill_places limit states qs (drop i ts) c) (drop_more ps i p few ∙ ap (λ q. q ∷ drop (i + 1) ps) (sym is))
+    ∙ ap (λ us. fill_places limit states (p ∷ drop (i + 1) ps) us c) (drop_get ts i t there)
+    ∙ ap (λ x. then_does (assign_value limit states p (stored_over x) c) (fill_places limit states (drop (i + 1) ps) (drop (i + 1) ts))) (sym same)
 
 -- ---- what was done
 
@@ -69,7 +69,7 @@ keeps_more : (old mid new : Execution) → Keeps old mid → Keeps mid new → K
 keeps_more old mid new first second = record { states = second.states ∙ first.states; sized = second.sized }
 
 -- a part that does from a later execution on what another one does
-pub does_from : {A X : Type 0} (view : A → Going → X) (part rest : Going → Flow X) (result : Result A NoValue) (old mid new : Execution) → Keeps old mid → ((replies : List Outcome) → part (going old replies) ≡ rest (going mid replies))
+pub does_from : {A X : Type 0} (view : A → Going → X) (part rest : Going → Flow X) (result : Result A NoValue) (old mid new : Execution) → Keeps old mid → ((replies : List Outcome) → part (going_of old replies) ≡ rest (going_of mid replies))
     → Does view rest result mid new → Does view part result old new
 does_from view part rest (Ok a) old mid new kept same done = (keeps_more old mid new kept done.0, λ replies. same replies ∙ done.1 replies)
 does_from view part rest (Err (Raises error)) old mid new kept same done = (done.0 ∙ kept.states, λ replies. same replies ∙ done.1 replies)
@@ -77,7 +77,7 @@ does_from view part rest (Err NoMemory) old mid new kept same done = tt
 
 -- what stopped the first part stops both
 pub does_not : {A B X Y : Type 0} (view : A → Going → X) (other : B → Going → Y) (part : Going → Flow X) (more : X → Flow Y) (e : NoValue) (old new : Execution) → Does view part (Err e) old new → Does other (λ c. then_does (part c) more) (Err e) old new
-does_not view other part more (Raises error) old new done = (done.0, λ replies. then_fails (part (going old replies)) error new.variables.values more (done.1 replies))
+does_not view other part more (Raises error) old new done = (done.0, λ replies. then_fails (part (going_of old replies)) error new.variables.values more (done.1 replies))
 does_not view other part more NoMemory old new done = tt
 
 pub stops : {A X : Type 0} (view : A → Going → X) (part : Going → Flow X) (r : Result A NoValue) (e : NoValue) (old new : Execution) → IsErr r × IsErrAnd r (λ f. f ≡ e) → Does view part (Err e) old new → Does view part r old new
@@ -85,11 +85,11 @@ stops view part r e old new p done = rw (handed_on r e p) done
 
 -- a change of the variables is an assignment
 pub change_does : (limit : ℕ) (result : Result (Unit {0}) NoValue) (e : Execution) (after : Variables) (p : CheckedPlace) (change : ValueTree → Raising ValueTree)
-    → Changed result (stored limit e.variables.states e.variables.values p change) e.variables after → Does nothing (assigned limit e.variables.states p change) result e (record { variables = after; steps = e.steps; asks = e.asks })
+    → Changed result (store_at limit e.variables.states e.variables.values p change) e.variables after → Does nothing (assign_value limit e.variables.states p change) result e (record { variables = after; steps = e.steps; asks = e.asks })
 change_does limit (Ok done) e after p change changed =
-    (record { states = changed.1.0; sized = changed.1.1 }, λ replies. assigned_goes limit e.variables.states p change (going e replies) after.values changed.0)
+    (record { states = changed.1.0; sized = changed.1.1 }, λ replies. assigned_goes limit e.variables.states p change (going_of e replies) after.values changed.0)
 change_does limit (Err (Raises error)) e after p change changed = (
   ap (λ (v : Variables). v.states) changed.1,
-  λ replies. assigned_fails limit e.variables.states p change (going e replies) error changed.0 ∙ ap (λ (v : Variables). fails error v.values) (sym changed.1),
+  λ replies. assigned_fails limit e.variables.states p change (going_of e replies) error changed.0 ∙ ap (λ (v : Variables). fails error v.values) (sym changed.1),
 )
 change_does limit (Err NoMemory) e after p change changed = tt

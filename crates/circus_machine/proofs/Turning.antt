@@ -10,10 +10,10 @@ use Rattle.circus_model.specs.NextTurn as next_turn
 use Rattle.circus_model.specs.declared.turn.Turn.{Turn}
 use Rattle.circus_model.specs.declared.turn.Turn.TheVariants as T
 use Rattle.circus_machine.specs.Meaning.{Going, Flow, goes_on, ends, turn_by}
-use Rattle.circus_machine.specs.Seen.Code.{Act, ask, replied, Follows}
+use Rattle.circus_machine.specs.Seen.Code.{Act, ask, reply_place, Follows}
 use Rattle.circus_machine.specs.declared.execution.Execution.{Execution}
 use Rattle.circus_machine.specs.declared.run.Paused.{Paused}
-use Rattle.circus_machine.specs.Seen.Running.{going, Awaits}
+use Rattle.circus_machine.specs.Seen.Running.{going_of, Awaits}
 use Rattle.circus_machine.specs.Bodies.{Stands, Pauses}
 use Rattle.circus_value.specs.ValueTree.{ValueTree}
 use Rattle.circus_checked.specs.StatementTree.{StatementTree}
@@ -32,7 +32,7 @@ module _ {P : Type 0} (S : P → Type 0) (limit states : ℕ) (flow : Flow Going
 
 -- where the machine goes, where it asked with this instruction
 abbrev pub after_reply : ℕ → ℕ → ℕ → Outcome → Going → Act → Flow (ℕ × Going)
-after_reply limit states at reply c (ask callee procedure es into table skip) = replied limit states at into table skip reply c
+after_reply limit states at reply c (ask callee procedure es into table skip) = reply_place limit states at into table skip reply c
 after_reply limit states at reply c a = goes_on (at, c)
 
 -- a step, or a way ahead
@@ -61,7 +61,7 @@ awaits_same limit states code one other same paused a = record {
   stands = a.stands;
   kept = a.kept;
   sized = a.sized;
-  goes = λ reply replies. subst (λ f. Follows limit states code f (replied limit states paused.place a.into a.table a.skip reply (going paused.execution replies))) (same reply replies) (a.goes reply replies);
+  goes = λ reply replies. subst (λ f. Follows limit states code f (reply_place limit states paused.place a.into a.table a.skip reply (going_of paused.execution replies))) (same reply replies) (a.goes reply replies);
 }
 
 -- what is paused goes on with the body

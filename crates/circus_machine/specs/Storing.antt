@@ -37,18 +37,18 @@ appended_over bound k x old = and_then (as_item k x) (λ t. with_more bound t ol
 -- a module has a limit for values and for its state, which are the first so many variables
 module _ (limit states : ℕ) where
   -- the variables with another value of one, if neither it nor the state is above the limit
-  abbrev pub kept : List ValueTree → ℕ → ValueTree → Raising (List ValueTree)
-  kept variables place t =
+  abbrev pub replace_variable : List ValueTree → ℕ → ValueTree → Raising (List ValueTree)
+  replace_variable variables place t =
       if nat_le (external_size t) limit && (not (nat_lt place states) || nat_le (size_of_values (take states (slice_set variables place t))) limit)
       then Ok (slice_set variables place t)
       else Err TooLong
 
   -- what stands at a place is replaced by what this makes of it: the subscripts are evaluated, then the place is gone into, then
   -- the value is made and stored
-  abbrev pub stored : List ValueTree → CheckedPlace → (ValueTree → Raising ValueTree) → Raising (List ValueTree)
-  stored variables place change =
+  abbrev pub store_at : List ValueTree → CheckedPlace → (ValueTree → Raising ValueTree) → Raising (List ValueTree)
+  store_at variables place change =
       and_then (steps_of limit variables (suffix_trees place.suffixes)) (λ steps.
       and_then (ok_or (slice_get variables place.variable) WrongChoice) (λ t.
       and_then (part_at steps t) (λ old.
       and_then (change old) (λ new.
-      kept variables place.variable (with_part steps new t)))))
+      replace_variable variables place.variable (with_part steps new t)))))

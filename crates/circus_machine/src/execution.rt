@@ -41,7 +41,7 @@ impl Execution {
     // Counts a step, or raises an error where none is left.
     fn count(&mut self) -> Result<(), NoValue>
         requires { AreSized self.old.variables }
-        ensures does { Does nothing meaning.stepped result self.old self.new }
+        ensures does { Does nothing meaning.count_step result self.old self.new }
         ensures fewer { OnOk result (self.new.steps < self.old.steps) }
     {
         if self.steps == 0 {
@@ -80,7 +80,7 @@ impl Execution {
     ) -> Result<bool, NoValue>
         requires { AreSized self.old.variables }
         ensures does { Does beside
-            (meaning.tested limit self.old.variables.states (tree_of condition.now)) result self.old
+            (meaning.test_condition limit self.old.variables.states (tree_of condition.now)) result self.old
             self.new }
         ensures fewer { OnOk result (self.new.steps < self.old.steps) }
     {
@@ -139,7 +139,7 @@ impl Execution {
     ) -> Result<(), NoValue>
         requires { AreSized self.old.variables }
         ensures { Does nothing
-            (meaning.filled limit self.old.variables.states places.now values.now) result self.old
+            (meaning.fill_places limit self.old.variables.states places.now values.now) result self.old
             self.new }
     {
         let mut number = 0;
@@ -147,7 +147,7 @@ impl Execution {
             let Some(value) = values.get(number) else {
                 return Ok(());
             };
-            let given = Got::of(value).apart()?;
+            let given = Got::of(value).detach()?;
             self.variables
                 .change(alloc, limit, place, Change::Assign, given)?;
             number += 1;
@@ -168,7 +168,7 @@ impl Execution {
         requires sized { AreSized self.old.variables }
         requires place { at < 4294967296 }
         ensures { Does beside
-            (acts.caught limit self.old.variables.states at
+            (acts.catch_place limit self.old.variables.states at
             (map catch_of catches.now) error values.now) result self.old self.new }
     {
         for catch in catches {
@@ -177,7 +177,7 @@ impl Execution {
                 return Ok(at + 1 + catch.offset as usize);
             }
         }
-        Err(NoValue::Raises(unhandled(error)))
+        Err(NoValue::Raises(unhandled_error(error)))
     }
 
     /// Where the execution goes on behind an ask at a place, by the reply. No step is counted. After `NoMemory` the
@@ -193,7 +193,7 @@ impl Execution {
         requires sized { AreSized self.old.variables }
         requires place { at < 4294967296 }
         ensures { Does beside
-            (acts.replied limit self.old.variables.states at asking.now.into
+            (acts.reply_place limit self.old.variables.states at asking.now.into
             (map catch_of asking.now.catches) asking.now.skip reply.now) result self.old self.new }
     {
         match reply {
@@ -275,7 +275,7 @@ impl Catch {
 }
 
 // What is raised where no handler is for an error: that error again, where the language raised it.
-fn unhandled(error: u16) -> LanguageError
+fn unhandled_error(error: u16) -> LanguageError
     ensures { number_of result ≡ if is_language_error error then error else number_of Unhandled }
 {
     LanguageError::of_number(error).unwrap_or(LanguageError::Unhandled)

@@ -5,7 +5,7 @@ ghost use Rattle.circus_value.specs.ValueTree.{ValueTree};
 ghost use Rattle.circus_checked.specs.declared.expression.CheckedPlace.{CheckedPlace};
 ghost use Rattle.circus_checked.specs.StatementTree.{StatementTrees};
 ghost use Rattle.circus_evaluate.specs.Got.{Got};
-ghost use Rattle.circus_machine.specs.Storing.{stored_over, appended_over, stored};
+ghost use Rattle.circus_machine.specs.Storing.{stored_over, appended_over, store_at};
 ghost use Rattle.circus_checked.specs.Sorts.{sort_of, kind_of, Holds};
 ghost use Rattle.circus_machine.specs.Meaning.{Going, does_all};
 ghost use Rattle.circus_evaluate.specs.Typed.{IsGot};
@@ -24,11 +24,11 @@ pub fn stored_values_keep_shapes()
     ensures assigned { (limit states : ℕ) (shapes : List ShapeTree) (variables : List ValueTree)
         (place : CheckedPlace) (s : ShapeTree) (x : Got)
         → AreWell limit states shapes variables → Holds shapes place s → IsGot (sort_of s) x
-        → IfOk (stored limit states variables place (stored_over x)) (AreWell limit states shapes) }
+        → IfOk (store_at limit states variables place (stored_over x)) (AreWell limit states shapes) }
     ensures appended { (limit states : ℕ) (shapes : List ShapeTree) (variables : List ValueTree)
         (place : CheckedPlace) (bound : ℕ) (s : ShapeTree) (x : Got)
         → AreWell limit states shapes variables → Holds shapes place (sequence bound s)
         → IsGot (sort_of s) x
-        → IfOk (stored limit states variables place (appended_over bound (kind_of s) x))
+        → IfOk (store_at limit states variables place (appended_over bound (kind_of s) x))
         (AreWell limit states shapes) }
 {}

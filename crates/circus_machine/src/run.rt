@@ -10,7 +10,7 @@ ghost use Rattle.circus_machine.specs.Meaning.{Going, Flow};
 ghost use Rattle.circus_machine.specs.Seen.Changing.{AreSized};
 ghost use Rattle.circus_machine.specs.Seen.Code as acts;
 ghost use Rattle.circus_machine.specs.Seen.Instructions.{acts_of};
-ghost use Rattle.circus_machine.specs.Seen.Running.{going, Awaits, StandsAtAsk};
+ghost use Rattle.circus_machine.specs.Seen.Running.{going_of, Awaits, StandsAtAsk};
 
 use crate::code::{Code, Instruction};
 use crate::execution::{Execution, Move};
@@ -29,7 +29,7 @@ pub struct Paused {
 
 impl Execution {
     // The end by this outcome.
-    fn ended(self, outcome: Outcome) -> Result<Turn<Paused>, NoMemory>
+    fn end_with(self, outcome: Outcome) -> Result<Turn<Paused>, NoMemory>
         ensures { IfOk result (λ turn.
             turn ≡ Ends outcome (take self.variables.states self.variables.values)) }
     {
@@ -40,12 +40,12 @@ impl Execution {
     }
 
     // The end by an error of the language.
-    fn failed(self, alloc: Global, error: LanguageError) -> Result<Turn<Paused>, NoMemory>
+    fn fail_with(self, alloc: Global, error: LanguageError) -> Result<Turn<Paused>, NoMemory>
         ensures { IfOk result (λ turn.
             turn ≡ Ends (Raised (number_of error) [])
             (take self.variables.states self.variables.values)) }
     {
-        self.ended(error.raised(alloc))
+        self.end_with(error.raised_outcome(alloc))
     }
 }
 
@@ -62,17 +62,17 @@ pub(crate) fn run(
     ensures { (flow : List Ended → Flow Going)
         → ((replies : List Ended)
         → acts.Comes limit execution.variables.states (acts_of code.now) (flow replies) place
-        (going execution replies))
+        (going_of execution replies))
         → IfOk result (Gives (Awaits limit execution.variables.states (acts_of code.now) flow)
         (meaning.turn_by limit execution.variables.states (flow []))) }
 {
     loop {
         let Some(instruction) = code.get(place) else {
-            return execution.failed(alloc, LanguageError::Unhandled);
+            return execution.fail_with(alloc, LanguageError::Unhandled);
         };
         match execution.step(alloc, limit, instruction, place) {
             Ok(Move::Goes(next)) => place = next,
-            Ok(Move::Ends(outcome)) => return execution.ended(outcome),
+            Ok(Move::Ends(outcome)) => return execution.end_with(outcome),
             Ok(Move::Asks(callee, procedure, arguments)) => {
                 return Ok(Turn::Asks {
                     callee,
@@ -82,7 +82,7 @@ pub(crate) fn run(
                     paused: Paused { place, execution },
                 });
             }
-            Err(NoValue::Raises(error)) => return execution.failed(alloc, error),
+            Err(NoValue::Raises(error)) => return execution.fail_with(alloc, error),
             Err(NoValue::NoMemory) => return Err(AllocError),
         }
     }
@@ -115,7 +115,7 @@ pub(crate) fn resume(
     };
     match execution.reply(alloc, limit, asking, place, reply) {
         Ok(next) => run(alloc, limit, code, execution, next),
-        Err(NoValue::Raises(error)) => execution.failed(alloc, error),
+        Err(NoValue::Raises(error)) => execution.fail_with(alloc, error),
         Err(NoValue::NoMemory) => Err(AllocError),
     }
 }

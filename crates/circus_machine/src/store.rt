@@ -39,7 +39,7 @@ pub(crate) enum Change {
 impl Change {
     // What is put where this value stands. It takes no memory.
     #[tactic(auto, using(crate::proofs::Appending::appended_fits, crate::proofs::Appending::appended_full, crate::proofs::Appending::last_size))]
-    fn over(self, given: Given, old: &Value) -> Result<Put, LanguageError>
+    fn put_over(self, given: Given, old: &Value) -> Result<Put, LanguageError>
         ensures meant { MatchResult result (λ put.
             changed_over self (given_as given) (tree_of old.now)
             ≡ Ok (put_over put (tree_of old.now))) (λ error.
@@ -203,7 +203,7 @@ impl Variables {
     }
 
     // The sizes once a variable has grown and shrunk, if neither is above the limit.
-    fn resized(
+    fn sizes_after(
         &self,
         index: usize,
         grows: u64,
@@ -240,14 +240,14 @@ impl Variables {
     ) -> Result<(), NoValue>
         requires { AreSized self.old }
         ensures { Changed result
-            (storing.stored limit self.old.states self.old.values place.now
+            (storing.store_at limit self.old.states self.old.values place.now
             (changed_over change (given_as given))) self.old self.new }
     {
         let steps = steps_of(alloc, limit, &self.values, &place.suffixes)?;
         let index = usize::from(place.variable);
         let old = part_at(self.variable(index)?, steps.as_slice())?;
-        let put = change.over(given, old)?;
-        let sizes = self.resized(index, put.grows_by(), put.shrinks_by(old), limit)?;
+        let put = change.put_over(given, old)?;
+        let sizes = self.sizes_after(index, put.grows_by(), put.shrinks_by(old), limit)?;
         put_item(&mut self.values, index, steps.as_slice(), put)?;
         self.sizes.set(index, sizes.variable);
         self.state_size = sizes.state;

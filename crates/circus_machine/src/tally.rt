@@ -133,7 +133,7 @@ impl Module for Tally {
         arguments: &Values,
     ) -> Result<Turn<Unused>, NoMemory> {
         let Some(sum) = sum_in(&state).checked_add(u32::from(number_in(arguments))) else {
-            let outcome = LanguageError::Range.raised(self.alloc);
+            let outcome = LanguageError::Range.raised_outcome(self.alloc);
             return Ok(Turn::Ends { outcome, state });
         };
         Ok(Turn::Ends {
@@ -148,7 +148,7 @@ impl Module for Tally {
         ensures { IfOk result (λ turn.
             turn ≡ Ends (Raised (number_of Unhandled) []) (tally.one_sum 0)) }
     {
-        let outcome = LanguageError::Unhandled.raised(self.alloc);
+        let outcome = LanguageError::Unhandled.raised_outcome(self.alloc);
         let state = one_sum(self.alloc, 0)?;
         Ok(Turn::Ends { outcome, state })
     }

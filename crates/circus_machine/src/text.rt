@@ -156,7 +156,7 @@ impl Module for TextModule {
     ) -> Result<Turn<Waiting>, NoMemory> {
         let parts = self.parts.as_ref();
         let Some((place, body)) = parts.find(procedure) else {
-            let outcome = LanguageError::Unhandled.raised(self.alloc);
+            let outcome = LanguageError::Unhandled.raised_outcome(self.alloc);
             return Ok(Turn::Ends { outcome, state });
         };
         let turn = body.start(self.alloc, parts.signature.limit, state, arguments)?;

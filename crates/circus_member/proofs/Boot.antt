@@ -25,7 +25,7 @@ use Rattle.circus_member_rules.specs.declared.occurrence.AskName.{AskName}
 use Rattle.circus_member_rules.specs.MemberState.{MemberState, Doing}
 use Rattle.circus_member_rules.specs.Callable.{IsReply}
 use Rattle.circus_member_rules.specs.Rules.{is_settled, stays_open}
-use Rattle.circus_member_rules.specs.Step.{waits, performer_at_boot, entered, main_start, before_any, starts_at_boot}
+use Rattle.circus_member_rules.specs.Step.{waits, performer_at_boot, enter_run_of, main_start, before_any, starts_at_boot}
 use Rattle.circus_member_rules.specs.Happening.{IsHome}
 use Rattle.circus_member_rules.specs.GoneOn.{HasGoneOn}
 use Rattle.circus_member_rules.specs.Seen.Sound.{IsHeld, IsOpenAsk, AreNamed, IsSound, MayStart, IsRested}
@@ -77,11 +77,11 @@ module _ {M : Type 0} (declared : M → Signature) (turn : M → List ValueTree 
         closed = All-nil (λ (e : AskName × Asking). stays_open (at_boot beginning).known (waits (at_boot beginning).performing.kept) e ≡ true);
       }
 
-  pub rested_entered : (beginning : Beginning) → starts_at_boot declared turn beginning hosted ≡ true → let d : Doing M = record { member = at_boot beginning; effects = [] } in let e = entered turn 0 d (main_start place.troupe views) in IsRested (behaviour declared turn first e.member.performing.hosted) e.member
+  pub rested_entered : (beginning : Beginning) → starts_at_boot declared turn beginning hosted ≡ true → let d : Doing M = record { member = at_boot beginning; effects = [] } in let e = enter_run_of turn 0 d (main_start place.troupe views) in IsRested (behaviour declared turn first e.member.performing.hosted) e.member
   rested_entered beginning is =
       let d : Doing M = record { member = at_boot beginning; effects = [] } in
       let start = main_start place.troupe views in
-      let e = entered turn 0 d start in
+      let e = enter_run_of turn 0 d start in
       let none : AskName → Bool = λ _. false in
       let left = entered_left none declared turn 0 d start (All-nil (λ (x : AskName × Asking). none x.0 ≡ false → is_settled (at_boot beginning).known x.1 ≡ false)) in
       record {
@@ -93,7 +93,7 @@ module _ {M : Type 0} (declared : M → Signature) (turn : M → List ValueTree 
   gone_before Founder = record { no_value = refl; none_starts = none_held (at_boot Founder) refl }
   gone_before Spare = record { no_value = refl; none_starts = none_held (at_boot Spare) refl }
 
-  pub gone_entered : (beginning : Beginning) → starts_at_boot declared turn beginning hosted ≡ true → let d : Doing M = record { member = at_boot beginning; effects = [] } in HasGoneOn (entered turn 0 d (main_start place.troupe views)).member
+  pub gone_entered : (beginning : Beginning) → starts_at_boot declared turn beginning hosted ≡ true → let d : Doing M = record { member = at_boot beginning; effects = [] } in HasGoneOn (enter_run_of turn 0 d (main_start place.troupe views)).member
   gone_entered beginning is =
       let d : Doing M = record { member = at_boot beginning; effects = [] } in
       entered_done declared turn first lawful 0 d (main_start place.troupe views) (sound_at_boot beginning) (may_begin beginning is) refl

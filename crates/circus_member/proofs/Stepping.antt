@@ -11,7 +11,7 @@ use Rattle.circus_member_rules.specs.declared.occurrence.AskName.{AskName}
 use Rattle.circus_member_rules.specs.declared.occurrence.Occurrence.{Occurrence}
 use Rattle.circus_member_rules.specs.MemberState.{MemberState, Doing, behind}
 use Rattle.circus_member_rules.specs.Rules.{concern_of}
-use Rattle.circus_member_rules.specs.Step.{handled, executed, closed_by, looked_up, stepped}
+use Rattle.circus_member_rules.specs.Step.{handle, execute, closed_by, look_up, step_member}
 use Rattle.circus_member_rules.specs.GoneOn.{HasGoneOn}
 use Rattle.circus_member_rules.specs.Seen.Sound.{IsSound, IsRested}
 use Rattle.circus_member_rules.proofs.Starting.{IsSoundNow, sound_executed}
@@ -23,23 +23,23 @@ module _ {M : Type 0} (declared : M → Signature) (turn : M → List ValueTree 
   -- what happens is handled, goes on, and is closed
   pub record Goes (begun h d e : Doing M) (c : Concern) (waited : Option AskName) : Type 0 where
     pub begins : begun ≡ (let b : Doing M = record { member = m; effects = [] } in b)
-    pub handles : h ≡ behind begun (handled at o begun.member)
+    pub handles : h ≡ behind begun (handle at o begun.member)
     pub sound : IsSound (behaviour declared turn first h.member.performing.hosted) h.member
-    pub executes : d ≡ executed declared turn at h
+    pub executes : d ≡ execute declared turn at h
     pub concerns : c ≡ concern_of o
     pub waits : waited ≡ waited_by m
     pub closes : e ≡ closed_by c waited d
 
   module _ (lawful : (hosted : M) → IsModule (behaviour declared turn first hosted)) (rest : IsRested (behaviour declared turn first m.performing.hosted) m) (begun h d e : Doing M) (c : Concern) (waited : Option AskName) (goes : Goes begun h d e c waited) where
     abbrev done : Doing M
-    done = executed declared turn at (handled at o m)
+    done = execute declared turn at (handle at o m)
 
-    handled_is : h ≡ handled at o m
-    handled_is = goes.handles ∙ ap (λ (x : Doing M). behind x (handled at o x.member)) goes.begins
+    handled_is : h ≡ handle at o m
+    handled_is = goes.handles ∙ ap (λ (x : Doing M). behind x (handle at o x.member)) goes.begins
 
     sound_done : IsSoundNow declared turn first lawful done.member
     sound_done =
-        sound_executed declared turn first lawful at (handled at o m)
+        sound_executed declared turn first lawful at (handle at o m)
         (subst (λ (x : Doing M). IsSoundNow declared turn first lawful x.member) handled_is goes.sound)
 
     closed_is : e ≡ closed_by (concern_of o) (waited_by m) done
@@ -47,25 +47,25 @@ module _ {M : Type 0} (declared : M → Signature) (turn : M → List ValueTree 
         goes.closes
         ∙ ap (λ x. closed_by x waited d) goes.concerns
         ∙ ap (λ w. closed_by (concern_of o) w d) goes.waits
-        ∙ ap (λ x. closed_by (concern_of o) (waited_by m) x) (goes.executes ∙ ap (executed declared turn at) handled_is)
+        ∙ ap (λ x. closed_by (concern_of o) (waited_by m) x) (goes.executes ∙ ap (execute declared turn at) handled_is)
 
     -- there are few views
     pub few_views : length e.member.known.views ≤ 32
     few_views = subst (λ (x : Doing M). length x.member.known.views ≤ 32) (sym closed_is) sound_done.home.few
 
     -- it comes to the step
-    pub ends_so : (f : Doing M) → f ≡ looked_up e → f ≡ stepped declared turn at o m
-    ends_so f looks = looks ∙ ap looked_up (closed_is ∙ closed_same m rest.closed declared turn at o sound_done.names)
+    pub ends_so : (f : Doing M) → f ≡ look_up e → f ≡ step_member declared turn at o m
+    ends_so f looks = looks ∙ ap look_up (closed_is ∙ closed_same m rest.closed declared turn at o sound_done.names)
 
     -- where the member is at rest
-    pub rests : (f : Doing M) → f ≡ looked_up e → IsRested (behaviour declared turn first f.member.performing.hosted) f.member
+    pub rests : (f : Doing M) → f ≡ look_up e → IsRested (behaviour declared turn first f.member.performing.hosted) f.member
     rests f looks =
         subst (λ (x : Doing M). IsRested (behaviour declared turn first x.member.performing.hosted) x.member) (sym (ends_so f looks))
         (rested (behaviour declared turn first done.member.performing.hosted) done sound_done)
 
     -- and has gone on as far as it can
-    pub has_gone_on : (f : Doing M) → f ≡ looked_up e → HasGoneOn f.member
+    pub has_gone_on : (f : Doing M) → f ≡ look_up e → HasGoneOn f.member
     has_gone_on f looks =
         subst (λ (x : Doing M). HasGoneOn x.member) (sym (ends_so f looks))
-        (still_done done (executed_done declared turn first lawful at (handled at o m)
+        (still_done done (executed_done declared turn first lawful at (handle at o m)
         (subst (λ (x : Doing M). IsSoundNow declared turn first lawful x.member) handled_is goes.sound)))

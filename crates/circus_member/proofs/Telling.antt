@@ -5,15 +5,15 @@ use Rattle.circus_header.specs.declared.call.Request.{Request}
 use Rattle.circus_collate.specs.declared.view.View.{View}
 use Rattle.circus_collate.specs.declared.table.Table.{Table}
 use Rattle.circus_model.specs.declared.signature.Signature.{Signature}
-use Rattle.circus_fanout.specs.Knowing.{Knowing, is_newer, told as with_view_told}
+use Rattle.circus_fanout.specs.Knowing.{Knowing, is_newer, note_view as with_view_told}
 use Rattle.circus_fanout.specs.Asking.{Asking}
 use Rattle.circus_performing.specs.Performing.{Performing}
 use Rattle.circus_member_rules.specs.declared.occurrence.AskName.{AskName}
 use Rattle.circus_member_rules.specs.declared.place.Place.{Place}
 use Rattle.circus_member_rules.specs.declared.occurrence.Effect.{Effect}
-use Rattle.circus_member_rules.specs.MemberState.{Doing, adding, behind}
+use Rattle.circus_member_rules.specs.MemberState.{Doing, add_effects, behind}
 use Rattle.circus_member_rules.specs.Rules.{with_new_view, calls_for_a_new_view, givers, state_request, state_requests}
-use Rattle.circus_member_rules.specs.Step.{answered_by_ring, known_by_table, kept_by_table, is_taken_in, told, with_record}
+use Rattle.circus_member_rules.specs.Step.{answered_by_ring, known_by_table, kept_by_table, is_taken_in, handle_table, with_record}
 use Rattle.circus_member.specs.Seen.Within.{seen_by}
 use Rattle.circus_member_rules.specs.Callable.{AllMayCall}
 use Rattle.circus_member_rules.specs.Happening.{IsHome}
@@ -30,7 +30,7 @@ requests_are place down later view true same = ap (λ ns. state_requests place n
 requests_are place down later view false same = refl
 
 -- what is made of a table, in order
-pub told_in_parts : {M : Type 0} (d : Doing M) (request : Request) (table : Table) (nodes : List ℕ) → nodes ≡ (if is_taken_in d.member.performing.kept.phase (kept_by_table d.member.performing.kept request table).phase then givers d.member.place.node d.member.known.down table.view else []) → adding (seen_by (with_record d (kept_by_table d.member.performing.kept request table)) request table.view) (map (state_request d.member.place.troupe table.view.incarnation) nodes) ≡ behind d (told d.member request table)
+pub told_in_parts : {M : Type 0} (d : Doing M) (request : Request) (table : Table) (nodes : List ℕ) → nodes ≡ (if is_taken_in d.member.performing.kept.phase (kept_by_table d.member.performing.kept request table).phase then givers d.member.place.node d.member.known.down table.view else []) → add_effects (seen_by (with_record d (kept_by_table d.member.performing.kept request table)) request table.view) (map (state_request d.member.place.troupe table.view.incarnation) nodes) ≡ behind d (handle_table d.member request table)
 told_in_parts {M} d request table nodes are =
     let m = d.member in
     let kept = kept_by_table m.performing.kept request table in
@@ -39,11 +39,11 @@ told_in_parts {M} d request table nodes are =
     let e = seen_by (with_record d kept) request table.view in
     let requests : map (state_request m.place.troupe table.view.incarnation) nodes ≡ (if taken then state_requests m.place known.down table.view else []) =
     ap (map (state_request m.place.troupe table.view.incarnation)) are ∙ requests_are m.place m.known.down known.down table.view taken (table_down m.known request table.view) in
-    ap (adding e) requests
+    ap (add_effects e) requests
     ∙ ap (λ (made : List Effect). let f : Doing M = record { member = e.member; effects = made } in f) (append_assoc d.effects _ _)
 
 -- with what is read of it along the way
-pub told_all : {M : Type 0} (d : Doing M) (request : Request) (table : Table) (p : Performing M) (x : Doing M) (nodes : List ℕ) (effects : List Effect) → p ≡ (let q : Performing M = record d.member.performing { kept = kept_by_table d.member.performing.kept request table } in q) → nodes ≡ (if is_taken_in d.member.performing.kept.phase p.kept.phase then givers d.member.place.node d.member.known.down table.view else []) → x ≡ (let y : Doing M = record d { member = record d.member { performing = p } } in seen_by y request table.view) → effects ≡ x.effects ++ map (state_request x.member.place.troupe table.view.incarnation) nodes → let e : Doing M = record x { effects = effects } in e ≡ behind d (told d.member request table)
+pub told_all : {M : Type 0} (d : Doing M) (request : Request) (table : Table) (p : Performing M) (x : Doing M) (nodes : List ℕ) (effects : List Effect) → p ≡ (let q : Performing M = record d.member.performing { kept = kept_by_table d.member.performing.kept request table } in q) → nodes ≡ (if is_taken_in d.member.performing.kept.phase p.kept.phase then givers d.member.place.node d.member.known.down table.view else []) → x ≡ (let y : Doing M = record d { member = record d.member { performing = p } } in seen_by y request table.view) → effects ≡ x.effects ++ map (state_request x.member.place.troupe table.view.incarnation) nodes → let e : Doing M = record x { effects = effects } in e ≡ behind d (handle_table d.member request table)
 told_all {M} d request table p x nodes effects taken are seen made =
     let kept = kept_by_table d.member.performing.kept request table in
     let named : nodes ≡ (if is_taken_in d.member.performing.kept.phase kept.phase then givers d.member.place.node d.member.known.down table.view else []) =
@@ -51,7 +51,7 @@ told_all {M} d request table p x nodes effects taken are seen made =
     let same : x ≡ seen_by (with_record d kept) request table.view =
     seen ∙ ap (λ (q : Performing M). let y : Doing M = record d { member = record d.member { performing = q } } in seen_by y request table.view) taken in
     ap (λ (made' : List Effect). let e : Doing M = record x { effects = made' } in e) made
-    ∙ ap (λ (y : Doing M). adding y (map (state_request y.member.place.troupe table.view.incarnation) nodes)) same
+    ∙ ap (λ (y : Doing M). add_effects y (map (state_request y.member.place.troupe table.view.incarnation) nodes)) same
     ∙ told_in_parts d request table nodes named
 
 -- ---- the view
@@ -61,14 +61,14 @@ pub known_already : {M : Type 0} (d : Doing M) (request : Request) (view : View)
 known_already {M} d request view k is older =
     ap (λ (x : Knowing). let e : Doing M = record d { member = record d.member { known = x } } in e) is
     ∙ ap (λ (made : List Effect). let e : Doing M = record { member = record d.member { known = known_by_table d.member.known request view }; effects = made } in e) (sym (append-nil d.effects))
-    ∙ ap (λ t. adding (let e : Doing M = record d { member = record d.member { known = known_by_table d.member.known request view; asks = if t then with_new_view (known_by_table d.member.known request view) view d.member.asks else d.member.asks } } in e) (if t then calls_for_a_new_view (known_by_table d.member.known request view) view d.member.asks else [])) (sym older)
+    ∙ ap (λ t. add_effects (let e : Doing M = record d { member = record d.member { known = known_by_table d.member.known request view; asks = if t then with_new_view (known_by_table d.member.known request view) view d.member.asks else d.member.asks } } in e) (if t then calls_for_a_new_view (known_by_table d.member.known request view) view d.member.asks else [])) (sym older)
 
 -- where it is
 pub known_newly : {M : Type 0} (d : Doing M) (request : Request) (view : View) (k : Knowing) (asks : List (AskName × Asking)) (effects : List Effect) → k ≡ known_by_table d.member.known request view → is_newer d.member.known view ≡ true → asks ≡ with_new_view k view d.member.asks → effects ≡ d.effects ++ calls_for_a_new_view k view d.member.asks → let e : Doing M = record { member = record d.member { known = k; asks = asks }; effects = effects } in e ≡ seen_by d request view
 known_newly {M} d request view k asks effects is newer kept made =
     (λ j. record { member = record d.member { known = k; asks = kept j }; effects = made j })
     ∙ ap (λ (x : Knowing). let e : Doing M = record { member = record d.member { known = x; asks = with_new_view x view d.member.asks }; effects = d.effects ++ calls_for_a_new_view x view d.member.asks } in e) is
-    ∙ ap (λ t. adding (let e : Doing M = record d { member = record d.member { known = known_by_table d.member.known request view; asks = if t then with_new_view (known_by_table d.member.known request view) view d.member.asks else d.member.asks } } in e) (if t then calls_for_a_new_view (known_by_table d.member.known request view) view d.member.asks else [])) (sym newer)
+    ∙ ap (λ t. add_effects (let e : Doing M = record d { member = record d.member { known = known_by_table d.member.known request view; asks = if t then with_new_view (known_by_table d.member.known request view) view d.member.asks else d.member.asks } } in e) (if t then calls_for_a_new_view (known_by_table d.member.known request view) view d.member.asks else [])) (sym newer)
 
 -- ---- what is known then
 

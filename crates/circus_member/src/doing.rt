@@ -59,7 +59,7 @@ impl<M: Module> Doing<M> {
             (behaviour M.declared M.turn M.first self.member.performing.hosted) self.member }
         requires can { CanHappen (M.declared self.member.performing.hosted) self.member occurrence }
         ensures kept { IfOk result (λ done.
-            done.0 ≡ behind self (step.handled at occurrence self.member)) }
+            done.0 ≡ behind self (step.handle at occurrence self.member)) }
         ensures told { IfOk result (λ done. done.1 ≡ step.difference occurrence self.member) }
         ensures sound { IfOk result (λ done.
             IsSound (behaviour M.declared M.turn M.first done.0.member.performing.hosted)
@@ -71,34 +71,34 @@ impl<M: Module> Doing<M> {
                 body,
                 sender,
             } => {
-                let done = self.asked(header, body, sender);
+                let done = self.handle_call(header, body, sender);
                 Ok((self.unless_spent(done)?, None))
             }
             Occurrence::Fetched {
                 incarnation,
                 sender,
             } => {
-                let done = self.fetched(incarnation, sender);
+                let done = self.handle_fetch(incarnation, sender);
                 Ok((self.unless_spent(done)?, None))
             }
-            Occurrence::Replied { name, from, reply } => self.replied(name, from, reply),
+            Occurrence::Replied { name, from, reply } => self.handle_reply(name, from, reply),
             Occurrence::IsStale {
                 name,
                 server,
                 from,
                 incarnation,
             } => {
-                let done = self.stale(name, server, from, incarnation);
+                let done = self.handle_stale(name, server, from, incarnation);
                 Ok((self.unless_spent(done)?, None))
             }
-            Occurrence::IsBefore { name, from } => Ok((self.before(name, from), None)),
+            Occurrence::IsBefore { name, from } => Ok((self.handle_before(name, from), None)),
             Occurrence::Told { request, table } => {
-                let done = self.told(request, table);
+                let done = self.handle_table(request, table);
                 Ok((self.unless_spent(done)?, None))
             }
-            Occurrence::Restored { state, count } => Ok((self.restored(at, state, count)?, None)),
+            Occurrence::Restored { state, count } => Ok((self.handle_state(at, state, count)?, None)),
             Occurrence::Declared(node) => {
-                let done = self.declared(node);
+                let done = self.handle_down(node);
                 Ok((self.unless_spent(done)?, None))
             }
             Occurrence::Joins => {
@@ -117,10 +117,10 @@ impl<M: Module> Doing<M> {
         Ok(self)
     }
 
-    fn asked(&mut self, header: CallHeader, body: Parts, sender: Caller) -> Result<(), NoMemory>
+    fn handle_call(&mut self, header: CallHeader, body: Parts, sender: Caller) -> Result<(), NoMemory>
         requires { AreReplies self.old.member.gathered.replies }
         ensures { OnOk result
-            (self.new ≡ behind self.old (step.asked self.old.member header body sender)) }
+            (self.new ≡ behind self.old (step.handle_call self.old.member header body sender)) }
     {
         take_call(
             self.member.alloc,
@@ -133,10 +133,10 @@ impl<M: Module> Doing<M> {
         )
     }
 
-    fn fetched(&mut self, incarnation: u32, sender: Caller) -> Result<(), NoMemory>
+    fn handle_fetch(&mut self, incarnation: u32, sender: Caller) -> Result<(), NoMemory>
         requires { IsIncarnation incarnation }
         ensures { OnOk result
-            (self.new ≡ behind self.old (step.fetched self.old.member incarnation sender)) }
+            (self.new ≡ behind self.old (step.handle_fetch self.old.member incarnation sender)) }
     {
         take_state_request(
             self.member.alloc,
@@ -148,22 +148,22 @@ impl<M: Module> Doing<M> {
         )
     }
 
-    fn replied(
+    fn handle_reply(
         mut self,
         name: AskName,
         from: u16,
         reply: Reply,
     ) -> Result<(Self, Option<Difference>), NoMemory>
         ensures kept { IfOk result (λ done.
-            done.0 ≡ behind self (step.replied self.member name from reply)) }
+            done.0 ≡ behind self (step.handle_reply self.member name from reply)) }
         ensures told { IfOk result (λ done.
             done.1 ≡ step.difference (Occurrence.Replied name from reply) self.member) }
     {
-        let difference = self.member.asks.replied(name, from, reply)?;
+        let difference = self.member.asks.take_reply(name, from, reply)?;
         Ok((self, difference))
     }
 
-    fn stale(
+    fn handle_stale(
         &mut self,
         name: AskName,
         server: u16,
@@ -173,9 +173,9 @@ impl<M: Module> Doing<M> {
         requires asks { AllMayCall self.old.member.known self.old.member.asks }
         requires views { AreViews self.old.member.known }
         ensures { OnOk result
-            (self.new ≡ behind self.old (step.stale self.old.member name server from incarnation)) }
+            (self.new ≡ behind self.old (step.handle_stale self.old.member name server from incarnation)) }
     {
-        self.member.asks.stale(
+        self.member.asks.take_stale(
             self.member.alloc,
             &self.member.known,
             name,
@@ -187,15 +187,15 @@ impl<M: Module> Doing<M> {
         Ok(())
     }
 
-    fn before(mut self, name: AskName, from: u16) -> Self
+    fn handle_before(mut self, name: AskName, from: u16) -> Self
         ensures { result ≡ behind self (step.before self.member name from) }
     {
-        self.member.asks.before(name, from);
+        self.member.asks.take_before(name, from);
         self
     }
 
     // The Ringmaster answers a request.
-    fn told(&mut self, request: Request, table: Table) -> Result<(), NoMemory>
+    fn handle_table(&mut self, request: Request, table: Table) -> Result<(), NoMemory>
         requires home { IsHome
             (M.declared self.old.member.performing.hosted) self.old.member.place
             self.old.member.known.views }
@@ -204,7 +204,7 @@ impl<M: Module> Doing<M> {
             (length self.old.member.known.views) self.old.member.asks }
         requires table { IsIncarnation table.view.incarnation }
         ensures { OnOk result
-            (self.new ≡ behind self.old (step.told self.old.member request table)) }
+            (self.new ≡ behind self.old (step.handle_table self.old.member request table)) }
     {
         let before = self.member.performer.record().phase;
         take_in(&mut self.member.performer, request, &table);
@@ -234,7 +234,7 @@ impl<M: Module> Doing<M> {
         givers(
             self.member.alloc,
             self.member.place.node,
-            self.member.known.down(),
+            self.member.known.down_nodes(),
             view,
         )
     }
@@ -266,7 +266,7 @@ impl<M: Module> Doing<M> {
         )
     }
 
-    fn declared(&mut self, node: u16) -> Result<(), NoMemory>
+    fn handle_down(&mut self, node: u16) -> Result<(), NoMemory>
         requires { AreHosts self.old.member.place }
         ensures { OnOk result
             (self.new ≡ behind self.old (step.declared_down self.old.member node)) }
@@ -298,12 +298,12 @@ impl<M: Module> Doing<M> {
     }
 
     // A state comes: one that fetches a state has it, and is active from its count on.
-    fn restored(mut self, at: u64, state: State, count: u32) -> Result<Self, NoMemory>
+    fn handle_state(mut self, at: u64, state: State, count: u32) -> Result<Self, NoMemory>
         requires sound { IsSound
             (behaviour M.declared M.turn M.first self.member.performing.hosted) self.member }
         requires state { IsState (M.declared self.member.performing.hosted) state }
         ensures kept { IfOk result (λ d.
-            d ≡ behind self (step.restored at self.member state count)) }
+            d ≡ behind self (step.handle_state at self.member state count)) }
         ensures sound { IfOk result (λ d.
             IsSound (behaviour M.declared M.turn M.first d.member.performing.hosted) d.member) }
     {
@@ -320,7 +320,7 @@ impl<M: Module> Doing<M> {
         requires { IsHome
             (M.declared self.old.member.performing.hosted) self.old.member.place
             self.old.member.known.views }
-        ensures { OnOk result (self.new ≡ step.begun self.old count) }
+        ensures { OnOk result (self.new ≡ step.begin_behind self.old count) }
     {
         let request = Request::Active(self.member.place.troupe, self.member.place.node, count);
         request_to_ring(
@@ -341,7 +341,7 @@ impl<M: Module> Doing<M> {
     pub fn execute(self, at: u64) -> Result<Self, NoMemory>
         requires { IsSound
             (behaviour M.declared M.turn M.first self.member.performing.hosted) self.member }
-        ensures { IfOk result (λ d. d ≡ step.executed M.declared M.turn at self) }
+        ensures { IfOk result (λ d. d ≡ step.execute M.declared M.turn at self) }
     {
         let mut doing = self.answer_open(at)?;
         'starts: loop {
@@ -396,7 +396,7 @@ impl<M: Module> Doing<M> {
         requires sound { IsSound
             (behaviour M.declared M.turn M.first self.member.performing.hosted) self.member }
         requires may { MayStart (M.declared self.member.performing.hosted) self.member start }
-        ensures { IfOk result (λ d. d ≡ step.entered M.turn at self start) }
+        ensures { IfOk result (λ d. d ≡ step.enter_run_of M.turn at self start) }
     {
         let count = self.member.performer.record().count;
         self.member.gather.started(count);
@@ -452,7 +452,7 @@ impl<M: Module> Doing<M> {
             body,
             self.member.place.replies,
             view,
-            self.member.known.down(),
+            self.member.known.down_nodes(),
         )?;
         calls_of_ask(
             self.member.alloc,
@@ -516,7 +516,7 @@ impl<M: Module> Doing<M> {
             self.member.performer.record().count,
             self.member.place.calls,
             self.member.known.views(),
-            self.member.known.down(),
+            self.member.known.down_nodes(),
         )?;
         match ready {
             Some(call) => {
@@ -550,7 +550,7 @@ impl<M: Module> Doing<M> {
     /// The views that are wanted are looked up.
     pub fn look_up(&mut self) -> Result<(), NoMemory>
         requires { length self.old.member.known.views ≤ most_modules }
-        ensures { OnOk result (self.new ≡ step.looked_up self.old) }
+        ensures { OnOk result (self.new ≡ step.look_up self.old) }
     {
         look_up(self.member.alloc, &mut self.member.known, &mut self.effects)
     }

@@ -65,10 +65,10 @@ impl<M: Module> Member<M> {
     ) -> Result<(Self, Effects), NoMemory>
         requires { IsHome (M.declared hosted) place views }
         ensures member { IfOk result (λ booted.
-            booted.0 ≡ (step.booted M.declared M.turn M.first place views beginning
+            booted.0 ≡ (step.boot_member M.declared M.turn M.first place views beginning
             hosted).member) }
         ensures effects { IfOk result (λ booted.
-            booted.1 ≡ (step.booted M.declared M.turn M.first place views beginning
+            booted.1 ≡ (step.boot_member M.declared M.turn M.first place views beginning
             hosted).effects) }
         ensures rest { IfOk result (λ booted. HasGoneOn booted.0) }
     {
@@ -91,15 +91,15 @@ impl<M: Module> Member<M> {
     ) -> Result<(Self, Effects, Option<Difference>), NoMemory>
         requires { CanHappen (M.declared self.performing.hosted) self occurrence }
         ensures member { IfOk result (λ stepped.
-            stepped.0 ≡ (step.stepped M.declared M.turn at occurrence self).member) }
+            stepped.0 ≡ (step.step_member M.declared M.turn at occurrence self).member) }
         ensures effects { IfOk result (λ stepped.
-            stepped.1 ≡ (step.stepped M.declared M.turn at occurrence self).effects) }
+            stepped.1 ≡ (step.step_member M.declared M.turn at occurrence self).effects) }
         ensures difference { IfOk result (λ stepped. stepped.2 ≡ step.difference occurrence self) }
         ensures rest { IfOk result (λ stepped. HasGoneOn stepped.0) }
     {
         let waited = name_of_open(&self.state.performer);
         let concern = concern_of(&occurrence);
-        let (doing, difference) = self.begun().handle(at, occurrence)?;
+        let (doing, difference) = self.into_doing().handle(at, occurrence)?;
         let mut doing = doing.execute(at)?;
         doing.close(concern, waited);
         doing.look_up()?;
@@ -131,14 +131,14 @@ impl<M: Module> Member<M> {
     }
 
     /// What an open ask asks. It takes no memory.
-    pub fn asked(&self, name: AskName) -> Option<&CallHeader>
+    pub fn header_of_ask(&self, name: AskName) -> Option<&CallHeader>
         ensures { option_copied result
             ≡ option_map (λ (a : Asking). a.header) (asking_of self.now.asks name) }
     {
         Some(self.state.asks.get(name)?.header())
     }
 
-    fn begun(self) -> Doing<M>
+    fn into_doing(self) -> Doing<M>
         ensures { result ≡ record { member = self; effects = [] } }
     {
         let Member { state: member } = self;

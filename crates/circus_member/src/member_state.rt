@@ -30,7 +30,7 @@ impl<M: Module> MemberState<M> {
     pub fn activate(mut self, state: State, count: u32, at: u64) -> Result<Self, NoMemory>
         requires { IsState (M.declared self.performer.hosted) state }
         ensures { IfOk result (λ m.
-            m ≡ record self { performer = performing.activated at state count self.performer }) }
+            m ≡ record self { performer = performing.activate at state count self.performer }) }
     {
         self.performer = self.performer.activate(state, count, at)?;
         Ok(self)
@@ -43,7 +43,7 @@ impl<M: Module> MemberState<M> {
         ensures { let p = self.performer in IfOk result (λ m.
             m ≡ record self {
               performer = record p {
-                kept = performing.answered
+                kept = performing.answer_open_ask
                     (M.turn p.hosted) p.began at reply.outcome reply.clock p.kept;
               };
             }) }
@@ -58,7 +58,7 @@ impl<M: Module> MemberState<M> {
         ensures { let p = self.performer in IfOk result (λ m.
             m ≡ record self {
               performer = record p {
-                kept = performing.entered (M.turn p.hosted) at start p.kept;
+                kept = performing.enter_run (M.turn p.hosted) at start p.kept;
               };
             }) }
     {

@@ -20,12 +20,12 @@ use Rattle.circus_gather.specs.declared.held.HeldCall.{HeldCall}
 use Rattle.circus_gather.specs.Gathering.{is_of_index}
 use Rattle.circus_fanout.specs.Asking.{Asking, index_of, answer, with_view}
 use Rattle.circus_performing.specs.declared.start.RunStart.{RunStart}
-use Rattle.circus_performing.specs.Performing.{open_ask, last_of, unanswered}
+use Rattle.circus_performing.specs.Performing.{open_ask, last_of, unless_replied}
 use Rattle.circus_performing.specs.Record.{behaviour}
 use Rattle.circus_member_rules.specs.OpenAsks.{is_name, asking_of, with_ask}
-use Rattle.circus_member_rules.specs.MemberState.{MemberState, Doing, adding}
+use Rattle.circus_member_rules.specs.MemberState.{MemberState, Doing, add_effects}
 use Rattle.circus_member_rules.specs.Rules.{index_of_last, answer_in, value_of_ask, snapshots_owed, stays_open}
-use Rattle.circus_member_rules.specs.Step.{name_of_last, asking_begun, is_idle, next_start, value_of_open, given_states, opened_by_view, opened_ask, ended_run, after_turns, answered_by, answered_open, entered, starting, executed, waits, closed, looked_up}
+use Rattle.circus_member_rules.specs.Step.{name_of_last, asking_begun, is_idle, next_start, value_of_open, given_states, opened_by_view, opened_ask, ended_run, after_turns, answered_by, answered_open, enter_run_of, start_runs, execute, waits, keep_ask_open, look_up}
 use Rattle.circus_member_rules.specs.GoneOn.{HasGoneOn}
 use Rattle.circus_member_rules.specs.Seen.Sound.{IsRunOf, MayStart}
 use Rattle.circus_member_rules.proofs.Named.{opened_there, lookup-kept}
@@ -88,7 +88,7 @@ module _ {M : Type 0} (b : Behaviour) (lawful : IsModule b) (d : Doing M) (h : I
       by_run : (o : Option RunRecord) → last_of d.member.performing.kept.runs ≡ o → let e = option_map_or (λ (run : RunRecord). option_map_or (opened_ask d run) (open_ask d.member.performing.kept) (ended_run d run)) o d in value_of_open e.member ≡ None
       by_run None at =
           let m = d.member in
-          let none : open_ask m.performing.kept ≡ None = ap (λ o. option_and_then (λ (r : RunRecord). option_and_then unanswered (last_of r.asks)) o) at in
+          let none : open_ask m.performing.kept ≡ None = ap (λ o. option_and_then (λ (r : RunRecord). option_and_then unless_replied (last_of r.asks)) o) at in
           ap (λ o. option_and_then (λ (x : AskRecord). option_and_then (value_of_ask m.known) (asking_of m.asks (name_of_last m.performing.kept))) o) none
       by_run (Some run) at = by_ask run at (open_ask d.member.performing.kept) refl
 
@@ -136,7 +136,7 @@ module _ {M : Type 0} (declared : M → Signature) (turn : M → List ValueTree 
           let e : Doing M = record d { member = with_answered b law d.member step reply } in
           no_value_behind b law e (turned_by_reply b law d.member step reply sound (has_value b d.member reply sound is))
 
-  no_value_entered : (d : Doing M) (start : RunStart) → IsSoundNow declared turn first lawful d.member → MayStart (declared d.member.performing.hosted) d.member start → value_of_open (entered turn step d start).member ≡ None
+  no_value_entered : (d : Doing M) (start : RunStart) → IsSoundNow declared turn first lawful d.member → MayStart (declared d.member.performing.hosted) d.member start → value_of_open (enter_run_of turn step d start).member ≡ None
   no_value_entered d start sound may =
       let b = behaviour declared turn first d.member.performing.hosted in
       let law = lawful d.member.performing.hosted in
@@ -144,26 +144,26 @@ module _ {M : Type 0} (declared : M → Signature) (turn : M → List ValueTree 
       no_value_behind b law e (turned_by_start b law d.member step start sound may)
 
   -- one that holds no call, and enters a run
-  pub entered_done : (d : Doing M) (start : RunStart) → IsSoundNow declared turn first lawful d.member → MayStart (declared d.member.performing.hosted) d.member start → d.member.gathered.held ≡ [] → HasGoneOn (entered turn step d start).member
+  pub entered_done : (d : Doing M) (start : RunStart) → IsSoundNow declared turn first lawful d.member → MayStart (declared d.member.performing.hosted) d.member start → d.member.gathered.held ≡ [] → HasGoneOn (enter_run_of turn step d start).member
   entered_done d start sound may none =
       let e : Doing M = record d { member = with_entered (behaviour declared turn first d.member.performing.hosted) (lawful d.member.performing.hosted) d.member step start } in
-      record { no_value = no_value_entered d start sound may; none_starts = none_held (entered turn step d start).member (none_behind e none) }
+      record { no_value = no_value_entered d start sound may; none_starts = none_held (enter_run_of turn step d start).member (none_behind e none) }
 
   no_value_given : (d : Doing M) → value_of_open d.member ≡ None → value_of_open (given_states d).member ≡ None
   no_value_given d none = by_test (is_idle d.member.performing.kept)
     where
-      by_test : (t : Bool) → let e = if t then adding (record d { member = record d.member { requests = [] } }) (snapshots_owed d.member.performing.kept d.member.requests) else d in value_of_open e.member ≡ None
+      by_test : (t : Bool) → let e = if t then add_effects (record d { member = record d.member { requests = [] } }) (snapshots_owed d.member.performing.kept d.member.requests) else d in value_of_open e.member ≡ None
       by_test true = none
       by_test false = none
 
-  starting_done : (left : ℕ) (d : Doing M) → IsSoundNow declared turn first lawful d.member → IsEnough declared turn first lawful step left d → value_of_open d.member ≡ None → HasGoneOn (starting declared turn step left d).member
+  starting_done : (left : ℕ) (d : Doing M) → IsSoundNow declared turn first lawful d.member → IsEnough declared turn first lawful step left d → value_of_open d.member ≡ None → HasGoneOn (start_runs declared turn step left d).member
   starting_done zero d sound enough none =
       let nothing = nothing_left declared turn first lawful step d enough in
       let is = none_started declared turn first lawful step zero d nothing in
       subst (λ (e : Doing M). HasGoneOn e.member) (sym is) (record { no_value = no_value_given d none; none_starts = nothing })
   starting_done (suc left) d sound enough none = by_next (starting_done left) (next_start (given_states d).member) refl
     where
-      by_next : ((e : Doing M) → IsSoundNow declared turn first lawful e.member → IsEnough declared turn first lawful step left e → value_of_open e.member ≡ None → HasGoneOn (starting declared turn step left e).member) → (o : Option HeldCall) → next_start (given_states d).member ≡ o → HasGoneOn (starting declared turn step (suc left) d).member
+      by_next : ((e : Doing M) → IsSoundNow declared turn first lawful e.member → IsEnough declared turn first lawful step left e → value_of_open e.member ≡ None → HasGoneOn (start_runs declared turn step left e).member) → (o : Option HeldCall) → next_start (given_states d).member ≡ o → HasGoneOn (start_runs declared turn step (suc left) d).member
       by_next rest None nothing =
           subst (λ (e : Doing M). HasGoneOn e.member) (sym (none_started declared turn first lawful step (suc left) d nothing)) (record { no_value = no_value_given d none; none_starts = nothing })
       by_next rest (Some call) some =
@@ -172,11 +172,11 @@ module _ {M : Type 0} (declared : M → Signature) (turn : M → List ValueTree 
           let b = behaviour declared turn first e.member.performing.hosted in
           let may = may_start b e.member call (next_is_ready b e.member call given some) in
           let start = start_by declared turn first lawful step e.member call in
-          let f = entered turn step e start in
+          let f = enter_run_of turn step e start in
           subst (λ (x : Doing M). HasGoneOn x.member) (sym (once_started declared turn first lawful step left d call some))
           (rest f (sound_entered declared turn first lawful step e start given may) (less_enough declared turn first lawful step left d call sound some enough) (no_value_entered e start given may))
 
-  pub executed_done : (d : Doing M) → IsSoundNow declared turn first lawful d.member → HasGoneOn (executed declared turn step d).member
+  pub executed_done : (d : Doing M) → IsSoundNow declared turn first lawful d.member → HasGoneOn (execute declared turn step d).member
   executed_done d sound =
       let e = answered_open turn step d in
       starting_done (held_by e) e (sound_answered declared turn first lawful step d sound) (λ idle. omega arith) (no_value_answered d sound)
@@ -184,12 +184,12 @@ module _ {M : Type 0} (declared : M → Signature) (turn : M → List ValueTree 
 -- ---- the end of a step
 
 -- closing asks and looking views up leaves nothing to do
-pub still_done : {M : Type 0} (d : Doing M) → HasGoneOn d.member → HasGoneOn (looked_up (closed d)).member
+pub still_done : {M : Type 0} (d : Doing M) → HasGoneOn d.member → HasGoneOn (look_up (keep_ask_open d)).member
 still_done d h = record { no_value = by_ask (open_ask d.member.performing.kept) refl; none_starts = h.none_starts }
   where
-    by_ask : (o : Option AskRecord) → open_ask d.member.performing.kept ≡ o → value_of_open (looked_up (closed d)).member ≡ None
+    by_ask : (o : Option AskRecord) → open_ask d.member.performing.kept ≡ o → value_of_open (look_up (keep_ask_open d)).member ≡ None
     by_ask None is =
-        let m = (looked_up (closed d)).member in
+        let m = (look_up (keep_ask_open d)).member in
         ap (λ o. option_and_then (λ (x : AskRecord). option_and_then (value_of_ask m.known) (asking_of m.asks (name_of_last m.performing.kept))) o) is
     by_ask (Some ask) is =
         let m = d.member in

@@ -19,13 +19,13 @@ use Rattle.circus_record.specs.declared.record.MemberRecord.{MemberRecord}
 use Rattle.circus_gather.specs.declared.held.HeldCall.{HeldCall}
 use Rattle.circus_gather.specs.Gathering.{Gathered, index_of, is_of_index, is_counted, is_same_call, expected_callers, call_to_start, given_call, as_said}
 use Rattle.circus_performing.specs.declared.start.RunStart.{RunStart}
-use Rattle.circus_performing.specs.Performing.{Performing, open_ask, last_of, is_active, begun, gone_on, most_turns}
+use Rattle.circus_performing.specs.Performing.{Performing, open_ask, last_of, is_active, begin_run, gone_on, most_turns}
 use Rattle.circus_performing.specs.Record.{behaviour}
-use Rattle.circus_member_rules.specs.MemberState.{MemberState, Doing, adding}
+use Rattle.circus_member_rules.specs.MemberState.{MemberState, Doing, add_effects}
 use Rattle.circus_performing.proofs.Ends.{last_more}
 use Rattle.circus_performing.proofs.Records.{none_is_some}
 use Rattle.circus_member_rules.specs.Rules.{index_of_last, snapshots_owed}
-use Rattle.circus_member_rules.specs.Step.{name_of_last, asking_begun, is_idle, start_by_call, next_start, given_states, opened_by_view, opened_ask, ended_run, entered, after_turns, starting}
+use Rattle.circus_member_rules.specs.Step.{name_of_last, asking_begun, is_idle, start_by_call, next_start, given_states, opened_by_view, opened_ask, ended_run, enter_run_of, after_turns, start_runs}
 use Rattle.circus_member_rules.proofs.Writing.{none_is_idle}
 use Rattle.circus_member_rules.proofs.Entering.{index_more, with_entered}
 use Rattle.circus_member_rules.proofs.Starting.{and_right, none_from_test, given_is_chosen, next_is_ready, may_start, IsSoundNow, sound_given, sound_entered}
@@ -84,14 +84,14 @@ module _ {X : Type 0} (p : X → Bool) where
 pub given_gathered : {M : Type 0} (d : Doing M) → (given_states d).member.gathered ≡ d.member.gathered
 given_gathered {M} d = by_test (is_idle d.member.performing.kept)
   where
-    by_test : (t : Bool) → let e : Doing M = if t then adding (record d { member = record d.member { requests = [] } }) (snapshots_owed d.member.performing.kept d.member.requests) else d in e.member.gathered ≡ d.member.gathered
+    by_test : (t : Bool) → let e : Doing M = if t then add_effects (record d { member = record d.member { requests = [] } }) (snapshots_owed d.member.performing.kept d.member.requests) else d in e.member.gathered ≡ d.member.gathered
     by_test true = refl
     by_test false = refl
 
 pub given_performing : {M : Type 0} (d : Doing M) → (given_states d).member.performing ≡ d.member.performing
 given_performing {M} d = by_test (is_idle d.member.performing.kept)
   where
-    by_test : (t : Bool) → let e : Doing M = if t then adding (record d { member = record d.member { requests = [] } }) (snapshots_owed d.member.performing.kept d.member.requests) else d in e.member.performing ≡ d.member.performing
+    by_test : (t : Bool) → let e : Doing M = if t then add_effects (record d { member = record d.member { requests = [] } }) (snapshots_owed d.member.performing.kept d.member.requests) else d in e.member.performing ≡ d.member.performing
     by_test true = refl
     by_test false = refl
 
@@ -155,7 +155,7 @@ module _ {M : Type 0} (declared : M → Signature) (turn : M → List ValueTree 
   start_by m call = start_by_call m.place.troupe (declared m.performing.hosted).procedures call
 
   -- where its run ends
-  pub fewer_started : (d : Doing M) (call : HeldCall) → IsSoundNow declared turn first lawful d.member → next_start d.member ≡ Some call → let e = entered turn step d (start_by d.member call) in is_idle e.member.performing.kept ≡ true → held_by e < held_by d
+  pub fewer_started : (d : Doing M) (call : HeldCall) → IsSoundNow declared turn first lawful d.member → next_start d.member ≡ Some call → let e = enter_run_of turn step d (start_by d.member call) in is_idle e.member.performing.kept ≡ true → held_by e < held_by d
   fewer_started d call sound next idle =
       let m = d.member in
       let b = behaviour declared turn first m.performing.hosted in
@@ -164,7 +164,7 @@ module _ {M : Type 0} (declared : M → Signature) (turn : M → List ValueTree 
       let law = lawful m.performing.hosted in
       let ready = next_is_ready b m call sound next in
       let x : Doing M = record d { member = with_entered b law m step start } in
-      let gone = gone_on step (b.turn kept.state start.procedure start.arguments) most_turns (begun step start) in
+      let gone = gone_on step (b.turn kept.state start.procedure start.arguments) most_turns (begin_run step start) in
       let index : index_of_last x.member.performing.kept ≡ kept.count = index_more kept gone ∙ sym (none_is_idle b m.performing.began kept sound.kept ready.idle).count in
       let out : not (is_of_index m.gathered.module (index_of_last x.member.performing.kept) call) ≡ false =
       ap not (eq-eqb (index_of m.gathered.module call.header) (index_of_last x.member.performing.kept) (ready.index ∙ sym index)) in
@@ -177,23 +177,23 @@ module _ {M : Type 0} (declared : M → Signature) (turn : M → List ValueTree 
   IsEnough left d = is_idle d.member.performing.kept ≡ true → held_by d ≤ left
 
   -- a start more
-  one_start : (left : ℕ) (d : Doing M) → starting declared turn step (suc left) d ≡ option_map_or (λ call. starting declared turn step left (entered turn step (given_states d) (start_by (given_states d).member call))) (next_start (given_states d).member) (given_states d)
-  unfolding starting
+  one_start : (left : ℕ) (d : Doing M) → start_runs declared turn step (suc left) d ≡ option_map_or (λ call. start_runs declared turn step left (enter_run_of turn step (given_states d) (start_by (given_states d).member call))) (next_start (given_states d).member) (given_states d)
+  unfolding start_runs
   one_start left d = refl
 
-  no_start : (d : Doing M) → starting declared turn step 0 d ≡ given_states d
-  unfolding starting
+  no_start : (d : Doing M) → start_runs declared turn step 0 d ≡ given_states d
+  unfolding start_runs
   no_start d = refl
 
   -- where none starts next, only states are given
-  pub none_started : (left : ℕ) (d : Doing M) → next_start (given_states d).member ≡ None → starting declared turn step left d ≡ given_states d
+  pub none_started : (left : ℕ) (d : Doing M) → next_start (given_states d).member ≡ None → start_runs declared turn step left d ≡ given_states d
   none_started zero d none = no_start d
   none_started (suc left) d none =
-      one_start left d ∙ ap (λ o. option_map_or (λ call. starting declared turn step left (entered turn step (given_states d) (start_by (given_states d).member call))) o (given_states d)) none
+      one_start left d ∙ ap (λ o. option_map_or (λ call. start_runs declared turn step left (enter_run_of turn step (given_states d) (start_by (given_states d).member call))) o (given_states d)) none
 
-  pub once_started : (left : ℕ) (d : Doing M) (call : HeldCall) → next_start (given_states d).member ≡ Some call → starting declared turn step (suc left) d ≡ starting declared turn step left (entered turn step (given_states d) (start_by (given_states d).member call))
+  pub once_started : (left : ℕ) (d : Doing M) (call : HeldCall) → next_start (given_states d).member ≡ Some call → start_runs declared turn step (suc left) d ≡ start_runs declared turn step left (enter_run_of turn step (given_states d) (start_by (given_states d).member call))
   once_started left d call some =
-      one_start left d ∙ ap (λ o. option_map_or (λ c. starting declared turn step left (entered turn step (given_states d) (start_by (given_states d).member c))) o (given_states d)) some
+      one_start left d ∙ ap (λ o. option_map_or (λ c. start_runs declared turn step left (enter_run_of turn step (given_states d) (start_by (given_states d).member c))) o (given_states d)) some
 
   -- none starts where enough is nothing
   pub nothing_left : (d : Doing M) → IsEnough 0 d → next_start (given_states d).member ≡ None
@@ -211,7 +211,7 @@ module _ {M : Type 0} (declared : M → Signature) (turn : M → List ValueTree 
           none_to_start e.member.gathered e.member.known.views e.member.known.down e.member.place.calls e.member.performing.kept.count (omega (arith, none, same))
 
   -- one start less is enough behind a start
-  pub less_enough : (left : ℕ) (d : Doing M) (call : HeldCall) → IsSoundNow declared turn first lawful d.member → next_start (given_states d).member ≡ Some call → IsEnough (suc left) d → IsEnough left (entered turn step (given_states d) (start_by (given_states d).member call))
+  pub less_enough : (left : ℕ) (d : Doing M) (call : HeldCall) → IsSoundNow declared turn first lawful d.member → next_start (given_states d).member ≡ Some call → IsEnough (suc left) d → IsEnough left (enter_run_of turn step (given_states d) (start_by (given_states d).member call))
   less_enough left d call sound next enough idle =
       let e = given_states d in
       let fewer = fewer_started e call (sound_given declared turn first lawful d sound) next idle in
@@ -221,7 +221,7 @@ module _ {M : Type 0} (declared : M → Signature) (turn : M → List ValueTree 
       omega (arith, fewer, same, all)
 
   -- what starts comes to, with any two numbers of starts that are enough
-  pub same_starting : (left more : ℕ) (d : Doing M) → IsSoundNow declared turn first lawful d.member → IsEnough left d → IsEnough more d → starting declared turn step left d ≡ starting declared turn step more d
+  pub same_starting : (left more : ℕ) (d : Doing M) → IsSoundNow declared turn first lawful d.member → IsEnough left d → IsEnough more d → start_runs declared turn step left d ≡ start_runs declared turn step more d
   same_starting zero more d sound enough others =
       let none = nothing_left d enough in
       none_started zero d none ∙ sym (none_started more d none)
@@ -230,14 +230,14 @@ module _ {M : Type 0} (declared : M → Signature) (turn : M → List ValueTree 
       none_started (suc left) d none ∙ sym (none_started zero d none)
   same_starting (suc left) (suc more) d sound enough others = by_next (same_starting left more) (next_start (given_states d).member) refl
     where
-      by_next : ((e : Doing M) → IsSoundNow declared turn first lawful e.member → IsEnough left e → IsEnough more e → starting declared turn step left e ≡ starting declared turn step more e) → (o : Option HeldCall) → next_start (given_states d).member ≡ o → starting declared turn step (suc left) d ≡ starting declared turn step (suc more) d
+      by_next : ((e : Doing M) → IsSoundNow declared turn first lawful e.member → IsEnough left e → IsEnough more e → start_runs declared turn step left e ≡ start_runs declared turn step more e) → (o : Option HeldCall) → next_start (given_states d).member ≡ o → start_runs declared turn step (suc left) d ≡ start_runs declared turn step (suc more) d
       by_next rest None none = none_started (suc left) d none ∙ sym (none_started (suc more) d none)
       by_next rest (Some call) some =
           let e = given_states d in
           let given = sound_given declared turn first lawful d sound in
           let b = behaviour declared turn first e.member.performing.hosted in
           let may = may_start b e.member call (next_is_ready b e.member call given some) in
-          let f = entered turn step e (start_by e.member call) in
+          let f = enter_run_of turn step e (start_by e.member call) in
           once_started left d call some
           ∙ rest f (sound_entered declared turn first lawful step e (start_by e.member call) given may) (less_enough left d call sound some enough) (less_enough more d call sound some others)
           ∙ sym (once_started more d call some)

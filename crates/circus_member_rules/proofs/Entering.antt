@@ -19,7 +19,7 @@ use Rattle.circus_fanout.specs.Knowing.{Knowing}
 use Rattle.circus_gather.specs.Gathering.{reply_of, with_start}
 use Rattle.circus_fanout.specs.Asking.{Asking, answer}
 use Rattle.circus_performing.specs.declared.start.RunStart.{RunStart}
-use Rattle.circus_performing.specs.Performing.{Performing, state_after, clock_after, open_ask, last_of, begun, answered_ask, gone_on, with_run, most_turns, last_count, entered, answered}
+use Rattle.circus_performing.specs.Performing.{Performing, state_after, clock_after, open_ask, last_of, begin_run, answered_ask, gone_on, with_run, most_turns, last_count, enter_run, answer_open_ask}
 use Rattle.circus_performing.specs.Record.{start_of, turns}
 use Rattle.circus_performing.specs.Acts.{Enters, Answers, CanAnswer}
 use Rattle.circus_performing.proofs.Ends.{last_more, latest_more}
@@ -111,7 +111,7 @@ module _ {M : Type 0} (b : Behaviour) (lawful : IsModule b) (m : MemberState M) 
   with_entered start =
       record m {
         gathered = with_start m.gathered m.performing.kept.count;
-        performing = record m.performing { kept = entered b.turn step start m.performing.kept };
+        performing = record m.performing { kept = enter_run b.turn step start m.performing.kept };
       }
 
   pub turned_by_start : (start : RunStart) → IsSound b m → MayStart b.declared m start → IsTurned b (with_entered start)
@@ -119,10 +119,10 @@ module _ {M : Type 0} (b : Behaviour) (lawful : IsModule b) (m : MemberState M) 
       let kept = m.performing.kept in
       let troupe = m.place.troupe in
       let modules = length m.known.views in
-      let gone = gone_on step (b.turn kept.state start.procedure start.arguments) most_turns (begun step start) in
+      let gone = gone_on step (b.turn kept.state start.procedure start.arguments) most_turns (begin_run step start) in
       let p : Performing Behaviour = record { hosted = b; began = m.performing.began; kept = kept } in
       let idle = none_is_idle b m.performing.began kept h.kept may.can.idle in
-      let of : IsRunOf troupe modules (begun step start) = record { thread = may.thread; now = may.thread.counts } in
+      let of : IsRunOf troupe modules (begin_run step start) = record { thread = may.thread; now = may.thread.counts } in
       let index : index_of_last (with_run kept gone) ≡ kept.count = index_more kept gone ∙ sym idle.count in
       record {
         home = h.home;
@@ -131,7 +131,7 @@ module _ {M : Type 0} (b : Behaviour) (lawful : IsModule b) (m : MemberState M) 
         replies = h.replies;
         asks = h.asks;
         names = h.names;
-        run = last_of_thread troupe modules kept gone (still_of troupe modules (begun step start) gone (gone_thread step (b.turn kept.state start.procedure start.arguments) most_turns (begun step start)) of);
+        run = last_of_thread troupe modules kept gone (still_of troupe modules (begin_run step start) gone (gone_thread step (b.turn kept.state start.procedure start.arguments) most_turns (begin_run step start)) of);
         kept = act_keeps b lawful (Enters step start) p may.can h.kept;
         fresh = subst (λ i. reply_of m.gathered i ≡ None) (sym index) may.fresh;
       }
@@ -139,7 +139,7 @@ module _ {M : Type 0} (b : Behaviour) (lawful : IsModule b) (m : MemberState M) 
   -- ---- the open ask is answered
 
   abbrev pub with_answered : Reply → MemberState M
-  with_answered reply = record m { performing = record m.performing { kept = answered b.turn m.performing.began step reply.outcome reply.clock m.performing.kept } }
+  with_answered reply = record m { performing = record m.performing { kept = answer_open_ask b.turn m.performing.began step reply.outcome reply.clock m.performing.kept } }
 
   pub turned_by_reply : (reply : Reply) → IsSound b m → HasValue b m reply → IsTurned b (with_answered reply)
   turned_by_reply reply h v =
@@ -153,7 +153,7 @@ module _ {M : Type 0} (b : Behaviour) (lawful : IsModule b) (m : MemberState M) 
       let made = with_answer b lawful began kept p step reply.outcome clock in
       let gone = gone_on step (turns b (state_after began p.before) (start_of p.run)) most_turns made in
       let before : MemberRecord = record kept { runs = p.before } in
-      let is : answered b.turn began step reply.outcome clock kept ≡ with_run before gone = answered_is b lawful began kept p step reply.outcome clock in
+      let is : answer_open_ask b.turn began step reply.outcome clock kept ≡ with_run before gone = answered_is b lawful began kept p step reply.outcome clock in
       let was : IsRunOf troupe modules p.run = subst (λ o. IfSome o (IsRunOf troupe modules)) (last_is_performed b began kept p) h.run in
       let now : clock_after made.entry made.asks ≡ clock = latest_more (λ (a : AskRecord). a.after) p.run.entry p.waiting.before (answered_ask step reply.outcome clock p.waiting.ask) in
       let of : IsRunOf troupe modules made = record { thread = was.thread; now = ap length now ∙ v.is.counts } in

@@ -20,11 +20,11 @@ use Rattle.circus_model.specs.Lawful.{IsState, import_answers}
 use Rattle.circus_model.specs.Behaviour.{Behaviour, IsModule}
 use Rattle.circus_record.specs.declared.record.AskRecord.{AskRecord}
 use Rattle.circus_record.specs.declared.record.RunRecord.{RunRecord}
-use Rattle.circus_fanout.specs.Knowing.{Knowing, is_newer, told, declared, wanted}
+use Rattle.circus_fanout.specs.Knowing.{Knowing, is_newer, note_view, note_down, want_view}
 use Rattle.circus_gather.specs.declared.held.HeldCall.{HeldCall}
 use Rattle.circus_gather.specs.Gathering.{answer_to, with_call, with_required, with_first}
 use Rattle.circus_fanout.specs.Asking.{Asking, with_reply, with_before, with_stale, with_view}
-use Rattle.circus_performing.specs.Performing.{Performing, open_ask, last_of, is_fetching, active_record, made_active, activated, last_count, taken_in}
+use Rattle.circus_performing.specs.Performing.{Performing, open_ask, last_of, is_fetching, active_record, made_active, activate, last_count, taken_in}
 use Rattle.circus_performing.specs.Record.{IsRecord}
 use Rattle.circus_performing.specs.Acts.{Joins, Tabled, Activates}
 use Rattle.circus_performing.proofs.Records.{act_keeps, fetching_is_inactive}
@@ -97,7 +97,7 @@ seen_said k view a =
 module _ {M : Type 0} (b : Behaviour) (m : MemberState M) where
   -- ---- calls that come in
 
-  pub sound_asked : (header : CallHeader) (body : List ℕ) (sender : Caller) → IsCallTo b.declared m.place.troupe (length m.known.views) header body → IsSound b m → IsSound b (step.asked m header body sender).member
+  pub sound_asked : (header : CallHeader) (body : List ℕ) (sender : Caller) → IsCallTo b.declared m.place.troupe (length m.known.views) header body → IsSound b m → IsSound b (step.handle_call m header body sender).member
   sound_asked header body sender can h =
       let call : HeldCall = record { header = header; body = body; sender = sender } in
       let g = with_call m.gathered call in
@@ -107,7 +107,7 @@ module _ {M : Type 0} (b : Behaviour) (m : MemberState M) where
       sound_same_views b n k (called_views (answer_to m.gathered header) header m.known)
       (sound_gathered b m g same.0 same.1 (held-with_call b.declared m.place.troupe (length m.known.views) m.gathered call can h.held) h)
 
-  pub sound_fetched : (incarnation : ℕ) (sender : Caller) → IsSound b m → IsSound b (step.fetched m incarnation sender).member
+  pub sound_fetched : (incarnation : ℕ) (sender : Caller) → IsSound b m → IsSound b (step.handle_fetch m incarnation sender).member
   sound_fetched incarnation sender h =
       let g = with_required m.gathered incarnation in
       let n : MemberState M = record m { gathered = g } in
@@ -125,7 +125,7 @@ module _ {M : Type 0} (b : Behaviour) (m : MemberState M) where
       (λ ask is. kept-changed (IsSameAsk ask) name (name_of_last m.performing.kept) change m.asks (λ a. same_ask ask a (change a) (keeps a)))
       h
 
-  pub sound_replied : (name : AskName) (from : ℕ) (reply : Reply) → IfSome (asking_of m.asks name) (IsReplyTo b.declared (length m.known.views) reply) → IsSound b m → IsSound b (step.replied m name from reply).member
+  pub sound_replied : (name : AskName) (from : ℕ) (reply : Reply) → IfSome (asking_of m.asks name) (IsReplyTo b.declared (length m.known.views) reply) → IsSound b m → IsSound b (step.handle_reply m name from reply).member
   sound_replied name from reply can h = sound_changed name (with_reply from reply) (λ a. refl) opens h
     where
       opens : (a : Asking) → asking_of m.asks name ≡ Some a → IsOpenAsk b.declared m.place.troupe (length m.known.views) a → IsOpenAsk b.declared m.place.troupe (length m.known.views) (with_reply from reply a)
@@ -140,10 +140,10 @@ module _ {M : Type 0} (b : Behaviour) (m : MemberState M) where
   sound_before name from h =
       sound_changed name (with_before from) (λ a. refl) (λ a is ready. open_same b.declared m.place.troupe (length m.known.views) a (with_before from a) refl refl ready) h
 
-  pub sound_stale : (name : AskName) (server from incarnation : ℕ) → IsSound b m → IsSound b (step.stale m name server from incarnation).member
+  pub sound_stale : (name : AskName) (server from incarnation : ℕ) → IsSound b m → IsSound b (step.handle_stale m name server from incarnation).member
   sound_stale name server from incarnation h =
       let n : MemberState M = record m { asks = with_asking name (after_stale m.known from incarnation) m.asks } in
-      sound_same_views b n (wanted m.known server incarnation) refl
+      sound_same_views b n (want_view m.known server incarnation) refl
       (sound_changed name (after_stale m.known from incarnation) header (λ a is ready. open_same b.declared m.place.troupe (length m.known.views) a (after_stale m.known from incarnation a) (header a) (said a) ready) h)
     where
       header : KeepsHeader (after_stale m.known from incarnation)
@@ -193,12 +193,12 @@ module _ {M : Type 0} (b : Behaviour) (m : MemberState M) where
   sound_view request view is h =
       let k = answered_by_ring m.known request view.troupe in
       let same = ring_views m.known request view.troupe in
-      let many : length (told k view).views ≡ length m.known.views = told_as_many k view ∙ ap length same in
+      let many : length (note_view k view).views ≡ length m.known.views = told_as_many k view ∙ ap length same in
       let are = told_incarnations k view is (subst (λ vs. All (λ (v : View). IsIncarnation v.incarnation) vs) (sym same) h.home.incarnations) in
-      sound_known b m (told k view) many (home_with b.declared m.place m.known.views (told k view).views many are h.home) h
+      sound_known b m (note_view k view) many (home_with b.declared m.place m.known.views (note_view k view).views many are h.home) h
 
 -- with the view, the phase, and what the asks see
-pub sound_told : {M : Type 0} (b : Behaviour) → IsModule b → (m : MemberState M) (request : Request) (table : Table) → IsIncarnation table.view.incarnation → IsSound b m → IsSound b (step.told m request table).member
+pub sound_told : {M : Type 0} (b : Behaviour) → IsModule b → (m : MemberState M) (request : Request) (table : Table) → IsIncarnation table.view.incarnation → IsSound b m → IsSound b (step.handle_table m request table).member
 sound_told {M} b lawful m request table is h =
     let k = known_by_table m.known request table.view in
     let kept = kept_by_table m.performing.kept request table in
@@ -215,7 +215,7 @@ module _ {M : Type 0} (b : Behaviour) (lawful : IsModule b) (m : MemberState M) 
   -- ---- other things that happen
 
   pub sound_declared : (node : ℕ) → IsSound b m → IsSound b (step.declared_down m node).member
-  sound_declared node h = sound_same_views b m (declared m.known node) (declared_views m.known node) h
+  sound_declared node h = sound_same_views b m (note_down m.known node) (declared_views m.known node) h
 
   pub sound_joins : IsSound b m → IsSound b (step.joins m).member
   sound_joins h =
@@ -230,7 +230,7 @@ module _ {M : Type 0} (b : Behaviour) (lawful : IsModule b) (m : MemberState M) 
       let none : kept.runs ≡ [] = h.kept.inactive (fetching_is_inactive kept.phase fetching) in
       let g = with_first m.gathered count in
       let now = active_record at state count kept in
-      let record_is : IsRecord b (activated at state count p).began (activated at state count p).kept = act_keeps b lawful (Activates at state count) p (is, within) h.kept in
+      let record_is : IsRecord b (activate at state count p).began (activate at state count p).kept = act_keeps b lawful (Activates at state count) p (is, within) h.kept in
       record {
         home = h.home;
         own = h.own;
@@ -243,7 +243,7 @@ module _ {M : Type 0} (b : Behaviour) (lawful : IsModule b) (m : MemberState M) 
         kept = subst (λ (x : Performing Behaviour). IsRecord b x.began x.kept) (ap (λ t. cond t (made_active at state count p) p) fetching) record_is;
       }
 
-  pub sound_restored : (at : ℕ) (state : List ValueTree) (count : ℕ) → IsState b.declared state → count ≤ last_count → IsSound b m → IsSound b (step.restored at m state count).member
+  pub sound_restored : (at : ℕ) (state : List ValueTree) (count : ℕ) → IsState b.declared state → count ≤ last_count → IsSound b m → IsSound b (step.handle_state at m state count).member
   sound_restored at state count is within h = by_test (is_fetching m.performing.kept.phase) refl
     where
       by_test : (t : Bool) → is_fetching m.performing.kept.phase ≡ t → let d : Doing M = if t then record { member = record m { performing = made_active at state count m.performing; gathered = with_first m.gathered count }; effects = active_call m.place m.known count ++ before_answers m.gathered count } else record { member = m; effects = [] } in IsSound b d.member

@@ -9,7 +9,7 @@ use Rattle.circus_limits.specs.Limits.{most_modules}
 use Rattle.circus_header.specs.declared.call.Request.{Request}
 use Rattle.circus_collate.specs.declared.view.View.{View}
 use Rattle.circus_model.specs.declared.signature.Signature.{Signature}
-use Rattle.circus_fanout.specs.Knowing.{Knowing, is_newer, told, answered, declared}
+use Rattle.circus_fanout.specs.Knowing.{Knowing, is_newer, note_view, note_answer, note_down}
 use Rattle.circus_gather.specs.declared.added.Added.{Added}
 use Rattle.circus_gather.specs.declared.added.Added.TheVariants as added
 use Rattle.circus_header.specs.declared.call.CallHeader.{CallHeader}
@@ -41,14 +41,14 @@ home_with d place views more same are h =
 
 -- ---- the views
 
-pub told_as_many : (k : Knowing) (view : View) → length (told k view).views ≡ length k.views
+pub told_as_many : (k : Knowing) (view : View) → length (note_view k view).views ≡ length k.views
 told_as_many k view =
     elim (is_newer k view) as (λ b. let t : Knowing = if b then record k { views = slice_set k.views view.troupe view } else k in length t.views ≡ length k.views) [
       | true ↦ length-set k.views view.troupe view
       | false ↦ refl
     ]
 
-pub told_incarnations : (k : Knowing) (view : View) → IsIncarnation view.incarnation → HaveIncarnations k.views → HaveIncarnations (told k view).views
+pub told_incarnations : (k : Knowing) (view : View) → IsIncarnation view.incarnation → HaveIncarnations k.views → HaveIncarnations (note_view k view).views
 told_incarnations k view is are =
     elim (is_newer k view) as (λ b. let t : Knowing = if b then record k { views = slice_set k.views view.troupe view } else k in HaveIncarnations t.views) [
       | true ↦ All-set (λ (v : View). IsIncarnation v.incarnation) k.views view.troupe view is are
@@ -57,7 +57,7 @@ told_incarnations k view is are =
 
 pub ring_views : (k : Knowing) (request : Request) (troupe : ℕ) → (answered_by_ring k request troupe).views ≡ k.views
 ring_views k request troupe =
-    elim (is_lookup request) as (λ b. let t : Knowing = if b then answered k troupe else k in t.views ≡ k.views) [ true ↦ refl | false ↦ refl ]
+    elim (is_lookup request) as (λ b. let t : Knowing = if b then note_answer k troupe else k in t.views ≡ k.views) [ true ↦ refl | false ↦ refl ]
 
 pub called_views : (a : Added) (header : CallHeader) (k : Knowing) → (wanted_by_call a header k).views ≡ k.views
 called_views (added.Reply reply) header k = refl
@@ -65,7 +65,7 @@ called_views (added.Stale required) header k = refl
 called_views (added.Before first) header k = refl
 called_views added.Held header k = refl
 
-pub declared_views : (k : Knowing) (node : ℕ) → (declared k node).views ≡ k.views
+pub declared_views : (k : Knowing) (node : ℕ) → (note_down k node).views ≡ k.views
 declared_views k node = by_test _
   where
     by_test : (b : Bool) → let t : Knowing = if b then k else record k { down = k.down ++ node ∷ [] } in t.views ≡ k.views
@@ -76,9 +76,9 @@ declared_views k node = by_test _
 
 pub ring_down : (k : Knowing) (request : Request) (troupe : ℕ) → (answered_by_ring k request troupe).down ≡ k.down
 ring_down k request troupe =
-    elim (is_lookup request) as (λ b. let t : Knowing = if b then answered k troupe else k in t.down ≡ k.down) [ true ↦ refl | false ↦ refl ]
+    elim (is_lookup request) as (λ b. let t : Knowing = if b then note_answer k troupe else k in t.down ≡ k.down) [ true ↦ refl | false ↦ refl ]
 
-pub told_down : (k : Knowing) (view : View) → (told k view).down ≡ k.down
+pub told_down : (k : Knowing) (view : View) → (note_view k view).down ≡ k.down
 told_down k view =
     elim (is_newer k view) as (λ b. let t : Knowing = if b then record k { views = slice_set k.views view.troupe view } else k in t.down ≡ k.down) [ true ↦ refl | false ↦ refl ]
 
@@ -89,7 +89,7 @@ set_there [] i x y at = cc
 set_there (z ∷ zs) zero x y at = refl
 set_there (z ∷ zs) (suc i) x y at = set_there zs i x y at
 
-pub newer_there : (k : Knowing) (view : View) → is_newer k view ≡ true → slice_get (told k view).views view.troupe ≡ Some view
+pub newer_there : (k : Knowing) (view : View) → is_newer k view ≡ true → slice_get (note_view k view).views view.troupe ≡ Some view
 newer_there k view newer = rw newer (by_view (slice_get k.views view.troupe) refl newer)
   where
     by_view : (o : Option View) → slice_get k.views view.troupe ≡ o → option_map_or (λ (known : View). nat_lt known.incarnation view.incarnation) o false ≡ true → slice_get (slice_set k.views view.troupe view) view.troupe ≡ Some view

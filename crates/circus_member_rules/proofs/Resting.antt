@@ -12,7 +12,7 @@ use Rattle.circus_member_rules.specs.declared.occurrence.AskName.{AskName}
 use Rattle.circus_member_rules.specs.OpenAsks.{is_name}
 use Rattle.circus_member_rules.specs.MemberState.{Doing}
 use Rattle.circus_member_rules.specs.Rules.{ringmaster, stays_open}
-use Rattle.circus_member_rules.specs.Step.{name_of_last, waits, closed, looked_up}
+use Rattle.circus_member_rules.specs.Step.{name_of_last, waits, keep_ask_open, look_up}
 use Rattle.circus_member_rules.specs.Seen.Sound.{IsOpenAsk, IsSameAsk, IsSound, IsRested}
 use Rattle.circus_member_rules.proofs.Named.{lookup-kept, named-filtered}
 use Rattle.circus_member_rules.proofs.Sound.{sound_same_views, sound_asks}
@@ -22,7 +22,7 @@ pub waiting_stays : (kept : MemberRecord) (ask : AskRecord) (name : AskName) →
 waiting_stays kept ask name is here = rw is (rw here refl)
 
 module _ {M : Type 0} (b : Behaviour) (d : Doing M) where
-  pub sound_closed : IsSound b d.member → IsSound b (closed d).member
+  pub sound_closed : IsSound b d.member → IsSound b (keep_ask_open d).member
   sound_closed h =
       let m = d.member in
       let stays = stays_open m.known (waits m.performing.kept) in
@@ -32,10 +32,10 @@ module _ {M : Type 0} (b : Behaviour) (d : Doing M) where
       (λ ask is same. subst (λ o. IfSome o (IsSameAsk ask)) (sym (lookup-kept (is_name (name_of_last m.performing.kept)) stays m.asks (λ e here. rw (waiting_stays m.performing.kept ask e.0 is here) refl))) same)
       h
 
-  pub rested : IsSound b d.member → IsRested b (looked_up (closed d)).member
+  pub rested : IsSound b d.member → IsRested b (look_up (keep_ask_open d)).member
   rested h =
       let m = d.member in
       record {
-        sound = sound_same_views b (closed d).member (knowing.looked_up m.known ringmaster) refl (sound_closed h);
+        sound = sound_same_views b (keep_ask_open d).member (knowing.note_lookup m.known ringmaster) refl (sound_closed h);
         closed = filter_passes (stays_open m.known (waits m.performing.kept)) m.asks;
       }

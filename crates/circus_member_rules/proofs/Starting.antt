@@ -19,9 +19,9 @@ use Rattle.circus_gather.specs.Gathering.{index_of, reply_of, is_counted, as_sai
 use Rattle.circus_performing.specs.declared.start.RunStart.{RunStart}
 use Rattle.circus_performing.specs.Performing.{is_active, open_ask}
 use Rattle.circus_performing.specs.Record.{behaviour}
-use Rattle.circus_member_rules.specs.MemberState.{MemberState, Doing, adding}
+use Rattle.circus_member_rules.specs.MemberState.{MemberState, Doing, add_effects}
 use Rattle.circus_member_rules.specs.Rules.{snapshots_owed}
-use Rattle.circus_member_rules.specs.Step.{after_turns, is_idle, start_by_call, next_start, value_of_open, given_states, answered_by, answered_open, entered, starting, executed}
+use Rattle.circus_member_rules.specs.Step.{after_turns, is_idle, start_by_call, next_start, value_of_open, given_states, answered_by, answered_open, enter_run_of, start_runs, execute}
 use Rattle.circus_member_rules.specs.Seen.Sound.{IsHeld, IsSound, MayStart}
 use Rattle.circus_member_rules.proofs.Held.{All-passed}
 use Rattle.circus_member_rules.proofs.Sound.{sound_requests}
@@ -116,7 +116,7 @@ module _ {M : Type 0} (declared : M → Signature) (turn : M → List ValueTree 
   abbrev pub IsSoundNow : MemberState M → Type 0
   IsSoundNow m = IsSound (behaviour declared turn first m.performing.hosted) m
 
-  pub sound_entered : (step : ℕ) (d : Doing M) (start : RunStart) → IsSoundNow d.member → MayStart (declared d.member.performing.hosted) d.member start → IsSoundNow (entered turn step d start).member
+  pub sound_entered : (step : ℕ) (d : Doing M) (start : RunStart) → IsSoundNow d.member → MayStart (declared d.member.performing.hosted) d.member start → IsSoundNow (enter_run_of turn step d start).member
   sound_entered step d start h may =
       let b = behaviour declared turn first d.member.performing.hosted in
       let law = lawful d.member.performing.hosted in
@@ -142,27 +142,27 @@ module _ {M : Type 0} (declared : M → Signature) (turn : M → List ValueTree 
   pub sound_given : (d : Doing M) → IsSoundNow d.member → IsSoundNow (given_states d).member
   sound_given d h = by_test (is_idle d.member.performing.kept)
     where
-      by_test : (t : Bool) → let e = if t then adding (record d { member = record d.member { requests = [] } }) (snapshots_owed d.member.performing.kept d.member.requests) else d in IsSoundNow e.member
+      by_test : (t : Bool) → let e = if t then add_effects (record d { member = record d.member { requests = [] } }) (snapshots_owed d.member.performing.kept d.member.requests) else d in IsSoundNow e.member
       by_test false = h
       by_test true = sound_requests (behaviour declared turn first d.member.performing.hosted) d.member [] h
 
-  pub sound_starting : (step left : ℕ) (d : Doing M) → IsSoundNow d.member → IsSoundNow (starting declared turn step left d).member
-  unfolding starting
+  pub sound_starting : (step left : ℕ) (d : Doing M) → IsSoundNow d.member → IsSoundNow (start_runs declared turn step left d).member
+  unfolding start_runs
   sound_starting step zero d h = sound_given d h
   sound_starting step (suc left) d h = by_next (sound_starting step left) (given_states d) (sound_given d h)
     where
-      by_call : ((f : Doing M) → IsSoundNow f.member → IsSoundNow (starting declared turn step left f).member) → (e : Doing M) → IsSoundNow e.member → (o : Option HeldCall) → next_start e.member ≡ o → let f = option_map_or (λ call. starting declared turn step left (entered turn step e (start_by_call e.member.place.troupe (declared e.member.performing.hosted).procedures call))) o e in IsSoundNow f.member
+      by_call : ((f : Doing M) → IsSoundNow f.member → IsSoundNow (start_runs declared turn step left f).member) → (e : Doing M) → IsSoundNow e.member → (o : Option HeldCall) → next_start e.member ≡ o → let f = option_map_or (λ call. start_runs declared turn step left (enter_run_of turn step e (start_by_call e.member.place.troupe (declared e.member.performing.hosted).procedures call))) o e in IsSoundNow f.member
       by_call rest e sound None is = sound
       by_call rest e sound (Some call) is =
           let b = behaviour declared turn first e.member.performing.hosted in
           let may = may_start b e.member call (next_is_ready b e.member call sound is) in
           let start = start_by_call e.member.place.troupe (declared e.member.performing.hosted).procedures call in
-          rest (entered turn step e start) (sound_entered step e start sound may)
+          rest (enter_run_of turn step e start) (sound_entered step e start sound may)
 
-      by_next : ((f : Doing M) → IsSoundNow f.member → IsSoundNow (starting declared turn step left f).member) → (e : Doing M) → IsSoundNow e.member → let f = option_map_or (λ call. starting declared turn step left (entered turn step e (start_by_call e.member.place.troupe (declared e.member.performing.hosted).procedures call))) (next_start e.member) e in IsSoundNow f.member
+      by_next : ((f : Doing M) → IsSoundNow f.member → IsSoundNow (start_runs declared turn step left f).member) → (e : Doing M) → IsSoundNow e.member → let f = option_map_or (λ call. start_runs declared turn step left (enter_run_of turn step e (start_by_call e.member.place.troupe (declared e.member.performing.hosted).procedures call))) (next_start e.member) e in IsSoundNow f.member
       by_next rest e sound = by_call rest e sound (next_start e.member) refl
 
-  pub sound_executed : (step : ℕ) (d : Doing M) → IsSoundNow d.member → IsSoundNow (executed declared turn step d).member
+  pub sound_executed : (step : ℕ) (d : Doing M) → IsSoundNow d.member → IsSoundNow (execute declared turn step d).member
   sound_executed step d h =
       let e = answered_open turn step d in
       sound_starting step (length e.member.gathered.held) e (sound_answered step d h)

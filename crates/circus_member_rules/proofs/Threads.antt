@@ -8,7 +8,7 @@ use Rattle.circus_model.specs.NextTurn.{NextTurn, asks, ends}
 use Rattle.circus_model.specs.Execution.{is_spent}
 use Rattle.circus_record.specs.declared.record.AskRecord.{AskRecord}
 use Rattle.circus_record.specs.declared.record.RunRecord.{RunRecord}
-use Rattle.circus_performing.specs.Performing.{clock_after, replies_of, made_ask, answered_ask, refusal, with_ask, with_refusal, turned, gone_on}
+use Rattle.circus_performing.specs.Performing.{clock_after, replies_of, made_ask, answered_ask, refusal, with_ask, with_refusal, turn_run, gone_on}
 use Rattle.circus_performing.proofs.Ends.{latest_more}
 use Rattle.circus_member_rules.specs.Seen.Sound.{IsRunOf}
 
@@ -45,7 +45,7 @@ module _ (step : ℕ) (turn : List Outcome → NextTurn) where
       by_clock rest callee procedure arguments state false =
           asked_thread run (made_ask step (clock_after run.entry run.asks) callee procedure arguments state) refl
 
-      by_turn : ((r : RunRecord) → IsOfThread r (gone_on step turn left r)) → (next : NextTurn) → IsOfThread run (turned step (gone_on step turn left) run next)
+      by_turn : ((r : RunRecord) → IsOfThread r (gone_on step turn left r)) → (next : NextTurn) → IsOfThread run (turn_run step (gone_on step turn left) run next)
       by_turn rest (ends outcome state) = record { root = refl; path = refl; entry = refl; now = refl }
       by_turn rest (asks callee procedure arguments state) = by_clock rest callee procedure arguments state (is_spent (clock_after run.entry run.asks))
 

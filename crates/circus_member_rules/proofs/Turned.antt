@@ -12,7 +12,7 @@ use Rattle.circus_record.specs.declared.record.AskRecord.{AskRecord}
 use Rattle.circus_record.specs.declared.record.RunRecord.{RunRecord}
 use Rattle.circus_gather.specs.Gathering.{reply_of, with_end}
 use Rattle.circus_fanout.specs.Asking.{Asking, with_view}
-use Rattle.circus_performing.specs.Performing.{open_ask, last_of, unanswered}
+use Rattle.circus_performing.specs.Performing.{open_ask, last_of, unless_replied}
 use Rattle.circus_performing.specs.Record.{IsRecord}
 use Rattle.circus_performing.proofs.Records.{performing_has_one}
 use Rattle.std.proofs.lemmas.Option.{same_Some}
@@ -158,7 +158,7 @@ module _ {M : Type 0} (b : Behaviour) where
       by_ask run at (Some ask) is = sound_opened lawful d run ask at is h
 
       by_run : (o : Option RunRecord) → last_of d.member.performing.kept.runs ≡ o → let e = option_map_or (λ (run : RunRecord). option_map_or (opened_ask d run) (open_ask d.member.performing.kept) (ended_run d run)) o d in IsSound b e.member
-      by_run None at = sound_idle d.member (ap (λ o. option_and_then (λ (r : RunRecord). option_and_then unanswered (last_of r.asks)) o) at) h
+      by_run None at = sound_idle d.member (ap (λ o. option_and_then (λ (r : RunRecord). option_and_then unless_replied (last_of r.asks)) o) at) h
       by_run (Some run) at = by_ask run at (open_ask d.member.performing.kept) refl
 
 -- its module stays

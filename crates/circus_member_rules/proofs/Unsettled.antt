@@ -29,9 +29,9 @@ use Rattle.circus_member_rules.specs.declared.occurrence.AskName.{AskName}
 use Rattle.circus_member_rules.specs.declared.occurrence.Occurrence.{Occurrence}
 use Rattle.circus_member_rules.specs.declared.occurrence.Occurrence.TheVariants as comes
 use Rattle.circus_member_rules.specs.OpenAsks.{is_name, is_waiting, with_asking}
-use Rattle.circus_member_rules.specs.MemberState.{MemberState, Doing, adding}
+use Rattle.circus_member_rules.specs.MemberState.{MemberState, Doing, add_effects}
 use Rattle.circus_member_rules.specs.Rules.{is_settled, stays_open, wanted_by_call, after_stale, active_call, before_answers, snapshots_owed, concern_of}
-use Rattle.circus_member_rules.specs.Step.{name_of_last, asking_begun, waits, is_idle, start_by_call, next_start, value_of_open, given_states, opened_by_view, opened_ask, ended_run, after_turns, with_record, answered_by, answered_open, entered, starting, executed, handled, closed, closed_by}
+use Rattle.circus_member_rules.specs.Step.{name_of_last, asking_begun, waits, is_idle, start_by_call, next_start, value_of_open, given_states, opened_by_view, opened_ask, ended_run, after_turns, with_record, answered_by, answered_open, enter_run_of, start_runs, execute, handle, keep_ask_open, closed_by}
 use Rattle.circus_member_rules.specs.Seen.Sound.{AreNamed}
 use Rattle.circus_member_rules.proofs.Named.{All-opened_at, All-changed_at}
 use Rattle.circus_member_rules.proofs.Homes.{called_views}
@@ -123,7 +123,7 @@ module _ (left : AskName → Bool) where
     given_left : (d : Doing M) → AreLeft d.member → AreLeft (given_states d).member
     given_left d h = by_test (is_idle d.member.performing.kept)
       where
-        by_test : (t : Bool) → let e = if t then adding (record d { member = record d.member { requests = [] } }) (snapshots_owed d.member.performing.kept d.member.requests) else d in AreLeft e.member
+        by_test : (t : Bool) → let e = if t then add_effects (record d { member = record d.member { requests = [] } }) (snapshots_owed d.member.performing.kept d.member.requests) else d in AreLeft e.member
         by_test true = record { stay = h.stay; unsettled = h.unsettled }
         by_test false = h
 
@@ -137,31 +137,31 @@ module _ (left : AskName → Bool) where
           by_value None = are_left d.member all
           by_value (Some reply) =
               let p = d.member.performing in
-              after_left (with_record d (performing.answered (turn p.hosted) p.began at reply.outcome reply.clock p.kept)) all
+              after_left (with_record d (performing.answer_open_ask (turn p.hosted) p.began at reply.outcome reply.clock p.kept)) all
 
-      pub entered_left : (d : Doing M) (start : RunStart) → AreUnsettled d.member.known d.member.asks → AreLeft (entered turn at d start).member
+      pub entered_left : (d : Doing M) (start : RunStart) → AreUnsettled d.member.known d.member.asks → AreLeft (enter_run_of turn at d start).member
       entered_left d start all =
           let m = d.member in
           let p = m.performing in
-          after_left (with_record (record d { member = record m { gathered = with_start m.gathered p.kept.count } }) (performing.entered (turn p.hosted) at start p.kept)) all
+          after_left (with_record (record d { member = record m { gathered = with_start m.gathered p.kept.count } }) (performing.enter_run (turn p.hosted) at start p.kept)) all
 
-      starting_left : (more : ℕ) (d : Doing M) → AreLeft d.member → AreLeft (starting declared turn at more d).member
-      unfolding starting
+      starting_left : (more : ℕ) (d : Doing M) → AreLeft d.member → AreLeft (start_runs declared turn at more d).member
+      unfolding start_runs
       starting_left zero d h = given_left d h
       starting_left (suc more) d h = by_given (starting_left more) (given_states d) (given_left d h)
         where
-          by_call : ((f : Doing M) → AreLeft f.member → AreLeft (starting declared turn at more f).member) → (e : Doing M) → AreLeft e.member → (o : Option HeldCall) → next_start e.member ≡ o → let f = option_map_or (λ call. starting declared turn at more (entered turn at e (start_by_call e.member.place.troupe (declared e.member.performing.hosted).procedures call))) o e in AreLeft f.member
+          by_call : ((f : Doing M) → AreLeft f.member → AreLeft (start_runs declared turn at more f).member) → (e : Doing M) → AreLeft e.member → (o : Option HeldCall) → next_start e.member ≡ o → let f = option_map_or (λ call. start_runs declared turn at more (enter_run_of turn at e (start_by_call e.member.place.troupe (declared e.member.performing.hosted).procedures call))) o e in AreLeft f.member
           by_call rest e g None none = g
           by_call rest e g (Some call) some =
               let idle = next_is_idle e.member call some in
               let none = none_from_test (open_ask e.member.performing.kept) (and_right (is_active e.member.performing.kept.phase) _ idle) in
               let start = start_by_call e.member.place.troupe (declared e.member.performing.hosted).procedures call in
-              rest (entered turn at e start) (entered_left e start (g.unsettled none))
+              rest (enter_run_of turn at e start) (entered_left e start (g.unsettled none))
 
-          by_given : ((f : Doing M) → AreLeft f.member → AreLeft (starting declared turn at more f).member) → (e : Doing M) → AreLeft e.member → let f = option_map_or (λ call. starting declared turn at more (entered turn at e (start_by_call e.member.place.troupe (declared e.member.performing.hosted).procedures call))) (next_start e.member) e in AreLeft f.member
+          by_given : ((f : Doing M) → AreLeft f.member → AreLeft (start_runs declared turn at more f).member) → (e : Doing M) → AreLeft e.member → let f = option_map_or (λ call. start_runs declared turn at more (enter_run_of turn at e (start_by_call e.member.place.troupe (declared e.member.performing.hosted).procedures call))) (next_start e.member) e in AreLeft f.member
           by_given rest e g = by_call rest e g (next_start e.member) refl
 
-      pub executed_left : (d : Doing M) → AreUnsettled d.member.known d.member.asks → AreLeft (executed declared turn at d).member
+      pub executed_left : (d : Doing M) → AreUnsettled d.member.known d.member.asks → AreLeft (execute declared turn at d).member
       executed_left d all =
           let e = answered_open turn at d in
           starting_left (length e.member.gathered.held) e (answered_left d all)
@@ -208,7 +208,7 @@ module _ {M : Type 0} (m : MemberState M) (rest : All (λ (e : AskName × Asking
       let left = is_concerned (concern.One name) (waited_by m) in
       All-changed_at (λ (e : AskName × Asking). left e.0 ≡ false → is_settled m.known e.1 ≡ false) name change m.asks (λ a is n here other. absurd (true≢false (sym (rw here refl) ∙ other))) (rest_unsettled (concern.One name))
 
-  pub handled_unsettled : (at : ℕ) (o : Occurrence) → let d = handled at o m in AreUnsettled (is_concerned (concern_of o) (waited_by m)) d.member.known d.member.asks
+  pub handled_unsettled : (at : ℕ) (o : Occurrence) → let d = handle at o m in AreUnsettled (is_concerned (concern_of o) (waited_by m)) d.member.known d.member.asks
   handled_unsettled at (comes.Asked header body sender) =
       let a = answer_to m.gathered header in
       unsettled_same (is_concerned concern.Nothing (waited_by m)) m.known (wanted_by_call a header m.known) m.asks (called_views a header m.known) (called_down a header m.known) (rest_unsettled concern.Nothing)
@@ -217,7 +217,7 @@ module _ {M : Type 0} (m : MemberState M) (rest : All (λ (e : AskName × Asking
   handled_unsettled at (comes.IsStale name server from incarnation) = changed_unsettled name (after_stale m.known from incarnation)
   handled_unsettled at (comes.IsBefore name from) = changed_unsettled name (with_before from)
   handled_unsettled at (comes.Told request table) =
-      let d = handled at (comes.Told request table) m in
+      let d = handle at (comes.Told request table) m in
       all_of (λ (e : AskName × Asking). true ≡ false → is_settled d.member.known e.1 ≡ false) d.member.asks (λ e each. absurd (true≢false each))
   handled_unsettled at (comes.Restored state count) = by_test (is_fetching m.performing.kept.phase)
     where
@@ -225,15 +225,15 @@ module _ {M : Type 0} (m : MemberState M) (rest : All (λ (e : AskName × Asking
       by_test true = rest_unsettled concern.Nothing
       by_test false = rest_unsettled concern.Nothing
   handled_unsettled at (comes.Declared node) =
-      let d = handled at (comes.Declared node) m in
+      let d = handle at (comes.Declared node) m in
       all_of (λ (e : AskName × Asking). true ≡ false → is_settled d.member.known e.1 ≡ false) d.member.asks (λ e each. absurd (true≢false each))
   handled_unsettled at comes.Joins = rest_unsettled concern.Nothing
 
   -- ---- the end of a step
 
-  pub closed_same : (declared : M → Signature) (turn : M → List ValueTree → ℕ → List ValueTree → List Outcome → NextTurn) (at : ℕ) (o : Occurrence) → let d = executed declared turn at (handled at o m) in AreNamed d.member.asks → closed_by (concern_of o) (waited_by m) d ≡ closed d
+  pub closed_same : (declared : M → Signature) (turn : M → List ValueTree → ℕ → List ValueTree → List Outcome → NextTurn) (at : ℕ) (o : Occurrence) → let d = execute declared turn at (handle at o m) in AreNamed d.member.asks → closed_by (concern_of o) (waited_by m) d ≡ keep_ask_open d
   closed_same declared turn at o named =
-      let d = executed declared turn at (handled at o m) in
-      let left = executed_left (is_concerned (concern_of o) (waited_by m)) declared turn at (handled at o m) (handled_unsettled at o) in
+      let d = execute declared turn at (handle at o m) in
+      let left = executed_left (is_concerned (concern_of o) (waited_by m)) declared turn at (handle at o m) (handled_unsettled at o) in
       let same = close_by_same d.member.known (waits d.member.performing.kept) (concern_of o) (waited_by m) d.member.asks named left.stay in
       ap (λ (asks : List (AskName × Asking)). let e : Doing M = record d { member = record d.member { asks = asks } } in e) same

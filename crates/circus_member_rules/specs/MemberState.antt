@@ -28,8 +28,8 @@ pub record Doing (M : Type 0) : Type 0 where
   pub effects : List Effect
 
 module _ {M : Type 0} where
-  abbrev pub adding : Doing M → List Effect → Doing M
-  adding d more = record d { effects = d.effects ++ more }
+  abbrev pub add_effects : Doing M → List Effect → Doing M
+  add_effects d more = record d { effects = d.effects ++ more }
 
   -- what was made before stands in front
   abbrev pub behind : Doing M → Doing M → Doing M

@@ -83,7 +83,7 @@ abbrev pub wanted_by_call : Added → CallHeader → Knowing → Knowing
 wanted_by_call (added.Reply reply) header k = k
 wanted_by_call (added.Stale required) header k = k
 wanted_by_call (added.Before first) header k = k
-wanted_by_call added.Held header k = knowing.wanted k header.client header.client_incarnation
+wanted_by_call added.Held header k = knowing.want_view k header.client header.client_incarnation
 
 -- ---- calls out
 

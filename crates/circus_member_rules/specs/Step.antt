@@ -36,7 +36,7 @@ use Rattle.circus_member_rules.specs.declared.occurrence.Difference.{Difference}
 use Rattle.circus_member_rules.specs.declared.occurrence.Occurrence.{Occurrence}
 use Rattle.circus_member_rules.specs.declared.occurrence.Occurrence.TheVariants as comes
 use Rattle.circus_member_rules.specs.OpenAsks.{is_name, asking_of, with_ask, with_asking}
-use Rattle.circus_member_rules.specs.MemberState.{MemberState, Doing, adding}
+use Rattle.circus_member_rules.specs.MemberState.{MemberState, Doing, add_effects}
 use Rattle.circus_member_rules.specs.Messages.{arguments_in}
 use Rattle.circus_member_rules.specs.Rules as rules
 
@@ -63,7 +63,7 @@ header_of_ask troupe kept run ask =
 
 abbrev pub asking_begun : Place → MemberRecord → RunRecord → AskRecord → Asking
 asking_begun place kept run ask =
-    asking.begun (header_of_ask place.troupe kept run ask) (spelling_of_all ask.arguments) place.replies
+    asking.begin_asking (header_of_ask place.troupe kept run ask) (spelling_of_all ask.arguments) place.replies
 
 -- the member is active and performs no run
 abbrev pub is_idle : MemberRecord → Bool
@@ -107,11 +107,11 @@ is_join (Gone troupe node) = false
 
 -- the Ringmaster has answered a request for a troupe's view
 abbrev pub answered_by_ring : Knowing → Request → ℕ → Knowing
-answered_by_ring k request troupe = if is_lookup request then knowing.answered k troupe else k
+answered_by_ring k request troupe = if is_lookup request then knowing.note_answer k troupe else k
 
 -- and its view is known
 abbrev pub known_by_table : Knowing → Request → View → Knowing
-known_by_table k request view = knowing.told (answered_by_ring k request view.troupe) view
+known_by_table k request view = knowing.note_view (answered_by_ring k request view.troupe) view
 
 -- the record once a request was answered
 abbrev pub kept_by_table : MemberRecord → Request → Table → MemberRecord
@@ -131,7 +131,7 @@ module _ {M : Type 0} where
   abbrev pub opened_by_view : Doing M → AskName → Asking → View → Doing M
   opened_by_view d name a view =
       let m = d.member in
-      adding (record d { member = record m { asks = with_ask m.asks name (asking.with_view view m.known.down a) } })
+      add_effects (record d { member = record m { asks = with_ask m.asks name (asking.with_view view m.known.down a) } })
       (rules.calls_of_ask m.known name a (asking.calls_for_a_view view m.known.down []))
 
   abbrev pub opened_ask : Doing M → RunRecord → AskRecord → Doing M
@@ -146,7 +146,7 @@ module _ {M : Type 0} where
       let m = d.member in
       let index = rules.index_of_last m.performing.kept in
       let reply = reply_of_run run in
-      adding (record d { member = record m { gathered = gathering.with_end m.gathered index reply } })
+      add_effects (record d { member = record m { gathered = gathering.with_end m.gathered index reply } })
       (rules.answers_of_run (gathering.answered_by_end m.gathered index) reply)
 
   -- behind turns of the last run: it asks, or has ended
@@ -169,7 +169,7 @@ module _ {M : Type 0} where
   given_states d =
       let m = d.member in
       if is_idle m.performing.kept
-      then adding (record d { member = record m { requests = [] } }) (rules.snapshots_owed m.performing.kept m.requests)
+      then add_effects (record d { member = record m { requests = [] } }) (rules.snapshots_owed m.performing.kept m.requests)
       else d
 
   -- the call that starts next
@@ -182,8 +182,8 @@ module _ {M : Type 0} where
   -- ---- the end of a step
 
   -- the ask that waits for its value stays open
-  abbrev pub closed : Doing M → Doing M
-  closed d =
+  abbrev pub keep_ask_open : Doing M → Doing M
+  keep_ask_open d =
       let m = d.member in
       record d { member = record m { asks = rules.close_asks m.known (waits m.performing.kept) m.asks } }
 
@@ -193,15 +193,15 @@ module _ {M : Type 0} where
       let m = d.member in
       record d { member = record m { asks = rules.close_by m.known (waits m.performing.kept) concern waited m.asks } }
 
-  abbrev pub looked_up : Doing M → Doing M
-  looked_up d =
+  abbrev pub look_up : Doing M → Doing M
+  look_up d =
       let m = d.member in
-      adding (record d { member = record m { known = knowing.looked_up m.known rules.ringmaster } }) (rules.lookups m.known)
+      add_effects (record d { member = record m { known = knowing.note_lookup m.known rules.ringmaster } }) (rules.lookups m.known)
 
   -- ---- what happens is handled
 
-  abbrev pub told : MemberState M → Request → Table → Doing M
-  told m request table =
+  abbrev pub handle_table : MemberState M → Request → Table → Doing M
+  handle_table m request table =
       let known = known_by_table m.known request table.view in
       let newer = knowing.is_newer m.known table.view in
       let kept = kept_by_table m.performing.kept request table in
@@ -229,15 +229,15 @@ module _ {M : Type 0} where
   difference comes.Joins m = None
 
   -- the member begins behind a call, and tells so
-  abbrev pub begun : Doing M → ℕ → Doing M
-  begun d count =
+  abbrev pub begin_behind : Doing M → ℕ → Doing M
+  begin_behind d count =
       let m = d.member in
-      adding (record d { member = record m { gathered = gathering.with_first m.gathered count } })
+      add_effects (record d { member = record m { gathered = gathering.with_first m.gathered count } })
       (rules.active_call m.place m.known count ++ rules.before_answers m.gathered count)
 
   -- one that fetches a state has it, and is active from its count on
-  abbrev pub restored : ℕ → MemberState M → List ValueTree → ℕ → Doing M
-  restored step m state count =
+  abbrev pub handle_state : ℕ → MemberState M → List ValueTree → ℕ → Doing M
+  handle_state step m state count =
       if is_fetching m.performing.kept.phase
       then record {
         member = record m { performing = performing.made_active step state count m.performing; gathered = gathering.with_first m.gathered count };
@@ -246,8 +246,8 @@ module _ {M : Type 0} where
       else record { member = m; effects = [] }
 
   -- a call comes in
-  abbrev pub asked : MemberState M → CallHeader → List ℕ → Caller → Doing M
-  asked m header body sender =
+  abbrev pub handle_call : MemberState M → CallHeader → List ℕ → Caller → Doing M
+  handle_call m header body sender =
       let added = gathering.answer_to m.gathered header in
       record {
         member = record m {
@@ -258,23 +258,23 @@ module _ {M : Type 0} where
       }
 
   -- the state is asked for
-  abbrev pub fetched : MemberState M → ℕ → Caller → Doing M
-  fetched m incarnation sender =
+  abbrev pub handle_fetch : MemberState M → ℕ → Caller → Doing M
+  handle_fetch m incarnation sender =
       record {
         member = record m { gathered = gathering.with_required m.gathered incarnation; requests = m.requests ++ sender ∷ [] };
         effects = rules.stale_answers m.gathered incarnation;
       }
 
   -- a node replies to an ask, or that it is of an older view, or that it is before the first call
-  abbrev pub replied : MemberState M → AskName → ℕ → Reply → Doing M
-  replied m name from reply =
+  abbrev pub handle_reply : MemberState M → AskName → ℕ → Reply → Doing M
+  handle_reply m name from reply =
       record { member = record m { asks = with_asking name (asking.with_reply from reply) m.asks }; effects = [] }
 
-  abbrev pub stale : MemberState M → AskName → ℕ → ℕ → ℕ → Doing M
-  stale m name server from incarnation =
+  abbrev pub handle_stale : MemberState M → AskName → ℕ → ℕ → ℕ → Doing M
+  handle_stale m name server from incarnation =
       record {
         member = record m {
-          known = knowing.wanted m.known server incarnation;
+          known = knowing.want_view m.known server incarnation;
           asks = with_asking name (rules.after_stale m.known from incarnation) m.asks;
         };
         effects = option_map_or (rules.call_again m.known name from incarnation) (asking_of m.asks name) [];
@@ -286,7 +286,7 @@ module _ {M : Type 0} where
   -- a node is declared to be down
   abbrev pub declared_down : MemberState M → ℕ → Doing M
   declared_down m node =
-      let known = knowing.declared m.known node in
+      let known = knowing.note_down m.known node in
       record { member = record m { known = known }; effects = rules.gone_call m.place known node }
 
   -- the member is told to join
@@ -297,16 +297,16 @@ module _ {M : Type 0} where
         effects = rules.join_call m.place m.known;
       }
 
-  abbrev pub handled : ℕ → Occurrence → MemberState M → Doing M
-  handled step (comes.Asked header body sender) m = asked m header body sender
-  handled step (comes.Fetched incarnation sender) m = fetched m incarnation sender
-  handled step (comes.Replied name from reply) m = replied m name from reply
-  handled step (comes.IsStale name server from incarnation) m = stale m name server from incarnation
-  handled step (comes.IsBefore name from) m = before m name from
-  handled step (comes.Told request table) m = told m request table
-  handled step (comes.Restored state count) m = restored step m state count
-  handled step (comes.Declared node) m = declared_down m node
-  handled step comes.Joins m = joins m
+  abbrev pub handle : ℕ → Occurrence → MemberState M → Doing M
+  handle step (comes.Asked header body sender) m = handle_call m header body sender
+  handle step (comes.Fetched incarnation sender) m = handle_fetch m incarnation sender
+  handle step (comes.Replied name from reply) m = handle_reply m name from reply
+  handle step (comes.IsStale name server from incarnation) m = handle_stale m name server from incarnation
+  handle step (comes.IsBefore name from) m = before m name from
+  handle step (comes.Told request table) m = handle_table m request table
+  handle step (comes.Restored state count) m = handle_state step m state count
+  handle step (comes.Declared node) m = declared_down m node
+  handle step comes.Joins m = joins m
 
 -- the performer at boot, by the first state of a module
 module _ {M : Type 0} (first : M → List ValueTree) where
@@ -322,19 +322,19 @@ module _ {M : Type 0} (turn : M → List ValueTree → ℕ → List ValueTree �
   abbrev pub answered_by : ℕ → Doing M → Reply → Doing M
   answered_by step d reply =
       let p = d.member.performing in
-      after_turns (with_record d (performing.answered (turn p.hosted) p.began step reply.outcome reply.clock p.kept))
+      after_turns (with_record d (performing.answer_open_ask (turn p.hosted) p.began step reply.outcome reply.clock p.kept))
 
   abbrev pub answered_open : ℕ → Doing M → Doing M
   answered_open step d = option_map_or (answered_by step d) (value_of_open d.member) d
 
   -- a run is entered
-  abbrev pub entered : ℕ → Doing M → RunStart → Doing M
-  entered step d start =
+  abbrev pub enter_run_of : ℕ → Doing M → RunStart → Doing M
+  enter_run_of step d start =
       let m = d.member in
       let p = m.performing in
       after_turns
       (with_record (record d { member = record m { gathered = gathering.with_start m.gathered p.kept.count } })
-      (performing.entered (turn p.hosted) step start p.kept))
+      (performing.enter_run (turn p.hosted) step start p.kept))
 
 -- and what it declares
 module _ {M : Type 0} (declared : M → Signature) (turn : M → List ValueTree → ℕ → List ValueTree → List Outcome → NextTurn) where
@@ -343,17 +343,17 @@ module _ {M : Type 0} (declared : M → Signature) (turn : M → List ValueTree 
   start_of_call m call = start_by_call m.place.troupe (declared m.performing.hosted).procedures call
 
   -- until nothing changes: at most one start for each call that is held
-  unfoldable pub starting : ℕ → ℕ → Doing M → Doing M
-  starting step zero d = given_states d
-  starting step (suc left) d =
+  unfoldable pub start_runs : ℕ → ℕ → Doing M → Doing M
+  start_runs step zero d = given_states d
+  start_runs step (suc left) d =
       let e = given_states d in
-      option_map_or (λ call. starting step left (entered turn step e (start_of_call e.member call))) (next_start e.member) e
+      option_map_or (λ call. start_runs step left (enter_run_of turn step e (start_of_call e.member call))) (next_start e.member) e
 
-  abbrev pub executed : ℕ → Doing M → Doing M
-  executed step d = let e = answered_open turn step d in starting step (length e.member.gathered.held) e
+  abbrev pub execute : ℕ → Doing M → Doing M
+  execute step d = let e = answered_open turn step d in start_runs step (length e.member.gathered.held) e
 
-  abbrev pub stepped : ℕ → Occurrence → MemberState M → Doing M
-  stepped step o m = looked_up (closed (executed step (handled step o m)))
+  abbrev pub step_member : ℕ → Occurrence → MemberState M → Doing M
+  step_member step o m = look_up (keep_ask_open (execute step (handle step o m)))
 
   -- ---- at boot
 
@@ -367,7 +367,7 @@ module _ {M : Type 0} (declared : M → Signature) (turn : M → List ValueTree 
   starts_at_boot Founder hosted = (declared hosted).root
   starts_at_boot Spare hosted = false
 
-  abbrev pub booted : (M → List ValueTree) → Place → List View → Beginning → M → Doing M
-  booted first place views beginning hosted =
+  abbrev pub boot_member : (M → List ValueTree) → Place → List View → Beginning → M → Doing M
+  boot_member first place views beginning hosted =
       let d : Doing M = record { member = before_any place views (performer_at_boot first beginning hosted); effects = [] } in
-      if starts_at_boot beginning hosted then entered turn 0 d (main_start place.troupe views) else d
+      if starts_at_boot beginning hosted then enter_run_of turn 0 d (main_start place.troupe views) else d

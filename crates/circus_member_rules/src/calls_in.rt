@@ -97,7 +97,7 @@ pub fn take_state_request(
         (effects.new ≡ effects.old ++ rules.stale_answers gather.old incarnation) }
 {
     let callers = gather.require(incarnation)?;
-    let message = stale_message(alloc, gather.required())?;
+    let message = stale_message(alloc, gather.required_incarnation())?;
     answer_all(&callers, &message, effects)?;
     requests.push(sender)
 }

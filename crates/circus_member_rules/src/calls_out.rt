@@ -84,7 +84,7 @@ pub fn calls_of_ask(
 }
 
 /// A node replies to an ask, and tells where that differs.
-pub(crate) fn replied(
+pub(crate) fn take_reply(
     name: AskName,
     fanout: &mut Fanout,
     from: u16,
@@ -132,7 +132,7 @@ fn difference_of(
 }
 
 /// A node answers an ask that it is of an older view than of this incarnation.
-pub(crate) fn stale(
+pub(crate) fn take_stale(
     alloc: Global,
     known: &Known,
     name: AskName,
@@ -151,7 +151,7 @@ pub(crate) fn stale(
     let Some(view) = view_of(known, fanout) else {
         return Ok(());
     };
-    let next = fanout.stale(from, incarnation, view, known.down());
+    let next = fanout.stale(from, incarnation, view, known.down_nodes());
     add_call_for(alloc, known, name, fanout, next, effects)
 }
 
@@ -194,7 +194,7 @@ pub(crate) fn view_calls(
     if fanout.header().server != view.troupe {
         return Ok(());
     }
-    let sends = fanout.new_view(view, known.down())?;
+    let sends = fanout.new_view(view, known.down_nodes())?;
     calls_of_ask(alloc, known, name, fanout, sends.as_slice(), effects)
 }
 
@@ -203,7 +203,7 @@ pub fn value_of_ask<'a>(known: &Known, fanout: &'a Fanout) -> Option<&'a Reply>
     ensures { option_copied result ≡ rules.value_of_ask known.now fanout.now }
 {
     let view = view_of(known, fanout)?;
-    match fanout.answer(view, known.down()) {
+    match fanout.answer(view, known.down_nodes()) {
         Collated::Answer(place) => fanout.reply_at(place),
         Collated::Waiting | Collated::Differ(_, _) => None,
     }
@@ -214,7 +214,7 @@ pub(crate) fn is_settled(known: &Known, fanout: &Fanout) -> bool
     ensures { result ≡ rules.is_settled known.now fanout.now }
 {
     match view_of(known, fanout) {
-        Some(view) => fanout.settled(view, known.down()),
+        Some(view) => fanout.settled(view, known.down_nodes()),
         None => false,
     }
 }

@@ -84,7 +84,7 @@ fn tell_gone_from(
 /// looked up then.
 pub fn look_up(alloc: Global, known: &mut Known, effects: &mut Effects) -> Result<(), NoMemory>
     requires { length known.old.views ≤ most_modules }
-    ensures asked { OnOk result (known.new ≡ knowing.looked_up known.old rules.ringmaster) }
+    ensures asked { OnOk result (known.new ≡ knowing.note_lookup known.old rules.ringmaster) }
     ensures made { OnOk result (effects.new ≡ effects.old ++ rules.lookups known.old) }
 {
     let troupes = known.look_up(RINGMASTER)?;

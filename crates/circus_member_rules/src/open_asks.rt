@@ -7,7 +7,7 @@ ghost use Rattle.circus_member_rules.specs.OpenAsks.{is_waiting, asking_of, with
 ghost use Rattle.circus_member_rules.specs.Rules as rules;
 ghost use Rattle.circus_member_rules.specs.Callable.{AreViews, MayCall, AllMayCall};
 
-use crate::calls_out::{is_settled, replied, stale, view_calls};
+use crate::calls_out::{is_settled, take_reply, take_stale, view_calls};
 use crate::{AskName, Difference, Effects};
 use circus_collate::View;
 use circus_fanout::{Fanout, Known};
@@ -64,7 +64,7 @@ impl OpenAsks {
     }
 
     /// A node replies to an ask, and tells where that differs.
-    pub fn replied(
+    pub fn take_reply(
         &mut self,
         name: AskName,
         from: u16,
@@ -77,13 +77,13 @@ impl OpenAsks {
             (asking_of self.old name)) }
     {
         match self.asks.get_mut(&name) {
-            Some(fanout) => replied(name, fanout, from, reply),
+            Some(fanout) => take_reply(name, fanout, from, reply),
             None => Ok(None),
         }
     }
 
     /// A node answers an ask that it is before its first call.
-    pub fn before(&mut self, name: AskName, from: u16)
+    pub fn take_before(&mut self, name: AskName, from: u16)
         ensures { self.new ≡ with_asking name (asking.with_before from) self.old }
     {
         if let Some(fanout) = self.asks.get_mut(&name) {
@@ -92,7 +92,7 @@ impl OpenAsks {
     }
 
     /// A node answers an ask that it is of an older view than of this incarnation.
-    pub fn stale(
+    pub fn take_stale(
         &mut self,
         alloc: Global,
         known: &Known,
@@ -111,7 +111,7 @@ impl OpenAsks {
             (asking_of self.old name) []) }
     {
         match self.asks.get_mut(&name) {
-            Some(fanout) => stale(alloc, known, name, fanout, from, incarnation, effects),
+            Some(fanout) => take_stale(alloc, known, name, fanout, from, incarnation, effects),
             None => Ok(()),
         }
     }

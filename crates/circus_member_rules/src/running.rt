@@ -123,7 +123,7 @@ fn outcome_of(alloc: Global, run: &RunRecord) -> Result<Outcome, NoMemory>
 {
     match &run.outcome {
         Some(outcome) => outcome.copy(),
-        None => Ok(LanguageError::ThreadSpent.raised(alloc)),
+        None => Ok(LanguageError::ThreadSpent.raised_outcome(alloc)),
     }
 }
 

@@ -30,7 +30,7 @@ use Rattle.circus_gather.specs.declared.held.HeldCall.{HeldCall}
 use Rattle.circus_gather.specs.Gathering.{call_to_start}
 use Rattle.circus_fanout.specs.Asking.{Asking, answer}
 use Rattle.circus_performing.specs.declared.start.RunStart.{RunStart}
-use Rattle.circus_performing.specs.Performing.{open_ask, is_active, last_count, answered}
+use Rattle.circus_performing.specs.Performing.{open_ask, is_active, last_count, answer_open_ask}
 use Rattle.circus_performing.specs.Record.{behaviour}
 use Rattle.circus_performing.proofs.Records.{answered_is}
 use Rattle.circus_member_rules.specs.declared.occurrence.AskName.{AskName}
@@ -39,8 +39,8 @@ use Rattle.circus_member_rules.specs.OpenAsks.{asking_of}
 use Rattle.circus_member_rules.specs.Messages.{arguments_in}
 use Rattle.circus_member_rules.specs.Rules.{answer_in, value_of_ask, snapshots_owed, clock_at_entry}
 use Rattle.circus_member_rules.specs.Rules as rules
-use Rattle.circus_member_rules.specs.MemberState.{MemberState, Doing, adding}
-use Rattle.circus_member_rules.specs.Step.{name_of_last, is_idle, start_by_call, after_turns, value_of_open, given_states, next_start, answered_by, answered_open, entered, starting, executed}
+use Rattle.circus_member_rules.specs.MemberState.{MemberState, Doing, add_effects}
+use Rattle.circus_member_rules.specs.Step.{name_of_last, is_idle, start_by_call, after_turns, value_of_open, given_states, next_start, answered_by, answered_open, enter_run_of, start_runs, execute}
 use Rattle.circus_member_rules.specs.Seen.Sound.{IsSound, MayStart}
 use Rattle.circus_member_rules.proofs.Sound.{sound_requests}
 use Rattle.circus_member_rules.proofs.Turned.{IsTurned, sound_after_turns, same_hosted}
@@ -131,12 +131,12 @@ module _ (program : List Behaviour) (agree : Agree program) (are : AreModules pr
       let ask : a.ask ≡ o.ask = same_Some a.ask o.ask (sym a.there.ask_is ∙ ap (λ (r : Run). slice_get r.asks (name_of_last kept).ask) run ∙ there.ask_is) in
       let same : reply ≡ reply_to o.ask = a.is ∙ ap (λ (x : Ask). reply_to x) ask in
       let p = one_is_performing b began kept sound.kept v.ask v.is_open in
-      let from : (answered b.turn began now reply.outcome reply.clock kept).from ≡ kept.from =
+      let from : (answer_open_ask b.turn began now reply.outcome reply.clock kept).from ≡ kept.from =
       ap (λ (x : MemberRecord). x.from) (answered_is b (are troupe b at) began kept p now reply.outcome reply.clock) in
       let then_stands = answered_stands program agree are troupe b at kept began v.ask now sound.kept stands (h.began active) v.is_open o in
       record {
         own = h.own;
-        stands = λ _. subst (λ (r : Reply). Stands history troupe b.first (answered b.turn began now r.outcome r.clock kept)) (sym same) then_stands;
+        stands = λ _. subst (λ (r : Reply). Stands history troupe b.first (answer_open_ask b.turn began now r.outcome r.clock kept)) (sym same) then_stands;
         began = λ _. h.began active ∙ ap (state_after history troupe b.first) (sym from);
         asks = h.asks;
         held = h.held;
@@ -239,7 +239,7 @@ module _ (program : List Behaviour) (agree : Agree program) (are : AreModules pr
           }))) d.member.requests keeps.member.requests)
 
       by_test : (t : Bool) → is_idle d.member.performing.kept ≡ t → let e =
-          if t then adding (record d { member = record d.member { requests = [] } }) (snapshots_owed d.member.performing.kept d.member.requests) else d in
+          if t then add_effects (record d { member = record d.member { requests = [] } }) (snapshots_owed d.member.performing.kept d.member.requests) else d in
           Keeps program agree are proper troupe b at Called e
       by_test false idle = keeps
       by_test true idle =
@@ -288,7 +288,7 @@ module _ {M : Type 0} (declared : M → Signature) (turn : M → List ValueTree 
       }
 
   pub goes_entered : (step : ℕ) (d : Doing M) (start : RunStart) (g : GoesTrue d) → MayStart (declared d.member.performing.hosted) d.member start
-      → IsNext program agree are proper troupe (now d.member.performing.hosted) g.there Called d.member g.sound g.keeps.member start → GoesTrue (entered turn step d start)
+      → IsNext program agree are proper troupe (now d.member.performing.hosted) g.there Called d.member g.sound g.keeps.member start → GoesTrue (enter_run_of turn step d start)
   goes_entered step d start g may next =
       let b = now d.member.performing.hosted in
       let law = lawful d.member.performing.hosted in
@@ -312,34 +312,34 @@ module _ {M : Type 0} (declared : M → Signature) (turn : M → List ValueTree 
   goes_given : (d : Doing M) → GoesTrue d → GoesTrue (given_states d)
   goes_given d g = by_test (is_idle d.member.performing.kept) (true_given program agree are proper troupe (now d.member.performing.hosted) g.there Called d g.keeps)
     where
-      by_test : (t : Bool) → let e = if t then adding (record d { member = record d.member { requests = [] } })
+      by_test : (t : Bool) → let e = if t then add_effects (record d { member = record d.member { requests = [] } })
           (snapshots_owed d.member.performing.kept d.member.requests) else d in KeepsTrue (history_of program) troupe (first d.member.performing.hosted) Called e → GoesTrue e
       by_test false keeps = g
       by_test true keeps = record { there = g.there; sound = sound_requests (now d.member.performing.hosted) d.member [] g.sound; keeps = keeps }
 
-  goes_starting : (step left : ℕ) (d : Doing M) → GoesTrue d → GoesTrue (starting declared turn step left d)
-  unfolding starting
+  goes_starting : (step left : ℕ) (d : Doing M) → GoesTrue d → GoesTrue (start_runs declared turn step left d)
+  unfolding start_runs
   goes_starting step zero d g = goes_given d g
   goes_starting step (suc left) d g = by_next (goes_starting step left) (given_states d) (goes_given d g)
     where
-      by_call : ((f : Doing M) → GoesTrue f → GoesTrue (starting declared turn step left f)) → (e : Doing M) → GoesTrue e → (o : Option HeldCall)
-          → next_start e.member ≡ o → let f = option_map_or (λ call. starting declared turn step left
-          (entered turn step e (start_by_call e.member.place.troupe (declared e.member.performing.hosted).procedures call))) o e in GoesTrue f
+      by_call : ((f : Doing M) → GoesTrue f → GoesTrue (start_runs declared turn step left f)) → (e : Doing M) → GoesTrue e → (o : Option HeldCall)
+          → next_start e.member ≡ o → let f = option_map_or (λ call. start_runs declared turn step left
+          (enter_run_of turn step e (start_by_call e.member.place.troupe (declared e.member.performing.hosted).procedures call))) o e in GoesTrue f
       by_call rest e g None is = g
       by_call rest e g (Some call) is =
           let b = now e.member.performing.hosted in
           let ready = next_is_ready b e.member call g.sound is in
           let called = next_holds (λ (c : HeldCall). IsCalled (history_of program) troupe b.first Called c.sender c.header c.body) e.member call g.keeps.member.held is in
           let start = start_by_call e.member.place.troupe (declared e.member.performing.hosted).procedures call in
-          rest (entered turn step e start) (goes_entered step e start g (may_start b e.member call ready)
+          rest (enter_run_of turn step e start) (goes_entered step e start g (may_start b e.member call ready)
           (call_is_next program agree are proper troupe b g.there Called e.member g.sound g.keeps.member call ready called))
 
-      by_next : ((f : Doing M) → GoesTrue f → GoesTrue (starting declared turn step left f)) → (e : Doing M) → GoesTrue e → let f =
-          option_map_or (λ call. starting declared turn step left
-          (entered turn step e (start_by_call e.member.place.troupe (declared e.member.performing.hosted).procedures call))) (next_start e.member) e in GoesTrue f
+      by_next : ((f : Doing M) → GoesTrue f → GoesTrue (start_runs declared turn step left f)) → (e : Doing M) → GoesTrue e → let f =
+          option_map_or (λ call. start_runs declared turn step left
+          (enter_run_of turn step e (start_by_call e.member.place.troupe (declared e.member.performing.hosted).procedures call))) (next_start e.member) e in GoesTrue f
       by_next rest e g = by_call rest e g (next_start e.member) refl
 
-  pub goes_executed : (step : ℕ) (d : Doing M) → GoesTrue d → GoesTrue (executed declared turn step d)
+  pub goes_executed : (step : ℕ) (d : Doing M) → GoesTrue d → GoesTrue (execute declared turn step d)
   goes_executed step d g =
       let e = answered_open turn step d in
       goes_starting step (length e.member.gathered.held) e (goes_answered step d g)

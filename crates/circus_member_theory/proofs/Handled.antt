@@ -29,7 +29,7 @@ use Rattle.circus_model.specs.Execution.{history_of}
 use Rattle.circus_model.specs.History.{run_at, state_after}
 use Rattle.circus_model.proofs.Logging.{some_and}
 use Rattle.circus_record.specs.declared.record.MemberRecord.{MemberRecord}
-use Rattle.circus_fanout.specs.Knowing.{Knowing, is_newer, told, declared}
+use Rattle.circus_fanout.specs.Knowing.{Knowing, is_newer, note_view, note_down}
 use Rattle.circus_gather.specs.declared.added.Added.{Added}
 use Rattle.circus_gather.specs.declared.added.Added.TheVariants as added
 use Rattle.circus_gather.specs.declared.held.HeldCall.{HeldCall}
@@ -49,7 +49,7 @@ use Rattle.circus_member_rules.specs.Callable.{MayAnswer}
 use Rattle.circus_member_rules.proofs.Returns.{may_answer}
 use Rattle.circus_member_rules.specs.MemberState.{MemberState, Doing}
 use Rattle.circus_member_rules.specs.Step as step
-use Rattle.circus_member_rules.specs.Step.{is_join, is_taken_in, answered_by_ring, known_by_table, kept_by_table, handled}
+use Rattle.circus_member_rules.specs.Step.{is_join, is_taken_in, answered_by_ring, known_by_table, kept_by_table, handle}
 use Rattle.circus_member_rules.specs.Happening.{CanHappen}
 use Rattle.circus_member_rules.specs.Seen.Sound.{IsOpenAsk, IsSound}
 use Rattle.circus_member_rules.proofs.Named.{names_decide, All-changed_at}
@@ -123,7 +123,7 @@ kept_reply g header reply is = replied_by_tests _ _ (reply_of g (index_of g.modu
 
 -- ---- views
 
-told_long : (k : Knowing) (view : View) → IsLong view.incarnation → AreViewsLong k.views → AreViewsLong (told k view).views
+told_long : (k : Knowing) (view : View) → IsLong view.incarnation → AreViewsLong k.views → AreViewsLong (note_view k view).views
 told_long k view is are =
     elim (is_newer k view) as (λ b. let t : Knowing = if b then record k { views = slice_set k.views view.troupe view } else k in AreViewsLong t.views) [
       | true ↦ All-set (λ (v : View). IsLong v.incarnation) k.views view.troupe view is are
@@ -182,7 +182,7 @@ module _ (program : List Behaviour) (agree : Agree program) (are : AreModules pr
     -- ---- calls that come in
 
     pub true_asked : (header : CallHeader) (body : List ℕ) (sender : Caller) → IsCalled (history_of program) troupe b.first Called sender header body
-        → Keeps (step.asked m header body sender)
+        → Keeps (step.handle_call m header body sender)
     true_asked header body sender called =
         record {
           member = record {
@@ -222,7 +222,7 @@ module _ (program : List Behaviour) (agree : Agree program) (are : AreModules pr
         at_once (added.Before count) is = others_are_made (before_message count) (sender ∷ []) (inr (inl (count, refl)))
         at_once added.Held is = All-nil IsMade
 
-    pub true_fetched : (incarnation : ℕ) (sender : Caller) → IsFetch (history_of program) troupe b.first Called sender → Keeps (step.fetched m incarnation sender)
+    pub true_fetched : (incarnation : ℕ) (sender : Caller) → IsFetch (history_of program) troupe b.first Called sender → Keeps (step.handle_fetch m incarnation sender)
     true_fetched incarnation sender fetch =
         let required = (with_required m.gathered incarnation).required in
         record {
@@ -255,7 +255,7 @@ module _ (program : List Behaviour) (agree : Agree program) (are : AreModules pr
     with_asks asks all = record { own = h.own; stands = h.stands; began = h.began; asks = all; held = h.held; replies = h.replies; requests = h.requests; views = h.views }
 
     pub true_replied : (name : AskName) (from : ℕ) (reply : Reply) → IfSome (asking_of m.asks name) (λ a. Answers (history_of program) troupe b.first Called name reply)
-        → Keeps (step.replied m name from reply)
+        → Keeps (step.handle_reply m name from reply)
     true_replied name from reply is =
         record { member = with_asks (with_asking name (with_reply from reply) m.asks) (changed name (with_reply from reply) once_said); effects = All-nil IsMade }
       where
@@ -283,7 +283,7 @@ module _ (program : List Behaviour) (agree : Agree program) (are : AreModules pr
     ready k is long name a asked t =
         record { may = may_call b.declared m.place k a is.home asked; client = incarnation_is_long k a.header.client long; named = t.named }
 
-    pub true_stale : (name : AskName) (server from incarnation : ℕ) → Keeps (step.stale m name server from incarnation)
+    pub true_stale : (name : AskName) (server from incarnation : ℕ) → Keeps (step.handle_stale m name server from incarnation)
     true_stale name server from incarnation =
         let t = with_asks (with_asking name (after_stale m.known from incarnation) m.asks)
         (changed name (after_stale m.known from incarnation) (λ a there. still a (slice_get m.known.views a.header.server))) in
@@ -339,7 +339,7 @@ module _ (program : List Behaviour) (agree : Agree program) (are : AreModules pr
         )
         by_test false = (h.stands, h.began)
 
-    pub true_told : (request : Request) (table : Table) → IsIncarnation table.view.incarnation → IsLong table.view.incarnation → Keeps (step.told m request table)
+    pub true_told : (request : Request) (table : Table) → IsIncarnation table.view.incarnation → IsLong table.view.incarnation → Keeps (step.handle_table m request table)
     true_told request table some long =
         let view = table.view in
         let kept = kept_by_table m.performing.kept request table in
@@ -410,7 +410,7 @@ module _ (program : List Behaviour) (agree : Agree program) (are : AreModules pr
         }
       where
         k : Knowing
-        k = declared m.known node
+        k = note_down m.known node
 
         by_has : (hosted : ℕ) (has : Bool) → All IsMade (if has then request_to_ring k (asks.Gone hosted node) else [])
         by_has hosted true = requests_are_made k (asks.Gone hosted node)
@@ -446,7 +446,7 @@ module _ (program : List Behaviour) (agree : Agree program) (are : AreModules pr
         }
 
     -- a state comes, which the member has after so many runs
-    pub true_restored : (now : ℕ) (state : List ValueTree) (count : ℕ) → IsTrueState (history_of program) troupe b.first count state → Keeps (step.restored now m state count)
+    pub true_restored : (now : ℕ) (state : List ValueTree) (count : ℕ) → IsTrueState (history_of program) troupe b.first count state → Keeps (step.handle_state now m state count)
     true_restored now state count is = by_test (is_fetching m.performing.kept.phase) refl
       where
         by_test : (t : Bool) → is_fetching m.performing.kept.phase ≡ t → let d : Doing M =
@@ -476,7 +476,7 @@ module _ (program : List Behaviour) (agree : Agree program) (are : AreModules pr
 
     -- ---- whatever happens
 
-    pub true_handled : (now : ℕ) (o : Occurrence) → CanHappen b.declared m o → IsTrueOccurrence (history_of program) troupe b.first Called m o → Keeps (handled now o m)
+    pub true_handled : (now : ℕ) (o : Occurrence) → CanHappen b.declared m o → IsTrueOccurrence (history_of program) troupe b.first Called m o → Keeps (handle now o m)
     true_handled now (comes.Asked header body sender) can is = true_asked header body sender is
     true_handled now (comes.Fetched incarnation sender) can is = true_fetched incarnation sender is
     true_handled now (comes.Replied name from reply) can is = true_replied name from reply is

@@ -18,7 +18,7 @@ use Rattle.circus_model.proofs.Logging.{and_some}
 use Rattle.circus_record.specs.declared.record.AskRecord.{AskRecord}
 use Rattle.circus_record.specs.declared.record.RunRecord.{RunRecord}
 use Rattle.circus_performing.specs.Performing as P
-use Rattle.circus_performing.specs.Performing.{clock_after, made_ask, answered_ask, refusal, with_ask, with_refusal, ended_run, turned, gone_on}
+use Rattle.circus_performing.specs.Performing.{clock_after, made_ask, answered_ask, refusal, with_ask, with_refusal, ended_run, turn_run, gone_on}
 use Rattle.circus_truth.specs.Stands.{IsAnsweredSo, WaitsFor, AreAnsweredSo, IsEnteredSo, IsPerformed, IsUnderWay}
 use Rattle.circus_member_theory.proofs.Histories.{known, run_follows, asking, ask_is_answered}
 
@@ -200,11 +200,11 @@ module _ (program : List Behaviour) (agree : Agree program) (are : AreModules pr
           rest (with_refusal step ask.callee ask.procedure ask.arguments ask.state kept) (refused_so kept so ask ask_is spent) (omega (arith, length-append kept.asks (more ∷ []), enough))
       by_clock rest ask ask_is false unspent = inr (waits_so kept so ask ask_is unspent)
 
-      by_place : Rest → (length kept.asks < length run.asks) ⊎ (length run.asks ≤ length kept.asks) → IsGone run (turned step (gone_on step turn left) kept (turn (P.replies_of kept.asks)))
+      by_place : Rest → (length kept.asks < length run.asks) ⊎ (length run.asks ≤ length kept.asks) → IsGone run (turn_run step (gone_on step turn left) kept (turn (P.replies_of kept.asks)))
       by_place rest (inl more) =
           let ask = within run.asks (length kept.asks) more in
-          subst (λ (next : NextTurn). IsGone run (turned step (gone_on step turn left) kept next)) (sym (asks_so kept so ask.0 ask.1))
+          subst (λ (next : NextTurn). IsGone run (turn_run step (gone_on step turn left) kept next)) (sym (asks_so kept so ask.0 ask.1))
           (by_clock rest ask.0 ask.1 (is_spent (clock_after kept.entry kept.asks)) refl)
       by_place rest (inr all) =
           let end = ends_so kept so (omega (arith, all, so.few)) in
-          subst (λ (next : NextTurn). IsGone run (turned step (gone_on step turn left) kept next)) (sym end.0) (inl end.1)
+          subst (λ (next : NextTurn). IsGone run (turn_run step (gone_on step turn left) kept next)) (sym end.0) (inl end.1)

@@ -34,8 +34,8 @@ use Rattle.circus_member_rules.specs.declared.occurrence.Occurrence.{Occurrence}
 use Rattle.circus_member_rules.specs.declared.occurrence.Occurrence.TheVariants as comes
 use Rattle.circus_member_rules.specs.Callable.{IsReply}
 use Rattle.circus_member_rules.specs.Rules.{is_settled, stays_open, active_call, before_answers, snapshots_owed}
-use Rattle.circus_member_rules.specs.MemberState.{MemberState, Doing, adding}
-use Rattle.circus_member_rules.specs.Step.{name_of_last, asking_begun, is_idle, start_by_call, main_start, answered_by_ring, with_record, opened_by_view, opened_ask, ended_run, after_turns, value_of_open, given_states, next_start, answered_by, answered_open, entered, starting, executed, closed, looked_up, stepped, handled, waits, performer_at_boot, before_any, starts_at_boot, booted}
+use Rattle.circus_member_rules.specs.MemberState.{MemberState, Doing, add_effects}
+use Rattle.circus_member_rules.specs.Step.{name_of_last, asking_begun, is_idle, start_by_call, main_start, answered_by_ring, with_record, opened_by_view, opened_ask, ended_run, after_turns, value_of_open, given_states, next_start, answered_by, answered_open, enter_run_of, start_runs, execute, keep_ask_open, look_up, step_member, handle, waits, performer_at_boot, before_any, starts_at_boot, boot_member}
 use Rattle.circus_member_rules.specs.GoneOn.{HasGoneOn}
 use Rattle.circus_member_rules.specs.Happening.{IsHome, CanHappen}
 use Rattle.circus_member_rules.specs.Seen.Sound.{IsHeld, IsOpenAsk, AreNamed, IsSound, MayStart, IsRested}
@@ -83,7 +83,7 @@ module _ {M : Type 0} where
   stays_then : (m n o : MemberState M) → Stays m n → Stays n o → Stays m o
   stays_then m n o h g = record { hosted = g.hosted ∙ h.hosted; place = g.place ∙ h.place; known = g.known ∙ h.known }
 
-  pub same_handled : (now : ℕ) (o : Occurrence) (m : MemberState M) → IsSame m (handled now o m).member
+  pub same_handled : (now : ℕ) (o : Occurrence) (m : MemberState M) → IsSame m (handle now o m).member
   same_handled now (comes.Asked header body sender) m = record { hosted = refl; place = refl; views = ap length (called_views (answer_to m.gathered header) header m.known) }
   same_handled now (comes.Fetched incarnation sender) m = record { hosted = refl; place = refl; views = refl }
   same_handled now (comes.Replied name from reply) m = record { hosted = refl; place = refl; views = refl }
@@ -127,7 +127,7 @@ module _ {M : Type 0} where
   stays_given : (d : Doing M) → Stays d.member (given_states d).member
   stays_given d = by_test (is_idle d.member.performing.kept)
     where
-      by_test : (t : Bool) → let e = if t then adding (record d { member = record d.member { requests = [] } })
+      by_test : (t : Bool) → let e = if t then add_effects (record d { member = record d.member { requests = [] } })
           (snapshots_owed d.member.performing.kept d.member.requests) else d in Stays d.member e.member
       by_test true = record { hosted = refl; place = refl; known = refl }
       by_test false = record { hosted = refl; place = refl; known = refl }
@@ -145,11 +145,11 @@ module _ {M : Type 0} (declared : M → Signature) (turn : M → List ValueTree 
 
   -- ---- what stays as a member goes on
 
-  pub stays_entered : (step : ℕ) (d : Doing M) (start : RunStart) → Stays d.member (entered turn step d start).member
+  pub stays_entered : (step : ℕ) (d : Doing M) (start : RunStart) → Stays d.member (enter_run_of turn step d start).member
   stays_entered step d start =
       let p = d.member.performing in
       let e : Doing M = with_record (record d { member = record d.member { gathered = with_start d.member.gathered p.kept.count } })
-      (performing.entered (turn p.hosted) step start p.kept) in
+      (performing.enter_run (turn p.hosted) step start p.kept) in
       let s = stays_after_turns e in
       record { hosted = s.hosted; place = s.place; known = s.known }
 
@@ -160,34 +160,34 @@ module _ {M : Type 0} (declared : M → Signature) (turn : M → List ValueTree 
       by_value None = itself d.member
       by_value (Some reply) =
           let p = d.member.performing in
-          let e : Doing M = with_record d (performing.answered (turn p.hosted) p.began step reply.outcome reply.clock p.kept) in
+          let e : Doing M = with_record d (performing.answer_open_ask (turn p.hosted) p.began step reply.outcome reply.clock p.kept) in
           let s = stays_after_turns e in
           record { hosted = s.hosted; place = s.place; known = s.known }
 
-  stays_starting : (step left : ℕ) (d : Doing M) → Stays d.member (starting declared turn step left d).member
-  unfolding starting
+  stays_starting : (step left : ℕ) (d : Doing M) → Stays d.member (start_runs declared turn step left d).member
+  unfolding start_runs
   stays_starting step zero d = stays_given d
   stays_starting step (suc left) d = by_call (stays_starting step left) (next_start (given_states d).member)
     where
-      by_call : ((f : Doing M) → Stays f.member (starting declared turn step left f).member) → (o : Option HeldCall) → let e = given_states d in let f =
-          option_map_or (λ call. starting declared turn step left
-          (entered turn step e (start_by_call e.member.place.troupe (declared e.member.performing.hosted).procedures call))) o e in Stays d.member f.member
+      by_call : ((f : Doing M) → Stays f.member (start_runs declared turn step left f).member) → (o : Option HeldCall) → let e = given_states d in let f =
+          option_map_or (λ call. start_runs declared turn step left
+          (enter_run_of turn step e (start_by_call e.member.place.troupe (declared e.member.performing.hosted).procedures call))) o e in Stays d.member f.member
       by_call rest None = stays_given d
       by_call rest (Some call) =
           let e = given_states d in
           let start = start_by_call e.member.place.troupe (declared e.member.performing.hosted).procedures call in
-          let f = entered turn step e start in
-          stays_then d.member f.member (starting declared turn step left f).member
+          let f = enter_run_of turn step e start in
+          stays_then d.member f.member (start_runs declared turn step left f).member
           (stays_then d.member e.member f.member (stays_given d) (stays_entered step e start)) (rest f)
 
-  stays_executed : (step : ℕ) (d : Doing M) → Stays d.member (executed declared turn step d).member
+  stays_executed : (step : ℕ) (d : Doing M) → Stays d.member (execute declared turn step d).member
   stays_executed step d =
       let e = answered_open turn step d in
-      stays_then d.member e.member (executed declared turn step d).member (stays_answered step d) (stays_starting step (length e.member.gathered.held) e)
+      stays_then d.member e.member (execute declared turn step d).member (stays_answered step d) (stays_starting step (length e.member.gathered.held) e)
 
-  pub same_stepped : (step : ℕ) (o : Occurrence) (m : MemberState M) → IsSame m (stepped declared turn step o m).member
+  pub same_stepped : (step : ℕ) (o : Occurrence) (m : MemberState M) → IsSame m (step_member declared turn step o m).member
   same_stepped step o m =
-      let h = handled step o m in
+      let h = handle step o m in
       let before = same_handled step o m in
       let s = stays_executed step h in
       record { hosted = s.hosted ∙ before.hosted; place = s.place ∙ before.place; views = ap (λ (k : Knowing). length k.views) s.known ∙ before.views }
@@ -195,7 +195,7 @@ module _ {M : Type 0} (declared : M → Signature) (turn : M → List ValueTree 
   -- ---- a step
 
   sound_handled : (at : ℕ) (o : Occurrence) (m : MemberState M) → IsSound (now m.performing.hosted) m → CanHappen (declared m.performing.hosted) m o → InRange o
-      → IsSound (now m.performing.hosted) (handled at o m).member
+      → IsSound (now m.performing.hosted) (handle at o m).member
   sound_handled at (comes.Asked header body sender) m h can within = sound_asked (now m.performing.hosted) m header body sender can h
   sound_handled at (comes.Fetched incarnation sender) m h can within = sound_fetched (now m.performing.hosted) m incarnation sender h
   sound_handled at (comes.Replied name from reply) m h can within = sound_replied (now m.performing.hosted) m name from reply can h
@@ -207,21 +207,21 @@ module _ {M : Type 0} (declared : M → Signature) (turn : M → List ValueTree 
   sound_handled at comes.Joins m h can within = sound_joins (now m.performing.hosted) (lawful m.performing.hosted) m h
 
   pub sound_once_handled : (at : ℕ) (o : Occurrence) (m : MemberState M) → IsSound (now m.performing.hosted) m → CanHappen (declared m.performing.hosted) m o → InRange o
-      → IsSoundNow declared turn first lawful (handled at o m).member
+      → IsSoundNow declared turn first lawful (handle at o m).member
   sound_once_handled at o m h can within =
-      let d = handled at o m in
+      let d = handle at o m in
       subst (λ x. IsSound (now x) d.member) (sym (same_handled at o m).hosted) (sound_handled at o m h can within)
 
   pub step_rests : (at : ℕ) (o : Occurrence) (m : MemberState M) → IsRested (now m.performing.hosted) m → CanHappen (declared m.performing.hosted) m o → InRange o
-      → HasRested (now m.performing.hosted) m (stepped declared turn at o m).member
+      → HasRested (now m.performing.hosted) m (step_member declared turn at o m).member
   step_rests at o m rest can within =
-      let h = handled at o m in
-      let d = executed declared turn at h in
+      let h = handle at o m in
+      let d = execute declared turn at h in
       let before = sound_once_handled at o m rest.sound can within in
       let sound = sound_executed declared turn first lawful at h before in
       let same = same_stepped at o m in
       record {
-        rested = subst (λ x. IsRested (now x) (looked_up (closed d)).member) same.hosted (rested (now d.member.performing.hosted) d sound);
+        rested = subst (λ x. IsRested (now x) (look_up (keep_ask_open d)).member) same.hosted (rested (now d.member.performing.hosted) d sound);
         gone_on = still_done d (executed_done declared turn first lawful at h before);
         hosted = same.hosted;
         place = same.place;
@@ -273,11 +273,11 @@ module _ {M : Type 0} (declared : M → Signature) (turn : M → List ValueTree 
         }
 
     at_rest_entered : (beginning : Beginning) → starts_at_boot declared turn beginning hosted ≡ true → let d : Doing M =
-        record { member = at_boot beginning; effects = [] } in let e = entered turn 0 d (main_start place.troupe views) in IsRested (now e.member.performing.hosted) e.member
+        record { member = at_boot beginning; effects = [] } in let e = enter_run_of turn 0 d (main_start place.troupe views) in IsRested (now e.member.performing.hosted) e.member
     at_rest_entered beginning is =
         let d : Doing M = record { member = at_boot beginning; effects = [] } in
         let start = main_start place.troupe views in
-        let e = entered turn 0 d start in
+        let e = enter_run_of turn 0 d start in
         let none : AskName → Bool = λ _. false in
         let left = entered_left none declared turn 0 d start (All-nil (λ (x : AskName × Asking). none x.0 ≡ false → is_settled (at_boot beginning).known x.1 ≡ false)) in
         record {
@@ -290,11 +290,11 @@ module _ {M : Type 0} (declared : M → Signature) (turn : M → List ValueTree 
     at_boot_hosts Founder = refl
     at_boot_hosts Spare = refl
 
-    rests_at_boot : (beginning : Beginning) → HasBooted (now hosted) place views hosted (booted declared turn first place views beginning hosted).member
+    rests_at_boot : (beginning : Beginning) → HasBooted (now hosted) place views hosted (boot_member declared turn first place views beginning hosted).member
     rests_at_boot beginning = by_test (starts_at_boot declared turn beginning hosted) refl
       where
         by_test : (t : Bool) → starts_at_boot declared turn beginning hosted ≡ t → let d : Doing M = record { member = at_boot beginning; effects = [] } in let e =
-            if t then entered turn 0 d (main_start place.troupe views) else d in HasBooted (now hosted) place views hosted e.member
+            if t then enter_run_of turn 0 d (main_start place.troupe views) else d in HasBooted (now hosted) place views hosted e.member
         by_test false is =
             record {
               rested = subst (λ x. IsRested (now x) (at_boot beginning)) (at_boot_hosts beginning) (at_rest_before beginning);
@@ -304,7 +304,7 @@ module _ {M : Type 0} (declared : M → Signature) (turn : M → List ValueTree 
             }
         by_test true is =
             let d : Doing M = record { member = at_boot beginning; effects = [] } in
-            let e = entered turn 0 d (main_start place.troupe views) in
+            let e = enter_run_of turn 0 d (main_start place.troupe views) in
             let same = stays_entered 0 d (main_start place.troupe views) in
             let hosts = same.hosted ∙ at_boot_hosts beginning in
             record {
@@ -315,5 +315,5 @@ module _ {M : Type 0} (declared : M → Signature) (turn : M → List ValueTree 
             }
 
   pub boot_rests : (place : Place) (views : List View) (beginning : Beginning) (hosted : M) → IsHome (declared hosted) place views
-      → HasBooted (now hosted) place views hosted (booted declared turn first place views beginning hosted).member
+      → HasBooted (now hosted) place views hosted (boot_member declared turn first place views beginning hosted).member
   boot_rests place views beginning hosted home = rests_at_boot place views hosted home beginning

@@ -20,7 +20,7 @@ use Rattle.circus_record.specs.declared.record.RunRecord.{RunRecord}
 use Rattle.circus_record.specs.declared.record.MemberRecord.{MemberRecord}
 use Rattle.circus_performing.specs.declared.start.RunStart.{RunStart}
 use Rattle.circus_performing.specs.Performing as P
-use Rattle.circus_performing.specs.Performing.{clock_after, last_of, front_of, open_ask, before_any, active_record, begun, answered_ask, gone_on, next_count, state_by, with_run, most_turns, last_count, entered, answered}
+use Rattle.circus_performing.specs.Performing.{clock_after, last_of, front_of, open_ask, before_any, active_record, begin_run, answered_ask, gone_on, next_count, state_by, with_run, most_turns, last_count, enter_run, answer_open_ask}
 use Rattle.circus_performing.specs.Record.{IsRecord, IsPerforming}
 use Rattle.circus_performing.proofs.Ends.{last_more, front_more, latest_more, replied_same}
 use Rattle.circus_performing.proofs.Records.{none_is_some, idle_has_none}
@@ -213,19 +213,19 @@ module _ (program : List Behaviour) (agree : Agree program) (are : AreModules pr
   -- a run is entered that is the next one of the history
   pub entered_stands : (kept : MemberRecord) (start : RunStart) (step : ℕ) (run : Run) → Stands (history_of program) place b.first kept → open_ask kept ≡ None
       → run_at (history_of program) place kept.count ≡ Some run → start.root ≡ run.root → start.path ≡ run.path → start.procedure ≡ run.procedure
-      → start.arguments ≡ run.arguments → start.clock ≡ run.entry → Stands (history_of program) place b.first (entered b.turn step start kept)
+      → start.arguments ≡ run.arguments → start.clock ≡ run.entry → Stands (history_of program) place b.first (enter_run b.turn step start kept)
   entered_stands kept start step run stands none is root path procedure arguments clock =
       let idle = idle_is kept stands none in
-      let so = entered_so_far run (begun step start) (record { root = root; path = path; procedure = procedure; arguments = arguments; entry = clock }) refl refl refl refl in
-      let gone = gone_on_so program agree are place b at kept.count run is step most_turns (begun step start) so (omega (arith, asks_are_few program agree are place b at kept.count run is)) in
+      let so = entered_so_far run (begin_run step start) (record { root = root; path = path; procedure = procedure; arguments = arguments; entry = clock }) refl refl refl refl in
+      let gone = gone_on_so program agree are place b at kept.count run is step most_turns (begin_run step start) so (omega (arith, asks_are_few program agree are place b at kept.count run is)) in
       let turn : b.turn kept.state start.procedure start.arguments ≡ b.turn (state_after (history_of program) place b.first kept.count) run.procedure run.arguments =
       cc (idle.state, procedure, arguments) in
-      settled_stands kept run (gone_on step (b.turn kept.state start.procedure start.arguments) most_turns (begun step start)) idle.runs idle.count is
-      (subst (λ (t : List Outcome → NextTurn). IsGone run (gone_on step t most_turns (begun step start))) (sym turn) gone)
+      settled_stands kept run (gone_on step (b.turn kept.state start.procedure start.arguments) most_turns (begin_run step start)) idle.runs idle.count is
+      (subst (λ (t : List Outcome → NextTurn). IsGone run (gone_on step t most_turns (begin_run step start))) (sym turn) gone)
 
   -- the open ask is answered as it is there
   answered_so : (kept : MemberRecord) (began : List ValueTree) (step : ℕ) → began ≡ state_after (history_of program) place b.first kept.from
-      → (q : IsBusy (history_of program) place kept) (s : IsShown kept q) → Stands (history_of program) place b.first (answered b.turn began step s.ask.reply s.ask.after kept)
+      → (q : IsBusy (history_of program) place kept) (s : IsShown kept q) → Stands (history_of program) place b.first (answer_open_ask b.turn began step s.ask.reply s.ask.after kept)
   answered_so kept began step began_is q s =
       let u = s.under_way in
       let done = answered_ask step s.ask.reply s.ask.after q.waiting in
@@ -248,7 +248,7 @@ module _ (program : List Behaviour) (agree : Agree program) (are : AreModules pr
   -- the open ask is answered as in the history
   pub answered_stands : (kept : MemberRecord) (began : List ValueTree) (asked : AskRecord) (step : ℕ) → IsRecord b began kept → Stands (history_of program) place b.first kept
       → began ≡ state_after (history_of program) place b.first kept.from → open_ask kept ≡ Some asked → (o : IsOpenOf kept asked)
-      → Stands (history_of program) place b.first (answered b.turn began step o.ask.reply o.ask.after kept)
+      → Stands (history_of program) place b.first (answer_open_ask b.turn began step o.ask.reply o.ask.after kept)
   answered_stands kept began asked step record_is stands began_is is o =
       let q = (busy_is kept asked began record_is stands is).0 in
       let s = shown kept q in
@@ -258,7 +258,7 @@ module _ (program : List Behaviour) (agree : Agree program) (are : AreModules pr
       let place_is : slice_get o.run.asks (length o.last.asks - 1) ≡ slice_get s.run.asks (length s.under_way.made) =
       ap (λ (r : Run). slice_get r.asks (length o.last.asks - 1)) run ∙ ap (slice_get s.run.asks) number in
       let ask : o.ask ≡ s.ask = same_Some o.ask s.ask (sym o.there.ask_is ∙ place_is ∙ s.ask_is) in
-      subst (λ (a : Ask). Stands (history_of program) place b.first (answered b.turn began step a.reply a.after kept)) (sym ask) (answered_so kept began step began_is q s)
+      subst (λ (a : Ask). Stands (history_of program) place b.first (answer_open_ask b.turn began step a.reply a.after kept)) (sym ask) (answered_so kept began step began_is q s)
 
   -- where none is open and there is a last run, that has ended as in the history
   pub last_performed : (kept : MemberRecord) (last : RunRecord) → Stands (history_of program) place b.first kept → open_ask kept ≡ None → last_of kept.runs ≡ Some last

@@ -25,7 +25,7 @@ use Rattle.circus_member_rules.specs.declared.place.Beginning.{Beginning}
 use Rattle.circus_member_rules.specs.declared.place.Beginning.TheVariants.{Founder, Spare}
 use Rattle.circus_member_rules.specs.Rules.{ringmaster, stays_open, lookup_call, lookups}
 use Rattle.circus_member_rules.specs.MemberState.{MemberState, Doing}
-use Rattle.circus_member_rules.specs.Step.{waits, main_start, handled, entered, executed, closed, looked_up, stepped, starts_at_boot, booted}
+use Rattle.circus_member_rules.specs.Step.{waits, main_start, handle, enter_run_of, execute, keep_ask_open, look_up, step_member, starts_at_boot, boot_member}
 use Rattle.circus_member_rules.specs.Happening.{IsHome, CanHappen}
 use Rattle.circus_member_rules.specs.Seen.Sound.{IsRested}
 use Rattle.circus_member_theory.proofs.Histories.{runs_are_few, main_run}
@@ -42,7 +42,7 @@ use Rattle.circus_member_theory.proofs.Resting.{same_handled, same_stepped, soun
 
 module _ (history : List (List Run)) (troupe : ℕ) (first : List ValueTree) (Called : Caller → List ℕ → Type 0) {M : Type 0} (d : Doing M)
     (keeps : KeepsTrue history troupe first Called d) where
-  true_closed : KeepsTrue history troupe first Called (closed d)
+  true_closed : KeepsTrue history troupe first Called (keep_ask_open d)
   true_closed =
       let m = d.member in
       let h = keeps.member in
@@ -60,7 +60,7 @@ module _ (history : List (List Run)) (troupe : ℕ) (first : List ValueTree) (Ca
         effects = keeps.effects;
       }
 
-  true_looked_up : KeepsTrue history troupe first Called (looked_up d)
+  true_looked_up : KeepsTrue history troupe first Called (look_up d)
   true_looked_up =
       let h = keeps.member in
       record {
@@ -103,12 +103,12 @@ module _ {M : Type 0} (declared : M → Signature) (turn : M → List ValueTree 
   pub step_keeps_true : (at : ℕ) (o : Occurrence) (m : MemberState M) → IsAt program troupe (now m.performing.hosted) → IsRested (now m.performing.hosted) m
       → CanHappen (declared m.performing.hosted) m o → IsTrueMember (history_of program) troupe (first m.performing.hosted) Called m
       → IsTrueOccurrence (history_of program) troupe (first m.performing.hosted) Called m o
-      → KeepsTrue (history_of program) troupe (first m.performing.hosted) Called (stepped declared turn at o m)
+      → KeepsTrue (history_of program) troupe (first m.performing.hosted) Called (step_member declared turn at o m)
   step_keeps_true at o m there rest can h is =
       let history = history_of program in
       let hosted = m.performing.hosted in
       let b = now hosted in
-      let e = handled at o m in
+      let e = handle at o m in
       let same = sym (same_handled at o m).hosted in
       let begins : GoesTrue declared turn first lawful program agree are proper troupe Called e =
       record {
@@ -117,10 +117,10 @@ module _ {M : Type 0} (declared : M → Signature) (turn : M → List ValueTree 
         keeps = subst (λ x. KeepsTrue history troupe (first x) Called e) same (true_handled program agree are proper troupe b there Called m rest.sound h at o can is);
       } in
       let g = goes_executed declared turn first lawful program agree are proper troupe Called at e begins in
-      let d = executed declared turn at e in
+      let d = execute declared turn at e in
       let own = first d.member.performing.hosted in
-      subst (λ x. KeepsTrue history troupe (first x) Called (stepped declared turn at o m)) (same_stepped declared turn first lawful at o m).hosted
-      (true_looked_up history troupe own Called (closed d) (true_closed history troupe own Called d g.keeps))
+      subst (λ x. KeepsTrue history troupe (first x) Called (step_member declared turn at o m)) (same_stepped declared turn first lawful at o m).hosted
+      (true_looked_up history troupe own Called (keep_ask_open d) (true_closed history troupe own Called d g.keeps))
 
   -- ---- boot
 
@@ -162,7 +162,7 @@ module _ {M : Type 0} (declared : M → Signature) (turn : M → List ValueTree 
 
     -- a founder of a root enters the MAIN of the history
     true_main : (beginning : Beginning) → starts_at_boot declared turn beginning hosted ≡ true → let e =
-        entered turn 0 (begun beginning) (main_start place.troupe views) in KeepsTrue (history_of program) troupe (first hosted) Called e
+        enter_run_of turn 0 (begun beginning) (main_start place.troupe views) in KeepsTrue (history_of program) troupe (first hosted) Called e
     true_main Founder is =
         let d = begun Founder in
         let g = goes_begun Founder in
@@ -179,22 +179,22 @@ module _ {M : Type 0} (declared : M → Signature) (turn : M → List ValueTree 
           arguments = sym main.5;
           clock = zeros views program all ∙ sym main.6;
         } in
-        let e = entered turn 0 d start in
+        let e = enter_run_of turn 0 d start in
         let goes = goes_entered declared turn first lawful program agree are proper troupe Called 0 d start g
         (may_begin declared turn first lawful place views hosted home Founder is) next in
         let stays = stays_entered declared turn first lawful 0 d start in
         subst (λ x. KeepsTrue (history_of program) troupe (first x) Called e) stays.hosted goes.keeps
     true_main Spare is = cc
 
-    true_at_boot : (beginning : Beginning) → KeepsTrue (history_of program) troupe (first hosted) Called (booted declared turn first place views beginning hosted)
+    true_at_boot : (beginning : Beginning) → KeepsTrue (history_of program) troupe (first hosted) Called (boot_member declared turn first place views beginning hosted)
     true_at_boot beginning = by_test (starts_at_boot declared turn beginning hosted) refl
       where
         by_test : (t : Bool) → starts_at_boot declared turn beginning hosted ≡ t → let e =
-            if t then entered turn 0 (begun beginning) (main_start place.troupe views) else begun beginning in KeepsTrue (history_of program) troupe (first hosted) Called e
+            if t then enter_run_of turn 0 (begun beginning) (main_start place.troupe views) else begun beginning in KeepsTrue (history_of program) troupe (first hosted) Called e
         by_test false is = true_begun beginning
         by_test true is = true_main beginning is
 
   pub boot_keeps_true : (place : Place) (views : List View) (beginning : Beginning) (hosted : M) → place.troupe ≡ troupe → IsHome (declared hosted) place views
       → IsAt program troupe (now hosted) → length views ≡ length program → All (λ (v : View). IsLong v.incarnation) views
-      → KeepsTrue (history_of program) troupe (first hosted) Called (booted declared turn first place views beginning hosted)
+      → KeepsTrue (history_of program) troupe (first hosted) Called (boot_member declared turn first place views beginning hosted)
   boot_keeps_true place views beginning hosted own home there all long = true_at_boot place views hosted own home there all long beginning

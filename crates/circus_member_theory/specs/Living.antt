@@ -33,8 +33,8 @@ module _ {M : Type 0} (declared : M → Signature)
       (beginning : Beginning) (hosted : M) where
     -- the member behind what happened to it
     abbrev pub after : Past → MemberState M
-    after booted = (step.booted declared turn first place views beginning hosted).member
-    after (followed p at o) = (step.stepped declared turn at o (after p)).member
+    after booted = (step.boot_member declared turn first place views beginning hosted).member
+    after (followed p at o) = (step.step_member declared turn at o (after p)).member
 
     -- its record then
     abbrev pub kept_after : Past → MemberRecord

@@ -7,7 +7,7 @@ use Rattle.circus_value.specs.declared.outcome.Outcome.{Outcome}
 use Rattle.circus_model.specs.declared.history.Ask.{Ask}
 use Rattle.circus_model.specs.declared.history.Run.{Run}
 use Rattle.circus_model.specs.Behaviour.{Behaviour}
-use Rattle.circus_model.specs.Execution.{Thread, Order, Performed, stored, counted, run_of, recorded}
+use Rattle.circus_model.specs.Execution.{Thread, Order, Performed, store_state, count_call, run_of, record_run}
 use Rattle.circus_model.specs.History.{runs_of, run_at, current_clock, IsEarlier}
 use Rattle.circus_model.proofs.Lookups.{grown}
 
@@ -95,7 +95,7 @@ pub record CountsOut (o : Order) (b : Behaviour) (t : Thread) (p : Performed) : 
 
 -- ---- each step keeps it
 
-pub counts_refuse : (o : Order) (b : Behaviour) (t u : Thread) (made : List Ask) (v : List ValueTree) (ask : Ask) → ask.after ≡ u.clock → Counts o b t made u → Counts o b t (made ++ ask ∷ []) (stored u o.callee v)
+pub counts_refuse : (o : Order) (b : Behaviour) (t u : Thread) (made : List Ask) (v : List ValueTree) (ask : Ask) → ask.after ≡ u.clock → Counts o b t made u → Counts o b t (made ++ ask ∷ []) (store_state u o.callee v)
 counts_refuse o b t u made v ask after h =
     record {
       below = h.below;
@@ -105,7 +105,7 @@ counts_refuse o b t u made v ask after h =
       clock = sym (clock_after_more t.clock made ask ∙ after);
     }
 
-pub counts_call : (o : Order) (b d : Behaviour) (t u : Thread) (made : List Ask) (asked : Order) (v : List ValueTree) → asked.callee < o.callee → asked.callee < length u.clock → Counts o b t made u → CountsIn asked d (counted (stored u o.callee v) asked.callee)
+pub counts_call : (o : Order) (b d : Behaviour) (t u : Thread) (made : List Ask) (asked : Order) (v : List ValueTree) → asked.callee < o.callee → asked.callee < length u.clock → Counts o b t made u → CountsIn asked d (count_call (store_state u o.callee v) asked.callee)
 counts_call o b d t u made asked v earlier within h =
     record {
       below = λ k below.
@@ -114,7 +114,7 @@ counts_call o b d t u made asked v earlier within h =
       own = λ _. get_or-set_same u.clock asked.callee _ 0 within ∙ ap (λ n. n + 1) (h.below asked.callee earlier);
     }
 
-pub counts_reply : (o : Order) (b d : Behaviour) (t u : Thread) (made : List Ask) (asked : Order) (v : List ValueTree) (p : Performed) (ask : Ask) → asked.callee < o.callee → asked.callee < length u.clock → ask.after ≡ p.thread.clock → Counts o b t made u → CountsOut asked d (counted (stored u o.callee v) asked.callee) p → Counts o b t (made ++ ask ∷ []) p.thread
+pub counts_reply : (o : Order) (b d : Behaviour) (t u : Thread) (made : List Ask) (asked : Order) (v : List ValueTree) (p : Performed) (ask : Ask) → asked.callee < o.callee → asked.callee < length u.clock → ask.after ≡ p.thread.clock → Counts o b t made u → CountsOut asked d (count_call (store_state u o.callee v) asked.callee) p → Counts o b t (made ++ ask ∷ []) p.thread
 counts_reply o b d t u made asked v p ask earlier within after h out =
     record {
       below = λ k below. by_place k below (cases_lt k asked.callee) (cases_eq k asked.callee);
@@ -144,9 +144,9 @@ counts_reply o b d t u made asked v p ask earlier within after h out =
         let behind : asked.callee < k = omega (arith, from, other) in
         behind_clock k behind ∙ h.below k below ∙ ap length (sym (out.still.runs k behind))
 
-pub counts_end : (o : Order) (b : Behaviour) (t u : Thread) (made : List Ask) (outcome : Outcome) (v : List ValueTree) → o.callee < length u.runs → Counts o b t made u → CountsOut o b t (recorded o t (record { thread = stored u o.callee v; made = made; outcome = outcome }))
+pub counts_end : (o : Order) (b : Behaviour) (t u : Thread) (made : List Ask) (outcome : Outcome) (v : List ValueTree) → o.callee < length u.runs → Counts o b t made u → CountsOut o b t (record_run o t (record { thread = store_state u o.callee v; made = made; outcome = outcome }))
 counts_end o b t u made outcome v within h =
-    let run = run_of o t (record { thread = stored u o.callee v; made = made; outcome = outcome }) in
+    let run = run_of o t (record { thread = store_state u o.callee v; made = made; outcome = outcome }) in
     record {
       run = run;
       is_run = record { root = refl; path = refl; procedure = refl; arguments = refl; entry = refl; outcome = refl; end = refl };

@@ -8,7 +8,7 @@ use Rattle.std.proofs.lemmas.Option.{same_Some, slice_get_within}
 use Rattle.circus_model.specs.declared.history.Run.{Run}
 use Rattle.circus_model.specs.Behaviour.{Behaviour}
 use Rattle.circus_model.specs.Agree.{IsAt, IsRoot, Reaches, itself, AreModules, Agree}
-use Rattle.circus_model.specs.Execution.{Performed, fresh, main_order, perform, thread_of, roots_from, joined, history_of}
+use Rattle.circus_model.specs.Execution.{Performed, new_thread, main_order, perform, thread_of, roots_from, join_runs, history_of}
 use Rattle.circus_model.specs.History.{runs_of, run_at, IsMain, HasMaker}
 use Rattle.circus_model.specs.Seen.Ready.{IsThread, IsOrder}
 use Rattle.circus_model.proofs.Lookups.{old_or_added, within, in_either}
@@ -30,7 +30,7 @@ first_state_at [] place b h = cc
 first_state_at (d ∷ program) zero b h = ap (λ (e : Behaviour). e.first) (same_Some d b h)
 first_state_at (d ∷ program) (suc place) b h = first_state_at program place b h
 
-pub fresh_thread : (program : List Behaviour) → AreModules program → IsThread program (fresh program)
+pub fresh_thread : (program : List Behaviour) → AreModules program → IsThread program (new_thread program)
 fresh_thread program lawful =
     record {
       store_length = length-map program (λ (d : Behaviour). d.first);
@@ -40,10 +40,10 @@ fresh_thread program lawful =
     }
 
 -- no module has runs yet
-none_yet : (program : List Behaviour) (k : ℕ) → runs_of (fresh program).runs k ≡ []
+none_yet : (program : List Behaviour) (k : ℕ) → runs_of (new_thread program).runs k ≡ []
 none_yet program k = same_everywhere program [] k
 
-no_run_yet : {X : Type 0} (program : List Behaviour) (k j : ℕ) (run : Run) → run_at (fresh program).runs k j ≡ Some run → X
+no_run_yet : {X : Type 0} (program : List Behaviour) (k j : ℕ) (run : Run) → run_at (new_thread program).runs k j ≡ Some run → X
 no_run_yet program k j run h = absurd (cc (rw (none_yet program k) at h))
 
 pub main_order_stands : (program : List Behaviour) → Agree program → (root : ℕ) (b : Behaviour) → IsAt program root b → b.declared.root ≡ true → IsOrder program (main_order root)
@@ -55,7 +55,7 @@ main_order_stands program agree root b at is_root =
       within = zero-le;
     }
 
-main_begins : (program : List Behaviour) (root : ℕ) (b : Behaviour) → IsAt program root b → b.declared.root ≡ true → LogsIn program root (main_order root) b (fresh program)
+main_begins : (program : List Behaviour) (root : ℕ) (b : Behaviour) → IsAt program root b → b.declared.root ≡ true → LogsIn program root (main_order root) b (new_thread program)
 main_begins program root b at is_root =
     record {
       counts = record {
@@ -87,8 +87,8 @@ module _ (program : List Behaviour) (agree : Agree program) (lawful : AreModules
   unfolding thread_of
   log_of_thread root b at is_root =
       let kept = perform_leaves program agree lawful (LogsIn program root) _ (LogsOut program root) (logs_kept program agree lawful root) in
-      let left = kept (length program) (fresh program) (main_order root) b (slice_get_within program root b at) (fresh_thread program lawful) (main_order_stands program agree root b at is_root) at (main_begins program root b at is_root) in
-      let p = perform program (length program) (fresh program) (main_order root) in
+      let left = kept (length program) (new_thread program) (main_order root) b (slice_get_within program root b at) (fresh_thread program lawful) (main_order_stands program agree root b at is_root) at (main_begins program root b at is_root) in
+      let p = perform program (length program) (new_thread program) (main_order root) in
       let r = left.0.counts.is_run in
       record {
         all = left.1.thread.runs_length;
@@ -106,7 +106,7 @@ module _ (program : List Behaviour) (agree : Agree program) (lawful : AreModules
         made = λ k j run noted other. from_maker p k j other (left.0.origins k j run noted);
       }
     where
-      from_maker : (p : Performed) (k j : ℕ) → k ≢ root → OriginOf (main_order root) (fresh program) p.thread k j → HasMaker p.thread.runs k j
+      from_maker : (p : Performed) (k j : ℕ) → k ≢ root → OriginOf (main_order root) (new_thread program) p.thread k j → HasMaker p.thread.runs k j
       from_maker p k j other (noted_before run is) = no_run_yet program k j run is
       from_maker p k j other (made_by_run m) = m
       from_maker p k j other (own_run here index) = absurd (other here)
@@ -114,31 +114,31 @@ module _ (program : List Behaviour) (agree : Agree program) (lawful : AreModules
 -- ---- threads together
 
 -- the runs of a module in two logs
-pub runs-joined : (one other : List (List Run)) (k : ℕ) → runs_of (joined one other) k ≡ runs_of one k ++ runs_of other k
+pub runs-joined : (one other : List (List Run)) (k : ℕ) → runs_of (join_runs one other) k ≡ runs_of one k ++ runs_of other k
 runs-joined [] other k = refl
 runs-joined (runs ∷ one) [] k = sym (append-nil (get_or (runs ∷ one) k []))
 runs-joined (runs ∷ one) (more ∷ other) zero = refl
 runs-joined (runs ∷ one) (more ∷ other) (suc k) = runs-joined one other k
 
-pub length-joined : (one other : List (List Run)) → length one ≡ length other → length (joined one other) ≡ length one
+pub length-joined : (one other : List (List Run)) → length one ≡ length other → length (join_runs one other) ≡ length one
 length-joined [] [] same = refl
 length-joined [] (x ∷ other) same = sym same
 length-joined (runs ∷ one) [] same = refl
 length-joined (runs ∷ one) (more ∷ other) same = ap suc (length-joined one other (omega (arith, same)))
 
 -- the runs of a module in many
-runs-all_joined : (logs : ℕ → List (List Run)) (history : List (List Run)) (roots : List ℕ) (k : ℕ) → runs_of (fold (λ h root. joined h (logs root)) history roots) k ≡ runs_of history k ++ flat_map (λ root. runs_of (logs root) k) roots
+runs-all_joined : (logs : ℕ → List (List Run)) (history : List (List Run)) (roots : List ℕ) (k : ℕ) → runs_of (fold (λ h root. join_runs h (logs root)) history roots) k ≡ runs_of history k ++ flat_map (λ root. runs_of (logs root) k) roots
 runs-all_joined logs history [] k = sym (append-nil (runs_of history k))
 runs-all_joined logs history (root ∷ roots) k =
-    runs-all_joined logs (joined history (logs root)) roots k
+    runs-all_joined logs (join_runs history (logs root)) roots k
     ∙ ap (λ runs. runs ++ flat_map (λ r. runs_of (logs r) k) roots) (runs-joined history (logs root) k)
     ∙ append_assoc (runs_of history k) (runs_of (logs root) k) (flat_map (λ r. runs_of (logs r) k) roots)
 
-length-all_joined : (logs : ℕ → List (List Run)) (n : ℕ) (history : List (List Run)) (roots : List ℕ) → ((k root : ℕ) → slice_get roots k ≡ Some root → length (logs root) ≡ n) → length history ≡ n → length (fold (λ h root. joined h (logs root)) history roots) ≡ n
+length-all_joined : (logs : ℕ → List (List Run)) (n : ℕ) (history : List (List Run)) (roots : List ℕ) → ((k root : ℕ) → slice_get roots k ≡ Some root → length (logs root) ≡ n) → length history ≡ n → length (fold (λ h root. join_runs h (logs root)) history roots) ≡ n
 length-all_joined logs n history [] each is = is
 length-all_joined logs n history (root ∷ roots) each is =
     let here : length (logs root) ≡ n = each 0 root refl in
-    length-all_joined logs n (joined history (logs root)) roots (λ k r among. each (suc k) r among)
+    length-all_joined logs n (join_runs history (logs root)) roots (λ k r among. each (suc k) r among)
     (length-joined history (logs root) (is ∙ sym here) ∙ is)
 
 -- the place of an item behind the first

@@ -12,7 +12,7 @@ use Rattle.circus_model.specs.declared.history.Run.{Run}
 use Rattle.circus_model.specs.NextTurn.{asks, ends}
 use Rattle.circus_model.specs.Behaviour.{Behaviour}
 use Rattle.circus_model.specs.Agree.{IsAt, Reaches, AreModules, Agree}
-use Rattle.circus_model.specs.Execution.{Thread, Order, Performed, stored, counted, noted, is_spent, next_order, ask_of, replies_of, run_of, recorded}
+use Rattle.circus_model.specs.Execution.{Thread, Order, Performed, store_state, count_call, noted, is_spent, next_order, ask_of, replies_of, run_of, record_run}
 use Rattle.circus_model.specs.History.{runs_of, run_at, state_after, current_clock, clock_before, IsEarlier, FollowsTurns, IsMadeBy, IsAnswered, HasMaker}
 use Rattle.circus_model.proofs.Lookups.{grown, at_end, old_or_added}
 use Rattle.circus_model.proofs.Turning.{turns, IsUnderWay, IsCalling, IsEnding, IsPerformed}
@@ -149,7 +149,7 @@ module _ (program : List Behaviour) (agree : Agree program) (lawful : AreModules
         origins = λ k j run is. noted_before run is;
       }
 
-  logs_refuse : (o : Order) (b : Behaviour) (t u : Thread) (made : List Ask) (c q : ℕ) (a v : List ValueTree) → IsUnderWay program o b t made u → turns b o t (replies_of made) ≡ asks c q a v → IsCalling program o b made c q a v → is_spent u.clock ≡ true → Logs program main o b t made u → let before = stored u o.callee v in Logs program main o b t (made ++ ask_of (next_order o made c q a) v before (refusal before) ∷ []) before
+  logs_refuse : (o : Order) (b : Behaviour) (t u : Thread) (made : List Ask) (c q : ℕ) (a v : List ValueTree) → IsUnderWay program o b t made u → turns b o t (replies_of made) ≡ asks c q a v → IsCalling program o b made c q a v → is_spent u.clock ≡ true → Logs program main o b t made u → let before = store_state u o.callee v in Logs program main o b t (made ++ ask_of (next_order o made c q a) v before (refusal before) ∷ []) before
   logs_refuse o b t u made c q a v way is call spent h =
       record {
         began = h.began;
@@ -163,7 +163,7 @@ module _ (program : List Behaviour) (agree : Agree program) (lawful : AreModules
       }
     where
       before : Thread
-      before = stored u o.callee v
+      before = store_state u o.callee v
 
       ask : Ask
       ask = ask_of (next_order o made c q a) v before (refusal before)
@@ -182,7 +182,7 @@ module _ (program : List Behaviour) (agree : Agree program) (lawful : AreModules
             after_length = way.thread.clock_length;
           }
 
-  logs_call : (o : Order) (b : Behaviour) (t u : Thread) (made : List Ask) (c q : ℕ) (a v : List ValueTree) (d : Behaviour) → IsUnderWay program o b t made u → turns b o t (replies_of made) ≡ asks c q a v → IsCalling program o b made c q a v → IsAt program c d → is_spent u.clock ≡ false → Logs program main o b t made u → LogsIn program main (next_order o made c q a) d (counted (stored u o.callee v) c)
+  logs_call : (o : Order) (b : Behaviour) (t u : Thread) (made : List Ask) (c q : ℕ) (a v : List ValueTree) (d : Behaviour) → IsUnderWay program o b t made u → turns b o t (replies_of made) ≡ asks c q a v → IsCalling program o b made c q a v → IsAt program c d → is_spent u.clock ≡ false → Logs program main o b t made u → LogsIn program main (next_order o made c q a) d (count_call (store_state u o.callee v) c)
   logs_call o b t u made c q a v d way is call there unspent h =
       record {
         counts = counts_call o b d t u made (next_order o made c q a) v call.earlier inside h.counts;
@@ -200,7 +200,7 @@ module _ (program : List Behaviour) (agree : Agree program) (lawful : AreModules
       inside : c < length u.clock
       inside = rw way.thread.clock_length (slice_get_within program c d there)
 
-  logs_reply : (o : Order) (b : Behaviour) (t u : Thread) (made : List Ask) (c q : ℕ) (a v : List ValueTree) (d : Behaviour) (p : Performed) → IsUnderWay program o b t made u → turns b o t (replies_of made) ≡ asks c q a v → IsCalling program o b made c q a v → IsAt program c d → is_spent u.clock ≡ false → Logs program main o b t made u → LogsOut program main (next_order o made c q a) d (counted (stored u o.callee v) c) p → IsPerformed program d q p → let before = stored u o.callee v in Logs program main o b t (made ++ ask_of (next_order o made c q a) v before p ∷ []) p.thread
+  logs_reply : (o : Order) (b : Behaviour) (t u : Thread) (made : List Ask) (c q : ℕ) (a v : List ValueTree) (d : Behaviour) (p : Performed) → IsUnderWay program o b t made u → turns b o t (replies_of made) ≡ asks c q a v → IsCalling program o b made c q a v → IsAt program c d → is_spent u.clock ≡ false → Logs program main o b t made u → LogsOut program main (next_order o made c q a) d (count_call (store_state u o.callee v) c) p → IsPerformed program d q p → let before = store_state u o.callee v in Logs program main o b t (made ++ ask_of (next_order o made c q a) v before p ∷ []) p.thread
   logs_reply o b t u made c q a v d p way is call there unspent h out left =
       record {
         began = h.began;
@@ -217,10 +217,10 @@ module _ (program : List Behaviour) (agree : Agree program) (lawful : AreModules
       asked = next_order o made c q a
 
       w : Thread
-      w = counted (stored u o.callee v) c
+      w = count_call (store_state u o.callee v) c
 
       ask : Ask
-      ask = ask_of asked v (stored u o.callee v) p
+      ask = ask_of asked v (store_state u o.callee v) p
 
       inside : c < length u.clock
       inside = rw way.thread.clock_length (slice_get_within program c d there)
@@ -276,7 +276,7 @@ module _ (program : List Behaviour) (agree : Agree program) (lawful : AreModules
           (h.counts.below c call.earlier ∙ sym index)
           (rw (take_at made (ask ∷ []) (length made) refl) (ap is_spent (sym h.counts.clock) ∙ unspent))
 
-  logs_end : (o : Order) (b : Behaviour) (t u : Thread) (made : List Ask) (outcome : Outcome) (v : List ValueTree) → IsUnderWay program o b t made u → turns b o t (replies_of made) ≡ ends outcome v → IsEnding b o outcome v → Logs program main o b t made u → LogsOut program main o b t (recorded o t (record { thread = stored u o.callee v; made = made; outcome = outcome }))
+  logs_end : (o : Order) (b : Behaviour) (t u : Thread) (made : List Ask) (outcome : Outcome) (v : List ValueTree) → IsUnderWay program o b t made u → turns b o t (replies_of made) ≡ ends outcome v → IsEnding b o outcome v → Logs program main o b t made u → LogsOut program main o b t (record_run o t (record { thread = store_state u o.callee v; made = made; outcome = outcome }))
   logs_end o b t u made outcome v way is ending h =
       record {
         counts = counts_end o b t u made outcome v inside h.counts;
@@ -288,7 +288,7 @@ module _ (program : List Behaviour) (agree : Agree program) (lawful : AreModules
       }
     where
       run : Run
-      run = run_of o t (record { thread = stored u o.callee v; made = made; outcome = outcome })
+      run = run_of o t (record { thread = store_state u o.callee v; made = made; outcome = outcome })
 
       after : List (List Run)
       after = with_run u.runs o.callee run
@@ -390,7 +390,7 @@ module _ (program : List Behaviour) (agree : Agree program) (lawful : AreModules
       ends_before k j x noted (inr other) = h.ends k j x (rw (runs-noted_elsewhere u.runs o.callee k run other) at noted)
 
       left : Thread
-      left = noted (stored u o.callee v) o.callee run
+      left = noted (store_state u o.callee v) o.callee run
 
       -- a run that was there before this one is noted
       from_before : (k j : ℕ) → Origin t u made k j → OriginOf o t left k j

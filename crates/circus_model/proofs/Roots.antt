@@ -6,11 +6,11 @@ use Rattle.std.proofs.lemmas.Option.{same_Some}
 use Rattle.circus_model.specs.declared.history.Run.{Run}
 use Rattle.circus_model.specs.Behaviour.{Behaviour}
 use Rattle.circus_model.specs.Agree.{IsAt}
-use Rattle.circus_model.specs.Execution.{thread_of, roots_from, joined, history_of}
+use Rattle.circus_model.specs.Execution.{thread_of, roots_from, join_runs, history_of}
 
 -- the runs of a root's thread come behind those that are there
 abbrev pub and_thread : List Behaviour → List (List Run) → ℕ → List (List Run)
-and_thread program history root = joined history (thread_of program root).runs
+and_thread program history root = join_runs history (thread_of program root).runs
 
 pub begun : (program : List Behaviour) (history : List (List Run)) → history ≡ map (λ _. []) program → fold (and_thread program) history (roots_from 0 program) ≡ history_of program
 unfolding history_of

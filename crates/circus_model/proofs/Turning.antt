@@ -20,7 +20,7 @@ use Rattle.circus_model.specs.NextTurn.{NextTurn, asks, ends}
 use Rattle.circus_model.specs.Lawful.{IsState, CanStart, ReplyFits, RepliesFit, IsLawful, procedure_numbered, import_of, arguments_fit, import_answers, outcome_fits, is_reported}
 use Rattle.circus_model.specs.Behaviour.{Behaviour}
 use Rattle.circus_model.specs.Agree.{IsAt, AreModules, Agree}
-use Rattle.circus_model.specs.Execution.{Thread, Order, Performed, stored, counted, noted, next_order, replies_of, recorded}
+use Rattle.circus_model.specs.Execution.{Thread, Order, Performed, store_state, count_call, noted, next_order, replies_of, record_run}
 use Rattle.circus_model.specs.Seen.Ready.{IsThread, IsOrder}
 use Rattle.circus_model.proofs.Lookups.{found}
 
@@ -80,7 +80,7 @@ stored_state program store place b v within there state others k d at (inl same)
 stored_state program store place b v within there state others k d at (inr other) =
     rw (get_or-set_other store place k v [] other) (others k d at)
 
-pub stored_thread : (program : List Behaviour) (t : Thread) (place : ℕ) (b : Behaviour) (v : List ValueTree) → IsThread program t → IsAt program place b → IsState b.declared v → IsThread program (stored t place v)
+pub stored_thread : (program : List Behaviour) (t : Thread) (place : ℕ) (b : Behaviour) (v : List ValueTree) → IsThread program t → IsAt program place b → IsState b.declared v → IsThread program (store_state t place v)
 stored_thread program t place b v h there state =
     let within : place < length t.store = rw h.store_length (slice_get_within program place b there) in
     record {
@@ -90,7 +90,7 @@ stored_thread program t place b v h there state =
       states = λ k d at. stored_state program t.store place b v within there state h.states k d at (cases_eq k place);
     }
 
-pub counted_thread : (program : List Behaviour) (t : Thread) (place : ℕ) → IsThread program t → IsThread program (counted t place)
+pub counted_thread : (program : List Behaviour) (t : Thread) (place : ℕ) → IsThread program t → IsThread program (count_call t place)
 counted_thread program t place h =
     record {
       store_length = h.store_length;
@@ -200,10 +200,10 @@ module _ (program : List Behaviour) (agree : Agree program) (lawful : AreModules
       }
 
   -- and ends
-  pub ends_so : (o : Order) (b : Behaviour) (t u : Thread) (made : List Ask) (outcome : Outcome) (v : List ValueTree) → IsUnderWay program o b t made u → IsEnding b o outcome v → IsPerformed program b o.procedure (recorded o t (record { thread = stored u o.callee v; made = made; outcome = outcome }))
+  pub ends_so : (o : Order) (b : Behaviour) (t u : Thread) (made : List Ask) (outcome : Outcome) (v : List ValueTree) → IsUnderWay program o b t made u → IsEnding b o outcome v → IsPerformed program b o.procedure (record_run o t (record { thread = store_state u o.callee v; made = made; outcome = outcome }))
   ends_so o b t u made outcome v h ending =
       record {
-        thread = noted_thread program (stored u o.callee v) o.callee _ (stored_thread program u o.callee b v h.thread h.there ending.state);
+        thread = noted_thread program (store_state u o.callee v) o.callee _ (stored_thread program u o.callee b v h.thread h.there ending.state);
         fits = ending.fits;
       }
 

@@ -38,12 +38,12 @@ pub record Finished : Type 0 where
   pub outcome : Outcome
 
 -- the thread with this state of the module
-abbrev pub stored : Thread → ℕ → List ValueTree → Thread
-stored t m state = record t { store = slice_set t.store m state }
+abbrev pub store_state : Thread → ℕ → List ValueTree → Thread
+store_state t m state = record t { store = slice_set t.store m state }
 
 -- the thread with one call more to the module
-abbrev pub counted : Thread → ℕ → Thread
-counted t m = record t { clock = slice_set t.clock m (slice_index t.clock m + 1) }
+abbrev pub count_call : Thread → ℕ → Thread
+count_call t m = record t { clock = slice_set t.clock m (slice_index t.clock m + 1) }
 
 -- the thread with one run more of the module
 abbrev pub noted : Thread → ℕ → Run → Thread
@@ -54,11 +54,11 @@ abbrev pub is_spent : List ℕ → Bool
 is_spent clock = nat_le most_calls (sum clock)
 
 -- the reply to a call, and the thread after it, where `call` performs calls; a thread that is spent gets an error
-unfoldable pub answered : (Thread → Order → Performed) → Thread → Order → Performed
-answered call t o =
+unfoldable pub reply_to_ask : (Thread → Order → Performed) → Thread → Order → Performed
+reply_to_ask call t o =
     cond (is_spent t.clock)
     (record { thread = t; outcome = Raised (number_of ThreadSpent) [] })
-    (call (counted t o.callee) o)
+    (call (count_call t o.callee) o)
 
 -- an order of the run that is under way, for its next ask
 abbrev pub next_order : Order → List Ask → ℕ → ℕ → List ValueTree → Order
@@ -79,13 +79,13 @@ ask_of asked state t p =
     }
 
 -- the run after this turn: it ends, or its ask is answered and it goes on
-abbrev pub turned : (Thread → Order → Performed) → Order → (List Ask → Thread → Finished) → List Ask → Thread → NextTurn → Finished
-turned call o go_on made t (ends outcome state) =
-    record { thread = stored t o.callee state; made = made; outcome = outcome }
-turned call o go_on made t (asks callee procedure arguments state) =
-    let before = stored t o.callee state in
+abbrev pub run_after_turn : (Thread → Order → Performed) → Order → (List Ask → Thread → Finished) → List Ask → Thread → NextTurn → Finished
+run_after_turn call o go_on made t (ends outcome state) =
+    record { thread = store_state t o.callee state; made = made; outcome = outcome }
+run_after_turn call o go_on made t (asks callee procedure arguments state) =
+    let before = store_state t o.callee state in
     let asked = next_order o made callee procedure arguments in
-    let p = answered call before asked in
+    let p = reply_to_ask call before asked in
     go_on (made ++ ask_of asked state before p ∷ []) p.thread
 
 -- the replies that these asks had
@@ -100,7 +100,7 @@ never = Returned []
 unfoldable pub performed_on : (Thread → Order → Performed) → Order → (List Outcome → NextTurn) → ℕ → List Ask → Thread → Finished
 performed_on call o turn zero made t = record { thread = t; made = made; outcome = never }
 performed_on call o turn (suc left) made t =
-    turned call o (performed_on call o turn left) made t (turn (replies_of made))
+    run_after_turn call o (performed_on call o turn left) made t (turn (replies_of made))
 
 -- the record of an ordered run, which began on a thread and left this
 abbrev pub run_of : Order → Thread → Finished → Run
@@ -118,8 +118,8 @@ run_of o entered f =
     }
 
 -- the thread with that record, and what the caller gets
-abbrev pub recorded : Order → Thread → Finished → Performed
-recorded o entered f = record { thread = noted f.thread o.callee (run_of o entered f); outcome = f.outcome }
+abbrev pub record_run : Order → Thread → Finished → Performed
+record_run o entered f = record { thread = noted f.thread o.callee (run_of o entered f); outcome = f.outcome }
 
 -- the turns of the ordered call
 abbrev pub turns_of : List Behaviour → Thread → Order → List Outcome → NextTurn
@@ -133,11 +133,11 @@ turns_of program t o replies =
 unfoldable pub perform : List Behaviour → ℕ → Thread → Order → Performed
 perform program zero t o = record { thread = t; outcome = never }
 perform program (suc depth) t o =
-    recorded o t (performed_on (perform program depth) o (turns_of program t o) (most_asks + 1) [] t)
+    record_run o t (performed_on (perform program depth) o (turns_of program t o) (most_asks + 1) [] t)
 
 -- a thread that has done nothing
-abbrev pub fresh : List Behaviour → Thread
-fresh program =
+abbrev pub new_thread : List Behaviour → Thread
+new_thread program =
     record { store = map (λ b. b.first) program; clock = map (λ _. 0) program; runs = map (λ _. []) program }
 
 -- the first call of a root's thread
@@ -146,7 +146,7 @@ main_order root = record { root = root; path = []; callee = root; procedure = 0;
 
 -- what a root's thread does
 unfoldable pub thread_of : List Behaviour → ℕ → Thread
-thread_of program root = (perform program (length program) (fresh program) (main_order root)).thread
+thread_of program root = (perform program (length program) (new_thread program) (main_order root)).thread
 
 -- the places of the roots, the first module having this place
 abbrev pub roots_from : ℕ → List Behaviour → List ℕ
@@ -155,12 +155,12 @@ roots_from place (b ∷ program) =
     cond b.declared.root (place ∷ roots_from (suc place) program) (roots_from (suc place) program)
 
 -- the runs of each module, those of one root before those of the next
-abbrev pub joined : List (List Run) → List (List Run) → List (List Run)
-joined [] others = others
-joined (runs ∷ before) [] = runs ∷ before
-joined (runs ∷ before) (more ∷ others) = (runs ++ more) ∷ joined before others
+abbrev pub join_runs : List (List Run) → List (List Run) → List (List Run)
+join_runs [] others = others
+join_runs (runs ∷ before) [] = runs ∷ before
+join_runs (runs ∷ before) (more ∷ others) = (runs ++ more) ∷ join_runs before others
 
 -- for each module the runs that it performs, in order
 unfoldable pub history_of : List Behaviour → List (List Run)
 history_of program =
-    fold (λ history root. joined history (thread_of program root).runs) (map (λ _. []) program) (roots_from 0 program)
+    fold (λ history root. join_runs history (thread_of program root).runs) (map (λ _. []) program) (roots_from 0 program)

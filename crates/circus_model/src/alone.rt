@@ -3,9 +3,9 @@ ghost use Rattle.std.specs.Prelude.{◌≡◌, ℕ, ◌<◌, ◌≤◌, [], ◌�
 ghost use Rattle.circus_model.specs.Behaviour.{behaviours};
 ghost use Rattle.circus_model.specs.Agree.{Agree, IsRoot};
 ghost use Rattle.circus_limits.specs.Limits.{most_modules};
-ghost use Rattle.circus_model.specs.Execution.{fresh, thread_of, joined, history_of};
+ghost use Rattle.circus_model.specs.Execution.{new_thread, thread_of, join_runs, history_of};
 ghost use Rattle.circus_model.specs.Seen.Ready.{IsThread, IsOrder};
-ghost use Rattle.circus_model.specs.Seen.Threads.{seen, ordered, HasPerformed, HasAnswered};
+ghost use Rattle.circus_model.specs.Seen.Threads.{thread_seen, order_given, HasPerformed, HasAnswered};
 
 use crate::{Ask, History, LanguageError, Module, Run, Runs, Turn, is_spent};
 use circus_value::{Clock, Duplicate, ListOf, NoMemory, Outcome, Path, State, Values};
@@ -41,8 +41,8 @@ fn perform<M: Module>(
     requires agree { Agree (behaviours M.declared M.turn M.first modules.now) }
     requires few { length modules.now ≤ most_modules }
     requires thread { IsThread (behaviours M.declared M.turn M.first modules.now)
-        (seen (behaviours M.declared M.turn M.first modules.now) thread.old) }
-    requires order { IsOrder (behaviours M.declared M.turn M.first modules.now) (ordered order) }
+        (thread_seen (behaviours M.declared M.turn M.first modules.now) thread.old) }
+    requires order { IsOrder (behaviours M.declared M.turn M.first modules.now) (order_given order) }
     ensures { IfOk result
         (HasPerformed (behaviours M.declared M.turn M.first modules.now) thread.old order
         thread.new) }
@@ -99,8 +99,8 @@ fn answer<M: Module>(
     requires agree { Agree (behaviours M.declared M.turn M.first modules.now) }
     requires few { length modules.now ≤ most_modules }
     requires thread { IsThread (behaviours M.declared M.turn M.first modules.now)
-        (seen (behaviours M.declared M.turn M.first modules.now) thread.old) }
-    requires order { IsOrder (behaviours M.declared M.turn M.first modules.now) (ordered order) }
+        (thread_seen (behaviours M.declared M.turn M.first modules.now) thread.old) }
+    requires order { IsOrder (behaviours M.declared M.turn M.first modules.now) (order_given order) }
     ensures { IfOk result
         (HasAnswered (behaviours M.declared M.turn M.first modules.now) thread.old order state
         thread.new) }
@@ -110,7 +110,7 @@ fn answer<M: Module>(
     let arguments = order.arguments.copy()?;
     let index = thread.clock.as_slice()[usize::from(callee)];
     let reply = if is_spent(&thread.clock) {
-        LanguageError::ThreadSpent.raised(alloc)
+        LanguageError::ThreadSpent.raised_outcome(alloc)
     } else {
         thread.clock.set(usize::from(callee), index + 1);
         perform(alloc, modules, thread, order)?
@@ -206,10 +206,10 @@ impl Thread {
 }
 
 // A thread that has done nothing.
-fn fresh<M: Module>(alloc: Global, modules: &[M]) -> Result<Thread, NoMemory>
+fn new_thread<M: Module>(alloc: Global, modules: &[M]) -> Result<Thread, NoMemory>
     ensures { IfOk result (λ thread.
-        seen (behaviours M.declared M.turn M.first modules.now) thread
-        ≡ fresh (behaviours M.declared M.turn M.first modules.now)) }
+        thread_seen (behaviours M.declared M.turn M.first modules.now) thread
+        ≡ new_thread (behaviours M.declared M.turn M.first modules.now)) }
 {
     let mut states = Vec::new(alloc);
     let mut clock = ListOf::new(alloc);
@@ -239,7 +239,7 @@ fn runs_of_root<M: Module>(
         map (λ runs. runs.items) all.items
         ≡ (thread_of (behaviours M.declared M.turn M.first modules.now) root).runs) }
 {
-    let mut thread = fresh(alloc, modules)?;
+    let mut thread = new_thread(alloc, modules)?;
     let main = Order {
         root,
         path: Path::new(alloc),
@@ -266,7 +266,7 @@ fn join(history: &mut [Vec<Run>], mut all: Vec<Vec<Run>>) -> Result<(), NoMemory
     requires { vec_len all ≡ length history.old }
     ensures { OnOk result
         (map (λ runs. runs.items) history.new
-        ≡ joined (map (λ runs. runs.items) history.old) (map (λ runs. runs.items) all.items)) }
+        ≡ join_runs (map (λ runs. runs.items) history.old) (map (λ runs. runs.items) all.items)) }
 {
     while let Some(more) = all.pop() {
         append(&mut history[all.len()], more)?;
@@ -275,7 +275,7 @@ fn join(history: &mut [Vec<Run>], mut all: Vec<Vec<Run>>) -> Result<(), NoMemory
 }
 
 // The runs as a history, which are not copied.
-fn listed(alloc: Global, all: Vec<Vec<Run>>) -> Result<History, NoMemory>
+fn history_of(alloc: Global, all: Vec<Vec<Run>>) -> Result<History, NoMemory>
     ensures { IfOk result (λ history. history ≡ map (λ runs. runs.items) all.items) }
 {
     let lists: Vec<Runs> = all.into_iter().map(|runs| ListOf::of(runs)).collect(alloc)?;
@@ -291,11 +291,11 @@ pub fn run_alone<M: Module>(alloc: Global, modules: &[M]) -> Result<History, NoM
     ensures { IfOk result (λ history.
         history ≡ history_of (behaviours M.declared M.turn M.first modules.now)) }
 {
-    let mut history = fresh(alloc, modules)?.runs;
+    let mut history = new_thread(alloc, modules)?.runs;
     for (place, module) in modules.iter().enumerate() {
         if module.signature().root {
             join(&mut history, runs_of_root(alloc, modules, place as u16)?)?;
         }
     }
-    listed(alloc, history)
+    history_of(alloc, history)
 }

@@ -39,7 +39,7 @@ impl LanguageError {
     }
 
     /// The outcome of what raises it.
-    pub fn raised(self, alloc: Global) -> Outcome
+    pub fn raised_outcome(self, alloc: Global) -> Outcome
         ensures { result ≡ Raised (number_of self) [] }
     {
         Outcome::Raised(self.number(), Values::new(alloc))

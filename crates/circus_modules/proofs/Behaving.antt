@@ -12,7 +12,7 @@ use Rattle.circus_machine.specs.Modules.{place_of, body_at, turn_by, turn_with, 
 use Rattle.circus_idl.specs.declared.interface.Interface.{Interface}
 use Rattle.circus_check.specs.Meaning.{BodyMeant, ModuleMeant}
 use Rattle.circus_modules.specs.Zeros.{zeros}
-use Rattle.circus_modules.specs.Signatures.{offered, signature_of}
+use Rattle.circus_modules.specs.Signatures.{procedures_offered, signature_of}
 use Rattle.circus_modules.specs.Behaviours.{turn_of, body_in, behaviour_of}
 use Rattle.circus_modules.specs.Seen.Made.{AreMade}
 
@@ -29,7 +29,7 @@ behaves_as_meant : (limit : ℕ) (interfaces : List Interface) (numbers : List (
     → behaves (signature_of limit interfaces numbers m) (zeros m.variables) made ≡ behaviour_of limit interfaces numbers m
 behaves_as_meant limit interfaces numbers m made are = λ i. record {
   declared = signature_of limit interfaces numbers m;
-  turn = λ state procedure. turns_in limit m.bodies made are (place_of procedure (offered interfaces m.interface)) i state;
+  turn = λ state procedure. turns_in limit m.bodies made are (place_of procedure (procedures_offered interfaces m.interface)) i state;
   first = zeros m.variables;
 }
 

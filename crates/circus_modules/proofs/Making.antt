@@ -6,7 +6,7 @@ use Rattle.circus_machine.specs.declared.body.Body.{Body as Compiled}
 use Rattle.circus_check.specs.declared.checked.CheckedBody.{CheckedBody}
 use Rattle.circus_check.specs.declared.checked.ResolvedModule.{ResolvedModule}
 use Rattle.circus_check.specs.Seen.Meant.{body_as, module_as}
-use Rattle.circus_modules.specs.Signatures.{implemented}
+use Rattle.circus_modules.specs.Signatures.{interface_numbers}
 use Rattle.circus_modules.specs.Seen.Made.{IsMade, AreMade}
 
 -- what holds of all that are left holds of the first, and of the others
@@ -24,7 +24,7 @@ pub made_with : (bodies : List CheckedBody) (b : CheckedBody) (made all : List C
 made_with bodies b made all one grown are is = subst (AreMade (map body_as (bodies ++ b ∷ []))) (sym grown) (more_made bodies b made one are is)
 
 -- what modules implement
-pub implemented_as : (modules : List ResolvedModule) → map (λ (m : ResolvedModule). m.interface) modules ≡ implemented (map module_as modules)
+pub implemented_as : (modules : List ResolvedModule) → map (λ (m : ResolvedModule). m.interface) modules ≡ interface_numbers (map module_as modules)
 implemented_as [] = refl
 implemented_as (m ∷ modules) = ap (λ (numbers : List (Option ℕ)). m.interface ∷ numbers) (implemented_as modules)
 

@@ -21,7 +21,7 @@ use Rattle.circus_check.specs.Meaning.{ModuleMeant}
 use Rattle.circus_check.specs.WellFormed as checked
 use Rattle.circus_check.specs.WellFormed.{IsAt, Implements, Offers, Raised}
 use Rattle.circus_check.proofs.Declared.{contains_cases}
-use Rattle.circus_modules.specs.Signatures.{offered, implemented, procedures_if, import_of}
+use Rattle.circus_modules.specs.Signatures.{procedures_offered, interface_numbers, procedures_if, import_of}
 use Rattle.circus_modules.proofs.Found.{find_map, found_passes, first_of_number, number_found, contains_none}
 use Rattle.circus_modules.proofs.Trees.{shapes_forth}
 
@@ -70,28 +70,28 @@ module _ (interfaces : List Interface) (modules : List ModuleMeant) where
   }
 
   -- the procedures of a module, by the numbers that modules implement
-  pub offered_at : (k : ℕ) (m : ModuleMeant) → IsAt modules k m → offered interfaces (unwrap_or (slice_get (implemented modules) k) None) ≡ offered interfaces m.interface
+  pub offered_at : (k : ℕ) (m : ModuleMeant) → IsAt modules k m → procedures_offered interfaces (unwrap_or (slice_get (interface_numbers modules) k) None) ≡ procedures_offered interfaces m.interface
   offered_at k m there =
-      ap (λ (o : Option (Option ℕ)). offered interfaces (unwrap_or o None)) (slice_get-map (λ (m : ModuleMeant). m.interface) modules k)
-      ∙ ap (λ (o : Option ModuleMeant). offered interfaces (unwrap_or (option_map (λ (m : ModuleMeant). m.interface) o) None)) there
+      ap (λ (o : Option (Option ℕ)). procedures_offered interfaces (unwrap_or o None)) (slice_get-map (λ (m : ModuleMeant). m.interface) modules k)
+      ∙ ap (λ (o : Option ModuleMeant). procedures_offered interfaces (unwrap_or (option_map (λ (m : ModuleMeant). m.interface) o) None)) there
 
   -- those of a module that implements an interface
-  offered_is : (k : ℕ) (i : Interface) → Implements interfaces modules k i → offered interfaces (unwrap_or (slice_get (implemented modules) k) None) ≡ procedures_of i
-  offered_is k i it = offered_at k it.«module» it.there ∙ ap (offered interfaces) it.named ∙ ap procedures_if it.found
+  offered_is : (k : ℕ) (i : Interface) → Implements interfaces modules k i → procedures_offered interfaces (unwrap_or (slice_get (interface_numbers modules) k) None) ≡ procedures_of i
+  offered_is k i it = offered_at k it.«module» it.there ∙ ap (procedures_offered interfaces) it.named ∙ ap procedures_if it.found
 
   module _ (obey : (n : ℕ) (i : Interface) → IsAt interfaces n i → Obeys i) (imports : List ℕ) where
     imported_is : (callee procedure : ℕ) (i : Interface) (p : Procedure) → Contains imports callee → Offers interfaces modules callee procedure i p
-        → IsImported (map (import_of interfaces (implemented modules)) imports) callee procedure (procedure_of i.errors p)
+        → IsImported (map (import_of interfaces (interface_numbers modules)) imports) callee procedure (procedure_of i.errors p)
     imported_is callee procedure i p among offers = record {
-      «import» = import_of interfaces (implemented modules) callee;
-      named = find_map (import_of interfaces (implemented modules)) (λ (x : Import). x.«module» == callee) imports ∙ ap (option_map (import_of interfaces (implemented modules))) (number_found imports callee among);
+      «import» = import_of interfaces (interface_numbers modules) callee;
+      named = find_map (import_of interfaces (interface_numbers modules)) (λ (x : Import). x.«module» == callee) imports ∙ ap (option_map (import_of interfaces (interface_numbers modules))) (number_found imports callee among);
       numbered =
           ap (procedure_numbered procedure) (offered_is callee i offers.implemented)
           ∙ procedure_found i p procedure (obey offers.implemented.number i offers.implemented.found) offers.declared offers.numbered;
     }
 
     pub takes_here : (callee procedure : ℕ) (arguments gives : List ShapeTree) → checked.Takes interfaces modules imports callee procedure arguments gives
-        → machine.Takes (map (import_of interfaces (implemented modules)) imports) callee procedure arguments gives
+        → machine.Takes (map (import_of interfaces (interface_numbers modules)) imports) callee procedure arguments gives
     takes_here callee procedure arguments gives (among, i, p, offers, taken, given) = record {
       shape = procedure_of i.errors p;
       imported = imported_is callee procedure i p among offers;
@@ -100,7 +100,7 @@ module _ (interfaces : List Interface) (modules : List ModuleMeant) where
     }
 
     pub reports_here : (callee procedure number : ℕ) (values : List ShapeTree) → checked.Reports interfaces modules imports callee procedure number values
-        → machine.Reports (map (import_of interfaces (implemented modules)) imports) callee procedure number values
+        → machine.Reports (map (import_of interfaces (interface_numbers modules)) imports) callee procedure number values
     reports_here callee procedure number values (among, i, p, offers, raised) = record {
       shape = procedure_of i.errors p;
       imported = imported_is callee procedure i p among offers;

@@ -13,7 +13,7 @@ use Rattle.circus_idl.specs.declared.interface.Procedure.{Procedure}
 use Rattle.circus_idl.specs.declared.interface.Interface.{Interface}
 use Rattle.circus_check.specs.Meaning.{BodyMeant, ModuleMeant}
 use Rattle.circus_check.specs.WellFormed.{AreBodies, IsMain, HasBodies, IsModule, AreWellFormed}
-use Rattle.circus_modules.specs.Signatures.{implemented}
+use Rattle.circus_modules.specs.Signatures.{interface_numbers}
 use Rattle.circus_modules.specs.Seen.Made.{IsSmall, CanBeMade}
 use Rattle.circus_modules.proofs.States.{zeros_fit_shapes, zeros_within, locals_small, parts_joined, parts_among}
 use Rattle.circus_modules.proofs.WholeBodies.{made_are_bodies}
@@ -60,7 +60,7 @@ fewer : (variables locals : List FieldTree) → parts_of (shapes_of (variables +
 fewer variables locals few = omega (arith, parts_joined variables locals, few)
 
 module _ (limit : ℕ) (interfaces : List Interface) (modules : List ModuleMeant) (large : first_limit ≤ limit) (obey : AllByRecursion Obeys interfaces) where
-  can_be_made : (n : ℕ) (m : ModuleMeant) → IsModule interfaces modules n m → CanBeMade limit interfaces (implemented modules) m
+  can_be_made : (n : ℕ) (m : ModuleMeant) → IsModule interfaces modules n m → CanBeMade limit interfaces (interface_numbers modules) m
   can_be_made n m good = record {
     first = record { fits = zeros_fit_shapes m.variables good.types; within = zeros_within m.variables limit good.small large };
     small =
@@ -69,5 +69,5 @@ module _ (limit : ℕ) (interfaces : List Interface) (modules : List ModuleMeant
     bodies = λ made are. made_are_bodies limit interfaces modules (at_place Obeys interfaces obey) m made good.bodies are;
   }
 
-  pub all_can_be_made : AreWellFormed interfaces modules → AllByRecursion (CanBeMade limit interfaces (implemented modules)) modules
-  all_can_be_made good = of_places (CanBeMade limit interfaces (implemented modules)) modules (λ n m at. can_be_made n m (good.each n m at))
+  pub all_can_be_made : AreWellFormed interfaces modules → AllByRecursion (CanBeMade limit interfaces (interface_numbers modules)) modules
+  all_can_be_made good = of_places (CanBeMade limit interfaces (interface_numbers modules)) modules (λ n m at. can_be_made n m (good.each n m at))

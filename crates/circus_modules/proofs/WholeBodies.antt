@@ -20,7 +20,7 @@ use Rattle.circus_check.specs.Meaning.{BodyMeant, ModuleMeant}
 use Rattle.circus_check.specs.WellFormed as checked
 use Rattle.circus_check.specs.WellFormed.{IsAt, IsBody, AreBodies, IsMain, HasBodies, Raised}
 use Rattle.circus_check.proofs.TypedMore.{all_typed_more}
-use Rattle.circus_modules.specs.Signatures.{signature_of, offered, implemented, procedures_if, import_of}
+use Rattle.circus_modules.specs.Signatures.{signature_of, procedures_offered, interface_numbers, procedures_if, import_of}
 use Rattle.circus_modules.specs.Seen.Made.{IsMade, AreMade}
 use Rattle.circus_modules.proofs.Offered.{takes_here, reports_here, raised_here}
 use Rattle.circus_modules.proofs.States.{zeros_hold}
@@ -36,7 +36,7 @@ together state arguments locals =
 
 module _ (limit : ℕ) (interfaces : List Interface) (modules : List ModuleMeant) (obey : (n : ℕ) (i : Interface) → IsAt interfaces n i → Obeys i) (m : ModuleMeant) where
   declared : Signature
-  declared = signature_of limit interfaces (implemented modules) m
+  declared = signature_of limit interfaces (interface_numbers modules) m
 
   -- one body, whose procedure has this shape
   body_here : (p : ProcedureShape) (arguments : List FieldTree) (results : List ShapeTree) (raises : ℕ → List ShapeTree → Type 0) (b : BodyMeant) (made : Body)
@@ -47,7 +47,7 @@ module _ (limit : ℕ) (interfaces : List Interface) (modules : List ModuleMeant
     locals = shapes_of b.locals;
     hold = subst (Hold (shapes_of b.locals)) (sym same.locals) (zeros_hold b.locals is.locals);
     typed =
-        let imports = map (import_of interfaces (implemented modules)) m.imports in
+        let imports = map (import_of interfaces (interface_numbers modules)) m.imports in
         let own : AreTyped (shapes_of (m.variables ++ arguments ++ b.locals)) (machine.Takes imports) (machine.Reports imports) results (machine.Raises p.errors) (statement_trees b.statements) =
         all_typed_more (shapes_of (m.variables ++ arguments ++ b.locals)) (checked.Takes interfaces modules m.imports) (machine.Takes imports) (checked.Reports interfaces modules m.imports) (machine.Reports imports) results raises (machine.Raises p.errors)
         (takes_here interfaces modules obey m.imports) (reports_here interfaces modules obey m.imports) raised (statement_trees b.statements) is.typed in
@@ -80,7 +80,7 @@ module _ (limit : ℕ) (interfaces : List Interface) (modules : List ModuleMeant
   main_here (b ∷ []) (one ∷ _ ∷ _) are made = absurd made.1
   main_here (b ∷ _ ∷ _) all are made = absurd are
 
-  by_kind : (root : Bool) (number : Option ℕ) (all : List Body) → HasBodies interfaces modules m root number → AreMade m.bodies all → AreBodiesOf declared (offered interfaces number) all
+  by_kind : (root : Bool) (number : Option ℕ) (all : List Body) → HasBodies interfaces modules m root number → AreMade m.bodies all → AreBodiesOf declared (procedures_offered interfaces number) all
   unfolding declared
   by_kind true None all has made = main_here m.bodies all has made
   by_kind true (Some n) all has made = absurd has
@@ -91,6 +91,6 @@ module _ (limit : ℕ) (interfaces : List Interface) (modules : List ModuleMeant
 
   -- the bodies that are made of a module's
   pub made_are_bodies : (all : List Body) → HasBodies interfaces modules m m.root m.interface → AreMade m.bodies all
-      → AreBodiesOf (signature_of limit interfaces (implemented modules) m) (offered interfaces m.interface) all
+      → AreBodiesOf (signature_of limit interfaces (interface_numbers modules) m) (procedures_offered interfaces m.interface) all
   unfolding declared
   made_are_bodies all has made = by_kind m.root m.interface all has made

@@ -12,7 +12,7 @@ use Rattle.circus_machine.specs.Modules.{place_of}
 use Rattle.circus_idl.specs.declared.interface.Interface.{Interface}
 use Rattle.circus_check.specs.Meaning.{BodyMeant, ModuleMeant}
 use Rattle.circus_modules.specs.Zeros.{zeros}
-use Rattle.circus_modules.specs.Signatures.{signature_of, implemented}
+use Rattle.circus_modules.specs.Signatures.{signature_of, interface_numbers}
 
 -- an execution of a body, whose local variables are zero at first
 abbrev pub turn_of : ℕ → Option BodyMeant → List ValueTree → List ValueTree → List Outcome → NextTurn
@@ -34,4 +34,4 @@ behaviour_of limit interfaces numbers m = record {
 
 -- all modules
 abbrev pub program_of : ℕ → List Interface → List ModuleMeant → List Behaviour
-program_of limit interfaces modules = map (behaviour_of limit interfaces (implemented modules)) modules
+program_of limit interfaces modules = map (behaviour_of limit interfaces (interface_numbers modules)) modules

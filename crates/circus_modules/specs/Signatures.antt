@@ -13,17 +13,17 @@ procedures_if None = []
 procedures_if (Some i) = procedures_of i
 
 -- the procedures of a module, by the number of its interface; a root has MAIN alone
-abbrev pub offered : List Interface → Option ℕ → List ProcedureShape
-offered interfaces None = main_alone
-offered interfaces (Some n) = procedures_if (slice_get interfaces n)
+abbrev pub procedures_offered : List Interface → Option ℕ → List ProcedureShape
+procedures_offered interfaces None = main_alone
+procedures_offered interfaces (Some n) = procedures_if (slice_get interfaces n)
 
 -- the number of each module's interface
-abbrev pub implemented : List ModuleMeant → List (Option ℕ)
-implemented modules = map (λ m. m.interface) modules
+abbrev pub interface_numbers : List ModuleMeant → List (Option ℕ)
+interface_numbers modules = map (λ m. m.interface) modules
 
 -- a module that is imported, where modules implement interfaces of these numbers
 abbrev pub import_of : List Interface → List (Option ℕ) → ℕ → Import
-import_of interfaces numbers k = record { «module» = k; procedures = offered interfaces (unwrap_or (slice_get numbers k) None) }
+import_of interfaces numbers k = record { «module» = k; procedures = procedures_offered interfaces (unwrap_or (slice_get numbers k) None) }
 
 -- a module whose states and values may have so many bytes
 abbrev pub signature_of : ℕ → List Interface → List (Option ℕ) → ModuleMeant → Signature
@@ -31,6 +31,6 @@ signature_of limit interfaces numbers m = record {
   root = m.root;
   imports = map (import_of interfaces numbers) m.imports;
   variables = shapes_in m.variables;
-  procedures = offered interfaces m.interface;
+  procedures = procedures_offered interfaces m.interface;
   limit = limit;
 }

@@ -25,12 +25,12 @@ fn main_alone(alloc: Global) -> Result<ProcedureShapes, NoMemory>
 }
 
 // The procedures of a module, by the number of its interface.
-fn offered(
+fn procedures_offered(
     alloc: Global,
     interfaces: &[Interface],
     number: Option<u16>,
 ) -> Result<ProcedureShapes, NoMemory>
-    ensures { IfOk result (λ procedures. procedures ≡ means.offered interfaces.now number) }
+    ensures { IfOk result (λ procedures. procedures ≡ means.procedures_offered interfaces.now number) }
 {
     match number {
         None => main_alone(alloc),
@@ -54,7 +54,7 @@ fn import(
     let number = implemented.get(usize::from(module)).copied();
     Ok(Import {
         module,
-        procedures: offered(alloc, interfaces, number.unwrap_or(None))?,
+        procedures: procedures_offered(alloc, interfaces, number.unwrap_or(None))?,
     })
 }
 
@@ -90,7 +90,7 @@ pub(crate) fn signature(
         root: module.root,
         imports: imports(alloc, interfaces, implemented, module.imports.as_slice())?,
         variables: shapes_of(alloc, module.variables.as_slice())?,
-        procedures: offered(alloc, interfaces, module.interface)?,
+        procedures: procedures_offered(alloc, interfaces, module.interface)?,
         limit,
     })
 }

@@ -19,14 +19,14 @@ use circus_value::{ListOf, NoMemory};
 use std::alloc::Global;
 
 // The number of each module's interface.
-fn implemented(alloc: Global, modules: &[ResolvedModule]) -> Result<Vec<Option<u16>>, NoMemory>
+fn interface_numbers(alloc: Global, modules: &[ResolvedModule]) -> Result<Vec<Option<u16>>, NoMemory>
     ensures { IfOk result (λ numbers. numbers.items ≡ map (λ m. m.interface) modules.now) }
 {
     modules.iter().map(|module| module.interface).collect(alloc)
 }
 
 // The bodies, compiled.
-fn compiled(alloc: Global, bodies: CheckedBodies) -> Result<ListOf<Body>, NoMemory>
+fn compile_bodies(alloc: Global, bodies: CheckedBodies) -> Result<ListOf<Body>, NoMemory>
     requires { AllByRecursion IsSmall (map body_as bodies) }
     ensures { IfOk result (λ made. AreMade (map body_as bodies) made) }
 {
@@ -54,7 +54,7 @@ fn text_module(
 {
     let signature = signature(alloc, limit, interfaces, implemented, &module)?;
     let first = zero_fields(alloc, module.variables.as_slice())?;
-    let bodies = compiled(alloc, module.bodies)?;
+    let bodies = compile_bodies(alloc, module.bodies)?;
     TextModule::new(alloc, signature, first, bodies)
 }
 
@@ -101,7 +101,7 @@ pub fn modules_of(
         interfaces,
         modules,
     } = checked;
-    let implemented = implemented(alloc, modules.as_slice())?;
+    let implemented = interface_numbers(alloc, modules.as_slice())?;
     let made = text_modules(
         alloc,
         limit,

@@ -13,13 +13,13 @@ use Rattle.circus_segment.specs.Segment.{Piece}
 use Rattle.circus_segment.specs.declared.fault.SegmentFault.{SegmentFault}
 use Rattle.circus_value.specs.declared.caller.Caller.{Caller}
 use Rattle.circus_wire.specs.declared.delivery.Batch.{Batch}
-use Rattle.circus_wire.specs.Wire.{PeerState, WireState, Remains, IsOther, place_of, node_at, peer_at, of_peer, sent_to, changed, is_up, next_number, is_awaited, called_to, sent_by_call, answered, sent_by_answer, after_datagram, sent_by_datagram, all_ticked, batches, given_below, sent_by_tick, peer_answered}
+use Rattle.circus_wire.specs.Wire.{PeerState, WireState, Remains, IsOther, place_of, node_at, peer_at, of_peer, sent_to, change_peer, is_up, next_number, is_awaited, called_to, sent_by_call, answer_caller, sent_by_answer, after_datagram, sent_by_datagram, all_ticked, batches, given_below, sent_by_tick, peer_answered}
 use Rattle.circus_wire.proofs.Places.{length_changed, node_differs}
 use Rattle.circus_member_rules.specs.declared.occurrence.Purpose.{Purpose}
 use Rattle.circus_member_rules.specs.declared.occurrence.Effect.{Effect}
 use Rattle.circus_member_rules.specs.declared.occurrence.Effect.TheVariants as made
 use Rattle.circus_node.specs.declared.event.Give.{Give}
-use Rattle.circus_node.specs.Sending.{Sending, sent, spent, give_to, gives_of, is_sendable, handed, all_handed}
+use Rattle.circus_node.specs.Sending.{Sending, sent, spent, give_to, gives_of, is_sendable, hand_over, all_handed}
 
 -- it goes to another node
 abbrev Goes : WireState Purpose → Give → Type 0
@@ -103,7 +103,7 @@ went_before : (old new : WireState Purpose) (gives : List Give) → Remains old 
 went_before old new gives remains go =
     All-weaker (Goes new) (Goes old) (λ give other. ((λ same. other.0 (same ∙ sym remains.own)), subst (λ n. give.to ≤ n) remains.pairs other.1)) gives go
 
-pub changed_remains : (change : PeerState Purpose → PeerState Purpose) (w : WireState Purpose) (node : ℕ) → Remains w (changed change w node)
+pub changed_remains : (change : PeerState Purpose → PeerState Purpose) (w : WireState Purpose) (node : ℕ) → Remains w (change_peer change w node)
 changed_remains change w node = record { own = refl; format = refl; pairs = length_changed change w.peers (place_of w.own node) }
 
 pub same_remains : (w : WireState Purpose) → Remains w w
@@ -119,10 +119,10 @@ datagram_remains w from (Err fault) = same_remains w
 pub tick_remains : (w : WireState Purpose) → Remains w (all_ticked w)
 tick_remains w = record { own = refl; format = refl; pairs = length-map w.peers _ }
 
-answered_remains : (w : WireState Purpose) (caller : Caller) (message : List ℕ) → Remains w (answered w caller message)
+answered_remains : (w : WireState Purpose) (caller : Caller) (message : List ℕ) → Remains w (answer_caller w caller message)
 answered_remains w caller message = by_test (is_awaited w caller)
   where
-    by_test : (b : Bool) → Remains w (if b then changed (λ p. peer_answered p caller.number message) w caller.node else w)
+    by_test : (b : Bool) → Remains w (if b then change_peer (λ p. peer_answered p caller.number message) w caller.node else w)
     by_test true = changed_remains (λ p. peer_answered p caller.number message) w caller.node
     by_test false = same_remains w
 
@@ -137,7 +137,7 @@ more_go : (old w next : WireState Purpose) (gives more : List Give) → Remains 
 more_go old w next gives more remains go on goes =
     (remains_on old w next remains on, All-append (Goes old) gives more go (went_before old w more remains goes))
 
-handed_goes : (old w : WireState Purpose) (gives : List Give) (e : Effect) → Remains old w → AllGo old gives → GoesOn old (handed w gives e)
+handed_goes : (old w : WireState Purpose) (gives : List Give) (e : Effect) → Remains old w → AllGo old gives → GoesOn old (hand_over w gives e)
 handed_goes old w gives (made.Call to message purpose) remains go = by_test (is_up w to && is_sendable w.format message)
   where
     by_number : (b : Bool) → GoesOn old (if b then spent to else sent (called_to w to message purpose) (gives ++ gives_of (sent_by_call w to message)))
@@ -149,11 +149,11 @@ handed_goes old w gives (made.Call to message purpose) remains go = by_test (is_
     by_test false = (remains, go)
 handed_goes old w gives (made.Answer caller message) remains go = by_test (is_sendable w.format message)
   where
-    by_test : (b : Bool) → GoesOn old (if b then sent (answered w caller message) (gives ++ gives_of (sent_by_answer w caller message)) else sent w gives)
+    by_test : (b : Bool) → GoesOn old (if b then sent (answer_caller w caller message) (gives ++ gives_of (sent_by_answer w caller message)) else sent w gives)
     by_test true = more_go old w _ gives _ remains go (answered_remains w caller message) (answer_goes w caller message)
     by_test false = (remains, go)
 
 pub all_go_on : (old : WireState Purpose) (s : Sending) (effects : List Effect) → GoesOn old s → GoesOn old (all_handed s effects)
 all_go_on old s [] on = on
-all_go_on old (sent w gives) (e ∷ es) on = all_go_on old (handed w gives e) es (handed_goes old w gives e on.0 on.1)
+all_go_on old (sent w gives) (e ∷ es) on = all_go_on old (hand_over w gives e) es (handed_goes old w gives e on.0 on.1)
 all_go_on old (spent node) (e ∷ es) on = all_go_on old (spent node) es tt

@@ -28,12 +28,12 @@ use Rattle.circus_node.specs.NodeState.{NodeState, Acting, member, ringmaster, m
 use Rattle.circus_node.specs.Node.{IsNodeOf, GoToOthers}
 use Rattle.circus_node.specs.GoneOn.{MemberHasGoneOn}
 use Rattle.circus_node.specs.Seen.Kept.{IsActing}
-use Rattle.circus_node.specs.Accepting.{troupe_at, accepted}
-use Rattle.circus_node.specs.Making.{Made, hears, learns_down, is_told_to_join, happens, refused}
+use Rattle.circus_node.specs.Accepting.{troupe_at, occurrence_of_heard}
+use Rattle.circus_node.specs.Making.{Made, hears, learns_down, is_told_to_join, happens, refuse}
 use Rattle.circus_node.specs.Sending.{Sending, sent, spent}
 use Rattle.circus_node.specs.declared.event.StepFault.{StepFault}
-use Rattle.circus_node.specs.Step.{IsEnded, ended, concluded, stepped}
-use Rattle.circus_node.specs.Booting.{CanBoot, home_in, home_of, made_at_boot, booted, fresh_wire}
+use Rattle.circus_node.specs.Step.{IsEnded, end_step, conclude_step, step_node}
+use Rattle.circus_node.specs.Booting.{CanBoot, home_in, home_of, made_at_boot, boot_node, fresh_wire}
 use Rattle.circus_node.proofs.GoLemmas.{AllGo, GoesOn, all_go_on, still_go, datagram_goes, tick_goes, changed_remains, same_remains, remains_on, datagram_remains, tick_remains}
 
 -- ---- the troupe of a member is there
@@ -69,13 +69,13 @@ module _ {M : Type 0} where
   same_end : (a b : NodeState M × Outputs) → ◌≡◌ {A = Result (NodeState M × Outputs) ℕ} (Ok a) (Ok b) → a ≡ b
   same_end a b e = cc
 
-  ended_holds : (n : NodeState M) (came : Consequences) (s : Sending) (r : NodeState M × Outputs) → GoesOn n.wire s → ended n came s ≡ Ok r → Holds n r
+  ended_holds : (n : NodeState M) (came : Consequences) (s : Sending) (r : NodeState M × Outputs) → GoesOn n.wire s → end_step n came s ≡ Ok r → Holds n r
   ended_holds n came (sent w gives) r on is =
       subst (Holds n) (same_end _ r is) (record { wire = on.0; deployment = refl; acting = refl; go = still_go n.wire w gives on.0 on.1 })
   ended_holds n came (spent node) r on is = absurd (let clash : ◌≡◌ {A = Result (NodeState M × Outputs) ℕ} (Err node) (Ok r) = is in cc)
 
   pub concluded_holds : (n : NodeState M) (gives : List Give) (came : Consequences) (r : NodeState M × Outputs)
-      → AllGo n.wire gives → concluded n gives came ≡ Ok r → Holds n r
+      → AllGo n.wire gives → conclude_step n gives came ≡ Ok r → Holds n r
   concluded_holds n gives came r go is =
       ended_holds n came _ r (all_go_on n.wire (sent n.wire gives) came.effects (same_remains n.wire, go)) is
 
@@ -94,15 +94,15 @@ module _ {M : Type 0} where
   still_ring (ringmaster kept) b same some = same
 
 module _ {M : Type 0} (declared : M → Signature) (turn : M → List ValueTree → ℕ → List ValueTree → List Outcome → NextTurn) where
-  by_occurrence : (m : MemberState M) (at : ℕ) (o : Option Occurrence) → IsSome (member_record (option_map_or (happens declared turn at m) o (refused (member m))).acting)
+  by_occurrence : (m : MemberState M) (at : ℕ) (o : Option Occurrence) → IsSome (member_record (option_map_or (happens declared turn at m) o (refuse (member m))).acting)
   by_occurrence m at None = refl
   by_occurrence m at (Some o) = refl
 
   hears_role : (d : Deployment) (at from : ℕ) (heard : Heard Purpose) (a : Acting M) → SameRole a (hears declared turn d at from heard a).acting
   hears_role d at from Dropped (member m) = refl
   hears_role d at from Taken (member m) = refl
-  hears_role d at from (Called sender message) (member m) = by_occurrence m at (accepted d (declared m.performing.hosted) m from (Called sender message))
-  hears_role d at from (Returned number purpose message) (member m) = by_occurrence m at (accepted d (declared m.performing.hosted) m from (Returned number purpose message))
+  hears_role d at from (Called sender message) (member m) = by_occurrence m at (occurrence_of_heard d (declared m.performing.hosted) m from (Called sender message))
+  hears_role d at from (Returned number purpose message) (member m) = by_occurrence m at (occurrence_of_heard d (declared m.performing.hosted) m from (Returned number purpose message))
   hears_role d at from Dropped (ringmaster kept) = refl
   hears_role d at from Taken (ringmaster kept) = refl
   hears_role d at from (Called sender message) (ringmaster kept) = refl
@@ -137,7 +137,7 @@ module _ {M : Type 0} (declared : M → Signature) (turn : M → List ValueTree 
     pub node : (d : Deployment) (number : ℕ) → IsNodeOf d number n → IsNodeOf d number r.0
     pub others : GoToOthers r.0 r.1.gives
 
-  pub stepped_stays : (at : ℕ) (event : Event) (n : NodeState M) (r : NodeState M × Outputs) → stepped declared turn at event n ≡ Ok r → Stays n r
+  pub stepped_stays : (at : ℕ) (event : Event) (n : NodeState M) (r : NodeState M × Outputs) → step_node declared turn at event n ≡ Ok r → Stays n r
   stepped_stays at (Datagram from bytes) n r is =
       let heard = heard_from n.wire from (reading bytes) in
       let became : NodeState M = record n { wire = after_datagram n.wire from (reading bytes); acting = (hears declared turn n.deployment at from heard n.acting).acting } in
@@ -211,7 +211,7 @@ module _ {M : Type 0} (declared : M → Signature) (turn : M → List ValueTree 
       pub others : GoToOthers r.0 r.1.gives
 
     pub booted_boots : (d : Deployment) (hosted : Option M) (node : ℕ) (r : NodeState M × Outputs) → CanBoot d node (option_map declared hosted)
-        → booted declared turn first d hosted node ≡ Ok r → Boots d node r
+        → boot_node declared turn first d hosted node ≡ Ok r → Boots d node r
     booted_boots d hosted node r can is =
         let made : Made M = made_at_boot declared turn first d (home_of d node) hosted in
         let began : NodeState M = record { deployment = d; wire = fresh_wire d node; acting = made.acting; dropped = 0 } in
@@ -228,21 +228,21 @@ module _ {M : Type 0} (declared : M → Signature) (turn : M → List ValueTree 
         }
 
     pub boot_is_of : (result : Result (NodeState M × Outputs) StepFault) (d : Deployment) (hosted : Option M) (node : ℕ) → CanBoot d node (option_map declared hosted)
-        → IsEnded result (booted declared turn first d hosted node) → IfOk result (λ r. IsNodeOf d node r.0)
+        → IsEnded result (boot_node declared turn first d hosted node) → IfOk result (λ r. IsNodeOf d node r.0)
     boot_is_of (Ok r) d hosted node can is = (booted_boots d hosted node r can is).node
     boot_is_of (Err fault) d hosted node can is = tt
 
     pub boot_goes : (result : Result (NodeState M × Outputs) StepFault) (d : Deployment) (hosted : Option M) (node : ℕ) → CanBoot d node (option_map declared hosted)
-        → IsEnded result (booted declared turn first d hosted node) → IfOk result (λ r. GoToOthers r.0 r.1.gives)
+        → IsEnded result (boot_node declared turn first d hosted node) → IfOk result (λ r. GoToOthers r.0 r.1.gives)
     boot_goes (Ok r) d hosted node can is = (booted_boots d hosted node r can is).others
     boot_goes (Err fault) d hosted node can is = tt
 
-  pub step_is_of : (result : Result (NodeState M × Outputs) StepFault) (at : ℕ) (event : Event) (n : NodeState M) → IsEnded result (stepped declared turn at event n)
+  pub step_is_of : (result : Result (NodeState M × Outputs) StepFault) (at : ℕ) (event : Event) (n : NodeState M) → IsEnded result (step_node declared turn at event n)
       → (d : Deployment) (number : ℕ) → IsNodeOf d number n → IfOk result (λ r. IsNodeOf d number r.0)
   step_is_of (Ok r) at event n is d number of = (stepped_stays at event n r is).node d number of
   step_is_of (Err fault) at event n is d number of = tt
 
-  pub step_goes : (result : Result (NodeState M × Outputs) StepFault) (at : ℕ) (event : Event) (n : NodeState M) → IsEnded result (stepped declared turn at event n)
+  pub step_goes : (result : Result (NodeState M × Outputs) StepFault) (at : ℕ) (event : Event) (n : NodeState M) → IsEnded result (step_node declared turn at event n)
       → IfOk result (λ r. GoToOthers r.0 r.1.gives)
   step_goes (Ok r) at event n is = (stepped_stays at event n r is).others
   step_goes (Err fault) at event n is = tt

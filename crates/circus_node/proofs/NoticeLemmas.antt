@@ -6,7 +6,7 @@ use Rattle.circus_header.specs.declared.call.Request.{Request}
 use Rattle.circus_gather.specs.Gathering.{answer_to}
 use Rattle.circus_gather.specs.declared.added.Added.{Added}
 use Rattle.circus_gather.specs.declared.added.Added.TheVariants as added
-use Rattle.circus_fanout.specs.Knowing.{Knowing, at_boot, after, known_by, looked_up}
+use Rattle.circus_fanout.specs.Knowing.{Knowing, at_boot, after, known_by, note_lookup}
 use Rattle.circus_fanout.specs.Knowing as knowing
 use Rattle.circus_fanout.specs.Notices.{Notice, Told, Answered, Notices, none_yet, more}
 use Rattle.circus_value.specs.ValueTree.{ValueTree}
@@ -18,8 +18,8 @@ use Rattle.circus_member_rules.specs.declared.place.Place.{Place}
 use Rattle.circus_member_rules.specs.declared.place.Beginning.{Beginning}
 use Rattle.circus_member_rules.specs.MemberState.{MemberState, Doing}
 use Rattle.circus_member_rules.specs.Rules.{ringmaster, wanted_by_call}
-use Rattle.circus_member_rules.specs.Step.{is_lookup, known_by_table, handled}
-use Rattle.circus_node.specs.Noticing.{noticed_by_call, noticed_by_table, notices_of, with_all, noticed, Happenings, after_step, after_all, noticed_by_all, member_at_boot}
+use Rattle.circus_member_rules.specs.Step.{is_lookup, known_by_table, handle}
+use Rattle.circus_node.specs.Noticing.{noticed_by_call, noticed_by_table, notices_of, with_all, notices_after, Happenings, after_step, after_all, noticed_by_all, member_at_boot}
 use Rattle.circus_node.proofs.ViewLemmas.{with_state, executed_knows, booted_knows}
 
 -- what is known after more notices
@@ -42,18 +42,18 @@ by_call added.Held header k = refl
 by_table : (request : Request) (view : View) (k : Knowing) → known_by_table k request view ≡ knows_by k (noticed_by_table request view)
 by_table request view k = by_kind (is_lookup request)
   where
-    by_kind : (lookup : Bool) → knowing.told (if lookup then knowing.answered k view.troupe else k) view ≡ knows_by k ((if lookup then Answered view.troupe ∷ [] else []) ++ Told view ∷ [])
+    by_kind : (lookup : Bool) → knowing.note_view (if lookup then knowing.note_answer k view.troupe else k) view ≡ knows_by k ((if lookup then Answered view.troupe ∷ [] else []) ++ Told view ∷ [])
     by_kind true = refl
     by_kind false = refl
 
 module _ {M : Type 0} where
-  restored_knows : (step : ℕ) (m : MemberState M) (state : List ValueTree) (count : ℕ) → (handled step (comes.Restored state count) m).member.known ≡ m.known
+  restored_knows : (step : ℕ) (m : MemberState M) (state : List ValueTree) (count : ℕ) → (handle step (comes.Restored state count) m).member.known ≡ m.known
   restored_knows step m state count =
       elim (is_fetching m.performing.kept.phase) as
       (λ b. let d : Doing M = if b then with_state step m state count else record { member = m; effects = [] } in d.member.known ≡ m.known)
       [ true ↦ refl | false ↦ refl ]
 
-  handled_knows : (step : ℕ) (o : Occurrence) (m : MemberState M) → (handled step o m).member.known ≡ knows_by m.known (notices_of m o)
+  handled_knows : (step : ℕ) (o : Occurrence) (m : MemberState M) → (handle step o m).member.known ≡ knows_by m.known (notices_of m o)
   handled_knows step (comes.Asked header body sender) m = by_call (answer_to m.gathered header) header m.known
   handled_knows step (comes.Fetched incarnation sender) m = refl
   handled_knows step (comes.Replied name from reply) m = refl
@@ -67,10 +67,10 @@ module _ {M : Type 0} where
 -- ---- over every list
 
 stepped_knows : (boot : List View) (notices : Notices) (m : MemberState Behaviour) (step : ℕ) (o : Occurrence) → m.known ≡ known_by boot notices
-    → (after_step m (step, o)).known ≡ known_by boot (noticed notices m o)
+    → (after_step m (step, o)).known ≡ known_by boot (notices_after notices m o)
 stepped_knows boot notices m step o is =
-    ap (λ k. looked_up k ringmaster)
-    (executed_knows (λ (b : Behaviour). b.declared) (λ (b : Behaviour). b.turn) step (handled step o m)
+    ap (λ k. note_lookup k ringmaster)
+    (executed_knows (λ (b : Behaviour). b.declared) (λ (b : Behaviour). b.turn) step (handle step o m)
     ∙ handled_knows step o m
     ∙ ap (λ k. knows_by k (notices_of m o)) is
     ∙ sym (all_known boot notices (notices_of m o)))
@@ -79,7 +79,7 @@ knows_on : (boot : List View) (notices : Notices) (m : MemberState Behaviour) (h
     → (after_all m happenings).known ≡ known_by boot (noticed_by_all notices m happenings)
 knows_on boot notices m [] is = is
 knows_on boot notices m (happening ∷ happenings) is =
-    knows_on boot (noticed notices m happening.1) (after_step m happening) happenings (stepped_knows boot notices m happening.0 happening.1 is)
+    knows_on boot (notices_after notices m happening.1) (after_step m happening) happenings (stepped_knows boot notices m happening.0 happening.1 is)
 
 pub knows_all : (b : Behaviour) (place : Place) (views : List View) (beginning : Beginning) (happenings : Happenings)
     → (after_all (member_at_boot b place views beginning) happenings).known ≡ known_by views (noticed_by_all none_yet (member_at_boot b place views beginning) happenings)

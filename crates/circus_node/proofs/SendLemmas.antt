@@ -16,15 +16,15 @@ use Rattle.circus_node.specs.declared.event.StepFault.TheVariants as fault
 use Rattle.circus_node.specs.declared.acting.Consequences.{Consequences}
 use Rattle.circus_node.specs.declared.station.Station.{Station}
 use Rattle.circus_node.specs.NodeState.{Acting, NodeState}
-use Rattle.circus_node.specs.Sending.{Sending, sent, spent, handed, next_handed, all_handed}
-use Rattle.circus_node.specs.Step.{Ended, IsEnded, ended, concluded, ticked}
+use Rattle.circus_node.specs.Sending.{Sending, sent, spent, hand_over, next_handed, all_handed}
+use Rattle.circus_node.specs.Step.{Ended, IsEnded, end_step, conclude_step, ticked}
 use Rattle.circus_node.specs.Seen.StationOf.{node_of, HasSent, IsConcluded, HasTicked, IsTicked}
 use Rattle.circus_node.specs.Seen.Sent.{IsHanded}
 
 -- ---- handing over
 
 pub one_more : (s : Sending) (done : List Effect) (e : Effect) (w : WireState Purpose) (gives : List Give)
-    → all_handed s done ≡ sent w gives → all_handed s (done ++ e ∷ []) ≡ handed w gives e
+    → all_handed s done ≡ sent w gives → all_handed s (done ++ e ∷ []) ≡ hand_over w gives e
 one_more s done e w gives so_far = fold-append next_handed s done (e ∷ []) ∙ ap (λ x. next_handed x e) so_far
 
 spent_stays : (node : ℕ) (es : List Effect) → all_handed (spent node) es ≡ spent node
@@ -32,19 +32,19 @@ spent_stays node [] = refl
 spent_stays node (e ∷ es) = spent_stays node es
 
 pub none_left : (s : Sending) (done rest : List Effect) (e : Effect) (node : ℕ) (w : WireState Purpose) (gives : List Give)
-    → all_handed s done ≡ sent w gives → handed w gives e ≡ spent node → all_handed s (done ++ e ∷ rest) ≡ spent node
+    → all_handed s done ≡ sent w gives → hand_over w gives e ≡ spent node → all_handed s (done ++ e ∷ rest) ≡ spent node
 none_left s done rest e node w gives so_far is =
     fold-append next_handed s done (e ∷ rest) ∙ ap (λ x. fold next_handed (next_handed x e) rest) so_far
     ∙ ap (λ x. fold next_handed x rest) is ∙ spent_stays node rest
 
 fault_at : (A : Type 0) (s : Sending) (done rest : List Effect) (e : Effect) (f : StepFault) (w after : WireState Purpose) (gives given : List Give)
-    → all_handed s done ≡ sent w gives → IsHanded {A = A} (Err f) after given (handed w gives e) → IsHanded {A = A} (Err f) after given (all_handed s (done ++ e ∷ rest))
+    → all_handed s done ≡ sent w gives → IsHanded {A = A} (Err f) after given (hand_over w gives e) → IsHanded {A = A} (Err f) after given (all_handed s (done ++ e ∷ rest))
 fault_at A s done rest e (fault.Spent node) w after gives given so_far is = none_left s done rest e node w gives so_far is
 fault_at A s done rest e fault.NoMemory w after gives given so_far is = tt
 
 -- a fault at one of them is that of all
 pub fault_of_all : (A : Type 0) (s : Sending) (done rest es : List Effect) (e : Effect) (f g : StepFault) (r : Result A StepFault) (w after : WireState Purpose) (gives given : List Give)
-    → all_handed s done ≡ sent w gives → IsHanded {A = A} (Err f) after given (handed w gives e) → es ≡ done ++ e ∷ rest → r ≡ Err g → g ≡ f
+    → all_handed s done ≡ sent w gives → IsHanded {A = A} (Err f) after given (hand_over w gives e) → es ≡ done ++ e ∷ rest → r ≡ Err g → g ≡ f
     → IsHanded r after given (all_handed s es)
 fault_of_all A s done rest es e f g r w after gives given so_far is all failed same =
     let failure : StepFault → Result A StepFault = λ x. Err x in
@@ -72,15 +72,15 @@ same_parts w acting gives d e n m ss ts ds es deployment dropped suspects differ
     ∙ ap (λ x. node_with w acting gives e m ts x) differences
 
 pub concluded_is : {M : Type 0} (s : Station) (acting : Acting M) (gives : List Give) (came : Consequences) (r : Station × Outputs)
-    → HasSent s gives came r → concluded (node_of s acting) gives came ≡ Ok (node_of r.0 acting, r.1)
+    → HasSent s gives came r → conclude_step (node_of s acting) gives came ≡ Ok (node_of r.0 acting, r.1)
 concluded_is s acting gives came r h =
-    ap (ended (node_of s acting) came) h.handed
+    ap (end_step (node_of s acting) came) h.handed
     ∙ same_parts r.0.wire acting r.1.gives _ _ _ _ _ _ _ _ (sym h.deployment) (sym h.dropped) (sym h.suspects) (sym h.differences)
 
 -- a fault of what was concluded is one of the node's
 pub concluded_fault : {M : Type 0} (s : Station) (acting : Acting M) (gives : List Give) (came : Consequences) (f : StepFault)
-    → IsConcluded (Err f) s gives came → IsEnded (Err f) (concluded (node_of s acting) gives came)
-concluded_fault s acting gives came (fault.Spent node) is = ap (ended (node_of s acting) came) is
+    → IsConcluded (Err f) s gives came → IsEnded (Err f) (conclude_step (node_of s acting) gives came)
+concluded_fault s acting gives came (fault.Spent node) is = ap (end_step (node_of s acting) came) is
 concluded_fault s acting gives came fault.NoMemory is = tt
 
 ticked_with : {M : Type 0} (acting : Acting M) (gives hs : List Give) (d e : Deployment) (w v : WireState Purpose) (n m : ℕ) (ss ts : List ℕ) (ds es : List Difference)
@@ -104,11 +104,11 @@ lost_memory r end f is no_memory = subst (λ x. IsEnded x end) (sym is) (subst (
 
 -- what a step comes to, by its parts
 pub concluded_as : {M : Type 0} (r : Result (NodeState M × Outputs) StepFault) (n : NodeState M) (t : Station) (acting : Acting M) (gives given : List Give) (came made : Consequences)
-    → node_of t acting ≡ n → gives ≡ given → came ≡ made → IsEnded r (concluded (node_of t acting) gives came) → IsEnded r (concluded n given made)
+    → node_of t acting ≡ n → gives ≡ given → came ≡ made → IsEnded r (conclude_step (node_of t acting) gives came) → IsEnded r (conclude_step n given made)
 concluded_as r n t acting gives given came made is given_is made_is ended_so =
-    subst (λ x. IsEnded r (concluded x given made)) is
-    (subst (λ x. IsEnded r (concluded (node_of t acting) x made)) given_is
-    (subst (λ x. IsEnded r (concluded (node_of t acting) gives x)) made_is ended_so))
+    subst (λ x. IsEnded r (conclude_step x given made)) is
+    (subst (λ x. IsEnded r (conclude_step (node_of t acting) x made)) given_is
+    (subst (λ x. IsEnded r (conclude_step (node_of t acting) gives x)) made_is ended_so))
 
 abbrev node_parts : {M : Type 0} → Deployment → WireState Purpose → Acting M → ℕ → NodeState M
 node_parts d w a n = record { deployment = d; wire = w; acting = a; dropped = n }

@@ -23,7 +23,7 @@ use Rattle.circus_member_rules.specs.declared.occurrence.Purpose.{Purpose}
 use Rattle.circus_member_rules.specs.declared.occurrence.Purpose.TheVariants as for
 use Rattle.circus_member_rules.specs.declared.occurrence.Occurrence.{Occurrence}
 use Rattle.circus_member_rules.specs.declared.occurrence.Occurrence.TheVariants as comes
-use Rattle.circus_node.specs.Accepting.{is_in_order, recorded_ask, called_by, imported, may_tell}
+use Rattle.circus_node.specs.Accepting.{is_in_order, recorded_ask, called_by, imported_procedure, may_tell}
 use Rattle.circus_node.specs.Grammar.{Heads, Spell, SpellArguments, SpellOutcome, HandsOver}
 
 -- a call to a member: an ask in order with arguments of the procedure, or a state request that names the own troupe
@@ -42,10 +42,10 @@ pub record AcceptsRequest (kept : Kept) (message : List ℕ) (request : Request)
 
 -- the imported procedure that an ask of a name calls, as a member knows it, and as a record has it
 abbrev pub procedure_called : {M : Type 0} → Signature → MemberState M → AskName → Option ProcedureShape
-procedure_called declared m name = option_and_then (imported declared) (called_by m name)
+procedure_called declared m name = option_and_then (imported_procedure declared) (called_by m name)
 
 abbrev pub procedure_recorded : Signature → MemberRecord → AskName → Option ProcedureShape
-procedure_recorded declared kept name = option_and_then (imported declared) (recorded_ask kept name)
+procedure_recorded declared kept name = option_and_then (imported_procedure declared) (recorded_ask kept name)
 
 -- a return of a node to an ask: a reply that has a count for each module and an outcome of what the ask called, Stale, or Before
 pub data AcceptsAnswer (d : Deployment) (called : Option ProcedureShape) (name : AskName) (server from : ℕ) (message : List ℕ) : Occurrence → Type 0 where

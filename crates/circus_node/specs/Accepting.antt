@@ -129,15 +129,15 @@ called_by m name =
     (recorded_ask m.performing.kept name)
 
 -- the procedure of an import that is called
-abbrev pub imported : Signature → Callee → Option ProcedureShape
-imported declared callee =
+abbrev pub imported_procedure : Signature → Callee → Option ProcedureShape
+imported_procedure declared callee =
     option_and_then (λ (i : Import). procedure_numbered callee.procedure i.procedures) (import_of callee.troupe declared.imports)
 
 -- the outcome that the bytes from a place on are of what an ask of a name calls
 abbrev pub outcome_of : {M : Type 0} → Deployment → Signature → MemberState M → AskName → ℕ → List ℕ → Option Outcome
 outcome_of d declared m name at message =
     option_and_then (λ p. outcome_at p (limit_of d.format) at message)
-    (option_and_then (imported declared) (called_by m name))
+    (option_and_then (imported_procedure declared) (called_by m name))
 
 -- a reply has a count for each module, and an outcome that unpacks
 abbrev pub taken_reply : {M : Type 0} → Deployment → Signature → MemberState M → AskName → List ℕ → ℕ → List ℕ → Option Reply
@@ -202,8 +202,8 @@ accepted_return d declared m from (for.Ring request) message = accepted_table d 
 accepted_return d declared m from for.Fetch message = accepted_state declared message
 
 -- what happens to a member by what it hears from a node
-abbrev pub accepted : {M : Type 0} → Deployment → Signature → MemberState M → ℕ → Heard Purpose → Option Occurrence
-accepted d declared m from Dropped = None
-accepted d declared m from Taken = None
-accepted d declared m from (Called sender message) = accepted_call d declared m.place.troupe sender message
-accepted d declared m from (Returned number purpose message) = accepted_return d declared m from purpose message
+abbrev pub occurrence_of_heard : {M : Type 0} → Deployment → Signature → MemberState M → ℕ → Heard Purpose → Option Occurrence
+occurrence_of_heard d declared m from Dropped = None
+occurrence_of_heard d declared m from Taken = None
+occurrence_of_heard d declared m from (Called sender message) = accepted_call d declared m.place.troupe sender message
+occurrence_of_heard d declared m from (Returned number purpose message) = accepted_return d declared m from purpose message

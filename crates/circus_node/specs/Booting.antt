@@ -25,7 +25,7 @@ use Rattle.circus_node.specs.NodeState.{NodeState, member, ringmaster}
 use Rattle.circus_node.specs.Accepting.{troupe_at, is_root}
 use Rattle.circus_limits.specs.Limits.{limit_of}
 use Rattle.circus_node.specs.Making.{Made, consequences, nothing}
-use Rattle.circus_node.specs.Step.{Ended, IsEnded, concluded}
+use Rattle.circus_node.specs.Step.{Ended, IsEnded, conclude_step}
 
 -- a founder, or a spare
 abbrev pub beginning_in : Troupe → ℕ → Beginning
@@ -82,8 +82,8 @@ module _ {M : Type 0} (declared : M → Signature) (turn : M → List ValueTree 
   -- a member boots with the views that every node boots with
   abbrev pub member_at_boot : Deployment → Home → M → Made M
   member_at_boot d home hosted =
-      let booted = member_step.booted declared turn first home.place (boot_views d.troupes) home.beginning hosted in
-      record { acting = member booted.member; came = consequences booted.effects [] }
+      let boot_node = member_step.boot_member declared turn first home.place (boot_views d.troupes) home.beginning hosted in
+      record { acting = member boot_node.member; came = consequences boot_node.effects [] }
 
   abbrev pub ring_at_boot : Deployment → Made M
   ring_at_boot d = record { acting = ringmaster (kept_after d.troupes []); came = nothing }
@@ -94,10 +94,10 @@ module _ {M : Type 0} (declared : M → Signature) (turn : M → List ValueTree 
   made_at_boot d (Some home) None = ring_at_boot d
   made_at_boot d None hosted = ring_at_boot d
 
-  abbrev pub booted : Deployment → Option M → ℕ → Ended M
-  booted d hosted node =
+  abbrev pub boot_node : Deployment → Option M → ℕ → Ended M
+  boot_node d hosted node =
       let made = made_at_boot d (home_of d node) hosted in
-      concluded (record { deployment = d; wire = fresh_wire d node; acting = made.acting; dropped = 0 }) [] made.came
+      conclude_step (record { deployment = d; wire = fresh_wire d node; acting = made.acting; dropped = 0 }) [] made.came
 
   -- a module that does what the one of the node's troupe does; none at the Ringmaster's node
   abbrev pub IsHosted : Deployment → List M → ℕ → Option M → Type 0
@@ -107,4 +107,4 @@ module _ {M : Type 0} (declared : M → Signature) (turn : M → List ValueTree 
 
   -- the node boots with such a module
   abbrev pub IsBooted : Deployment → List M → ℕ → Result (NodeState M × Outputs) StepFault → Type 0
-  IsBooted d modules node result = (hosted : Option M) × IsHosted d modules node hosted × IsEnded result (booted d hosted node)
+  IsBooted d modules node result = (hosted : Option M) × IsHosted d modules node hosted × IsEnded result (boot_node d hosted node)

@@ -26,7 +26,7 @@ use Rattle.circus_member_rules.specs.Rules.{answer}
 use Rattle.circus_member_rules.specs.Step as member_step
 use Rattle.circus_node.specs.declared.acting.Consequences.{Consequences}
 use Rattle.circus_node.specs.NodeState.{Acting, member, ringmaster}
-use Rattle.circus_node.specs.Accepting.{accepted, accepted_request}
+use Rattle.circus_node.specs.Accepting.{occurrence_of_heard, accepted_request}
 
 -- the member or the Ringmaster afterwards, and what comes of it
 pub record Made (M : Type 0) : Type 0 where
@@ -71,12 +71,12 @@ arrives_at_ring (Called sender message) kept = called_at_ring sender message kep
 arrives_at_ring (Returned number purpose message) kept = (kept, a_drop)
 
 module _ {M : Type 0} where
-  abbrev pub unchanged : Acting M → Made M
-  unchanged a = record { acting = a; came = nothing }
+  abbrev pub keep_acting : Acting M → Made M
+  keep_acting a = record { acting = a; came = nothing }
 
   -- what comes counts as dropped
-  abbrev pub refused : Acting M → Made M
-  refused a = record { acting = a; came = a_drop }
+  abbrev pub refuse : Acting M → Made M
+  refuse a = record { acting = a; came = a_drop }
 
   -- the Ringmaster afterwards, and what comes of it
   abbrev pub by_ring : Kept × Consequences → Made M
@@ -88,7 +88,7 @@ module _ {M : Type 0} (declared : M → Signature) (turn : M → List ValueTree 
   -- something happens to a member in a step
   abbrev pub happens : ℕ → MemberState M → Occurrence → Made M
   happens at m o =
-      let d = member_step.stepped declared turn at o m in
+      let d = member_step.step_member declared turn at o m in
       record {
         acting = member d.member;
         came = consequences d.effects (option_to_list (member_step.difference o m));
@@ -97,7 +97,7 @@ module _ {M : Type 0} (declared : M → Signature) (turn : M → List ValueTree 
   -- a message of a node arrives at a member
   abbrev pub arrives_at_member : Deployment → ℕ → ℕ → Heard Purpose → MemberState M → Made M
   arrives_at_member d at from heard m =
-      option_map_or (happens at m) (accepted d (declared m.performing.hosted) m from heard) (refused (member m))
+      option_map_or (happens at m) (occurrence_of_heard d (declared m.performing.hosted) m from heard) (refuse (member m))
 
   -- ---- either
 
@@ -107,17 +107,17 @@ module _ {M : Type 0} (declared : M → Signature) (turn : M → List ValueTree 
 
   -- what comes of a datagram of a node: nothing where it completes no message, and what is dropped or isn't accepted counts
   abbrev pub hears : Deployment → ℕ → ℕ → Heard Purpose → Acting M → Made M
-  hears d at from Dropped a = refused a
-  hears d at from Taken a = unchanged a
+  hears d at from Dropped a = refuse a
+  hears d at from Taken a = keep_acting a
   hears d at from (Called sender message) a = arrives d at from (Called sender message) a
   hears d at from (Returned number purpose message) a = arrives d at from (Returned number purpose message) a
 
   -- a node is declared to be down
   abbrev pub learns_down : ℕ → ℕ → Acting M → Made M
   learns_down at node (member m) = happens at m (comes.Declared node)
-  learns_down at node (ringmaster kept) = unchanged (ringmaster kept)
+  learns_down at node (ringmaster kept) = keep_acting (ringmaster kept)
 
   -- the node is told to join its troupe
   abbrev pub is_told_to_join : ℕ → Acting M → Made M
   is_told_to_join at (member m) = happens at m comes.Joins
-  is_told_to_join at (ringmaster kept) = unchanged (ringmaster kept)
+  is_told_to_join at (ringmaster kept) = keep_acting (ringmaster kept)

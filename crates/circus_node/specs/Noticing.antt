@@ -14,7 +14,7 @@ use Rattle.circus_member_rules.specs.declared.place.Place.{Place}
 use Rattle.circus_member_rules.specs.declared.place.Beginning.{Beginning}
 use Rattle.circus_member_rules.specs.MemberState.{MemberState}
 use Rattle.circus_member_rules.specs.Rules.{ringmaster}
-use Rattle.circus_member_rules.specs.Step.{is_lookup, stepped, booted}
+use Rattle.circus_member_rules.specs.Step.{is_lookup, step_member, boot_member}
 
 -- a call that is held wants its client's view
 abbrev pub noticed_by_call : Added → CallHeader → List Notice
@@ -44,8 +44,8 @@ with_all notices [] = notices
 with_all notices (n ∷ ns) = with_all (more notices n) ns
 
 -- in a step, last that the views are looked up that are wanted then
-abbrev pub noticed : {M : Type 0} → Notices → MemberState M → Occurrence → Notices
-noticed notices m o = more (with_all notices (notices_of m o)) (LookedUp ringmaster)
+abbrev pub notices_after : {M : Type 0} → Notices → MemberState M → Occurrence → Notices
+notices_after notices m o = more (with_all notices (notices_of m o)) (LookedUp ringmaster)
 
 -- what happens, each with its step
 abbrev pub Happenings : Type 0
@@ -53,7 +53,7 @@ Happenings = List (ℕ × Occurrence)
 
 -- a member after a step
 abbrev pub after_step : MemberState Behaviour → ℕ × Occurrence → MemberState Behaviour
-after_step m happening = (stepped (λ (b : Behaviour). b.declared) (λ (b : Behaviour). b.turn) happening.0 happening.1 m).member
+after_step m happening = (step_member (λ (b : Behaviour). b.declared) (λ (b : Behaviour). b.turn) happening.0 happening.1 m).member
 
 -- and after each of a list
 abbrev pub after_all : MemberState Behaviour → Happenings → MemberState Behaviour
@@ -63,9 +63,9 @@ after_all m (happening ∷ happenings) = after_all (after_step m happening) happ
 abbrev pub noticed_by_all : Notices → MemberState Behaviour → Happenings → Notices
 noticed_by_all notices m [] = notices
 noticed_by_all notices m (happening ∷ happenings) =
-    noticed_by_all (noticed notices m happening.1) (after_step m happening) happenings
+    noticed_by_all (notices_after notices m happening.1) (after_step m happening) happenings
 
 -- at boot
 abbrev pub member_at_boot : Behaviour → Place → List View → Beginning → MemberState Behaviour
 member_at_boot b place views beginning =
-    (booted (λ (b : Behaviour). b.declared) (λ (b : Behaviour). b.turn) (λ (b : Behaviour). b.first) place views beginning b).member
+    (boot_member (λ (b : Behaviour). b.declared) (λ (b : Behaviour). b.turn) (λ (b : Behaviour). b.first) place views beginning b).member

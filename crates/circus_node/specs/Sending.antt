@@ -4,7 +4,7 @@ use Rattle.circus_value.specs.declared.caller.Caller.{Caller}
 use Rattle.circus_segment.specs.Segment.{part_size, most_segments}
 use Rattle.circus_exchange.specs.Limits.{never_used}
 use Rattle.circus_wire.specs.declared.delivery.Batch.{Batch}
-use Rattle.circus_wire.specs.Wire.{WireState, is_up, next_number, called_to, sent_by_call, answered, sent_by_answer}
+use Rattle.circus_wire.specs.Wire.{WireState, is_up, next_number, called_to, sent_by_call, answer_caller, sent_by_answer}
 use Rattle.circus_member_rules.specs.declared.occurrence.Purpose.{Purpose}
 use Rattle.circus_member_rules.specs.declared.occurrence.Effect.{Effect}
 use Rattle.circus_member_rules.specs.declared.occurrence.Effect.TheVariants as made
@@ -38,17 +38,17 @@ call_handed w gives to message purpose =
 abbrev pub return_handed : WireState Purpose → List Give → Caller → List ℕ → Sending
 return_handed w gives caller message =
     if is_sendable w.format message
-    then sent (answered w caller message) (gives ++ gives_of (sent_by_answer w caller message))
+    then sent (answer_caller w caller message) (gives ++ gives_of (sent_by_answer w caller message))
     else sent w gives
 
 -- one of the two is handed over
-abbrev pub handed : WireState Purpose → List Give → Effect → Sending
-handed w gives (made.Call to message purpose) = call_handed w gives to message purpose
-handed w gives (made.Answer caller message) = return_handed w gives caller message
+abbrev pub hand_over : WireState Purpose → List Give → Effect → Sending
+hand_over w gives (made.Call to message purpose) = call_handed w gives to message purpose
+hand_over w gives (made.Answer caller message) = return_handed w gives caller message
 
 -- unless no number was left before
 abbrev pub next_handed : Sending → Effect → Sending
-next_handed (sent w gives) effect = handed w gives effect
+next_handed (sent w gives) effect = hand_over w gives effect
 next_handed (spent node) effect = spent node
 
 -- each of them, in their order

@@ -20,22 +20,22 @@ use Rattle.circus_node.specs.Making.{hears, learns_down, is_told_to_join}
 use Rattle.circus_node.specs.Sending.{Sending, sent, spent, gives_of, all_handed}
 
 -- a count stays at the greatest
-abbrev pub counted : Bool → ℕ → ℕ
-counted dropped count = if dropped then min (count + 1) (2 ^ 64 - 1) else count
+abbrev pub count_dropped : Bool → ℕ → ℕ
+count_dropped dropped count = if dropped then min (count + 1) (2 ^ 64 - 1) else count
 
 -- the node after a step with what it gives, or the node to which no number was left
 abbrev pub Ended : Type 0 → Type 0
 Ended M = Result (NodeState M × Outputs) ℕ
 
 module _ {M : Type 0} where
-  abbrev pub ended : NodeState M → Consequences → Sending → Ended M
-  ended n came (sent w gives) =
-      Ok (record n { wire = w; dropped = counted came.dropped n.dropped }, record { gives = gives; suspects = []; differences = came.differences })
-  ended n came (spent node) = Err node
+  abbrev pub end_step : NodeState M → Consequences → Sending → Ended M
+  end_step n came (sent w gives) =
+      Ok (record n { wire = w; dropped = count_dropped came.dropped n.dropped }, record { gives = gives; suspects = []; differences = came.differences })
+  end_step n came (spent node) = Err node
 
   -- what came of a step is sent, behind what was given already
-  abbrev pub concluded : NodeState M → List Give → Consequences → Ended M
-  concluded n gives came = ended n came (all_handed (sent n.wire gives) came.effects)
+  abbrev pub conclude_step : NodeState M → List Give → Consequences → Ended M
+  conclude_step n gives came = end_step n came (all_handed (sent n.wire gives) came.effects)
 
   -- a tick touches the pairs alone
   abbrev pub ticked : NodeState M → Ended M
@@ -44,7 +44,7 @@ module _ {M : Type 0} where
 
   -- this is what a step comes to, but for want of memory
   abbrev pub IsEnded : Result (NodeState M × Outputs) StepFault → Ended M → Type 0
-  IsEnded (Ok stepped) end = end ≡ Ok stepped
+  IsEnded (Ok step_node) end = end ≡ Ok step_node
   IsEnded (Err (fault.Spent node)) end = end ≡ Err node
   IsEnded (Err fault.NoMemory) end = Unit {0}
 
@@ -60,22 +60,22 @@ module _ {M : Type 0} (declared : M → Signature) (turn : M → List ValueTree 
   abbrev pub received : ℕ → ℕ → Result Piece SegmentFault → NodeState M → Ended M
   received at from segment n =
       let made = hears declared turn n.deployment at from (heard_from n.wire from segment) n.acting in
-      concluded (record n { wire = after_datagram n.wire from segment; acting = made.acting })
+      conclude_step (record n { wire = after_datagram n.wire from segment; acting = made.acting })
       (gives_of (sent_by_datagram n.wire from segment)) made.came
 
   -- a node is declared to be down: its pair stops first
-  abbrev pub lost : ℕ → ℕ → NodeState M → Ended M
-  lost at node n =
+  abbrev pub declare_down : ℕ → ℕ → NodeState M → Ended M
+  declare_down at node n =
       let made = learns_down declared turn at node n.acting in
-      concluded (record n { wire = stopped_at n.wire node; acting = made.acting }) [] made.came
+      conclude_step (record n { wire = stopped_at n.wire node; acting = made.acting }) [] made.came
 
-  abbrev pub joining : ℕ → NodeState M → Ended M
-  joining at n =
+  abbrev pub join_troupe : ℕ → NodeState M → Ended M
+  join_troupe at n =
       let made = is_told_to_join declared turn at n.acting in
-      concluded (record n { acting = made.acting }) [] made.came
+      conclude_step (record n { acting = made.acting }) [] made.came
 
-  abbrev pub stepped : ℕ → Event → NodeState M → Ended M
-  stepped at (Datagram from bytes) n = received at from (reading bytes) n
-  stepped at Tick n = ticked n
-  stepped at (Down node) n = lost at node n
-  stepped at Join n = joining at n
+  abbrev pub step_node : ℕ → Event → NodeState M → Ended M
+  step_node at (Datagram from bytes) n = received at from (reading bytes) n
+  step_node at Tick n = ticked n
+  step_node at (Down node) n = declare_down at node n
+  step_node at Join n = join_troupe at n

@@ -38,7 +38,7 @@ module _ {M : Type 0} (declared : M → Signature) (turn : M → List ValueTree 
     -- a node of a program that hosts this has lived through a trace, from boot on
     abbrev pub StandsFor : Deployment → Option M → ℕ → Trace → NodeState M → Type 0
     StandsFor d hosted node (booted made outputs) n =
-        (booting.booted declared turn first d hosted node ≡ Ok (n, outputs)) × (made ≡ effects_at_boot d hosted node)
+        (booting.boot_node declared turn first d hosted node ≡ Ok (n, outputs)) × (made ≡ effects_at_boot d hosted node)
     StandsFor d hosted node (stepped t at event made outputs) n =
         (before : NodeState M) × StandsFor d hosted node t before
-        × (step.stepped declared turn at event before ≡ Ok (n, outputs)) × (made ≡ effects_in at event before)
+        × (step.step_node declared turn at event before ≡ Ok (n, outputs)) × (made ≡ effects_in at event before)

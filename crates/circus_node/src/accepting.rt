@@ -25,7 +25,7 @@ pub fn accept<M: Module>(
 ) -> Result<Option<Occurrence>, NoMemory>
     requires { IsMemberOf deployment.now member.now }
     ensures accepted { IfOk result (λ accepted.
-        accepted ≡ accepting.accepted deployment.now
+        accepted ≡ accepting.occurrence_of_heard deployment.now
         (M.declared member.now.performing.hosted) member.now from heard) }
     ensures can { IfOk result (λ accepted.
         IfSome accepted (CanHappen (M.declared member.now.performing.hosted) member.now)) }

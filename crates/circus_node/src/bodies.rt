@@ -39,7 +39,7 @@ pub(crate) fn values_at(
     }
 }
 
-fn reported(procedure: &ProcedureShape, number: u16) -> Option<&ErrorShape>
+fn error_shape(procedure: &ProcedureShape, number: u16) -> Option<&ErrorShape>
     ensures { option_copied result
         ≡ find (λ (e : Reported). e.number == number) procedure.now.errors }
 {
@@ -125,7 +125,7 @@ fn raised_values(
     ensures fit { IfOk result (λ values.
         IfSome values (λ vs. outcome_fits procedure.now (Raised number vs) ≡ true)) }
 {
-    match reported(procedure, number) {
+    match error_shape(procedure, number) {
         Some(error) => values_at(alloc, &error.arguments, most, at, message),
         None if LanguageError::has(number) => {
             values_at(alloc, &Shapes::new(alloc), most, at, message)

@@ -18,7 +18,7 @@ pub(crate) fn call_in(alloc: Global, message: &Parts) -> Result<Option<(Call, us
     ensures within { IfOk result (λ call. IfSome call (λ read. read.1 ≤ length message.now)) }
 {
     let bytes = message.joined()?;
-    found(read_call(alloc, bytes.as_slice()))
+    unless_refused(read_call(alloc, bytes.as_slice()))
 }
 
 /// The header of the return that a message is, and how many bytes it has. `None` where the message is no return.
@@ -30,7 +30,7 @@ pub(crate) fn return_in(
     ensures within { IfOk result (λ header. IfSome header (λ read. read.1 ≤ length message.now)) }
 {
     let bytes = message.joined()?;
-    found(read_return(alloc, bytes.as_slice()))
+    unless_refused(read_return(alloc, bytes.as_slice()))
 }
 
 /// The table that the bytes of a message from a place on are, which are joined. `None` where they are no table.
@@ -40,11 +40,11 @@ pub(crate) fn table_at(alloc: Global, message: &Parts, at: usize) -> Result<Opti
     ensures one { IfOk result (λ table. IfSome table IsTable) }
 {
     let bytes = message.rest(at)?.joined()?;
-    found(read_table(alloc, bytes.as_slice()))
+    unless_refused(read_table(alloc, bytes.as_slice()))
 }
 
 // What was read, or nothing where the bytes were refused.
-fn found<T>(read: Result<T, HeaderFault>) -> Result<Option<T>, NoMemory>
+fn unless_refused<T>(read: Result<T, HeaderFault>) -> Result<Option<T>, NoMemory>
     ensures found { IfOk result (λ found. found ≡ result_ok read) }
     ensures made { IfOk result (λ found. read ≢ Err HeaderFault.NoMemory) }
 {

@@ -77,7 +77,7 @@ impl<M: Module> NodeCore<M> {
     ) -> Result<(Self, Outputs), StepFault>
         requires { booting.CanBoot deployment.now node (option_map M.declared «module») }
         ensures booted { step.IsEnded result
-            (booting.booted M.declared M.turn M.first deployment.now «module» node) }
+            (booting.boot_node M.declared M.turn M.first deployment.now «module» node) }
         ensures node { IfOk result (λ booted. IsNodeOf deployment.now node booted.0) }
         ensures others { IfOk result (λ booted. GoToOthers booted.0 booted.1.gives) }
         ensures rest { IfOk result (λ booted. MemberHasGoneOn booted.0.acting) }
@@ -117,7 +117,7 @@ impl<M: Module> NodeCore<M> {
     /// the step was sent.
     pub fn step(self, at: u64, event: Event) -> Result<(Self, Outputs), StepFault>
         requires { step.CanCome self event }
-        ensures stepped { step.IsEnded result (step.stepped M.declared M.turn at event self) }
+        ensures stepped { step.IsEnded result (step.step_node M.declared M.turn at event self) }
         ensures node { (program : Deployed) (number : ℕ) → IsNodeOf program number self
             → IfOk result (λ stepped. IsNodeOf program number stepped.0) }
         ensures others { IfOk result (λ stepped. GoToOthers stepped.0 stepped.1.gives) }
@@ -162,7 +162,7 @@ impl<M: Module> NodeCore<M> {
     ) -> Result<(Self, Outputs), StepFault>
         requires { booting.CanBoot deployment.now node (option_map M.declared «module») }
         ensures ended { step.IsEnded result
-            (booting.booted M.declared M.turn M.first deployment.now «module» node) }
+            (booting.boot_node M.declared M.turn M.first deployment.now «module» node) }
         ensures rest { IfOk result (λ booted. MemberHasGoneOn booted.0.acting) }
     {
         let home = home_of(alloc, deployment, node)?;
@@ -174,7 +174,7 @@ impl<M: Module> NodeCore<M> {
     // A later step.
     fn follow(self, at: u64, event: Event) -> Result<(Self, Outputs), StepFault>
         requires { step.CanCome self event }
-        ensures ended { step.IsEnded result (step.stepped M.declared M.turn at event self) }
+        ensures ended { step.IsEnded result (step.step_node M.declared M.turn at event self) }
         ensures rest { IfOk result (λ stepped. MemberHasGoneOn stepped.0.acting) }
     {
         match event {
@@ -215,7 +215,7 @@ impl<M: Module> NodeCore<M> {
     // A node is declared to be down: its pair stops first.
     fn lose(self, at: u64, node: u16) -> Result<(Self, Outputs), StepFault>
         requires { IsOther self.wire node }
-        ensures ended { step.IsEnded result (step.lost M.declared M.turn at node self) }
+        ensures ended { step.IsEnded result (step.declare_down M.declared M.turn at node self) }
         ensures rest { IfOk result (λ stepped. MemberHasGoneOn stepped.0.acting) }
     {
         let NodeCore {
@@ -230,7 +230,7 @@ impl<M: Module> NodeCore<M> {
 
     // The node is told to join its troupe.
     fn join(self, at: u64) -> Result<(Self, Outputs), StepFault>
-        ensures ended { step.IsEnded result (step.joining M.declared M.turn at self) }
+        ensures ended { step.IsEnded result (step.join_troupe M.declared M.turn at self) }
         ensures rest { IfOk result (λ stepped. MemberHasGoneOn stepped.0.acting) }
     {
         let NodeCore { station, acting } = self;
@@ -248,7 +248,7 @@ impl<M: Module> NodeCore<M> {
     ) -> Result<(Self, Outputs), StepFault>
         requires station { IsStation station }
         requires acting { IsActing station.deployment acting }
-        ensures ended { step.IsEnded result (step.concluded (node_of station acting) gives came) }
+        ensures ended { step.IsEnded result (step.conclude_step (node_of station acting) gives came) }
         ensures rest { IfOk result (λ concluded. MemberHasGoneOn concluded.0.acting) }
     {
         let (station, outputs) = station.conclude(gives, came)?;

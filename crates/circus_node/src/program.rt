@@ -61,8 +61,8 @@ pub(crate) struct Callee {
 }
 
 /// The procedure of an import that is called.
-pub(crate) fn imported(signature: &Signature, callee: Callee) -> Option<&ProcedureShape>
-    ensures { option_copied result ≡ accepting.imported signature.now callee }
+pub(crate) fn imported_procedure(signature: &Signature, callee: Callee) -> Option<&ProcedureShape>
+    ensures { option_copied result ≡ accepting.imported_procedure signature.now callee }
 {
     let import = import_of(signature, callee.troupe)?;
     procedure_numbered(&import.procedures, callee.procedure)

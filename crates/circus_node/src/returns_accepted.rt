@@ -11,7 +11,7 @@ ghost use Rattle.circus_node.specs.Seen.Can.{IsToldRightly, IsGivenRightly};
 
 use crate::bodies::{outcome_at, restored_in};
 use crate::heads::{return_in, table_at};
-use crate::program::{Callee, imported, may_belong};
+use crate::program::{Callee, imported_procedure, may_belong};
 use circus_collate::{Deployment, Entry, Table};
 use circus_header::{Reply, Request, ReturnHeader};
 use circus_limits::limit_of;
@@ -38,7 +38,7 @@ fn recorded_ask(kept: &MemberRecord, name: AskName) -> Option<Callee>
 fn called_by<M: Module>(member: &Member<M>, name: AskName) -> Option<Callee>
     ensures { result ≡ accepting.called_by member.now name }
 {
-    match member.asked(name) {
+    match member.header_of_ask(name) {
         Some(header) => Some(Callee {
             troupe: header.server,
             procedure: header.procedure,
@@ -72,7 +72,7 @@ fn take_reply<M: Module>(
     let Some(callee) = called_by(member, name) else {
         return Ok(None);
     };
-    let Some(procedure) = imported(member.signature(), callee) else {
+    let Some(procedure) = imported_procedure(member.signature(), callee) else {
         return Ok(None);
     };
     let most = limit_of(deployment.format) as usize;

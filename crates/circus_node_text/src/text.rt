@@ -36,7 +36,7 @@ pub fn show_node<M: Module>(
     let own = names.node(usize::from(node));
     let mut text = String::new(alloc);
     writeln!(text, "circus node 1 {own}")?;
-    append_happened(alloc, &mut text, &names, record.happened().as_slice())?;
+    append_happened(alloc, &mut text, &names, record.happenings().as_slice())?;
     append_node(&mut text, &names, deployment, node, record.core())?;
     Ok(ListOf::of(text.into_bytes()))
 }

@@ -35,14 +35,14 @@ impl Calls {
     }
 
     /// The next call was answered.
-    pub fn answered(&mut self)
+    pub fn note_answer(&mut self)
         ensures { self.new ≡ record self.old { number = one_more self.old.number } }
     {
         self.number = self.number.saturating_add(1);
     }
 
     /// The next call failed.
-    pub fn failed(&mut self)
+    pub fn note_failure(&mut self)
         ensures failed { self.new
             ≡ record self.old
             { number = one_more self.old.number; faults = one_more self.old.faults } }

@@ -139,10 +139,10 @@ impl Link for MemLink {
     {
         self.bound.push(port)?;
         if self.calls.is_failing() {
-            self.calls.failed();
+            self.calls.note_failure();
             return Err(LinkFault::Failed);
         }
-        self.calls.answered();
+        self.calls.note_answer();
         Ok(())
     }
 
@@ -175,13 +175,13 @@ impl Link for MemLink {
     {
         if self.calls.is_failing() {
             self.looks.push(Look::Missed)?;
-            self.calls.failed();
+            self.calls.note_failure();
             return Err(LinkFault::Failed);
         }
         let (answer, next) = arrival_at(self.alloc, &self.arrivals, self.next)?;
         self.looks.push(Look::At(self.next))?;
         self.next = next;
-        self.calls.answered();
+        self.calls.note_answer();
         Ok(answer)
     }
 
@@ -209,13 +209,13 @@ impl Link for MemLink {
         ensures no_memory { IsErrOf result LinkFault.NoMemory → self.new ≡ self.old }
     {
         if self.calls.is_failing() {
-            self.calls.failed();
+            self.calls.note_failure();
             return Err(LinkFault::Failed);
         }
         let mut kept = Message::new(self.alloc);
         kept.append(bytes)?;
         self.given.push(Arrival { port, bytes: kept })?;
-        self.calls.answered();
+        self.calls.note_answer();
         Ok(())
     }
 

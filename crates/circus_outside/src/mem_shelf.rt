@@ -125,11 +125,11 @@ impl Shelf for MemShelf {
         self.fetched.push(asked)?;
         match answer {
             Some(contents) => {
-                self.calls.answered();
+                self.calls.note_answer();
                 Ok(contents)
             }
             None => {
-                self.calls.failed();
+                self.calls.note_failure();
                 Err(ShelfFault::Failed)
             }
         }

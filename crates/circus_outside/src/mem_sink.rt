@@ -89,11 +89,11 @@ impl Sink for MemSink {
             return Ok(0);
         }
         if self.calls.is_failing() {
-            self.calls.failed();
+            self.calls.note_failure();
             return Err(SinkFault::Failed);
         }
         self.written.append(bytes)?;
-        self.calls.answered();
+        self.calls.note_answer();
         Ok(bytes.len())
     }
 

@@ -51,11 +51,11 @@ impl<R: Print> StdSink<R> {
             .write_all(self.gathered.as_slice())
             .map_err(|_| SinkFault::Failed);
         self.gathered.clear();
-        self.counted(answer)
+        self.count_failure(answer)
     }
 
     // What a write answered, which is counted where it failed.
-    fn counted<A: Drop>(&mut self, answer: Result<A, SinkFault>) -> Result<A, SinkFault>
+    fn count_failure<A: Drop>(&mut self, answer: Result<A, SinkFault>) -> Result<A, SinkFault>
         ensures same { result ≡ answer }
         ensures gathered { self.new.gathered ≡ self.old.gathered }
         ensures counts { SinkCounts result self.old.faults self.new.faults }
@@ -81,7 +81,7 @@ impl<R: Print> Sink for StdSink<R> {
         }
         if bytes.len() > MOST_GATHERED {
             let answer = write_piece(&mut io::writer(&self.output), bytes);
-            return self.counted(answer);
+            return self.count_failure(answer);
         }
         self.gathered.extend_from_slice(bytes)?;
         Ok(bytes.len())

@@ -59,7 +59,7 @@ impl<R: Net + Clock> UdpLink<R> {
     }
 
     // What a call answered, which is counted where it failed.
-    fn counted<A: Drop>(&mut self, answer: Result<A, LinkFault>) -> Result<A, LinkFault>
+    fn count_failure<A: Drop>(&mut self, answer: Result<A, LinkFault>) -> Result<A, LinkFault>
         ensures same { result ≡ answer }
         ensures counts { LinkCounts result self.old self.new }
         ensures never_falls { self.old ≤ self.new }
@@ -86,7 +86,7 @@ impl<R: Net + Clock> Link for UdpLink<R> {
                 self.port = Some(port);
                 Ok(())
             }
-            Err(error) => self.counted(Err(fault_of(&error))),
+            Err(error) => self.count_failure(Err(fault_of(&error))),
         }
     }
 
@@ -95,7 +95,7 @@ impl<R: Net + Clock> Link for UdpLink<R> {
             Some(port) => port.take(self.alloc, &self.runtime),
             None => Err(LinkFault::Failed),
         };
-        self.counted(answer)
+        self.count_failure(answer)
     }
 
     fn give(&mut self, port: u16, bytes: &[u8]) -> Result<(), LinkFault> {
@@ -103,7 +103,7 @@ impl<R: Net + Clock> Link for UdpLink<R> {
             Some(own) => own.give(port, bytes),
             None => Err(LinkFault::Failed),
         };
-        self.counted(answer)
+        self.count_failure(answer)
     }
 
     fn faults(&self) -> u64 {

@@ -16,8 +16,8 @@ use Rattle.circus_segment.specs.Cut.{segment_count}
 use Rattle.circus_exchange.specs.Exchange.{start, IsSendable, awaits_return}
 use Rattle.circus_pair.specs.Taken.{is_of, first_of, total_in, count_in, is_reached, has_arrived, AreOf}
 use Rattle.circus_pair.specs.Acts.{Act as OneAct, Call as Calls, Return as Returns, Came, Tick as Ticks, Acts, more, taken_by, end_after}
-use Rattle.circus_pair.specs.Handed.{made, call_at, return_at, says, reached_in}
-use Rattle.circus_pair.specs.TwoEnds.{History, begun, then_came, Arrival, Both, end_at, both_after, coming, delivered, is_same, with_act, acts_of, sent_by, taken_at, arrived_at, arrived_in, handed_over, Agrees, Agree, Talk, silent, at_first, at_second, acts_at_first, acts_at_second, WasSent, IsTalk, MayHappen, IsLawfulHistory, CanBeSent, names_none, has_no_number}
+use Rattle.circus_pair.specs.Handed.{calls_made, call_at, return_at, says, reached_in}
+use Rattle.circus_pair.specs.TwoEnds.{History, begun, then_came, Arrival, Both, end_at, both_after, act_of_datagram, act_of_delivery, is_same, with_act, acts_of, sent_by, taken_at, arrived_at, arrived_in, handed_over, Agrees, Agree, Talk, silent, at_first, at_second, acts_at_first, acts_at_second, WasSent, IsTalk, MayHappen, IsLawfulHistory, CanBeSent, names_none, has_no_number}
 use Rattle.circus_pair.specs.Lawful.{is_stopped_after, MayFollow, AreLawful}
 use Rattle.circus_pair.proofs.Handing.{told_out, awaits_is}
 use Rattle.circus_segment.proofs.Spellings.{read_again}
@@ -38,27 +38,27 @@ sound_return : (format : ℕ) (here there : Acts) (call : ℕ) (message : List �
 sound_return format here there call message sound may =
     sound_act format here there (Returns call message) sound (may.0, number_fits format there _ (taken_by (start 0 format) here) call sound.hears_there.heard may.1, may.1, may.2) tt
 
-sound_datagram : (format : ℕ) (here there : Acts) (bytes : List ℕ) → Sound format here there → Tells 0 format there (taken_by (start 0 format) there) bytes → Sound format (with_act here (coming (reading bytes))) there
+sound_datagram : (format : ℕ) (here there : Acts) (bytes : List ℕ) → Sound format here there → Tells 0 format there (taken_by (start 0 format) there) bytes → Sound format (with_act here (act_of_datagram (reading bytes))) there
 sound_datagram format here there bytes sound tells =
     let read : reading bytes ≡ Ok tells.said = ap reading tells.bytes_are ∙ read_again tells.said tells.is.segment in
-    subst (λ (r : Result Piece SegmentFault). Sound format (with_act here (coming r)) there) (sym read)
+    subst (λ (r : Result Piece SegmentFault). Sound format (with_act here (act_of_datagram r)) there) (sym read)
     (sound_act format here there (Came tells.said) sound tells.is.segment tells.is)
 
-sound_delivered : (format : ℕ) (here there : Acts) (o : Option (List ℕ)) → Sound format here there → ((bytes : List ℕ) → o ≡ Some bytes → Tells 0 format there (taken_by (start 0 format) there) bytes) → Sound format (with_act here (delivered o)) there
+sound_delivered : (format : ℕ) (here there : Acts) (o : Option (List ℕ)) → Sound format here there → ((bytes : List ℕ) → o ≡ Some bytes → Tells 0 format there (taken_by (start 0 format) there) bytes) → Sound format (with_act here (act_of_delivery o)) there
 sound_delivered format here there None sound tells = sound
 sound_delivered format here there (Some bytes) sound tells = sound_datagram format here there bytes sound (tells bytes refl)
 
-sound_deliver : (format : ℕ) (here there : Acts) (number : ℕ) → Sound format here there → Sound format (with_act here (delivered (slice_get (sent_by (start 0 format) there) number))) there
+sound_deliver : (format : ℕ) (here there : Acts) (number : ℕ) → Sound format here there → Sound format (with_act here (act_of_delivery (slice_get (sent_by (start 0 format) there) number))) there
 sound_deliver format here there number sound =
     sound_delivered format here there (slice_get (sent_by (start 0 format) there) number) sound
     (λ bytes is. each_at _ (sent_by (start 0 format) there) number bytes sound.good_there.tells is)
 
 -- the ends that are put together are never stopped
-up_delivered : (acts : Acts) (r : Result Piece SegmentFault) → is_stopped_after acts ≡ false → is_stopped_after (with_act acts (coming r)) ≡ false
+up_delivered : (acts : Acts) (r : Result Piece SegmentFault) → is_stopped_after acts ≡ false → is_stopped_after (with_act acts (act_of_datagram r)) ≡ false
 up_delivered acts (Ok s) up = up
 up_delivered acts (Err fault) up = up
 
-up_found : (acts : Acts) (o : Option (List ℕ)) → is_stopped_after acts ≡ false → is_stopped_after (with_act acts (delivered o)) ≡ false
+up_found : (acts : Acts) (o : Option (List ℕ)) → is_stopped_after acts ≡ false → is_stopped_after (with_act acts (act_of_delivery o)) ≡ false
 up_found acts None up = up
 up_found acts (Some bytes) up = up_delivered acts (reading bytes) up
 
@@ -71,7 +71,7 @@ up_after end format begun = refl
 up_after end format (then_came history (Call at message)) = up_chosen (acts_of end format history) (is_same end at) (Some (Calls message)) (up_after end format history) (up_after end format history)
 up_after end format (then_came history (Return at call message)) = up_chosen (acts_of end format history) (is_same end at) (Some (Returns call message)) (up_after end format history) (up_after end format history)
 up_after end format (then_came history (Deliver at number)) =
-    up_chosen (acts_of end format history) (is_same end at) (delivered (slice_get (sent_by (start 0 format) (acts_of (not end) format history)) number)) (up_after end format history)
+    up_chosen (acts_of end format history) (is_same end at) (act_of_delivery (slice_get (sent_by (start 0 format) (acts_of (not end) format history)) number)) (up_after end format history)
     (up_found (acts_of end format history) (slice_get (sent_by (start 0 format) (acts_of (not end) format history)) number) (up_after end format history))
 up_after end format (then_came history (Tick at)) = up_chosen (acts_of end format history) (is_same end at) (Some Ticks) (up_after end format history) (up_after end format history)
 
@@ -89,8 +89,8 @@ sound_talk format silent known is = sound_start format known
 sound_talk format (at_first talk act) known is = sound_own format _ _ act (sound_talk format talk known is.0) is.1 is.2
 sound_talk format (at_second talk act) known is = turned format _ _ (sound_own format _ _ act (turned format _ _ (sound_talk format talk known is.0)) is.1 is.2)
 
-sound_call : (format : ℕ) (here there : Acts) (message : List ℕ) → is_stopped_after here ≡ false → Sound format here there → IsSendable format message × (made here < 4294967295) → Sound format (more here (Calls message)) there
-sound_call format here there message up sound may = (let low : made here < 4294967295 = may.1 in sound_act format here there (Calls message) sound (may.0, omega arith, up) tt)
+sound_call : (format : ℕ) (here there : Acts) (message : List ℕ) → is_stopped_after here ≡ false → Sound format here there → IsSendable format message × (calls_made here < 4294967295) → Sound format (more here (Calls message)) there
+sound_call format here there message up sound may = (let low : calls_made here < 4294967295 = may.1 in sound_act format here there (Calls message) sound (may.0, omega arith, up) tt)
 
 sound_tick : (format : ℕ) (here there : Acts) → is_stopped_after here ≡ false → Sound format here there → Sound format (more here Ticks) there
 sound_tick format here there up sound = sound_act format here there Ticks sound up tt
@@ -289,13 +289,13 @@ nothing_there : (o : Option (List ℕ)) → not (is_some o) ≡ true → o ≡ N
 nothing_there None h = refl
 nothing_there (Some m) h = absurd cc
 
-may_call : (format : ℕ) (here there : Acts) (message : List ℕ) → Sound format here there → IsSendable (end_after (start 0 format) here).format message → eqb (end_after (start 0 format) here).next 4294967295 ≡ false → IsSendable format message × (made here < 4294967295)
+may_call : (format : ℕ) (here there : Acts) (message : List ℕ) → Sound format here there → IsSendable (end_after (start 0 format) here).format message → eqb (end_after (start 0 format) here).next 4294967295 ≡ false → IsSendable format message × (calls_made here < 4294967295)
 may_call format here there message sound sendable left =
     let k = keeping format here sound.good_here in
-    let next : (end_after (start 0 format) here).next ≡ 0 + made here = k.hands.next in
-    let few : made here ≤ 4294967295 = sound.good_here.few in
+    let next : (end_after (start 0 format) here).next ≡ 0 + calls_made here = k.hands.next in
+    let few : calls_made here ≤ 4294967295 = sound.good_here.few in
     let ne : (end_after (start 0 format) here).next ≡ 4294967295 → ⊥ = eqb-false (end_after (start 0 format) here).next 4294967295 left in
-    (subst (λ f. IsSendable f message) k.format_is sendable, below (end_after (start 0 format) here).next (made here) next few ne)
+    (subst (λ f. IsSendable f message) k.format_is sendable, below (end_after (start 0 format) here).next (calls_made here) next few ne)
   where
     below : (n m : ℕ) → n ≡ 0 + m → m ≤ 4294967295 → (n ≡ 4294967295 → ⊥) → m < 4294967295
     below n m is le ne = omega arith

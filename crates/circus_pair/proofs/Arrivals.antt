@@ -9,7 +9,7 @@ use Rattle.std.proofs.lemmas.Bool.Decides.{eqb_tells}
 use Rattle.circus_exchange.specs.declared.progress.Progress.{Progress}
 use Rattle.circus_exchange.specs.Inbox.{Arriving}
 use Rattle.circus_segment.specs.Segment.{Piece, is_acknowledgement, has_data}
-use Rattle.circus_exchange.specs.Inbox.{part_of, with_part, front, joined, known, has, is_new, has_with, count_with, completes, data_with, parts_with, added}
+use Rattle.circus_exchange.specs.Inbox.{part_of, with_part, front, data_up_to, progress_so_far, has, is_new, has_with, count_with, completes, data_with, parts_with, add_segment}
 use Rattle.circus_pair.specs.Taken.{is_of, first_of, total_in, first_part, data_in, is_there, count_in, is_reached, has_arrived, message_in, IsTotal, MayFollow}
 use Rattle.circus_exchange.proofs.Ties.{equal, nat_ties}
 
@@ -142,8 +142,8 @@ unwrapped : (o : Option ℕ) (c : ℕ → ℕ) (t : ℕ) → IsTotal o t → (o 
 unwrapped None c t h none = ap (λ (n : ℕ). record { total = t; count = n }) (sym (none refl))
 unwrapped (Some x) c t h none = ap (λ (n : ℕ). record { total = n; count = c n }) h
 
-pub known_is : (s : Piece) (ts : List Piece) (box : Arriving) → Keeps s.kind ts box → MayFollow ts s → is_acknowledgement s ≡ false → known box s ≡ record { total = s.total; count = count_in ts s.kind s.call s.total }
-unfolding known
+pub known_is : (s : Piece) (ts : List Piece) (box : Arriving) → Keeps s.kind ts box → MayFollow ts s → is_acknowledgement s ≡ false → progress_so_far box s ≡ record { total = s.total; count = count_in ts s.kind s.call s.total }
+unfolding progress_so_far
 known_is s ts box keeps may plain =
     ap (λ o. unwrap_or o (record { total = s.total; count = 0 })) (keeps.progress s.call)
     ∙ unwrapped (total_in ts s.kind s.call) (count_in ts s.kind s.call) s.total (may.total (ap not plain)) (none_count ts s.kind s.call s.total)
@@ -223,7 +223,7 @@ pub count_is : (s : Piece) (ts : List Piece) (box : Arriving) → Keeps s.kind t
 unfolding count_with count_in has_with
 count_is s ts box keeps may plain =
     let new = new_is s ts box keeps may plain in
-    elim (is_new box s) as (λ b. is_new box s ≡ b → cond b (front (has_with box s) s.total) (known box s).count ≡ front (is_there (s ∷ ts) s.kind s.call) s.total) [
+    elim (is_new box s) as (λ b. is_new box s ≡ b → cond b (front (has_with box s) s.total) (progress_so_far box s).count ≡ front (is_there (s ∷ ts) s.kind s.call) s.total) [
       | true ↦ λ yes_. (
           let cases = new_cases (has_data s) _ (sym new ∙ yes_) in
           front_alike _ _ s.total (λ k one le.
@@ -333,16 +333,16 @@ data_old s ts number plain old =
     kept_first None b x h = absurd cc
     kept_first (Some p) b x h = refl
 
-joined_alike : (f g : ℕ → List ℕ) (m : ℕ) → ((k : ℕ) → f k ≡ g k) → joined f m ≡ joined g m
+joined_alike : (f g : ℕ → List ℕ) (m : ℕ) → ((k : ℕ) → f k ≡ g k) → data_up_to f m ≡ data_up_to g m
 joined_alike f g zero h = refl
-joined_alike f g (suc m) h = ap (λ d. d ++ f (suc m)) (joined_alike f g m h) ∙ ap (λ d. joined g m ++ d) (h (suc m))
+joined_alike f g (suc m) h = ap (λ d. d ++ f (suc m)) (joined_alike f g m h) ∙ ap (λ d. data_up_to g m ++ d) (h (suc m))
 
 chosen : (b : Bool) (x : List ℕ) (o : Option (List ℕ)) → unwrap_or (cond b (Some x) o) [] ≡ cond b x (unwrap_or o [])
 chosen true x o = refl
 chosen false x o = refl
 
 -- the message that a segment completes is the joined data of its segments
-pub message_is : (s : Piece) (ts : List Piece) (box : Arriving) → Keeps s.kind ts box → MayFollow ts s → is_acknowledgement s ≡ false → is_new box s ≡ true → joined (data_with box s) s.total ≡ message_in (s ∷ ts) s.kind s.call s.total
+pub message_is : (s : Piece) (ts : List Piece) (box : Arriving) → Keeps s.kind ts box → MayFollow ts s → is_acknowledgement s ≡ false → is_new box s ≡ true → data_up_to (data_with box s) s.total ≡ message_in (s ∷ ts) s.kind s.call s.total
 unfolding message_in data_with
 message_is s ts box keeps may plain yes_ =
     let cases = new_cases (has_data s) _ (sym (new_is s ts box keeps may plain) ∙ yes_) in
@@ -414,8 +414,8 @@ keeps_nothing kind box progress parts = record {
 another : (s : Piece) (call : ℕ) → (call ≡ s.call → ⊥) → is_of s.kind call s ≡ false
 another s call differ = rw (equal s.kind, ne_eqb s.call call (λ e. differ (sym e))) refl
 
-progress_more : (s : Piece) (ts : List Piece) (box : Arriving) → Keeps s.kind ts box → MayFollow ts s → is_acknowledgement s ≡ false → (call : ℕ) → get (added box s).progress call ≡ told (total_in (s ∷ ts) s.kind call) (count_in (s ∷ ts) s.kind call)
-unfolding added
+progress_more : (s : Piece) (ts : List Piece) (box : Arriving) → Keeps s.kind ts box → MayFollow ts s → is_acknowledgement s ≡ false → (call : ℕ) → get (add_segment box s).progress call ≡ told (total_in (s ∷ ts) s.kind call) (count_in (s ∷ ts) s.kind call)
+unfolding add_segment
 progress_more s ts box keeps may plain call =
     get-insert nat_cmp_total box.progress s.call (record { total = s.total; count = count_with box s }) call
     ∙ ap (λ b. cond b (Some (record { total = s.total; count = count_with box s })) (get box.progress call)) (nat_ties call s.call)
@@ -466,8 +466,8 @@ parts_here s ts box keeps may plain j =
     ] refl
 
 -- an inbox keeps what one segment more says
-pub keeps_more : (s : Piece) (ts : List Piece) (box : Arriving) → Keeps s.kind ts box → MayFollow ts s → is_acknowledgement s ≡ false → Keeps s.kind (s ∷ ts) (added box s)
-unfolding added
+pub keeps_more : (s : Piece) (ts : List Piece) (box : Arriving) → Keeps s.kind ts box → MayFollow ts s → is_acknowledgement s ≡ false → Keeps s.kind (s ∷ ts) (add_segment box s)
+unfolding add_segment
 keeps_more s ts box keeps may plain = record {
   progress = progress_more s ts box keeps may plain;
   parts = λ call j. elim (eqb_tells call s.call) [

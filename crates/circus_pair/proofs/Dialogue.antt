@@ -10,7 +10,7 @@ use Rattle.circus_segment.specs.Segment.{Piece, IsSegment, is_acknowledgement}
 use Rattle.circus_exchange.specs.Exchange.{start, takes, arrived_of_taken, arrived_after}
 use Rattle.circus_pair.specs.Taken.{is_of, first_of, total_in, count_in, is_reached, has_arrived, message_in, IsOf, AreOf}
 use Rattle.circus_pair.specs.Acts.{Act, Call, Return, Came, Acts, none_yet, more, end_after, with_taken, taken_by, arrives_by, arrival_by}
-use Rattle.circus_pair.specs.Handed.{made, call_at, return_at}
+use Rattle.circus_pair.specs.Handed.{calls_made, call_at, return_at}
 use Rattle.circus_pair.specs.Lawful.{MayFollow, AreLawful}
 use Rattle.circus_pair.specs.TwoEnds.{sent_by, arrival_of, Arrival, noted, arrived_in, handed_over}
 use Rattle.circus_pair.proofs.Arrivals.{arrived_other}
@@ -30,7 +30,7 @@ use Rattle.circus_pair.proofs.Speaking.{Fine, Keeping, MayDo, is_first, fine_act
 pub record Good (format : ℕ) (acts : Acts) : Type 0 where
   pub known : (format ≡ 1) ⊎ (format ≡ 2)
   pub lawful : AreLawful 0 format acts
-  pub few : made acts ≤ 4294967295
+  pub few : calls_made acts ≤ 4294967295
   pub fine : Fine 0 format acts (taken_by (start 0 format) acts)
   pub tells : Each (Tells 0 format acts (taken_by (start 0 format) acts)) (sent_by (start 0 format) acts)
 
@@ -49,9 +49,9 @@ lawful_act : (format : ℕ) (acts : Acts) (act : Act) → MayDo 0 format acts (t
 lawful_act format acts (Return call message) may = (may.0, may.2, may.3)
 lawful_act format acts act may = may
 
-few_act : (format : ℕ) (acts : Acts) (ts : List Piece) (act : Act) → MayDo 0 format acts ts act → made acts ≤ 4294967295 → made (more acts act) ≤ 4294967295
-unfolding made
-few_act format acts ts (Call message) may few = (let low : 0 + made acts < 4294967295 = may.1 in omega arith)
+few_act : (format : ℕ) (acts : Acts) (ts : List Piece) (act : Act) → MayDo 0 format acts ts act → calls_made acts ≤ 4294967295 → calls_made (more acts act) ≤ 4294967295
+unfolding calls_made
+few_act format acts ts (Call message) may few = (let low : 0 + calls_made acts < 4294967295 = may.1 in omega arith)
 few_act format acts ts act may few = few
 
 grown : (format : ℕ) (acts : Acts) (act : Act) → Good format acts → MayDo 0 format acts (taken_by (start 0 format) acts) act → Grows 0 acts (more acts act) (taken_by (start 0 format) acts) (taken_by (start 0 format) (more acts act))
@@ -77,7 +77,7 @@ none_handed : {X : Type 0} (m : X) → ◌≡◌ {A = Option X} None (Some m) �
 none_handed m h = cc
 
 good_start : (format : ℕ) → (format ≡ 1) ⊎ (format ≡ 2) → Good format none_yet
-unfolding made call_at return_at
+unfolding calls_made call_at return_at
 good_start format known = record {
   known = known;
   lawful = tt;

@@ -8,13 +8,13 @@ use Rattle.circus_exchange.specs.declared.progress.Progress.{Progress}
 use Rattle.circus_exchange.specs.declared.exchange.Exchange.{Exchange}
 use Rattle.circus_segment.specs.Segment.{Piece, IsSegment, is_acknowledgement}
 use Rattle.circus_segment.specs.Cut.{segment_count}
-use Rattle.circus_exchange.specs.Inbox.{added}
+use Rattle.circus_exchange.specs.Inbox.{add_segment}
 use Rattle.std.specs.FinMap.{len}
-use Rattle.circus_exchange.specs.Outbox.{whole_by, becomes_whole, handed}
-use Rattle.circus_exchange.specs.Exchange.{start, called, returned, takes, was_sent, sends_at_once, let_go, lets_go, in_flight_after, call_reached, return_reached, total_of, ended, return_added, after_taken, after, ticked}
+use Rattle.circus_exchange.specs.Outbox.{whole_by, becomes_whole, hand_over}
+use Rattle.circus_exchange.specs.Exchange.{start, send_call, send_return, takes, was_sent, sends_at_once, let_go, lets_go, in_flight_after, call_reached, return_reached, total_of, end_call, return_added, after_taken, after, ticked}
 use Rattle.circus_pair.specs.Taken.{is_of, total_in}
 use Rattle.circus_pair.specs.Acts.{Act, Call, Return, Came, Tick, Stop, Acts, none_yet, more, end_after, taken_by}
-use Rattle.circus_pair.specs.Handed.{made, call_at, says, reached_in, sent_below}
+use Rattle.circus_pair.specs.Handed.{calls_made, call_at, says, reached_in, sent_below}
 use Rattle.circus_pair.specs.Lawful.{AreLawful, is_stopped_after}
 use Rattle.circus_pair.specs.Window.{is_all, call_is_whole, is_open, count_below}
 use Rattle.circus_pair.specs.Sending.{is_sent}
@@ -27,21 +27,21 @@ use Rattle.circus_pair.proofs.Taking.{takes_call_acknowledged, takes_return_segm
 
 -- ---- which numbers calls have
 
-pub call_made : (first : ℕ) (acts : Acts) (call : ℕ) → first ≤ call → call < first + made acts → is_some (call_at first acts call) ≡ true
-unfolding made call_at
+pub call_made : (first : ℕ) (acts : Acts) (call : ℕ) → first ≤ call → call < first + calls_made acts → is_some (call_at first acts call) ≡ true
+unfolding calls_made call_at
 call_made first none_yet call low high = absurd (omega arith)
-call_made first (more acts (Call message)) call low high = elim (eqb_tells call (first + made acts)) [
+call_made first (more acts (Call message)) call low high = elim (eqb_tells call (first + calls_made acts)) [
   | inl same ↦ ap (λ b. is_some (cond b (Some message) (call_at first acts call))) same.0
-  | inr differ ↦ (let ne : call ≢ first + made acts = differ.1 in ap (λ b. is_some (cond b (Some message) (call_at first acts call))) differ.0 ∙ call_made first acts call low (omega arith))
+  | inr differ ↦ (let ne : call ≢ first + calls_made acts = differ.1 in ap (λ b. is_some (cond b (Some message) (call_at first acts call))) differ.0 ∙ call_made first acts call low (omega arith))
 ]
 call_made first (more acts act) call low high = call_made first acts call low high
 
-pub made_call : (first : ℕ) (acts : Acts) (call : ℕ) → is_some (call_at first acts call) ≡ true → (first ≤ call) × (call < first + made acts)
-unfolding made call_at
+pub made_call : (first : ℕ) (acts : Acts) (call : ℕ) → is_some (call_at first acts call) ≡ true → (first ≤ call) × (call < first + calls_made acts)
+unfolding calls_made call_at
 made_call first none_yet call some = absurd cc
-made_call first (more acts (Call message)) call some = elim (eqb_tells call (first + made acts)) [
-  | inl same ↦ (let at : call ≡ first + made acts = same.1 in (omega arith, omega arith))
-  | inr differ ↦ (let before = made_call first acts call (sym (ap (λ b. is_some (cond b (Some message) (call_at first acts call))) differ.0) ∙ some) in let a : first ≤ call = before.0 in let b : call < first + made acts = before.1 in (a, omega arith))
+made_call first (more acts (Call message)) call some = elim (eqb_tells call (first + calls_made acts)) [
+  | inl same ↦ (let at : call ≡ first + calls_made acts = same.1 in (omega arith, omega arith))
+  | inr differ ↦ (let before = made_call first acts call (sym (ap (λ b. is_some (cond b (Some message) (call_at first acts call))) differ.0) ∙ some) in let a : first ≤ call = before.0 in let b : call < first + calls_made acts = before.1 in (a, omega arith))
 ]
 made_call first (more acts act) call some = made_call first acts call some
 
@@ -89,7 +89,7 @@ opened (Some m) c within some none = (let full : 0 < segment_count m = within.0 
 pub record Flows (limit first : ℕ) (acts : Acts) (ts : List Piece) (e : Exchange) : Type 0 where
   pub low : first ≤ e.sent
   pub high : e.sent ≤ e.next
-  pub next : e.next ≡ first + made acts
+  pub next : e.next ≡ first + calls_made acts
   pub in_flight : e.in_flight ≡ count_below (is_open first acts ts) e.sent
   pub full : e.stopped ≡ false → e.sent < e.next → limit ≤ e.in_flight
   pub most : e.in_flight ≤ 64
@@ -122,7 +122,7 @@ moves_let_go first acts ts e flows within =
           let room : e.in_flight < 64 = facts.1 in
           let waits : e.sent < e.next = facts.2 in
           let low : first ≤ e.sent = flows.low in
-          let next : e.next ≡ first + made acts = flows.next in
+          let next : e.next ≡ first + calls_made acts = flows.next in
           let open_ : is_open first acts ts e.sent ≡ true = opened (call_at first acts e.sent) (reached_in ts 0 e.sent) (within e.sent) (call_made first acts e.sent flows.low (omega arith)) (λ t. flows.unsaid e.sent t (omega arith)) in
           let many : 63 ≤ e.in_flight = flows.full up waits in
           let counted : e.in_flight ≡ count_below (is_open first acts ts) e.sent = flows.in_flight in
@@ -170,12 +170,12 @@ moves_let_go first acts ts e flows within =
 -- ---- acts that let nothing go
 
 -- an act that hands no call over
-flows_same : (limit first : ℕ) (acts : Acts) (act : Act) (ts : List Piece) (e f : Exchange) → f.sent ≡ e.sent → f.next ≡ e.next → f.in_flight ≡ e.in_flight → (f.stopped ≡ false → e.stopped ≡ false) → f.stopped ≡ is_stopped_after (more acts act) → made (more acts act) ≡ made acts → ((call : ℕ) → call_at first (more acts act) call ≡ call_at first acts call) → Flows limit first acts ts e → Flows limit first (more acts act) ts f
+flows_same : (limit first : ℕ) (acts : Acts) (act : Act) (ts : List Piece) (e f : Exchange) → f.sent ≡ e.sent → f.next ≡ e.next → f.in_flight ≡ e.in_flight → (f.stopped ≡ false → e.stopped ≡ false) → f.stopped ≡ is_stopped_after (more acts act) → calls_made (more acts act) ≡ calls_made acts → ((call : ℕ) → call_at first (more acts act) call ≡ call_at first acts call) → Flows limit first acts ts e → Flows limit first (more acts act) ts f
 unfolding is_open call_is_whole
 flows_same limit first acts act ts e f sent next flight up stopped made_ calls flows =
     let low : first ≤ e.sent = flows.low in
     let high : e.sent ≤ e.next = flows.high in
-    let made_so : e.next ≡ first + made acts = flows.next in
+    let made_so : e.next ≡ first + calls_made acts = flows.next in
     record {
       low = omega arith;
       high = omega arith;
@@ -190,11 +190,11 @@ flows_same limit first acts act ts e f sent next flight up stopped made_ calls f
 
 -- a segment that says nothing of calls, and is none of a return
 flows_heard : (limit first : ℕ) (acts : Acts) (ts : List Piece) (e f : Exchange) (s : Piece) → f.sent ≡ e.sent → f.next ≡ e.next → f.in_flight ≡ e.in_flight → f.stopped ≡ e.stopped → ((q t : ℕ) → says s 0 q t ≡ 0) → ((q : ℕ) → is_of 1 q s ≡ false) → Flows limit first acts ts e → Flows limit first (more acts (Came s)) (s ∷ ts) f
-unfolding is_open call_is_whole call_at made reached_in
+unfolding is_open call_is_whole call_at calls_made reached_in
 flows_heard limit first acts ts e f s sent next flight stopped none other flows =
     let low : first ≤ e.sent = flows.low in
     let high : e.sent ≤ e.next = flows.high in
-    let made_so : e.next ≡ first + made acts = flows.next in
+    let made_so : e.next ≡ first + calls_made acts = flows.next in
     record {
       low = omega arith;
       high = omega arith;
@@ -211,11 +211,11 @@ flows_heard limit first acts ts e f s sent next flight stopped none other flows 
 
 -- a segment by which the segments of a call up to a count are acknowledged
 flows_reached : (first : ℕ) (acts : Acts) (ts : List Piece) (e f : Exchange) (s : Piece) (count : ℕ) → f.sent ≡ e.sent → f.next ≡ e.next → f.in_flight ≡ cond (whole_by (told_out (call_at first acts s.call) (reached_in ts 0 s.call)) count) (e.in_flight - 1) e.in_flight → f.stopped ≡ e.stopped → s.call < e.sent → IsWithin (call_at first acts s.call) (reached_in ts 0 s.call) → ((message : List ℕ) → call_at first acts s.call ≡ Some message → count ≤ segment_count message) → ((message : List ℕ) → call_at first acts s.call ≡ Some message → says s 0 s.call (segment_count message) ≡ count) → Flows 64 first acts ts e → Flows 63 first (more acts (Came s)) (s ∷ ts) f
-unfolding is_open call_is_whole call_at made reached_in
+unfolding is_open call_is_whole call_at calls_made reached_in
 flows_reached first acts ts e f s count sent next flight stopped before within below here flows =
     let low : first ≤ e.sent = flows.low in
     let high : e.sent ≤ e.next = flows.high in
-    let made_so : e.next ≡ first + made acts = flows.next in
+    let made_so : e.next ≡ first + calls_made acts = flows.next in
     let o = call_at first acts s.call in
     let c = reached_in ts 0 s.call in
     let whole : is_all o (λ t. max (says s 0 s.call t) (c t)) ≡ (whole_by (told_out o c) count || is_all o c) = whole_raised o c (says s 0 s.call) count within below here in
@@ -290,10 +290,10 @@ moves_return_acknowledged first acts ts e s flows ack return_ =
 moves_call_segment : (first : ℕ) (acts : Acts) (ts : List Piece) (e : Exchange) (s : Piece) → Flows 64 first acts ts e → is_acknowledgement s ≡ false → eqb s.kind 0 ≡ true → Moves first (more acts (Came s)) (s ∷ ts) e.sent (after_taken e s)
 moves_call_segment first acts ts e s flows plain call =
     subst (Moves first (more acts (Came s)) (s ∷ ts) e.sent) (sym (after_call_segment e s plain call))
-    (quiet _ _ _ _ _ (record { flows = flows_heard 64 first acts ts e (record e { arriving_calls = added e.arriving_calls s }) s refl refl refl refl (λ q n. says_no_call s q n plain (call_kind s call)) (other_kind s 1 (λ one. absurd (let zero_ : s.kind ≡ 0 = eqb-true s.kind 0 call in omega arith))) flows; goes = inl refl }))
+    (quiet _ _ _ _ _ (record { flows = flows_heard 64 first acts ts e (record e { arriving_calls = add_segment e.arriving_calls s }) s refl refl refl refl (λ q n. says_no_call s q n plain (call_kind s call)) (other_kind s 1 (λ one. absurd (let zero_ : s.kind ≡ 0 = eqb-true s.kind 0 call in omega arith))) flows; goes = inl refl }))
 
 moves_return_segment : (first : ℕ) (acts : Acts) (ts : List Piece) (e : Exchange) (s : Piece) → Hands first acts ts e → Stands ts e → Kept first acts ts e → Flows 64 first acts ts e → IsSegment s → takes e s ≡ true → is_acknowledgement s ≡ false → eqb s.kind 0 ≡ false → Moves first (more acts (Came s)) (s ∷ ts) e.sent (after_taken e s)
-unfolding return_added ended call_reached in_flight_after
+unfolding return_added end_call call_reached in_flight_after
 moves_return_segment first acts ts e s hands stands kept flows segment h plain return_ =
     let reached_ : Flows 63 first (more acts (Came s)) (s ∷ ts) (return_added e s) = flows_reached first acts ts e (return_added e s) s (total_of e s.call) refl refl (reached_flight first acts ts e s.call (total_of e s.call) hands) refl (returned_sent e s h plain return_) (kept.calls_within s.call)
     (λ m is. let total : total_of e s.call ≡ segment_count m = total_told first acts ts e s.call m hands is in omega arith)
@@ -310,29 +310,29 @@ moves_taken first acts ts e s hands stands kept flows segment h =
     (λ plain return_. moves_return_segment first acts ts e s hands stands kept flows segment h plain return_)
 
 moves_came : (first : ℕ) (acts : Acts) (ts : List Piece) (e : Exchange) (s : Piece) → Hands first acts ts e → Stands ts e → Kept first acts ts e → Flows 64 first acts ts e → IsSegment s → Moves first (more acts (Came s)) (cond (takes e s) (s ∷ ts) ts) e.sent (after e s)
-unfolding made call_at
+unfolding calls_made call_at
 moves_came first acts ts e s hands stands kept flows segment =
     by_taken ts e s (λ us f. Moves first (more acts (Came s)) us e.sent f) (λ h. moves_taken first acts ts e s hands stands kept flows segment h)
     (record { flows = flows_same 64 first acts (Came s) ts e e refl refl refl (λ up. up) flows.stopped refl (λ call. refl) flows; goes = inl refl })
 
 -- ---- the other acts
 
-moves_called : (first : ℕ) (acts : Acts) (ts : List Piece) (e : Exchange) (message : List ℕ) → Hands first acts ts e → Flows 64 first acts ts e → 0 < length message → is_stopped_after acts ≡ false → Moves first (more acts (Call message)) ts e.sent (called e message)
-unfolding called is_open call_is_whole made call_at sends_at_once
+moves_called : (first : ℕ) (acts : Acts) (ts : List Piece) (e : Exchange) (message : List ℕ) → Hands first acts ts e → Flows 64 first acts ts e → 0 < length message → is_stopped_after acts ≡ false → Moves first (more acts (Call message)) ts e.sent (send_call e message)
+unfolding send_call is_open call_is_whole calls_made call_at sends_at_once
 moves_called first acts ts e message hands flows full running =
     let low : first ≤ e.sent = flows.low in
     let high : e.sent ≤ e.next = flows.high in
-    let next : e.next ≡ first + made acts = flows.next in
+    let next : e.next ≡ first + calls_made acts = flows.next in
     let up : e.stopped ≡ false = flows.stopped ∙ running in
-    let alike : count_below (is_open first acts ts) e.sent ≡ count_below (is_open first (more acts (Call message)) ts) e.sent = count_alike _ _ e.sent (λ k le. ap (λ b. is_open_by (cond b (Some message) (call_at first acts k)) (reached_in ts 0 k)) (sym (ne_eqb k (first + made acts) (λ same. absurd (omega arith))))) in
+    let alike : count_below (is_open first acts ts) e.sent ≡ count_below (is_open first (more acts (Call message)) ts) e.sent = count_alike _ _ e.sent (λ k le. ap (λ b. is_open_by (cond b (Some message) (call_at first acts k)) (reached_in ts 0 k)) (sym (ne_eqb k (first + calls_made acts) (λ same. absurd (omega arith))))) in
     let counted : e.in_flight ≡ count_below (is_open first (more acts (Call message)) ts) e.sent = flows.in_flight ∙ alike in
-    elim (sends_at_once e) as (λ b. sends_at_once e ≡ b → Moves first (more acts (Call message)) ts e.sent (record e { next = e.next + 1; sent = cond b (e.sent + 1) e.sent; in_flight = cond b (e.in_flight + 1) e.in_flight; calls = handed e.calls e.next (segment_count message) message; ticks = cond (eqb (len e.calls.messages) 0) 0 e.ticks })) [
+    elim (sends_at_once e) as (λ b. sends_at_once e ≡ b → Moves first (more acts (Call message)) ts e.sent (record e { next = e.next + 1; sent = cond b (e.sent + 1) e.sent; in_flight = cond b (e.in_flight + 1) e.in_flight; calls = hand_over e.calls e.next (segment_count message) message; ticks = cond (eqb (len e.calls.messages) 0) 0 e.ticks })) [
       | true ↦ λ now. (
           let facts = going e.in_flight e.sent e.next now in
           let room : e.in_flight < 64 = facts.0 in
           let all_sent : e.sent ≡ e.next = facts.1 in
-          let at : e.sent ≡ first + made acts = omega arith in
-          let open_ : is_open first (more acts (Call message)) ts e.sent ≡ true = ap (λ b. is_open_by (cond b (Some message) (call_at first acts e.sent)) (reached_in ts 0 e.sent)) (eq-eqb e.sent (first + made acts) at) ∙ opened (Some message) (reached_in ts 0 e.sent) (segments_some message full, (let z : reached_in ts 0 e.sent (segment_count message) ≡ 0 = flows.unsaid e.sent (segment_count message) (omega arith) in omega arith)) refl (λ t. flows.unsaid e.sent t (omega arith)) in
+          let at : e.sent ≡ first + calls_made acts = omega arith in
+          let open_ : is_open first (more acts (Call message)) ts e.sent ≡ true = ap (λ b. is_open_by (cond b (Some message) (call_at first acts e.sent)) (reached_in ts 0 e.sent)) (eq-eqb e.sent (first + calls_made acts) at) ∙ opened (Some message) (reached_in ts 0 e.sent) (segments_some message full, (let z : reached_in ts 0 e.sent (segment_count message) ≡ 0 = flows.unsaid e.sent (segment_count message) (omega arith) in omega arith)) refl (λ t. flows.unsaid e.sent t (omega arith)) in
           record {
             flows = record {
               low = omega arith;
@@ -379,7 +379,7 @@ moves_called first acts ts e message hands flows full running =
     ]
 
 flows_start : (first format : ℕ) → Flows 64 first none_yet [] (start first format)
-unfolding made call_at reached_in total_in is_open
+unfolding calls_made call_at reached_in total_in is_open
 flows_start first format = record {
   low = omega arith;
   high = omega arith;
@@ -394,7 +394,7 @@ flows_start first format = record {
 
 -- what an act lets go, after a lawful list of acts
 moves_act : (first format : ℕ) (acts : Acts) (act : Act) → AreLawful first format (more acts act) → Flows 64 first acts (taken_by (start first format) acts) (end_after (start first format) acts) → Moves first (more acts act) (taken_by (start first format) (more acts act)) (end_after (start first format) acts).sent (end_after (start first format) (more acts act))
-unfolding made call_at returned ticked
+unfolding calls_made call_at send_return ticked
 moves_act first format acts (Call message) lawful flows = moves_called first acts _ _ message (hands_lawful first format acts lawful.0) flows lawful.1.0.0 lawful.1.2
 moves_act first format acts (Return call message) lawful flows = record { flows = flows_same 64 first acts (Return call message) _ _ _ refl refl refl (λ up. up) flows.stopped refl (λ q. refl) flows; goes = inl refl }
 moves_act first format acts (Came s) lawful flows = moves_came first acts _ _ s (hands_lawful first format acts lawful.0) (stands_lawful first format acts lawful.0) (kept_after first format acts lawful.0) flows lawful.1
@@ -407,18 +407,18 @@ flows_after first format (more acts act) lawful = (moves_act first format acts a
 
 -- ---- which calls were sent
 
-made_grows : (acts : Acts) (act : Act) → made acts ≤ made (more acts act)
-unfolding made
+made_grows : (acts : Acts) (act : Act) → calls_made acts ≤ calls_made (more acts act)
+unfolding calls_made
 made_grows acts (Call message) = omega arith
 made_grows acts act = omega arith
 
 -- the calls below the first that waits are those that the window let go before, and those that it lets go now
-sent_more : (first : ℕ) (acts next : Acts) (ts : List Piece) (sent : ℕ) (f : Exchange) (call : ℕ) (was : Bool) → Flows 64 first next ts f → Goes first next ts sent f → sent ≤ first + made acts → made acts ≤ made next → was ≡ sent_below sent first acts call → sent_below f.sent first next call ≡ (was || (is_some (call_at first next call) && (not (is_stopped_after next) && ltb (count_below (is_open first next ts) call) 64)))
+sent_more : (first : ℕ) (acts next : Acts) (ts : List Piece) (sent : ℕ) (f : Exchange) (call : ℕ) (was : Bool) → Flows 64 first next ts f → Goes first next ts sent f → sent ≤ first + calls_made acts → calls_made acts ≤ calls_made next → was ≡ sent_below sent first acts call → sent_below f.sent first next call ≡ (was || (is_some (call_at first next call) && (not (is_stopped_after next) && ltb (count_below (is_open first next ts) call) 64)))
 sent_more first acts next ts sent f call was flows goes high grows is =
     let sent_grows : sent ≤ f.sent = elim goes [ inl same ↦ (let s : f.sent ≡ sent = same in omega arith) | inr one ↦ (let s : f.sent ≡ sent + 1 = one.0 in omega arith) ] in
     elim (is_some (call_at first next call)) as (λ b. is_some (call_at first next call) ≡ b → sent_below f.sent first next call ≡ (was || (is_some (call_at first next call) && (not (is_stopped_after next) && ltb (count_below (is_open first next ts) call) 64)))) [
-      | false ↦ λ none. settle _ _ _ (is_stopped_after next) (ltb (count_below (is_open first next ts) call) 64) _ false false (is_stopped_after next) (ltb (count_below (is_open first next ts) call) 64) refl none (is ∙ never (ltb call sent) (is_some (call_at first acts call)) (λ some. let before = made_call first acts call some in let a : first ≤ call = before.0 in let b : call < first + made acts = before.1 in true_false _ (call_made first next call a (omega arith)) none)) refl refl (never (ltb call f.sent) false (λ e. absurd cc))
-      | true ↦ λ some. (let here = made_call first next call some in let a : first ≤ call = here.0 in let b : call < first + made next = here.1 in
+      | false ↦ λ none. settle _ _ _ (is_stopped_after next) (ltb (count_below (is_open first next ts) call) 64) _ false false (is_stopped_after next) (ltb (count_below (is_open first next ts) call) 64) refl none (is ∙ never (ltb call sent) (is_some (call_at first acts call)) (λ some. let before = made_call first acts call some in let a : first ≤ call = before.0 in let b : call < first + calls_made acts = before.1 in true_false _ (call_made first next call a (omega arith)) none)) refl refl (never (ltb call f.sent) false (λ e. absurd cc))
+      | true ↦ λ some. (let here = made_call first next call some in let a : first ≤ call = here.0 in let b : call < first + calls_made next = here.1 in
           elim (cases_lt call sent) [
             | inl before ↦ settle _ _ _ (is_stopped_after next) (ltb (count_below (is_open first next ts) call) 64) true true true (is_stopped_after next) (ltb (count_below (is_open first next ts) call) 64) (lt-ltb call f.sent (omega arith)) some (is ∙ ap (λ x. x && is_some (call_at first acts call)) (lt-ltb call sent before) ∙ call_made first acts call a (omega arith)) refl refl refl
             | inr after_ ↦ (let not_yet : was ≡ false = is ∙ ap (λ x. x && is_some (call_at first acts call)) (le-ltb call sent after_) in
@@ -430,7 +430,7 @@ sent_more first acts next ts sent f call was flows goes high grows is =
                   ]
                   | inr later ↦ elim (is_stopped_after next) as (λ d. is_stopped_after next ≡ d → sent_below f.sent first next call ≡ (was || (is_some (call_at first next call) && (not (is_stopped_after next) && ltb (count_below (is_open first next ts) call) 64)))) [
                     | true ↦ λ down. settle _ _ _ (is_stopped_after next) (ltb (count_below (is_open first next ts) call) 64) false true false true (ltb (count_below (is_open first next ts) call) 64) (le-ltb call f.sent later) some not_yet down refl refl
-                    | false ↦ λ up. (let made_so : f.next ≡ first + made next = flows.next in let many : 64 ≤ f.in_flight = flows.full (flows.stopped ∙ up) (omega arith) in let counted : f.in_flight ≡ count_below (is_open first next ts) f.sent = flows.in_flight in let rises : count_below (is_open first next ts) f.sent ≤ count_below (is_open first next ts) call = count_rises (is_open first next ts) f.sent call later in
+                    | false ↦ λ up. (let made_so : f.next ≡ first + calls_made next = flows.next in let many : 64 ≤ f.in_flight = flows.full (flows.stopped ∙ up) (omega arith) in let counted : f.in_flight ≡ count_below (is_open first next ts) f.sent = flows.in_flight in let rises : count_below (is_open first next ts) f.sent ≤ count_below (is_open first next ts) call = count_rises (is_open first next ts) f.sent call later in
                         settle _ _ _ (is_stopped_after next) (ltb (count_below (is_open first next ts) call) 64) false true false false false (le-ltb call f.sent later) some not_yet up (le-ltb _ 64 (omega arith)) refl)
                   ] refl
                 ])
@@ -453,11 +453,11 @@ sent_after first format (more acts act) call lawful =
     let flows = flows_after first format acts lawful.0 in
     let moves = moves_act first format acts act lawful flows in
     let high : (end_after (start first format) acts).sent ≤ (end_after (start first format) acts).next = flows.high in
-    let next : (end_after (start first format) acts).next ≡ first + made acts = flows.next in
+    let next : (end_after (start first format) acts).next ≡ first + calls_made acts = flows.next in
     sent_more first acts (more acts act) _ _ _ call _ moves.flows moves.goes (omega arith) (made_grows acts act) (sym (sent_after first format acts call lawful.0))
 
 -- at most 64 calls are sent and not acknowledged whole
-pub window_after : (first format : ℕ) (acts : Acts) → AreLawful first format acts → count_below (λ call. is_sent (start first format) acts call && not (call_is_whole first acts (taken_by (start first format) acts) call)) (first + made acts) ≤ 64
+pub window_after : (first format : ℕ) (acts : Acts) → AreLawful first format acts → count_below (λ call. is_sent (start first format) acts call && not (call_is_whole first acts (taken_by (start first format) acts) call)) (first + calls_made acts) ≤ 64
 unfolding is_open
 window_after first format acts lawful =
     let b = start first format in
@@ -465,11 +465,11 @@ window_after first format acts lawful =
     let ts = taken_by b acts in
     let flows = flows_after first format acts lawful in
     let high : e.sent ≤ e.next = flows.high in
-    let next : e.next ≡ first + made acts = flows.next in
+    let next : e.next ≡ first + calls_made acts = flows.next in
     let most : e.in_flight ≤ 64 = flows.most in
     let sent : (k : ℕ) → is_sent b acts k ≡ (ltb k e.sent && is_some (call_at first acts k)) = λ k. sym (sent_after first format acts k lawful) in
-    let counted : count_below (λ call. is_sent b acts call && not (call_is_whole first acts ts call)) (first + made acts) ≡ e.in_flight
-    = count_upto _ e.sent (first + made acts) (omega arith) (λ k low less. ap (λ x. x && not (call_is_whole first acts ts k)) (sent k ∙ ap (λ x. x && is_some (call_at first acts k)) (le-ltb k e.sent low)))
+    let counted : count_below (λ call. is_sent b acts call && not (call_is_whole first acts ts call)) (first + calls_made acts) ≡ e.in_flight
+    = count_upto _ e.sent (first + calls_made acts) (omega arith) (λ k low less. ap (λ x. x && not (call_is_whole first acts ts k)) (sent k ∙ ap (λ x. x && is_some (call_at first acts k)) (le-ltb k e.sent low)))
     ∙ count_alike _ _ e.sent (λ k le. ap (λ x. x && not (call_is_whole first acts ts k)) (sent k ∙ ap (λ x. x && is_some (call_at first acts k)) (lt-ltb k e.sent le)))
     ∙ sym flows.in_flight in
     omega arith

@@ -5,10 +5,10 @@ use Rattle.circus_exchange.specs.declared.exchange.Exchange.{Exchange}
 use Rattle.circus_exchange.specs.declared.taken.Arrived.TheVariants.{Nothing}
 use Rattle.circus_segment.specs.Segment.{Piece, IsSegment}
 use Rattle.circus_exchange.specs.Limits.{never_used}
-use Rattle.circus_exchange.specs.Exchange.{start, IsSendable, called, returned, takes, after, arrived_after, ticked, awaits_return, is_suspect, datagrams_of_call, datagrams_of_return, datagrams_after, datagrams_of_tick}
+use Rattle.circus_exchange.specs.Exchange.{start, IsSendable, send_call, send_return, takes, after, arrived_after, ticked, awaits_return, is_suspect, datagrams_of_call, datagrams_of_return, datagrams_after, datagrams_of_tick}
 use Rattle.circus_pair.specs.Taken.{has_arrived}
 use Rattle.circus_pair.specs.Acts.{Call, Return, Came, Tick, Acts, none_yet, more, end_after, taken_by, arrival_by}
-use Rattle.circus_pair.specs.Handed.{made, return_at}
+use Rattle.circus_pair.specs.Handed.{calls_made, return_at}
 use Rattle.circus_pair.specs.Lawful.{is_stopped_after, AreLawful}
 use Rattle.circus_pair.specs.Sending.{outputs, takes_after}
 use Rattle.circus_pair.specs.Ticking.{suspects_after}
@@ -38,7 +38,7 @@ module _ (pair : Exchange) (first format : ℕ) (acts : Acts) (stands : StandsFo
   format_is : pair.format ≡ format
   format_is = ap (λ (e : Exchange). e.format) stands.is ∙ format_stays (start first format) acts
 
-  pub next_is : pair.next ≡ first + made acts
+  pub next_is : pair.next ≡ first + calls_made acts
   next_is = ap (λ (e : Exchange). e.next) stands.is ∙ (hands_lawful first format acts stands.lawful).next
 
   down_is : pair.stopped ≡ is_stopped_after acts
@@ -55,8 +55,8 @@ module _ (pair : Exchange) (first format : ℕ) (acts : Acts) (stands : StandsFo
   may_call message sendable up left =
       (stands.lawful, (subst (λ f. IsSendable f message) format_is sendable, subst (λ n. n < never_used) next_is left, sym down_is ∙ up))
 
-  pub stands_called : (new : Exchange) (message : List ℕ) → IsSendable pair.format message → pair.stopped ≡ false → pair.next < never_used → new ≡ called pair message → StandsFor new first format (more acts (Call message))
-  stands_called new message sendable up left is = record { lawful = may_call message sendable up left; is = is ∙ ap (λ (e : Exchange). called e message) stands.is }
+  pub stands_called : (new : Exchange) (message : List ℕ) → IsSendable pair.format message → pair.stopped ≡ false → pair.next < never_used → new ≡ send_call pair message → StandsFor new first format (more acts (Call message))
+  stands_called new message sendable up left is = record { lawful = may_call message sendable up left; is = is ∙ ap (λ (e : Exchange). send_call e message) stands.is }
 
   pub called_owes : (message : List ℕ) → IsSendable pair.format message → pair.stopped ≡ false → pair.next < never_used → datagrams_of_call pair message ≡ outputs (start first format) acts (Call message)
   called_owes message sendable up left = ap (λ (e : Exchange). datagrams_of_call e message) stands.is ∙ call_sends first format acts message (may_call message sendable up left)
@@ -72,12 +72,12 @@ module _ (pair : Exchange) (first format : ℕ) (acts : Acts) (stands : StandsFo
   nothing None h = refl
   nothing (Some m) h = absurd cc
 
-  pub stands_returned : (new : Exchange) (call : ℕ) (message : List ℕ) → IsSendable pair.format message → awaits_return pair call ≡ true → new ≡ returned pair call message → StandsFor new first format (more acts (Return call message))
+  pub stands_returned : (new : Exchange) (call : ℕ) (message : List ℕ) → IsSendable pair.format message → awaits_return pair call ≡ true → new ≡ send_return pair call message → StandsFor new first format (more acts (Return call message))
   stands_returned new call message sendable awaits is =
       let parts = split _ _ (sym (awaits_as_owed call) ∙ awaits) in
       record {
         lawful = (stands.lawful, (subst (λ f. IsSendable f message) format_is sendable, parts.0, nothing (return_at acts call) parts.1));
-        is = is ∙ ap (λ (e : Exchange). returned e call message) stands.is;
+        is = is ∙ ap (λ (e : Exchange). send_return e call message) stands.is;
       }
 
   pub returned_owes : (call : ℕ) (message : List ℕ) → datagrams_of_return pair call message ≡ outputs (start first format) acts (Return call message)

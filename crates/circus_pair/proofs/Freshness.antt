@@ -8,24 +8,24 @@ use Rattle.circus_exchange.specs.declared.progress.Progress.{Progress}
 use Rattle.circus_exchange.specs.declared.exchange.Exchange.{Exchange}
 use Rattle.circus_segment.specs.Segment.{Piece, is_acknowledgement}
 use Rattle.circus_segment.specs.Cut.{segment_count}
-use Rattle.circus_exchange.specs.Outbox.{handed, raised, reached, emptied, forgotten, becomes_whole}
-use Rattle.circus_exchange.specs.Inbox.{added}
-use Rattle.circus_exchange.specs.Exchange.{start, called, returned, is_whole, awaits_return, takes, let_go, lets_go, call_reached, return_reached, ended, return_added, total_of, after_taken, after, ticked}
+use Rattle.circus_exchange.specs.Outbox.{hand_over, raise_progress, acknowledge_up_to, drop_bytes, forget_message, becomes_whole}
+use Rattle.circus_exchange.specs.Inbox.{add_segment}
+use Rattle.circus_exchange.specs.Exchange.{start, send_call, send_return, is_whole, awaits_return, takes, let_go, lets_go, call_reached, return_reached, end_call, return_added, total_of, after_taken, after, ticked}
 use Rattle.circus_pair.specs.Seen.Fresh.{IsFresh}
 use Rattle.circus_exchange.proofs.Ties.{other_key}
 
 pub fresh_start : (number format : ℕ) → IsFresh (start number format)
 fresh_start number format q le = get-empty nat_cmp q
 
-pub fresh_called : (e : Exchange) (m : List ℕ) → IsFresh e → IsFresh (called e m)
-unfolding called handed
+pub fresh_called : (e : Exchange) (m : List ℕ) → IsFresh e → IsFresh (send_call e m)
+unfolding send_call hand_over
 fresh_called e m h q le =
     get-insert nat_cmp_total e.calls.progress e.next (record { total = segment_count m; count = 0 }) q
     ∙ ap (λ b. cond b (Some (record { total = segment_count m; count = 0 })) (get e.calls.progress q)) (other_key q e.next (λ same. absurd (omega arith)))
     ∙ h q (omega arith)
 
 -- raising what is there leaves the rest free
-raised_free : (progress : FinMap nat_cmp Progress) (call count q : ℕ) (o : Option Progress) → get progress call ≡ o → get progress q ≡ None → get (raised progress call o count) q ≡ None
+raised_free : (progress : FinMap nat_cmp Progress) (call count q : ℕ) (o : Option Progress) → get progress call ≡ o → get progress q ≡ None → get (raise_progress progress call o count) q ≡ None
 raised_free progress call count q None is free = free
 raised_free progress call count q (Some p) is free =
     elim (nat_lt p.count count) as (λ b. get (cond b (insert progress call (record { total = p.total; count = count })) progress) q ≡ None) [
@@ -47,8 +47,8 @@ nothing : (o : Option Progress) → is_some o ≡ false → o ≡ None
 nothing None h = refl
 nothing (Some p) h = absurd cc
 
-pub fresh_returned : (e : Exchange) (call : ℕ) (m : List ℕ) → IsFresh e → IsFresh (returned e call m)
-unfolding returned
+pub fresh_returned : (e : Exchange) (call : ℕ) (m : List ℕ) → IsFresh e → IsFresh (send_return e call m)
+unfolding send_return
 fresh_returned e call m h = h
 
 pub fresh_ticked : (e : Exchange) → IsFresh e → IsFresh (ticked e)
@@ -64,23 +64,23 @@ unfolding let_go
 fresh_let_go e h = choice (lets_go e e.in_flight) _ _ h h
 
 fresh_call_reached : (e : Exchange) (call count : ℕ) → IsFresh e → IsFresh (call_reached e call count)
-unfolding call_reached reached emptied
+unfolding call_reached acknowledge_up_to drop_bytes
 fresh_call_reached e call count h q le =
-    let free : get (raised e.calls.progress call (get e.calls.progress call) count) q ≡ None = raised_free e.calls.progress call count q (get e.calls.progress call) refl (h q le) in
-    elim (becomes_whole e.calls call count) as (λ b. get (cond b (emptied (reached e.calls call count) call) (reached e.calls call count)).progress q ≡ None) [ true ↦ free | false ↦ free ]
+    let free : get (raise_progress e.calls.progress call (get e.calls.progress call) count) q ≡ None = raised_free e.calls.progress call count q (get e.calls.progress call) refl (h q le) in
+    elim (becomes_whole e.calls call count) as (λ b. get (cond b (drop_bytes (acknowledge_up_to e.calls call count) call) (acknowledge_up_to e.calls call count)).progress q ≡ None) [ true ↦ free | false ↦ free ]
 
 fresh_return_reached : (e : Exchange) (call count : ℕ) → IsFresh e → IsFresh (return_reached e call count)
 unfolding return_reached
 fresh_return_reached e call count h = h
 
-fresh_ended : (e : Exchange) (call : ℕ) (complete : Bool) → IsFresh e → IsFresh (ended e call complete)
-unfolding ended forgotten
+fresh_ended : (e : Exchange) (call : ℕ) (complete : Bool) → IsFresh e → IsFresh (end_call e call complete)
+unfolding end_call forget_message
 fresh_ended e call true h = h
 fresh_ended e call false h = h
 
 fresh_return_added : (e : Exchange) (s : Piece) → IsFresh e → IsFresh (return_added e s)
 unfolding return_added
-fresh_return_added e s h = fresh_ended _ s.call _ (fresh_call_reached (record e { arriving_returns = added e.arriving_returns s }) s.call (total_of e s.call) h)
+fresh_return_added e s h = fresh_ended _ s.call _ (fresh_call_reached (record e { arriving_returns = add_segment e.arriving_returns s }) s.call (total_of e s.call) h)
 
 fresh_after_taken : (e : Exchange) (s : Piece) → IsFresh e → IsFresh (after_taken e s)
 unfolding after_taken

@@ -9,7 +9,7 @@ use Rattle.circus_exchange.specs.Inbox.{front}
 use Rattle.circus_exchange.specs.Exchange.{takes}
 use Rattle.circus_pair.specs.Taken.{is_of, first_of, total_in, first_part, data_in, is_there, count_in, is_reached, has_arrived}
 use Rattle.circus_pair.specs.Acts.{Act, Call, Return, Came, Acts, more, with_taken}
-use Rattle.circus_pair.specs.Handed.{made, call_at, return_at}
+use Rattle.circus_pair.specs.Handed.{calls_made, call_at, return_at}
 use Rattle.circus_pair.specs.TwoEnds.{handed_over}
 use Rattle.circus_pair.proofs.Handing.{Hands}
 
@@ -112,7 +112,7 @@ pub grows_act : (first : ℕ) (acts : Acts) (ts : List Piece) (e : Exchange) (ac
 unfolding call_at return_at
 grows_act first acts ts e (Call message) hands once = still first acts _ ts (λ kind call m h.
     either_kind (eqb kind 0) _ _ _ _ m
-    (message_stays (eqb call (first + made acts)) message (call_at first acts call) m (λ same. (let at : call ≡ first + made acts = eqb-true call (first + made acts) same in let n : e.next ≡ first + made acts = hands.next in hands.later call (omega arith))))
+    (message_stays (eqb call (first + calls_made acts)) message (call_at first acts call) m (λ same. (let at : call ≡ first + calls_made acts = eqb-true call (first + calls_made acts) same in let n : e.next ≡ first + calls_made acts = hands.next in hands.later call (omega arith))))
     (λ is. is) h)
 grows_act first acts ts e (Return returned message) hands once = still first acts _ ts (λ kind call m h.
     either_kind (eqb kind 0) _ _ _ _ m (λ is. is)

@@ -11,12 +11,12 @@ use Rattle.circus_exchange.specs.Outbox.{HandedOver}
 use Rattle.circus_exchange.specs.declared.exchange.Exchange.{Exchange}
 use Rattle.circus_segment.specs.Segment.{Piece, IsSegment, is_acknowledgement}
 use Rattle.circus_segment.specs.Cut.{segment_count}
-use Rattle.circus_exchange.specs.Inbox.{fits, known, added}
-use Rattle.circus_exchange.specs.Outbox.{has_total, agrees, handed, raised, reached, becomes_whole, emptied, forgotten}
-use Rattle.circus_exchange.specs.Exchange.{start, called, returned, is_whole, awaits_return, takes, was_sent, call_reached, return_reached, total_or_none, total_of, ended, return_added, after_taken, after, ticked}
+use Rattle.circus_exchange.specs.Inbox.{fits, progress_so_far, add_segment}
+use Rattle.circus_exchange.specs.Outbox.{has_total, agrees, hand_over, raise_progress, acknowledge_up_to, becomes_whole, drop_bytes, forget_message}
+use Rattle.circus_exchange.specs.Exchange.{start, send_call, send_return, is_whole, awaits_return, takes, was_sent, call_reached, return_reached, total_or_none, total_of, end_call, return_added, after_taken, after, ticked}
 use Rattle.circus_pair.specs.Taken.{total_in}
 use Rattle.circus_pair.specs.Acts.{Act, Call, Return, Came, Tick, Stop, Acts, none_yet, more, happens, end_after, taken_by, AreActs}
-use Rattle.circus_pair.specs.Handed.{made, call_at, return_at, says, reached_in, agrees_with, fits_with, sent_below, is_taken, ReturnsOnce}
+use Rattle.circus_pair.specs.Handed.{calls_made, call_at, return_at, says, reached_in, agrees_with, fits_with, sent_below, is_taken, ReturnsOnce}
 use Rattle.circus_exchange.specs.Inbox.{Arriving}
 use Rattle.circus_pair.specs.Taken.{count_in, is_reached, has_arrived}
 use Rattle.circus_pair.proofs.Arrivals.{Keeps, told}
@@ -35,21 +35,21 @@ same_progress : (b : Bool) (x y : HandedOver) (p : FinMap nat_cmp Progress) → 
 same_progress true x y p f g = f
 same_progress false x y p f g = g
 
-reached_tables : (e : Exchange) (call count : ℕ) → Tables (call_reached e call count) (raised e.calls.progress call (get e.calls.progress call) count) e.returns.progress
-unfolding call_reached reached emptied
+reached_tables : (e : Exchange) (call count : ℕ) → Tables (call_reached e call count) (raise_progress e.calls.progress call (get e.calls.progress call) count) e.returns.progress
+unfolding call_reached acknowledge_up_to drop_bytes
 reached_tables e call count = record { calls_are = same_progress (becomes_whole e.calls call count) _ _ _ refl refl; returns_are = refl }
 
-return_reached_tables : (e : Exchange) (call count : ℕ) → Tables (return_reached e call count) e.calls.progress (raised e.returns.progress call (get e.returns.progress call) count)
-unfolding return_reached reached forgotten
+return_reached_tables : (e : Exchange) (call count : ℕ) → Tables (return_reached e call count) e.calls.progress (raise_progress e.returns.progress call (get e.returns.progress call) count)
+unfolding return_reached acknowledge_up_to forget_message
 return_reached_tables e call count = record { calls_are = refl; returns_are = same_progress (becomes_whole e.returns call count) _ _ _ refl refl }
 
-ended_tables : (e : Exchange) (call : ℕ) (complete : Bool) (calls returns : FinMap nat_cmp Progress) → Tables e calls returns → Tables (ended e call complete) calls returns
-unfolding ended forgotten
+ended_tables : (e : Exchange) (call : ℕ) (complete : Bool) (calls returns : FinMap nat_cmp Progress) → Tables e calls returns → Tables (end_call e call complete) calls returns
+unfolding end_call forget_message
 ended_tables e call complete calls returns t = record { calls_are = same_progress complete _ _ _ t.calls_are t.calls_are; returns_are = t.returns_are }
 
-return_added_tables : (e : Exchange) (s : Piece) → Tables (return_added e s) (raised e.calls.progress s.call (get e.calls.progress s.call) (total_of e s.call)) e.returns.progress
+return_added_tables : (e : Exchange) (s : Piece) → Tables (return_added e s) (raise_progress e.calls.progress s.call (get e.calls.progress s.call) (total_of e s.call)) e.returns.progress
 unfolding return_added
-return_added_tables e s = ended_tables _ s.call _ _ _ (reached_tables (record e { arriving_returns = added e.arriving_returns s }) s.call (total_of e s.call))
+return_added_tables e s = ended_tables _ s.call _ _ _ (reached_tables (record e { arriving_returns = add_segment e.arriving_returns s }) s.call (total_of e s.call))
 
 tables_same : (e f : Exchange) (calls returns : FinMap nat_cmp Progress) → Same e f → Tables f calls returns → Tables e calls returns
 tables_same e f calls returns same t = record {
@@ -63,7 +63,7 @@ abbrev lift : Option Progress → ℕ → Option Progress
 lift None count = None
 lift (Some p) count = Some (record { total = p.total; count = max count p.count })
 
-raised_here : (progress : FinMap nat_cmp Progress) (call count : ℕ) (o : Option Progress) → get progress call ≡ o → get (raised progress call o count) call ≡ lift o count
+raised_here : (progress : FinMap nat_cmp Progress) (call count : ℕ) (o : Option Progress) → get progress call ≡ o → get (raise_progress progress call o count) call ≡ lift o count
 raised_here progress call count None is = is
 raised_here progress call count (Some p) is =
     elim (ltb p.count count) as (λ b. ltb p.count count ≡ b → get (cond b (insert progress call (record { total = p.total; count = count })) progress) call ≡ Some (record { total = p.total; count = max count p.count })) [
@@ -74,7 +74,7 @@ raised_here progress call count (Some p) is =
       | false ↦ λ more_. (is ∙ (let most : p.count ≡ max count p.count = (let le : count ≤ p.count = ltb-false p.count count more_ in omega arith) in ap (λ (n : ℕ). Some (record { total = p.total; count = n })) most))
     ] refl
 
-raised_elsewhere : (progress : FinMap nat_cmp Progress) (call count : ℕ) (o : Option Progress) (q : ℕ) → eqb q call ≡ false → get (raised progress call o count) q ≡ get progress q
+raised_elsewhere : (progress : FinMap nat_cmp Progress) (call count : ℕ) (o : Option Progress) (q : ℕ) → eqb q call ≡ false → get (raise_progress progress call o count) q ≡ get progress q
 raised_elsewhere progress call count None q other = refl
 raised_elsewhere progress call count (Some p) q other =
     elim (ltb p.count count) as (λ b. get (cond b (insert progress call (record { total = p.total; count = count })) progress) q ≡ get progress q) [
@@ -98,7 +98,7 @@ told_same (Some m) c g h = (let none : g (segment_count m) ≡ 0 = h (segment_co
 
 -- what an end knows of what was handed over
 pub record Hands (first : ℕ) (acts : Acts) (ts : List Piece) (e : Exchange) : Type 0 where
-  pub next : e.next ≡ first + made acts
+  pub next : e.next ≡ first + calls_made acts
   pub calls : (call : ℕ) → get e.calls.progress call ≡ told_out (call_at first acts call) (reached_in ts 0 call)
   pub returns : (call : ℕ) → get e.returns.progress call ≡ told_out (return_at acts call) (reached_in ts 1 call)
   pub no_call : (call total : ℕ) → call_at first acts call ≡ None → reached_in ts 0 call total ≡ 0
@@ -120,9 +120,9 @@ same_number a b = elim (eqb_tells a b) [
 ]
 
 -- a table that is raised at one call for what a segment says of it
-grows : (o : ℕ → Option (List ℕ)) (c g : ℕ → ℕ → ℕ) (progress : FinMap nat_cmp Progress) (call count : ℕ) → ((q : ℕ) → get progress q ≡ told_out (o q) (c q)) → ((message : List ℕ) → o call ≡ Some message → g call (segment_count message) ≡ count) → ((q t : ℕ) → eqb q call ≡ false → g q t ≡ 0) → (q : ℕ) → get (raised progress call (get progress call) count) q ≡ told_out (o q) (λ t. max (g q t) (c q t))
+grows : (o : ℕ → Option (List ℕ)) (c g : ℕ → ℕ → ℕ) (progress : FinMap nat_cmp Progress) (call count : ℕ) → ((q : ℕ) → get progress q ≡ told_out (o q) (c q)) → ((message : List ℕ) → o call ≡ Some message → g call (segment_count message) ≡ count) → ((q t : ℕ) → eqb q call ≡ false → g q t ≡ 0) → (q : ℕ) → get (raise_progress progress call (get progress call) count) q ≡ told_out (o q) (λ t. max (g q t) (c q t))
 grows o c g progress call count knows here elsewhere q = elim (eqb_tells q call) [
-  | inl same ↦ subst (λ x. get (raised progress call (get progress call) count) x ≡ told_out (o x) (λ t. max (g x t) (c x t))) (sym same.1)
+  | inl same ↦ subst (λ x. get (raise_progress progress call (get progress call) count) x ≡ told_out (o x) (λ t. max (g x t) (c x t))) (sym same.1)
       (raised_here progress call count (get progress call) refl ∙ ap (λ (x : Option Progress). lift x count) (knows call) ∙ told_raised (o call) (c call) (g call) count here)
   | inr differ ↦ raised_elsewhere progress call count (get progress call) q differ.0 ∙ knows q ∙ told_same (o q) (c q) (g q) (λ t. elsewhere q t differ.0)
 ]
@@ -213,7 +213,7 @@ later_taken : (first : ℕ) (acts : Acts) (ts : List Piece) (e : Exchange) (s : 
 later_taken first acts ts e s hands call le = hands.later call (subst (λ n. n ≤ call) (taken_lasts e s).1 le)
 
 hands_taken : (first : ℕ) (acts : Acts) (ts : List Piece) (e : Exchange) (s : Piece) → Hands first acts ts e → IsSegment s → takes e s ≡ true → Hands first (more acts (Came s)) (s ∷ ts) (after_taken e s)
-unfolding made call_at return_at reached_in
+unfolding calls_made call_at return_at reached_in
 hands_taken first acts ts e s hands segment h =
     let next = (taken_lasts e s).1 ∙ hands.next in
     by_segment s _
@@ -263,7 +263,7 @@ hands_taken first acts ts e s hands segment h =
     }))
 
 hands_came : (first : ℕ) (acts : Acts) (ts : List Piece) (e : Exchange) (s : Piece) → Hands first acts ts e → IsSegment s → Hands first (more acts (Came s)) (cond (takes e s) (s ∷ ts) ts) (after e s)
-unfolding made call_at return_at
+unfolding calls_made call_at return_at
 hands_came first acts ts e s hands segment =
     by_taken ts e s (Hands first (more acts (Came s))) (λ h. hands_taken first acts ts e s hands segment h)
     (record { next = hands.next; calls = hands.calls; returns = hands.returns; no_call = hands.no_call; no_return = hands.no_return; later = hands.later })
@@ -276,26 +276,26 @@ pub not_some : (b : Bool) (message : List ℕ) (o : Option (List ℕ)) → cond 
 not_some true message o h = absurd cc
 not_some false message o h = h
 
-hands_called : (first : ℕ) (acts : Acts) (ts : List Piece) (e : Exchange) (message : List ℕ) → Hands first acts ts e → Hands first (more acts (Call message)) ts (called e message)
-unfolding made call_at return_at called handed
+hands_called : (first : ℕ) (acts : Acts) (ts : List Piece) (e : Exchange) (message : List ℕ) → Hands first acts ts e → Hands first (more acts (Call message)) ts (send_call e message)
+unfolding calls_made call_at return_at send_call hand_over
 hands_called first acts ts e message hands =
     record {
-      next = (let n : e.next ≡ first + made acts = hands.next in omega arith);
+      next = (let n : e.next ≡ first + calls_made acts = hands.next in omega arith);
       calls = λ q.
           get-insert nat_cmp_total e.calls.progress e.next (record { total = segment_count message; count = 0 }) q
           ∙ ap (λ b. cond b (Some (record { total = segment_count message; count = 0 })) (get e.calls.progress q)) (nat_ties q e.next ∙ ap (λ n. eqb q n) hands.next)
-          ∙ ap (λ (o : Option Progress). cond (eqb q (first + made acts)) (Some (record { total = segment_count message; count = 0 })) o) (hands.calls q)
-          ∙ call_told (eqb q (first + made acts)) (call_at first acts q) (reached_in ts 0 q) message (λ same t. (let at : q ≡ first + made acts = eqb-true q (first + made acts) same in let n : e.next ≡ first + made acts = hands.next in hands.no_call q t (hands.later q (omega arith))));
+          ∙ ap (λ (o : Option Progress). cond (eqb q (first + calls_made acts)) (Some (record { total = segment_count message; count = 0 })) o) (hands.calls q)
+          ∙ call_told (eqb q (first + calls_made acts)) (call_at first acts q) (reached_in ts 0 q) message (λ same t. (let at : q ≡ first + calls_made acts = eqb-true q (first + calls_made acts) same in let n : e.next ≡ first + calls_made acts = hands.next in hands.no_call q t (hands.later q (omega arith))));
       returns = hands.returns;
-      no_call = λ q t none. hands.no_call q t (not_some (eqb q (first + made acts)) message (call_at first acts q) none);
+      no_call = λ q t none. hands.no_call q t (not_some (eqb q (first + calls_made acts)) message (call_at first acts q) none);
       no_return = hands.no_return;
-      later = λ q le. (let n : e.next ≡ first + made acts = hands.next in
-          ap (λ b. cond b (Some message) (call_at first acts q)) (ne_eqb q (first + made acts) (λ same. absurd (omega arith)))
+      later = λ q le. (let n : e.next ≡ first + calls_made acts = hands.next in
+          ap (λ b. cond b (Some message) (call_at first acts q)) (ne_eqb q (first + calls_made acts) (λ same. absurd (omega arith)))
           ∙ hands.later q (omega arith));
     }
 
-hands_returned : (first : ℕ) (acts : Acts) (ts : List Piece) (e : Exchange) (call : ℕ) (message : List ℕ) → Hands first acts ts e → return_at acts call ≡ None → Hands first (more acts (Return call message)) ts (returned e call message)
-unfolding made call_at return_at returned handed
+hands_returned : (first : ℕ) (acts : Acts) (ts : List Piece) (e : Exchange) (call : ℕ) (message : List ℕ) → Hands first acts ts e → return_at acts call ≡ None → Hands first (more acts (Return call message)) ts (send_return e call message)
+unfolding calls_made call_at return_at send_return hand_over
 hands_returned first acts ts e call message hands once =
     record {
       next = hands.next;
@@ -311,15 +311,15 @@ hands_returned first acts ts e call message hands once =
     }
 
 hands_ticked : (first : ℕ) (acts : Acts) (ts : List Piece) (e : Exchange) → Hands first acts ts e → Hands first (more acts Tick) ts (ticked e)
-unfolding made call_at return_at ticked
+unfolding calls_made call_at return_at ticked
 hands_ticked first acts ts e hands = record { next = hands.next; calls = hands.calls; returns = hands.returns; no_call = hands.no_call; no_return = hands.no_return; later = hands.later }
 
 hands_stopped : (first : ℕ) (acts : Acts) (ts : List Piece) (e : Exchange) → Hands first acts ts e → Hands first (more acts Stop) ts (happens e Stop)
-unfolding made call_at return_at
+unfolding calls_made call_at return_at
 hands_stopped first acts ts e hands = record { next = hands.next; calls = hands.calls; returns = hands.returns; no_call = hands.no_call; no_return = hands.no_return; later = hands.later }
 
 hands_start : (first format : ℕ) → Hands first none_yet [] (start first format)
-unfolding made call_at return_at reached_in
+unfolding calls_made call_at return_at reached_in
 hands_start first format = record {
   next = omega arith;
   calls = λ q. get-empty nat_cmp q;
@@ -364,7 +364,7 @@ told_fits None c t = equal t
 told_fits (Some x) c t = refl
 
 box_fits : (kind : ℕ) (ts : List Piece) (s : Piece) (box : Arriving) → Keeps kind ts box → fits box s ≡ fits_with (total_in ts kind s.call) s.total
-unfolding fits known
+unfolding fits progress_so_far
 box_fits kind ts s box keeps =
     ap (λ (o : Option Progress). eqb (unwrap_or {T = Progress} o (record { total = s.total; count = 0 })).total s.total) (keeps.progress s.call)
     ∙ told_fits (total_in ts kind s.call) (count_in ts kind s.call) s.total

@@ -4,7 +4,7 @@ use Rattle.std.specs.Prelude.{unwrap_or, is_some}
 use Rattle.std.proofs.lemmas.Bool.{eqb-true}
 use Rattle.circus_segment.specs.Segment.{Piece, has_data}
 use Rattle.circus_segment.specs.Cut.{segment_count, part_at}
-use Rattle.circus_exchange.specs.Inbox.{front, joined}
+use Rattle.circus_exchange.specs.Inbox.{front, data_up_to}
 use Rattle.circus_pair.specs.Taken.{is_of, first_of, total_in, first_part, data_in, is_there, count_in, is_reached, has_arrived, message_in, AreTaken, AreOf}
 use Rattle.circus_pair.proofs.Arrivals.{front_passes}
 
@@ -18,7 +18,7 @@ take_more zero k xs = (let e : 0 + k ≡ k = omega arith in ap (λ m. take m xs)
 take_more (suc n) k [] = take_none k ∙ sym (take_none (suc n + k))
 take_more (suc n) k (x ∷ xs) = (let e : suc n + k ≡ suc (n + k) = omega arith in ap (λ r. x ∷ r) (take_more n k xs) ∙ ap (λ m. take m (x ∷ xs)) (sym e))
 
-joined_front : (message : List ℕ) (n : ℕ) → joined (part_at message) n ≡ take (1024 * n) message
+joined_front : (message : List ℕ) (n : ℕ) → data_up_to (part_at message) n ≡ take (1024 * n) message
 unfolding part_at
 joined_front message zero = refl
 joined_front message (suc n) =
@@ -36,7 +36,7 @@ take_all zero (x ∷ xs) h = absurd (omega arith)
 take_all (suc n) (x ∷ xs) h = ap (λ r. x ∷ r) (take_all n xs (omega arith))
 
 -- the segments of a message join to it
-pub parts_join : (message : List ℕ) → joined (part_at message) (segment_count message) ≡ message
+pub parts_join : (message : List ℕ) → data_up_to (part_at message) (segment_count message) ≡ message
 parts_join message = joined_front message (segment_count message) ∙ take_all (1024 * segment_count message) message (omega arith)
 
 -- ---- where all segments are those of one message
@@ -76,11 +76,11 @@ present : (o : Option (List ℕ)) (want : List ℕ) → ((part : List ℕ) → o
 present None want h e = absurd cc
 present (Some p) want h e = h p refl
 
-joined_alike : (f g : ℕ → List ℕ) (m : ℕ) → ((k : ℕ) → 1 ≤ k → k ≤ m → f k ≡ g k) → joined f m ≡ joined g m
+joined_alike : (f g : ℕ → List ℕ) (m : ℕ) → ((k : ℕ) → 1 ≤ k → k ≤ m → f k ≡ g k) → data_up_to f m ≡ data_up_to g m
 joined_alike f g zero h = refl
 joined_alike f g (suc m) h =
     let here : f (suc m) ≡ g (suc m) = h (suc m) (omega arith) (omega arith) in
-    ap (λ d. d ++ f (suc m)) (joined_alike f g m (λ k one le. h k one (omega arith))) ∙ ap (λ d. joined g m ++ d) here
+    ap (λ d. d ++ f (suc m)) (joined_alike f g m (λ k one le. h k one (omega arith))) ∙ ap (λ d. data_up_to g m ++ d) here
 
 reached_total : (o : Option ℕ) (c : ℕ → ℕ) (n : ℕ) → ((t : ℕ) → o ≡ Some t → t ≡ n) → is_reached o c ≡ true → (o ≡ Some n) × (c n ≡ n)
 reached_total None c n h e = absurd cc

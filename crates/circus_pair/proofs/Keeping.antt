@@ -12,12 +12,12 @@ use Rattle.circus_exchange.specs.Outbox.{HandedOver}
 use Rattle.circus_exchange.specs.declared.exchange.Exchange.{Exchange}
 use Rattle.circus_segment.specs.Segment.{Piece, IsSegment, is_acknowledgement}
 use Rattle.circus_segment.specs.Cut.{segment_count}
-use Rattle.circus_exchange.specs.Inbox.{completes, added}
-use Rattle.circus_exchange.specs.Outbox.{has_total, agrees, handed, whole_by, becomes_whole, reached, emptied, forgotten}
-use Rattle.circus_exchange.specs.Exchange.{start, called, returned, takes, call_reached, return_reached, total_of, ended, return_added, after_taken, after, ticked}
+use Rattle.circus_exchange.specs.Inbox.{completes, add_segment}
+use Rattle.circus_exchange.specs.Outbox.{has_total, agrees, hand_over, whole_by, becomes_whole, acknowledge_up_to, drop_bytes, forget_message}
+use Rattle.circus_exchange.specs.Exchange.{start, send_call, send_return, takes, call_reached, return_reached, total_of, end_call, return_added, after_taken, after, ticked}
 use Rattle.circus_pair.specs.Taken.{is_of, total_in, has_arrived, is_reached, count_in}
 use Rattle.circus_pair.specs.Acts.{Call, Return, Came, Tick, Stop, Acts, none_yet, more, happens, end_after, taken_by, AreActs}
-use Rattle.circus_pair.specs.Handed.{made, call_at, return_at, says, reached_in, agrees_with, ReturnsOnce}
+use Rattle.circus_pair.specs.Handed.{calls_made, call_at, return_at, says, reached_in, agrees_with, ReturnsOnce}
 use Rattle.circus_pair.specs.Lawful.{AreLawful}
 use Rattle.circus_pair.proofs.Arrivals.{Keeps, completes_is, arrived_stays, arrived_other, total_other}
 use Rattle.circus_pair.proofs.Handing.{Hands, hands_after, told_out, not_some, says_elsewhere, says_other_kind, says_no_return, says_no_call, says_here, says_whole, call_kind, return_kind, total_told, total_agrees, taken_return}
@@ -188,20 +188,20 @@ abbrev raised_calls : Exchange → ℕ → ℕ → FinMap nat_cmp (List ℕ)
 raised_calls e call count = cond (whole_by (get e.calls.progress call) count) (cond (is_some (get e.calls.messages call)) (insert e.calls.messages call []) e.calls.messages) e.calls.messages
 
 reached_letters : (e : Exchange) (call count : ℕ) → Letters (call_reached e call count) (raised_calls e call count) e.returns.messages
-unfolding call_reached reached emptied becomes_whole
+unfolding call_reached acknowledge_up_to drop_bytes becomes_whole
 reached_letters e call count = record { calls_are = messages_cond (whole_by (get e.calls.progress call) count) _ _; returns_are = refl }
 
 return_reached_letters : (e : Exchange) (call count : ℕ) → Letters (return_reached e call count) e.calls.messages (cond (whole_by (get e.returns.progress call) count) (remove e.returns.messages call) e.returns.messages)
-unfolding return_reached reached forgotten becomes_whole
+unfolding return_reached acknowledge_up_to forget_message becomes_whole
 return_reached_letters e call count = record { calls_are = refl; returns_are = messages_cond (whole_by (get e.returns.progress call) count) _ _ }
 
-ended_letters : (e : Exchange) (call : ℕ) (complete : Bool) (calls returns : FinMap nat_cmp (List ℕ)) → Letters e calls returns → Letters (ended e call complete) (cond complete (remove calls call) calls) returns
-unfolding ended forgotten
+ended_letters : (e : Exchange) (call : ℕ) (complete : Bool) (calls returns : FinMap nat_cmp (List ℕ)) → Letters e calls returns → Letters (end_call e call complete) (cond complete (remove calls call) calls) returns
+unfolding end_call forget_message
 ended_letters e call complete calls returns t = record { calls_are = messages_cond complete _ _ ∙ ap (λ (m : FinMap nat_cmp (List ℕ)). cond complete (remove m call) m) t.calls_are; returns_are = t.returns_are }
 
 return_added_letters : (e : Exchange) (s : Piece) → Letters (return_added e s) (cond (completes e.arriving_returns s) (remove (raised_calls e s.call (total_of e s.call)) s.call) (raised_calls e s.call (total_of e s.call))) e.returns.messages
 unfolding return_added
-return_added_letters e s = ended_letters _ s.call _ _ _ (reached_letters (record e { arriving_returns = added e.arriving_returns s }) s.call (total_of e s.call))
+return_added_letters e s = ended_letters _ s.call _ _ _ (reached_letters (record e { arriving_returns = add_segment e.arriving_returns s }) s.call (total_of e s.call))
 
 letters_same : (e f : Exchange) (calls returns : FinMap nat_cmp (List ℕ)) → Same e f → Letters f calls returns → Letters e calls returns
 letters_same e f calls returns same t = record {
@@ -424,25 +424,25 @@ within_put : (b : Bool) (o : Option (List ℕ)) (c : ℕ → ℕ) (message : Lis
 within_put false o c message some new within = within
 within_put true o c message some new within = (let z : c (segment_count message) ≡ 0 = new refl in (some, omega arith))
 
-kept_called : (first : ℕ) (acts : Acts) (ts : List Piece) (e : Exchange) (message : List ℕ) → Hands first acts ts e → Kept first acts ts e → 0 < length message → Kept first (more acts (Call message)) ts (called e message)
-unfolding call_at return_at called handed
+kept_called : (first : ℕ) (acts : Acts) (ts : List Piece) (e : Exchange) (message : List ℕ) → Hands first acts ts e → Kept first acts ts e → 0 < length message → Kept first (more acts (Call message)) ts (send_call e message)
+unfolding call_at return_at send_call hand_over
 kept_called first acts ts e message hands kept full =
     let some : 0 < segment_count message = segments_some message full in
-    let free : (q : ℕ) → eqb q (first + made acts) ≡ true → call_at first acts q ≡ None = λ q same. hands.later q (let at : q ≡ first + made acts = eqb-true q (first + made acts) same in let n : e.next ≡ first + made acts = hands.next in omega arith) in
+    let free : (q : ℕ) → eqb q (first + calls_made acts) ≡ true → call_at first acts q ≡ None = λ q same. hands.later q (let at : q ≡ first + calls_made acts = eqb-true q (first + calls_made acts) same in let n : e.next ≡ first + calls_made acts = hands.next in omega arith) in
     record {
       calls = λ q.
           get-insert nat_cmp_total e.calls.messages e.next message q
           ∙ ap (λ b. cond b (Some message) (get e.calls.messages q)) (nat_ties q e.next ∙ ap (λ n. eqb q n) hands.next)
-          ∙ ap (λ x. cond (eqb q (first + made acts)) (Some message) x) (kept.calls q)
-          ∙ call_put (eqb q (first + made acts)) (call_at first acts q) (reached_in ts 0 q) (has_arrived ts 1 q) message some (λ same. (hands.no_call q (segment_count message) (free q same), none_arrived ts q (kept.no_call q (free q same))));
+          ∙ ap (λ x. cond (eqb q (first + calls_made acts)) (Some message) x) (kept.calls q)
+          ∙ call_put (eqb q (first + calls_made acts)) (call_at first acts q) (reached_in ts 0 q) (has_arrived ts 1 q) message some (λ same. (hands.no_call q (segment_count message) (free q same), none_arrived ts q (kept.no_call q (free q same))));
       returns = kept.returns;
-      calls_within = λ q. within_put (eqb q (first + made acts)) (call_at first acts q) (reached_in ts 0 q) message some (λ same. hands.no_call q (segment_count message) (free q same)) (kept.calls_within q);
+      calls_within = λ q. within_put (eqb q (first + calls_made acts)) (call_at first acts q) (reached_in ts 0 q) message some (λ same. hands.no_call q (segment_count message) (free q same)) (kept.calls_within q);
       returns_within = kept.returns_within;
-      no_call = λ q none. kept.no_call q (not_some (eqb q (first + made acts)) message (call_at first acts q) none);
+      no_call = λ q none. kept.no_call q (not_some (eqb q (first + calls_made acts)) message (call_at first acts q) none);
     }
 
-kept_returned : (first : ℕ) (acts : Acts) (ts : List Piece) (e : Exchange) (call : ℕ) (message : List ℕ) → Hands first acts ts e → Kept first acts ts e → 0 < length message → return_at acts call ≡ None → Kept first (more acts (Return call message)) ts (returned e call message)
-unfolding call_at return_at returned handed
+kept_returned : (first : ℕ) (acts : Acts) (ts : List Piece) (e : Exchange) (call : ℕ) (message : List ℕ) → Hands first acts ts e → Kept first acts ts e → 0 < length message → return_at acts call ≡ None → Kept first (more acts (Return call message)) ts (send_return e call message)
+unfolding call_at return_at send_return hand_over
 kept_returned first acts ts e call message hands kept full once =
     let some : 0 < segment_count message = segments_some message full in
     let free : (q : ℕ) → eqb q call ≡ true → reached_in ts 1 q (segment_count message) ≡ 0 = λ q same. hands.no_return q (segment_count message) (subst (λ n. return_at acts n ≡ None) (sym (eqb-true q call same)) once) in

@@ -3,7 +3,7 @@ use Rattle.std.proofs.Common.{◌≡◌, ℕ, List, [], Result, Ok, Err, refl, a
 use Rattle.std.specs.Prelude.{OnOk, OnErr}
 use Rattle.circus_exchange.specs.declared.exchange.Exchange.{Exchange}
 use Rattle.circus_segment.specs.Segment.{Piece}
-use Rattle.circus_exchange.specs.Exchange.{called, returned, after, ticked}
+use Rattle.circus_exchange.specs.Exchange.{send_call, send_return, after, ticked}
 use Rattle.circus_pair.proofs.Taking.{by_taken, taken_lasts}
 
 pub record Lasts (old new : Exchange) : Type 0 where
@@ -13,12 +13,12 @@ pub record Lasts (old new : Exchange) : Type 0 where
 pub lasts_after : (e : Exchange) (s : Piece) → Lasts e (after e s)
 lasts_after e s = by_taken [] e s (λ _ f. Lasts e f) (λ _. let same = taken_lasts e s in record { format = same.0; stopped = same.2 }) (record { format = refl; stopped = refl })
 
-pub lasts_called : (e : Exchange) (m : List ℕ) → Lasts e (called e m)
-unfolding called
+pub lasts_called : (e : Exchange) (m : List ℕ) → Lasts e (send_call e m)
+unfolding send_call
 lasts_called e m = record { format = refl; stopped = refl }
 
-pub lasts_returned : (e : Exchange) (call : ℕ) (m : List ℕ) → Lasts e (returned e call m)
-unfolding returned
+pub lasts_returned : (e : Exchange) (call : ℕ) (m : List ℕ) → Lasts e (send_return e call m)
+unfolding send_return
 lasts_returned e call m = record { format = refl; stopped = refl }
 
 pub lasts_ticked : (e : Exchange) → Lasts e (ticked e)

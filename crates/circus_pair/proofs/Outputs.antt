@@ -12,10 +12,10 @@ use Rattle.circus_segment.specs.Segment.{Piece, IsSegment, is_acknowledgement, s
 use Rattle.circus_segment.specs.Cut.{segment_count, segment_of, whole}
 use Rattle.circus_exchange.specs.Inbox.{acknowledgement}
 use Rattle.circus_exchange.specs.Outbox.{on_its_way, outgoing_at, whole_of, probe, reminder_of, reminder, reminders}
-use Rattle.circus_exchange.specs.Exchange.{start, called, message_out, datagrams_of_call, datagrams_of_return, takes, sends_at_once, let_go, lets_go, datagrams_let_go, in_flight_after, call_reached, return_reached, total_of, ended, return_added, after_taken, datagrams_of_taken, datagrams_after, datagrams_of_tick}
+use Rattle.circus_exchange.specs.Exchange.{start, send_call, message_out, datagrams_of_call, datagrams_of_return, takes, sends_at_once, let_go, lets_go, datagrams_let_go, in_flight_after, call_reached, return_reached, total_of, end_call, return_added, after_taken, datagrams_of_taken, datagrams_after, datagrams_of_tick}
 use Rattle.circus_pair.specs.Taken.{total_in, has_arrived}
 use Rattle.circus_pair.specs.Acts.{Act, Call, Return, Came, Tick, Acts, more, end_after, taken_by, acknowledged_by}
-use Rattle.circus_pair.specs.Handed.{made, call_at, return_at, reached_in, sent_below, agrees_with, fits_with}
+use Rattle.circus_pair.specs.Handed.{calls_made, call_at, return_at, reached_in, sent_below, agrees_with, fits_with}
 use Rattle.circus_pair.specs.Lawful.{AreLawful, is_stopped_after}
 use Rattle.circus_pair.specs.Window.{is_all, call_is_whole, return_is_whole}
 use Rattle.circus_pair.specs.Sending.{is_sent, takes_after, in_order, whole_call, let_go_by, first_open, call_again, return_again, again_after, outputs}
@@ -29,7 +29,7 @@ use Rattle.circus_pair.proofs.Taking.{return_is, after_call_acknowledged, after_
 -- ---- which calls an act sends
 
 -- a call that was sent before is not sent now
-sent_before : (first : ℕ) (acts next : Acts) (sent limit call : ℕ) → sent ≤ first + made acts → call < sent → (sent_below limit first next call && not (sent_below sent first acts call)) ≡ false
+sent_before : (first : ℕ) (acts next : Acts) (sent limit call : ℕ) → sent ≤ first + calls_made acts → call < sent → (sent_below limit first next call && not (sent_below sent first acts call)) ≡ false
 sent_before first acts next sent limit call high less =
     elim (is_some (call_at first next call)) as (λ b. is_some (call_at first next call) ≡ b → ((ltb call limit && b) && not (sent_below sent first acts call)) ≡ false) [
       | true ↦ λ some. (let here = made_call first next call some in
@@ -51,14 +51,14 @@ sent_later : (first : ℕ) (acts next : Acts) (sent limit call : ℕ) → limit 
 sent_later first acts next sent limit call le = ap (λ b. (b && is_some (call_at first next call)) && not (sent_below sent first acts call)) (le-ltb call limit le)
 
 -- the first call that waited is sent now where it waits no more
-sent_now : (first : ℕ) (acts next : Acts) (sent : ℕ) → first ≤ sent → sent < first + made next → (sent_below (sent + 1) first next sent && not (sent_below sent first acts sent)) ≡ true
+sent_now : (first : ℕ) (acts next : Acts) (sent : ℕ) → first ≤ sent → sent < first + calls_made next → (sent_below (sent + 1) first next sent && not (sent_below sent first acts sent)) ≡ true
 sent_now first acts next sent low high =
     ap (λ b. (b && is_some (call_at first next sent)) && not (sent_below sent first acts sent)) (lt-ltb sent (sent + 1) (omega arith))
     ∙ ap (λ b. b && not (sent_below sent first acts sent)) (call_made first next sent low high)
     ∙ ap (λ b. not (b && is_some (call_at first acts sent))) (le-ltb sent sent (omega arith))
 
 -- what an act lets go: the first call that waited, or none
-gone : (first format : ℕ) (acts : Acts) (act : Act) (went : Bool) → AreLawful first format (more acts act) → (end_after (start first format) (more acts act)).sent ≡ cond went ((end_after (start first format) acts).sent + 1) (end_after (start first format) acts).sent → in_order (let_go_by (start first format) acts act) (first + made (more acts act)) ≡ cond went (whole_call (start first format) (end_after (start first format) acts).sent (call_at first (more acts act) (end_after (start first format) acts).sent)) []
+gone : (first format : ℕ) (acts : Acts) (act : Act) (went : Bool) → AreLawful first format (more acts act) → (end_after (start first format) (more acts act)).sent ≡ cond went ((end_after (start first format) acts).sent + 1) (end_after (start first format) acts).sent → in_order (let_go_by (start first format) acts act) (first + calls_made (more acts act)) ≡ cond went (whole_call (start first format) (end_after (start first format) acts).sent (call_at first (more acts act) (end_after (start first format) acts).sent)) []
 unfolding let_go_by
 gone first format acts act went lawful is =
     let b = start first format in
@@ -68,19 +68,19 @@ gone first format acts act went lawful is =
     let flows_next = flows_after first format (more acts act) lawful in
     let low : first ≤ e.sent = flows.low in
     let high : e.sent ≤ e.next = flows.high in
-    let next : e.next ≡ first + made acts = flows.next in
+    let next : e.next ≡ first + calls_made acts = flows.next in
     let high_next : f.sent ≤ f.next = flows_next.high in
-    let next_next : f.next ≡ first + made (more acts act) = flows_next.next in
+    let next_next : f.next ≡ first + calls_made (more acts act) = flows_next.next in
     let test : (k : ℕ) → (is_sent b (more acts act) k && not (is_sent b acts k)) ≡ (sent_below f.sent first (more acts act) k && not (sent_below e.sent first acts k)) = λ k. ap (λ x. x && not (is_sent b acts k)) (sym (sent_after first format (more acts act) k lawful)) ∙ ap (λ x. sent_below f.sent first (more acts act) k && not x) (sym (sent_after first format acts k lawful.0)) in
     let off : (k : ℕ) → (sent_below f.sent first (more acts act) k && not (sent_below e.sent first acts k)) ≡ false → let_go_by b acts act k ≡ [] = λ k no_. ap (λ x. cond x (whole_call b k (call_at first (more acts act) k)) []) (test k ∙ no_) in
-    elim went as (λ w. f.sent ≡ cond w (e.sent + 1) e.sent → in_order (let_go_by b acts act) (first + made (more acts act)) ≡ cond w (whole_call b e.sent (call_at first (more acts act) e.sent)) []) [
+    elim went as (λ w. f.sent ≡ cond w (e.sent + 1) e.sent → in_order (let_go_by b acts act) (first + calls_made (more acts act)) ≡ cond w (whole_call b e.sent (call_at first (more acts act) e.sent)) []) [
       | true ↦ λ one.
-          order_one (let_go_by b acts act) (first + made (more acts act)) e.sent (omega arith) (λ j le other. elim (cases_lt j e.sent) [
+          order_one (let_go_by b acts act) (first + calls_made (more acts act)) e.sent (omega arith) (λ j le other. elim (cases_lt j e.sent) [
             | inl before ↦ off j (sent_before first acts (more acts act) e.sent f.sent j (omega arith) before)
             | inr from ↦ off j (sent_later first acts (more acts act) e.sent f.sent j (omega arith))
           ])
           ∙ ap (λ x. cond x (whole_call b e.sent (call_at first (more acts act) e.sent)) []) (test e.sent ∙ ap (λ n. sent_below n first (more acts act) e.sent && not (sent_below e.sent first acts e.sent)) one ∙ sent_now first acts (more acts act) e.sent low (omega arith))
-      | false ↦ λ same. order_none (let_go_by b acts act) (first + made (more acts act)) (λ j le. elim (cases_lt j e.sent) [
+      | false ↦ λ same. order_none (let_go_by b acts act) (first + calls_made (more acts act)) (λ j le. elim (cases_lt j e.sent) [
         | inl before ↦ off j (sent_before first acts (more acts act) e.sent f.sent j (omega arith) before)
         | inr from ↦ off j (sent_later first acts (more acts act) e.sent f.sent j (omega arith))
       ])
@@ -96,8 +96,8 @@ at_once : (first : ℕ) (acts : Acts) (ts : List Piece) (e : Exchange) (message 
 unfolding call_at sends_at_once
 at_once first acts ts e message flows once =
     let same : e.sent ≡ e.next = eqb-true e.sent e.next (and_parts (ltb e.in_flight 64) (eqb e.sent e.next) once).1 in
-    let next : e.next ≡ first + made acts = flows.next in
-    (same, ap (λ b. cond b (Some message) (call_at first acts e.sent)) (eq-eqb e.sent (first + made acts) (omega arith)))
+    let next : e.next ≡ first + calls_made acts = flows.next in
+    (same, ap (λ b. cond b (Some message) (call_at first acts e.sent)) (eq-eqb e.sent (first + calls_made acts) (omega arith)))
 
 call_whole : (e b : Exchange) (o : ℕ → Option (List ℕ)) (message : List ℕ) → e.format ≡ b.format → (sends_at_once e ≡ true → (e.sent ≡ e.next) × (o e.sent ≡ Some message)) → cond (sends_at_once e) (whole (message_out e 0 e.next message)) [] ≡ cond (sends_at_once e) (whole_call b e.sent (o e.sent)) []
 call_whole e b o message same at =
@@ -110,7 +110,7 @@ call_whole e b o message same at =
     ] refl
 
 pub call_sends : (first format : ℕ) (acts : Acts) (message : List ℕ) → AreLawful first format (more acts (Call message)) → datagrams_of_call (end_after (start first format) acts) message ≡ outputs (start first format) acts (Call message)
-unfolding datagrams_of_call outputs called
+unfolding datagrams_of_call outputs send_call
 call_sends first format acts message lawful =
     let b = start first format in
     let e = end_after b acts in
@@ -171,12 +171,12 @@ sent_call_segment : (e : Exchange) (s : Piece) → is_acknowledgement s ≡ fals
 sent_call_segment e s plain call = ap (λ (f : Exchange). f.sent) (after_call_segment e s plain call)
 
 sent_return_segment : (e : Exchange) (s : Piece) → is_acknowledgement s ≡ false → eqb s.kind 0 ≡ false → (after_taken e s).sent ≡ cond (lets_go e (in_flight_after e s.call (total_of e s.call))) (e.sent + 1) e.sent
-unfolding return_added ended call_reached lets_go in_flight_after total_of
+unfolding return_added end_call call_reached lets_go in_flight_after total_of
 sent_return_segment e s plain return_ = ap (λ (f : Exchange). f.sent) (after_return_segment e s plain return_) ∙ sent_let_go (return_added e s)
 
 -- what a segment sends that is taken
-taken_sends : (first format : ℕ) (acts : Acts) (s : Piece) → AreLawful first format (more acts (Came s)) → takes (end_after (start first format) acts) s ≡ true → datagrams_of_taken (end_after (start first format) acts) s ≡ cond (not (is_acknowledgement s)) (acknowledged_by (is_stopped_after acts) (taken_by (start first format) acts) s) [] ++ in_order (let_go_by (start first format) acts (Came s)) (first + made acts)
-unfolding datagrams_of_taken made call_at
+taken_sends : (first format : ℕ) (acts : Acts) (s : Piece) → AreLawful first format (more acts (Came s)) → takes (end_after (start first format) acts) s ≡ true → datagrams_of_taken (end_after (start first format) acts) s ≡ cond (not (is_acknowledgement s)) (acknowledged_by (is_stopped_after acts) (taken_by (start first format) acts) s) [] ++ in_order (let_go_by (start first format) acts (Came s)) (first + calls_made acts)
+unfolding datagrams_of_taken calls_made call_at
 taken_sends first format acts s lawful h =
     let b = start first format in
     let e = end_after b acts in
@@ -184,14 +184,14 @@ taken_sends first format acts s lawful h =
     let stands = stands_lawful first format acts lawful.0 in
     let up : e.stopped ≡ is_stopped_after acts = (flows_after first format acts lawful.0).stopped in
     let after_is : (end_after b (more acts (Came s))).sent ≡ (after_taken e s).sent = ap (λ x. (cond x (after_taken e s) e).sent) h in
-    let out : (went : Bool) → (after_taken e s).sent ≡ cond went (e.sent + 1) e.sent → in_order (let_go_by b acts (Came s)) (first + made acts) ≡ cond went (whole_call b e.sent (call_at first acts e.sent)) [] = λ went is. gone first format acts (Came s) went lawful (after_is ∙ is) in
+    let out : (went : Bool) → (after_taken e s).sent ≡ cond went (e.sent + 1) e.sent → in_order (let_go_by b acts (Came s)) (first + calls_made acts) ≡ cond went (whole_call b e.sent (call_at first acts e.sent)) [] = λ went is. gone first format acts (Came s) went lawful (after_is ∙ is) in
     let answered : (kind : List (List ℕ)) → kind ≡ acknowledged_by e.stopped ts s → kind ≡ acknowledged_by (is_stopped_after acts) ts s = λ kind is. is ∙ ap (λ x. acknowledged_by x ts s) up in
-    elim (is_acknowledgement s) as (λ x. is_acknowledgement s ≡ x → cond x (cond (eqb s.kind 0) (datagrams_let_go e (in_flight_after e s.call s.number)) []) (cond (eqb s.kind 0) (acknowledgement e.stopped e.arriving_calls s) (acknowledgement e.stopped e.arriving_returns s ++ datagrams_let_go e (in_flight_after e s.call (total_of e s.call)))) ≡ cond (not x) (acknowledged_by (is_stopped_after acts) ts s) [] ++ in_order (let_go_by b acts (Came s)) (first + made acts)) [
-      | true ↦ λ ack. elim (eqb s.kind 0) as (λ x. eqb s.kind 0 ≡ x → cond x (datagrams_let_go e (in_flight_after e s.call s.number)) [] ≡ in_order (let_go_by b acts (Came s)) (first + made acts)) [
+    elim (is_acknowledgement s) as (λ x. is_acknowledgement s ≡ x → cond x (cond (eqb s.kind 0) (datagrams_let_go e (in_flight_after e s.call s.number)) []) (cond (eqb s.kind 0) (acknowledgement e.stopped e.arriving_calls s) (acknowledgement e.stopped e.arriving_returns s ++ datagrams_let_go e (in_flight_after e s.call (total_of e s.call)))) ≡ cond (not x) (acknowledged_by (is_stopped_after acts) ts s) [] ++ in_order (let_go_by b acts (Came s)) (first + calls_made acts)) [
+      | true ↦ λ ack. elim (eqb s.kind 0) as (λ x. eqb s.kind 0 ≡ x → cond x (datagrams_let_go e (in_flight_after e s.call s.number)) [] ≡ in_order (let_go_by b acts (Came s)) (first + calls_made acts)) [
         | true ↦ λ call. waiting first format acts (in_flight_after e s.call s.number) lawful.0 ∙ sym (out (lets_go e (in_flight_after e s.call s.number)) (sent_call_acknowledged e s ack call))
         | false ↦ λ return_. sym (out false (sent_return_acknowledged e s ack return_))
       ] refl
-      | false ↦ λ plain. elim (eqb s.kind 0) as (λ x. eqb s.kind 0 ≡ x → cond x (acknowledgement e.stopped e.arriving_calls s) (acknowledgement e.stopped e.arriving_returns s ++ datagrams_let_go e (in_flight_after e s.call (total_of e s.call))) ≡ acknowledged_by (is_stopped_after acts) ts s ++ in_order (let_go_by b acts (Came s)) (first + made acts)) [
+      | false ↦ λ plain. elim (eqb s.kind 0) as (λ x. eqb s.kind 0 ≡ x → cond x (acknowledgement e.stopped e.arriving_calls s) (acknowledgement e.stopped e.arriving_returns s ++ datagrams_let_go e (in_flight_after e s.call (total_of e s.call))) ≡ acknowledged_by (is_stopped_after acts) ts s ++ in_order (let_go_by b acts (Came s)) (first + calls_made acts)) [
         | true ↦ λ call.
             answered _ (call_acknowledged ts e s stands lawful.1 h plain (eqb-true s.kind 0 call))
             ∙ sym (append-nil _)
@@ -203,16 +203,16 @@ taken_sends first format acts s lawful h =
     ] refl
 
 pub came_sends : (first format : ℕ) (acts : Acts) (s : Piece) → AreLawful first format (more acts (Came s)) → datagrams_after (end_after (start first format) acts) s ≡ outputs (start first format) acts (Came s)
-unfolding outputs made
+unfolding outputs calls_made
 came_sends first format acts s lawful =
     let b = start first format in
     let e = end_after b acts in
     let answer = acknowledged_by (is_stopped_after acts) (taken_by b acts) s in
-    elim (takes e s) as (λ x. takes e s ≡ x → cond x (datagrams_of_taken e s) [] ≡ cond (x && not (is_acknowledgement s)) answer [] ++ in_order (let_go_by b acts (Came s)) (first + made acts)) [
+    elim (takes e s) as (λ x. takes e s ≡ x → cond x (datagrams_of_taken e s) [] ≡ cond (x && not (is_acknowledgement s)) answer [] ++ in_order (let_go_by b acts (Came s)) (first + calls_made acts)) [
       | true ↦ λ h. taken_sends first format acts s lawful h
       | false ↦ λ h. sym (gone first format acts (Came s) false lawful (ap (λ x. (cond x (after_taken e s) e).sent) h))
     ] refl
-    ∙ ap (λ x. cond (x && not (is_acknowledgement s)) answer [] ++ in_order (let_go_by b acts (Came s)) (first + made acts)) (taken_is first format acts s lawful.0 lawful.1)
+    ∙ ap (λ x. cond (x && not (is_acknowledgement s)) answer [] ++ in_order (let_go_by b acts (Came s)) (first + calls_made acts)) (taken_is first format acts s lawful.0 lawful.1)
 
 -- ---- a tick
 
@@ -268,7 +268,7 @@ unsent_quiet : (b : Exchange) (acts : Acts) (k : ℕ) (o : Option (List ℕ)) �
 unsent_quiet b acts k None unsent = refl
 unsent_quiet b acts k (Some m) unsent = ap (λ x. cond (x && not (has_arrived (taken_by b acts) 1 k)) (cond (call_is_whole b.next acts (taken_by b acts) k) (spelling (probe b.format 0 (segment_count m) k) ∷ []) (first_open b 0 k m (reached_in (taken_by b acts) 0 k (segment_count m)))) []) unsent
 
-calls_reminded : (first format : ℕ) (acts : Acts) → AreLawful first format acts → reminders (end_after (start first format) acts).calls (end_after (start first format) acts).format 0 (end_after (start first format) acts).sent ≡ in_order (λ call. call_again (start first format) acts call (call_at first acts call)) (first + made acts)
+calls_reminded : (first format : ℕ) (acts : Acts) → AreLawful first format acts → reminders (end_after (start first format) acts).calls (end_after (start first format) acts).format 0 (end_after (start first format) acts).sent ≡ in_order (λ call. call_again (start first format) acts call (call_at first acts call)) (first + calls_made acts)
 unfolding reminders reminder
 calls_reminded first format acts lawful =
     let b = start first format in
@@ -278,7 +278,7 @@ calls_reminded first format acts lawful =
     let kept = kept_after first format acts lawful in
     let flows = flows_after first format acts lawful in
     let high : e.sent ≤ e.next = flows.high in
-    let next : e.next ≡ first + made acts = flows.next in
+    let next : e.next ≡ first + calls_made acts = flows.next in
     let sent : (k : ℕ) → is_sent b acts k ≡ (ltb k e.sent && is_some (call_at first acts k)) = λ k. sym (sent_after first format acts k lawful) in
     ap (λ (f : ℕ). flat_map (λ (x : ℕ × List ℕ). cond (ltb x.0 e.sent) (reminder_of f 0 x.0 x.1 (get e.calls.progress x.0)) []) (entries e.calls.messages)) (format_is first format acts)
     ∙ map_in_order (λ x. reminder_of format 0 x.0 x.1 (get e.calls.progress x.0)) e.sent e.calls.messages
@@ -287,7 +287,7 @@ calls_reminded first format acts lawful =
     ∙ ap (λ (p : Option Progress). found (λ x. reminder_of format 0 x.0 x.1 p) k (get e.calls.messages k)) (hands.calls k)
     ∙ ap (λ m. found (λ x. reminder_of format 0 x.0 x.1 (told_out (call_at first acts k) (reached_in ts 0 k))) k m) (kept.calls k)
     ∙ call_reminded b acts k (call_at first acts k) refl (kept.calls_within k) (λ some. sent k ∙ ap (λ x. x && is_some (call_at first acts k)) (lt-ltb k e.sent le) ∙ some))
-    ∙ sym (order_upto (λ call. call_again b acts call (call_at first acts call)) e.sent (first + made acts) (omega arith) (λ k low le. unsent_quiet b acts k (call_at first acts k) (sent k ∙ ap (λ x. x && is_some (call_at first acts k)) (le-ltb k e.sent low))))
+    ∙ sym (order_upto (λ call. call_again b acts call (call_at first acts call)) e.sent (first + calls_made acts) (omega arith) (λ k low le. unsent_quiet b acts k (call_at first acts k) (sent k ∙ ap (λ x. x && is_some (call_at first acts k)) (le-ltb k e.sent low))))
 
 returns_reminded : (first format : ℕ) (acts : Acts) (limit : ℕ) → AreLawful first format acts → reminders (end_after (start first format) acts).returns (end_after (start first format) acts).format 1 limit ≡ in_order (λ call. return_again (start first format) acts call (return_at acts call)) limit
 unfolding reminders reminder
@@ -311,4 +311,4 @@ tick_sends first format acts lawful =
     let b = start first format in
     let e = end_after b acts in
     ap (λ d. d ++ reminders e.returns e.format 1 (2 ^ 32)) (calls_reminded first format acts lawful)
-    ∙ ap (λ d. in_order (λ call. call_again b acts call (call_at first acts call)) (first + made acts) ++ d) (returns_reminded first format acts (2 ^ 32) lawful)
+    ∙ ap (λ d. in_order (λ call. call_again b acts call (call_at first acts call)) (first + calls_made acts) ++ d) (returns_reminded first format acts (2 ^ 32) lawful)

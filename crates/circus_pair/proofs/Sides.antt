@@ -2,15 +2,15 @@
 use Rattle.std.proofs.Common.{◌≡◌, ℕ, ◌+◌, List, [], refl}
 use Rattle.circus_exchange.specs.declared.exchange.Exchange.{Exchange}
 use Rattle.circus_segment.specs.Segment.{Piece}
-use Rattle.circus_exchange.specs.Exchange.{called, returned, after, ticked}
+use Rattle.circus_exchange.specs.Exchange.{send_call, send_return, after, ticked}
 use Rattle.circus_pair.proofs.Taking.{by_taken, taken_lasts}
 
-pub next_called : (e : Exchange) (message : List ℕ) → (called e message).next ≡ e.next + 1
-unfolding called
+pub next_called : (e : Exchange) (message : List ℕ) → (send_call e message).next ≡ e.next + 1
+unfolding send_call
 next_called e message = refl
 
-pub next_returned : (e : Exchange) (call : ℕ) (message : List ℕ) → (returned e call message).next ≡ e.next
-unfolding returned
+pub next_returned : (e : Exchange) (call : ℕ) (message : List ℕ) → (send_return e call message).next ≡ e.next
+unfolding send_return
 next_returned e call message = refl
 
 pub next_ticked : (e : Exchange) → (ticked e).next ≡ e.next

@@ -10,7 +10,7 @@ use Rattle.circus_exchange.specs.Outbox.{on_its_way, outgoing_at, whole_of, prob
 use Rattle.circus_exchange.specs.Exchange.{IsSendable, takes, lets_go, in_flight_after, total_of, datagrams_let_go, sends_at_once, datagrams_of_call, datagrams_of_return, datagrams_of_taken, datagrams_after, datagrams_of_tick}
 use Rattle.circus_pair.specs.Taken.{has_arrived, MayFollow}
 use Rattle.circus_pair.specs.Acts.{Act, Call, Return, Came, Tick, Stop, Acts, more, with_taken, count_by, acknowledged_by}
-use Rattle.circus_pair.specs.Handed.{made, call_at, return_at, reached_in}
+use Rattle.circus_pair.specs.Handed.{calls_made, call_at, return_at, reached_in}
 use Rattle.circus_pair.specs.Lawful.{is_stopped_after}
 use Rattle.circus_pair.specs.TwoEnds.{datagrams_by}
 use Rattle.circus_pair.proofs.Arrivals.{total_here}
@@ -39,7 +39,7 @@ pub record Keeping (first format : ℕ) (acts : Acts) (ts : List Piece) (e : Exc
 
 -- an act may come
 abbrev pub MayDo : ℕ → ℕ → Acts → List Piece → Act → Type 0
-MayDo first format acts ts (Call message) = IsSendable format message × (first + made acts < 4294967295) × (is_stopped_after acts ≡ false)
+MayDo first format acts ts (Call message) = IsSendable format message × (first + calls_made acts < 4294967295) × (is_stopped_after acts ≡ false)
 MayDo first format acts ts (Return call message) = IsSendable format message × (call < 2 ^ 32) × (has_arrived ts 0 call ≡ true) × (return_at acts call ≡ None)
 MayDo first format acts ts (Came s) = IsSegment s
 MayDo first format acts ts Tick = is_stopped_after acts ≡ false
@@ -65,7 +65,7 @@ later_returns first format acts more_acts ts more_ts grows fine q m h = (let old
 pub fine_act : (first format : ℕ) (acts : Acts) (ts : List Piece) (e : Exchange) (act : Act) → Hands first acts ts e → Fine first format acts ts → MayDo first format acts ts act → Fine first format (more acts act) (with_taken e act ts)
 unfolding call_at return_at
 fine_act first format acts ts e (Call message) hands fine may = record {
-  calls = λ q m h. call_cases format (eqb q (first + made acts)) message m (call_at first acts q) q may.0 (λ same. (let at : q ≡ first + made acts = eqb-true q (first + made acts) same in let low : first + made acts < 4294967295 = may.1 in omega arith)) (fine.calls q m) h;
+  calls = λ q m h. call_cases format (eqb q (first + calls_made acts)) message m (call_at first acts q) q may.0 (λ same. (let at : q ≡ first + calls_made acts = eqb-true q (first + calls_made acts) same in let low : first + calls_made acts < 4294967295 = may.1 in omega arith)) (fine.calls q m) h;
   returns = fine.returns;
 }
 fine_act first format acts ts e (Return call message) hands fine may = record {
@@ -239,9 +239,9 @@ says_tick first format acts ts e k = each_append _ _ _
 
 -- ---- an act
 
-call_here : (first : ℕ) (acts : Acts) (message : List ℕ) (n : ℕ) → n ≡ first + made acts → call_at first (more acts (Call message)) n ≡ Some message
+call_here : (first : ℕ) (acts : Acts) (message : List ℕ) (n : ℕ) → n ≡ first + calls_made acts → call_at first (more acts (Call message)) n ≡ Some message
 unfolding call_at
-call_here first acts message n same = ap (λ b. cond b (Some message) (call_at first acts n)) (eq-eqb n (first + made acts) same)
+call_here first acts message n same = ap (λ b. cond b (Some message) (call_at first acts n)) (eq-eqb n (first + calls_made acts) same)
 
 return_here : (acts : Acts) (call : ℕ) (message : List ℕ) → return_at (more acts (Return call message)) call ≡ Some message
 unfolding return_at

@@ -8,8 +8,8 @@ use Rattle.circus_exchange.specs.declared.exchange.Exchange.{Exchange}
 use Rattle.circus_exchange.specs.declared.taken.Arrived.{Arrived}
 use Rattle.circus_exchange.specs.declared.taken.Arrived.TheVariants.{Nothing, ArrivedCall, ArrivedReturn}
 use Rattle.circus_segment.specs.Segment.{Piece, IsSegment, is_acknowledgement, spelling}
-use Rattle.circus_exchange.specs.Inbox.{known, fits, completes, joined, data_with, is_new, count_with, acknowledged, acknowledgement, added}
-use Rattle.circus_exchange.specs.Exchange.{start, called, returned, takes, call_reached, return_reached, ended, return_added, after_taken, after, arrived_of_taken, arrived_after, ticked}
+use Rattle.circus_exchange.specs.Inbox.{progress_so_far, fits, completes, data_up_to, data_with, is_new, count_with, acknowledgement_for, acknowledgement, add_segment}
+use Rattle.circus_exchange.specs.Exchange.{start, send_call, send_return, takes, call_reached, return_reached, end_call, return_added, after_taken, after, arrived_of_taken, arrived_after, ticked}
 use Rattle.circus_pair.specs.Taken.{is_of, total_in, count_in, has_arrived, message_in, IsTotal, MayFollow, AreTaken}
 use Rattle.circus_pair.specs.Acts.{Act, Came, Acts, none_yet, more, happens, end_after, with_taken, taken_by, IsAct, AreActs, arrival_by, acknowledged_by}
 use Rattle.circus_pair.proofs.Arrivals.{Keeps, told, keeps_nothing, keeps_other, keeps_more, completes_is, count_is, message_is}
@@ -31,7 +31,7 @@ told_total None c t h = tt
 told_total (Some x) c t h = eqb-true x t h
 
 fit_total : (kind : ℕ) (ts : List Piece) (s : Piece) (box : Arriving) → Keeps kind ts box → fits box s ≡ true → IsTotal (total_in ts kind s.call) s.total
-unfolding fits known
+unfolding fits progress_so_far
 fit_total kind ts s box keeps h =
     told_total (total_in ts kind s.call) (count_in ts kind s.call) s.total
     (subst (λ (o : Option Progress). eqb (unwrap_or {T = Progress} o (record { total = s.total; count = 0 })).total s.total ≡ true) (keeps.progress s.call) h)
@@ -83,20 +83,20 @@ stands_acknowledged ts e f s stands may ack calls returns = record {
 }
 
 stands_taken : (ts : List Piece) (e : Exchange) (s : Piece) → Stands ts e → IsSegment s → takes e s ≡ true → Stands (s ∷ ts) (after_taken e s)
-unfolding call_reached return_reached return_added ended
+unfolding call_reached return_reached return_added end_call
 stands_taken ts e s stands segment h =
     let may = may_follow ts e s stands segment h in
     by_segment s _
     (λ ack call. let same = call_acknowledged_leaves e s ack call in stands_acknowledged ts e _ s stands may ack same.arriving_calls same.arriving_returns)
     (λ ack return_. let same = return_acknowledged_leaves e s ack return_ in stands_acknowledged ts e _ s stands may ack same.arriving_calls same.arriving_returns)
     (λ plain call. let same = call_segment_leaves e s plain call in let zero_ : 0 ≡ s.kind = kind_call s call in record {
-      calls = kept 0 (s ∷ ts) _ _ same.arriving_calls (subst (λ k. Keeps k (s ∷ ts) (added e.arriving_calls s)) (sym zero_) (keeps_more s ts e.arriving_calls (subst (λ k. Keeps k ts e.arriving_calls) zero_ stands.calls) may plain));
+      calls = kept 0 (s ∷ ts) _ _ same.arriving_calls (subst (λ k. Keeps k (s ∷ ts) (add_segment e.arriving_calls s)) (sym zero_) (keeps_more s ts e.arriving_calls (subst (λ k. Keeps k ts e.arriving_calls) zero_ stands.calls) may plain));
       returns = kept 1 (s ∷ ts) _ _ same.arriving_returns (keeps_other s ts 1 e.arriving_returns (other_kind s 1 (λ one. absurd (omega arith))) stands.returns);
       taken = (may, stands.taken);
     })
     (λ plain return_. let same = return_segment_leaves e s plain return_ in let one : 1 ≡ s.kind = sym (return_is s segment return_) in record {
       calls = kept 0 (s ∷ ts) _ _ same.arriving_calls (keeps_other s ts 0 e.arriving_calls (other_kind s 0 (λ zero_. absurd (omega arith))) stands.calls);
-      returns = kept 1 (s ∷ ts) _ _ same.arriving_returns (subst (λ k. Keeps k (s ∷ ts) (added e.arriving_returns s)) (sym one) (keeps_more s ts e.arriving_returns (subst (λ k. Keeps k ts e.arriving_returns) one stands.returns) may plain));
+      returns = kept 1 (s ∷ ts) _ _ same.arriving_returns (subst (λ k. Keeps k (s ∷ ts) (add_segment e.arriving_returns s)) (sym one) (keeps_more s ts e.arriving_returns (subst (λ k. Keeps k ts e.arriving_returns) one stands.returns) may plain));
       taken = (may, stands.taken);
     })
 
@@ -111,7 +111,7 @@ same_boxes ts e f calls returns stands = record {
 }
 
 stands_act : (ts : List Piece) (e : Exchange) (act : Act) → Stands ts e → IsAct act → Stands (with_taken e act ts) (happens e act)
-unfolding called returned ticked
+unfolding send_call send_return ticked
 stands_act ts e (Came s) stands is = stands_came ts e s stands is
 stands_act ts e act stands is = same_boxes ts e _ refl refl stands
 
@@ -127,9 +127,9 @@ completed_new : (box : Arriving) (s : Piece) → completes box s ≡ true → is
 unfolding completes
 completed_new box s h = (and_parts (is_new box s) _ h).0
 
-arrived_in : (s : Piece) (ts : List Piece) (box : Arriving) (message : List ℕ → Arrived) → Keeps s.kind ts box → MayFollow ts s → is_acknowledgement s ≡ false → cond (completes box s) (message (joined (data_with box s) s.total)) Nothing ≡ cond (has_arrived (s ∷ ts) s.kind s.call && not (has_arrived ts s.kind s.call)) (message (message_in (s ∷ ts) s.kind s.call s.total)) Nothing
+arrived_in : (s : Piece) (ts : List Piece) (box : Arriving) (message : List ℕ → Arrived) → Keeps s.kind ts box → MayFollow ts s → is_acknowledgement s ≡ false → cond (completes box s) (message (data_up_to (data_with box s) s.total)) Nothing ≡ cond (has_arrived (s ∷ ts) s.kind s.call && not (has_arrived ts s.kind s.call)) (message (message_in (s ∷ ts) s.kind s.call s.total)) Nothing
 arrived_in s ts box message keeps may plain =
-    elim (completes box s) as (λ b. completes box s ≡ b → cond b (message (joined (data_with box s) s.total)) Nothing ≡ cond b (message (message_in (s ∷ ts) s.kind s.call s.total)) Nothing) [
+    elim (completes box s) as (λ b. completes box s ≡ b → cond b (message (data_up_to (data_with box s) s.total)) Nothing ≡ cond b (message (message_in (s ∷ ts) s.kind s.call s.total)) Nothing) [
       | true ↦ λ h. ap message (message_is s ts box keeps may plain (completed_new box s h))
       | false ↦ λ h. refl
     ] refl
@@ -143,7 +143,7 @@ arrival_is ts e s stands segment h =
     ap (λ b. cond (b && not (is_acknowledgement s)) (arrived_of_taken e s) Nothing) h
     ∙ elim (is_acknowledgement s) as (λ b. is_acknowledgement s ≡ b → cond (not b) (arrived_of_taken e s) Nothing ≡ cond (not b && (has_arrived (s ∷ ts) s.kind s.call && not (has_arrived ts s.kind s.call))) (cond (eqb s.kind 0) (ArrivedCall s.call (message_in (s ∷ ts) s.kind s.call s.total)) (ArrivedReturn s.call (message_in (s ∷ ts) s.kind s.call s.total))) Nothing) [
       | true ↦ λ ack. refl
-      | false ↦ λ plain. elim (eqb s.kind 0) as (λ b. eqb s.kind 0 ≡ b → cond b (cond (completes e.arriving_calls s) (ArrivedCall s.call (joined (data_with e.arriving_calls s) s.total)) Nothing) (cond (completes e.arriving_returns s) (ArrivedReturn s.call (joined (data_with e.arriving_returns s) s.total)) Nothing) ≡ cond (has_arrived (s ∷ ts) s.kind s.call && not (has_arrived ts s.kind s.call)) (cond b (ArrivedCall s.call (message_in (s ∷ ts) s.kind s.call s.total)) (ArrivedReturn s.call (message_in (s ∷ ts) s.kind s.call s.total))) Nothing) [
+      | false ↦ λ plain. elim (eqb s.kind 0) as (λ b. eqb s.kind 0 ≡ b → cond b (cond (completes e.arriving_calls s) (ArrivedCall s.call (data_up_to (data_with e.arriving_calls s) s.total)) Nothing) (cond (completes e.arriving_returns s) (ArrivedReturn s.call (data_up_to (data_with e.arriving_returns s) s.total)) Nothing) ≡ cond (has_arrived (s ∷ ts) s.kind s.call && not (has_arrived ts s.kind s.call)) (cond b (ArrivedCall s.call (message_in (s ∷ ts) s.kind s.call s.total)) (ArrivedReturn s.call (message_in (s ∷ ts) s.kind s.call s.total))) Nothing) [
         | true ↦ λ call. arrived_in s ts e.arriving_calls (λ m. ArrivedCall s.call m) (subst (λ k. Keeps k ts e.arriving_calls) (kind_call s call) stands.calls) may plain
         | false ↦ λ return_. arrived_in s ts e.arriving_returns (λ m. ArrivedReturn s.call m) (subst (λ k. Keeps k ts e.arriving_returns) (sym (return_is s segment return_)) stands.returns) may plain
       ] refl
@@ -151,7 +151,7 @@ arrival_is ts e s stands segment h =
 
 -- the acknowledgement of a segment by what the segments say that were taken
 pub acknowledged_is : (s : Piece) (ts : List Piece) (box : Arriving) (is_down : Bool) → Keeps s.kind ts box → MayFollow ts s → is_acknowledgement s ≡ false → acknowledgement is_down box s ≡ acknowledged_by is_down ts s
-unfolding acknowledged
+unfolding acknowledgement_for
 acknowledged_is s ts box is_down keeps may plain =
     let answer_of : ℕ → List (List ℕ) = λ n. spelling (record { format = s.format; kind = s.kind; control = 1; total = s.total; number = n; call = s.call; part = [] }) ∷ [] in
     ap (λ b. cond (not is_down && (eqb s.control 2 || (b || ltb (count_with box s) s.number))) (answer_of (count_with box s)) []) (completes_is s ts box keeps may plain)

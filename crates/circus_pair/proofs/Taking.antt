@@ -3,9 +3,9 @@ use Rattle.std.proofs.Common.{◌≡◌, ◌+◌, ◌≤◌, true, false, cond, 
 use Rattle.std.proofs.lemmas.Bool.{and_parts, eqb-true, eqb-false}
 use Rattle.circus_exchange.specs.declared.exchange.Exchange.{Exchange}
 use Rattle.circus_segment.specs.Segment.{Piece, IsSegment, is_acknowledgement}
-use Rattle.circus_exchange.specs.Inbox.{added, fits}
+use Rattle.circus_exchange.specs.Inbox.{add_segment, fits}
 use Rattle.circus_exchange.specs.Outbox.{agrees}
-use Rattle.circus_exchange.specs.Exchange.{was_sent, takes, let_go, lets_go, call_reached, return_reached, ended, return_added, after_taken, after}
+use Rattle.circus_exchange.specs.Exchange.{was_sent, takes, let_go, lets_go, call_reached, return_reached, end_call, return_added, after_taken, after}
 
 -- an acknowledgement or none, of a call or of a return
 pub by_segment : (s : Piece) (P : Type 0) → (is_acknowledgement s ≡ true → eqb s.kind 0 ≡ true → P) → (is_acknowledgement s ≡ true → eqb s.kind 0 ≡ false → P) → (is_acknowledgement s ≡ false → eqb s.kind 0 ≡ true → P) → (is_acknowledgement s ≡ false → eqb s.kind 0 ≡ false → P) → P
@@ -60,7 +60,7 @@ module _ (e : Exchange) (s : Piece) where
   unfolding after_taken
   after_return_acknowledged ack return_ = rw (ack, return_) refl
 
-  pub after_call_segment : is_acknowledgement s ≡ false → eqb s.kind 0 ≡ true → after_taken e s ≡ record e { arriving_calls = added e.arriving_calls s; ticks = 0 }
+  pub after_call_segment : is_acknowledgement s ≡ false → eqb s.kind 0 ≡ true → after_taken e s ≡ record e { arriving_calls = add_segment e.arriving_calls s; ticks = 0 }
   unfolding after_taken
   after_call_segment plain call = rw (plain, call) refl
 
@@ -96,15 +96,15 @@ module _ (e : Exchange) (s : Piece) where
   pub return_acknowledged_leaves : is_acknowledgement s ≡ true → eqb s.kind 0 ≡ false → Same (after_taken e s) (return_reached e s.call s.number)
   return_acknowledged_leaves ack return_ = subst (λ f. Same f (return_reached e s.call s.number)) (sym (after_return_acknowledged e s ack return_)) (quiet (return_reached e s.call s.number))
 
-  pub call_segment_leaves : is_acknowledgement s ≡ false → eqb s.kind 0 ≡ true → Same (after_taken e s) (record e { arriving_calls = added e.arriving_calls s })
-  call_segment_leaves plain call = subst (λ f. Same f (record e { arriving_calls = added e.arriving_calls s })) (sym (after_call_segment e s plain call)) (quiet (record e { arriving_calls = added e.arriving_calls s }))
+  pub call_segment_leaves : is_acknowledgement s ≡ false → eqb s.kind 0 ≡ true → Same (after_taken e s) (record e { arriving_calls = add_segment e.arriving_calls s })
+  call_segment_leaves plain call = subst (λ f. Same f (record e { arriving_calls = add_segment e.arriving_calls s })) (sym (after_call_segment e s plain call)) (quiet (record e { arriving_calls = add_segment e.arriving_calls s }))
 
   pub return_segment_leaves : is_acknowledgement s ≡ false → eqb s.kind 0 ≡ false → Same (after_taken e s) (return_added e s)
   return_segment_leaves plain return_ = subst (λ f. Same f (return_added e s)) (sym (after_return_segment e s plain return_)) (quiet_let_go (return_added e s))
 
   -- whatever it is, its format, the number of its next call and whether the other end is down stay
   pub taken_lasts : ((after_taken e s).format ≡ e.format) × ((after_taken e s).next ≡ e.next) × ((after_taken e s).stopped ≡ e.stopped)
-  unfolding call_reached return_reached return_added ended
+  unfolding call_reached return_reached return_added end_call
   taken_lasts =
       by_segment s _
       (λ ack call. let same = call_acknowledged_leaves ack call in (same.format, same.next, same.stopped))

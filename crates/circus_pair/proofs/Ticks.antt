@@ -7,10 +7,10 @@ use Rattle.std.specs.FinMap.{FinMap, nat_cmp-IsAntisymmetric, get, len, empty, e
 use Rattle.std.proofs.lemmas.Bool.{eqb-true, eq-eqb, ne_eqb, lt-ltb, le-ltb, cases_lt}
 use Rattle.circus_exchange.specs.declared.exchange.Exchange.{Exchange}
 use Rattle.circus_segment.specs.Segment.{Piece}
-use Rattle.circus_exchange.specs.Exchange.{start, called, returned, takes, after_taken, is_waiting, ticked, is_suspect}
+use Rattle.circus_exchange.specs.Exchange.{start, send_call, send_return, takes, after_taken, is_waiting, ticked, is_suspect}
 use Rattle.circus_pair.specs.Taken.{has_arrived}
 use Rattle.circus_pair.specs.Acts.{Call, Came, Tick, Acts, none_yet, more, end_after, taken_by}
-use Rattle.circus_pair.specs.Handed.{made, call_at, reached_in}
+use Rattle.circus_pair.specs.Handed.{calls_made, call_at, reached_in}
 use Rattle.circus_pair.specs.Lawful.{AreLawful}
 use Rattle.circus_pair.specs.Window.{count_below}
 use Rattle.circus_pair.specs.Ticking.{is_unfinished, waits_after, ticks_after, suspects_after}
@@ -50,8 +50,8 @@ waits_is first format acts lawful =
     let ts = taken_by (start first format) acts in
     let hands = hands_lawful first format acts lawful in
     let kept = kept_after first format acts lawful in
-    let next : e.next ≡ first + made acts = hands.next in
-    ap not (empty_is e.calls.messages (is_unfinished first acts ts) (first + made acts)
+    let next : e.next ≡ first + calls_made acts = hands.next in
+    ap not (empty_is e.calls.messages (is_unfinished first acts ts) (first + calls_made acts)
     (λ k. ap is_some (kept.calls k) ∙ kept_some (call_at first acts k) (reached_in ts 0 k) (has_arrived ts 1 k))
     (λ k le. kept.calls k ∙ ap (λ o. kept_call o (reached_in ts 0 k) (has_arrived ts 1 k)) (hands.later k (omega arith))))
 
@@ -65,7 +65,7 @@ ticks_came e s true ticks is same = ap (λ b. (cond b (after_taken e s) e).ticks
 ticks_came e s false ticks is same = ap (λ b. (cond b (after_taken e s) e).ticks) is ∙ same
 
 pub ticks_are : (first format : ℕ) (acts : Acts) → AreLawful first format acts → (end_after (start first format) acts).ticks ≡ ticks_after (start first format) acts
-unfolding ticks_after called returned ticked
+unfolding ticks_after send_call send_return ticked
 ticks_are first format none_yet lawful = refl
 ticks_are first format (more acts (Call message)) lawful =
     let b = start first format in

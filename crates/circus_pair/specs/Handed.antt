@@ -6,15 +6,15 @@ use Rattle.circus_pair.specs.Taken.{total_in}
 use Rattle.circus_pair.specs.Acts.{Call, Return, Acts, none_yet, more}
 
 -- how many calls were handed over
-unfoldable pub made : Acts → ℕ
-made none_yet = 0
-made (more acts (Call message)) = made acts + 1
-made (more acts act) = made acts
+unfoldable pub calls_made : Acts → ℕ
+calls_made none_yet = 0
+calls_made (more acts (Call message)) = calls_made acts + 1
+calls_made (more acts act) = calls_made acts
 
 -- the call of a number, where the first one has this number
 unfoldable pub call_at : ℕ → Acts → ℕ → Option (List ℕ)
 call_at first none_yet call = None
-call_at first (more acts (Call message)) call = if call == first + made acts then Some message else call_at first acts call
+call_at first (more acts (Call message)) call = if call == first + calls_made acts then Some message else call_at first acts call
 call_at first (more acts act) call = call_at first acts call
 
 -- the return to a call

@@ -7,7 +7,7 @@ use Rattle.circus_exchange.specs.Outbox.{probe}
 use Rattle.circus_exchange.specs.Exchange.{message_out}
 use Rattle.circus_pair.specs.Taken.{has_arrived}
 use Rattle.circus_pair.specs.Acts.{Act, Call, Return, Came, Tick, Stop, Acts, none_yet, more, taken_by, acknowledged_by}
-use Rattle.circus_pair.specs.Handed.{made, call_at, return_at, reached_in, is_taken}
+use Rattle.circus_pair.specs.Handed.{calls_made, call_at, return_at, reached_in, is_taken}
 use Rattle.circus_pair.specs.Lawful.{is_stopped_after}
 use Rattle.circus_pair.specs.Window.{call_is_whole, return_is_whole, may_go}
 
@@ -64,17 +64,17 @@ return_again e acts call (Some message) =
 -- first what the calls need, and then what the returns need, by number: the numbers are below 2 ^ 32
 unfoldable pub again_after : Exchange → Acts → List (List ℕ)
 again_after e acts =
-    in_order (λ call. call_again e acts call (call_at e.next acts call)) (e.next + made acts)
+    in_order (λ call. call_again e acts call (call_at e.next acts call)) (e.next + calls_made acts)
     ++ in_order (λ call. return_again e acts call (return_at acts call)) (2 ^ 32)
 
 -- ---- what each act sends
 
 -- what an act sends after these: a call and a segment send the calls that they let go, and a segment that is taken is acknowledged before that
 unfoldable pub outputs : Exchange → Acts → Act → List (List ℕ)
-outputs e acts (Call message) = in_order (let_go_by e acts (Call message)) (e.next + made (more acts (Call message)))
+outputs e acts (Call message) = in_order (let_go_by e acts (Call message)) (e.next + calls_made (more acts (Call message)))
 outputs e acts (Return call message) = whole (message_out e 1 call message)
 outputs e acts (Came s) =
     (if takes_after e acts s && not (is_acknowledgement s) then acknowledged_by (is_stopped_after acts) (taken_by e acts) s else [])
-    ++ in_order (let_go_by e acts (Came s)) (e.next + made acts)
+    ++ in_order (let_go_by e acts (Came s)) (e.next + calls_made acts)
 outputs e acts Tick = again_after e acts
 outputs e acts Stop = []

@@ -2,7 +2,7 @@
 use Rattle.std.specs.Prelude.{◌≡◌, ℕ, ◌<◌, ◌≤◌, Bool, true, false, not, ◌&&◌, List, [], ◌∷◌, Option, None, Some, unwrap_or, is_some, ◌==◌, if◌then◌else◌}
 use Rattle.circus_segment.specs.Segment.{Piece, is_acknowledgement, has_data}
 use Rattle.circus_segment.specs.Cut.{segment_count, part_at}
-use Rattle.circus_exchange.specs.Inbox.{front, joined}
+use Rattle.circus_exchange.specs.Inbox.{front, data_up_to}
 
 -- a segment, or a probe, of the message of this kind and call
 abbrev pub is_of : ℕ → ℕ → Piece → Bool
@@ -44,7 +44,7 @@ has_arrived ts kind call = is_reached (total_in ts kind call) (count_in ts kind 
 
 -- the joined data of the segments of a message of some total
 unfoldable pub message_in : List Piece → ℕ → ℕ → ℕ → List ℕ
-message_in ts kind call total = joined (λ number. unwrap_or (data_in ts kind call number) []) total
+message_in ts kind call total = data_up_to (λ number. unwrap_or (data_in ts kind call number) []) total
 
 abbrev pub IsTotal : Option ℕ → ℕ → Type 0
 IsTotal None new = Unit {0}

@@ -5,7 +5,7 @@ use Rattle.circus_segment.specs.Segment.{Piece}
 use Rattle.circus_exchange.specs.Limits.{patience}
 use Rattle.circus_pair.specs.Taken.{has_arrived}
 use Rattle.circus_pair.specs.Acts.{Acts, none_yet, more, Call, Return, Came, Tick, Stop, taken_by}
-use Rattle.circus_pair.specs.Handed.{made, call_at}
+use Rattle.circus_pair.specs.Handed.{calls_made, call_at}
 use Rattle.circus_pair.specs.Window.{count_below}
 use Rattle.circus_pair.specs.Sending.{takes_after}
 
@@ -15,7 +15,7 @@ is_unfinished first acts ts call = is_some (call_at first acts call) && not (has
 
 -- an end that began as e waits for a return, after these acts
 abbrev pub waits_after : Exchange → Acts → Bool
-waits_after e acts = not (count_below (is_unfinished e.next acts (taken_by e acts)) (e.next + made acts) == 0)
+waits_after e acts = not (count_below (is_unfinished e.next acts (taken_by e acts)) (e.next + calls_made acts) == 0)
 
 -- the ticks that came while it waited, since it took a segment or was given a call while it did not wait, up to 8
 unfoldable pub ticks_after : Exchange → Acts → ℕ

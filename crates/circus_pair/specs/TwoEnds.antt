@@ -12,7 +12,7 @@ use Rattle.circus_exchange.specs.Limits.{never_used}
 use Rattle.circus_pair.specs.Acts.{Act as OneAct, Call as Calls, Return as Returns, Came, Tick as Ticks, Stop as Stops, Acts, none_yet, more, happens, end_after, taken_by}
 use Rattle.circus_pair.specs.Taken.{has_arrived}
 use Rattle.circus_segment.specs.Cut.{segment_count}
-use Rattle.circus_pair.specs.Handed.{made, call_at, return_at, reached_in}
+use Rattle.circus_pair.specs.Handed.{calls_made, call_at, return_at, reached_in}
 use Rattle.circus_pair.specs.Lawful.{MayFollow}
 
 -- the acts of both ends, oldest first
@@ -70,19 +70,19 @@ is_same true end = end
 is_same false end = not end
 
 -- a datagram comes, which is dropped where it is no segment
-abbrev pub coming : Result Piece SegmentFault → Option OneAct
-coming (Ok s) = Some (Came s)
-coming (Err fault) = None
+abbrev pub act_of_datagram : Result Piece SegmentFault → Option OneAct
+act_of_datagram (Ok s) = Some (Came s)
+act_of_datagram (Err fault) = None
 
-abbrev pub delivered : Option (List ℕ) → Option OneAct
-delivered None = None
-delivered (Some bytes) = coming (reading bytes)
+abbrev pub act_of_delivery : Option (List ℕ) → Option OneAct
+act_of_delivery None = None
+act_of_delivery (Some bytes) = act_of_datagram (reading bytes)
 
 -- the act at an end, where the other one has sent these datagrams, or none where the other end acts
 abbrev pub act_at : Bool → List (List ℕ) → Act → Option OneAct
 act_at end sent (Call at message) = if is_same end at then Some (Calls message) else None
 act_at end sent (Return at call message) = if is_same end at then Some (Returns call message) else None
-act_at end sent (Deliver at number) = if is_same end at then delivered (slice_get sent number) else None
+act_at end sent (Deliver at number) = if is_same end at then act_of_delivery (slice_get sent number) else None
 act_at end sent (Tick at) = if is_same end at then Some Ticks else None
 
 abbrev pub with_act : Acts → Option OneAct → Acts
@@ -123,15 +123,15 @@ both_after format history = record {
 -- ---- one act more
 
 -- an end after an act of its own, or after none
-abbrev pub moved : End → Option OneAct → End
-moved end None = end
-moved end (Some act) = record { exchange = happens end.exchange act; sent = end.sent ++ datagrams_by end.exchange act }
+abbrev pub move_end : End → Option OneAct → End
+move_end end None = end
+move_end end (Some act) = record { exchange = happens end.exchange act; sent = end.sent ++ datagrams_by end.exchange act }
 
 -- both ends after an act more
-unfoldable pub stepped : Both → Act → Both
-stepped both act = record {
-  low = moved both.low (act_at false both.high.sent act);
-  high = moved both.high (act_at true both.low.sent act);
+unfoldable pub step_both : Both → Act → Both
+step_both both act = record {
+  low = move_end both.low (act_at false both.high.sent act);
+  high = move_end both.high (act_at true both.low.sent act);
 }
 
 abbrev pub arrived_by : Exchange → Option OneAct → Arrived
@@ -142,15 +142,15 @@ arrived_by e (Some act) = arrival_of e act
 abbrev pub arrives : Both → Act → Arrived
 arrives both (Call at message) = Nothing
 arrives both (Return at call message) = Nothing
-arrives both (Deliver at number) = arrived_by (end_at both at).exchange (delivered (slice_get (end_at both (not at)).sent number))
+arrives both (Deliver at number) = arrived_by (end_at both at).exchange (act_of_delivery (slice_get (end_at both (not at)).sent number))
 arrives both (Tick at) = Nothing
 
 -- the end that acts, or to which is delivered
-abbrev pub acting : Act → Bool
-acting (Call at message) = at
-acting (Return at call message) = at
-acting (Deliver at number) = at
-acting (Tick at) = at
+abbrev pub acting_end : Act → Bool
+acting_end (Call at message) = at
+acting_end (Return at call message) = at
+acting_end (Deliver at number) = at
+acting_end (Tick at) = at
 
 -- the messages of an act can be sent
 abbrev pub CanBeSent : Both → Act → Type 0
@@ -185,7 +185,7 @@ arrived_at end format history = arrived_in (start 0 format) (acts_of end format 
 
 -- an act may come after these: messages can be sent, a number is left for a call, a return answers a call that has arrived and had none, and a datagram was sent
 abbrev pub MayHappen : ℕ → History → Act → Type 0
-MayHappen format history (Call at message) = IsSendable format message × (made (acts_of at format history) < never_used)
+MayHappen format history (Call at message) = IsSendable format message × (calls_made (acts_of at format history) < never_used)
 MayHappen format history (Return at call message) = IsSendable format message × (has_arrived (taken_at at format history) 0 call ≡ true) × (return_at (acts_of at format history) call ≡ None)
 MayHappen format history (Deliver at number) = number < length (sent_by (start 0 format) (acts_of (not at) format history))
 MayHappen format history (Tick at) = Unit {0}

@@ -3,9 +3,9 @@ ghost use Rattle.std.specs.Prelude.{◌≡◌, ◌⊎◌, ℕ, ◌+◌, ◌≤�
 ghost use Rattle.circus_exchange.specs.declared.taken.Arrived.TheVariants.{ArrivedCall};
 ghost use Rattle.circus_segment.specs.Segment.{Piece, IsSegment, is_acknowledgement, reading, spelling};
 ghost use Rattle.circus_exchange.specs.Exchange.{start, awaits_return, takes, arrived_after, datagrams_of_call, datagrams_of_return, datagrams_after, datagrams_of_tick, is_suspect};
-ghost use Rattle.circus_pair.specs.Handed.{made, call_at, return_at, is_taken, sent_below};
+ghost use Rattle.circus_pair.specs.Handed.{calls_made, call_at, return_at, is_taken, sent_below};
 ghost use Rattle.circus_segment.specs.Cut.{segment_count, part_at};
-ghost use Rattle.circus_exchange.specs.Inbox.{acknowledgement, joined};
+ghost use Rattle.circus_exchange.specs.Inbox.{acknowledgement, data_up_to};
 ghost use Rattle.circus_pair.specs.Taken.{total_in, has_arrived, message_in, AreTaken, AreOf};
 ghost use Rattle.circus_pair.specs.Acts.{Act, Acts, more, Call, Return, Came, Tick, AreActs, end_after, taken_by, arrival_by, acknowledged_by};
 ghost use Rattle.circus_pair.specs.Lawful.{is_stopped_after, AreLawful};
@@ -59,7 +59,7 @@ pub fn ends_know_their_acts()
     ensures format { (first format : ℕ) (acts : Acts)
         → (end_after (start first format) acts).format ≡ format }
     ensures next { (first format : ℕ) (acts : Acts) → AreLawful first format acts
-        → (end_after (start first format) acts).next ≡ first + made acts }
+        → (end_after (start first format) acts).next ≡ first + calls_made acts }
     ensures down { (first format : ℕ) (acts : Acts) → AreLawful first format acts
         → (end_after (start first format) acts).stopped ≡ is_stopped_after acts }
     ensures awaits { (first format : ℕ) (acts : Acts) (call : ℕ)
@@ -71,7 +71,7 @@ pub fn ends_know_their_acts()
 
 /// The segments of a message join to it.
 pub fn cut_messages_join()
-    ensures { (message : List ℕ) → joined (part_at message) (segment_count message) ≡ message }
+    ensures { (message : List ℕ) → data_up_to (part_at message) (segment_count message) ≡ message }
 {}
 
 /// Where each segment that was taken for a message is a segment of one that was sent, what arrives is that one.
@@ -95,7 +95,7 @@ pub fn calls_are_sent_in_time()
         → let began = start first format in
         count_below (λ call.
         is_sent began acts call && not (call_is_whole first acts (taken_by began acts) call))
-        (first + made acts) ≤ window }
+        (first + calls_made acts) ≤ window }
 {}
 
 /// What an act sends is what is owed: a call is sent whole by the act that lets it go, and a return by the act

@@ -6,7 +6,7 @@ ghost use Rattle.circus_pair.specs.declared.fault.PairFault.TheVariants.{Spent};
 ghost use Rattle.circus_segment.specs.Segment.{IsSegment};
 ghost use Rattle.circus_exchange.specs.Limits.{never_used};
 ghost use Rattle.circus_pair.specs.Acts.{Call, Return, Came, Tick, Stop, Acts, none_yet, more, taken_by};
-ghost use Rattle.circus_pair.specs.Handed.{made, return_at};
+ghost use Rattle.circus_pair.specs.Handed.{calls_made, return_at};
 ghost use Rattle.circus_pair.specs.Taken.{has_arrived};
 ghost use Rattle.circus_pair.specs.Sending.{outputs, takes_after};
 ghost use Rattle.circus_pair.specs.Ticking.{suspects_after};
@@ -47,7 +47,7 @@ impl Model for Pair {
 }
 
 impl Pair {
-    ghost use Rattle.circus_exchange.specs.Exchange.{IsSendable, start, called, datagrams_of_call, returned, datagrams_of_return, awaits_return, takes, after, datagrams_after, arrived_after, ticked, is_suspect, datagrams_of_tick, stopped};
+    ghost use Rattle.circus_exchange.specs.Exchange.{IsSendable, start, send_call, datagrams_of_call, send_return, datagrams_of_return, awaits_return, takes, after, datagrams_after, arrived_after, ticked, is_suspect, datagrams_of_tick, stop_exchange};
 
     /// An end before any call, in segment format 1 or 2. It takes no memory.
     pub fn new(alloc: Global, format: u8) -> Pair
@@ -79,14 +79,14 @@ impl Pair {
         ensures stands { (first format : ℕ) (acts : Acts) → StandsFor self.old first format acts
             → OnOk result (StandsFor self.new first format (more acts (Call message))) }
         ensures numbered { (first format : ℕ) (acts : Acts) → StandsFor self.old first format acts
-            → IfOk result (λ sent. sent.0 ≡ first + made acts) }
+            → IfOk result (λ sent. sent.0 ≡ first + calls_made acts) }
         ensures owed { (first format : ℕ) (acts : Acts) → StandsFor self.old first format acts
             → IfOk result (λ sent. sent.1 ≡ outputs (start first format) acts (Call message)) }
 
         // By what the end knows.
         ensures number { IfOk result (λ sent. sent.0 ≡ self.old.next) }
         ensures datagrams { IfOk result (λ sent. sent.1 ≡ datagrams_of_call self.old message) }
-        ensures state { OnOk result (self.new ≡ called self.old message) }
+        ensures state { OnOk result (self.new ≡ send_call self.old message) }
         ensures err { OnErr result (self.new ≡ self.old) }
         ensures format { self.new.format ≡ self.old.format }
         ensures down { self.new.stopped ≡ self.old.stopped }
@@ -104,7 +104,7 @@ impl Pair {
         ensures left { OnOk result (self.old.next < never_used) }
         ensures number { IfOk result (λ sent. sent.0 ≡ self.old.next) }
         ensures datagrams { IfOk result (λ sent. sent.1 ≡ datagrams_of_call self.old message) }
-        ensures state { OnOk result (self.new ≡ called self.old message) }
+        ensures state { OnOk result (self.new ≡ send_call self.old message) }
         ensures err { OnErr result (self.new ≡ self.old) }
         ensures format { self.new.format ≡ self.old.format }
         ensures down { self.new.stopped ≡ self.old.stopped }
@@ -128,7 +128,7 @@ impl Pair {
         requires awaited { awaits_return self.old call ≡ true }
         ensures datagrams { IfOk result (λ datagrams.
             datagrams ≡ datagrams_of_return self.old call message) }
-        ensures state { OnOk result (self.new ≡ returned self.old call message) }
+        ensures state { OnOk result (self.new ≡ send_return self.old call message) }
         ensures stands { (first format : ℕ) (acts : Acts) → StandsFor self.old first format acts
             → OnOk result (StandsFor self.new first format (more acts (Return call message))) }
         ensures owed { (first format : ℕ) (acts : Acts) → StandsFor self.old first format acts
@@ -196,7 +196,7 @@ impl Pair {
 
     /// The other end was declared down: nothing is acknowledged any more, and no call that waits is sent.
     pub fn stop(&mut self)
-        ensures state { self.new ≡ stopped self.old }
+        ensures state { self.new ≡ stop_exchange self.old }
         ensures stands { (first format : ℕ) (acts : Acts) → StandsFor self.old first format acts
             → StandsFor self.new first format (more acts Stop) }
         ensures format { self.new.format ≡ self.old.format }
@@ -208,7 +208,7 @@ impl Pair {
     pub fn next_number(&self) -> u32
         ensures value { result ≡ self.now.next }
         ensures counted { (first format : ℕ) (acts : Acts) → StandsFor self.now first format acts
-            → result ≡ first + made acts }
+            → result ≡ first + calls_made acts }
     {
         self.exchange.next
     }

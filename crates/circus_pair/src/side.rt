@@ -5,7 +5,7 @@ ghost use Rattle.circus_pair.specs.Acts.{Call, Return, Tick};
 ghost use Rattle.circus_segment.specs.Segment.{reading};
 ghost use Rattle.circus_exchange.specs.Exchange.{start, IsSendable, awaits_return};
 ghost use Rattle.circus_exchange.specs.Limits.{never_used};
-ghost use Rattle.circus_pair.specs.TwoEnds.{moved, coming, delivered, arrived_by};
+ghost use Rattle.circus_pair.specs.TwoEnds.{move_end, act_of_datagram, act_of_delivery, arrived_by};
 
 use crate::pair::Pair;
 use crate::sent::Sent;
@@ -59,7 +59,7 @@ impl Side {
     /// Hands a call over. After a fault nothing has changed.
     pub fn call(&mut self, message: Message) -> Result<(), TwoFault>
         requires { IsSendable self.old.exchange.format message }
-        ensures state { OnOk result (self.new ≡ moved self.old (Some (Call message))) }
+        ensures state { OnOk result (self.new ≡ move_end self.old (Some (Call message))) }
         ensures err { OnErr result (self.new ≡ self.old) }
         ensures spent { self.old.exchange.next ≡ never_used → result ≡ Err Spent }
         ensures spent_only { result ≡ Err Spent → self.old.exchange.next ≡ never_used }
@@ -85,7 +85,7 @@ impl Side {
     /// fault nothing has changed.
     pub fn give_back(&mut self, call: u32, message: Message) -> Result<(), TwoFault>
         requires { IsSendable self.old.exchange.format message }
-        ensures state { OnOk result (self.new ≡ moved self.old (Some (Return call message))) }
+        ensures state { OnOk result (self.new ≡ move_end self.old (Some (Return call message))) }
         ensures err { OnErr result (self.new ≡ self.old) }
         ensures such { awaits_return self.old.exchange call ≡ false → result ≡ Err NoSuch }
         ensures such_only { result ≡ Err NoSuch → awaits_return self.old.exchange call ≡ false }
@@ -117,9 +117,9 @@ impl Side {
     /// `NoMemory` nothing has changed.
     pub fn take(&mut self, other: &mut Side, number: usize) -> Result<Arrived, NoMemory>
         ensures state { OnOk result
-            (self.new ≡ moved self.old (delivered (slice_get other.old.sent number))) }
+            (self.new ≡ move_end self.old (act_of_delivery (slice_get other.old.sent number))) }
         ensures arrived { IfOk result (λ arrived.
-            arrived ≡ arrived_by self.old.exchange (delivered (slice_get other.old.sent number))) }
+            arrived ≡ arrived_by self.old.exchange (act_of_delivery (slice_get other.old.sent number))) }
         ensures err { OnErr result (self.new ≡ self.old) }
         ensures other { other.new ≡ other.old }
     {
@@ -131,9 +131,9 @@ impl Side {
     }
 
     fn take_datagram(&mut self, datagram: &Bytes) -> Result<Arrived, NoMemory>
-        ensures state { OnOk result (self.new ≡ moved self.old (coming (reading datagram.now))) }
+        ensures state { OnOk result (self.new ≡ move_end self.old (act_of_datagram (reading datagram.now))) }
         ensures arrived { IfOk result (λ arrived.
-            arrived ≡ arrived_by self.old.exchange (coming (reading datagram.now))) }
+            arrived ≡ arrived_by self.old.exchange (act_of_datagram (reading datagram.now))) }
         ensures err { OnErr result (self.new ≡ self.old) }
     {
         self.sent.share()?;
@@ -149,7 +149,7 @@ impl Side {
 
     /// Lets a tick come. After `NoMemory` nothing has changed.
     pub fn tick(&mut self) -> Result<(), NoMemory>
-        ensures state { OnOk result (self.new ≡ moved self.old (Some Tick)) }
+        ensures state { OnOk result (self.new ≡ move_end self.old (Some Tick)) }
         ensures err { OnErr result (self.new ≡ self.old) }
     {
         self.sent.share()?;

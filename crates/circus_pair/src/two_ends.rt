@@ -1,7 +1,7 @@
 // Two ends of a pair that are put together, and what happens at them.
 ghost use Rattle.std.specs.Prelude.{◌≡◌, ◌⊎◌, ℕ, true, false, length, slice_get, nat_lt, ◌++◌, IfOk, OnOk, OnErr, Err};
 ghost use Rattle.circus_pair.specs.declared.two_ends.TwoFault.TheVariants.{NoSuch, Spent};
-ghost use Rattle.circus_pair.specs.TwoEnds.{History, begun, then_came, both_after, acts_of, IsLawfulHistory, Agree, arrived_at, acting, noted, moved, delivered, arrived_by, stepped, arrives, CanBeSent, names_none, has_no_number};
+ghost use Rattle.circus_pair.specs.TwoEnds.{History, begun, then_came, both_after, acts_of, IsLawfulHistory, Agree, arrived_at, acting_end, noted, move_end, act_of_delivery, arrived_by, step_both, arrives, CanBeSent, names_none, has_no_number};
 
 use crate::side::Side;
 use circus_exchange::Arrived;
@@ -82,7 +82,7 @@ impl TwoEnds {
     pub fn step(&mut self, act: Act) -> Result<Arrived, TwoFault>
         requires { CanBeSent self.old act }
         ensures arrived { IfOk result (λ arrived. arrived ≡ arrives self.old act) }
-        ensures state { OnOk result (self.new ≡ stepped self.old act) }
+        ensures state { OnOk result (self.new ≡ step_both self.old act) }
         ensures err { OnErr result (self.new ≡ self.old) }
         ensures such { names_none self.old act ≡ true → result ≡ Err NoSuch }
         ensures such_only { result ≡ Err NoSuch → names_none self.old act ≡ true }
@@ -105,8 +105,8 @@ impl TwoEnds {
         ensures high_format { self.new.high.exchange.format ≡ self.old.high.exchange.format }
         ensures heard { (format : ℕ) (history : History) → self.old ≡ both_after format history
             → IfOk result (λ arrived.
-            arrived_at (acting act) format (then_came history act)
-            ≡ arrived_at (acting act) format history ++ noted arrived) }
+            arrived_at (acting_end act) format (then_came history act)
+            ≡ arrived_at (acting_end act) format history ++ noted arrived) }
     {
         self.happen(act)
     }
@@ -114,7 +114,7 @@ impl TwoEnds {
     fn happen(&mut self, act: Act) -> Result<Arrived, TwoFault>
         requires { CanBeSent self.old act }
         ensures arrived { IfOk result (λ arrived. arrived ≡ arrives self.old act) }
-        ensures state { OnOk result (self.new ≡ stepped self.old act) }
+        ensures state { OnOk result (self.new ≡ step_both self.old act) }
         ensures err { OnErr result (self.new ≡ self.old) }
         ensures such { names_none self.old act ≡ true → result ≡ Err NoSuch }
         ensures such_only { result ≡ Err NoSuch → names_none self.old act ≡ true }
@@ -138,10 +138,10 @@ impl TwoEnds {
         }
     }
 
-    #[tactic(auto, unfolding(crate::specs::TwoEnds::stepped))]
+    #[tactic(auto, unfolding(crate::specs::TwoEnds::step_both))]
     fn call(&mut self, end: bool, message: Message) -> Result<(), TwoFault>
         requires { CanBeSent self.old (Act.Call end message) }
-        ensures state { OnOk result (self.new ≡ stepped self.old (Act.Call end message)) }
+        ensures state { OnOk result (self.new ≡ step_both self.old (Act.Call end message)) }
         ensures err { OnErr result (self.new ≡ self.old) }
         ensures such { result ≡ Err NoSuch → ⊥ }
         ensures spent { has_no_number self.old (Act.Call end message) ≡ true → result ≡ Err Spent }
@@ -155,10 +155,10 @@ impl TwoEnds {
         }
     }
 
-    #[tactic(auto, unfolding(crate::specs::TwoEnds::stepped))]
+    #[tactic(auto, unfolding(crate::specs::TwoEnds::step_both))]
     fn give_back(&mut self, end: bool, call: u32, message: Message) -> Result<(), TwoFault>
         requires { CanBeSent self.old (Act.Return end call message) }
-        ensures state { OnOk result (self.new ≡ stepped self.old (Act.Return end call message)) }
+        ensures state { OnOk result (self.new ≡ step_both self.old (Act.Return end call message)) }
         ensures err { OnErr result (self.new ≡ self.old) }
         ensures such { names_none self.old (Act.Return end call message) ≡ true
             → result ≡ Err NoSuch }
@@ -173,11 +173,11 @@ impl TwoEnds {
         }
     }
 
-    #[tactic(auto, unfolding(crate::specs::TwoEnds::stepped))]
+    #[tactic(auto, unfolding(crate::specs::TwoEnds::step_both))]
     fn deliver(&mut self, end: bool, number: u32) -> Result<Arrived, TwoFault>
         ensures arrived { IfOk result (λ arrived.
             arrived ≡ arrives self.old (Act.Deliver end number)) }
-        ensures state { OnOk result (self.new ≡ stepped self.old (Act.Deliver end number)) }
+        ensures state { OnOk result (self.new ≡ step_both self.old (Act.Deliver end number)) }
         ensures err { OnErr result (self.new ≡ self.old) }
         ensures such { names_none self.old (Act.Deliver end number) ≡ true → result ≡ Err NoSuch }
         ensures such_only { result ≡ Err NoSuch
@@ -192,9 +192,9 @@ impl TwoEnds {
         }
     }
 
-    #[tactic(auto, unfolding(crate::specs::TwoEnds::stepped))]
+    #[tactic(auto, unfolding(crate::specs::TwoEnds::step_both))]
     fn tick(&mut self, end: bool) -> Result<(), NoMemory>
-        ensures state { OnOk result (self.new ≡ stepped self.old (Act.Tick end)) }
+        ensures state { OnOk result (self.new ≡ step_both self.old (Act.Tick end)) }
         ensures err { OnErr result (self.new ≡ self.old) }
     {
         if end {
@@ -208,9 +208,9 @@ impl TwoEnds {
 // Delivers the datagram of a number, among those that one end has sent, to the other one.
 fn deliver_from(from: &mut Side, to: &mut Side, number: usize) -> Result<Arrived, TwoFault>
     ensures arrived { IfOk result (λ arrived.
-        arrived ≡ arrived_by to.old.exchange (delivered (slice_get from.old.sent number))) }
+        arrived ≡ arrived_by to.old.exchange (act_of_delivery (slice_get from.old.sent number))) }
     ensures state { OnOk result
-        (to.new ≡ moved to.old (delivered (slice_get from.old.sent number))) }
+        (to.new ≡ move_end to.old (act_of_delivery (slice_get from.old.sent number))) }
     ensures from { from.new ≡ from.old }
     ensures err { OnErr result (to.new ≡ to.old) }
     ensures such { nat_lt number (length from.old.sent) ≡ false → result ≡ Err NoSuch }

@@ -10,7 +10,7 @@ use Rattle.circus_value.specs.declared.outcome.Outcome.{Outcome}
 use Rattle.circus_model.proofs.Lookups.{at_end, old_or_added}
 use Rattle.circus_record.specs.declared.record.AskRecord.{AskRecord}
 use Rattle.circus_record.specs.declared.record.RunRecord.{RunRecord}
-use Rattle.circus_performing.specs.Performing.{latest, replies_of, last_of, front_of, answered_ask, with_reply}
+use Rattle.circus_performing.specs.Performing.{latest_shown, replies_of, last_of, front_of, answered_ask, with_reply}
 
 module _ {A : Type 0} where
   less_one : (xs : List A) (x : A) → length (xs ++ x ∷ []) - 1 ≡ length xs
@@ -22,7 +22,7 @@ module _ {A : Type 0} where
   pub front_more : (xs : List A) (x : A) → front_of (xs ++ x ∷ []) ≡ xs
   front_more xs x = ap (λ n. take n (xs ++ x ∷ [])) (less_one xs x) ∙ take-append_seam xs (x ∷ [])
 
-  pub latest_more : {B : Type 0} (shown : A → Option B) (first : B) (xs : List A) (x : A) → latest shown first (xs ++ x ∷ []) ≡ unwrap_or (shown x) (latest shown first xs)
+  pub latest_more : {B : Type 0} (shown : A → Option B) (first : B) (xs : List A) (x : A) → latest_shown shown first (xs ++ x ∷ []) ≡ unwrap_or (shown x) (latest_shown shown first xs)
   latest_more shown first xs x = fold-append (λ before y. unwrap_or (shown y) before) first xs (x ∷ [])
 
   -- what is at a place of a list that grew, with what stands before it

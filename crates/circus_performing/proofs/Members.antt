@@ -19,7 +19,7 @@ use Rattle.circus_record.specs.declared.record.RunRecord.{RunRecord}
 use Rattle.circus_record.specs.declared.record.MemberRecord.{MemberRecord}
 use Rattle.circus_performing.specs.declared.start.RunStart.{RunStart}
 use Rattle.circus_performing.specs.declared.performer.Held.{Held}
-use Rattle.circus_performing.specs.Performing.{Performing, state_after, clock_after, replies_of, last_of, front_of, is_active, is_fetching, active_record, begun, refusal, made_ask, with_ask, with_refusal, ended_run, gone_on, with_run, most_turns, last_count, answered_ask, with_reply, entered, answered}
+use Rattle.circus_performing.specs.Performing.{Performing, state_after, clock_after, replies_of, last_of, front_of, is_active, is_fetching, active_record, begin_run, refusal, made_ask, with_ask, with_refusal, ended_run, gone_on, with_run, most_turns, last_count, answered_ask, with_reply, enter_run, answer_open_ask}
 use Rattle.circus_performing.specs.Record.{start_of, turns, HasMade, IsIdle, IsPerforming, IsRecord}
 use Rattle.circus_performing.specs.Acts.{CanEnter, CanAnswer}
 use Rattle.circus_performing.specs.Seen.UnderWay.{IsMember, IsNext}
@@ -194,7 +194,7 @@ module _ {P : Type 0} (stands : P → List ValueTree → ℕ → List ValueTree 
 
   module _ (lawful : IsModule b) where
     -- a run is entered
-    pub enters : (kept : MemberRecord) (paused : Option P) (step : ℕ) (start : RunStart) → IsMember stands b began kept paused → CanEnter b.declared start kept → IsIdle b began kept × IsNext b began kept step (begun step start)
+    pub enters : (kept : MemberRecord) (paused : Option P) (step : ℕ) (start : RunStart) → IsMember stands b began kept paused → CanEnter b.declared start kept → IsIdle b began kept × IsNext b began kept step (begin_run step start)
     enters kept paused step start h can = entered_next b lawful began kept step start (record_of kept paused h) can
 
     -- the open ask is answered
@@ -262,14 +262,14 @@ module _ {P : Type 0} (stands : P → List ValueTree → ℕ → List ValueTree 
           (subst (λ (r : RunRecord). Gives (λ q. stands q (state_after began p.before) r.procedure r.arguments (replies_of r.asks)) (b.turn (state_after began p.before) r.procedure r.arguments (replies_of r.asks)) turn) (sym more_so)
           (subst (λ rs. Gives (λ q. stands q (state_after began p.before) p.run.procedure p.run.arguments rs) (b.turn (state_after began p.before) p.run.procedure p.run.arguments rs) turn) (sym (replies_more p.waiting.before (answered_ask step reply clock p.waiting.ask) reply refl)) given))
 
-      pub answers_kept : with_run (record kept { runs = front }) (gone_on step (b.turn (state_after began front) more.procedure more.arguments) most_turns more) ≡ answered b.turn began step reply clock kept
+      pub answers_kept : with_run (record kept { runs = front }) (gone_on step (b.turn (state_after began front) more.procedure more.arguments) most_turns more) ≡ answer_open_ask b.turn began step reply clock kept
       answers_kept =
           ap (λ xs. with_run (record kept { runs = xs }) (gone_on step (b.turn (state_after began xs) more.procedure more.arguments) most_turns more)) front_is
           ∙ ap (λ (r : RunRecord). with_run (record kept { runs = a.performing.before }) (gone_on step (b.turn (state_after began a.performing.before) r.procedure r.arguments) most_turns r)) more_so
           ∙ sym (answered_is b lawful began kept a.performing step reply clock)
 
     -- a run that is entered comes to this
-    pub enters_kept : (kept : MemberRecord) (step : ℕ) (start : RunStart) (run : RunRecord) → kept.state ≡ state_after began kept.runs → run ≡ begun step start → with_run kept (gone_on step (b.turn (state_after began kept.runs) run.procedure run.arguments) most_turns run) ≡ entered b.turn step start kept
+    pub enters_kept : (kept : MemberRecord) (step : ℕ) (start : RunStart) (run : RunRecord) → kept.state ≡ state_after began kept.runs → run ≡ begin_run step start → with_run kept (gone_on step (b.turn (state_after began kept.runs) run.procedure run.arguments) most_turns run) ≡ enter_run b.turn step start kept
     enters_kept kept step start run state_is run_is =
         ap (λ (r : RunRecord). with_run kept (gone_on step (b.turn (state_after began kept.runs) r.procedure r.arguments) most_turns r)) run_is
-        ∙ ap (λ s. with_run kept (gone_on step (b.turn s start.procedure start.arguments) most_turns (begun step start))) (sym state_is)
+        ∙ ap (λ s. with_run kept (gone_on step (b.turn s start.procedure start.arguments) most_turns (begin_run step start))) (sym state_is)

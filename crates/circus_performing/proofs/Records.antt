@@ -16,7 +16,7 @@ use Rattle.circus_record.specs.declared.record.RunRecord.{RunRecord}
 use Rattle.circus_record.specs.declared.record.MemberRecord.{MemberRecord}
 use Rattle.circus_performing.specs.declared.start.RunStart.{RunStart}
 use Rattle.circus_performing.specs.Performing as P
-use Rattle.circus_performing.specs.Performing.{Performing, state_after, replies_of, last_of, front_of, unanswered, open_ask, is_active, is_fetching, before_any, made_active, activated, begun, answered_ask, gone_on, state_by, with_run, most_turns, last_count, with_reply, entered, answered}
+use Rattle.circus_performing.specs.Performing.{Performing, state_after, replies_of, last_of, front_of, unless_replied, open_ask, is_active, is_fetching, before_any, made_active, activate, begin_run, answered_ask, gone_on, state_by, with_run, most_turns, last_count, with_reply, enter_run, answer_open_ask}
 use Rattle.circus_performing.specs.Record.{start_of, turns, HasEnded, IsOpen, HaveEnded, count_after, IsIdle, IsPerforming, IsRecord}
 use Rattle.circus_performing.specs.Acts.{Act, Joins, Tabled, Activates, Enters, Answers, Acts, as_founder, as_spare, more, after, performed_by, CanEnter, CanHappen, AreLawful}
 use Rattle.circus_performing.specs.Seen.UnderWay.{IsNext}
@@ -33,15 +33,15 @@ counted_once from ended most = omega arith
 -- ---- the open ask
 
 -- an ask that was answered isn't open
-answered_ask_is_none : (ask : AskRecord) (reply : Outcome) → ask.reply ≡ Some reply → unanswered ask ≡ None
+answered_ask_is_none : (ask : AskRecord) (reply : Outcome) → ask.reply ≡ Some reply → unless_replied ask ≡ None
 answered_ask_is_none ask reply is = rw is
 
 module _ (b : Behaviour) where
   -- a run that has ended has no open ask
-  ended_has_none : (state : List ValueTree) (run : RunRecord) → HasEnded b state run → option_and_then unanswered (last_of run.asks) ≡ None
+  ended_has_none : (state : List ValueTree) (run : RunRecord) → HasEnded b state run → option_and_then unless_replied (last_of run.asks) ≡ None
   ended_has_none state run ended = by_last (last_of run.asks) refl
     where
-      by_last : (last : Option AskRecord) → last_of run.asks ≡ last → option_and_then unanswered last ≡ None
+      by_last : (last : Option AskRecord) → last_of run.asks ≡ last → option_and_then unless_replied last ≡ None
       by_last None is = refl
       by_last (Some ask) is =
           let so = (ended.made.asks_so (length run.asks - 1) ask is).1 in
@@ -51,7 +51,7 @@ module _ (b : Behaviour) where
   pub idle_has_none : (began : List ValueTree) (kept : MemberRecord) → IsIdle b began kept → open_ask kept ≡ None
   idle_has_none began kept idle = by_last (last_of kept.runs) refl
     where
-      by_last : (last : Option RunRecord) → last_of kept.runs ≡ last → option_and_then (λ (r : RunRecord). option_and_then unanswered (last_of r.asks)) last ≡ None
+      by_last : (last : Option RunRecord) → last_of kept.runs ≡ last → option_and_then (λ (r : RunRecord). option_and_then unless_replied (last_of r.asks)) last ≡ None
       by_last None is = refl
       by_last (Some run) is = ended_has_none _ run (idle.runs (length kept.runs - 1) run is)
 
@@ -107,7 +107,7 @@ module _ (b : Behaviour) where
 
     -- ---- a run is entered
 
-    pub entered_next : (began : List ValueTree) (kept : MemberRecord) (step : ℕ) (start : RunStart) → IsRecord b began kept → CanEnter b.declared start kept → IsIdle b began kept × IsNext b began kept step (begun step start)
+    pub entered_next : (began : List ValueTree) (kept : MemberRecord) (step : ℕ) (start : RunStart) → IsRecord b began kept → CanEnter b.declared start kept → IsIdle b began kept × IsNext b began kept step (begin_run step start)
     entered_next began kept step start h can =
         let idle : IsIdle b began kept = elim h.now [ inl idle ↦ idle | inr p ↦ absurd (none_is_some (sym can.idle ∙ performing_has_one began kept p)) ] in
         let state : IsState b.declared (state_after began kept.runs) = subst (IsState b.declared) idle.state idle.is_state in (
@@ -153,7 +153,7 @@ module _ (b : Behaviour) where
     replied_is began kept p step reply clock = replied_same p.run p.waiting.before p.waiting.ask step reply clock p.waiting.asks_are
 
     -- what the record becomes is said of this run
-    pub answered_is : (began : List ValueTree) (kept : MemberRecord) (p : IsPerforming b began kept) (step : ℕ) (reply : Outcome) (clock : List ℕ) → answered b.turn began step reply clock kept ≡ with_run (record kept { runs = p.before }) (gone_on step (turns b (state_after began p.before) (start_of p.run)) most_turns (with_answer began kept p step reply clock))
+    pub answered_is : (began : List ValueTree) (kept : MemberRecord) (p : IsPerforming b began kept) (step : ℕ) (reply : Outcome) (clock : List ℕ) → answer_open_ask b.turn began step reply clock kept ≡ with_run (record kept { runs = p.before }) (gone_on step (turns b (state_after began p.before) (start_of p.run)) most_turns (with_answer began kept p step reply clock))
     answered_is began kept p step reply clock =
         let front : front_of kept.runs ≡ p.before = ap front_of p.runs_are ∙ front_more p.before p.run in
         let last : last_of kept.runs ≡ Some p.run = ap last_of p.runs_are ∙ last_more p.before p.run in
@@ -218,7 +218,7 @@ fetching_is_inactive Asking h = refl
 fetching_is_inactive (Fetching incarnation) h = refl
 fetching_is_inactive (Active first) h = absurd (true≢false (sym h))
 
-activates : (b : Behaviour) (step : ℕ) (state : List ValueTree) (count : ℕ) (p : Performing Behaviour) → IsState b.declared state → count ≤ last_count → IsRecord b p.began p.kept → IsRecord b (activated step state count p).began (activated step state count p).kept
+activates : (b : Behaviour) (step : ℕ) (state : List ValueTree) (count : ℕ) (p : Performing Behaviour) → IsState b.declared state → count ≤ last_count → IsRecord b p.began p.kept → IsRecord b (activate step state count p).began (activate step state count p).kept
 activates b step state count p is_state within h = by_test (is_fetching p.kept.phase) refl
   where
     by_test : (f : Bool) → is_fetching p.kept.phase ≡ f → IsRecord b (cond f (made_active step state count p) p).began (cond f (made_active step state count p) p).kept
@@ -235,7 +235,7 @@ act_keeps b lawful (Activates step state count) p can h = activates b step state
 act_keeps b lawful (Enters step start) p can h =
     let next = entered_next b lawful p.began p.kept step start h can in
     record {
-      now = rw next.0.state (settled b lawful p.began p.kept step (begun step start) next.1);
+      now = rw next.0.state (settled b lawful p.began p.kept step (begin_run step start) next.1);
       inactive = λ inactive. absurd (active_isn't p.kept can.active inactive);
     }
 act_keeps b lawful (Answers step reply clock) p can h = elim h.now [

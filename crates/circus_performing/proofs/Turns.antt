@@ -16,7 +16,7 @@ use Rattle.circus_model.proofs.Turning.{some_true, fits_more}
 use Rattle.circus_record.specs.declared.record.AskRecord.{AskRecord}
 use Rattle.circus_record.specs.declared.record.RunRecord.{RunRecord}
 use Rattle.circus_performing.specs.declared.start.RunStart.{RunStart}
-use Rattle.circus_performing.specs.Performing.{clock_after, replies_of, refusal, made_ask, answered_ask, with_ask, with_refusal, ended_run, turned, gone_on, most_turns}
+use Rattle.circus_performing.specs.Performing.{clock_after, replies_of, refusal, made_ask, answered_ask, with_ask, with_refusal, ended_run, turn_run, gone_on, most_turns}
 use Rattle.circus_performing.specs.Record.{start_of, turns, IsMade, IsAnswered, HasMade, HasEnded, IsOpen}
 use Rattle.circus_performing.specs.Seen.UnderWay.{IsUnderWay}
 use Rattle.circus_performing.proofs.Ends.{latest_more, replies_more, earlier_or_added}
@@ -117,7 +117,7 @@ module _ (b : Behaviour) (state : List ValueTree) where
           replies_more run.asks (answered_ask step refusal (clock_after run.entry run.asks) (made_ask step (clock_after run.entry run.asks) callee procedure arguments asked)) refusal refl
 
       -- one turn of a run that goes on
-      pub gone_once : (left : ℕ) (run : RunRecord) → gone_on step (turns b state (start_of run)) (suc left) run ≡ turned step (gone_on step (turns b state (start_of run)) left) run (turns b state (start_of run) (replies_of run.asks))
+      pub gone_once : (left : ℕ) (run : RunRecord) → gone_on step (turns b state (start_of run)) (suc left) run ≡ turn_run step (gone_on step (turns b state (start_of run)) left) run (turns b state (start_of run) (replies_of run.asks))
       unfolding gone_on
       gone_once left run = refl
 
@@ -136,7 +136,7 @@ module _ (b : Behaviour) (state : List ValueTree) where
               rest (with_refusal step callee procedure arguments asked run) (rw (refused_replies run callee procedure arguments asked) (omega (arith, length-append (replies_of run.asks) (refusal ∷ []), enough))) (refused_so run callee procedure arguments asked h is spent)
           by_clock rest callee procedure arguments asked is false unspent = inr (waits_so run callee procedure arguments asked h is unspent)
 
-          by_turn : ((later : RunRecord) → most_asks < left + length (replies_of later.asks) → IsUnderWay b state step later → Rests (gone_on step (turns b state (start_of later)) left later)) → (next : NextTurn) → turns b state (start_of run) (replies_of run.asks) ≡ next → Rests (turned step (gone_on step (turns b state (start_of run)) left) run next)
+          by_turn : ((later : RunRecord) → most_asks < left + length (replies_of later.asks) → IsUnderWay b state step later → Rests (gone_on step (turns b state (start_of later)) left later)) → (next : NextTurn) → turns b state (start_of run) (replies_of run.asks) ≡ next → Rests (turn_run step (gone_on step (turns b state (start_of run)) left) run next)
           by_turn rest (ends outcome after) is = inl (ends_so run outcome after h is)
           by_turn rest (asks callee procedure arguments asked) is = by_clock rest callee procedure arguments asked is (is_spent (clock_after run.entry run.asks)) refl
 
@@ -154,7 +154,7 @@ module _ (b : Behaviour) (state : List ValueTree) where
               rest (with_refusal step callee procedure arguments asked run) (rw one_more (omega (arith, longer, enough))) (rw one_more (omega (arith, longer, others))) (refused_so run callee procedure arguments asked h is spent)
           by_clock rest callee procedure arguments asked is false unspent = refl
 
-          by_turn : ((later : RunRecord) → most_asks < left + length (replies_of later.asks) → most_asks < more + length (replies_of later.asks) → IsUnderWay b state step later → gone_on step (turns b state (start_of later)) left later ≡ gone_on step (turns b state (start_of later)) more later) → (next : NextTurn) → turns b state (start_of run) (replies_of run.asks) ≡ next → turned step (gone_on step (turns b state (start_of run)) left) run next ≡ turned step (gone_on step (turns b state (start_of run)) more) run next
+          by_turn : ((later : RunRecord) → most_asks < left + length (replies_of later.asks) → most_asks < more + length (replies_of later.asks) → IsUnderWay b state step later → gone_on step (turns b state (start_of later)) left later ≡ gone_on step (turns b state (start_of later)) more later) → (next : NextTurn) → turns b state (start_of run) (replies_of run.asks) ≡ next → turn_run step (gone_on step (turns b state (start_of run)) left) run next ≡ turn_run step (gone_on step (turns b state (start_of run)) more) run next
           by_turn rest (ends outcome after) is = refl
           by_turn rest (asks callee procedure arguments asked) is = by_clock rest callee procedure arguments asked is (is_spent (clock_after run.entry run.asks)) refl
 
@@ -163,13 +163,13 @@ module _ (b : Behaviour) (state : List ValueTree) where
       -- a run that ends
       pub gone_to_end : (run : RunRecord) (outcome : Outcome) (after : List ValueTree) → turns b state (start_of run) (replies_of run.asks) ≡ ends outcome after → gone_on step (turns b state (start_of run)) most_turns run ≡ ended_run step outcome after run
       gone_to_end run outcome after is =
-          gone_once most_asks run ∙ ap (turned step (gone_on step (turns b state (start_of run)) most_asks) run) is
+          gone_once most_asks run ∙ ap (turn_run step (gone_on step (turns b state (start_of run)) most_asks) run) is
 
       -- one that waits
       pub gone_to_ask : (run : RunRecord) (callee procedure : ℕ) (arguments asked : List ValueTree) → turns b state (start_of run) (replies_of run.asks) ≡ asks callee procedure arguments asked → is_spent (clock_after run.entry run.asks) ≡ false → gone_on step (turns b state (start_of run)) most_turns run ≡ with_ask run (made_ask step (clock_after run.entry run.asks) callee procedure arguments asked)
       gone_to_ask run callee procedure arguments asked is unspent =
           let on = gone_on step (turns b state (start_of run)) most_asks in
-          gone_once most_asks run ∙ ap (turned step on run) is
+          gone_once most_asks run ∙ ap (turn_run step on run) is
           ∙ ap (λ s. cond s (on (with_refusal step callee procedure arguments asked run)) (with_ask run (made_ask step (clock_after run.entry run.asks) callee procedure arguments asked))) unspent
 
       -- one whose ask is refused
@@ -178,6 +178,6 @@ module _ (b : Behaviour) (state : List ValueTree) where
           let on = gone_on step (turns b state (start_of run)) most_asks in
           let one_more = refused_replies run callee procedure arguments asked in
           let longer : length (replies_of run.asks ++ refusal ∷ []) ≡ length (replies_of run.asks) + 1 = length-append (replies_of run.asks) (refusal ∷ []) in
-          gone_once most_asks run ∙ ap (turned step on run) is
+          gone_once most_asks run ∙ ap (turn_run step on run) is
           ∙ ap (λ s. cond s (on (with_refusal step callee procedure arguments asked run)) (with_ask run (made_ask step (clock_after run.entry run.asks) callee procedure arguments asked))) spent
           ∙ same_rest most_asks most_turns (with_refusal step callee procedure arguments asked run) (rw one_more (omega (arith, longer))) (rw one_more (omega (arith, longer))) (refused_so run callee procedure arguments asked h is spent)

@@ -11,7 +11,7 @@ use Rattle.circus_model.specs.Behaviour.{Behaviour}
 use Rattle.circus_record.specs.declared.record.AskRecord.{AskRecord}
 use Rattle.circus_record.specs.declared.record.MemberRecord.{MemberRecord}
 use Rattle.circus_performing.specs.declared.start.RunStart.{RunStart}
-use Rattle.circus_performing.specs.Performing.{Performing, founder, spare, told_to_join, taken_in, activated, entered, answered, open_ask, is_active, last_count}
+use Rattle.circus_performing.specs.Performing.{Performing, founder, spare, told_to_join, taken_in, activate, enter_run, answer_open_ask, open_ask, is_active, last_count}
 
 -- a member is told to join; the Ringmaster answers its Join; a snapshot comes, in a step; a run is entered in a step;
 -- the open ask is answered, with the clock after it, in a step
@@ -32,9 +32,9 @@ pub data Acts : Type 0 where
 abbrev pub after : Behaviour → Act → Performing Behaviour → Performing Behaviour
 after b Joins p = record p { kept = told_to_join p.kept }
 after b (Tabled table) p = record p { kept = taken_in table p.kept }
-after b (Activates step state count) p = activated step state count p
-after b (Enters step start) p = record p { kept = entered b.turn step start p.kept }
-after b (Answers step reply clock) p = record p { kept = answered b.turn p.began step reply clock p.kept }
+after b (Activates step state count) p = activate step state count p
+after b (Enters step start) p = record p { kept = enter_run b.turn step start p.kept }
+after b (Answers step reply clock) p = record p { kept = answer_open_ask b.turn p.began step reply clock p.kept }
 
 abbrev pub performed_by : Behaviour → Acts → Performing Behaviour
 performed_by b as_founder = founder b b.first

@@ -28,20 +28,20 @@ pub record Performing (M : Type 0) : Type 0 where
 -- ---- what a record shows
 
 -- what the last of these that shows something shows, and this where none does
-abbrev pub latest : {A B : Type 0} → (A → Option B) → B → List A → B
-latest shown first xs = fold (λ before x. unwrap_or (shown x) before) first xs
+abbrev pub latest_shown : {A B : Type 0} → (A → Option B) → B → List A → B
+latest_shown shown first xs = fold (λ before x. unwrap_or (shown x) before) first xs
 
 -- a run's clock behind these asks: the one after the last that was answered, at first that at its entry
 abbrev pub clock_after : List ℕ → List AskRecord → List ℕ
-clock_after entry made = latest (λ (a : AskRecord). a.after) entry made
+clock_after entry made = latest_shown (λ (a : AskRecord). a.after) entry made
 
 -- the step in which a run went on last: that of the last answer, at first that of its start
 abbrev pub step_after : ℕ → List AskRecord → ℕ
-step_after started made = latest (λ (a : AskRecord). a.answered) started made
+step_after started made = latest_shown (λ (a : AskRecord). a.answered) started made
 
 -- the state after runs: that after the last one that has ended, at first the one with which the member became active
 abbrev pub state_after : List ValueTree → List RunRecord → List ValueTree
-state_after began runs = latest (λ (r : RunRecord). r.state) began runs
+state_after began runs = latest_shown (λ (r : RunRecord). r.state) began runs
 
 -- the replies that asks had
 abbrev pub replies_of : List AskRecord → List Outcome
@@ -55,12 +55,12 @@ abbrev pub front_of : {A : Type 0} → List A → List A
 front_of xs = take (length xs - 1) xs
 
 -- the ask that has no reply
-abbrev pub unanswered : AskRecord → Option AskRecord
-unanswered ask = cond (is_none ask.reply) (Some ask) None
+abbrev pub unless_replied : AskRecord → Option AskRecord
+unless_replied ask = cond (is_none ask.reply) (Some ask) None
 
 -- the one for which the member waits
 abbrev pub open_ask : MemberRecord → Option AskRecord
-open_ask kept = option_and_then (λ (r : RunRecord). option_and_then unanswered (last_of r.asks)) (last_of kept.runs)
+open_ask kept = option_and_then (λ (r : RunRecord). option_and_then unless_replied (last_of r.asks)) (last_of kept.runs)
 
 abbrev pub is_active : Joiner → Bool
 is_active Outside = false
@@ -103,14 +103,14 @@ active_record step state count kept = record { phase = Active count; from = coun
 abbrev pub made_active : {M : Type 0} → ℕ → List ValueTree → ℕ → Performing M → Performing M
 made_active step state count p = record { hosted = p.hosted; began = state; kept = active_record step state count p.kept }
 
-abbrev pub activated : {M : Type 0} → ℕ → List ValueTree → ℕ → Performing M → Performing M
-activated step state count p = cond (is_fetching p.kept.phase) (made_active step state count p) p
+abbrev pub activate : {M : Type 0} → ℕ → List ValueTree → ℕ → Performing M → Performing M
+activate step state count p = cond (is_fetching p.kept.phase) (made_active step state count p) p
 
 -- ---- a run
 
 -- it is entered in a step
-abbrev pub begun : ℕ → RunStart → RunRecord
-begun step start =
+abbrev pub begin_run : ℕ → RunStart → RunRecord
+begin_run step start =
     record {
       path = start.path;
       root = start.root;
@@ -164,9 +164,9 @@ ended_run step outcome state run =
     record run { outcome = Some outcome; state = Some state; end = Some (clock_after run.entry run.asks); ended = Some step }
 
 -- after this turn: it ends, or asks, and goes on where the ask is refused
-abbrev pub turned : ℕ → (RunRecord → RunRecord) → RunRecord → NextTurn → RunRecord
-turned step go_on run (ends outcome state) = ended_run step outcome state run
-turned step go_on run (asks callee procedure arguments state) =
+abbrev pub turn_run : ℕ → (RunRecord → RunRecord) → RunRecord → NextTurn → RunRecord
+turn_run step go_on run (ends outcome state) = ended_run step outcome state run
+turn_run step go_on run (asks callee procedure arguments state) =
     let clock = clock_after run.entry run.asks in
     cond (is_spent clock) (go_on (with_refusal step callee procedure arguments state run))
     (with_ask run (made_ask step clock callee procedure arguments state))
@@ -174,7 +174,7 @@ turned step go_on run (asks callee procedure arguments state) =
 -- it goes on in a step as far as it can, with at most so many turns, which are those on the replies so far
 unfoldable pub gone_on : ℕ → (List Outcome → NextTurn) → ℕ → RunRecord → RunRecord
 gone_on step turn zero run = run
-gone_on step turn (suc left) run = turned step (gone_on step turn left) run (turn (replies_of run.asks))
+gone_on step turn (suc left) run = turn_run step (gone_on step turn left) run (turn (replies_of run.asks))
 
 -- ---- runs in the record
 
@@ -189,7 +189,7 @@ next_count (Some outcome) count = min (count + 1) last_count
 
 -- the member's state by its last run: that after it, or that of its last ask
 abbrev pub state_by : RunRecord → List ValueTree
-state_by run = unwrap_or run.state (latest (λ (a : AskRecord). Some a.state) [] run.asks)
+state_by run = unwrap_or run.state (latest_shown (λ (a : AskRecord). Some a.state) [] run.asks)
 
 -- the record with a run behind the others
 abbrev pub with_run : MemberRecord → RunRecord → MemberRecord
@@ -200,9 +200,9 @@ abbrev pub most_turns : ℕ
 most_turns = most_asks + 1
 
 -- a run is entered in a step; `turn` is that of the module
-abbrev pub entered : (List ValueTree → ℕ → List ValueTree → List Outcome → NextTurn) → ℕ → RunStart → MemberRecord → MemberRecord
-entered turn step start kept =
-    with_run kept (gone_on step (turn kept.state start.procedure start.arguments) most_turns (begun step start))
+abbrev pub enter_run : (List ValueTree → ℕ → List ValueTree → List Outcome → NextTurn) → ℕ → RunStart → MemberRecord → MemberRecord
+enter_run turn step start kept =
+    with_run kept (gone_on step (turn kept.state start.procedure start.arguments) most_turns (begin_run step start))
 
 -- the last ask of a run has a reply, with the clock after it
 abbrev pub with_reply : ℕ → Outcome → List ℕ → RunRecord → RunRecord
@@ -210,8 +210,8 @@ with_reply step reply clock run =
     option_map_or (λ (a : AskRecord). record run { asks = front_of run.asks ++ answered_ask step reply clock a ∷ [] }) (last_of run.asks) run
 
 -- the open ask is answered in a step, and its run goes on; the state at the run's beginning is that after the runs before it
-abbrev pub answered : (List ValueTree → ℕ → List ValueTree → List Outcome → NextTurn) → List ValueTree → ℕ → Outcome → List ℕ → MemberRecord → MemberRecord
-answered turn began step reply clock kept =
+abbrev pub answer_open_ask : (List ValueTree → ℕ → List ValueTree → List Outcome → NextTurn) → List ValueTree → ℕ → Outcome → List ℕ → MemberRecord → MemberRecord
+answer_open_ask turn began step reply clock kept =
     option_map_or
     (λ (r : RunRecord).
     let before = front_of kept.runs in

@@ -10,7 +10,7 @@ ghost use Rattle.circus_performing.specs.Seen.UnderWay.{IsMember, IsNext};
 use crate::RunStart;
 use crate::record::{add_run, is_fetching, make_active};
 use crate::run::{
-    Asked, begun, current_clock, ended_run, refusal, refused_run, replied_run, waiting_run,
+    Asked, begin_run, current_clock, ended_run, refusal, refused_run, replied_run, waiting_run,
 };
 use circus_collate::Table;
 use circus_model::{Module, Signature, Turn, is_spent};
@@ -176,7 +176,7 @@ impl<M: Module> Performer<M> {
     /// After `NoMemory` the member is gone.
     pub fn activate(self, state: State, count: u32, step: u64) -> Result<Self, NoMemory>
         requires { IsState (M.declared self.hosted) state }
-        ensures { IfOk result (λ p. p ≡ performing.activated step state count self) }
+        ensures { IfOk result (λ p. p ≡ performing.activate step state count self) }
     {
         if !is_fetching(self.held.kept.phase) {
             return Ok(self);
@@ -204,7 +204,7 @@ impl<M: Module> Performer<M> {
         requires { CanEnter (M.declared self.hosted) start self.kept }
         ensures { IfOk result (λ p.
             p ≡ record self {
-              kept = performing.entered
+              kept = performing.enter_run
                   (M.turn self.hosted) step start self.kept;
             }) }
     {
@@ -218,9 +218,9 @@ impl<M: Module> Performer<M> {
         let going = Going {
             alloc,
             held,
-            run: begun(alloc, start, step),
+            run: begin_run(alloc, start, step),
         };
-        going.on(turn, step)
+        going.go_on(turn, step)
     }
 
     /// Answers the open ask in a step, with the clock after it, and goes on as `enter` does. After `NoMemory` the member
@@ -229,7 +229,7 @@ impl<M: Module> Performer<M> {
         requires { CanAnswer (M.declared self.hosted) reply self.kept }
         ensures { IfOk result (λ p.
             p ≡ record self {
-              kept = performing.answered
+              kept = performing.answer_open_ask
                   (M.turn self.hosted) self.began step reply clock self.kept;
             }) }
     {
@@ -247,13 +247,13 @@ impl<M: Module> Performer<M> {
             held,
             run: replied_run(run, reply, clock, step)?,
         };
-        going.on(turn, step)
+        going.go_on(turn, step)
     }
 }
 
 impl<M: Module> Going<M> {
     // Goes on in a step as far as the run can.
-    fn on(self, turn: Turn<M::Paused>, step: u64) -> Result<Performer<M>, NoMemory>
+    fn go_on(self, turn: Turn<M::Paused>, step: u64) -> Result<Performer<M>, NoMemory>
         requires next { let h = self.held.value in IsNext
             (behaviour M.declared M.turn M.first h.hosted) h.began h.kept step self.run }
         requires gives { let h = self.held.value in let state = performing.state_after h.began

@@ -18,8 +18,8 @@ pub(crate) struct Asked {
 }
 
 /// The run once it is entered in a step.
-pub(crate) fn begun(alloc: Global, start: RunStart, step: u64) -> RunRecord
-    ensures { result ≡ performing.begun step start }
+pub(crate) fn begin_run(alloc: Global, start: RunStart, step: u64) -> RunRecord
+    ensures { result ≡ performing.begin_run step start }
 {
     RunRecord {
         path: start.path,
@@ -103,7 +103,7 @@ fn with_ask(run: RunRecord, ask: AskRecord) -> Result<RunRecord, NoMemory>
 pub(crate) fn refusal(alloc: Global) -> Outcome
     ensures { result ≡ performing.refusal }
 {
-    LanguageError::ThreadSpent.raised(alloc)
+    LanguageError::ThreadSpent.raised_outcome(alloc)
 }
 
 /// The run that waits for the reply to what it asks in a step.

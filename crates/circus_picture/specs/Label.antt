@@ -18,12 +18,12 @@ use Rattle.circus_record.specs.Naming.{Names}
 use Rattle.circus_node.specs.Headers.{call_in, return_in, table_in}
 
 -- the procedure of a number
-abbrev pub numbered : ℕ → List Procedure → Option Procedure
-numbered number procedures = find (λ (p : Procedure). p.number == number) procedures
+abbrev pub procedure_numbered : ℕ → List Procedure → Option Procedure
+procedure_numbered number procedures = find (λ (p : Procedure). p.number == number) procedures
 
 -- what it is called; one that isn't there is called nothing
 abbrev pub name_among : List Procedure → ℕ → List ℕ
-name_among procedures number = option_map_or (λ (p : Procedure). p.name) (numbered number procedures) []
+name_among procedures number = option_map_or (λ (p : Procedure). p.name) (procedure_numbered number procedures) []
 
 -- the procedure of a number of the module of a number
 abbrev pub procedure_name : List (List Procedure) → ℕ → ℕ → List ℕ
@@ -88,8 +88,8 @@ abbrev pub data_label : Names → List (List Procedure) → Piece → List ℕ
 data_label names procedures s = if s.number == 1 then begun_label names procedures s else later_label s
 
 -- one that asks for an acknowledgement is sent again
-abbrev pub again : Piece → List ℕ
-again s = if s.control == 2 then codes " again" else []
+abbrev pub again_text : Piece → List ℕ
+again_text s = if s.control == 2 then codes " again" else []
 
 -- one without data
 abbrev pub bare_label : Piece → List ℕ
@@ -98,7 +98,7 @@ bare_label s =
     else codes "probe " ++ decimal s.call
 
 abbrev pub segment_label : Names → List (List Procedure) → Piece → List ℕ
-segment_label names procedures s = if has_data s then data_label names procedures s ++ again s else bare_label s
+segment_label names procedures s = if has_data s then data_label names procedures s ++ again_text s else bare_label s
 
 -- what is read of a datagram; what nodes send is a segment, and what is none is called nothing
 abbrev pub read_label : Names → List (List Procedure) → Result Piece SegmentFault → List ℕ

@@ -116,9 +116,9 @@ number_text None = []
 number_text (Some number) = decimal number
 
 -- without the blanks at its end
-abbrev pub trimmed : List ℕ → List ℕ
-trimmed text = take (length text - suffix_len (λ character. character == blank) text) text
+abbrev pub trim : List ℕ → List ℕ
+trim text = take (length text - suffix_len (λ character. character == blank) text) text
 
 -- a row with its newline; where the text is empty, the blanks before it stand at the line's end
 abbrev pub row : Option ℕ → List ℕ → List ℕ → List ℕ
-row number columns text = line (trimmed (at_right_end (number_text number) ++ codes "  " ++ columns ++ codes "  " ++ text))
+row number columns text = line (trim (at_right_end (number_text number) ++ codes "  " ++ columns ++ codes "  " ++ text))

@@ -233,7 +233,7 @@ fn table_label<N: Naming>(alloc: Global, names: &N, bytes: &[u8]) -> Result<Octe
 fn call_in(alloc: Global, message: &[u8]) -> Result<Option<(Call, usize)>, NoMemory>
     ensures { IfOk result (λ call. call ≡ headers.call_in message.now) }
 {
-    found(read_call(alloc, message))
+    unless_refused(read_call(alloc, message))
 }
 
 // That of a return.
@@ -241,18 +241,18 @@ fn return_in(alloc: Global, message: &[u8]) -> Result<Option<(ReturnHeader, usiz
     ensures read { IfOk result (λ header. header ≡ headers.return_in message.now) }
     ensures within { IfOk result (λ header. IfSome header (λ read. read.1 ≤ length message.now)) }
 {
-    found(read_return(alloc, message))
+    unless_refused(read_return(alloc, message))
 }
 
 // The table that bytes are.
 fn table_in(alloc: Global, bytes: &[u8]) -> Result<Option<Table>, NoMemory>
     ensures { IfOk result (λ table. table ≡ headers.table_in bytes.now) }
 {
-    found(read_table(alloc, bytes))
+    unless_refused(read_table(alloc, bytes))
 }
 
 // What was read, or nothing where the bytes were refused.
-fn found<T>(read: Result<T, HeaderFault>) -> Result<Option<T>, NoMemory>
+fn unless_refused<T>(read: Result<T, HeaderFault>) -> Result<Option<T>, NoMemory>
     ensures found { IfOk result (λ found. found ≡ result_ok read) }
     ensures made { IfOk result (λ found. read ≢ Err HeaderFault.NoMemory) }
 {

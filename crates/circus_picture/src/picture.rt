@@ -292,7 +292,7 @@ fn put_row<K: Sink>(row: Result<Octets, NoMemory>, sink: &mut K) -> Result<(), R
 fn left_below(alloc: Global, count: usize, lines: &[Line]) -> Result<ListOf<u64>, NoMemory>
     ensures { IfOk result (λ left. left ≡ rows.left_below lines.now count) }
 {
-    let marks = marked(alloc, count, lines)?;
+    let marks = mark_delivered(alloc, count, lines)?;
     let mut left = ListOf::new(alloc);
     for number in 0..count {
         if marks.get(number) != Some(&true) {
@@ -303,10 +303,10 @@ fn left_below(alloc: Global, count: usize, lines: &[Line]) -> Result<ListOf<u64>
 }
 
 // Of each of so many datagrams, whether a line delivers it.
-fn marked(alloc: Global, count: usize, lines: &[Line]) -> Result<ListOf<bool>, NoMemory>
+fn mark_delivered(alloc: Global, count: usize, lines: &[Line]) -> Result<ListOf<bool>, NoMemory>
     ensures { IfOk result (λ marks. AreMarked count lines.now marks) }
 {
-    let mut marks = unmarked(alloc, count)?;
+    let mut marks = no_marks(alloc, count)?;
     for line in lines {
         if let Line::Deliver(number) = *line {
             mark(&mut marks, number as usize);
@@ -316,7 +316,7 @@ fn marked(alloc: Global, count: usize, lines: &[Line]) -> Result<ListOf<bool>, N
 }
 
 // So many datagrams that no line delivers.
-fn unmarked(alloc: Global, count: usize) -> Result<ListOf<bool>, NoMemory>
+fn no_marks(alloc: Global, count: usize) -> Result<ListOf<bool>, NoMemory>
     ensures { IfOk result (λ marks. AreMarked count [] marks) }
 {
     let mut marks = ListOf::new(alloc);

@@ -1,7 +1,7 @@
 // The procedures of each module, by their names.
 ghost use Rattle.std.specs.Prelude.{◌≡◌, option_copied, IfOk};
 ghost use Rattle.circus_picture.specs.Picture.{procedures_of, procedures_in};
-ghost use Rattle.circus_picture.specs.Label.{numbered, name_among, procedure_name};
+ghost use Rattle.circus_picture.specs.Label.{procedure_numbered, name_among, procedure_name};
 
 use circus_config::Plan;
 use circus_idl::{Interface, Procedure, Procedures};
@@ -54,15 +54,15 @@ pub(crate) fn procedure_name(procedures: &[Procedures], module: u16, number: u16
 fn name_among(procedures: &[Procedure], number: u16) -> &[u8]
     ensures { result.now ≡ name_among procedures.now number }
 {
-    match numbered(procedures, number) {
+    match procedure_numbered(procedures, number) {
         Some(procedure) => procedure.name.as_slice(),
         None => &[],
     }
 }
 
 // The procedure of a number.
-fn numbered(procedures: &[Procedure], number: u16) -> Option<&Procedure>
-    ensures { option_copied result ≡ numbered number procedures.now }
+fn procedure_numbered(procedures: &[Procedure], number: u16) -> Option<&Procedure>
+    ensures { option_copied result ≡ procedure_numbered number procedures.now }
 {
     procedures
         .iter()

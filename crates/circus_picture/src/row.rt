@@ -177,9 +177,9 @@ impl Columns {
             row ≡ spec.row number
             (spec.field self.now.width step drawn 0 self.now.crashes) text.now) }
     {
-        let mut row = begun(alloc, number)?;
+        let mut row = row_start(alloc, number)?;
         self.append(&mut row, step, drawn)?;
-        ended(row, text)
+        row_end(row, text)
     }
 }
 
@@ -216,7 +216,7 @@ fn append_times(row: &mut Octets, count: usize, character: u8) -> Result<(), NoM
 }
 
 // What stands before the columns of a row with this number.
-fn begun(alloc: Global, number: Option<u64>) -> Result<Octets, NoMemory>
+fn row_start(alloc: Global, number: Option<u64>) -> Result<Octets, NoMemory>
     ensures { IfOk result (λ row. row ≡ spec.at_right_end (spec.number_text number) ++ codes "  ") }
 {
     let number = number_text(alloc, number)?;
@@ -238,8 +238,8 @@ fn number_text(alloc: Global, number: Option<u64>) -> Result<String, NoMemory>
 }
 
 // A row with its text, without the blanks at its end.
-fn ended(mut row: Octets, text: &[u8]) -> Result<Octets, NoMemory>
-    ensures { IfOk result (λ whole. whole ≡ line (spec.trimmed (row ++ codes "  " ++ text.now))) }
+fn row_end(mut row: Octets, text: &[u8]) -> Result<Octets, NoMemory>
+    ensures { IfOk result (λ whole. whole ≡ line (spec.trim (row ++ codes "  " ++ text.now))) }
 {
     row.append(b"  ")?;
     row.append(text)?;
@@ -266,9 +266,9 @@ pub(crate) fn names_row(alloc: Global, hosts: &[Host]) -> Result<Octets, NoMemor
     ensures { IfOk result (λ row.
         row ≡ spec.row None (spec.names_field (spec.width hosts.now) hosts.now) []) }
 {
-    let mut row = begun(alloc, None)?;
+    let mut row = row_start(alloc, None)?;
     append_names(&mut row, width(hosts), hosts)?;
-    ended(row, &[])
+    row_end(row, &[])
 }
 
 // Adds the columns of the nodes with their names.

@@ -10,7 +10,7 @@ use Rattle.circus_place.specs.declared.choice.Placement.{Placement}
 use Rattle.circus_place.specs.declared.test.Test.{Test}
 use Rattle.circus_place.specs.Seen.Test.{passes}
 use Rattle.circus_value.specs.Among.{is_among}
-use Rattle.circus_place.specs.Seen.Search.{flagged, improves, offered, in_turn, AreApart, best_from}
+use Rattle.circus_place.specs.Seen.Search.{flag_count, improves, better_of, in_turn, AreApart, best_from}
 use Rattle.circus_place.proofs.Skipped.{apart_push}
 
 -- The order of lists.
@@ -50,9 +50,9 @@ before_once (x ∷ xs) (y ∷ ys) before = by_first (nat_lt x y) refl before (be
 pub record IsChampion (t : Test) (present : List Bool) (Seen : List ℕ → Type 0) (x : Placement) : Type 0 where
   pub seen : Seen x.members
   pub satisfies : passes t x.members ≡ true
-  pub counted : x.kept ≡ flagged present x.members
-  pub most : (c : List ℕ) → Seen c → passes t c ≡ true → flagged present c ≤ x.kept
-  pub first : (c : List ℕ) → Seen c → passes t c ≡ true → flagged present c ≡ x.kept → is_before c x.members ≡ false
+  pub counted : x.kept ≡ flag_count present x.members
+  pub most : (c : List ℕ) → Seen c → passes t c ≡ true → flag_count present c ≤ x.kept
+  pub first : (c : List ℕ) → Seen c → passes t c ≡ true → flag_count present c ≡ x.kept → is_before c x.members ≡ false
 
 abbrev pub Champion : Test → List Bool → (List ℕ → Type 0) → Option Placement → Type 0
 Champion t present Seen None = (c : List ℕ) → Seen c → passes t c ≡ true → ⊥
@@ -76,9 +76,9 @@ AllBefore Seen ms = (s more : List ℕ) → Seen s → is_before s (ms ++ more) 
 abbrev Besides : (List ℕ → Type 0) → List ℕ → List ℕ → Type 0
 Besides Seen ms c = Seen c ⊎ (c ≡ ms)
 
-offered_is : (t : Test) (present : List Bool) (Seen : List ℕ → Type 0) (ms : List ℕ) (best : Option Placement) (passed improved : Bool) → passes t ms ≡ passed → improves (flagged present ms) best ≡ improved
+offered_is : (t : Test) (present : List Bool) (Seen : List ℕ → Type 0) (ms : List ℕ) (best : Option Placement) (passed improved : Bool) → passes t ms ≡ passed → improves (flag_count present ms) best ≡ improved
     → ((s : List ℕ) → Seen s → is_before s ms ≡ true) → Champion t present Seen best
-    → Champion t present (Besides Seen ms) (cond (passed && improved) (Some (record { members = ms; kept = flagged present ms })) best)
+    → Champion t present (Besides Seen ms) (cond (passed && improved) (Some (record { members = ms; kept = flag_count present ms })) best)
 offered_is t present Seen ms None false improved fails more before champion = λ c seen passed. failed c seen passed
   where
     failed : (c : List ℕ) → Besides Seen ms c → passes t c ≡ true → ⊥
@@ -92,11 +92,11 @@ offered_is t present Seen ms (Some x) false improved fails more before champion 
   first = first;
 }
   where
-    most : (c : List ℕ) → Besides Seen ms c → passes t c ≡ true → flagged present c ≤ x.kept
+    most : (c : List ℕ) → Besides Seen ms c → passes t c ≡ true → flag_count present c ≤ x.kept
     most c (inl seen) passed = champion.most c seen passed
     most c (inr same) passed = absurd (true≢false (sym passed ∙ ap (passes t) same ∙ fails))
 
-    first : (c : List ℕ) → Besides Seen ms c → passes t c ≡ true → flagged present c ≡ x.kept → is_before c x.members ≡ false
+    first : (c : List ℕ) → Besides Seen ms c → passes t c ≡ true → flag_count present c ≡ x.kept → is_before c x.members ≡ false
     first c (inl seen) passed equal = champion.first c seen passed equal
     first c (inr same) passed equal = absurd (true≢false (sym passed ∙ ap (passes t) same ∙ fails))
 offered_is t present Seen ms None true false holds more before champion = absurd (true≢false more)
@@ -108,11 +108,11 @@ offered_is t present Seen ms None true true holds more before champion = record 
   first = first;
 }
   where
-    most : (c : List ℕ) → Besides Seen ms c → passes t c ≡ true → flagged present c ≤ flagged present ms
+    most : (c : List ℕ) → Besides Seen ms c → passes t c ≡ true → flag_count present c ≤ flag_count present ms
     most c (inl seen) passed = absurd (champion c seen passed)
-    most c (inr same) passed = omega (arith, ap (flagged present) same)
+    most c (inr same) passed = omega (arith, ap (flag_count present) same)
 
-    first : (c : List ℕ) → Besides Seen ms c → passes t c ≡ true → flagged present c ≡ flagged present ms → is_before c ms ≡ false
+    first : (c : List ℕ) → Besides Seen ms c → passes t c ≡ true → flag_count present c ≡ flag_count present ms → is_before c ms ≡ false
     first c (inl seen) passed equal = absurd (champion c seen passed)
     first c (inr same) passed equal = ap (λ l. is_before l ms) same ∙ not_before_itself ms
 offered_is t present Seen ms (Some x) true false holds more before champion = record {
@@ -123,11 +123,11 @@ offered_is t present Seen ms (Some x) true false holds more before champion = re
   first = first;
 }
   where
-    most : (c : List ℕ) → Besides Seen ms c → passes t c ≡ true → flagged present c ≤ x.kept
+    most : (c : List ℕ) → Besides Seen ms c → passes t c ≡ true → flag_count present c ≤ x.kept
     most c (inl seen) passed = champion.most c seen passed
-    most c (inr same) passed = omega (arith, ap (flagged present) same, ltb-false x.kept (flagged present ms) more)
+    most c (inr same) passed = omega (arith, ap (flag_count present) same, ltb-false x.kept (flag_count present ms) more)
 
-    first : (c : List ℕ) → Besides Seen ms c → passes t c ≡ true → flagged present c ≡ x.kept → is_before c x.members ≡ false
+    first : (c : List ℕ) → Besides Seen ms c → passes t c ≡ true → flag_count present c ≡ x.kept → is_before c x.members ≡ false
     first c (inl seen) passed equal = champion.first c seen passed equal
     first c (inr same) passed equal = ap (λ l. is_before l x.members) same ∙ before_once x.members ms (before x.members champion.seen)
 offered_is t present Seen ms (Some x) true true holds more before champion = record {
@@ -138,14 +138,14 @@ offered_is t present Seen ms (Some x) true true holds more before champion = rec
   first = first;
 }
   where
-    above : x.kept < flagged present ms
-    above = ltb-true x.kept (flagged present ms) more
+    above : x.kept < flag_count present ms
+    above = ltb-true x.kept (flag_count present ms) more
 
-    most : (c : List ℕ) → Besides Seen ms c → passes t c ≡ true → flagged present c ≤ flagged present ms
+    most : (c : List ℕ) → Besides Seen ms c → passes t c ≡ true → flag_count present c ≤ flag_count present ms
     most c (inl seen) passed = omega (arith, above, champion.most c seen passed)
-    most c (inr same) passed = omega (arith, ap (flagged present) same)
+    most c (inr same) passed = omega (arith, ap (flag_count present) same)
 
-    first : (c : List ℕ) → Besides Seen ms c → passes t c ≡ true → flagged present c ≡ flagged present ms → is_before c ms ≡ false
+    first : (c : List ℕ) → Besides Seen ms c → passes t c ≡ true → flag_count present c ≡ flag_count present ms → is_before c ms ≡ false
     first c (inl seen) passed equal = absurd (omega (arith, above, champion.most c seen passed, equal))
     first c (inr same) passed equal = ap (λ l. is_before l ms) same ∙ not_before_itself ms
 
@@ -280,8 +280,8 @@ all_turned t present n left ms turn Seen best apart before champion =
 last_offered : (t : Test) (present : List Bool) (n : ℕ) (ms : List ℕ) → Turn t present n zero ms
 unfolding best_from
 last_offered t present n ms Seen best apart before champion =
-    champion_same t present (Besides Seen ms) (And Seen (Extends n zero ms)) (offered t present ms best) there back
-    (offered_is t present Seen ms best (passes t ms) (improves (flagged present ms) best) refl refl (λ s seen. ap (is_before s) (sym (append-nil ms)) ∙ before s [] seen) champion)
+    champion_same t present (Besides Seen ms) (And Seen (Extends n zero ms)) (better_of t present ms best) there back
+    (offered_is t present Seen ms best (passes t ms) (improves (flag_count present ms) best) refl refl (λ s seen. ap (is_before s) (sym (append-nil ms)) ∙ before s [] seen) champion)
   where
     there : (c : List ℕ) → Besides Seen ms c → And Seen (Extends n zero ms) c
     there c (inl seen) = inl seen

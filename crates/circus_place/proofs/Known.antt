@@ -8,11 +8,11 @@ use Rattle.std.proofs.lemmas.Option.{slice_get-get_or}
 use Rattle.circus_place.specs.declared.relation.Relation.{Relation}
 use Rattle.circus_place.specs.declared.test.Test.{Test, Or', And', Not', Related, Differ}
 use Rattle.circus_place.specs.Seen.Table.{flag_at, relates}
-use Rattle.circus_place.specs.Seen.Test.{differs, passes, known_or, known_and, known_related, known, IsTestOf}
+use Rattle.circus_place.specs.Seen.Test.{differs, passes, known_or, known_and, known_related, value_so_far, IsTestOf}
 
 -- what is known is so
 abbrev Tells : Option Bool → Bool → Type 0
-Tells known b = (c : Bool) → known ≡ Some c → b ≡ c
+Tells value_so_far b = (c : Bool) → value_so_far ≡ Some c → b ≡ c
 
 tells_or : (k l : Option Bool) (b d : Bool) → Tells k b → Tells l d → Tells (known_or k l) (b || d)
 tells_or (Some true) l b d left right c is = ap (λ x. x || d) (left true refl) ∙ cc
@@ -79,15 +79,15 @@ tells_differ has same ms more members whole false e differ all c is = by_answer 
     by_answer false later = later ∙ cc
 
 -- what is known of the first members is so of each choice that begins with them
-pub known_is : (t : Test) (members : ℕ) (ms more : List ℕ) → IsTestOf members t → length (ms ++ more) ≡ members → (b : Bool) → known t ms ≡ Some b → passes t (ms ++ more) ≡ b
-known_is (Or' p l q r) members ms more of whole = tells_or (known l ms) (known r ms) (passes l (ms ++ more)) (passes r (ms ++ more)) (known_is l members ms more of.0 whole) (known_is r members ms more of.1 whole)
-known_is (And' p l q r) members ms more of whole = tells_and (known l ms) (known r ms) (passes l (ms ++ more)) (passes r (ms ++ more)) (known_is l members ms more of.0 whole) (known_is r members ms more of.1 whole)
-known_is (Not' p t) members ms more of whole = tells_not (known t ms) (passes t (ms ++ more)) (known_is t members ms more of whole)
+pub known_is : (t : Test) (members : ℕ) (ms more : List ℕ) → IsTestOf members t → length (ms ++ more) ≡ members → (b : Bool) → value_so_far t ms ≡ Some b → passes t (ms ++ more) ≡ b
+known_is (Or' p l q r) members ms more of whole = tells_or (value_so_far l ms) (value_so_far r ms) (passes l (ms ++ more)) (passes r (ms ++ more)) (known_is l members ms more of.0 whole) (known_is r members ms more of.1 whole)
+known_is (And' p l q r) members ms more of whole = tells_and (value_so_far l ms) (value_so_far r ms) (passes l (ms ++ more)) (passes r (ms ++ more)) (known_is l members ms more of.0 whole) (known_is r members ms more of.1 whole)
+known_is (Not' p t) members ms more of whole = tells_not (value_so_far t ms) (passes t (ms ++ more)) (known_is t members ms more of whole)
 known_is (Related i j r) members ms more of whole = tells_related r ms more i j (slice_get ms i) (slice_get ms j) refl refl
 known_is (Differ all has same) members ms more of whole = tells_differ has same ms more all (whole ∙ sym of) (differs has same ms) (nat_eq (length ms) all) refl refl
 
 -- of all members it is known
-pub known_all : (t : Test) (ms : List ℕ) → IsTestOf (length ms) t → known t ms ≡ Some (passes t ms)
+pub known_all : (t : Test) (ms : List ℕ) → IsTestOf (length ms) t → value_so_far t ms ≡ Some (passes t ms)
 known_all (Or' p l q r) ms of = (λ i. known_or (known_all l ms of.0 i) (known_all r ms of.1 i)) ∙ both_known (passes l ms) (passes r ms)
   where
     both_known : (b d : Bool) → known_or (Some b) (Some d) ≡ Some (b || d)

@@ -17,7 +17,7 @@ use Rattle.circus_place.specs.Seen.Table.{AreTablesOf, flag_at}
 use Rattle.circus_place.specs.declared.attributes.Attributes.{Attributes}
 use Rattle.circus_place.specs.Seen.Test.{passes, ArePlaced}
 use Rattle.circus_value.specs.Among.{is_among}
-use Rattle.circus_place.specs.Seen.Search.{flagged, AreApart, best_from}
+use Rattle.circus_place.specs.Seen.Search.{flag_count, AreApart, best_from}
 use Rattle.circus_place.proofs.Best.{Champion, IsChampion, Extends, And, best_is}
 
 -- Distinct numbers.
@@ -89,7 +89,7 @@ few_among (p ∷ ps) ms apart = omega (arith, either_counts (λ m. m == p) (λ m
 flag_past : (present : List Bool) (m : ℕ) → length present ≤ m → flag_at present m ≡ false
 flag_past present m past = ap (λ (o : Option Bool). unwrap_or o false) (slice_get_past present m past)
 
-fewer_flags : (present : List Bool) (among : ℕ → Bool) (n : ℕ) (ms : List ℕ) → length present ≡ n → ((m : ℕ) → m < n → flag_at present m ≡ among m) → flagged present ms ≤ count_by among ms
+fewer_flags : (present : List Bool) (among : ℕ → Bool) (n : ℕ) (ms : List ℕ) → length present ≡ n → ((m : ℕ) → m < n → flag_at present m ≡ among m) → flag_count present ms ≤ count_by among ms
 fewer_flags present among n [] len flags = omega arith
 fewer_flags present among n (m ∷ ms) len flags = omega (arith, counts (flag_at present) m ms, counts among m ms, fewer_flags present among n ms len flags, one (cases_lt m n))
   where
@@ -97,7 +97,7 @@ fewer_flags present among n (m ∷ ms) len flags = omega (arith, counts (flag_at
     one (inl low) = omega (arith, ap number (flags m low))
     one (inr past) = omega (arith, ap number (flag_past present m (omega (arith, len, past))))
 
-same_flags : (present : List Bool) (among : ℕ → Bool) (n : ℕ) (ms : List ℕ) → ((m : ℕ) → m < n → flag_at present m ≡ among m) → All (λ m. m < n) ms → flagged present ms ≡ count_by among ms
+same_flags : (present : List Bool) (among : ℕ → Bool) (n : ℕ) (ms : List ℕ) → ((m : ℕ) → m < n → flag_at present m ≡ among m) → All (λ m. m < n) ms → flag_count present ms ≡ count_by among ms
 same_flags present among n [] flags below = refl
 same_flags present among n (m ∷ ms) flags below =
     counts (flag_at present) m ms ∙ (λ i. cond (flags m (All-head (λ k. k < n) m ms below) i) 1 0 + same_flags present among n ms flags (All-tail (λ k. k < n) m ms below) i) ∙ sym (counts among m ms)
@@ -107,7 +107,7 @@ abbrev pub is_present : Placing → ℕ → Bool
 is_present p m = list_any (λ n. m == n) p.present
 
 pub most_kept : (p : Placing) (present : List Bool) → length present ≡ length p.machines → ((m : ℕ) → m < length p.machines → flag_at present m ≡ is_present p m)
-    → (choice : List ℕ) → AreApart choice → flagged present choice ≤ length p.present
+    → (choice : List ℕ) → AreApart choice → flag_count present choice ≤ length p.present
 most_kept p present len flags choice apart = omega (arith, fewer_flags present (is_present p) (length p.machines) choice len flags, few_among p.present choice apart)
 
 -- Choices.
@@ -149,7 +149,7 @@ found_is p t present are best n left ms n_is left_is none is =
 placed : (p : Placing) (c : List ℕ) → IsChoice p c → ArePlaced p.members (length p.machines) c
 placed p c is = (is.whole, is.machines)
 
-kept_is : (p : Placing) (t : Test) (present : List Bool) → AreFor p t present → (c : List ℕ) → IsChoice p c → flagged present c ≡ kept_by p c
+kept_is : (p : Placing) (t : Test) (present : List Bool) → AreFor p t present → (c : List ℕ) → IsChoice p c → flag_count present c ≡ kept_by p c
 kept_is p t present are c is = same_flags present (is_present p) (length p.machines) c are.flags is.machines
 
 champion_choice : (p : Placing) (c : List ℕ) → And Nothing (Extends (length p.machines) p.members []) c → IsChoice p c

@@ -8,9 +8,9 @@ use Rattle.std.proofs.lemmas.List.Sums.{count_by-le-length, sum_by-append}
 use Rattle.circus_place.specs.declared.choice.Placement.{Placement}
 use Rattle.circus_place.specs.declared.test.Test.{Test}
 use Rattle.circus_place.specs.Seen.Table.{flag_at}
-use Rattle.circus_place.specs.Seen.Test.{passes, known, is_known_false, IsTestOf}
+use Rattle.circus_place.specs.Seen.Test.{passes, value_so_far, is_known_false, IsTestOf}
 use Rattle.circus_value.specs.Among.{is_among}
-use Rattle.circus_place.specs.Seen.Search.{flagged, improves, offered, in_turn, AreApart, best_from}
+use Rattle.circus_place.specs.Seen.Search.{flag_count, improves, better_of, in_turn, AreApart, best_from}
 use Rattle.circus_place.proofs.Known.{known_is, known_all}
 
 eq_sym : (m n : ℕ) → m == n ≡ false → n == m ≡ false
@@ -35,16 +35,16 @@ in_turn_stays turn zero best stays = refl
 in_turn_stays turn (suc n) best stays = ap (turn n) (in_turn_stays turn n best stays) ∙ stays n
 
 best_stays : (t : Test) (present : List Bool) (n left : ℕ) (ms : List ℕ) (best : Option Placement) → AreApart ms
-    → ((more : List ℕ) → length more ≡ left → AreApart (ms ++ more) → offered t present (ms ++ more) best ≡ best) → best_from t present n left ms best ≡ best
+    → ((more : List ℕ) → length more ≡ left → AreApart (ms ++ more) → better_of t present (ms ++ more) best ≡ best) → best_from t present n left ms best ≡ best
 unfolding best_from
 best_stays t present n zero ms best apart stays =
-    ap (λ l. offered t present l best) (sym (append-nil ms)) ∙ stays [] refl (subst AreApart (sym (append-nil ms)) apart)
+    ap (λ l. better_of t present l best) (sym (append-nil ms)) ∙ stays [] refl (subst AreApart (sym (append-nil ms)) apart)
 best_stays t present n (suc left) ms best apart stays =
     in_turn_stays (λ m b. cond (is_among ms m) b (best_from t present n left (ms ++ m ∷ []) b)) n best
     (λ m. skip m (is_among ms m) refl (λ new. best_stays t present n left (ms ++ m ∷ []) best (apart_push ms m apart new)
     (λ more whole later.
     let same = append_assoc ms (m ∷ []) more in
-    ap (λ l. offered t present l best) same ∙ stays (m ∷ more) (omega arith) (subst AreApart same later))))
+    ap (λ l. better_of t present l best) same ∙ stays (m ∷ more) (omega arith) (subst AreApart same later))))
   where
     skip : (m : ℕ) (b : Bool) → is_among ms m ≡ b → (is_among ms m ≡ false → best_from t present n left (ms ++ m ∷ []) best ≡ best) → cond b best (best_from t present n left (ms ++ m ∷ []) best) ≡ best
     skip m true is same = refl
@@ -56,45 +56,45 @@ known_false (Some false) is = refl
 known_false None is = cc
 
 -- the condition fails, whoever the others are
-pub refuted : (t : Test) (present : List Bool) (n left members : ℕ) (ms : List ℕ) (best : Option Placement) → IsTestOf members t → length ms + left ≡ members → AreApart ms → is_known_false (known t ms) ≡ true
+pub refuted : (t : Test) (present : List Bool) (n left members : ℕ) (ms : List ℕ) (best : Option Placement) → IsTestOf members t → length ms + left ≡ members → AreApart ms → is_known_false (value_so_far t ms) ≡ true
     → best_from t present n left ms best ≡ best
 refuted t present n left members ms best of whole apart fails =
     best_stays t present n left ms best apart
-    (λ more len later. ap (λ b. cond (b && improves (flagged present (ms ++ more)) best) (Some (record { members = ms ++ more; kept = flagged present (ms ++ more) })) best)
-    (known_is t members ms more of (omega (arith, length-append ms more)) false (known_false (known t ms) fails)))
+    (λ more len later. ap (λ b. cond (b && improves (flag_count present (ms ++ more)) best) (Some (record { members = ms ++ more; kept = flag_count present (ms ++ more) })) best)
+    (known_is t members ms more of (omega (arith, length-append ms more)) false (known_false (value_so_far t ms) fails)))
 
 improves_less : (k l : ℕ) (best : Option Placement) → k ≤ l → improves l best ≡ false → improves k best ≡ false
 improves_less k l None le is = cc
 improves_less k l (Some best) le is = le-ltb best.kept k (omega (arith, ltb-false best.kept l is))
 
 -- no more can be kept than by the best so far
-pub bounded : (t : Test) (present : List Bool) (n left most : ℕ) (ms : List ℕ) (best : Option Placement) → AreApart ms → ((choice : List ℕ) → AreApart choice → flagged present choice ≤ most)
-    → improves (min most (flagged present ms + left)) best ≡ false → best_from t present n left ms best ≡ best
+pub bounded : (t : Test) (present : List Bool) (n left most : ℕ) (ms : List ℕ) (best : Option Placement) → AreApart ms → ((choice : List ℕ) → AreApart choice → flag_count present choice ≤ most)
+    → improves (min most (flag_count present ms + left)) best ≡ false → best_from t present n left ms best ≡ best
 bounded t present n left most ms best apart few full =
     best_stays t present n left ms best apart
     (λ more len later.
-    let less : flagged present (ms ++ more) ≤ min most (flagged present ms + left) =
+    let less : flag_count present (ms ++ more) ≤ min most (flag_count present ms + left) =
     le-min (few (ms ++ more) later) (omega (arith, sum_by-append (λ m. cond (flag_at present m) 1 0) ms more, count_by-le-length (flag_at present) more)) in
-    ap (λ b. cond (passes t (ms ++ more) && b) (Some (record { members = ms ++ more; kept = flagged present (ms ++ more) })) best) (improves_less _ _ best less full)
-    ∙ ap (λ b. cond b (Some (record { members = ms ++ more; kept = flagged present (ms ++ more) })) best) (and-false (passes t (ms ++ more))))
+    ap (λ b. cond (passes t (ms ++ more) && b) (Some (record { members = ms ++ more; kept = flag_count present (ms ++ more) })) best) (improves_less _ _ best less full)
+    ∙ ap (λ b. cond b (Some (record { members = ms ++ more; kept = flag_count present (ms ++ more) })) best) (and-false (passes t (ms ++ more))))
 
 -- a whole choice that doesn't fail and keeps more is the best
-pub taken : (t : Test) (present : List Bool) (n left members most : ℕ) (ms : List ℕ) (best : Option Placement) → IsTestOf members t → length ms ≡ members → left ≡ 0 → is_known_false (known t ms) ≡ false
-    → improves (min most (flagged present ms + left)) best ≡ true → best_from t present n left ms best ≡ Some (record { members = ms; kept = flagged present ms })
+pub taken : (t : Test) (present : List Bool) (n left members most : ℕ) (ms : List ℕ) (best : Option Placement) → IsTestOf members t → length ms ≡ members → left ≡ 0 → is_known_false (value_so_far t ms) ≡ false
+    → improves (min most (flag_count present ms + left)) best ≡ true → best_from t present n left ms best ≡ Some (record { members = ms; kept = flag_count present ms })
 unfolding best_from
 taken t present n left members most ms best of whole none fails more =
     ap (λ l. best_from t present n l ms best) none
-    ∙ (λ i. cond (holds i && improved i) (Some (record { members = ms; kept = flagged present ms })) best)
+    ∙ (λ i. cond (holds i && improved i) (Some (record { members = ms; kept = flag_count present ms })) best)
   where
     holds : passes t ms ≡ true
     holds = not-false (passes t ms) (ap is_known_false (sym (known_all t ms (subst (λ m. IsTestOf m t) (sym whole) of))) ∙ fails)
 
-    improved : improves (flagged present ms) best ≡ true
-    improved = by_answer (improves (flagged present ms) best) refl
+    improved : improves (flag_count present ms) best ≡ true
+    improved = by_answer (improves (flag_count present ms) best) refl
       where
-        by_answer : (b : Bool) → improves (flagged present ms) best ≡ b → improves (flagged present ms) best ≡ true
+        by_answer : (b : Bool) → improves (flag_count present ms) best ≡ b → improves (flag_count present ms) best ≡ true
         by_answer true is = is
-        by_answer false is = absurd (true≢false (sym more ∙ improves_less (min most (flagged present ms + left)) (flagged present ms) best (omega (arith, min-le_right most (flagged present ms + left))) is))
+        by_answer false is = absurd (true≢false (sym more ∙ improves_less (min most (flag_count present ms + left)) (flag_count present ms) best (omega (arith, min-le_right most (flag_count present ms + left))) is))
 
 -- where members are lacking each machine has its turn
 pub turns : (t : Test) (present : List Bool) (n left rest : ℕ) (ms : List ℕ) (best : Option Placement) → left ≡ suc rest
@@ -103,6 +103,6 @@ unfolding best_from
 turns t present n left rest ms best some = ap (λ l. best_from t present n l ms best) some
 
 -- one more machine counts by its flag
-pub one_flagged : (present : List Bool) (ms more : List ℕ) (m kept flag : ℕ) → kept ≡ flagged present ms → flag ≡ cond (flag_at present m) 1 0 → more ≡ ms ++ m ∷ [] → kept + flag ≡ flagged present more
+pub one_flagged : (present : List Bool) (ms more : List ℕ) (m kept flag : ℕ) → kept ≡ flag_count present ms → flag ≡ cond (flag_at present m) 1 0 → more ≡ ms ++ m ∷ [] → kept + flag ≡ flag_count present more
 one_flagged present ms more m kept flag counted flag_is more_is =
-    omega (arith, counted, flag_is, ap (flagged present) more_is, sum_by-append (λ k. cond (flag_at present k) 1 0) ms (m ∷ []))
+    omega (arith, counted, flag_is, ap (flag_count present) more_is, sum_by-append (λ k. cond (flag_at present k) 1 0) ms (m ∷ []))

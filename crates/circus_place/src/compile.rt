@@ -58,9 +58,9 @@ impl<'a> Compiler<'a> {
             Condition::And(left, right) => Test::And(self.part(left)?, self.part(right)?),
             Condition::Not(inner) => Test::Not(self.part(inner)?),
             Condition::Differ(name) => self.differ(name.as_slice())?,
-            Condition::Compare(comparison, left, right) => self.related(*comparison, left, right)?,
+            Condition::Compare(comparison, left, right) => self.relation_test(*comparison, left, right)?,
             Condition::Holds(operand) => {
-                self.related(
+                self.relation_test(
                     Comparison::Equal,
                     operand,
                     &Operand::Fixed(Constant::Truth(true)),
@@ -83,7 +83,7 @@ impl<'a> Compiler<'a> {
         Ok(Box::new(self.alloc, self.test(condition)?)?)
     }
 
-    fn related(
+    fn relation_test(
         &self,
         comparison: Comparison,
         left: &Operand,
@@ -131,11 +131,11 @@ impl<'a> Compiler<'a> {
     {
         match operand {
             Operand::Attribute(_, name) => self.attribute(name.as_slice()),
-            Operand::Fixed(constant) => self.everywhere(constant),
+            Operand::Fixed(constant) => self.constant_everywhere(constant),
         }
     }
 
-    fn everywhere<'v>(&self, constant: &'v Constant) -> Result<Vec<Option<&'v Constant>>, NoMemory>
+    fn constant_everywhere<'v>(&self, constant: &'v Constant) -> Result<Vec<Option<&'v Constant>>, NoMemory>
         ensures { IfOk result (λ made.
             pointed_to made.items ≡ map (λ t. Some constant.now) self.now.machines.items) }
     {

@@ -2,7 +2,7 @@
 ghost use Rattle.std.specs.Prelude.{◌≡◌, ◌+◌, ◌-◌, ◌<◌, ◌≤◌, ◌∷◌, [], ◌++◌, min, length, vec_len, IfOk, OnOk, if◌then◌else◌};
 ghost use Rattle.circus_place.specs.declared.choice.Placement.{Placement};
 ghost use Rattle.circus_value.specs.Among.{is_among};
-ghost use Rattle.circus_place.specs.Seen.Search.{flagged, improves, AreApart, best_from, IsReady};
+ghost use Rattle.circus_place.specs.Seen.Search.{flag_count, improves, AreApart, best_from, IsReady};
 
 use crate::choice::Placement;
 use crate::relation::flag_at;
@@ -36,7 +36,7 @@ impl Search<'_> {
         requires ready { IsReady self.now }
         requires fits { vec_len members.old ≤ self.now.size }
         requires distinct { AreApart members.old.items }
-        requires counted { kept ≡ flagged self.now.present.now members.old.items }
+        requires counted { kept ≡ flag_count self.now.present.now members.old.items }
         ensures best { OnOk result
             (best.new ≡ best_from self.now.test.now self.now.present.now
             (length self.now.present.now)
@@ -47,7 +47,7 @@ impl Search<'_> {
             return Ok(());
         }
         if members.len() == self.size {
-            *best = Some(self.chosen(members, kept)?);
+            *best = Some(self.placement_of(members, kept)?);
             return Ok(());
         }
         for machine in 0..self.present.len() {
@@ -68,7 +68,7 @@ impl Search<'_> {
         requires ready { IsReady self.now }
         requires fits { vec_len members.old < self.now.size }
         requires distinct { AreApart members.old.items }
-        requires counted { kept ≡ flagged self.now.present.now members.old.items }
+        requires counted { kept ≡ flag_count self.now.present.now members.old.items }
         ensures best { OnOk result (best.new ≡ (if is_among members.old.items machine then best.old
             else best_from self.now.test.now self.now.present.now (length self.now.present.now)
             (self.now.size - vec_len members.old - 1)
@@ -99,7 +99,7 @@ impl Search<'_> {
         }
     }
 
-    fn chosen(&self, members: &[u16], kept: usize) -> Result<Placement, NoMemory>
+    fn placement_of(&self, members: &[u16], kept: usize) -> Result<Placement, NoMemory>
         requires { kept ≤ 5 }
         ensures { IfOk result (λ chosen. chosen ≡ record { members = members.now; kept = kept }) }
     {

@@ -3,7 +3,7 @@ ghost use Rattle.std.specs.Prelude.{◌≡◌};
 ghost use Rattle.std.specs.List.{list_any};
 ghost use Rattle.std.specs.Option.{option_copied};
 ghost use Rattle.circus_place.specs.Seen.Table.{relates};
-ghost use Rattle.circus_place.specs.Seen.Test.{differs, known_related, known, is_known_false};
+ghost use Rattle.circus_place.specs.Seen.Test.{differs, known_related, value_so_far, is_known_false};
 
 use crate::relation::{Relation, flag_at};
 use circus_value::ListOf;
@@ -24,28 +24,28 @@ pub enum Test {
 impl Test {
     /// Whether it fails where the first members are at these machines, whoever the others are.
     pub fn fails(&self, members: &[u16]) -> bool
-        ensures { result ≡ is_known_false (known self.now members.now) }
+        ensures { result ≡ is_known_false (value_so_far self.now members.now) }
     {
-        matches!(self.known(members), Some(false))
+        matches!(self.value_so_far(members), Some(false))
     }
 
     // Whether it holds where the first members are at these machines, as far as that is known of all choices
     // of the others.
-    fn known(&self, members: &[u16]) -> Option<bool>
-        ensures { result ≡ known self.now members.now }
+    fn value_so_far(&self, members: &[u16]) -> Option<bool>
+        ensures { result ≡ value_so_far self.now members.now }
     {
         match self {
-            Test::Or(left, right) => match left.known(members) {
+            Test::Or(left, right) => match left.value_so_far(members) {
                 Some(true) => Some(true),
-                Some(false) => right.known(members),
-                None => right.known(members).filter(|holds| *holds),
+                Some(false) => right.value_so_far(members),
+                None => right.value_so_far(members).filter(|holds| *holds),
             },
-            Test::And(left, right) => match left.known(members) {
-                Some(true) => right.known(members),
+            Test::And(left, right) => match left.value_so_far(members) {
+                Some(true) => right.value_so_far(members),
                 Some(false) => Some(false),
-                None => right.known(members).filter(|holds| !*holds),
+                None => right.value_so_far(members).filter(|holds| !*holds),
             },
-            Test::Not(inner) => inner.known(members).map(|holds| !holds),
+            Test::Not(inner) => inner.value_so_far(members).map(|holds| !holds),
             Test::Related(first, second, relation) => {
                 known_related(relation, members.get(*first), members.get(*second))
             }

@@ -5,8 +5,8 @@ use Rattle.circus_text.specs.declared.token.TokenKind.TheVariants.{Number}
 use Rattle.circus_text.specs.Token.{Lexeme, IsSpelling}
 use Rattle.circus_syntax.specs.declared.named.Named.{Named}
 use Rattle.circus_syntax.specs.declared.stopping.StopCause.TheVariants.{TooDeep}
-use Rattle.circus_syntax.specs.Placed.{Placed, first, word, sign, is_lexeme, Due, due, due_name, deeper, opened, AreWithin, AreDue}
-use Rattle.circus_syntax.specs.Reader.{Reader, passes, next, nothing, cased, either, either_case}
+use Rattle.circus_syntax.specs.Placed.{Placed, first, word, sign, is_lexeme, Due, due, due_name, deeper, open_level, AreWithin, AreDue}
+use Rattle.circus_syntax.specs.Reader.{Reader, passes, next, nothing, choose_by, either, either_case}
 use Rattle.circus_syntax.specs.Reading.{behind}
 use Rattle.circus_syntax.specs.Spelling.{IsEach, IsListed, IfWritten}
 use Rattle.circus_syntax.proofs.Opened.{StandsDeeper, opened_due}
@@ -26,7 +26,7 @@ use Rattle.circus_placing.specs.declared.start.AloneStart.{AloneStart}
 use Rattle.circus_placing.specs.declared.start.AloneStart.TheVariants as begins
 use Rattle.circus_placing.specs.Written.{Written, or, and, not, group, differ, compare, holds}
 use Rattle.circus_placing.specs.Grammar.{truth_word, spelling_operand, sign_of, or_word, and_word, ors, ands, opened_times, spelling_condition, IsCondition, IsConjunct, IsNegated, IsOperand}
-use Rattle.circus_placing.specs.Reading.{seen_comparison, related, relation, differing, filled_condition, too_deep, no_deeper, alone_start, alone_by, chained, joined, chain, grouped_with, denied_with, negated, further_and, further_or, conjunct, condition}
+use Rattle.circus_placing.specs.Reading.{seen_comparison, relation_from, relation, differ_test, filled_condition, too_deep, no_deeper, alone_start, alone_by, chained, join_chain, chain, grouped_with, denied_with, negation, further_and, further_or, conjunct, condition}
 use Rattle.circus_placing.proofs.Parts.{each_listed, listed_each, Calms, IsCompared, IsRelated, IsDiffering, lawful_relation, lawful_differing}
 use Rattle.circus_placing.proofs.Ways.{due_is, number_is, text_is, seen_is, Image, lawful_image, sound_read, lawful_read, branch_too_deep}
 
@@ -57,15 +57,15 @@ spelling_part operator w = due operator ∷ spelling_condition w
 
 abbrev pub spelling_parts : Lexeme → List Written → List Due
 spelling_parts operator [] = []
-spelling_parts operator (x ∷ xs) = spelling_part operator x ++ opened (spelling_parts operator xs)
+spelling_parts operator (x ∷ xs) = spelling_part operator x ++ open_level (spelling_parts operator xs)
 
-opened_append : (ds es : List Due) → opened (ds ++ es) ≡ opened ds ++ opened es
+opened_append : (ds es : List Due) → open_level (ds ++ es) ≡ open_level ds ++ open_level es
 opened_append [] es = refl
 opened_append (d ∷ ds) es = ap (λ l. deeper d ∷ l) (opened_append ds es)
 
 times_append : (n : ℕ) (ds es : List Due) → opened_times n (ds ++ es) ≡ opened_times n ds ++ opened_times n es
 times_append zero ds es = refl
-times_append (suc n) ds es = ap (opened_times n) (opened_append ds es) ∙ times_append n (opened ds) (opened es)
+times_append (suc n) ds es = ap (opened_times n) (opened_append ds es) ∙ times_append n (open_level ds) (open_level es)
 
 times_none : (n : ℕ) → opened_times n [] ≡ []
 times_none zero = refl
@@ -76,28 +76,28 @@ more_spelled : (n : ℕ) (before : List Due) (operator : Lexeme) (x : Written) (
     → (before ++ opened_times n (spelling_part operator x)) ++ opened_times (suc n) (spelling_parts operator xs) ≡ before ++ opened_times n (spelling_parts operator (x ∷ xs))
 more_spelled n before operator x xs =
     append_assoc before (opened_times n (spelling_part operator x)) (opened_times (suc n) (spelling_parts operator xs))
-    ∙ ap (λ l. before ++ l) (sym (times_append n (spelling_part operator x) (opened (spelling_parts operator xs))))
+    ∙ ap (λ l. before ++ l) (sym (times_append n (spelling_part operator x) (open_level (spelling_parts operator xs))))
 
-and_spelled : (w : Written) (xs : List Written) → spelling_condition (joined and w xs) ≡ spelling_condition w ++ opened_times (ands w) (spelling_parts and_word xs)
+and_spelled : (w : Written) (xs : List Written) → spelling_condition (join_chain and w xs) ≡ spelling_condition w ++ opened_times (ands w) (spelling_parts and_word xs)
 and_spelled w [] = sym (ap (λ l. spelling_condition w ++ l) (times_none (ands w)) ∙ append-nil (spelling_condition w))
 and_spelled w (x ∷ xs) = and_spelled (and w x) xs ∙ more_spelled (ands w) (spelling_condition w) and_word x xs
 
-or_spelled : (w : Written) (xs : List Written) → spelling_condition (joined or w xs) ≡ spelling_condition w ++ opened_times (ors w) (spelling_parts or_word xs)
+or_spelled : (w : Written) (xs : List Written) → spelling_condition (join_chain or w xs) ≡ spelling_condition w ++ opened_times (ors w) (spelling_parts or_word xs)
 or_spelled w [] = sym (ap (λ l. spelling_condition w ++ l) (times_none (ors w)) ∙ append-nil (spelling_condition w))
 or_spelled w (x ∷ xs) = or_spelled (or w x) xs ∙ more_spelled (ors w) (spelling_condition w) or_word x xs
 
-pub and_chain : (w : Written) (xs : List Written) → ands w ≡ 0 → spelling_condition (joined and w xs) ≡ spelling_condition w ++ spelling_parts and_word xs
-and_chain w xs none = subst (λ n. spelling_condition (joined and w xs) ≡ spelling_condition w ++ opened_times n (spelling_parts and_word xs)) none (and_spelled w xs)
+pub and_chain : (w : Written) (xs : List Written) → ands w ≡ 0 → spelling_condition (join_chain and w xs) ≡ spelling_condition w ++ spelling_parts and_word xs
+and_chain w xs none = subst (λ n. spelling_condition (join_chain and w xs) ≡ spelling_condition w ++ opened_times n (spelling_parts and_word xs)) none (and_spelled w xs)
 
-pub or_chain : (w : Written) (xs : List Written) → ors w ≡ 0 → spelling_condition (joined or w xs) ≡ spelling_condition w ++ spelling_parts or_word xs
-or_chain w xs none = subst (λ n. spelling_condition (joined or w xs) ≡ spelling_condition w ++ opened_times n (spelling_parts or_word xs)) none (or_spelled w xs)
+pub or_chain : (w : Written) (xs : List Written) → ors w ≡ 0 → spelling_condition (join_chain or w xs) ≡ spelling_condition w ++ spelling_parts or_word xs
+or_chain w xs none = subst (λ n. spelling_condition (join_chain or w xs) ≡ spelling_condition w ++ opened_times n (spelling_parts or_word xs)) none (or_spelled w xs)
 
 -- a chain and its parts
-and_good : (w : Written) (xs : List Written) → IsConjunct w → IsEach IsNegated xs → IsConjunct (joined and w xs)
+and_good : (w : Written) (xs : List Written) → IsConjunct w → IsEach IsNegated xs → IsConjunct (join_chain and w xs)
 and_good w [] g f = g
 and_good w (x ∷ xs) g f = and_good (and w x) xs (g, f.0) f.1
 
-or_good : (w : Written) (xs : List Written) → IsCondition w → IsEach IsConjunct xs → IsCondition (joined or w xs)
+or_good : (w : Written) (xs : List Written) → IsCondition w → IsEach IsConjunct xs → IsCondition (join_chain or w xs)
 or_good w [] g f = g
 or_good w (x ∷ xs) g f = or_good (or w x) xs (g, f.0) f.1
 
@@ -105,12 +105,12 @@ each_more : (Good : Written → Type 0) (xs : List Written) (x : Written) → Is
 each_more Good [] x f g = (g, tt)
 each_more Good (y ∷ ys) x f g = (f.0, each_more Good ys x f.1 g)
 
-joined_more : (join : Written → Written → Written) (w : Written) (xs : List Written) (x : Written) → joined join w (xs ++ x ∷ []) ≡ join (joined join w xs) x
+joined_more : (join : Written → Written → Written) (w : Written) (xs : List Written) (x : Written) → join_chain join w (xs ++ x ∷ []) ≡ join (join_chain join w xs) x
 joined_more join w [] x = refl
 joined_more join w (y ∷ ys) x = joined_more join (join w y) ys x
 
 abbrev AndParts : Written → Type 0
-AndParts w = (x : Written × List Written) × (joined and x.0 x.1 ≡ w) × (IsNegated x.0 × IsEach IsNegated x.1) × (spelling_condition (joined and x.0 x.1) ≡ spelling_condition x.0 ++ spelling_parts and_word x.1)
+AndParts w = (x : Written × List Written) × (join_chain and x.0 x.1 ≡ w) × (IsNegated x.0 × IsEach IsNegated x.1) × (spelling_condition (join_chain and x.0 x.1) ≡ spelling_condition x.0 ++ spelling_parts and_word x.1)
 
 no_ands : (w : Written) → IsNegated w → ands w ≡ 0
 no_ands (or a b) g = refl
@@ -145,7 +145,7 @@ and_parts_of (compare c a b) g = and_single (compare c a b) g
 and_parts_of (holds a) g = and_single (holds a) g
 
 abbrev OrParts : Written → Type 0
-OrParts w = (x : Written × List Written) × (joined or x.0 x.1 ≡ w) × (IsConjunct x.0 × IsEach IsConjunct x.1) × (spelling_condition (joined or x.0 x.1) ≡ spelling_condition x.0 ++ spelling_parts or_word x.1)
+OrParts w = (x : Written × List Written) × (join_chain or x.0 x.1 ≡ w) × (IsConjunct x.0 × IsEach IsConjunct x.1) × (spelling_condition (join_chain or x.0 x.1) ≡ spelling_condition x.0 ++ spelling_parts or_word x.1)
 
 or_single : (w : Written) → IsConjunct w → OrParts w
 or_single w g = ((w, []), refl, (g, tt), sym (append-nil (spelling_condition w)))
@@ -166,34 +166,34 @@ or_parts_of (holds a) g = or_single (holds a) g
 abbrev Single : Written → Type 0
 Single w = (ors w ≡ 0) × (ands w ≡ 0)
 
-single_relation : (a : OperandText) (o : Option (Comparison × OperandText)) → Single (related a o)
+single_relation : (a : OperandText) (o : Option (Comparison × OperandText)) → Single (relation_from a o)
 single_relation a None = (refl, refl)
 single_relation a (Some x) = (refl, refl)
 
 single_by : (denied grouped : Reader → Written × Reader) (k : AloneStart) (r : Reader) → Single (denied r).0 → Single (grouped r).0 → Single (alone_by denied grouped k r).0
-unfolding relation differing
+unfolding relation differ_test
 single_by denied grouped begins.Not r d g = d
 single_by denied grouped begins.Group r d g = g
 single_by denied grouped begins.Differ r d g = (refl, refl)
 single_by denied grouped begins.Relation r d g = single_relation _ _
 
-pub single_negated : (n : ℕ) (r : Reader) → Single (negated n r).0
-unfolding negated too_deep
+pub single_negated : (n : ℕ) (r : Reader) → Single (negation n r).0
+unfolding negation too_deep
 single_negated zero r = single_by _ _ (alone_start (next r)) r (refl, refl) (refl, refl)
 single_negated (suc n) r = single_by _ _ (alone_start (next r)) r (refl, refl) (refl, refl)
 
-single_joined : (w : Written) (xs : List Written) → ors w ≡ 0 → ors (joined and w xs) ≡ 0
+single_joined : (w : Written) (xs : List Written) → ors w ≡ 0 → ors (join_chain and w xs) ≡ 0
 single_joined w [] none = none
 single_joined w (x ∷ xs) none = single_joined (and w x) xs refl
 
 pub single_conjunct : (n : ℕ) (r : Reader) → ors (conjunct n r).0 ≡ 0
 unfolding conjunct
-single_conjunct n r = single_joined (negated n r).0 (chained and_word (negated n) (further_and n) (negated n r).1).0 (single_negated n r).0
+single_conjunct n r = single_joined (negation n r).0 (chained and_word (negation n) (further_and n) (negation n r).1).0 (single_negated n r).0
 
 -- What is read is spelled.
 
 abbrev spelling_further : Lexeme → List Written → List Due
-spelling_further operator xs = opened (spelling_parts operator xs)
+spelling_further operator xs = open_level (spelling_parts operator xs)
 
 sound_chained : (operator : Lexeme) {Good : Written → Type 0} {part : Reader → Written × Reader} {further : Reader → List Written × Reader} → Sound part spelling_condition Good
     → Sound further (spelling_further operator) (IsEach Good) → Sound (chained operator part further) (spelling_parts operator) (IsEach Good)
@@ -205,12 +205,12 @@ sound_chained operator {Good} P F =
 sound_ands : {part : Reader → Written × Reader} {further : Reader → List Written × Reader} → ((r : Reader) → ands (part r).0 ≡ 0) → Sound part spelling_condition IsNegated
     → Sound further (spelling_further and_word) (IsEach IsNegated) → Sound (chain and and_word part further) spelling_condition IsConjunct
 sound_ands single P F =
-    sound_read (λ x. joined and x.0 x.1) spelling_condition IsConjunct (λ r. and_chain _ _ (single r)) (λ x g. and_good x.0 x.1 (conjunct_of x.0 g.0) g.1) (sound_both P (sound_chained and_word P F))
+    sound_read (λ x. join_chain and x.0 x.1) spelling_condition IsConjunct (λ r. and_chain _ _ (single r)) (λ x g. and_good x.0 x.1 (conjunct_of x.0 g.0) g.1) (sound_both P (sound_chained and_word P F))
 
 sound_ors : {part : Reader → Written × Reader} {further : Reader → List Written × Reader} → ((r : Reader) → ors (part r).0 ≡ 0) → Sound part spelling_condition IsConjunct
     → Sound further (spelling_further or_word) (IsEach IsConjunct) → Sound (chain or or_word part further) spelling_condition IsCondition
 sound_ors single P F =
-    sound_read (λ x. joined or x.0 x.1) spelling_condition IsCondition (λ r. or_chain _ _ (single r)) (λ x g. or_good x.0 x.1 (condition_of x.0 g.0) g.1) (sound_both P (sound_chained or_word P F))
+    sound_read (λ x. join_chain or x.0 x.1) spelling_condition IsCondition (λ r. or_chain _ _ (single r)) (λ x g. or_good x.0 x.1 (condition_of x.0 g.0) g.1) (sound_both P (sound_chained or_word P F))
 
 sound_no_deeper : (operator : Lexeme) (Good : Written → Type 0) → Sound no_deeper (spelling_further operator) (IsEach Good)
 unfolding no_deeper
@@ -242,9 +242,9 @@ abbrev IsNegatedBy : AloneStart → Written → Type 0
 IsNegatedBy begins.Not = Image not IsNegated
 IsNegatedBy begins.Group = Image (λ (x : Written × Unit {0}). group x.0) (λ x. IsCondition x.0 × Unit {0})
 IsNegatedBy begins.Differ = Image (λ (x : Unit {0} × (Unit {0} × Named)). differ x.1.1) IsDiffering
-IsNegatedBy begins.Relation = Image (λ (x : OperandText × Option (Comparison × OperandText)). related x.0 x.1) IsRelated
+IsNegatedBy begins.Relation = Image (λ (x : OperandText × Option (Comparison × OperandText)). relation_from x.0 x.1) IsRelated
 
-related_good : (a : OperandText) (o : Option (Comparison × OperandText)) → IsOperand a → IfWritten IsCompared o → IsNegated (related a o)
+related_good : (a : OperandText) (o : Option (Comparison × OperandText)) → IsOperand a → IfWritten IsCompared o → IsNegated (relation_from a o)
 related_good a None g h = g
 related_good a (Some x) g h = (g, h)
 
@@ -254,7 +254,7 @@ good_negated begins.Group w (x, is, g) = subst IsNegated is g.0
 good_negated begins.Differ w (x, is, g) = subst IsNegated is g.1.1
 good_negated begins.Relation w (x, is, g) = subst IsNegated is (related_good x.0 x.1 g.0 g.1)
 
-sound_alone : {denied grouped : Reader → Written × Reader} → Sound denied spelling_condition IsNegated → Sound grouped spelling_condition IsNegated → Sound (cased alone_start (alone_by denied grouped)) spelling_condition IsNegated
+sound_alone : {denied grouped : Reader → Written × Reader} → Sound denied spelling_condition IsNegated → Sound grouped spelling_condition IsNegated → Sound (choose_by alone_start (alone_by denied grouped)) spelling_condition IsNegated
 sound_alone {denied} {grouped} D G = sound_cased alone_start (alone_by denied grouped) by_start
   where
     by_start : (k : AloneStart) → Sound (alone_by denied grouped k) spelling_condition IsNegated
@@ -264,9 +264,9 @@ sound_alone {denied} {grouped} D G = sound_cased alone_start (alone_by denied gr
     by_start begins.Relation = sound_good IsNegated (good_negated begins.Relation) (lawful_relation 0).narrow
 
 mutual
-  unfolding negated further_and further_or conjunct
+  unfolding negation further_and further_or conjunct
 
-  sound_negated : (n : ℕ) → Sound (negated n) spelling_condition IsNegated
+  sound_negated : (n : ℕ) → Sound (negation n) spelling_condition IsNegated
   sound_negated zero = sound_alone sound_too_deep sound_too_deep
   sound_negated (suc n) = sound_alone (sound_denied (sound_negated n)) (sound_grouped (sound_ors (single_conjunct n) (sound_ands (λ r. (single_negated n r).1) (sound_negated n) (sound_further_and n)) (sound_further_or n)))
 
@@ -332,7 +332,7 @@ or_follows o hit = (
 parts_link : (operator : Lexeme) (Stays : Option Placed → Type 0) → ((o : Option Placed) → passes (is_lexeme operator) o ≡ true → Stays o)
     → (xs : List Written) (ts rest : List Placed) → AreDue (spelling_parts operator xs) ts → Stays (first rest) → Stays (first (ts ++ rest))
 parts_link operator Stays follows [] ts rest d stays = subst (λ (us : List Placed). Stays (first (us ++ rest))) (sym (AreDue-none ts d)) stays
-parts_link operator Stays follows (x ∷ xs) ts rest d stays = follows (first (ts ++ rest)) (opens_due operator (spelling_condition x ++ opened (spelling_parts operator xs)) ts rest d)
+parts_link operator Stays follows (x ∷ xs) ts rest d stays = follows (first (ts ++ rest)) (opens_due operator (spelling_condition x ++ open_level (spelling_parts operator xs)) ts rest d)
 
 lawful_chained : (n : ℕ) (operator : Lexeme) {Good : Written → Type 0} {Stays : Option Placed → Type 0} {part part' : Reader → Written × Reader} {further further' : Reader → List Written × Reader}
     → ((o : Option Placed) → passes (is_lexeme operator) o ≡ true → Stays o) → Lawful n part part' spelling_condition Good Stays
@@ -351,7 +351,7 @@ lawful_chained n operator {Good} {Stays} follows P F =
 
     opens : (xs : List Written) (ts rest : List Placed) → IsListed Good xs → AreDue (spelling_parts operator xs) ts → passes (is_lexeme operator) (first (ts ++ rest)) ≡ true
     opens [] ts rest g d = absurd g
-    opens (x ∷ xs) ts rest g d = opens_due operator (spelling_condition x ++ opened (spelling_parts operator xs)) ts rest d
+    opens (x ∷ xs) ts rest g d = opens_due operator (spelling_condition x ++ open_level (spelling_parts operator xs)) ts rest d
 
 -- where no level is left
 lawful_no_further : (operator : Lexeme) {Good : Written → Type 0} {Stays : Option Placed → Type 0} {part : Reader → Written × Reader} {further : Reader → List Written × Reader} → Sound part spelling_condition Good
@@ -404,7 +404,7 @@ alone_begins (holds a) ts rest g d = (begins.Relation, operand_is a [] ts rest (
 
 lawful_alone : (n : ℕ) {denied denied' grouped grouped' : Reader → Written × Reader} → Branch alone_start begins.Not n denied denied' spelling_condition IsNegated (IsNegatedBy begins.Not) Calms
     → Branch alone_start begins.Group n grouped grouped' spelling_condition IsNegated (IsNegatedBy begins.Group) Calms
-    → Lawful n (cased alone_start (alone_by denied grouped)) (cased alone_start (alone_by denied' grouped')) spelling_condition IsNegated Calms
+    → Lawful n (choose_by alone_start (alone_by denied grouped)) (choose_by alone_start (alone_by denied' grouped')) spelling_condition IsNegated Calms
 unfolding alone_start
 lawful_alone n {denied} {denied'} {grouped} {grouped'} D G =
     lawful_cased alone_start n (alone_by denied grouped) (alone_by denied' grouped') IsNegatedBy branches (λ s ts e. refl) (λ w ts rest g d stays. alone_begins w ts rest g d)
@@ -460,20 +460,20 @@ lawful_ands : (n : ℕ) {part part' : Reader → Written × Reader} {further fur
     → Lawful n part part' spelling_condition IsNegated Calms → Lawful n further further' (spelling_further and_word) (IsEach IsNegated) EndsAnd
     → Lawful n (chain and and_word part further) (chain and and_word part' further') spelling_condition IsConjunct EndsAnd
 lawful_ands n single single' P F =
-    lawful_read n (λ x. joined and x.0 x.1) spelling_condition IsConjunct (λ r. and_chain _ _ (single r)) (λ r. and_chain _ _ (single' r)) (λ x g. and_good x.0 x.1 (conjunct_of x.0 g.0) g.1) and_parts_of
+    lawful_read n (λ x. join_chain and x.0 x.1) spelling_condition IsConjunct (λ r. and_chain _ _ (single r)) (λ r. and_chain _ _ (single' r)) (λ x g. and_good x.0 x.1 (conjunct_of x.0 g.0) g.1) and_parts_of
     (lawful_both n P (lawful_chained n and_word and_follows P F) (λ xs ts rest g d h. parts_link and_word Calms and_follows xs ts rest d h.0))
 
 lawful_ors : (n : ℕ) {part part' : Reader → Written × Reader} {further further' : Reader → List Written × Reader} → ((r : Reader) → ors (part r).0 ≡ 0) → ((r : Reader) → ors (part' r).0 ≡ 0)
     → Lawful n part part' spelling_condition IsConjunct EndsAnd → Lawful n further further' (spelling_further or_word) (IsEach IsConjunct) EndsOr
     → Lawful n (chain or or_word part further) (chain or or_word part' further') spelling_condition IsCondition EndsOr
 lawful_ors n single single' P F =
-    lawful_read n (λ x. joined or x.0 x.1) spelling_condition IsCondition (λ r. or_chain _ _ (single r)) (λ r. or_chain _ _ (single' r)) (λ x g. or_good x.0 x.1 (condition_of x.0 g.0) g.1) or_parts_of
+    lawful_read n (λ x. join_chain or x.0 x.1) spelling_condition IsCondition (λ r. or_chain _ _ (single r)) (λ r. or_chain _ _ (single' r)) (λ x g. or_good x.0 x.1 (condition_of x.0 g.0) g.1) or_parts_of
     (lawful_both n P (lawful_chained n or_word or_follows P F) (λ xs ts rest g d h. parts_link or_word EndsAnd or_follows xs ts rest d h.0))
 
 mutual
-  unfolding negated further_and further_or conjunct
+  unfolding negation further_and further_or conjunct
 
-  lawful_negated : (n m : ℕ) → n < m → Lawful n (negated n) (negated m) spelling_condition IsNegated Calms
+  lawful_negated : (n m : ℕ) → n < m → Lawful n (negation n) (negation m) spelling_condition IsNegated Calms
   lawful_negated n zero less = absurd (omega (arith, less))
   lawful_negated zero (suc m) less =
       lawful_alone 0 (denied_too_deep (sound_negated m))

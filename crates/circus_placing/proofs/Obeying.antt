@@ -14,7 +14,7 @@ use Rattle.circus_placing.specs.ConditionTree.{tree_of}
 use Rattle.circus_placing.specs.ConditionTree as tree
 use Rattle.circus_placing.specs.Obeys.{most_machines, most_members, IsOfMember, AreOfMembers, Obeys}
 use Rattle.circus_fault.specs.Least.{faults_if, out_of}
-use Rattle.circus_fault.specs.Known.{Known, nobody, also}
+use Rattle.circus_fault.specs.Known.{Known, nobody, add_name}
 use Rattle.circus_fault.proofs.Items.{none_in}
 use Rattle.circus_fault.proofs.KnownNames.{IsFresh, apart, Numbered, all_numbered}
 use Rattle.circus_fault.proofs.NoFaults.{no_fault, in_range}
@@ -24,7 +24,7 @@ use Rattle.circus_placing.specs.declared.text.MachineText.{MachineText}
 use Rattle.circus_placing.specs.declared.text.OperandText.{OperandText}
 use Rattle.circus_placing.specs.declared.text.OperandText.TheVariants as operand
 use Rattle.circus_placing.specs.Written.{Written, or, and, not, group, differ, compare, holds, PlacingTree}
-use Rattle.circus_placing.specs.Faults.{repeated, repeated_names, attribute_names, machine_faults, machines_faults, numbers_of, operand_faults, condition_faults, unknown_names, present_faults, placing_faults}
+use Rattle.circus_placing.specs.Faults.{repeat_faults, repeated_names, attribute_names, machine_faults, machines_faults, numbers_of, operand_faults, condition_faults, unknown_names, present_faults, placing_faults}
 use Rattle.circus_placing.specs.Means.{attribute_meant, machine_meant, operand_meant, condition_meant, present_meant, Means}
 use Rattle.circus_placing.specs.Seen.Cut.{operand_cut, condition_cut, name_cut, present_cut}
 
@@ -38,8 +38,8 @@ attributes_apart : (known : Known) (attributes : List AttributeText) → repeate
     → AllByRecursion (λ (a : Attribute). IsFresh known a.name) (map attribute_meant attributes) × AllPairs (λ (a b : Attribute). a.name ≢ b.name) (map attribute_meant attributes)
 attributes_apart known [] none = (tt, no_pairs (λ (a b : Attribute). a.name ≢ b.name))
 attributes_apart known (a ∷ more) none =
-    let (own, rest) = none_in (repeated known a.name) (repeated_names (also a.name.name 0 known) (attribute_names more)) none in
-    let (fresh, pairs) = attributes_apart (also a.name.name 0 known) more rest in
+    let (own, rest) = none_in (repeat_faults known a.name) (repeated_names (add_name a.name.name 0 known) (attribute_names more)) none in
+    let (fresh, pairs) = attributes_apart (add_name a.name.name 0 known) more rest in
     let (fresh_ones, others) = apart (λ (b : Attribute). b.name) known a.name.name 0 (map attribute_meant more) fresh in (
       (no_fault _ _ _ own, fresh_ones),
       AllPairs-cons (λ (a b : Attribute). a.name ≢ b.name) (attribute_meant a) (map attribute_meant more) (All-from_recursion (λ (b : Attribute). a.name.name ≢ b.name) (map attribute_meant more) others) pairs,
@@ -59,10 +59,10 @@ record AreMachines (known : Known) (number : ℕ) (machines : List Machine) : Ty
 machines_good : (known : Known) (number : ℕ) (ms : List MachineText) → machines_faults known number ms ≡ [] → AreMachines known number (map machine_meant ms)
 machines_good known number [] none = record { fresh = tt; pairs = no_pairs (λ (m n : Machine). m.name ≢ n.name); own = tt; few = λ low. omega (arith, low) }
 machines_good known number (m ∷ ms) none =
-    let (first, rest) = none_in (machine_faults known number m) (machines_faults (also m.name.name number known) (number + 1) ms) none in
-    let (name_and_number, attributes) = none_in (repeated known m.name ++ faults_if (number == most_machines) m.name.at _) (repeated_names nobody (attribute_names m.attributes)) first in
-    let (name, many) = none_in (repeated known m.name) (faults_if (number == most_machines) m.name.at _) name_and_number in
-    let others = machines_good (also m.name.name number known) (number + 1) ms rest in
+    let (first, rest) = none_in (machine_faults known number m) (machines_faults (add_name m.name.name number known) (number + 1) ms) none in
+    let (name_and_number, attributes) = none_in (repeat_faults known m.name ++ faults_if (number == most_machines) m.name.at _) (repeated_names nobody (attribute_names m.attributes)) first in
+    let (name, many) = none_in (repeat_faults known m.name) (faults_if (number == most_machines) m.name.at _) name_and_number in
+    let others = machines_good (add_name m.name.name number known) (number + 1) ms rest in
     let (fresh_ones, apart_ones) = apart (λ (n : Machine). n.name) known m.name.name number (map machine_meant ms) others.fresh in
     record {
       fresh = (no_fault _ _ _ name, fresh_ones);
@@ -101,8 +101,8 @@ names_cut known count (n ∷ ns) low N none =
 names_fresh : (known : Known) (names : List Named) → repeated_names known names ≡ [] → AllByRecursion (λ (n : Named). IsFresh known n.name) names
 names_fresh known [] none = tt
 names_fresh known (n ∷ ns) none =
-    let (own, rest) = none_in (repeated known n) (repeated_names (also n.name 0 known) ns) none in
-    (no_fault _ _ _ own, (apart (λ (m : Named). m.name) known n.name 0 ns (names_fresh (also n.name 0 known) ns rest)).0)
+    let (own, rest) = none_in (repeat_faults known n) (repeated_names (add_name n.name 0 known) ns) none in
+    (no_fault _ _ _ own, (apart (λ (m : Named). m.name) known n.name 0 ns (names_fresh (add_name n.name 0 known) ns rest)).0)
 
 -- names that are unlike have unlike numbers
 others_apart : (known : Known) (count : ℕ) (n : Named) (ns : List Named) → Numbered known count → known n.name ≡ Some (number_of known n) → unknown_names known ns ≡ [] → AllByRecursion (λ (m : Named). n.name ≢ m.name) ns
@@ -118,11 +118,11 @@ names_apart : (known before : Known) (count : ℕ) (names : List Named) → Numb
 names_apart known before count [] N none once = no_pairs (λ m n. m ≢ n)
 names_apart known before count (n ∷ ns) N none once =
     let (own, rest) = none_in (faults_if (is_none (known n.name)) n.at _) (unknown_names known ns) none in
-    let (first, later) = none_in (repeated before n) (repeated_names (also n.name 0 before) ns) once in
-    let others = (apart (λ (m : Named). m.name) before n.name 0 ns (names_fresh (also n.name 0 before) ns later)).1 in
+    let (first, later) = none_in (repeat_faults before n) (repeated_names (add_name n.name 0 before) ns) once in
+    let others = (apart (λ (m : Named). m.name) before n.name 0 ns (names_fresh (add_name n.name 0 before) ns later)).1 in
     AllPairs-cons (λ m n. m ≢ n) (number_of known n) (map (number_of known) ns)
     (All-from_recursion (λ k. number_of known n ≢ k) (map (number_of known) ns) (others_apart known count n ns N (number_is (known n.name) (no_fault _ _ _ own)) rest others))
-    (names_apart known (also n.name 0 before) count ns N rest later)
+    (names_apart known (add_name n.name 0 before) count ns N rest later)
 
 record ArePresent (known : Known) (count : ℕ) (numbers cut : List ℕ) : Type 0 where
   below : All (λ m. m < count) numbers

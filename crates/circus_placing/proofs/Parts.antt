@@ -7,8 +7,8 @@ use Rattle.circus_text.specs.Token.{Lexeme, IsSpelling}
 use Rattle.circus_syntax.specs.declared.named.Named.{Named}
 use Rattle.circus_syntax.specs.declared.named.Numeral.{Numeral}
 use Rattle.circus_syntax.specs.Placed.{Placed, first, same_kind, word, sign, is_lexeme, Due, due, due_name, AreDue}
-use Rattle.circus_syntax.specs.Reader.{Reader, passes, both, mapped}
-use Rattle.circus_syntax.specs.Reading.{fixed, named_of, filled_name}
+use Rattle.circus_syntax.specs.Reader.{Reader, passes, both, map_read}
+use Rattle.circus_syntax.specs.Reading.{expect_token, named_of, filled_name}
 use Rattle.circus_syntax.specs.Spelling.{with_commas, each, if_written, spelling_name, spelling_names, spelling_number, IsEach, IsListed, IfWritten, IsNumeral}
 use Rattle.circus_syntax.proofs.Sound.{Sound, sound_token}
 use Rattle.circus_syntax.proofs.Repeats.{Shrinks}
@@ -28,7 +28,7 @@ use Rattle.circus_placing.specs.declared.start.ValueStart.TheVariants as value
 use Rattle.circus_placing.specs.Words.{is_placing_word, placing_words}
 use Rattle.circus_placing.specs.Written.{differ}
 use Rattle.circus_placing.specs.Grammar.{truth_word, spelling_constant, spelling_attribute, spelling_machine, spelling_operand, sign_of, spelling_condition, IsOwnName, IsConstant, IsAttribute, IsMachine, IsOperand}
-use Rattle.circus_placing.specs.Reading.{is_own_name, own_name, own_names, value_start, constant_by, a_constant, operand_by, attribute, attributes, machine, machines, numbered, number_or_attribute, an_operand, seen_comparison, compared_by, compared, related, relation, differing}
+use Rattle.circus_placing.specs.Reading.{is_own_name, own_name, own_names, value_start, constant_by, a_constant, operand_by, attribute, attributes, machine, machines, number_operand, number_or_attribute, an_operand, seen_comparison, compared_by, rest_of_relation, relation_from, relation, differ_test}
 use Rattle.circus_placing.proofs.Ways.{due_is, number_is, text_is, Image, lawful_image, lawful_nothing}
 
 -- Names.
@@ -149,7 +149,7 @@ abbrev AreMachineParts : MachineParts → Type 0
 AreMachineParts x = IsOwnName x.0 × (Unit {0} × (IsEach IsAttribute x.1.1.0 × (Unit {0} × Unit {0})))
 
 abbrev machine_parts : Reader → MachineParts × Reader
-machine_parts = both own_name (both (fixed (sign (codes "["))) (both attributes (both (fixed (sign (codes "]"))) (fixed (sign (codes ";"))))))
+machine_parts = both own_name (both (expect_token (sign (codes "["))) (both attributes (both (expect_token (sign (codes "]"))) (expect_token (sign (codes ";"))))))
 
 machine_parts_lawful : (n : ℕ) → Lawful n machine_parts machine_parts spelling_machine_parts AreMachineParts Any
 machine_parts_lawful n =
@@ -172,7 +172,7 @@ lawful_machine n =
 
 pub shrinks_machine : Shrinks (is_lexeme machine_word) machine
 unfolding machine
-shrinks_machine r hit = shrinks_both (is_lexeme machine_word) (fixed machine_word) machine_parts (shrinks_fixed machine_word) (machine_parts_lawful 0).narrow r hit
+shrinks_machine r hit = shrinks_both (is_lexeme machine_word) (expect_token machine_word) machine_parts (shrinks_fixed machine_word) (machine_parts_lawful 0).narrow r hit
 
 abbrev pub NoMachine : Option Placed → Type 0
 NoMachine o = passes (is_lexeme machine_word) o ≡ false
@@ -187,21 +187,21 @@ lawful_machines n =
 
 -- Operands.
 
-numbered_spelled : (n : Numeral) (o : Option Named) → spelling_operand (numbered n o) ≡ spelling_number n ++ if_written (λ m. due (sign (codes ".")) ∷ spelling_name m) o
+numbered_spelled : (n : Numeral) (o : Option Named) → spelling_operand (number_operand n o) ≡ spelling_number n ++ if_written (λ m. due (sign (codes ".")) ∷ spelling_name m) o
 numbered_spelled n None = refl
 numbered_spelled n (Some m) = refl
 
 abbrev IsOperandBy : ValueStart → OperandText → Type 0
-IsOperandBy value.Number = Image (λ (x : Numeral × Option Named). numbered x.0 x.1) (λ x. IsNumeral x.0 × IfWritten IsOwnName x.1)
+IsOperandBy value.Number = Image (λ (x : Numeral × Option Named). number_operand x.0 x.1) (λ x. IsNumeral x.0 × IfWritten IsOwnName x.1)
 IsOperandBy k = Image (λ c. operand.Fixed c) (IsConstantBy k)
 
-fixed_lawful : (n : ℕ) (k : ValueStart) → Lawful n (mapped (λ c. operand.Fixed c) (constant_by k)) (mapped (λ c. operand.Fixed c) (constant_by k)) spelling_operand (Image (λ c. operand.Fixed c) (IsConstantBy k)) NotDot
+fixed_lawful : (n : ℕ) (k : ValueStart) → Lawful n (map_read (λ c. operand.Fixed c) (constant_by k)) (map_read (λ c. operand.Fixed c) (constant_by k)) spelling_operand (Image (λ c. operand.Fixed c) (IsConstantBy k)) NotDot
 fixed_lawful n k = lawful_weaker n NotDot (λ o h. tt) (lawful_image n (λ c. operand.Fixed c) spelling_operand (λ c. refl) (constant_by_lawful n k))
 
 operand_by_lawful : (n : ℕ) (k : ValueStart) → Lawful n (operand_by k) (operand_by k) spelling_operand (IsOperandBy k) NotDot
 unfolding number_or_attribute
 operand_by_lawful n value.Number =
-    lawful_image n (λ x. numbered x.0 x.1) spelling_operand (λ x. numbered_spelled x.0 x.1)
+    lawful_image n (λ x. number_operand x.0 x.1) spelling_operand (λ x. numbered_spelled x.0 x.1)
     (lawful_then n (lawful_number n)
     (lawful_weaker n NotDot (λ o h. (tt, h))
     (lawful_optional is_dot n (λ m ts rest g d. opens_due (sign (codes ".")) (spelling_name m) ts rest d) (lawful_at is_dot n (lawful_behind n (sign (codes ".")) (lawful_own_name n))))))
@@ -209,7 +209,7 @@ operand_by_lawful n value.Text = fixed_lawful n value.Text
 operand_by_lawful n value.True = fixed_lawful n value.True
 operand_by_lawful n value.False = fixed_lawful n value.False
 
-numbered_good : (n : Numeral) (o : Option Named) → IsNumeral n → IfWritten IsOwnName o → IsOperand (numbered n o)
+numbered_good : (n : Numeral) (o : Option Named) → IsNumeral n → IfWritten IsOwnName o → IsOperand (number_operand n o)
 numbered_good n None g h = g
 numbered_good n (Some m) g h = (g, h)
 
@@ -286,13 +286,13 @@ compared_begins None [] rest g d stays = (None, stays.1, refl)
 compared_begins None (t ∷ ts) rest g d stays = absurd d
 compared_begins (Some x) ts rest g d stays = (Some x.0, due_is seen_comparison (Some x.0) (sign_of x.0) (spelling_operand x.1) ts rest (comparison_starts x.0) d, (x.1, refl, g))
 
-lawful_compared : (n : ℕ) → Lawful n compared compared (if_written spelling_compared) (IfWritten IsCompared) Calms
-unfolding compared
+lawful_compared : (n : ℕ) → Lawful n rest_of_relation rest_of_relation (if_written spelling_compared) (IfWritten IsCompared) Calms
+unfolding rest_of_relation
 lawful_compared n =
     lawful_cased seen_comparison n compared_by compared_by IsComparedBy
     (λ k. branch_of seen_comparison k n (IfWritten IsCompared) (good_compared k) (compared_by_lawful n k)) (λ s ts e. refl) compared_begins
 
-related_spelled : (a : OperandText) (o : Option (Comparison × OperandText)) → spelling_condition (related a o) ≡ spelling_operand a ++ if_written spelling_compared o
+related_spelled : (a : OperandText) (o : Option (Comparison × OperandText)) → spelling_condition (relation_from a o) ≡ spelling_operand a ++ if_written spelling_compared o
 related_spelled a None = sym (append-nil (spelling_operand a))
 related_spelled a (Some x) = refl
 
@@ -304,17 +304,17 @@ compared_no_dot (Some x) ts rest d stays = due_is (passes is_dot) false (sign_of
 abbrev pub IsRelated : OperandText × Option (Comparison × OperandText) → Type 0
 IsRelated x = IsOperand x.0 × IfWritten IsCompared x.1
 
-pub lawful_relation : (n : ℕ) → Lawful n relation relation spelling_condition (Image (λ (x : OperandText × Option (Comparison × OperandText)). related x.0 x.1) IsRelated) Calms
+pub lawful_relation : (n : ℕ) → Lawful n relation relation spelling_condition (Image (λ (x : OperandText × Option (Comparison × OperandText)). relation_from x.0 x.1) IsRelated) Calms
 unfolding relation
 lawful_relation n =
-    lawful_image n (λ x. related x.0 x.1) spelling_condition (λ x. related_spelled x.0 x.1)
+    lawful_image n (λ x. relation_from x.0 x.1) spelling_condition (λ x. related_spelled x.0 x.1)
     (lawful_both n (lawful_operand n) (lawful_compared n) (λ o ts rest g d stays. compared_no_dot o ts rest d stays))
 
 abbrev pub IsDiffering : Unit {0} × (Unit {0} × Named) → Type 0
 IsDiffering x = Unit {0} × (Unit {0} × IsOwnName x.1.1)
 
-pub lawful_differing : (n : ℕ) → Lawful n differing differing spelling_condition (Image (λ (x : Unit {0} × (Unit {0} × Named)). differ x.1.1) IsDiffering) Calms
-unfolding differing
+pub lawful_differing : (n : ℕ) → Lawful n differ_test differ_test spelling_condition (Image (λ (x : Unit {0} × (Unit {0} × Named)). differ x.1.1) IsDiffering) Calms
+unfolding differ_test
 lawful_differing n =
     lawful_weaker n Calms (λ o h. tt)
     (lawful_image n (λ x. differ x.1.1) spelling_condition (λ x. refl)

@@ -18,7 +18,7 @@ use Rattle.circus_syntax.proofs.Lawful.{Lawful, lawful_at, lawful_weaker, lawful
 use Rattle.circus_placing.specs.declared.text.MachineText.{MachineText}
 use Rattle.circus_placing.specs.Written.{Written}
 use Rattle.circus_placing.specs.Grammar.{spelling_machine, spelling_condition, spelling_present, spelling, IsOwnName, IsGrammatical}
-use Rattle.circus_placing.specs.Reading.{seen_comparison, present, present_if_any, ended, heading, asked, placing_of_parts, placing}
+use Rattle.circus_placing.specs.Reading.{seen_comparison, names_present, present_if_any, text_end, heading, member_count, placing_of_parts, placing}
 use Rattle.circus_placing.proofs.Ways.{due_is}
 use Rattle.circus_placing.proofs.Parts.{NoMachine, lawful_own_names, lawful_machines}
 use Rattle.circus_placing.proofs.Conditions.{EndsOr, lawful_condition}
@@ -37,16 +37,16 @@ lawful_heading n =
 spelling_asked : Numeral → List Due
 spelling_asked k = due (word (codes "MEMBERS")) ∷ due_number k ∷ due (word (codes "WHERE")) ∷ []
 
-lawful_asked : (n : ℕ) → Lawful n asked asked spelling_asked IsNumeral Any
-unfolding asked spelling_asked
+lawful_asked : (n : ℕ) → Lawful n member_count member_count spelling_asked IsNumeral Any
+unfolding member_count spelling_asked
 lawful_asked n =
     lawful_mapped n (λ x. x.1.0) spelling_asked IsNumeral (λ x. refl) (λ x g. g.1.0) (λ k g. ((tt, (k, tt)), refl, (tt, (g, tt))))
     (lawful_then n (lawful_fixed n (word (codes "MEMBERS"))) (lawful_then n (lawful_number n) (lawful_fixed n (word (codes "WHERE")))))
 
 -- Which machines members are present on.
 
-lawful_present : (n : ℕ) → Lawful n present present spelling_present (IsListed IsOwnName) Any
-unfolding present
+lawful_present : (n : ℕ) → Lawful n names_present names_present spelling_present (IsListed IsOwnName) Any
+unfolding names_present
 lawful_present n =
     lawful_mapped n (λ x. x.1.0) spelling_present (IsListed IsOwnName) (λ x. refl) (λ x g. g.1.0) (λ ns g. ((tt, (ns, tt)), refl, (tt, (g, tt))))
     (lawful_then n (lawful_fixed n (word (codes "PRESENT")))
@@ -67,26 +67,26 @@ none_left (t ∷ ts) none = absurd (cc)
 abbrev Nothing : Unit {0} → List Due
 Nothing u = []
 
-ended_at : (t : Placed) (ts rest : List Placed) (e : ℕ) → first rest ≡ Some t → ended (reader None rest e) ≡ (tt, reader (Some (stop_at Unexpected t.start)) rest e)
-unfolding ended
+ended_at : (t : Placed) (ts rest : List Placed) (e : ℕ) → first rest ≡ Some t → text_end (reader None rest e) ≡ (tt, reader (Some (stop_at Unexpected t.start)) rest e)
+unfolding text_end
 ended_at t ts [] e same = absurd (cc)
 ended_at t ts (u ∷ us) e same =
     let heads : u ≡ t = cc in
     λ i. (tt, reader (Some (stop_at Unexpected (heads i).start)) (u ∷ us) e)
 
-ended_none : (rest : List Placed) (e : ℕ) → first rest ≡ None → ended (reader None rest e) ≡ (tt, reader None rest e)
-unfolding ended
+ended_none : (rest : List Placed) (e : ℕ) → first rest ≡ None → text_end (reader None rest e) ≡ (tt, reader None rest e)
+unfolding text_end
 ended_none [] e none = refl
 ended_none (t ∷ ts) e none = absurd (cc)
 
-sound_ended : Sound ended Nothing Always
-unfolding ended
+sound_ended : Sound text_end Nothing Always
+unfolding text_end
 sound_ended = record {
   fills = λ s e. record { tree = tt; more = []; stays = λ ts. refl; good = tt; due = tt; there = tt };
   runs = runs;
 }
   where
-    runs : (ts : List Placed) (e : ℕ) → Ran ended Nothing Always ts e
+    runs : (ts : List Placed) (e : ℕ) → Ran text_end Nothing Always ts e
     runs [] e = record { tree = tt; taken = []; left = []; stop = None; more = []; whole = refl; same = λ rest h. ended_none rest e h; ended = refl; good = λ a. tt; due = λ a. tt }
     runs (t ∷ ts) e = record {
       tree = tt;
@@ -101,19 +101,19 @@ sound_ended = record {
       due = λ a. tt;
     }
 
-lawful_ended : (n : ℕ) → Lawful n ended ended Nothing Always AtEnd
-unfolding ended
+lawful_ended : (n : ℕ) → Lawful n text_end text_end Nothing Always AtEnd
+unfolding text_end
 lawful_ended n = record {
   narrow = sound_ended;
   wide = sound_ended;
   complete = record {
     reads = λ u ts rest e good d stays.
-        subst (λ (us : List Placed). ended (reader None (us ++ rest) e) ≡ (u, reader None rest e)) (sym (AreDue-none ts d)) (ended_none rest e stays);
+        subst (λ (us : List Placed). text_end (reader None (us ++ rest) e) ≡ (u, reader None rest e)) (sym (AreDue-none ts d)) (ended_none rest e stays);
   };
   levels = record { narrow = calm_of sound_ended; wide = calm_of sound_ended; filled = λ s ts e. refl; reaches = reaches };
 }
   where
-    reaches : (ts : List Placed) (e : ℕ) → Reaches n Nothing ts (ended (reader None ts e)) (ended (reader None ts e))
+    reaches : (ts : List Placed) (e : ℕ) → Reaches n Nothing ts (text_end (reader None ts e)) (text_end (reader None ts e))
     reaches [] e = record { taken = []; whole = refl; fits = omega arith; full = λ none. refl; within = tt; further = refl }
     reaches (t ∷ ts) e = reaches_stop n Nothing (t ∷ ts) tt (stop_at Unexpected t.start) e refl
 

@@ -4,7 +4,7 @@ use Rattle.std.specs.Prelude.{Option, Some, None}
 use Rattle.circus_syntax.specs.declared.stopping.Stop.{Stop}
 use Rattle.circus_syntax.specs.Placed.{Placed, is_lexeme}
 use Rattle.circus_syntax.specs.Reader.{Reader, next, next_of, token_in, skipped_by}
-use Rattle.circus_syntax.specs.Reading.{fixed}
+use Rattle.circus_syntax.specs.Reading.{expect_token}
 use Rattle.circus_placing.specs.declared.condition.Comparison.{Comparison}
 use Rattle.circus_placing.specs.declared.condition.Comparison.TheVariants as by
 use Rattle.circus_placing.specs.Grammar.{sign_of}
@@ -27,8 +27,8 @@ has_its_sign t c found =
     found
 
 -- its sign is the token that is left behind
-pub sign_is : (c : Comparison) (r : Reader) → seen_comparison (next r) ≡ Some c → (fixed (sign_of c) r).1 ≡ skipped_by r.stop r.rest r.end
-unfolding seen_comparison fixed
+pub sign_is : (c : Comparison) (r : Reader) → seen_comparison (next r) ≡ Some c → (expect_token (sign_of c) r).1 ≡ skipped_by r.stop r.rest r.end
+unfolding seen_comparison expect_token
 sign_is c r found = of_parts r.stop r.rest found
   where
     of_parts : (stop : Option Stop) (ts : List Placed) → comparison_of (next_of stop ts) ≡ Some c → (token_in {A = Unit {0}} (is_lexeme (sign_of c)) (λ t. tt) (λ at. tt) stop ts r.end).1 ≡ skipped_by stop ts r.end

@@ -8,7 +8,7 @@ use Rattle.circus_syntax.specs.declared.stopping.Stop.{Stop}
 use Rattle.circus_syntax.specs.declared.stopping.StopCause.{StopCause}
 use Rattle.circus_syntax.specs.declared.stopping.StopCause.TheVariants.{Unexpected, TooDeep}
 use Rattle.circus_syntax.specs.Placed.{Placed, first, is_lexeme, Due, due, due_number, due_text, AreWithin, AreDue, StandWithin}
-use Rattle.circus_syntax.specs.Reader.{Reader, passes, stopped, nothing, mapped}
+use Rattle.circus_syntax.specs.Reader.{Reader, passes, stop_reading, nothing, map_read}
 use Rattle.circus_syntax.proofs.Opened.{StandsDeeper}
 use Rattle.circus_syntax.proofs.Sound.{Sound, reader, ran_is, AreDue-none, sound_nothing}
 use Rattle.circus_syntax.proofs.Repeats.{Shrinks}
@@ -49,7 +49,7 @@ abbrev pub Image : {A B : Type 0} → (A → B) → (A → Type 0) → B → Typ
 Image {A} f Good b = (x : A) × (f x ≡ b) × Good x
 
 pub lawful_image : {A B : Type 0} (n : ℕ) {p q : Reader → A × Reader} {sa : A → List Due} {ga : A → Type 0} {Stays : Option Placed → Type 0} (f : A → B) (sb : B → List Due)
-    → ((x : A) → sb (f x) ≡ sa x) → Lawful n p q sa ga Stays → Lawful n (mapped f p) (mapped f q) sb (Image f ga) Stays
+    → ((x : A) → sb (f x) ≡ sa x) → Lawful n p q sa ga Stays → Lawful n (map_read f p) (map_read f q) sb (Image f ga) Stays
 lawful_image n {ga = ga} f sb spelled P = lawful_mapped n f sb (Image f ga) spelled (λ x g. (x, refl, g)) (λ b g. g) P
 
 pub lawful_nothing : {A : Type 0} (n : ℕ) (none : A) (spell : A → List Due) (Is : A → Type 0) → spell none ≡ [] → Is none → ((a : A) → Is a → a ≡ none)
@@ -75,7 +75,7 @@ abbrev pub SpelledAs : {A B : Type 0} → (A → B) → (Reader → A × Reader)
 SpelledAs f p sb sa = (r : Reader) → sb (f (p r).0) ≡ sa (p r).0
 
 pub sound_read : {A B : Type 0} {p : Reader → A × Reader} {sa : A → List Due} {ga : A → Type 0} (f : A → B) (sb : B → List Due) (gb : B → Type 0)
-    → SpelledAs f p sb sa → ((x : A) → ga x → gb (f x)) → Sound p sa ga → Sound (mapped f p) sb gb
+    → SpelledAs f p sb sa → ((x : A) → ga x → gb (f x)) → Sound p sa ga → Sound (map_read f p) sb gb
 sound_read {A} {B} {p} {sa} f sb gb spelled kept P = record {
   fills = λ s e.
       let F = P.fills s e in
@@ -116,7 +116,7 @@ deeper_read {A} {B} n f sa sb taken (Some s) x y spelled is = by_cause s.cause i
     by_cause TooDeep deep = (deep.0, subst (λ ds. StandsDeeper n ds taken) (sym spelled) deep.1)
 
 levels_read : {A B : Type 0} (n : ℕ) (f : A → B) {p q : Reader → A × Reader} {sa : A → List Due} (sb : B → List Due) → SpelledAs f p sb sa → SpelledAs f q sb sa
-    → Levels n p q sa → Levels n (mapped f p) (mapped f q) sb
+    → Levels n p q sa → Levels n (map_read f p) (map_read f q) sb
 levels_read n f {p} {q} {sa} sb spelled spelled' P = record {
   narrow = calm_mapped f P.narrow;
   wide = calm_mapped f P.wide;
@@ -137,7 +137,7 @@ levels_read n f {p} {q} {sa} sb spelled spelled' P = record {
 
 pub lawful_read : {A B : Type 0} (n : ℕ) {p q : Reader → A × Reader} {sa : A → List Due} {ga : A → Type 0} {Stays : Option Placed → Type 0} (f : A → B) (sb : B → List Due) (gb : B → Type 0)
     → SpelledAs f p sb sa → SpelledAs f q sb sa → ((x : A) → ga x → gb (f x)) → ((b : B) → gb b → (x : A) × (f x ≡ b) × ga x × (sb (f x) ≡ sa x))
-    → Lawful n p q sa ga Stays → Lawful n (mapped f p) (mapped f q) sb gb Stays
+    → Lawful n p q sa ga Stays → Lawful n (map_read f p) (map_read f q) sb gb Stays
 lawful_read n {p} {q} {sa} f sb gb spelled spelled' kept back P = record {
   narrow = sound_read f sb gb spelled kept P.narrow;
   wide = sound_read f sb gb spelled' kept P.wide;
@@ -153,8 +153,8 @@ lawful_read n {p} {q} {sa} f sb gb spelled spelled' kept back P = record {
 
 -- a way for which no level is left
 pub branch_too_deep : {K A : Type 0} (class : Option Placed → K) (k : K) (test : Placed → Bool) (fill : ℕ → A) {q : Reader → A × Reader} {spell : A → List Due} {Good Is : A → Type 0} {Stays : Option Placed → Type 0}
-    → Sound (stopped TooDeep fill) spell Good → Sound q spell Good → Shrinks test q → Deep q spell → ((a : A) → Is a → StandsDeeper 0 (spell a) [])
-    → ((ts : List Placed) → class (first ts) ≡ k → passes test (first ts) ≡ true) → Branch class k 0 (stopped TooDeep fill) q spell Good Is Stays
+    → Sound (stop_reading TooDeep fill) spell Good → Sound q spell Good → Shrinks test q → Deep q spell → ((a : A) → Is a → StandsDeeper 0 (spell a) [])
+    → ((ts : List Placed) → class (first ts) ≡ k → passes test (first ts) ≡ true) → Branch class k 0 (stop_reading TooDeep fill) q spell Good Is Stays
 branch_too_deep class k test fill {spell = spell} S W shrinks answers deep begins = record {
   narrow = S;
   wide = W;

@@ -13,7 +13,7 @@ use Rattle.circus_syntax.proofs.Widens.{Wider, WiderBy}
 use Rattle.circus_syntax.proofs.Levels.{widens_of_levels}
 use Rattle.circus_placing.specs.Written.{PlacingTree}
 use Rattle.circus_placing.specs.Grammar.{spelling, IsGrammatical, IsWithin, most_levels, IsPlacing, Begins, BeginsWithin}
-use Rattle.circus_placing.specs.Reading.{ended, placing}
+use Rattle.circus_placing.specs.Reading.{text_end, placing}
 use Rattle.circus_placing.specs.Stopping.{IsUnexpected, IsTooDeep, IsFilledIn}
 use Rattle.circus_placing.proofs.Placings.{lawful_placing}
 use Rattle.circus_placing.proofs.Within.{placing_within}
@@ -46,11 +46,11 @@ placing_one ts tree other first_is second_is =
     ap (λ (x : PlacingTree × Reader). x.0) same
 
 -- where it ended no token is left
-nothing_left : (s : Reader) → (ended s).1.stop ≡ None → (ended s).1.rest ≡ []
-unfolding ended
+nothing_left : (s : Reader) → (text_end s).1.stop ≡ None → (text_end s).1.rest ≡ []
+unfolding text_end
 nothing_left s none = by_parts s.stop s.rest none
   where
-    by_parts : (stop : Option Stop) (ts : List Placed) → (ended (reader stop ts s.end)).1.stop ≡ None → (ended (reader stop ts s.end)).1.rest ≡ []
+    by_parts : (stop : Option Stop) (ts : List Placed) → (text_end (reader stop ts s.end)).1.stop ≡ None → (text_end (reader stop ts s.end)).1.rest ≡ []
     by_parts (Some t) ts none = absurd (cc)
     by_parts None [] none = refl
     by_parts None (t ∷ ts) none = absurd (cc)

@@ -5,7 +5,7 @@ use Rattle.circus_syntax.specs.declared.stopping.Stop.{Stop}
 use Rattle.circus_placing.specs.Obeys.{most_machines, most_members}
 use Rattle.circus_fault.specs.declared.fault.Fault.{Fault}
 use Rattle.circus_fault.specs.Least.{faults_if, out_of}
-use Rattle.circus_fault.specs.Known.{Known, nobody, also}
+use Rattle.circus_fault.specs.Known.{Known, nobody, add_name}
 use Rattle.circus_fault.specs.Known as names
 use Rattle.circus_fault.specs.Stopping.{stop_faults}
 use Rattle.circus_placing.specs.declared.place_fault.PlaceCause.{PlaceCause}
@@ -17,12 +17,12 @@ use Rattle.circus_placing.specs.declared.text.OperandText.TheVariants as operand
 use Rattle.circus_placing.specs.Written.{Written, or, and, not, group, differ, compare, holds, PlacingTree}
 
 -- a name that stands before
-abbrev pub repeated : Known → Named → List (Fault PlaceCause)
-repeated known n = faults_if (is_some (known n.name)) n.at Repeated
+abbrev pub repeat_faults : Known → Named → List (Fault PlaceCause)
+repeat_faults known n = faults_if (is_some (known n.name)) n.at Repeated
 
 abbrev pub repeated_names : Known → List Named → List (Fault PlaceCause)
 repeated_names known [] = []
-repeated_names known (n ∷ ns) = repeated known n ++ repeated_names (also n.name 0 known) ns
+repeated_names known (n ∷ ns) = repeat_faults known n ++ repeated_names (add_name n.name 0 known) ns
 
 abbrev pub attribute_names : List AttributeText → List Named
 attribute_names attributes = map (λ (a : AttributeText). a.name) attributes
@@ -30,12 +30,12 @@ attribute_names attributes = map (λ (a : AttributeText). a.name) attributes
 -- the machine that has this number
 abbrev pub machine_faults : Known → ℕ → MachineText → List (Fault PlaceCause)
 machine_faults known number m =
-    repeated known m.name ++ faults_if (number == most_machines) m.name.at TooMany ++ repeated_names nobody (attribute_names m.attributes)
+    repeat_faults known m.name ++ faults_if (number == most_machines) m.name.at TooMany ++ repeated_names nobody (attribute_names m.attributes)
 
 -- the machines from this number on
 abbrev pub machines_faults : Known → ℕ → List MachineText → List (Fault PlaceCause)
 machines_faults known number [] = []
-machines_faults known number (m ∷ ms) = machine_faults known number m ++ machines_faults (also m.name.name number known) (number + 1) ms
+machines_faults known number (m ∷ ms) = machine_faults known number m ++ machines_faults (add_name m.name.name number known) (number + 1) ms
 
 -- the numbers of machines by their names
 abbrev pub numbers_of : List MachineText → Known

@@ -4,7 +4,7 @@ use Rattle.std.proofs.Common.{zero, suc}
 use Rattle.circus_text.specs.declared.token.TokenKind.TheVariants.{Word}
 use Rattle.circus_text.specs.Token.{IsSpelling, Lexeme}
 use Rattle.circus_syntax.specs.declared.named.Named.{Named}
-use Rattle.circus_syntax.specs.Placed.{Placed, word, sign, digits, Due, due, due_name, due_number, due_text, opened, AreWithin, AreDue}
+use Rattle.circus_syntax.specs.Placed.{Placed, word, sign, digits, Due, due, due_name, due_number, due_text, open_level, AreWithin, AreDue}
 use Rattle.circus_syntax.specs.Spelling.{each, with_commas, if_written, spelling_names, IsEach, IsListed, IfWritten, IsNumeral, IsText}
 use Rattle.circus_placing.specs.declared.condition.Comparison.{Comparison}
 use Rattle.circus_placing.specs.declared.condition.Comparison.TheVariants as by
@@ -63,14 +63,14 @@ ands _ = 0
 -- so many levels, with all that stands in them
 abbrev pub opened_times : ℕ → List Due → List Due
 opened_times zero ds = ds
-opened_times (suc n) ds = opened_times n (opened ds)
+opened_times (suc n) ds = opened_times n (open_level ds)
 
 -- a NOT and a group open a level; so does each operator of a chain but the first, from there to the chain's end
 abbrev pub spelling_condition : Written → List Due
 spelling_condition (or a b) = spelling_condition a ++ opened_times (ors a) (due or_word ∷ spelling_condition b)
 spelling_condition (and a b) = spelling_condition a ++ opened_times (ands a) (due and_word ∷ spelling_condition b)
-spelling_condition (not a) = opened (due (word (codes "NOT")) ∷ spelling_condition a)
-spelling_condition (group a) = opened (due (sign (codes "(")) ∷ (spelling_condition a ++ due (sign (codes ")")) ∷ []))
+spelling_condition (not a) = open_level (due (word (codes "NOT")) ∷ spelling_condition a)
+spelling_condition (group a) = open_level (due (sign (codes "(")) ∷ (spelling_condition a ++ due (sign (codes ")")) ∷ []))
 spelling_condition (differ name) = due (word (codes "ALL")) ∷ due (word (codes "DIFFER")) ∷ due_name name ∷ []
 spelling_condition (compare c a b) = spelling_operand a ++ due (sign_of c) ∷ spelling_operand b
 spelling_condition (holds a) = spelling_operand a

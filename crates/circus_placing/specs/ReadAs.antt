@@ -28,8 +28,8 @@ use Rattle.circus_placing.specs.Faults.{placing_faults, read_faults}
 use Rattle.circus_placing.specs.Means.{Means}
 
 -- all tokens of a text
-abbrev pub placed : List ℕ → List Token → List Placed
-placed text ts = placed_from text ts 0
+abbrev pub placed_tokens : List ℕ → List Token → List Placed
+placed_tokens text ts = placed_from text ts 0
 
 -- the text is a placing without a fault, which means this one
 pub record IsReadAs (text : List ℕ) (placing : Placing) : Type 0 where
@@ -37,7 +37,7 @@ pub record IsReadAs (text : List ℕ) (placing : Placing) : Type 0 where
   pub found : List Token
   pub tokens : AreTokensOf text found
   pub tree : PlacingTree
-  pub spelled : IsPlacing (placed text found) tree
+  pub spelled : IsPlacing (placed_tokens text found) tree
   pub within : IsWithin most_levels tree
   pub faultless : placing_faults tree ≡ []
   pub means : Means tree placing
@@ -57,8 +57,8 @@ pub record IsLeastOf (text : List ℕ) (found : List Token) (answer : PlaceFault
   pub tree : PlacingTree
   pub stop : Option Stop
   pub left : List Placed
-  pub is_read : placing most_levels (open_at (placed text found) (length text)) ≡ (tree, record { rest = left; end = length text; stop = stop })
-  pub tree_of : IsTreeOf (placed text found) (length text) stop tree
+  pub is_read : placing most_levels (open_at (placed_tokens text found) (length text)) ≡ (tree, record { rest = left; end = length text; stop = stop })
+  pub tree_of : IsTreeOf (placed_tokens text found) (length text) stop tree
   pub fault : Fault PlaceCause
   pub least : IsLeast rank_of fault (read_faults stop tree)
   pub given : answer ≡ Refused (line_of text fault.place) fault.cause

@@ -1,11 +1,11 @@
 // The least fault of a placing.
 ghost use Rattle.std.specs.Prelude.{◌≡◌, None, OnOk, IfOk};
 ghost use Rattle.circus_fault.specs.Least.{least_from};
-ghost use Rattle.circus_fault.specs.Known.{nobody, also};
+ghost use Rattle.circus_fault.specs.Known.{nobody, add_name};
 ghost use Rattle.circus_fault.specs.Seen.Tables.{known_of};
 ghost use Rattle.circus_placing.specs.Written.{written_of, placing_of};
 ghost use Rattle.circus_placing.specs.Rank.{rank_of};
-ghost use Rattle.circus_placing.specs.Faults.{repeated, repeated_names, attribute_names, machine_faults, machines_faults, numbers_of, operand_faults, condition_faults, unknown_names, present_faults, read_faults};
+ghost use Rattle.circus_placing.specs.Faults.{repeat_faults, repeated_names, attribute_names, machine_faults, machines_faults, numbers_of, operand_faults, condition_faults, unknown_names, present_faults, read_faults};
 
 use crate::{AttributeText, ConditionText, MachineText, OperandText, PlaceCause, PlacingText};
 use circus_fault::{Best, Names};
@@ -28,9 +28,9 @@ fn meet<'a>(
 ) -> Result<(), NoMemory>
     ensures found { OnOk result
         (best.new.fault ≡ least_from rank_of best.old.fault
-        (repeated (known_of names.old) name.now)) }
+        (repeat_faults (known_of names.old) name.now)) }
     ensures added { OnOk result
-        (known_of names.new ≡ also name.now.name number (known_of names.old)) }
+        (known_of names.new ≡ add_name name.now.name number (known_of names.old)) }
 {
     let earlier = names.insert(name.name.as_slice(), number)?;
     best.note(earlier.is_some(), name.at, PlaceCause::Repeated);
@@ -54,7 +54,7 @@ fn attributes(
 }
 
 // Names that stand twice.
-fn repeated(alloc: Global, best: &mut Best<PlaceCause>, all: &[Named]) -> Result<(), NoMemory>
+fn check_repeats(alloc: Global, best: &mut Best<PlaceCause>, all: &[Named]) -> Result<(), NoMemory>
     ensures { OnOk result
         (best.new.fault ≡ least_from rank_of best.old.fault (repeated_names nobody all.now)) }
 {
@@ -66,7 +66,7 @@ fn repeated(alloc: Global, best: &mut Best<PlaceCause>, all: &[Named]) -> Result
 }
 
 // Names that are those of no machines.
-fn unknown(best: &mut Best<PlaceCause>, machines: &Names, names: &[Named])
+fn check_unknown(best: &mut Best<PlaceCause>, machines: &Names, names: &[Named])
     ensures { best.new.fault
         ≡ least_from rank_of best.old.fault (unknown_names (known_of machines.now) names.now) }
 {
@@ -87,7 +87,7 @@ fn machine<'a>(
         (best.new.fault ≡ least_from rank_of best.old.fault
         (machine_faults (known_of names.old) number machine.now)) }
     ensures added { OnOk result
-        (known_of names.new ≡ also machine.now.name.name number (known_of names.old)) }
+        (known_of names.new ≡ add_name machine.now.name.name number (known_of names.old)) }
 {
     meet(best, names, &machine.name, number)?;
     best.note(
@@ -147,7 +147,7 @@ fn condition(best: &mut Best<PlaceCause>, members: u64, whole: &ConditionText)
 }
 
 #[tactic(auto, using(circus_fault::proofs::LeastMore::least_then))]
-fn present(
+fn check_present(
     alloc: Global,
     best: &mut Best<PlaceCause>,
     machines: &Names,
@@ -158,8 +158,8 @@ fn present(
         (present_faults (known_of machines.now) names.now)) }
 {
     if let Some(names) = names {
-        unknown(best, machines, names.as_slice());
-        repeated(alloc, best, names.as_slice())?;
+        check_unknown(best, machines, names.as_slice());
+        check_repeats(alloc, best, names.as_slice())?;
     }
     Ok(())
 }
@@ -179,6 +179,6 @@ pub fn check<'a>(
     let names = machines(alloc, &mut best, text.machines.as_slice())?;
     best.note_out_of(MOST_MEMBERS, text.members, PlaceCause::OutOfRange);
     condition(&mut best, text.members.value, &text.condition);
-    present(alloc, &mut best, &names, &text.present)?;
+    check_present(alloc, &mut best, &names, &text.present)?;
     Ok((best, names))
 }

@@ -2,10 +2,10 @@
 ghost use Rattle.std.specs.Prelude.{◌≡◌, IfOk};
 ghost use Rattle.circus_placing.specs.Written.{written_of};
 ghost use Rattle.circus_placing.specs.Written as written;
-ghost use Rattle.circus_placing.specs.Reading.{relation, differing, too_deep, negated, denied, grouped, conjunct, condition, with_further_and, with_further_or};
+ghost use Rattle.circus_placing.specs.Reading.{relation, differ_test, too_deep, negation, group_behind_not, group_or_relation, conjunct, condition, with_further_and, with_further_or};
 
 use crate::start::{AloneStart, alone_start};
-use crate::value_reading::{compared, operand, own_name};
+use crate::value_reading::{rest_of_relation, operand, own_name};
 use crate::{ConditionText, ConstantText, OperandText};
 use circus_syntax::{Numeral, Reader, StopCause};
 use circus_value::NoMemory;
@@ -15,15 +15,15 @@ fn relation(reader: &mut Reader) -> Result<ConditionText, NoMemory>
     ensures { IfOk result (λ read. relation reader.old ≡ (written_of read, reader.new)) }
 {
     let left = operand(reader)?;
-    match compared(reader)? {
+    match rest_of_relation(reader)? {
         Some((comparison, right)) => Ok(ConditionText::Compare(comparison, left, right)),
         None => Ok(ConditionText::Holds(left)),
     }
 }
 
-#[tactic(auto, unfolding(crate::specs::Reading::differing))]
-fn differing(reader: &mut Reader) -> Result<ConditionText, NoMemory>
-    ensures { IfOk result (λ read. differing reader.old ≡ (written_of read, reader.new)) }
+#[tactic(auto, unfolding(crate::specs::Reading::differ_test))]
+fn differ_test(reader: &mut Reader) -> Result<ConditionText, NoMemory>
+    ensures { IfOk result (λ read. differ_test reader.old ≡ (written_of read, reader.new)) }
 {
     reader.word(b"ALL");
     reader.word(b"DIFFER");
@@ -41,32 +41,32 @@ fn too_deep(reader: &mut Reader) -> ConditionText
 }
 
 #[cycle(conditions)]
-fn negated(reader: &mut Reader, levels: u8) -> Result<ConditionText, NoMemory>
-    ensures { IfOk result (λ read. negated levels reader.old ≡ (written_of read, reader.new)) }
+fn negation(reader: &mut Reader, levels: u8) -> Result<ConditionText, NoMemory>
+    ensures { IfOk result (λ read. negation levels reader.old ≡ (written_of read, reader.new)) }
 {
     match alone_start(reader) {
-        AloneStart::Not => denied(reader, levels),
+        AloneStart::Not => group_behind_not(reader, levels),
         AloneStart::Group => group(reader, levels),
-        AloneStart::Differ => differing(reader),
+        AloneStart::Differ => differ_test(reader),
         AloneStart::Relation => relation(reader),
     }
 }
 
 #[cycle(conditions)]
-fn denied(reader: &mut Reader, levels: u8) -> Result<ConditionText, NoMemory>
-    ensures { IfOk result (λ read. denied levels reader.old ≡ (written_of read, reader.new)) }
+fn group_behind_not(reader: &mut Reader, levels: u8) -> Result<ConditionText, NoMemory>
+    ensures { IfOk result (λ read. group_behind_not levels reader.old ≡ (written_of read, reader.new)) }
 {
     if levels == 0 {
         return Ok(too_deep(reader));
     }
     reader.word(b"NOT");
-    let inner = negated(reader, levels - 1)?;
+    let inner = negation(reader, levels - 1)?;
     Ok(ConditionText::Not(Box::new(reader.alloc(), inner)?))
 }
 
 #[cycle(conditions)]
 fn group(reader: &mut Reader, levels: u8) -> Result<ConditionText, NoMemory>
-    ensures { IfOk result (λ read. grouped levels reader.old ≡ (written_of read, reader.new)) }
+    ensures { IfOk result (λ read. group_or_relation levels reader.old ≡ (written_of read, reader.new)) }
 {
     if levels == 0 {
         return Ok(too_deep(reader));
@@ -81,12 +81,12 @@ fn group(reader: &mut Reader, levels: u8) -> Result<ConditionText, NoMemory>
 fn conjunct(reader: &mut Reader, levels: u8) -> Result<ConditionText, NoMemory>
     ensures { IfOk result (λ read. conjunct levels reader.old ≡ (written_of read, reader.new)) }
 {
-    let first = negated(reader, levels)?;
+    let first = negation(reader, levels)?;
     if !reader.sees_word(b"AND") {
         return Ok(first);
     }
     reader.word(b"AND");
-    let second = negated(reader, levels)?;
+    let second = negation(reader, levels)?;
     let both = and(reader, first, second)?;
     further_and(reader, both, levels)
 }
@@ -109,7 +109,7 @@ fn further_and(
         return Ok(left);
     }
     reader.word(b"AND");
-    let right = negated(reader, levels - 1)?;
+    let right = negation(reader, levels - 1)?;
     let both = and(reader, left, right)?;
     further_and(reader, both, levels - 1)
 }

@@ -119,7 +119,7 @@ fn numbers(alloc: Global, machines: &Names, names: &[Named]) -> Result<Numbers, 
     Ok(numbers)
 }
 
-fn present(alloc: Global, machines: &Names, names: &Option<Nameds>) -> Result<Numbers, NoMemory>
+fn numbers_present(alloc: Global, machines: &Names, names: &Option<Nameds>) -> Result<Numbers, NoMemory>
     ensures { IfOk result (λ numbers. numbers ≡ present_cut (known_of machines.now) names.now) }
 {
     match names {
@@ -144,6 +144,6 @@ pub fn meaning(alloc: Global, text: &PlacingText, names: &Names) -> Result<Placi
         machines: machines(alloc, text.machines.as_slice())?,
         members: member(text.members),
         condition: condition(alloc, &text.condition)?,
-        present: present(alloc, names, &text.present)?,
+        present: numbers_present(alloc, names, &text.present)?,
     })
 }

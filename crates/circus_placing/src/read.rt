@@ -14,7 +14,7 @@ ghost use Rattle.circus_placing.specs.Grammar.{IsPlacing, IsWithin, most_levels}
 ghost use Rattle.circus_placing.specs.Rank.{rank_of};
 ghost use Rattle.circus_placing.specs.Faults.{placing_faults, read_faults};
 ghost use Rattle.circus_placing.specs.Means.{Means};
-ghost use Rattle.circus_placing.specs.ReadAs.{placed, lexical_answer, IsReadAs, IsLeastOf, IsRefused};
+ghost use Rattle.circus_placing.specs.ReadAs.{placed_tokens, lexical_answer, IsReadAs, IsLeastOf, IsRefused};
 
 use crate::check::check;
 use crate::meaning::meaning;
@@ -29,14 +29,14 @@ fn lexical_answer(text: &[u8], fault: LexFault) -> PlaceFault
     ensures { result ≡ lexical_answer text.now fault }
 {
     match fault {
-        LexFault::BadCharacter(place) => refused(text, place, PlaceCause::BadCharacter),
-        LexFault::OpenString(place) => refused(text, place, PlaceCause::OpenString),
-        LexFault::LongNumber(place) => refused(text, place, PlaceCause::LongNumber),
+        LexFault::BadCharacter(place) => refusal_of(text, place, PlaceCause::BadCharacter),
+        LexFault::OpenString(place) => refusal_of(text, place, PlaceCause::OpenString),
+        LexFault::LongNumber(place) => refusal_of(text, place, PlaceCause::LongNumber),
         LexFault::NoMemory => PlaceFault::NoMemory,
     }
 }
 
-fn refused(text: &[u8], place: u64, cause: PlaceCause) -> PlaceFault
+fn refusal_of(text: &[u8], place: u64, cause: PlaceCause) -> PlaceFault
     requires { length text.now ≤ longest_text }
     ensures { result ≡ PlaceFault.Refused (line_of text.now place) cause }
 {
@@ -44,7 +44,7 @@ fn refused(text: &[u8], place: u64, cause: PlaceCause) -> PlaceFault
 }
 
 // The tokens of a text, if it isn't too long.
-fn lexed(alloc: Global, text: &[u8]) -> Result<TokenList, PlaceFault>
+fn tokens_of(alloc: Global, text: &[u8]) -> Result<TokenList, PlaceFault>
     ensures short { IfOk result (λ found. length text.now ≤ longest_text) }
     ensures found { IfOk result (AreTokensOf text.now) }
     ensures each { IfOk result (All (IsTokenIn text.now)) }
@@ -60,7 +60,7 @@ fn lexed(alloc: Global, text: &[u8]) -> Result<TokenList, PlaceFault>
 }
 
 // The placing that a text means, or its least fault.
-fn checked(
+fn check_placing(
     alloc: Global,
     text: &[u8],
     written: &PlacingText,
@@ -78,7 +78,7 @@ fn checked(
 {
     let (best, names) = check(alloc, written, stop)?;
     match best.fault {
-        Some(fault) => Err(refused(text, u64::from(fault.place), fault.cause)),
+        Some(fault) => Err(refusal_of(text, u64::from(fault.place), fault.cause)),
         None => Ok(meaning(alloc, written, &names)?),
     }
 }
@@ -94,7 +94,7 @@ fn read_tokens(alloc: Global, text: &[u8], found: &[Token]) -> Result<Placing, P
 {
     let mut reader = Reader::new(alloc, text, found);
     let written = placing(&mut reader)?;
-    checked(alloc, text, &written, &reader.stop())
+    check_placing(alloc, text, &written, &reader.stop())
 }
 
 fn read(alloc: Global, text: &[u8]) -> Result<Placing, PlaceFault>
@@ -102,7 +102,7 @@ fn read(alloc: Global, text: &[u8]) -> Result<Placing, PlaceFault>
     ensures obeys { IfOk result (λ placing. Obeys placing) }
     ensures err { IfErr result (λ e. (e ≡ PlaceFault.NoMemory) ⊎ IsRefused text.now e) }
 {
-    let found = match lexed(alloc, text) {
+    let found = match tokens_of(alloc, text) {
         Ok(found) => found,
         Err(fault) => return Err(fault),
     };
@@ -123,7 +123,7 @@ pub fn read_place(alloc: Global, text: &[u8]) -> Result<Placing, PlaceFault>
     // A placing without a fault is read wherever memory suffices.
     ensures accepts { (found : List Token) (tree : PlacingTree) → length text.now ≤ longest_text
         → AreTokensOf text.now found
-        → IsPlacing (placed text.now found) tree → IsWithin most_levels tree
+        → IsPlacing (placed_tokens text.now found) tree → IsWithin most_levels tree
         → placing_faults tree ≡ []
         → IfErr result (λ e. e ≡ PlaceFault.NoMemory) }
 {

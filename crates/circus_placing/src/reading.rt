@@ -2,7 +2,7 @@
 ghost use Rattle.std.specs.Prelude.{◌≡◌, IfOk};
 ghost use Rattle.circus_placing.specs.Written.{placing_of};
 ghost use Rattle.circus_placing.specs.Grammar.{most_levels};
-ghost use Rattle.circus_placing.specs.Reading.{attribute, attributes, machine, machines, present, present_if_any, ended, heading, asked, placing};
+ghost use Rattle.circus_placing.specs.Reading.{attribute, attributes, machine, machines, names_present, present_if_any, text_end, heading, member_count, placing};
 
 use crate::condition_reading::condition;
 use crate::value_reading::{constant, names, next_name, own_name};
@@ -60,8 +60,8 @@ fn machines(reader: &mut Reader) -> Result<MachineTexts, NoMemory>
     Ok(machines)
 }
 
-#[tactic(auto, unfolding(crate::specs::Reading::present_if_any, crate::specs::Reading::present))]
-fn present(reader: &mut Reader) -> Result<Option<Nameds>, NoMemory>
+#[tactic(auto, unfolding(crate::specs::Reading::present_if_any, crate::specs::Reading::names_present))]
+fn names_present(reader: &mut Reader) -> Result<Option<Nameds>, NoMemory>
     ensures { IfOk result (λ read. present_if_any reader.old ≡ (read, reader.new)) }
 {
     if !reader.sees_word(b"PRESENT") {
@@ -74,9 +74,9 @@ fn present(reader: &mut Reader) -> Result<Option<Nameds>, NoMemory>
 }
 
 // Stops where there is a token more.
-#[tactic(auto, unfolding(crate::specs::Reading::ended))]
+#[tactic(auto, unfolding(crate::specs::Reading::text_end))]
 fn end(reader: &mut Reader)
-    ensures { ended reader.old ≡ (tt, reader.new) }
+    ensures { text_end reader.old ≡ (tt, reader.new) }
 {
     if reader.left() > 0 {
         reader.stop_here(StopCause::Unexpected);
@@ -92,9 +92,9 @@ fn heading(reader: &mut Reader)
     reader.sign(b";");
 }
 
-#[tactic(auto, unfolding(crate::specs::Reading::asked))]
-fn asked(reader: &mut Reader) -> Numeral
-    ensures { asked reader.old ≡ (result, reader.new) }
+#[tactic(auto, unfolding(crate::specs::Reading::member_count))]
+fn member_count(reader: &mut Reader) -> Numeral
+    ensures { member_count reader.old ≡ (result, reader.new) }
 {
     reader.word(b"MEMBERS");
     let members = reader.number();
@@ -113,10 +113,10 @@ pub fn placing(reader: &mut Reader) -> Result<PlacingText, NoMemory>
 {
     heading(reader);
     let machines = machines(reader)?;
-    let members = asked(reader);
+    let members = member_count(reader);
     let condition = condition(reader, MOST_LEVELS)?;
     reader.sign(b";");
-    let present = present(reader)?;
+    let present = names_present(reader)?;
     end(reader);
     Ok(PlacingText {
         machines,

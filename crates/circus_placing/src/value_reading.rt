@@ -2,7 +2,7 @@
 ghost use Rattle.std.specs.Prelude.{◌≡◌, true, false, IfOk, MatchOption};
 ghost use Rattle.circus_syntax.specs.Reader.{next, sees};
 ghost use Rattle.circus_syntax.specs.Placed.{Placed};
-ghost use Rattle.circus_placing.specs.Reading.{is_own_name, own_name, own_names, constant_by, a_constant, number_or_attribute, an_operand, seen_comparison, compared};
+ghost use Rattle.circus_placing.specs.Reading.{is_own_name, own_name, own_names, constant_by, a_constant, number_or_attribute, an_operand, seen_comparison, rest_of_relation};
 
 use crate::start::{ValueStart, value_start};
 use crate::words::is_placing_word;
@@ -133,9 +133,9 @@ fn comparison(reader: &Reader) -> Option<Comparison>
 }
 
 /// A comparison and its right side, if there is one.
-#[tactic(auto, unfolding(crate::specs::Reading::compared))]
-pub fn compared(reader: &mut Reader) -> Result<Option<(Comparison, OperandText)>, NoMemory>
-    ensures { IfOk result (λ read. compared reader.old ≡ (read, reader.new)) }
+#[tactic(auto, unfolding(crate::specs::Reading::rest_of_relation))]
+pub fn rest_of_relation(reader: &mut Reader) -> Result<Option<(Comparison, OperandText)>, NoMemory>
+    ensures { IfOk result (λ read. rest_of_relation reader.old ≡ (read, reader.new)) }
 {
     match comparison(reader) {
         Some(comparison) => {

@@ -29,7 +29,7 @@ use Rattle.circus_type.specs.Together.{shapes_of}
 use Rattle.circus_idl.specs.declared.interface.Interface.{Interface}
 use Rattle.circus_check.specs.Meaning.{BodyMeant, ModuleMeant}
 use Rattle.circus_modules.specs.Zeros.{zeros}
-use Rattle.circus_modules.specs.Signatures.{offered, signature_of}
+use Rattle.circus_modules.specs.Signatures.{procedures_offered, signature_of}
 use Rattle.circus_modules.specs.Behaviours.{turn_of, body_in, behaviour_of}
 use Rattle.circus_plan_theory.proofs.Bodies.{IsBodyOf, AreBodiesOf}
 use Rattle.circus_evaluate.proofs.Alike.{some_same}
@@ -158,7 +158,7 @@ body_abides signature procedure p body state arguments replies found fit of star
 
 -- with a first state and bodies for its procedures
 pub abides : (limit : ℕ) (interfaces : List Interface) (numbers : List (Option ℕ)) (m : ModuleMeant) → IsState (signature_of limit interfaces numbers m) (zeros m.variables)
-    → AreBodiesOf (signature_of limit interfaces numbers m) (offered interfaces m.interface) m.bodies → IsModule (behaviour_of limit interfaces numbers m)
+    → AreBodiesOf (signature_of limit interfaces numbers m) (procedures_offered interfaces m.interface) m.bodies → IsModule (behaviour_of limit interfaces numbers m)
 abides limit interfaces numbers m is are = record {
   first_is_state = is;
   turns_are_lawful = λ state procedure arguments replies start answered.

@@ -20,7 +20,7 @@ use Rattle.circus_check.specs.WellFormed as checked
 use Rattle.circus_check.specs.WellFormed.{IsAt, IsBody, AreBodies, IsMain, HasBodies, Raised}
 use Rattle.circus_check.proofs.TypedMore.{all_typed_more}
 use Rattle.circus_modules.specs.Zeros.{zeros}
-use Rattle.circus_modules.specs.Signatures.{signature_of, offered, implemented, procedures_if, import_of}
+use Rattle.circus_modules.specs.Signatures.{signature_of, procedures_offered, interface_numbers, procedures_if, import_of}
 use Rattle.circus_modules.proofs.Offered.{takes_here, reports_here, raised_here}
 use Rattle.circus_modules.proofs.States.{zeros_hold}
 use Rattle.circus_modules.proofs.Trees.{shapes_forth}
@@ -47,7 +47,7 @@ together state arguments locals =
 
 module _ (limit : ℕ) (interfaces : List Interface) (modules : List ModuleMeant) (obey : (n : ℕ) (i : Interface) → IsAt interfaces n i → Obeys i) (m : ModuleMeant) where
   declared : Signature
-  declared = signature_of limit interfaces (implemented modules) m
+  declared = signature_of limit interfaces (interface_numbers modules) m
 
   -- one body, whose procedure has this shape
   body_here : (p : ProcedureShape) (arguments : List FieldTree) (results : List ShapeTree) (raises : ℕ → List ShapeTree → Type 0) (b : BodyMeant)
@@ -57,7 +57,7 @@ module _ (limit : ℕ) (interfaces : List Interface) (modules : List ModuleMeant
   body_here p arguments results raises b taken given raised is = record {
     hold = zeros_hold b.locals is.locals;
     typed =
-        let imports = map (import_of interfaces (implemented modules)) m.imports in
+        let imports = map (import_of interfaces (interface_numbers modules)) m.imports in
         let own : AreTyped (shapes_of (m.variables ++ arguments ++ b.locals)) (machine.Takes imports) (machine.Reports imports) results (machine.Raises p.errors) (statement_trees b.statements) =
         all_typed_more (shapes_of (m.variables ++ arguments ++ b.locals)) (checked.Takes interfaces modules m.imports) (machine.Takes imports)
         (checked.Reports interfaces modules m.imports) (machine.Reports imports) results raises (machine.Raises p.errors)
@@ -87,7 +87,7 @@ module _ (limit : ℕ) (interfaces : List Interface) (modules : List ModuleMeant
   main_here (b ∷ []) are = (body_here (record { number = 0; arguments = []; results = []; errors = [] }) [] [] (λ _ _. ⊥) b refl refl (λ number values never. absurd never) are, tt)
   main_here (b ∷ _ ∷ _) are = absurd are
 
-  by_kind : (root : Bool) (number : Option ℕ) → HasBodies interfaces modules m root number → AreBodiesOf declared (offered interfaces number) m.bodies
+  by_kind : (root : Bool) (number : Option ℕ) → HasBodies interfaces modules m root number → AreBodiesOf declared (procedures_offered interfaces number) m.bodies
   unfolding declared
   by_kind true None has = main_here m.bodies has
   by_kind true (Some n) has = absurd has
@@ -97,6 +97,6 @@ module _ (limit : ℕ) (interfaces : List Interface) (modules : List ModuleMeant
       subst (λ o. AreBodiesOf declared (procedures_if o) m.bodies) (sym there) (bodies_here i i.procedures m.bodies (obey n i there) are)
 
   -- the bodies of a module are those of the procedures that it declares
-  pub are_bodies : HasBodies interfaces modules m m.root m.interface → AreBodiesOf (signature_of limit interfaces (implemented modules) m) (offered interfaces m.interface) m.bodies
+  pub are_bodies : HasBodies interfaces modules m m.root m.interface → AreBodiesOf (signature_of limit interfaces (interface_numbers modules) m) (procedures_offered interfaces m.interface) m.bodies
   unfolding declared
   are_bodies has = by_kind m.root m.interface has

@@ -11,7 +11,7 @@ use Rattle.circus_check.specs.Meaning.{ModuleMeant}
 use Rattle.circus_check.specs.Seen.Meant.{module_as}
 use Rattle.circus_check.specs.WellFormed as checked
 use Rattle.circus_check.specs.WellFormed.{AreWellFormed}
-use Rattle.circus_modules.specs.Signatures.{implemented}
+use Rattle.circus_modules.specs.Signatures.{interface_numbers}
 use Rattle.circus_modules.specs.Behaviours.{behaviour_of, program_of}
 use Rattle.circus_config.specs.declared.plan.Plan.{Plan}
 use Rattle.circus_config.specs.Program.{IsPlan}
@@ -43,23 +43,23 @@ limit_least format = by_test (format == 1)
 -- ---- modules that are meant
 
 module _ (limit : ℕ) (interfaces : List Interface) (modules : List ModuleMeant) (obey : AllByRecursion Obeys interfaces) (good : AreWellFormed interfaces modules) where
-  module_keeps : first_limit ≤ limit → (n : ℕ) (m : ModuleMeant) → checked.IsAt modules n m → IsModule (behaviour_of limit interfaces (implemented modules) m)
+  module_keeps : first_limit ≤ limit → (n : ℕ) (m : ModuleMeant) → checked.IsAt modules n m → IsModule (behaviour_of limit interfaces (interface_numbers modules) m)
   module_keeps large n m at =
       let own = good.each n m at in
-      abides limit interfaces (implemented modules) m
+      abides limit interfaces (interface_numbers modules) m
       (record { fits = zeros_fit_shapes m.variables own.types; within = zeros_within m.variables limit own.small large })
       (are_bodies limit interfaces modules (at_place Obeys interfaces obey) m own.bodies)
 
   modules_keep : first_limit ≤ limit → AreModules (program_of limit interfaces modules)
   modules_keep large place b at =
-      let o = of_map (behaviour_of limit interfaces (implemented modules)) modules place b at in
+      let o = of_map (behaviour_of limit interfaces (interface_numbers modules)) modules place b at in
       subst IsModule (sym o.is) (module_keeps large place o.item o.there)
 
   modules_proper : AreProper (program_of limit interfaces modules)
   modules_proper place b at =
-      let o = of_map (behaviour_of limit interfaces (implemented modules)) modules place b at in
+      let o = of_map (behaviour_of limit interfaces (interface_numbers modules)) modules place b at in
       subst (λ (x : Behaviour). IsProperModule x.declared) (sym o.is)
-      (module_proper interfaces obey limit (implemented modules) o.item (good.each place o.item o.there).types)
+      (module_proper interfaces obey limit (interface_numbers modules) o.item (good.each place o.item o.there).types)
 
 -- ---- plans
 

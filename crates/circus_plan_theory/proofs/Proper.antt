@@ -21,7 +21,7 @@ use Rattle.circus_model.specs.declared.language_error.LanguageError.TheVariants.
 use Rattle.circus_model.specs.declared.signature.ErrorShape.{ErrorShape}
 use Rattle.circus_signature.specs.Signatures.{shapes_in, error_of, errors_numbered, procedure_of}
 use Rattle.circus_check.specs.Meaning.{ModuleMeant}
-use Rattle.circus_modules.specs.Signatures.{offered, procedures_if, signature_of}
+use Rattle.circus_modules.specs.Signatures.{procedures_offered, procedures_if, signature_of}
 use Rattle.circus_truth.specs.Proper.{IsProperProcedure, IsProperModule}
 use Rattle.circus_plan_theory.proofs.Places.{at_place}
 use Rattle.circus_modules.proofs.Found.{contains_none}
@@ -121,7 +121,7 @@ module _ (interfaces : List Interface) (obey : AllByRecursion Obeys interfaces) 
   of_interface n None is = tt
   of_interface n (Some i) is = let parts = parts_obey i (at_place Obeys interfaces obey n i is) in procedures_proper i.errors i.procedures parts.errors parts.procedures
 
-  offered_proper : (number : Option ℕ) → AllByRecursion IsProperProcedure (offered interfaces number)
+  offered_proper : (number : Option ℕ) → AllByRecursion IsProperProcedure (procedures_offered interfaces number)
   offered_proper None = (
     record { number = omega arith; arguments = refl; results = refl; errors = λ e among. absurd (contains_none e among); numbers = λ e among. absurd (contains_none e among) },
     tt,
@@ -131,5 +131,5 @@ module _ (interfaces : List Interface) (obey : AllByRecursion Obeys interfaces) 
   pub module_proper : (limit : ℕ) (numbers : List (Option ℕ)) (m : ModuleMeant) → AllByRecursion ObeysWhole (shapes_of m.variables) → IsProperModule (signature_of limit interfaces numbers m)
   module_proper limit numbers m types = record {
     variables = shapes_proper m.variables types;
-    procedures = λ p among. of_each IsProperProcedure (offered interfaces m.interface) p (offered_proper m.interface) among;
+    procedures = λ p among. of_each IsProperProcedure (procedures_offered interfaces m.interface) p (offered_proper m.interface) among;
   }

@@ -27,7 +27,7 @@ use Rattle.circus_program.specs.Form.{picture, draw}
 use Rattle.circus_program.specs.Replay.{replay_of}
 use Rattle.circus_program.specs.Worlds.{AreLed, AskForRecords, IsWrittenBySome}
 use Rattle.circus_program.specs.Promise.{IsKept, IsKeptSoFar, IsKeptOfSchedule}
-use Rattle.circus_program.specs.Agreeing.{reported, IsReportOf, IsSummaryOf, IsSettledOf, IsAgreed, IsAgreedSoFar, IsCutSoFar}
+use Rattle.circus_program.specs.Agreeing.{report_of_facts, IsReportOf, IsSummaryOf, IsSettledOf, IsAgreed, IsAgreedSoFar, IsCutSoFar}
 use Rattle.circus_program.proofs.Reports.{booted_nodes, led_reported}
 use Rattle.circus_program.proofs.Telling.{no_records}
 
@@ -39,7 +39,7 @@ module _ (plan : Plan) (lines : List Line) (last : WorldState Behaviour) (led : 
       ap (λ (d : Deployment). d.nodes) (deployment_stays declared_of turn_of lines led.begun last led.lead)
       ∙ booted_nodes plan led.begun led.booted_is
 
-  replay_is : replay_of plan lines ≡ record { status = Done; text = reported plan (facts_of last) }
+  replay_is : replay_of plan lines ≡ record { status = Done; text = report_of_facts plan (facts_of last) }
   replay_is =
       let told : List ℕ → Ending = λ text. record { status = Done; text = text } in
       led_reported plan lines last led

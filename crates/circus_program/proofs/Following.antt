@@ -15,7 +15,7 @@ use Rattle.circus_world.specs.declared.cause.LineCause.{LineCause}
 use Rattle.circus_world.specs.declared.cause.LineCause.TheVariants.{NoDatagram, NotLive, NotCrashed, NotSpare, AlreadyJoined}
 use Rattle.circus_world.specs.WorldState.{WorldState}
 use Rattle.circus_world.specs.Legal.{refusal}
-use Rattle.circus_world.specs.Course.{stepped}
+use Rattle.circus_world.specs.Course.{step_line}
 use Rattle.circus_report.specs.Report.{rest_text}
 use Rattle.circus_report.specs.declared.running.RunFault.{RunFault}
 use Rattle.circus_report.specs.declared.running.RunFault.TheVariants as fault
@@ -25,8 +25,8 @@ use Rattle.circus_report.specs.Writing.{Writes, WritesPart}
 use Rattle.circus_ending.specs.declared.status.Status.{Status}
 use Rattle.circus_ending.specs.declared.status.Status.TheVariants.{Done, SinkFault, NoMemory}
 use Rattle.circus_ending.specs.Ending.{Ending}
-use Rattle.circus_ending.specs.Spent.{spent}
-use Rattle.circus_program.specs.Replay.{cause_text, refused, behind, replayed, replayed_whole}
+use Rattle.circus_ending.specs.Spent.{end_of_spent}
+use Rattle.circus_program.specs.Replay.{cause_text, refuse_line, behind, replay_lines, replayed_whole}
 use Rattle.circus_program.specs.Seen.Put.{IsPutEnd}
 use Rattle.circus_program.specs.Seen.Ended.{IsEndedBy}
 use Rattle.circus_report.proofs.ToldLemmas.{WritesPart-none}
@@ -61,22 +61,22 @@ put-stopped text whole old now new before after (fault.Spent node peer) status s
 module _ {M : Type 0} (declared : M → Signature) (turn : M → List ValueTree → ℕ → List ValueTree → List Outcome → NextTurn) (whole : Ending) (old : Option (List ℕ)) where
   -- the line was stepped
   pub begun-next : (names : Names) (number : ℕ) (line : Line) (lines : List Line) (w next : WorldState M) (now later : Option (List ℕ))
-      → IsBegun whole (replayed declared turn names number (line ∷ lines) w) old now → IsRun declared turn line w now later (Ok next)
-      → IsBegun whole (replayed declared turn names (number + 1) lines next) old later
+      → IsBegun whole (replay_lines declared turn names number (line ∷ lines) w) old now → IsRun declared turn line w now later (Ok next)
+      → IsBegun whole (replay_lines declared turn names (number + 1) lines next) old later
   begun-next names number line lines w next now later begun (legal, is, written) =
-      begun-more whole old (sent_from (length w.sent) next) (replayed declared turn names (number + 1) lines next) now later
+      begun-more whole old (sent_from (length w.sent) next) (replay_lines declared turn names (number + 1) lines next) now later
       (begun-as whole old _ _ now (replayed_stepped declared turn names number line lines w next legal is) begun) written
 
   part_cut : (names : Names) (number : ℕ) (line : Line) (lines : List Line) (w next : WorldState M) (now later : Option (List ℕ))
-      → IsBegun whole (replayed declared turn names number (line ∷ lines) w) old now → refusal w line ≡ None → stepped declared turn line w ≡ Ok next
+      → IsBegun whole (replay_lines declared turn names number (line ∷ lines) w) old now → refusal w line ≡ None → step_line declared turn line w ≡ Ok next
       → WritesPart now later (sent_from (length w.sent) next) → WritesPart old later whole.text
   part_cut names number line lines w next now later begun legal is part =
-      part-next whole old (sent_from (length w.sent) next) (replayed declared turn names (number + 1) lines next) now later
+      part-next whole old (sent_from (length w.sent) next) (replay_lines declared turn names (number + 1) lines next) now later
       (begun-as whole old _ _ now (replayed_stepped declared turn names number line lines w next legal is) begun) part
 
   -- it wasn't
   pub put-ended : (hosts : List Host) (modules : List (List ℕ)) (number : ℕ) (line : Line) (lines : List Line) (w : WorldState M) (now later new : Option (List ℕ)) (before between after : ℕ) (f : RunFault) (status : Status)
-      → IsBegun whole (replayed declared turn (names_of hosts modules) number (line ∷ lines) w) old now
+      → IsBegun whole (replay_lines declared turn (names_of hosts modules) number (line ∷ lines) w) old now
       → IsRun declared turn line w now later (Err f)
       → (IsErrOf {T = WorldState M} (Err f) fault.SinkFailed → Rose before between)
       → IsCounted {A = WorldState M} (Err f) before between
@@ -84,15 +84,15 @@ module _ {M : Type 0} (declared : M → Signature) (turn : M → List ValueTree 
       → IsPutEnd whole old new before after status
   put-ended hosts modules number line lines w now later new before between after (fault.Illegal cause) status begun (refusal_is, same) rose still ended =
       let names = names_of hosts modules in
-      let end : Ending = refused number (cause_text names cause) in
+      let end : Ending = refuse_line number (cause_text names cause) in
       put-left whole old end now new before after status
       (begun-as whole old _ end now (replayed_refused declared turn names number line lines w cause refusal_is) begun)
       (subst (λ (told : Option (List ℕ)). IsPutEnd end told new before after status) same
       (subst (λ (count : ℕ). IsPutEnd end later new count after status) still
-      (subst (λ (text : List ℕ). IsPutEnd (refused number text) later new between after status) (cause_same hosts modules cause) ended)))
+      (subst (λ (text : List ℕ). IsPutEnd (refuse_line number text) later new between after status) (cause_same hosts modules cause) ended)))
   put-ended hosts modules number line lines w now later new before between after (fault.Spent node peer) status begun (legal, is, same) rose still ended =
       let names = names_of hosts modules in
-      let end : Ending = spent names (node, peer) in
+      let end : Ending = end_of_spent names (node, peer) in
       put-left whole old end now new before after status
       (begun-as whole old _ end now (replayed_spent declared turn names number line lines w (node, peer) legal is) begun)
       (subst (λ (told : Option (List ℕ)). IsPutEnd end told new before after status) same
@@ -112,9 +112,9 @@ module _ {M : Type 0} (declared : M → Signature) (turn : M → List ValueTree 
 
   -- all lines were
   pub put-done : (names : Names) (number : ℕ) (w : WorldState M) (now new : Option (List ℕ)) (before after : ℕ)
-      → IsBegun whole (replayed declared turn names number [] w) old now → Writes now new (rest_text names w) → after ≡ before → IsPutEnd whole old new before after Done
+      → IsBegun whole (replay_lines declared turn names number [] w) old now → Writes now new (rest_text names w) → after ≡ before → IsPutEnd whole old new before after Done
   put-done names number w now new before after begun written still =
-      put-left whole old (replayed declared turn names number [] w) now new before after Done begun (inl (refl, written, still))
+      put-left whole old (replay_lines declared turn names number [] w) now new before after Done begun (inl (refl, written, still))
 
 -- ---- the beginning
 
@@ -123,17 +123,17 @@ module _ {M : Type 0} (declared : M → Signature) (turn : M → List ValueTree 
   abbrev whole_of : Names → List Line → WorldState M → Ending
   whole_of names lines w = replayed_whole declared_of turn_of names lines (world_as declared turn first w)
 
-  begun_whole : (names : Names) (lines : List Line) (w : WorldState M) (old : Option (List ℕ)) → IsBegun (whole_of names lines w) (behind (beginning w) (replayed declared turn names 1 lines w)) old old
+  begun_whole : (names : Names) (lines : List Line) (w : WorldState M) (old : Option (List ℕ)) → IsBegun (whole_of names lines w) (behind (beginning w) (replay_lines declared turn names 1 lines w)) old old
   begun_whole names lines w old =
-      begun-as (whole_of names lines w) old (whole_of names lines w) (behind (beginning w) (replayed declared turn names 1 lines w)) old
+      begun-as (whole_of names lines w) old (whole_of names lines w) (behind (beginning w) (replay_lines declared turn names 1 lines w)) old
       (sym (whole_as declared turn first names lines w)) (begun-none (whole_of names lines w) old)
 
   -- it is written
-  pub begun-boot : (names : Names) (lines : List Line) (w : WorldState M) (old now : Option (List ℕ)) → Writes old now (beginning w) → IsBegun (whole_of names lines w) (replayed declared turn names 1 lines w) old now
+  pub begun-boot : (names : Names) (lines : List Line) (w : WorldState M) (old now : Option (List ℕ)) → Writes old now (beginning w) → IsBegun (whole_of names lines w) (replay_lines declared turn names 1 lines w) old now
   begun-boot names lines w old now written =
-      begun-more (whole_of names lines w) old (beginning w) (replayed declared turn names 1 lines w) old now (begun_whole names lines w old) written
+      begun-more (whole_of names lines w) old (beginning w) (replay_lines declared turn names 1 lines w) old now (begun_whole names lines w old) written
 
   -- a part of it is
   pub part-boot : (names : Names) (lines : List Line) (w : WorldState M) (old now : Option (List ℕ)) → WritesPart old now (beginning w) → WritesPart old now (whole_of names lines w).text
   part-boot names lines w old now part =
-      part-next (whole_of names lines w) old (beginning w) (replayed declared turn names 1 lines w) old now (begun_whole names lines w old) part
+      part-next (whole_of names lines w) old (beginning w) (replay_lines declared turn names 1 lines w) old now (begun_whole names lines w old) part

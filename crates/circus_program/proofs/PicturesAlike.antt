@@ -14,7 +14,7 @@ use Rattle.circus_schedule.specs.declared.line.Line.{Line}
 use Rattle.circus_world.specs.declared.cause.LineCause.{LineCause}
 use Rattle.circus_world.specs.WorldState.{WorldState, Standing}
 use Rattle.circus_world.specs.Legal.{refusal}
-use Rattle.circus_world.specs.Course.{stepped}
+use Rattle.circus_world.specs.Course.{step_line}
 use Rattle.circus_world.specs.Alike.{standing_as, world_as}
 use Rattle.circus_world.proofs.WorldsAlike.{refusal_as, world_stepped_as}
 use Rattle.circus_settle.proofs.Alike.{record_as}
@@ -25,7 +25,7 @@ use Rattle.circus_picture.specs.Picture.{beginning, middle, picture_text}
 use Rattle.circus_ending.specs.declared.status.Status.TheVariants.{Done}
 use Rattle.circus_ending.specs.Ending.{Ending}
 use Rattle.circus_simulated.specs.Booted.{after_step}
-use Rattle.circus_program.specs.Replay.{cause_text, refused, followed, pictured}
+use Rattle.circus_program.specs.Replay.{cause_text, refuse_line, follow_lines, picture_lines}
 use Rattle.circus_program.proofs.ReplaysAlike.{after_as}
 
 module _ {M : Type 0} (declared : M → Signature) (turn : M → List ValueTree → ℕ → List ValueTree → List Outcome → NextTurn) (first : M → List ValueTree) where
@@ -56,19 +56,19 @@ module _ {M : Type 0} (declared : M → Signature) (turn : M → List ValueTree 
   -- ---- lines
 
   followed_as : (names : Names) (end : WorldState M → Ending) (also : WorldState Behaviour → Ending) → ((w : WorldState M) → end w ≡ also (seen w)) → (number : ℕ) (lines : List Line) (w : WorldState M)
-      → followed declared turn names end number lines w ≡ followed declared_of turn_of names also number lines (seen w)
+      → follow_lines declared turn names end number lines w ≡ follow_lines declared_of turn_of names also number lines (seen w)
   followed_as names end also same number [] w = same w
   followed_as names end also same number (line ∷ lines) w =
-      let next : WorldState M → Ending = followed declared turn names end (number + 1) lines in
-      let other : WorldState Behaviour → Ending = followed declared_of turn_of names also (number + 1) lines in
-      let unless : Option LineCause → Ending → Ending = λ o e. option_map_or (λ cause. refused number (cause_text names cause)) o e in
+      let next : WorldState M → Ending = follow_lines declared turn names end (number + 1) lines in
+      let other : WorldState Behaviour → Ending = follow_lines declared_of turn_of names also (number + 1) lines in
+      let unless : Option LineCause → Ending → Ending = λ o e. option_map_or (λ cause. refuse_line number (cause_text names cause)) o e in
       ap (unless (refusal w line)) (
-      after_as declared turn first names next other (λ after. followed_as names end also same (number + 1) lines after) (stepped declared turn line w)
+      after_as declared turn first names next other (λ after. followed_as names end also same (number + 1) lines after) (step_line declared turn line w)
       ∙ ap (after_step names other) (world_stepped_as declared turn first line w))
-      ∙ ap (λ o. unless o (after_step names other (stepped declared_of turn_of line (seen w)))) (sym (refusal_as declared turn first line w))
+      ∙ ap (λ o. unless o (after_step names other (step_line declared_of turn_of line (seen w)))) (sym (refusal_as declared turn first line w))
 
   pub pictured_as : (names : Names) (procedures : List (List Procedure)) (lines : List Line) (w : WorldState M)
-      → pictured declared turn names procedures lines w ≡ pictured (λ (b : Behaviour). b.declared) (λ (b : Behaviour). b.turn) names procedures lines (seen w)
+      → picture_lines declared turn names procedures lines w ≡ picture_lines (λ (b : Behaviour). b.declared) (λ (b : Behaviour). b.turn) names procedures lines (seen w)
   pictured_as names procedures lines w =
       let done : List ℕ → Ending = λ text. record { status = Done; text = text } in
       followed_as names (λ last. done (picture_text names procedures lines last)) (λ last. done (picture_text names procedures lines last))

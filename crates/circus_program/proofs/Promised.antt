@@ -21,12 +21,12 @@ use Rattle.circus_ending.specs.declared.status.Status.TheVariants.{Done, BadSche
 use Rattle.circus_ending.specs.Ending.{Ending}
 use Rattle.circus_ending.proofs.OneProgram.{good_or_refused}
 use Rattle.circus_ending.specs.Refusal.{IsEndOfRefused}
-use Rattle.circus_ending.specs.Spent.{spent}
+use Rattle.circus_ending.specs.Spent.{end_of_spent}
 use Rattle.circus_simulated.specs.Booted.{names_in}
 use Rattle.circus_program.specs.Form.{replay, picture, sample, draw, settle}
 use Rattle.circus_program.specs.declared.shown.Shown.TheVariants.{Report}
 use Rattle.circus_program.specs.declared.second.Second.TheVariants.{Schedule}
-use Rattle.circus_program.specs.Replay.{IsEndOfReplay, replay_of, cause_text, refused}
+use Rattle.circus_program.specs.Replay.{IsEndOfReplay, replay_of, cause_text, refuse_line}
 use Rattle.circus_program.specs.Answer.{fetch, finish}
 use Rattle.circus_settle.specs.Settled.{first_deliveries}
 use Rattle.circus_program.specs.Last.{IsDueLast, IsReplay, HasLeft}
@@ -113,7 +113,7 @@ refused_kept plan lines is bad =
       last = cut.last;
       led = cut.led;
       kept = keeps_promise plan cut.before cut.last is cut.led;
-      said = (refused (1 + length cut.before) (cause_text (names_in plan) cut.cause)).text;
+      said = (refuse_line (1 + length cut.before) (cause_text (names_in plan) cut.cause)).text;
       written = cut.written;
     }
 
@@ -130,7 +130,7 @@ spent_kept plan lines is out = by_cut (is_cut_by_spending plan lines out)
       last = cut.last;
       led = cut.led;
       kept = keeps_promise plan cut.before cut.last is cut.led;
-      said = (spent (names_in plan) cut.nodes).text;
+      said = (end_of_spent (names_in plan) cut.nodes).text;
       written = cut.written;
     })
 

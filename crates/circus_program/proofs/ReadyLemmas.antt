@@ -12,7 +12,7 @@ use Rattle.circus_ending.specs.Ending.{Ending}
 use Rattle.circus_model.specs.Behaviour.{Behaviour}
 use Rattle.circus_world.specs.WorldState.{WorldState}
 use Rattle.circus_record.specs.Naming.{names_of}
-use Rattle.circus_simulated.specs.Booted.{booted, names_in}
+use Rattle.circus_simulated.specs.Booted.{boot_world, names_in}
 use Rattle.circus_simulated.specs.Seen.Simulated.{world_of, IsOfPlan}
 use Rattle.circus_program.specs.declared.ready.Ready.{Ready}
 use Rattle.circus_program.specs.declared.shown.Shown.{Shown}
@@ -51,10 +51,10 @@ ended-of_lines shown plan schedule lines end (Ok (Err e)) answer is = (Ok lines,
 ended-of_lines shown plan schedule lines end (Err f) answer is = tt
 
 -- a world that has booted shows what its plan does
-shown_by : (shown : Shown) (plan : Plan) (lines : List Line) (w : WorldState Behaviour) → booted plan ≡ Ok w → end_by (procedures_shown shown plan) (names_in plan) lines w ≡ shown_of shown plan lines
+shown_by : (shown : Shown) (plan : Plan) (lines : List Line) (w : WorldState Behaviour) → boot_world plan ≡ Ok w → end_by (procedures_shown shown plan) (names_in plan) lines w ≡ shown_of shown plan lines
 shown_by Report plan lines w is = ap (from_boot plan lines) (sym is)
 shown_by Picture plan lines w is = ap (drawn_from plan lines) (sym is)
 
-pub ready_shows : (shown : Shown) (plan : Plan) (r : Ready) → IsOfPlan plan r.simulated → booted plan ≡ Ok (world_of r.simulated.world) → r.procedures ≡ procedures_shown shown plan → end_of_ready r ≡ shown_of shown plan r.lines
+pub ready_shows : (shown : Shown) (plan : Plan) (r : Ready) → IsOfPlan plan r.simulated → boot_world plan ≡ Ok (world_of r.simulated.world) → r.procedures ≡ procedures_shown shown plan → end_of_ready r ≡ shown_of shown plan r.lines
 ready_shows shown plan r of is drawn =
     (λ i. end_by (drawn i) (names_of (of.hosts i) (of.names i)) r.lines (world_of r.simulated.world)) ∙ shown_by shown plan r.lines (world_of r.simulated.world) is

@@ -13,30 +13,30 @@ use Rattle.circus_schedule.specs.Meaning.{numbers_of}
 use Rattle.circus_schedule.specs.Answer.{IsAnswer}
 use Rattle.circus_world.specs.WorldState.{WorldState}
 use Rattle.circus_world.specs.Legal.{refusal}
-use Rattle.circus_world.specs.Course.{Stepped, stepped}
+use Rattle.circus_world.specs.Course.{Stepped, step_line}
 use Rattle.circus_ending.specs.declared.status.Status.{Status}
 use Rattle.circus_ending.specs.declared.status.Status.TheVariants.{Done, BadSchedule, Spent}
 use Rattle.circus_ending.specs.Status.{is_end}
 use Rattle.circus_ending.specs.Ending.{Ending}
 use Rattle.circus_config.specs.declared.plan.Plan.{Plan}
-use Rattle.circus_simulated.specs.Booted.{booted, names_in, after_step}
+use Rattle.circus_simulated.specs.Booted.{boot_world, names_in, after_step}
 use Rattle.circus_program.specs.declared.shown.Shown.{Shown}
 use Rattle.circus_program.specs.declared.shown.Shown.TheVariants.{Report, Picture}
-use Rattle.circus_program.specs.Replay.{refused, replayed, replayed_whole, replay_of, shown_of, IsEndOfReplay}
+use Rattle.circus_program.specs.Replay.{refuse_line, replay_lines, replayed_whole, replay_of, shown_of, IsEndOfReplay}
 use Rattle.circus_program.specs.Last.{HasRefused, HasSpent}
 use Rattle.circus_program.specs.Seen.Ready.{end_by}
 use Rattle.circus_program.proofs.OneLine.{replayed_stepped, replayed_spent, replayed_refused}
 use Rattle.circus_program.proofs.Drawn.{followed_status, picture_status}
 
 abbrev step : Line → WorldState Behaviour → Stepped Behaviour
-step line w = stepped declared_of turn_of line w
+step line w = step_line declared_of turn_of line w
 
 -- a replay of lines from what a plan came to at boot
 abbrev pub from_boot : Plan → List Line → Stepped Behaviour → Ending
 from_boot plan lines s = after_step (names_in plan) (replayed_whole declared_of turn_of (names_in plan) lines) s
 
 abbrev lines_end : Names → ℕ → List Line → WorldState Behaviour → Ending
-lines_end names number lines w = replayed declared_of turn_of names number lines w
+lines_end names number lines w = replay_lines declared_of turn_of names number lines w
 
 -- ---- lines
 
@@ -102,11 +102,11 @@ end_by_is_end (Some procedures) names lines w =
 abbrev pub Refuses : Plan → List ℕ → Type 0
 Refuses plan schedule =
     ((fault : ScheduleFault) × IsAnswer (numbers_of plan.deployment.nodes) schedule (Err fault))
-    ⊎ ((lines : List Line) × (w : WorldState Behaviour) × IsAnswer (numbers_of plan.deployment.nodes) schedule (Ok lines) × (booted plan ≡ Ok w) × HasRefused lines w)
+    ⊎ ((lines : List Line) × (w : WorldState Behaviour) × IsAnswer (numbers_of plan.deployment.nodes) schedule (Ok lines) × (boot_world plan ≡ Ok w) × HasRefused lines w)
 
 -- a node has no number left for another one, at boot or in the step of a line
 abbrev pub Spends : Plan → List Line → Type 0
-Spends plan lines = ((nodes : ℕ × ℕ) × (booted plan ≡ Err nodes)) ⊎ ((w : WorldState Behaviour) × (booted plan ≡ Ok w) × HasSpent lines w)
+Spends plan lines = ((nodes : ℕ × ℕ) × (boot_world plan ≡ Err nodes)) ⊎ ((w : WorldState Behaviour) × (boot_world plan ≡ Ok w) × HasSpent lines w)
 
 abbrev pub IsStatusOfReplay : Plan → List ℕ → Status → Type 0
 IsStatusOfReplay plan schedule status =
@@ -115,14 +115,14 @@ IsStatusOfReplay plan schedule status =
     ⊎ ((status ≡ Spent) × ((lines : List Line) × IsAnswer (numbers_of plan.deployment.nodes) schedule (Ok lines) × Spends plan lines)))
 
 behind_boot : (plan : Plan) (schedule : List ℕ) (lines : List Line) (w : WorldState Behaviour) (status : Status) → IsAnswer (numbers_of plan.deployment.nodes) schedule (Ok lines)
-    → booted plan ≡ Ok w → IsStatusOf lines w status → IsStatusOfReplay plan schedule status
+    → boot_world plan ≡ Ok w → IsStatusOf lines w status → IsStatusOfReplay plan schedule status
 behind_boot plan schedule lines w status read is (inl done) = inl done
 behind_boot plan schedule lines w status read is (inr (inl (bad, has))) = inr (inl (bad, inr (lines, w, read, is, has)))
 behind_boot plan schedule lines w status read is (inr (inr (spent, has))) = inr (inr (spent, (lines, read, inr (w, is, has))))
 
 booted_status : (plan : Plan) (schedule : List ℕ) (lines : List Line) → IsAnswer (numbers_of plan.deployment.nodes) schedule (Ok lines) → IsStatusOfReplay plan schedule (replay_of plan lines).status
 booted_status plan schedule lines read =
-    elim (booted plan) as (λ s. booted plan ≡ s → IsStatusOfReplay plan schedule (from_boot plan lines s).status) [
+    elim (boot_world plan) as (λ s. boot_world plan ≡ s → IsStatusOfReplay plan schedule (from_boot plan lines s).status) [
       | Ok w ↦ λ is. behind_boot plan schedule lines w _ read is (lines_status (names_of plan.deployment.nodes plan.names) 1 lines w)
       | Err nodes ↦ λ is. inr (inr (refl, (lines, read, inl (nodes, is))))
     ] refl
@@ -148,11 +148,11 @@ pub record Ends (shown : Shown) (plan : Plan) (schedule : List ℕ) (status : St
 
 pub ends_refused : (shown : Shown) (plan : Plan) (schedule : List ℕ) → Refuses plan schedule → Ends shown plan schedule BadSchedule
 ends_refused shown plan schedule (inl (schedule_fault.BadLine number, read)) =
-    record { ending = refused number (codes "bad line"); end = (Err (schedule_fault.BadLine number), read, refl); status_is = refl }
+    record { ending = refuse_line number (codes "bad line"); end = (Err (schedule_fault.BadLine number), read, refl); status_is = refl }
 ends_refused shown plan schedule (inl (schedule_fault.UnknownNode number name, read)) =
-    record { ending = refused number (codes "unknown node " ++ name); end = (Err (schedule_fault.UnknownNode number name), read, refl); status_is = refl }
+    record { ending = refuse_line number (codes "unknown node " ++ name); end = (Err (schedule_fault.UnknownNode number name), read, refl); status_is = refl }
 ends_refused shown plan schedule (inl (schedule_fault.TooManyLines number, read)) =
-    record { ending = refused number (codes "too many lines"); end = (Err (schedule_fault.TooManyLines number), read, refl); status_is = refl }
+    record { ending = refuse_line number (codes "too many lines"); end = (Err (schedule_fault.TooManyLines number), read, refl); status_is = refl }
 ends_refused shown plan schedule (inl (schedule_fault.NoMemory, read)) = absurd read.faulty
 ends_refused shown plan schedule (inr (lines, w, read, is, has)) =
     record {

@@ -12,7 +12,7 @@ use Rattle.circus_schedule.specs.declared.line.Line.{Line}
 use Rattle.circus_world.specs.declared.cause.LineCause.{LineCause}
 use Rattle.circus_world.specs.WorldState.{WorldState}
 use Rattle.circus_world.specs.Legal.{refusal}
-use Rattle.circus_world.specs.Course.{Stepped, stepped}
+use Rattle.circus_world.specs.Course.{Stepped, step_line}
 use Rattle.circus_world.specs.Alike.{world_as, step_as}
 use Rattle.circus_world.proofs.WorldsAlike.{refusal_as, world_stepped_as}
 use Rattle.circus_settle.proofs.Alike.{rest_as}
@@ -20,7 +20,7 @@ use Rattle.circus_report.specs.Run.{beginning, sent_from}
 use Rattle.circus_ending.specs.declared.status.Status.TheVariants.{Done}
 use Rattle.circus_ending.specs.Ending.{Ending}
 use Rattle.circus_simulated.specs.Booted.{after_step}
-use Rattle.circus_program.specs.Replay.{cause_text, refused, behind, replayed, replayed_whole}
+use Rattle.circus_program.specs.Replay.{cause_text, refuse_line, behind, replay_lines, replayed_whole}
 
 module _ {M : Type 0} (declared : M → Signature) (turn : M → List ValueTree → ℕ → List ValueTree → List Outcome → NextTurn) (first : M → List ValueTree) where
   abbrev seen : WorldState M → WorldState Behaviour
@@ -35,18 +35,18 @@ module _ {M : Type 0} (declared : M → Signature) (turn : M → List ValueTree 
   after_as names next also same (Err nodes) = refl
 
   replayed_as : (names : Names) (number : ℕ) (lines : List Line) (w : WorldState M)
-      → replayed declared turn names number lines w ≡ replayed declared_of turn_of names number lines (seen w)
+      → replay_lines declared turn names number lines w ≡ replay_lines declared_of turn_of names number lines (seen w)
   replayed_as names number [] w =
       let done : List ℕ → Ending = λ text. record { status = Done; text = text } in
       ap done (sym (rest_as declared turn first names w))
   replayed_as names number (line ∷ lines) w =
-      let next : WorldState M → Ending = λ after. behind (sent_from (length w.sent) after) (replayed declared turn names (number + 1) lines after) in
-      let also : WorldState Behaviour → Ending = λ after. behind (sent_from (length w.sent) after) (replayed declared_of turn_of names (number + 1) lines after) in
-      let unless : Option LineCause → Ending → Ending = λ o e. option_map_or (λ cause. refused number (cause_text names cause)) o e in
+      let next : WorldState M → Ending = λ after. behind (sent_from (length w.sent) after) (replay_lines declared turn names (number + 1) lines after) in
+      let also : WorldState Behaviour → Ending = λ after. behind (sent_from (length w.sent) after) (replay_lines declared_of turn_of names (number + 1) lines after) in
+      let unless : Option LineCause → Ending → Ending = λ o e. option_map_or (λ cause. refuse_line number (cause_text names cause)) o e in
       ap (unless (refusal w line)) (
-      after_as names next also (λ after. ap (behind (sent_from (length w.sent) after)) (replayed_as names (number + 1) lines after)) (stepped declared turn line w)
+      after_as names next also (λ after. ap (behind (sent_from (length w.sent) after)) (replayed_as names (number + 1) lines after)) (step_line declared turn line w)
       ∙ ap (after_step names also) (world_stepped_as declared turn first line w))
-      ∙ ap (λ o. unless o (after_step names also (stepped declared_of turn_of line (seen w)))) (sym (refusal_as declared turn first line w))
+      ∙ ap (λ o. unless o (after_step names also (step_line declared_of turn_of line (seen w)))) (sym (refusal_as declared turn first line w))
 
   pub whole_as : (names : Names) (lines : List Line) (w : WorldState M)
       → replayed_whole declared turn names lines w ≡ replayed_whole (λ (b : Behaviour). b.declared) (λ (b : Behaviour). b.turn) names lines (seen w)

@@ -22,7 +22,7 @@ use Rattle.circus_world.specs.declared.cause.LineCause.TheVariants.{NotLive, Not
 use Rattle.circus_world.specs.declared.sent.Sent.{Sent}
 use Rattle.circus_world.specs.WorldState.{WorldState, Standing, is_live, has_crashed}
 use Rattle.circus_world.specs.Legal.{refusal, is_spare, unless_told}
-use Rattle.circus_world.specs.Course.{Stepped, stepped}
+use Rattle.circus_world.specs.Course.{Stepped, step_line}
 use Rattle.circus_world.specs.Lines.{Leads, Lead}
 use Rattle.circus_world.proofs.LineLemmas.{sent_stays, deployment_stays}
 use Rattle.circus_report.specs.Report.{first_line, sent_line, sent_lines, rest_text, report_text}
@@ -30,11 +30,11 @@ use Rattle.circus_report.specs.Run.{beginning, sent_from}
 use Rattle.circus_config.specs.declared.plan.Plan.{Plan}
 use Rattle.circus_ending.specs.declared.status.Status.TheVariants.{Done, BadSchedule, Spent}
 use Rattle.circus_ending.specs.Ending.{Ending}
-use Rattle.circus_ending.specs.Spent.{spent}
+use Rattle.circus_ending.specs.Spent.{end_of_spent}
 use Rattle.circus_load.specs.Loaded.{behaviours_in, hosted_by}
-use Rattle.circus_simulated.specs.Booted.{booted, names_in, after_step}
+use Rattle.circus_simulated.specs.Booted.{boot_world, names_in, after_step}
 use Rattle.circus_simulated.proofs.Stepping.{booted_joins}
-use Rattle.circus_program.specs.Replay.{cause_text, refused, behind, replayed, replayed_whole, replay_of, picture_of}
+use Rattle.circus_program.specs.Replay.{cause_text, refuse_line, behind, replay_lines, replayed_whole, replay_of, picture_of}
 use Rattle.circus_program.specs.Worlds.{AreLed, sent_text, IsReported, IsCutByRefusal, IsCutBySpending, IsSpentAtBoot, IsPictured}
 use Rattle.circus_program.proofs.OneLine.{replayed_stepped, replayed_spent, replayed_refused}
 use Rattle.circus_program.proofs.Drawn.{picture_status, led_pictured}
@@ -114,9 +114,9 @@ module _ {M : Type 0} (declared : M → Signature) (turn : M → List ValueTree 
     completes : (last : WorldState M) → Lead declared turn lines w last
         → ending ≡ behind (sent_between w last) (record { status = Done; text = rest_text names last }) → Ends number lines w ending
     refuses : (before : List Line) (line : Line) (others : List Line) (last : WorldState M) (cause : LineCause) → lines ≡ before ++ line ∷ others → Lead declared turn before w last
-        → refusal last line ≡ Some cause → ending ≡ behind (sent_between w last) (refused (number + length before) (cause_text names cause)) → Ends number lines w ending
+        → refusal last line ≡ Some cause → ending ≡ behind (sent_between w last) (refuse_line (number + length before) (cause_text names cause)) → Ends number lines w ending
     spends : (before : List Line) (line : Line) (others : List Line) (last : WorldState M) (nodes : ℕ × ℕ) → lines ≡ before ++ line ∷ others → Lead declared turn before w last
-        → refusal last line ≡ None → stepped declared turn line last ≡ Err nodes → ending ≡ behind (sent_between w last) (spent names nodes) → Ends number lines w ending
+        → refusal last line ≡ None → step_line declared turn line last ≡ Err nodes → ending ≡ behind (sent_between w last) (end_of_spent names nodes) → Ends number lines w ending
 
   -- nothing was sent meanwhile
   none_sent : (w : WorldState M) (ending : Ending) → ending ≡ behind (sent_between w w) ending
@@ -148,28 +148,28 @@ module _ {M : Type 0} (declared : M → Signature) (turn : M → List ValueTree 
       refuses (line ∷ before) at others last cause (ap (λ l. line ∷ l) are) (next, leads, lead) refusal_is
       (ap (behind (sent_from (length w.sent) next)) is
       ∙ joined line before w next last _ deployed leads lead
-      ∙ ap (λ k. behind (sent_between w last) (refused k (cause_text names cause))) place)
+      ∙ ap (λ k. behind (sent_between w last) (refuse_line k (cause_text names cause))) place)
   later number line lines w next ending deployed leads (spends before at others last nodes are lead legal stepped_is is) =
       spends (line ∷ before) at others last nodes (ap (λ l. line ∷ l) are) (next, leads, lead) legal stepped_is
       (ap (behind (sent_from (length w.sent) next)) is ∙ joined line before w next last _ deployed leads lead)
 
   abbrev End : ℕ → List Line → WorldState M → Ending
-  End number lines w = replayed declared turn names number lines w
+  End number lines w = replay_lines declared turn names number lines w
 
   refuses_first : (number : ℕ) (line : Line) (lines : List Line) (w : WorldState M) (cause : LineCause) → refusal w line ≡ Some cause → Ends number (line ∷ lines) w (End number (line ∷ lines) w)
   refuses_first number line lines w cause is =
-      let end : Ending = refused (number + 0) (cause_text names cause) in
+      let end : Ending = refuse_line (number + 0) (cause_text names cause) in
       refuses [] line lines w cause refl refl is
       (replayed_refused declared turn names number line lines w cause is
-      ∙ ap (λ k. refused k (cause_text names cause)) (sym (add-zero number))
+      ∙ ap (λ k. refuse_line k (cause_text names cause)) (sym (add-zero number))
       ∙ none_sent w end)
 
-  spends_first : (number : ℕ) (line : Line) (lines : List Line) (w : WorldState M) (nodes : ℕ × ℕ) → refusal w line ≡ None → stepped declared turn line w ≡ Err nodes
+  spends_first : (number : ℕ) (line : Line) (lines : List Line) (w : WorldState M) (nodes : ℕ × ℕ) → refusal w line ≡ None → step_line declared turn line w ≡ Err nodes
       → Ends number (line ∷ lines) w (End number (line ∷ lines) w)
   spends_first number line lines w nodes legal is =
-      spends [] line lines w nodes refl refl legal is (replayed_spent declared turn names number line lines w nodes legal is ∙ none_sent w (spent names nodes))
+      spends [] line lines w nodes refl refl legal is (replayed_spent declared turn names number line lines w nodes legal is ∙ none_sent w (end_of_spent names nodes))
 
-  goes_on : (number : ℕ) (line : Line) (lines : List Line) (w next : WorldState M) → w.deployment.nodes ≡ hosts → refusal w line ≡ None → stepped declared turn line w ≡ Ok next
+  goes_on : (number : ℕ) (line : Line) (lines : List Line) (w next : WorldState M) → w.deployment.nodes ≡ hosts → refusal w line ≡ None → step_line declared turn line w ≡ Ok next
       → (next.deployment.nodes ≡ hosts → Ends (number + 1) lines next (End (number + 1) lines next)) → Ends number (line ∷ lines) w (End number (line ∷ lines) w)
   goes_on number line lines w next deployed legal is others =
       let leads : Leads declared turn line w next = record { named = named w line legal; legal = legal; stepped_is = is } in
@@ -182,7 +182,7 @@ module _ {M : Type 0} (declared : M → Signature) (turn : M → List ValueTree 
   lines_end number (line ∷ lines) w deployed =
       elim (refusal w line) as (λ o. refusal w line ≡ o → Ends number (line ∷ lines) w (End number (line ∷ lines) w)) [
         | Some cause ↦ λ is. refuses_first number line lines w cause is
-        | None ↦ λ legal. elim (stepped declared turn line w) as (λ s. stepped declared turn line w ≡ s → Ends number (line ∷ lines) w (End number (line ∷ lines) w)) [
+        | None ↦ λ legal. elim (step_line declared turn line w) as (λ s. step_line declared turn line w ≡ s → Ends number (line ∷ lines) w (End number (line ∷ lines) w)) [
           | Ok next ↦ λ is. goes_on number line lines w next deployed legal is (λ nodes. lines_end (number + 1) lines next nodes)
           | Err nodes ↦ λ is. spends_first number line lines w nodes legal is
         ] refl
@@ -208,7 +208,7 @@ module _ {M : Type 0} (declared : M → Signature) (turn : M → List ValueTree 
 -- ---- of a plan
 
 -- its world at boot has its nodes
-pub booted_nodes : (plan : Plan) (w : WorldState Behaviour) → booted plan ≡ Ok w → w.deployment.nodes ≡ plan.deployment.nodes
+pub booted_nodes : (plan : Plan) (w : WorldState Behaviour) → boot_world plan ≡ Ok w → w.deployment.nodes ≡ plan.deployment.nodes
 booted_nodes plan w is =
     let joined = booted_joins declared_of turn_of first_of (map (hosted_by (behaviours_in plan)) plan.deployment.nodes) plan.deployment (behaviours_in plan) w is in
     ap (λ (d : Deployment). d.nodes) joined.deployment
@@ -219,7 +219,7 @@ data Reports (plan : Plan) (lines : List Line) (ending : Ending) : Type 0 where
   cut_by_refusal : ending.status ≡ BadSchedule → IsCutByRefusal plan lines ending.text → Reports plan lines ending
   cut_by_spending : ending.status ≡ Spent → IsSpentAtBoot plan ending.text ⊎ IsCutBySpending plan lines ending.text → Reports plan lines ending
 
-behind_boot : (plan : Plan) (lines : List Line) (w : WorldState Behaviour) (ending end : Ending) → booted plan ≡ Ok w → ending ≡ behind (beginning w) end
+behind_boot : (plan : Plan) (lines : List Line) (w : WorldState Behaviour) (ending end : Ending) → boot_world plan ≡ Ok w → ending ≡ behind (beginning w) end
     → Ends declared_of turn_of plan.deployment.nodes plan.names 1 lines w end → Reports plan lines ending
 behind_boot plan lines w ending end is whole (completes last lead end_is) =
     let same = whole ∙ ap (behind (beginning w)) end_is ∙ begins declared_of turn_of plan.deployment.nodes plan.names w last lines _ (booted_nodes plan w is) lead in
@@ -260,7 +260,7 @@ from_boot plan lines s = after_step (names_in plan) (replayed_whole declared_of 
 
 reports : (plan : Plan) (lines : List Line) → Reports plan lines (replay_of plan lines)
 reports plan lines =
-    elim (booted plan) as (λ s. booted plan ≡ s → Reports plan lines (from_boot plan lines s)) [
+    elim (boot_world plan) as (λ s. boot_world plan ≡ s → Reports plan lines (from_boot plan lines s)) [
       | Ok w ↦ λ is. behind_boot plan lines w (from_boot plan lines (Ok w)) _ is refl (lines_end declared_of turn_of plan.deployment.nodes plan.names 1 lines w (booted_nodes plan w is))
       | Err nodes ↦ λ is. cut_by_spending refl (inl (nodes, is, refl))
     ] refl
@@ -294,7 +294,7 @@ is_cut_by_spending plan lines same = elim (reports plan lines) [
 -- they are replayed up to their report
 led_whole : {M : Type 0} (declared : M → Signature) (turn : M → List ValueTree → ℕ → List ValueTree → List Outcome → NextTurn) (hosts : List Host) (modules : List (List ℕ)) (number : ℕ) (lines : List Line)
     (w last : WorldState M) → w.deployment.nodes ≡ hosts → Lead declared turn lines w last
-    → replayed declared turn (names_of hosts modules) number lines w ≡ behind (sent_between declared turn hosts modules w last) (record { status = Done; text = rest_text (names_of hosts modules) last })
+    → replay_lines declared turn (names_of hosts modules) number lines w ≡ behind (sent_between declared turn hosts modules w last) (record { status = Done; text = rest_text (names_of hosts modules) last })
 led_whole declared turn hosts modules number [] w last deployed same =
     let end : Ending = record { status = Done; text = rest_text (names_of hosts modules) w } in
     subst (λ v. end ≡ behind (sent_between declared turn hosts modules w v) (record { status = Done; text = rest_text (names_of hosts modules) v })) (sym same) (none_sent declared turn hosts modules w end)

@@ -19,10 +19,10 @@ use Rattle.circus_outside.specs.Link.{Taken, failed, taken_of}
 use Rattle.circus_outside.specs.declared.link.TakenFrom.{TakenFrom}
 use Rattle.circus_serve.specs.declared.happening.Happening.{Happening}
 use Rattle.circus_serve.specs.Happened.{given_in}
-use Rattle.circus_serve.specs.Serving.{Progress, happened_by, served}
+use Rattle.circus_serve.specs.Serving.{Progress, happened_by, serve_takes}
 use Rattle.circus_serve.specs.Outside.{Tells, IsAsked}
 use Rattle.circus_serve.specs.Recorded.{Recorded}
-use Rattle.circus_serve.specs.Answers.{asked, IsServed, IsPartGiven}
+use Rattle.circus_serve.specs.Answers.{asked_of_link, IsServed, IsPartGiven}
 use Rattle.circus_config.specs.declared.plan.Plan.{Plan}
 use Rattle.circus_config.specs.Program.{IsPlan}
 use Rattle.circus_load.specs.Loaded.{behaviours_in, hosted_by}
@@ -69,33 +69,33 @@ module _ (plan : Plan) (is : IsPlan plan) (node number : ℕ) (b : Behaviour) (h
   }
 
   -- what it came to at boot is what a node comes to that hosts this
-  boots : (ended : Ended Behaviour) → booted_node plan node ≡ ended → booting.booted declared_of turn_of first_of plan.deployment (Some b) node ≡ ended
-  boots ended booted_is = ap (λ (o : Option Behaviour). booting.booted declared_of turn_of first_of plan.deployment o node) (sym hosted) ∙ booted_is
+  boots : (ended : Ended Behaviour) → booted_node plan node ≡ ended → booting.boot_node declared_of turn_of first_of plan.deployment (Some b) node ≡ ended
+  boots ended booted_is = ap (λ (o : Option Behaviour). booting.boot_node declared_of turn_of first_of plan.deployment o node) (sym hosted) ∙ booted_is
 
 module _ (plan : Plan) (is : IsPlan plan) (node turns : ℕ) (old new : Tells) where
   served_run : (begun : NodeState Behaviour) (outputs : Outputs) → booted_node plan node ≡ Ok (begun, outputs) → (recorded : Recorded Behaviour)
-      → (served : IsServed declared_of turn_of plan.deployment node begun outputs.gives turns old new recorded) → All IsOfOctets served.takes
+      → (serve_takes : IsServed declared_of turn_of plan.deployment node begun outputs.gives turns old new recorded) → All IsOfOctets serve_takes.takes
       → (number : ℕ) (troupe : Troupe) (b : Behaviour) (kept : MemberRecord) → troupe_at plan.deployment node ≡ Some number
       → slice_get plan.deployment.troupes number ≡ Some troupe → IsAt (behaviours_in plan) number b → member_record recorded.node.acting ≡ Some kept
       → IsServedRun plan.deployment b node number troupe recorded.happened kept
-  served_run begun outputs booted_is recorded served octets number troupe b kept hosts there at recorded_is =
-      subst (λ happened. IsServedRun plan.deployment b node number troupe happened kept) (sym served.happened)
-      (plain_served_is_a_node_run plan.deployment b (plan_modules plan is number b at) node number troupe begun outputs served.takes served.last kept
-      (can_boot plan is node number b hosts at) (boots plan is node number b hosts at (Ok (begun, outputs)) booted_is) served.is octets hosts there
-      (ap (λ (n : NodeState Behaviour). member_record n.acting) (sym served.node) ∙ recorded_is))
+  served_run begun outputs booted_is recorded serve_takes octets number troupe b kept hosts there at recorded_is =
+      subst (λ happened. IsServedRun plan.deployment b node number troupe happened kept) (sym serve_takes.happened)
+      (plain_served_is_a_node_run plan.deployment b (plan_modules plan is number b at) node number troupe begun outputs serve_takes.takes serve_takes.last kept
+      (can_boot plan is node number b hosts at) (boots plan is node number b hosts at (Ok (begun, outputs)) booted_is) serve_takes.is octets hosts there
+      (ap (λ (n : NodeState Behaviour). member_record n.acting) (sym serve_takes.node) ∙ recorded_is))
 
   pub served_ends : (ending : Ending) → IsEndOfServing plan node turns old new ending → ending.status ≡ Done → IsServedRunOf plan node turns old new ending.text
   served_ends ending (inr (peer, spent_is, same, ends)) done = absurd (let clash : Spent ≡ Done = sym (ap (λ (e : Ending). e.status) ends) ∙ done in cc)
   served_ends ending (inl (boot, booted_is, inr (inl (peer, spent_is, ends)))) done = absurd (let clash : Spent ≡ Done = sym (ap (λ (e : Ending). e.status) ends) ∙ done in cc)
   served_ends ending (inl (boot, booted_is, inr (inr (broken, ends)))) done = absurd (let clash : LinkFault ≡ Done = sym (ap (λ (e : Ending). e.status) ends) ∙ done in cc)
-  served_ends ending (inl (boot, booted_is, inl (recorded, served, ends))) done =
+  served_ends ending (inl (boot, booted_is, inl (recorded, serve_takes, ends))) done =
       record {
         recorded = recorded;
         written = ap (λ (e : Ending). e.text) ends;
         boot = boot;
         booted_is = booted_is;
-        served = served;
-        run = λ octets. served_run boot.0 boot.1 booted_is recorded served octets;
+        served = serve_takes;
+        run = λ octets. served_run boot.0 boot.1 booted_is recorded serve_takes octets;
       }
 
   -- ---- as far as it came
@@ -116,7 +116,7 @@ module _ (plan : Plan) (is : IsPlan plan) (node turns : ℕ) (old new : Tells) w
 
     -- all of it
     gave_all : (takes : List TakenFrom) (happened : List Happening) (failing : List Taken) → happened_so_far plan node boot takes ≡ happened → (failing ≡ []) ⊎ (failing ≡ failed ∷ [])
-        → IsAsked old new (asked plan.deployment node (map taken_of takes ++ failing) (given_in plan.deployment happened)) → WasGiven plan node old new boot takes
+        → IsAsked old new (asked_of_link plan.deployment node (map taken_of takes ++ failing) (given_in plan.deployment happened)) → WasGiven plan node old new boot takes
     gave_all takes happened failing same few link =
         record {
           given = given_in plan.deployment happened;
@@ -129,16 +129,16 @@ module _ (plan : Plan) (is : IsPlan plan) (node turns : ℕ) (old new : Tells) w
         }
 
     -- no call of it failed
-    none_failed : (takes : List TakenFrom) (given : List (ℕ × List ℕ)) → IsAsked old new (asked plan.deployment node (map taken_of takes) given)
-        → IsAsked old new (asked plan.deployment node (map taken_of takes ++ []) given)
-    none_failed takes given link = subst (λ (l : List Taken). IsAsked old new (asked plan.deployment node l given)) (sym (append-nil (map taken_of takes))) link
+    none_failed : (takes : List TakenFrom) (given : List (ℕ × List ℕ)) → IsAsked old new (asked_of_link plan.deployment node (map taken_of takes) given)
+        → IsAsked old new (asked_of_link plan.deployment node (map taken_of takes ++ []) given)
+    none_failed takes given link = subst (λ (l : List Taken). IsAsked old new (asked_of_link plan.deployment node l given)) (sym (append-nil (map taken_of takes))) link
 
     abbrev after : List TakenFrom → Progress Behaviour
-    after takes = served declared_of turn_of plan.deployment node boot.0 boot.1.gives takes
+    after takes = serve_takes declared_of turn_of plan.deployment node boot.0 boot.1.gives takes
 
     -- a part of it
     gave_part : (takes : List TakenFrom) (given : List (ℕ × List ℕ)) → IsPartGiven declared_of turn_of plan.deployment node boot.0 boot.1.gives takes given
-        → IsAsked old new (asked plan.deployment node (map taken_of takes) given) → WasGiven plan node old new boot takes
+        → IsAsked old new (asked_of_link plan.deployment node (map taken_of takes) given) → WasGiven plan node old new boot takes
     gave_part takes given part link =
         record {
           given = given;
@@ -151,7 +151,7 @@ module _ (plan : Plan) (is : IsPlan plan) (node turns : ℕ) (old new : Tells) w
         }
 
     -- the port was bound at most
-    gave_nothing : IsAsked old new (asked plan.deployment node [] []) → WasGiven plan node old new boot []
+    gave_nothing : IsAsked old new (asked_of_link plan.deployment node [] []) → WasGiven plan node old new boot []
     gave_nothing link =
         record {
           given = [];
@@ -170,9 +170,9 @@ module _ (plan : Plan) (is : IsPlan plan) (node turns : ℕ) (old new : Tells) w
     booted_so_far : (ending : Ending)
         → IsEndOfBooted declared_of turn_of (names_of plan.deployment.nodes plan.names) plan.deployment node turns old new boot.0 boot.1.gives ending
         → WasServedSoFar plan node turns old new
-    booted_so_far ending (inl (recorded, served, ends)) =
-        run_so_far served.takes (omega (arith, served.all))
-        (gave_all served.takes served.last.happened [] (ap happened_by served.is) (inl refl) (none_failed served.takes (given_in plan.deployment served.last.happened) served.link))
+    booted_so_far ending (inl (recorded, serve_takes, ends)) =
+        run_so_far serve_takes.takes (omega (arith, serve_takes.all))
+        (gave_all serve_takes.takes serve_takes.last.happened [] (ap happened_by serve_takes.is) (inl refl) (none_failed serve_takes.takes (given_in plan.deployment serve_takes.last.happened) serve_takes.link))
     booted_so_far ending (inr (inl (peer, spent_is, ends))) =
         run_so_far spent_is.takes spent_is.few
         (gave_all spent_is.takes spent_is.happened [] (ap happened_by spent_is.is) (inl refl) (none_failed spent_is.takes (given_in plan.deployment spent_is.happened) spent_is.link))

@@ -7,14 +7,14 @@ use Rattle.circus_alike.specs.Alike.{declared_of, turn_of}
 use Rattle.circus_world.specs.WorldState.{WorldState}
 use Rattle.circus_world.specs.Course.{Stepped}
 use Rattle.circus_world.specs.Lines.{Lead}
-use Rattle.circus_settle.specs.Settled.{Delivered, Settling, first_deliveries, settled}
+use Rattle.circus_settle.specs.Settled.{Delivered, Settling, first_deliveries, settle_world}
 use Rattle.circus_settle.specs.Summary.{settled_text}
 use Rattle.circus_settle.proofs.Leading.{led, led_settles}
 use Rattle.circus_config.specs.declared.plan.Plan.{Plan}
 use Rattle.circus_ending.specs.declared.status.Status.{Status}
 use Rattle.circus_ending.specs.declared.status.Status.TheVariants.{Done, Spent, Unsettled}
 use Rattle.circus_ending.specs.Ending.{Ending}
-use Rattle.circus_simulated.specs.Booted.{booted, names_in, after_step}
+use Rattle.circus_simulated.specs.Booted.{boot_world, names_in, after_step}
 use Rattle.circus_simulated.specs.Settle.{budget, settled_end, after_settling, settle_in, settle_of}
 use Rattle.circus_program.specs.Last.{HasSpentSettle, HasLeft}
 
@@ -34,7 +34,7 @@ abbrev pub IsStatusOfSettle : Plan → ℕ → Status → Type 0
 IsStatusOfSettle plan deliveries status =
     (status ≡ Done) ⊎ (((status ≡ Unsettled) × HasLeft plan deliveries) ⊎ ((status ≡ Spent) × HasSpentSettle plan deliveries))
 
-made_status : (plan : Plan) (deliveries : ℕ) (w : WorldState Behaviour) (done : Delivered Behaviour) → booted plan ≡ Ok w → settled declared_of turn_of deliveries 0 w ≡ Ok done
+made_status : (plan : Plan) (deliveries : ℕ) (w : WorldState Behaviour) (done : Delivered Behaviour) → boot_world plan ≡ Ok w → settle_world declared_of turn_of deliveries 0 w ≡ Ok done
     → IsStatusOfSettle plan deliveries (settled_end (names_in plan) deliveries done).status
 made_status plan deliveries w done is whole = by_left (nat_lt done.given (length done.world.sent)) refl
   where
@@ -46,16 +46,16 @@ made_status plan deliveries w done is whole = by_left (nat_lt done.given (length
         let given : done.given ≡ deliveries = to.all below in
         inr (inl (refl, (w, done.world, is, subst (λ k. Lead declared_of turn_of (first_deliveries k) w done.world) given to.lead, omega (arith, below, given))))
 
-behind_boot : (plan : Plan) (deliveries : ℕ) (w : WorldState Behaviour) → booted plan ≡ Ok w → IsStatusOfSettle plan deliveries (from_boot plan deliveries (Ok w))
+behind_boot : (plan : Plan) (deliveries : ℕ) (w : WorldState Behaviour) → boot_world plan ≡ Ok w → IsStatusOfSettle plan deliveries (from_boot plan deliveries (Ok w))
 behind_boot plan deliveries w is =
-    elim (settled declared_of turn_of deliveries 0 w) as (λ s. settled declared_of turn_of deliveries 0 w ≡ s → IsStatusOfSettle plan deliveries (from_last plan deliveries s)) [
+    elim (settle_world declared_of turn_of deliveries 0 w) as (λ s. settle_world declared_of turn_of deliveries 0 w ≡ s → IsStatusOfSettle plan deliveries (from_last plan deliveries s)) [
       | Ok done ↦ λ whole. made_status plan deliveries w done is whole
       | Err nodes ↦ λ spent. inr (inr (refl, inr (w, is, (nodes, spent))))
     ] refl
 
 pub settle_status : (plan : Plan) (deliveries : ℕ) → IsStatusOfSettle plan deliveries (settle_of plan deliveries).status
 settle_status plan deliveries =
-    elim (booted plan) as (λ s. booted plan ≡ s → IsStatusOfSettle plan deliveries (from_boot plan deliveries s)) [
+    elim (boot_world plan) as (λ s. boot_world plan ≡ s → IsStatusOfSettle plan deliveries (from_boot plan deliveries s)) [
       | Ok w ↦ λ is. behind_boot plan deliveries w is
       | Err nodes ↦ λ is. inr (inr (refl, inl (nodes, is)))
     ] refl

@@ -16,12 +16,12 @@ use Rattle.circus_schedule.specs.Answer.{IsAnswer}
 use Rattle.circus_world.specs.WorldState.{WorldState}
 use Rattle.circus_world.specs.Course.{Stepped}
 use Rattle.circus_world.specs.Lines.{Lead}
-use Rattle.circus_sample.specs.Sampled.{lines_behind, sampled}
+use Rattle.circus_sample.specs.Sampled.{lines_behind, sample_lines}
 use Rattle.circus_sample.specs.Summary.{summary}
 use Rattle.circus_sample.specs.Seen.Stepping.{NoneCrashed}
 use Rattle.circus_sample.proofs.Stepping.{samples_lead}
 use Rattle.circus_sample.proofs.Untouched.{none_crashed, booted_new}
-use Rattle.circus_settle.specs.Settled.{Delivered, first_deliveries, settled}
+use Rattle.circus_settle.specs.Settled.{Delivered, first_deliveries, settle_world}
 use Rattle.circus_settle.specs.Summary.{settled_text}
 use Rattle.circus_settle.proofs.Leading.{led}
 use Rattle.circus_config.specs.declared.plan.Plan.{Plan}
@@ -30,9 +30,9 @@ use Rattle.circus_ending.specs.declared.status.Status.{Status}
 use Rattle.circus_ending.specs.declared.status.Status.TheVariants.{Done, BadProgram, BadSchedule, Spent, Unsettled}
 use Rattle.circus_ending.specs.Ending.{Ending}
 use Rattle.circus_load.specs.Loaded.{behaviours_in, hosted_by}
-use Rattle.circus_simulated.specs.Booted.{booted, names_in, after_step}
-use Rattle.circus_simulated.specs.Sample.{summed, sample_in, sample_of}
-use Rattle.circus_simulated.specs.Schedule.{lines_in, lines_of_sample, drawn, schedule_in, schedule_of}
+use Rattle.circus_simulated.specs.Booted.{boot_world, names_in, after_step}
+use Rattle.circus_simulated.specs.Sample.{end_of_summary, sample_in, sample_of}
+use Rattle.circus_simulated.specs.Schedule.{lines_in, lines_of_sample, end_of_drawing, schedule_in, schedule_of}
 use Rattle.circus_simulated.specs.Settle.{budget, settled_end, after_settling, settle_in, settle_of}
 use Rattle.circus_simulated.proofs.Stepping.{booted_joins}
 use Rattle.circus_program.specs.Form.{CommandForm, stubs, run, replay, picture, node, sample, draw, settle, place, audit, words_of, IsOfForm}
@@ -58,7 +58,7 @@ hosted modules nodes number own at = by_host (slice_get nodes number) (sym (slic
     by_host None is = absurd (let clash : ◌≡◌ {A = Option (Option Behaviour)} None (Some own) = is in cc)
     by_host (Some h) is = let same : hosted_by modules h ≡ own = cc in sym same
 
-boots_live : (plan : Plan) (w : WorldState Behaviour) → booted plan ≡ Ok w → NoneCrashed w
+boots_live : (plan : Plan) (w : WorldState Behaviour) → boot_world plan ≡ Ok w → NoneCrashed w
 boots_live plan w is =
     let d = plan.deployment in
     let modules = behaviours_in plan in
@@ -73,7 +73,7 @@ boots_live plan w is =
     ) in
     none_crashed w new.untouched
 
-pub boots_nodes : (plan : Plan) (w : WorldState Behaviour) → booted plan ≡ Ok w → length w.nodes ≡ length plan.deployment.nodes
+pub boots_nodes : (plan : Plan) (w : WorldState Behaviour) → boot_world plan ≡ Ok w → length w.nodes ≡ length plan.deployment.nodes
 boots_nodes plan w is =
     let modules = behaviours_in plan in
     let joined = booted_joins declared_of turn_of first_of (map (hosted_by modules) plan.deployment.nodes) plan.deployment modules w is in
@@ -87,16 +87,16 @@ has_node text plan means = subst (λ (d : Deployment). 1 ≤ length d.nodes) (sy
 pub record IsDrawn (plan : Plan) (seed steps : ℕ) : Type 0 where
   pub begun : WorldState Behaviour
   pub last : WorldState Behaviour
-  pub booted_is : booted plan ≡ Ok begun
-  pub sampled_is : sampled declared_of turn_of steps seed begun ≡ Ok last
+  pub booted_is : boot_world plan ≡ Ok begun
+  pub sampled_is : sample_lines declared_of turn_of steps seed begun ≡ Ok last
   pub count : length (lines_of_sample plan seed steps) ≡ steps
   pub lead : Lead declared_of turn_of (lines_of_sample plan seed steps) begun last
   pub summed_is : sample_of plan seed steps ≡ record { status = Done; text = summary (names_in plan) steps last }
-  pub listed_is : schedule_of plan seed steps ≡ drawn (names_in plan) (lines_of_sample plan seed steps)
+  pub listed_is : schedule_of plan seed steps ≡ end_of_drawing (names_in plan) (lines_of_sample plan seed steps)
 
 pub is_drawn : (plan : Plan) (seed steps : ℕ) → 1 ≤ length plan.deployment.nodes → (sample_of plan seed steps).status ≡ Done → IsDrawn plan seed steps
 is_drawn plan seed steps some done =
-    elim (booted plan) as (λ s. booted plan ≡ s → (end s).status ≡ Done → IsDrawn plan seed steps) [
+    elim (boot_world plan) as (λ s. boot_world plan ≡ s → (end s).status ≡ Done → IsDrawn plan seed steps) [
       | Err nodes ↦ λ is same. absurd (let clash : Spent ≡ Done = same in cc)
       | Ok w ↦ λ is same. behind_boot w is same
     ] refl done
@@ -104,9 +104,9 @@ is_drawn plan seed steps some done =
     end : Stepped Behaviour → Ending
     end s = after_step (names_in plan) (sample_in (names_in plan) seed steps) s
 
-    behind_boot : (w : WorldState Behaviour) → booted plan ≡ Ok w → (sample_in (names_in plan) seed steps w).status ≡ Done → IsDrawn plan seed steps
+    behind_boot : (w : WorldState Behaviour) → boot_world plan ≡ Ok w → (sample_in (names_in plan) seed steps w).status ≡ Done → IsDrawn plan seed steps
     behind_boot w is same =
-        elim (sampled declared_of turn_of steps seed w) as (λ s. sampled declared_of turn_of steps seed w ≡ s → (after_step (names_in plan) (summed (names_in plan) steps) s).status ≡ Done
+        elim (sample_lines declared_of turn_of steps seed w) as (λ s. sample_lines declared_of turn_of steps seed w ≡ s → (after_step (names_in plan) (end_of_summary (names_in plan) steps) s).status ≡ Done
         → IsDrawn plan seed steps) [
           | Err nodes ↦ λ whole out. absurd (let clash : Spent ≡ Done = out in cc)
           | Ok last ↦ λ whole all.
@@ -119,11 +119,11 @@ is_drawn plan seed steps some done =
                 sampled_is = whole;
                 count = subst (λ (l : List Line). length l ≡ steps) same lines.0;
                 lead = subst (λ (l : List Line). Lead declared_of turn_of l w last) same lines.1;
-                summed_is = ap end is ∙ ap (after_step (names_in plan) (summed (names_in plan) steps)) whole;
+                summed_is = ap end is ∙ ap (after_step (names_in plan) (end_of_summary (names_in plan) steps)) whole;
                 listed_is =
                     ap (after_step (names_in plan) (schedule_in (names_in plan) seed steps)) is
-                    ∙ ap (after_step (names_in plan) (λ (after : WorldState Behaviour). drawn (names_in plan) (lines_in seed steps w))) whole
-                    ∙ ap (drawn (names_in plan)) same;
+                    ∙ ap (after_step (names_in plan) (λ (after : WorldState Behaviour). end_of_drawing (names_in plan) (lines_in seed steps w))) whole
+                    ∙ ap (end_of_drawing (names_in plan)) same;
               }
         ] refl same
 
@@ -132,7 +132,7 @@ is_drawn plan seed steps some done =
 record IsMade (plan : Plan) (deliveries : ℕ) (text : List ℕ) : Type 0 where
   begun : WorldState Behaviour
   last : WorldState Behaviour
-  booted_is : booted plan ≡ Ok begun
+  booted_is : boot_world plan ≡ Ok begun
   few : length last.sent ≤ deliveries
   lead : Lead declared_of turn_of (first_deliveries (length last.sent)) begun last
   written : text ≡ settled_text (names_in plan) (length last.sent) last
@@ -142,7 +142,7 @@ module _ (plan : Plan) (deliveries : ℕ) where
   if_left done left =
       if left then budget deliveries (length done.world.sent) else record { status = Done; text = settled_text (names_in plan) done.given done.world }
 
-  made_all : (w : WorldState Behaviour) (done : Delivered Behaviour) → booted plan ≡ Ok w → settled declared_of turn_of deliveries 0 w ≡ Ok done
+  made_all : (w : WorldState Behaviour) (done : Delivered Behaviour) → boot_world plan ≡ Ok w → settle_world declared_of turn_of deliveries 0 w ≡ Ok done
       → (settled_end (names_in plan) deliveries done).status ≡ Done → IsMade plan deliveries (settled_end (names_in plan) deliveries done).text
   made_all w done is whole same = by_left (nat_lt done.given (length done.world.sent)) refl same
     where
@@ -162,7 +162,7 @@ module _ (plan : Plan) (deliveries : ℕ) where
 
   made : (settle_of plan deliveries).status ≡ Done → IsMade plan deliveries (settle_of plan deliveries).text
   made done =
-      elim (booted plan) as (λ s. booted plan ≡ s → (end s).status ≡ Done → IsMade plan deliveries (end s).text) [
+      elim (boot_world plan) as (λ s. boot_world plan ≡ s → (end s).status ≡ Done → IsMade plan deliveries (end s).text) [
         | Err nodes ↦ λ is same. absurd (let clash : Spent ≡ Done = same in cc)
         | Ok w ↦ λ is same. behind_boot w is same
       ] refl done
@@ -170,9 +170,9 @@ module _ (plan : Plan) (deliveries : ℕ) where
       end : Stepped Behaviour → Ending
       end s = after_step (names_in plan) (settle_in (names_in plan) deliveries) s
 
-      behind_boot : (w : WorldState Behaviour) → booted plan ≡ Ok w → (settle_in (names_in plan) deliveries w).status ≡ Done → IsMade plan deliveries (settle_in (names_in plan) deliveries w).text
+      behind_boot : (w : WorldState Behaviour) → boot_world plan ≡ Ok w → (settle_in (names_in plan) deliveries w).status ≡ Done → IsMade plan deliveries (settle_in (names_in plan) deliveries w).text
       behind_boot w is same =
-          elim (settled declared_of turn_of deliveries 0 w) as (λ s. settled declared_of turn_of deliveries 0 w ≡ s → (after_settling (names_in plan) deliveries s).status ≡ Done
+          elim (settle_world declared_of turn_of deliveries 0 w) as (λ s. settle_world declared_of turn_of deliveries 0 w ≡ s → (after_settling (names_in plan) deliveries s).status ≡ Done
           → IsMade plan deliveries (after_settling (names_in plan) deliveries s).text) [
             | Err nodes ↦ λ whole out. absurd (let clash : Spent ≡ Done = out in cc)
             | Ok done ↦ λ whole all. made_all w done is whole all

@@ -21,15 +21,15 @@ use Rattle.circus_program.specs.Last.{program_read, IsReplay, IsSample, IsSettle
 use Rattle.circus_program.specs.Worlds.{IsSpentAtBoot, IsSimulation, AskForRecords}
 
 -- the report of facts
-abbrev pub reported : Plan → Facts → List ℕ
-reported plan facts = report_of (names_in plan) plan.deployment.nodes facts
+abbrev pub report_of_facts : Plan → Facts → List ℕ
+report_of_facts plan facts = report_of (names_in plan) plan.deployment.nodes facts
 
 -- ---- what is written in full
 
 -- of a replay of these lines
 abbrev pub IsReportOf : (List ℕ → Option (List ℕ)) → List (List ℕ) → Plan → List Line → Facts → List ℕ → Type 0
 IsReportOf contents words plan lines facts text =
-    (schedule : List ℕ) × IsReplay contents words plan schedule × IsAnswer (numbers_of plan.deployment.nodes) schedule (Ok lines) × (text ≡ reported plan facts)
+    (schedule : List ℕ) × IsReplay contents words plan schedule × IsAnswer (numbers_of plan.deployment.nodes) schedule (Ok lines) × (text ≡ report_of_facts plan facts)
 
 -- of a sample that draws these lines
 abbrev pub IsSummaryOf : (List ℕ → Option (List ℕ)) → List (List ℕ) → Plan → List Line → Facts → List ℕ → Type 0
@@ -61,7 +61,7 @@ pub record IsAgreedSoFar (plan : Plan) (lines : List Line) (text : List ℕ) : T
   pub lines_are : lines ≡ before ++ line ∷ others
   pub facts : Facts
   pub headline : Headline plan.deployment (behaviours_in plan) before facts
-  pub reported_is : replay_of plan before ≡ record { status = Done; text = reported plan facts }
+  pub reported_is : replay_of plan before ≡ record { status = Done; text = report_of_facts plan facts }
   pub last : List ℕ
   pub written : text ≡ sent_text (names_in plan) facts ++ last
 

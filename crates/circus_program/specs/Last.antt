@@ -8,7 +8,7 @@ use Rattle.circus_schedule.specs.Answer.{IsAnswer}
 use Rattle.circus_world.specs.declared.cause.LineCause.{LineCause}
 use Rattle.circus_world.specs.WorldState.{WorldState}
 use Rattle.circus_world.specs.Legal.{refusal}
-use Rattle.circus_world.specs.Course.{stepped}
+use Rattle.circus_world.specs.Course.{step_line}
 use Rattle.circus_ending.specs.declared.status.Status.{Status}
 use Rattle.circus_program.specs.Form.{CommandForm, stubs, run, replay, picture, node, sample, draw, settle, place, audit, IsOfForm, second_form}
 use Rattle.circus_program.specs.declared.shown.Shown.{Shown}
@@ -17,9 +17,9 @@ use Rattle.circus_program.specs.declared.second.Second.{Second}
 use Rattle.circus_program.specs.declared.second.Second.TheVariants.{Schedule, NodeRecord}
 use Rattle.circus_program.specs.Audit.{IsRefusedRecord}
 use Rattle.circus_world.specs.Lines.{Lead}
-use Rattle.circus_sample.specs.Sampled.{sampled}
-use Rattle.circus_settle.specs.Settled.{first_deliveries, settled}
-use Rattle.circus_simulated.specs.Booted.{booted}
+use Rattle.circus_sample.specs.Sampled.{sample_lines}
+use Rattle.circus_settle.specs.Settled.{first_deliveries, settle_world}
+use Rattle.circus_simulated.specs.Booted.{boot_world}
 use Rattle.circus_served.specs.Named.{IsNamed}
 use Rattle.circus_ending.specs.declared.one_file.OneFile.TheVariants.{Stubs, Run, Place}
 use Rattle.circus_ending.specs.Ending.{Ending}
@@ -55,15 +55,15 @@ abbrev pub HasRefused : List Line → WorldState Behaviour → Type 0
 HasRefused [] w = ⊥
 HasRefused (line ∷ lines) w =
     ((cause : LineCause) × (refusal w line ≡ Some cause))
-    ⊎ ((refusal w line ≡ None) × (next : WorldState Behaviour) × (stepped (λ b. b.declared) (λ b. b.turn) line w ≡ Ok next) × HasRefused lines next)
+    ⊎ ((refusal w line ≡ None) × (next : WorldState Behaviour) × (step_line (λ b. b.declared) (λ b. b.turn) line w ≡ Ok next) × HasRefused lines next)
 
 -- a node has no number left in the step of a line, once those before it were stepped
 abbrev pub HasSpent : List Line → WorldState Behaviour → Type 0
 HasSpent [] w = ⊥
 HasSpent (line ∷ lines) w =
     (refusal w line ≡ None)
-    × (((nodes : ℕ × ℕ) × (stepped (λ b. b.declared) (λ b. b.turn) line w ≡ Err nodes))
-    ⊎ ((next : WorldState Behaviour) × (stepped (λ b. b.declared) (λ b. b.turn) line w ≡ Ok next) × HasSpent lines next))
+    × (((nodes : ℕ × ℕ) × (step_line (λ b. b.declared) (λ b. b.turn) line w ≡ Err nodes))
+    ⊎ ((next : WorldState Behaviour) × (step_line (λ b. b.declared) (λ b. b.turn) line w ≡ Ok next) × HasSpent lines next))
 
 -- the first file of a form
 abbrev pub file_read : CommandForm → List ℕ
@@ -171,7 +171,7 @@ pub record IsRefusedReplay (contents : List ℕ → Option (List ℕ)) (words : 
   pub schedule : List ℕ
   pub replayed : IsShown shown contents words plan schedule
   pub refused : ((fault : ScheduleFault) × IsAnswer (numbers_of plan.deployment.nodes) schedule (Err fault))
-      ⊎ ((lines : List Line) × (w : WorldState Behaviour) × IsAnswer (numbers_of plan.deployment.nodes) schedule (Ok lines) × (booted plan ≡ Ok w) × HasRefused lines w)
+      ⊎ ((lines : List Line) × (w : WorldState Behaviour) × IsAnswer (numbers_of plan.deployment.nodes) schedule (Ok lines) × (boot_world plan ≡ Ok w) × HasRefused lines w)
 
 -- a replay or a picture in which a node has no number left for another one, at boot or in the step of a line
 pub record IsSpentReplay (contents : List ℕ → Option (List ℕ)) (words : List (List ℕ)) : Type 0 where
@@ -181,7 +181,7 @@ pub record IsSpentReplay (contents : List ℕ → Option (List ℕ)) (words : Li
   pub replayed : IsShown shown contents words plan schedule
   pub lines : List Line
   pub read : IsAnswer (numbers_of plan.deployment.nodes) schedule (Ok lines)
-  pub spent : ((nodes : ℕ × ℕ) × (booted plan ≡ Err nodes)) ⊎ ((w : WorldState Behaviour) × (booted plan ≡ Ok w) × HasSpent lines w)
+  pub spent : ((nodes : ℕ × ℕ) × (boot_world plan ≡ Err nodes)) ⊎ ((w : WorldState Behaviour) × (boot_world plan ≡ Ok w) × HasSpent lines w)
 
 -- the words are a sample of a program that means this plan
 pub record IsSample (contents : List ℕ → Option (List ℕ)) (words : List (List ℕ)) (plan : Plan) (seed steps : ℕ) : Type 0 where
@@ -194,8 +194,8 @@ pub record IsSample (contents : List ℕ → Option (List ℕ)) (words : List (L
 -- a node has no number left for another one, at boot or in a step of so many that a seed draws
 abbrev pub HasSpentSample : Plan → ℕ → ℕ → Type 0
 HasSpentSample plan seed steps =
-    ((nodes : ℕ × ℕ) × (booted plan ≡ Err nodes))
-    ⊎ ((w : WorldState Behaviour) × (booted plan ≡ Ok w) × ((nodes : ℕ × ℕ) × (sampled (λ b. b.declared) (λ b. b.turn) steps seed w ≡ Err nodes)))
+    ((nodes : ℕ × ℕ) × (boot_world plan ≡ Err nodes))
+    ⊎ ((w : WorldState Behaviour) × (boot_world plan ≡ Ok w) × ((nodes : ℕ × ℕ) × (sample_lines (λ b. b.declared) (λ b. b.turn) steps seed w ≡ Err nodes)))
 
 -- a sample in which a node has no number left for another one
 pub record IsSpentSample (contents : List ℕ → Option (List ℕ)) (words : List (List ℕ)) : Type 0 where
@@ -232,8 +232,8 @@ pub record IsSettle (contents : List ℕ → Option (List ℕ)) (words : List (L
 -- a node has no number left for another one, at boot or in one of so many deliveries
 abbrev pub HasSpentSettle : Plan → ℕ → Type 0
 HasSpentSettle plan deliveries =
-    ((nodes : ℕ × ℕ) × (booted plan ≡ Err nodes))
-    ⊎ ((w : WorldState Behaviour) × (booted plan ≡ Ok w) × ((nodes : ℕ × ℕ) × (settled (λ b. b.declared) (λ b. b.turn) deliveries 0 w ≡ Err nodes)))
+    ((nodes : ℕ × ℕ) × (boot_world plan ≡ Err nodes))
+    ⊎ ((w : WorldState Behaviour) × (boot_world plan ≡ Ok w) × ((nodes : ℕ × ℕ) × (settle_world (λ b. b.declared) (λ b. b.turn) deliveries 0 w ≡ Err nodes)))
 
 -- the deliveries in which a node has no number left for another one
 pub record IsSpentSettle (contents : List ℕ → Option (List ℕ)) (words : List (List ℕ)) : Type 0 where
@@ -251,7 +251,7 @@ IsSpent contents words =
 -- so many deliveries lead from boot to a world in which datagrams are left
 abbrev pub HasLeft : Plan → ℕ → Type 0
 HasLeft plan deliveries =
-    (w last : WorldState Behaviour) × (booted plan ≡ Ok w) × Lead (λ b. b.declared) (λ b. b.turn) (first_deliveries deliveries) w last
+    (w last : WorldState Behaviour) × (boot_world plan ≡ Ok w) × Lead (λ b. b.declared) (λ b. b.turn) (first_deliveries deliveries) w last
     × (deliveries < length last.sent)
 
 -- all deliveries are made, and datagrams are left

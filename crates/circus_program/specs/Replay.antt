@@ -20,13 +20,13 @@ use Rattle.circus_world.specs.declared.cause.LineCause.{LineCause}
 use Rattle.circus_world.specs.declared.cause.LineCause.TheVariants.{NoDatagram, NotLive, NotCrashed, NotSpare, AlreadyJoined}
 use Rattle.circus_world.specs.WorldState.{WorldState}
 use Rattle.circus_world.specs.Legal.{refusal}
-use Rattle.circus_world.specs.Course.{stepped}
+use Rattle.circus_world.specs.Course.{step_line}
 use Rattle.circus_report.specs.Report.{rest_text}
 use Rattle.circus_report.specs.Run.{beginning, sent_from}
 use Rattle.circus_picture.specs.Picture.{procedures_in, picture_text}
 use Rattle.circus_ending.specs.declared.status.Status.TheVariants.{Done, BadSchedule}
 use Rattle.circus_ending.specs.Ending.{Ending}
-use Rattle.circus_simulated.specs.Booted.{booted, names_in, after_step}
+use Rattle.circus_simulated.specs.Booted.{boot_world, names_in, after_step}
 use Rattle.circus_program.specs.declared.shown.Shown.{Shown}
 use Rattle.circus_program.specs.declared.shown.Shown.TheVariants.{Report, Picture}
 
@@ -41,8 +41,8 @@ cause_text names (NotSpare node) = names.node node ++ codes " is not a spare"
 cause_text names (AlreadyJoined node) = names.node node ++ codes " has joined"
 
 -- the line of this number is refused
-abbrev pub refused : ℕ → List ℕ → Ending
-refused number cause = record { status = BadSchedule; text = line (codes "schedule line " ++ decimal number ++ codes ": " ++ cause) }
+abbrev pub refuse_line : ℕ → List ℕ → Ending
+refuse_line number cause = record { status = BadSchedule; text = line (codes "schedule line " ++ decimal number ++ codes ": " ++ cause) }
 
 -- this is written in front
 abbrev pub behind : List ℕ → Ending → Ending
@@ -52,39 +52,39 @@ behind text ending = record { status = ending.status; text = text ++ ending.text
 
 module _ {M : Type 0} (declared : M → Signature) (turn : M → List ValueTree → ℕ → List ValueTree → List Outcome → NextTurn) where
   -- the lines from this number on, over what was written of the world so far
-  abbrev pub replayed : Names → ℕ → List Line → WorldState M → Ending
-  replayed names number [] w = record { status = Done; text = rest_text names w }
-  replayed names number (next ∷ lines) w =
-      option_map_or (λ cause. refused number (cause_text names cause)) (refusal w next)
-      (after_step names (λ after. behind (sent_from (length w.sent) after) (replayed names (number + 1) lines after)) (stepped declared turn next w))
+  abbrev pub replay_lines : Names → ℕ → List Line → WorldState M → Ending
+  replay_lines names number [] w = record { status = Done; text = rest_text names w }
+  replay_lines names number (next ∷ lines) w =
+      option_map_or (λ cause. refuse_line number (cause_text names cause)) (refusal w next)
+      (after_step names (λ after. behind (sent_from (length w.sent) after) (replay_lines names (number + 1) lines after)) (step_line declared turn next w))
 
   -- all lines, from boot on
   abbrev pub replayed_whole : Names → List Line → WorldState M → Ending
-  replayed_whole names lines w = behind (beginning w) (replayed names 1 lines w)
+  replayed_whole names lines w = behind (beginning w) (replay_lines names 1 lines w)
 
   -- the lines from this number on, and the end that comes of the world behind them
-  abbrev pub followed : Names → (WorldState M → Ending) → ℕ → List Line → WorldState M → Ending
-  followed names end number [] w = end w
-  followed names end number (next ∷ lines) w =
-      option_map_or (λ cause. refused number (cause_text names cause)) (refusal w next)
-      (after_step names (followed names end (number + 1) lines) (stepped declared turn next w))
+  abbrev pub follow_lines : Names → (WorldState M → Ending) → ℕ → List Line → WorldState M → Ending
+  follow_lines names end number [] w = end w
+  follow_lines names end number (next ∷ lines) w =
+      option_map_or (λ cause. refuse_line number (cause_text names cause)) (refusal w next)
+      (after_step names (follow_lines names end (number + 1) lines) (step_line declared turn next w))
 
   -- the picture of all lines, from boot on
-  abbrev pub pictured : Names → List (List Procedure) → List Line → WorldState M → Ending
-  pictured names procedures lines w =
-      followed names (λ last. record { status = Done; text = picture_text names procedures lines last }) 1 lines w
+  abbrev pub picture_lines : Names → List (List Procedure) → List Line → WorldState M → Ending
+  picture_lines names procedures lines w =
+      follow_lines names (λ last. record { status = Done; text = picture_text names procedures lines last }) 1 lines w
 
 -- ---- of a program
 
 -- a replay of these lines, which writes as it goes
 abbrev pub replay_of : Plan → List Line → Ending
 replay_of plan lines =
-    after_step (names_in plan) (replayed_whole (λ b. b.declared) (λ b. b.turn) (names_in plan) lines) (booted plan)
+    after_step (names_in plan) (replayed_whole (λ b. b.declared) (λ b. b.turn) (names_in plan) lines) (boot_world plan)
 
 -- their picture, which is drawn once all are stepped
 abbrev pub picture_of : Plan → List Line → Ending
 picture_of plan lines =
-    after_step (names_in plan) (pictured (λ b. b.declared) (λ b. b.turn) (names_in plan) (procedures_in plan) lines) (booted plan)
+    after_step (names_in plan) (picture_lines (λ b. b.declared) (λ b. b.turn) (names_in plan) (procedures_in plan) lines) (boot_world plan)
 
 -- what is shown of them
 abbrev pub shown_of : Shown → Plan → List Line → Ending
@@ -94,9 +94,9 @@ shown_of Picture plan lines = picture_of plan lines
 -- what a schedule comes to that was read so
 abbrev pub IsReplayOf : Shown → Plan → Result (List Line) ScheduleFault → Ending → Type 0
 IsReplayOf shown plan (Ok lines) ending = ending ≡ shown_of shown plan lines
-IsReplayOf shown plan (Err (schedule_fault.BadLine number)) ending = ending ≡ refused number (codes "bad line")
-IsReplayOf shown plan (Err (schedule_fault.UnknownNode number name)) ending = ending ≡ refused number (codes "unknown node " ++ name)
-IsReplayOf shown plan (Err (schedule_fault.TooManyLines number)) ending = ending ≡ refused number (codes "too many lines")
+IsReplayOf shown plan (Err (schedule_fault.BadLine number)) ending = ending ≡ refuse_line number (codes "bad line")
+IsReplayOf shown plan (Err (schedule_fault.UnknownNode number name)) ending = ending ≡ refuse_line number (codes "unknown node " ++ name)
+IsReplayOf shown plan (Err (schedule_fault.TooManyLines number)) ending = ending ≡ refuse_line number (codes "too many lines")
 IsReplayOf shown plan (Err schedule_fault.NoMemory) ending = ⊥
 
 -- the end of a schedule of which this is shown

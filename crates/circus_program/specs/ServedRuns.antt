@@ -13,10 +13,10 @@ use Rattle.circus_outside.specs.Link.{Taken, failed, taken_of}
 use Rattle.circus_outside.specs.declared.link.TakenFrom.{TakenFrom}
 use Rattle.circus_serve.specs.declared.happening.Happening.{Happening}
 use Rattle.circus_serve.specs.Happened.{given_in}
-use Rattle.circus_serve.specs.Serving.{happened_by, served}
+use Rattle.circus_serve.specs.Serving.{happened_by, serve_takes}
 use Rattle.circus_serve.specs.Outside.{Tells, IsAsked}
 use Rattle.circus_serve.specs.Recorded.{Recorded}
-use Rattle.circus_serve.specs.Answers.{asked, IsServed}
+use Rattle.circus_serve.specs.Answers.{asked_of_link, IsServed}
 use Rattle.circus_node_text.specs.NodeText.{node_text}
 use Rattle.circus_config.specs.declared.plan.Plan.{Plan}
 use Rattle.circus_load.specs.Loaded.{behaviours_in}
@@ -38,7 +38,7 @@ pub record IsServedRunOf (plan : Plan) (node turns : ℕ) (old new : Tells) (tex
 
 -- what happened to a node that booted so, as far as these takes
 abbrev pub happened_so_far : Plan → ℕ → NodeState Behaviour × Outputs → List TakenFrom → List Happening
-happened_so_far plan node boot takes = happened_by (served declared_of turn_of plan.deployment node boot.0 boot.1.gives takes)
+happened_so_far plan node boot takes = happened_by (serve_takes declared_of turn_of plan.deployment node boot.0 boot.1.gives takes)
 
 -- the link was given this of it, up to the call that failed, if one did: where something is missing, it is of the last take
 pub record WasGiven (plan : Plan) (node : ℕ) (old new : Tells) (boot : NodeState Behaviour × Outputs) (takes : List TakenFrom) : Type 0 where
@@ -49,7 +49,7 @@ pub record WasGiven (plan : Plan) (node : ℕ) (old new : Tells) (boot : NodeSta
       → (more : List (ℕ × List ℕ)) × (given ≡ given_in plan.deployment (happened_so_far plan node boot before) ++ more)
   pub failing : List Taken
   pub at_most_one : (failing ≡ []) ⊎ (failing ≡ failed ∷ [])
-  pub link : IsAsked old new (asked plan.deployment node (map taken_of takes ++ failing) given)
+  pub link : IsAsked old new (asked_of_link plan.deployment node (map taken_of takes ++ failing) given)
 
 -- a node of a plan was served as far as these takes, where the link tells this before and after; and where what was taken is bytes,
 -- what happened to the node of a member by then is a node run

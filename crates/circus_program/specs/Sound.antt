@@ -8,7 +8,7 @@ use Rattle.circus_schedule.specs.Answer.{IsAnswer}
 use Rattle.circus_world.specs.WorldState.{WorldState}
 use Rattle.circus_config.specs.declared.plan.Plan.{Plan}
 use Rattle.circus_config.specs.Program.{IsProgramOf}
-use Rattle.circus_simulated.specs.Booted.{booted}
+use Rattle.circus_simulated.specs.Booted.{boot_world}
 use Rattle.circus_served.specs.Named.{IsNamed}
 use Rattle.circus_ending.specs.declared.status.Status.TheVariants.{Done, Spent}
 use Rattle.circus_ending.specs.Placed.{HasChoice}
@@ -30,7 +30,7 @@ module _ (contents : List ℕ → Option (List ℕ)) where
     pub there : contents schedule ≡ Some text
     pub lines : List Line
     pub read : IsAnswer (numbers_of plan.deployment.nodes) text (Ok lines)
-    pub legal : (w : WorldState Behaviour) → booted plan ≡ Ok w → HasRefused lines w → ⊥
+    pub legal : (w : WorldState Behaviour) → boot_world plan ≡ Ok w → HasRefused lines w → ⊥
 
   -- one is a true record of a node
   pub record HasTrueRecord (plan : Plan) («record» : List ℕ) : Type 0 where

@@ -9,28 +9,28 @@ use Rattle.circus_schedule.specs.Answer.{IsAnswer}
 use Rattle.circus_world.specs.declared.cause.LineCause.{LineCause}
 use Rattle.circus_world.specs.WorldState.{WorldState}
 use Rattle.circus_world.specs.Legal.{refusal}
-use Rattle.circus_world.specs.Course.{stepped}
+use Rattle.circus_world.specs.Course.{step_line}
 use Rattle.circus_world.specs.Lines.{Lead}
 use Rattle.circus_report.specs.Report.{first_line, sent_lines, report_text}
-use Rattle.circus_sample.specs.Sampled.{sampled}
+use Rattle.circus_sample.specs.Sampled.{sample_lines}
 use Rattle.circus_sample.specs.Summary.{summary}
 use Rattle.circus_settle.specs.Settled.{first_deliveries}
 use Rattle.circus_settle.specs.Summary.{settled_text}
 use Rattle.circus_config.specs.declared.plan.Plan.{Plan}
 use Rattle.circus_picture.specs.Picture.{procedures_in, picture_text}
 use Rattle.circus_ending.specs.declared.status.Status.TheVariants.{Done}
-use Rattle.circus_ending.specs.Spent.{spent}
-use Rattle.circus_simulated.specs.Booted.{booted, names_in}
+use Rattle.circus_ending.specs.Spent.{end_of_spent}
+use Rattle.circus_simulated.specs.Booted.{boot_world, names_in}
 use Rattle.circus_simulated.specs.Schedule.{lines_of_sample}
 use Rattle.circus_program.specs.Form.{CommandForm, stubs, run, replay, picture, node, sample, draw, settle, place, audit, IsOfForm}
 use Rattle.circus_program.specs.declared.shown.Shown.TheVariants.{Picture}
-use Rattle.circus_program.specs.Replay.{cause_text, refused, replay_of, picture_of}
+use Rattle.circus_program.specs.Replay.{cause_text, refuse_line, replay_of, picture_of}
 use Rattle.circus_program.specs.Last.{IsShown, IsReplay, IsSample, IsLines, IsSettle}
 
 -- lines lead from boot to a world
 pub record AreLed (plan : Plan) (lines : List Line) (last : WorldState Behaviour) : Type 0 where
   pub begun : WorldState Behaviour
-  pub booted_is : booted plan ≡ Ok begun
+  pub booted_is : boot_world plan ≡ Ok begun
   pub lead : Lead (λ b. b.declared) (λ b. b.turn) lines begun last
 
 -- ---- replays
@@ -55,7 +55,7 @@ pub record IsCutByRefusal (plan : Plan) (lines : List Line) (text : List ℕ) : 
   pub led : AreLed plan before last
   pub cause : LineCause
   pub refusal_is : refusal last line ≡ Some cause
-  pub written : text ≡ sent_text (names_in plan) last ++ (refused (1 + length before) (cause_text (names_in plan) cause)).text
+  pub written : text ≡ sent_text (names_in plan) last ++ (refuse_line (1 + length before) (cause_text (names_in plan) cause)).text
 
 -- a node has no number left in the step of a line in the world to which those before it lead: what was sent so far, and the two
 -- nodes
@@ -68,12 +68,12 @@ pub record IsCutBySpending (plan : Plan) (lines : List Line) (text : List ℕ) :
   pub led : AreLed plan before last
   pub legal : refusal last line ≡ None
   pub nodes : ℕ × ℕ
-  pub stepped_is : stepped (λ b. b.declared) (λ b. b.turn) line last ≡ Err nodes
-  pub written : text ≡ sent_text (names_in plan) last ++ (spent (names_in plan) nodes).text
+  pub stepped_is : step_line (λ b. b.declared) (λ b. b.turn) line last ≡ Err nodes
+  pub written : text ≡ sent_text (names_in plan) last ++ (end_of_spent (names_in plan) nodes).text
 
 -- or at boot, where nothing else is written
 abbrev pub IsSpentAtBoot : Plan → List ℕ → Type 0
-IsSpentAtBoot plan text = (nodes : ℕ × ℕ) × (booted plan ≡ Err nodes) × (text ≡ (spent (names_in plan) nodes).text)
+IsSpentAtBoot plan text = (nodes : ℕ × ℕ) × (boot_world plan ≡ Err nodes) × (text ≡ (end_of_spent (names_in plan) nodes).text)
 
 -- ---- pictures
 
@@ -136,15 +136,15 @@ IsWrittenByPicture contents words plan lines last text =
 abbrev pub IsWrittenBySample : (List ℕ → Option (List ℕ)) → List (List ℕ) → Plan → List Line → WorldState Behaviour → List ℕ → Type 0
 IsWrittenBySample contents words plan lines last text =
     (seed steps : ℕ) × (begun : WorldState Behaviour) × IsSample contents words plan seed steps
-    × (lines ≡ lines_of_sample plan seed steps) × (length lines ≡ steps) × (booted plan ≡ Ok begun)
-    × (sampled (λ b. b.declared) (λ b. b.turn) steps seed begun ≡ Ok last) × (text ≡ summary (names_in plan) steps last)
+    × (lines ≡ lines_of_sample plan seed steps) × (length lines ≡ steps) × (boot_world plan ≡ Ok begun)
+    × (sample_lines (λ b. b.declared) (λ b. b.turn) steps seed begun ≡ Ok last) × (text ≡ summary (names_in plan) steps last)
 
 -- the same lines, and their text
 abbrev pub IsWrittenByLines : (List ℕ → Option (List ℕ)) → List (List ℕ) → Plan → List Line → WorldState Behaviour → List ℕ → Type 0
 IsWrittenByLines contents words plan lines last text =
     (seed steps : ℕ) × (begun : WorldState Behaviour) × IsLines contents words plan seed steps
-    × (lines ≡ lines_of_sample plan seed steps) × (length lines ≡ steps) × (booted plan ≡ Ok begun)
-    × (sampled (λ b. b.declared) (λ b. b.turn) steps seed begun ≡ Ok last) × (text ≡ lines_text (names_in plan).node lines)
+    × (lines ≡ lines_of_sample plan seed steps) × (length lines ≡ steps) × (boot_world plan ≡ Ok begun)
+    × (sample_lines (λ b. b.declared) (λ b. b.turn) steps seed begun ≡ Ok last) × (text ≡ lines_text (names_in plan).node lines)
 
 -- as many deliveries as datagrams were sent, and what is written of the world to which they lead
 abbrev pub IsWrittenBySettle : (List ℕ → Option (List ℕ)) → List (List ℕ) → Plan → List Line → WorldState Behaviour → List ℕ → Type 0

@@ -5,12 +5,12 @@ ghost use Rattle.circus_schedule.specs.Answer.{most_lines};
 ghost use Rattle.circus_schedule.specs.Meaning.{NamesBelow};
 ghost use Rattle.circus_picture.specs.Picture.{picture_text};
 ghost use Rattle.circus_simulated.specs.Seen.Simulated.{world_of, IsFresh};
-ghost use Rattle.circus_program.specs.Replay.{pictured};
+ghost use Rattle.circus_program.specs.Replay.{picture_lines};
 ghost use Rattle.circus_program.specs.Seen.Put.{IsPut, IsPutEnd};
 ghost use Rattle.circus_program.specs.Seen.Ready.{end_by};
 ghost use Rattle.circus_program.specs.Seen.Followed.{IsOneStep, IsFollowed};
 
-use crate::ended::{ended, stopped};
+use crate::ended::{end_of_lines, end_of_stop};
 use circus_collate::Hosts;
 use circus_config::ModuleNames;
 use circus_ending::Status;
@@ -70,12 +70,12 @@ fn draw_world<M: Module, K: Sink>(
     requires below { All (NamesBelow (length world.nodes)) lines.now }
     requires few { world.steps + length lines.now < 18446744073709551615 }
     ensures { IsPutEnd
-        (pictured M.declared M.turn (names_of hosts.now names.now) procedures.now lines.now world)
+        (picture_lines M.declared M.turn (names_of hosts.now names.now) procedures.now lines.now world)
         (K.written sink.old) (K.written sink.new) (K.faults sink.old) (K.faults sink.new) result }
 {
     match step_all(world, lines) {
         Ok(world) => show(alloc, &world, lines, names, procedures, sink),
-        Err(cut) => ended(alloc, hosts, cut.number, cut.fault, sink),
+        Err(cut) => end_of_lines(alloc, hosts, cut.number, cut.fault, sink),
     }
 }
 
@@ -132,6 +132,6 @@ fn show<M: Module, K: Sink>(
 {
     match put_picture(alloc, world, lines, names, procedures, sink) {
         Ok(()) => Status::Done,
-        Err(fault) => stopped(fault),
+        Err(fault) => end_of_stop(fault),
     }
 }

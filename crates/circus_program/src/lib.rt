@@ -1,7 +1,7 @@
 //! The top call: words in, status out, over a shelf, a sink and a link.
 //!
 //! `words` reads the command line, and `answer` fetches and decides. `second` says what a second file is, and `shown` tells a report
-//! from a picture. `ready` boots the world of a replay, `replay` runs it, `drawing` draws it, `ended` puts what ends it too early,
+//! from a picture. `ready` boots the world of a replay, `replay` runs it, `drawing` draws it, `end_of_lines` puts what ends it too early,
 //! and `schedule_refused` says why a line is refused. `audited` audits a record. `put` writes, and `call` is the top call itself.
 //! `laws` says what holds of all words and files.
 #![tactic(auto)]

@@ -8,7 +8,7 @@ ghost use Rattle.circus_schedule.specs.Meaning.{NamesBelow};
 ghost use Rattle.circus_program.specs.Replay.{shown_of, IsEndOfReplay};
 ghost use Rattle.circus_program.specs.Seen.Ready.{end_of_ready, procedures_shown, IsReady};
 
-use crate::schedule_refused::refused;
+use crate::schedule_refused::end_of_schedule;
 use crate::shown::Shown;
 use circus_config::Plan;
 use circus_ending::Ending;
@@ -44,7 +44,7 @@ pub fn prepare(
     match read_schedule(alloc, schedule, &plan.deployment) {
         Ok(lines) => boot(alloc, plan, lines, shown),
         Err(ScheduleFault::NoMemory) => Err(AllocError),
-        Err(fault) => Ok(Err(refused(alloc, &fault)?)),
+        Err(fault) => Ok(Err(end_of_schedule(alloc, &fault)?)),
     }
 }
 

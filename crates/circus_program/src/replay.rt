@@ -4,12 +4,12 @@ ghost use Rattle.circus_record.specs.Naming.{host_name, names_of};
 ghost use Rattle.circus_schedule.specs.Answer.{most_lines};
 ghost use Rattle.circus_schedule.specs.Meaning.{NamesBelow};
 ghost use Rattle.circus_simulated.specs.Seen.Simulated.{world_of, IsFresh};
-ghost use Rattle.circus_program.specs.Replay.{replayed};
+ghost use Rattle.circus_program.specs.Replay.{replay_lines};
 ghost use Rattle.circus_program.specs.Seen.Put.{IsPutEnd};
 ghost use Rattle.circus_program.specs.Seen.Ready.{end_by, end_of_ready, IsReady};
 
 use crate::drawing::draw;
-use crate::ended::{ended, stopped};
+use crate::ended::{end_of_lines, end_of_stop};
 use crate::ready::Ready;
 use circus_collate::Hosts;
 use circus_config::ModuleNames;
@@ -55,7 +55,7 @@ fn report<K: Sink>(alloc: Global, simulated: Simulated, lines: &[Line], sink: &m
     } = simulated;
     match Running::begin(alloc, world, sink) {
         Ok(running) => follow(alloc, running, &hosts, &names, lines, sink),
-        Err(fault) => stopped(fault),
+        Err(fault) => end_of_stop(fault),
     }
 }
 
@@ -75,17 +75,17 @@ fn follow<M: Module, K: Sink>(
     requires below { All (NamesBelow (length hosts.now)) lines.now }
     requires few { running.steps + length lines.now < 18446744073709551615 }
     ensures { IsPutEnd
-        (replayed M.declared M.turn (names_of hosts.now names.now) 1 lines.now running)
+        (replay_lines M.declared M.turn (names_of hosts.now names.now) 1 lines.now running)
         (K.written sink.old) (K.written sink.new) (K.faults sink.old) (K.faults sink.new) result }
 {
     for (place, line) in lines.iter().enumerate() {
         running = match running.line(alloc, line, sink) {
             Ok(running) => running,
-            Err(fault) => return ended(alloc, hosts, place as u64 + 1, fault, sink),
+            Err(fault) => return end_of_lines(alloc, hosts, place as u64 + 1, fault, sink),
         };
     }
     match running.finish(alloc, names, sink) {
         Ok(()) => Status::Done,
-        Err(fault) => stopped(fault),
+        Err(fault) => end_of_stop(fault),
     }
 }

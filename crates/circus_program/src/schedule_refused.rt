@@ -4,7 +4,7 @@ ghost use Rattle.std.specs.Fmt.{decimal};
 ghost use Rattle.circus_record.specs.Line.{line};
 ghost use Rattle.circus_record.specs.Naming.{host_name, names_of};
 ghost use Rattle.circus_ending.specs.Seen.Ending.{ending_of};
-ghost use Rattle.circus_program.specs.Replay.{cause_text, refused as refused_end, IsReplayOf};
+ghost use Rattle.circus_program.specs.Replay.{cause_text, refuse_line as refused_end, IsReplayOf};
 ghost use Rattle.circus_config.specs.declared.plan.Plan.{Plan};
 ghost use Rattle.circus_program.specs.declared.shown.Shown.{Shown};
 
@@ -18,7 +18,7 @@ use std::alloc::{AllocError, Global};
 use std::fmt;
 
 /// The end of a schedule that is read as none.
-pub fn refused(alloc: Global, fault: &ScheduleFault) -> Result<Ending, NoMemory>
+pub fn end_of_schedule(alloc: Global, fault: &ScheduleFault) -> Result<Ending, NoMemory>
     ensures ending { (shown : Shown) (plan : Plan)
         → IfOk result (λ ending. IsReplayOf shown plan (Err fault.now) (ending_of ending)) }
     ensures status { IfOk result (λ ending. ending.status ≡ Status.BadSchedule) }
@@ -100,7 +100,7 @@ impl<N: Naming> fmt::Display for CauseText<'_, N> {
 }
 
 /// The end at a line of this number that may not be stepped.
-pub fn illegal(
+pub fn end_of_illegal(
     alloc: Global,
     hosts: &Hosts,
     number: u64,

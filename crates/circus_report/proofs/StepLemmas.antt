@@ -9,7 +9,7 @@ use Rattle.circus_schedule.specs.declared.line.Line.{Line}
 use Rattle.circus_schedule.specs.Meaning.{NamesBelow}
 use Rattle.circus_world.specs.WorldState.{WorldState}
 use Rattle.circus_world.specs.Legal.{refusal}
-use Rattle.circus_world.specs.Course.{stepped}
+use Rattle.circus_world.specs.Course.{step_line}
 use Rattle.circus_world.specs.Lines.{Lead}
 use Rattle.circus_world.proofs.LineLemmas.{sent_stays, deployment_stays}
 use Rattle.circus_report.specs.declared.running.RunFault.{RunFault}
@@ -18,7 +18,7 @@ use Rattle.circus_report.specs.Run.{IsPut, IsRun, sent_from}
 use Rattle.circus_report.proofs.PutLemmas.{at_fault}
 
 module _ {M : Type 0} (declared : M → Signature) (turn : M → List ValueTree → ℕ → List ValueTree → List Outcome → NextTurn) (line : Line) (w next : WorldState M)
-    (legal : refusal w line ≡ None) (is : stepped declared turn line w ≡ Ok next) where
+    (legal : refusal w line ≡ None) (is : step_line declared turn line w ≡ Ok next) where
   lead : NamesBelow (length w.nodes) line → Lead declared turn (line ∷ []) w next
   lead named = (next, record { named = named; legal = legal; stepped_is = is }, refl)
 

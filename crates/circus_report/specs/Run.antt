@@ -8,7 +8,7 @@ use Rattle.circus_record.specs.Naming.{names_of}
 use Rattle.circus_schedule.specs.declared.line.Line.{Line}
 use Rattle.circus_world.specs.WorldState.{WorldState}
 use Rattle.circus_world.specs.Legal.{refusal}
-use Rattle.circus_world.specs.Course.{stepped}
+use Rattle.circus_world.specs.Course.{step_line}
 use Rattle.circus_report.specs.Report.{first_line, sent_lines}
 use Rattle.circus_report.specs.declared.running.RunFault.{RunFault}
 use Rattle.circus_report.specs.declared.running.RunFault.TheVariants as fault
@@ -49,13 +49,13 @@ module _ {M : Type 0} where
 module _ {M : Type 0} (declared : M → Signature) (turn : M → List ValueTree → ℕ → List ValueTree → List Outcome → NextTurn) where
   -- a part of the lines of what was sent in the step was put
   abbrev pub IsCut : Line → WorldState M → Option (List ℕ) → Option (List ℕ) → Type 0
-  IsCut line w old new = (next : WorldState M) × (stepped declared turn line w ≡ Ok next) × WritesPart old new (sent_from (length w.sent) next)
+  IsCut line w old new = (next : WorldState M) × (step_line declared turn line w ≡ Ok next) × WritesPart old new (sent_from (length w.sent) next)
 
   -- a line was stepped, and the lines of what was sent in it were put; or why not, and a part of them
   abbrev pub IsRun : Line → WorldState M → Option (List ℕ) → Option (List ℕ) → Result (WorldState M) RunFault → Type 0
   IsRun line w old new (Ok next) =
-      (refusal w line ≡ None) × (stepped declared turn line w ≡ Ok next) × Writes old new (sent_from (length w.sent) next)
+      (refusal w line ≡ None) × (step_line declared turn line w ≡ Ok next) × Writes old new (sent_from (length w.sent) next)
   IsRun line w old new (Err (fault.Illegal cause)) = (refusal w line ≡ Some cause) × (new ≡ old)
-  IsRun line w old new (Err (fault.Spent node peer)) = (refusal w line ≡ None) × (stepped declared turn line w ≡ Err (node, peer)) × (new ≡ old)
+  IsRun line w old new (Err (fault.Spent node peer)) = (refusal w line ≡ None) × (step_line declared turn line w ≡ Err (node, peer)) × (new ≡ old)
   IsRun line w old new (Err fault.SinkFailed) = (refusal w line ≡ None) × IsCut line w old new
   IsRun line w old new (Err fault.NoMemory) = (new ≡ old) ⊎ ((refusal w line ≡ None) × IsCut line w old new)

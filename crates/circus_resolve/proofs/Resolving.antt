@@ -8,8 +8,8 @@ use Rattle.circus_expression.specs.ExpressionOf.{tree_of, suffix_of}
 use Rattle.circus_checked.specs.ExpressionTree as c
 use Rattle.circus_resolve.specs.declared.findings.Findings.{Findings}
 use Rattle.circus_resolve.specs.Scope.{Scope}
-use Rattle.circus_resolve.specs.Faults.{Slots, slot_at, each_faults, suffix_faults, led, count, expression_faults, wanted_for, sort}
-use Rattle.circus_resolve.specs.Meaning.{each_meant, suffixes_meant, stored, meant}
+use Rattle.circus_resolve.specs.Faults.{Slots, slot_at, each_faults, suffix_faults, shape_led_to, count, expression_faults, wanted_for, sort}
+use Rattle.circus_resolve.specs.Meaning.{each_meant, suffixes_meant, convert_to, meant}
 use Rattle.circus_resolve.specs.Seen.Found.{with_faults}
 use Rattle.circus_resolve.specs.Seen.Steps.{step_faults, step_shape, step_meant}
 use Rattle.circus_resolve.proofs.Finding.{found_more}
@@ -40,13 +40,13 @@ module _ (scope : Scope) where
 
   -- what an item means, and those behind it
   pub each_meant_step : (slots : Slots) (n : ℕ) (made made' : List c.ExpressionTree) (es : List Expression) (i : ℕ) (e : Expression) (s : Option ShapeTree) (t : c.ExpressionTree)
-      → i < length es → e ≡ get_or es i e → s ≡ slot_at slots n → t ≡ stored s (meant scope (tree_of e)) → made' ≡ made ++ t ∷ []
+      → i < length es → e ≡ get_or es i e → s ≡ slot_at slots n → t ≡ convert_to s (meant scope (tree_of e)) → made' ≡ made ++ t ∷ []
       → made' ++ each_meant scope slots (n + 1) (expression_trees (map tree_of (drop (i + 1) es)))
       ≡ made ++ each_meant scope slots n (expression_trees (map tree_of (drop i es)))
   each_meant_step slots n made made' es i e s t below is wants means adds =
       let rest = each_meant scope slots (n + 1) (expression_trees (map tree_of (drop (i + 1) es))) in
       ap (λ xs. xs ++ rest) adds ∙ extended made rest t
-      ∙ ap (λ x. made ++ x ∷ rest) (means ∙ ap (λ w. stored w (meant scope (tree_of e))) wants)
+      ∙ ap (λ x. made ++ x ∷ rest) (means ∙ ap (λ w. convert_to w (meant scope (tree_of e))) wants)
       ∙ ap (λ xs. made ++ each_meant scope slots n (expression_trees (map tree_of xs))) (sym (from_place es i e below is))
 
   -- a suffix and those behind it
@@ -55,7 +55,7 @@ module _ (scope : Scope) where
   one_more first s (field name) ts = refl
   one_more first s (subscript e) ts = refl
 
-  leads_on : (s : Option ShapeTree) (t : SuffixTree) (ts : List SuffixTree) → led (step_shape s t) (suffix_trees ts) ≡ led s (suffix_trees (t ∷ ts))
+  leads_on : (s : Option ShapeTree) (t : SuffixTree) (ts : List SuffixTree) → shape_led_to (step_shape s t) (suffix_trees ts) ≡ shape_led_to s (suffix_trees (t ∷ ts))
   leads_on s (field name) ts = refl
   leads_on s (subscript e) ts = refl
 
@@ -78,10 +78,10 @@ module _ (scope : Scope) where
         ∙ ap (with_faults f) (one_more first s (suffix_of t) later)
         ∙ ap (λ xs. with_faults f (suffix_faults scope first s (suffix_trees (map suffix_of xs)))) (sym (from_place ss i t below is))
 
-    pub led_step : led s' (suffix_trees (map suffix_of (drop (i + 1) ss))) ≡ led s (suffix_trees (map suffix_of (drop i ss)))
+    pub led_step : shape_led_to s' (suffix_trees (map suffix_of (drop (i + 1) ss))) ≡ shape_led_to s (suffix_trees (map suffix_of (drop i ss)))
     led_step =
-        ap (λ w. led w (suffix_trees later)) leads ∙ leads_on s (suffix_of t) later
-        ∙ ap (λ xs. led s (suffix_trees (map suffix_of xs))) (sym (from_place ss i t below is))
+        ap (λ w. shape_led_to w (suffix_trees later)) leads ∙ leads_on s (suffix_of t) later
+        ∙ ap (λ xs. shape_led_to s (suffix_trees (map suffix_of xs))) (sym (from_place ss i t below is))
 
     pub meant_step : (made made' : List c.SuffixTree) (u : c.SuffixTree) → u ≡ step_meant scope s (suffix_of t) → made' ≡ made ++ u ∷ []
         → made' ++ suffixes_meant scope s' (suffix_trees (map suffix_of (drop (i + 1) ss)))

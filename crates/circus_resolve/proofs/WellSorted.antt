@@ -25,8 +25,8 @@ use Rattle.circus_resolve.specs.Scope.{Scope, Variable, Standing, a_type, no_mod
 use Rattle.circus_resolve.specs.Passing.{is_number, is_truth, is_text, has_length, goes_into}
 use Rattle.circus_resolve.specs.Named.{FieldFound, ArmFound, label_named, field_named, arm_named, is_bare}
 use Rattle.circus_resolve.specs.Faults as f
-use Rattle.circus_resolve.specs.Faults.{Slots, alike, for_fields, wanted, operand_faults, given_by, arm_faults, label_faults, empty_arm_faults, filled_faults, filled_arm_faults, filled_label_faults, count, field_count, count_faults, slots_for, field_at, standing_faults, type_faults, shape_of_standing, type_shape, field_faults, field_shape, element_for, item_faults, led, unless_faulty, place_of, variable_shape, variable_faults, sort, kind_sort, suffix_faults, expression_faults, kind_faults, each_faults}
-use Rattle.circus_resolve.specs.Meaning.{joined, stored, arm_number, arm_shape, shape_in, label_meant, field_place, field_meant, meant, kind_meant, each_meant, suffixes_meant}
+use Rattle.circus_resolve.specs.Faults.{Slots, alike, for_fields, wanted_faults, operand_faults, given_by, arm_faults, label_faults, empty_arm_faults, filled_faults, filled_arm_faults, filled_label_faults, count, field_count, count_faults, slots_for, field_at, standing_faults, type_faults, shape_of_standing, type_shape, field_faults, field_shape, element_for, item_faults, shape_led_to, unless_faulty, place_of, variable_shape, variable_faults, sort, kind_sort, suffix_faults, expression_faults, kind_faults, each_faults}
+use Rattle.circus_resolve.specs.Meaning.{join_operands, convert_to, arm_number, arm_shape, shape_in, label_meant, field_place, field_meant, meant, kind_meant, each_meant, suffixes_meant}
 use Rattle.circus_resolve.specs.Meaning as m
 use Rattle.circus_resolve.specs.Regular.{IsRegular, HasRegular, IsWhole, IsOfBytes, KindIsOfBytes, AreOfBytes, SuffixesAreOfBytes}
 use Rattle.circus_resolve.proofs.Passed.{no_fault, passed, number_is, truth_is, text_is, same_sort, some_found, label_is, field_is, arm_is}
@@ -52,7 +52,7 @@ regular_sort (shape.choice arms) all = all
 module _ (variables : List ShapeTree) where
   -- ---- a value as it is stored
 
-  stored_has : (s : ShapeTree) (a : c.ExpressionTree) → Has variables a (sort_of s) → Has variables (stored (Some s) a) (of s)
+  stored_has : (s : ShapeTree) (a : c.ExpressionTree) → Has variables a (sort_of s) → Has variables (convert_to (Some s) a) (of s)
   stored_has shape.boolean a has = has
   stored_has shape.cardinal a has = h.convert kind.Cardinal a has
   stored_has shape.long_cardinal a has = h.convert kind.LongCardinal a has
@@ -65,35 +65,35 @@ module _ (variables : List ShapeTree) where
   stored_has (shape.«record» fs) a has = has
   stored_has (shape.choice arms) a has = has
 
-  goes : (s : ShapeTree) (a : c.ExpressionTree) (given : Sort) (at : ℕ) → wanted (goes_into s) (Some given) at ≡ [] → Has variables a given → Has variables (stored (Some s) a) (of s)
+  goes : (s : ShapeTree) (a : c.ExpressionTree) (given : Sort) (at : ℕ) → wanted_faults (goes_into s) (Some given) at ≡ [] → Has variables a given → Has variables (convert_to (Some s) a) (of s)
   goes s a given at none has =
       stored_has s a (subst (Has variables a) (sym (same_sort (sort_of s) given (passed (goes_into s given) at none))) has)
 
   -- ---- operators
 
-  pub truth_has : (a : c.ExpressionTree) (s : Sort) (at : ℕ) → wanted is_truth (Some s) at ≡ [] → Has variables a s → Has variables a a_truth
+  pub truth_has : (a : c.ExpressionTree) (s : Sort) (at : ℕ) → wanted_faults is_truth (Some s) at ≡ [] → Has variables a s → Has variables a a_truth
   truth_has a s at none has = subst (Has variables a) (truth_is s (passed (is_truth s) at none)) has
 
-  number_has : (a : c.ExpressionTree) (s : Sort) (at : ℕ) → wanted is_number (Some s) at ≡ [] → Has variables a s → Has variables a a_number
+  number_has : (a : c.ExpressionTree) (s : Sort) (at : ℕ) → wanted_faults is_number (Some s) at ≡ [] → Has variables a s → Has variables a a_number
   number_has a s at none has = subst (Has variables a) (number_is s (passed (is_number s) at none)) has
 
-  text_has : (a : c.ExpressionTree) (s : Sort) (at : ℕ) → wanted is_text (Some s) at ≡ [] → Has variables a s → Has variables a (of shape.text)
+  text_has : (a : c.ExpressionTree) (s : Sort) (at : ℕ) → wanted_faults is_text (Some s) at ≡ [] → Has variables a s → Has variables a (of shape.text)
   text_has a s at none has = subst (Has variables a) (text_is s (passed (is_text s) at none)) has
 
   module _ (a b : c.ExpressionTree) (s t : Sort) (p q : ℕ) (has : Has variables a s) (other : Has variables b t) where
-    truths : wanted is_truth (Some s) p ++ wanted is_truth (Some t) q ≡ [] → Has variables a a_truth × Has variables b a_truth
-    truths none = let (x, y) = none_in (wanted is_truth (Some s) p) (wanted is_truth (Some t) q) none in (truth_has a s p x has, truth_has b t q y other)
+    truths : wanted_faults is_truth (Some s) p ++ wanted_faults is_truth (Some t) q ≡ [] → Has variables a a_truth × Has variables b a_truth
+    truths none = let (x, y) = none_in (wanted_faults is_truth (Some s) p) (wanted_faults is_truth (Some t) q) none in (truth_has a s p x has, truth_has b t q y other)
 
-    numbers : wanted is_number (Some s) p ++ wanted is_number (Some t) q ≡ [] → Has variables a a_number × Has variables b a_number
-    numbers none = let (x, y) = none_in (wanted is_number (Some s) p) (wanted is_number (Some t) q) none in (number_has a s p x has, number_has b t q y other)
+    numbers : wanted_faults is_number (Some s) p ++ wanted_faults is_number (Some t) q ≡ [] → Has variables a a_number × Has variables b a_number
+    numbers none = let (x, y) = none_in (wanted_faults is_number (Some s) p) (wanted_faults is_number (Some t) q) none in (number_has a s p x has, number_has b t q y other)
 
-    texts : wanted is_text (Some s) p ++ wanted is_text (Some t) q ≡ [] → Has variables a (of shape.text) × Has variables b (of shape.text)
-    texts none = let (x, y) = none_in (wanted is_text (Some s) p) (wanted is_text (Some t) q) none in (text_has a s p x has, text_has b t q y other)
+    texts : wanted_faults is_text (Some s) p ++ wanted_faults is_text (Some t) q ≡ [] → Has variables a (of shape.text) × Has variables b (of shape.text)
+    texts none = let (x, y) = none_in (wanted_faults is_text (Some s) p) (wanted_faults is_text (Some t) q) none in (text_has a s p x has, text_has b t q y other)
 
     alikes : f.wanted_alike (Some s) (Some t) p ≡ [] → Has variables (c.equal a b) a_truth
     alikes none = h.equal a b t (subst (Has variables a) (same_sort s t (passed _ p none)) has) other
 
-    joined_has : (op : Operator) → operand_faults op (Some s) p (Some t) q ≡ [] → Has variables (joined op a b) (given_by op)
+    joined_has : (op : Operator) → operand_faults op (Some s) p (Some t) q ≡ [] → Has variables (join_operands op a b) (given_by op)
     joined_has operator.Or none = let (x, y) = truths none in h.either a b x y
     joined_has operator.And none = let (x, y) = truths none in h.both a b x y
     joined_has operator.Equal none = alikes none
@@ -164,18 +164,18 @@ module _ (variables : List ShapeTree) where
   label_has _ at name all none = absurd (cc)
 
   filled_arm_has : (arms : ArmTrees) (at : ℕ) (name : Named) (o : Option ArmFound) (a : c.ExpressionTree) (s : Sort) (value_at : ℕ) → arm_named arms name.name ≡ o → HasRegular arms
-      → filled_arm_faults o at name (Some s) value_at ≡ [] → Has variables a s → Has variables (c.arm (arm_number o) (stored (arm_shape o) a)) (of (shape.choice arms))
+      → filled_arm_faults o at name (Some s) value_at ≡ [] → Has variables a s → Has variables (c.arm (arm_number o) (convert_to (arm_shape o) a)) (of (shape.choice arms))
   filled_arm_has arms at name None a s value_at is all none has = absurd (cc)
   filled_arm_has arms at name (Some x) a s value_at is all none has = by_bare (is_bare x.shape) none
     where
-      by_bare : (b : Bool) → cond b (faults_if true at Mistyped) (wanted (goes_into x.shape) (Some s) value_at) ≡ [] → Has variables (c.arm x.number (stored (Some x.shape) a)) (of (shape.choice arms))
+      by_bare : (b : Bool) → cond b (faults_if true at Mistyped) (wanted_faults (goes_into x.shape) (Some s) value_at) ≡ [] → Has variables (c.arm x.number (convert_to (Some x.shape) a)) (of (shape.choice arms))
       by_bare true faulty = absurd (cc)
       by_bare false fits =
           let found = arm_is arms name.name x all is in
-          h.arm x.number (stored (Some x.shape) a) arms x.shape found.below found.there (goes x.shape a s value_at fits has)
+          h.arm x.number (convert_to (Some x.shape) a) arms x.shape found.below found.there (goes x.shape a s value_at fits has)
 
   filled_has : (t : ShapeTree) (at : ℕ) (name : Named) (a : c.ExpressionTree) (s : Sort) (value_at : ℕ) → IsRegular t → filled_faults (Some t) at name (Some s) value_at ≡ [] → Has variables a s
-      → Has variables (c.arm (arm_number (m.arm_in (Some t) name.name)) (stored (arm_shape (m.arm_in (Some t) name.name)) a)) (sort_of t)
+      → Has variables (c.arm (arm_number (m.arm_in (Some t) name.name)) (convert_to (arm_shape (m.arm_in (Some t) name.name)) a)) (sort_of t)
   filled_has (shape.enumeration labels) at name a s value_at all none has = by_label (label_named labels name.name) none
     where
       by_label : (o : Option ℕ) → filled_label_faults o at name ≡ [] → Has variables (c.arm 0 a) (of (shape.enumeration labels))
@@ -265,7 +265,7 @@ module _ (variables : List ShapeTree) where
     WellKind k = (s : Sort) × (kind_sort scope k ≡ Some s) × Has variables (kind_meant scope k) s × IsRegularSort s
 
     abbrev Led : ShapeTree → SuffixTrees → Type 0
-    Led t ss = (u : ShapeTree) × (led (Some t) ss ≡ Some u) × Leads variables (c.suffix_trees (suffixes_meant scope (Some t) ss)) t u × IsRegular u
+    Led t ss = (u : ShapeTree) × (shape_led_to (Some t) ss ≡ Some u) × Leads variables (c.suffix_trees (suffixes_meant scope (Some t) ss)) t u × IsRegular u
 
     items_has : (u : ShapeTree) (at : ℕ) (es : ExpressionTrees) → count_faults (Some u) at (count es) ≡ [] → each_faults scope (slots_for (Some u)) 0 es ≡ []
         → ((s : ShapeTree) → each_faults scope (alike (Some s)) 0 es ≡ [] → EachHas variables (c.expression_trees (each_meant scope (alike (Some s)) 0 es)) s)
@@ -300,13 +300,13 @@ module _ (variables : List ShapeTree) where
             given_regular op,
           )
       well_kind (e.negation a) bytes none =
-          let (inside, own) = none_in (expression_faults scope a) (wanted is_truth (sort scope a) (place_of a)) none in
+          let (inside, own) = none_in (expression_faults scope a) (wanted_faults is_truth (sort scope a) (place_of a)) none in
           let (s, s_is, s_has, s_all) = well a bytes inside in
-          (a_truth, refl, h.negation (meant scope a) (truth_has (meant scope a) s (place_of a) (ap (λ o. wanted is_truth o (place_of a)) (sym s_is) ∙ own) s_has), tt)
+          (a_truth, refl, h.negation (meant scope a) (truth_has (meant scope a) s (place_of a) (ap (λ o. wanted_faults is_truth o (place_of a)) (sym s_is) ∙ own) s_has), tt)
       well_kind (e.minus a) bytes none =
-          let (inside, own) = none_in (expression_faults scope a) (wanted is_number (sort scope a) (place_of a)) none in
+          let (inside, own) = none_in (expression_faults scope a) (wanted_faults is_number (sort scope a) (place_of a)) none in
           let (s, s_is, s_has, s_all) = well a bytes inside in
-          (a_number, refl, h.minus (meant scope a) (number_has (meant scope a) s (place_of a) (ap (λ o. wanted is_number o (place_of a)) (sym s_is) ∙ own) s_has), tt)
+          (a_number, refl, h.minus (meant scope a) (number_has (meant scope a) s (place_of a) (ap (λ o. wanted_faults is_number o (place_of a)) (sym s_is) ∙ own) s_has), tt)
       well_kind (e.is_arm a name) bytes none =
           let (inside, own) = none_in (expression_faults scope a) (arm_faults (sort scope a) (place_of a) name) none in
           let (s, s_is, s_has, s_all) = well a bytes inside in (
@@ -320,9 +320,9 @@ module _ (variables : List ShapeTree) where
       well_kind (e.text bs) bytes none = (of shape.text, refl, h.text bs bytes, tt)
       well_kind (e.truth b) bytes none = (a_truth, refl, h.truth b, tt)
       well_kind (e.length_of a) bytes none =
-          let (inside, own) = none_in (expression_faults scope a) (wanted has_length (sort scope a) (place_of a)) none in
+          let (inside, own) = none_in (expression_faults scope a) (wanted_faults has_length (sort scope a) (place_of a)) none in
           let (s, s_is, s_has, s_all) = well a bytes inside in
-          (a_number, refl, length_has (meant scope a) s (passed (has_length s) (place_of a) (ap (λ o. wanted has_length o (place_of a)) (sym s_is) ∙ own)) s_has, tt)
+          (a_number, refl, length_has (meant scope a) s (passed (has_length s) (place_of a) (ap (λ o. wanted_faults has_length o (place_of a)) (sym s_is) ∙ own)) s_has, tt)
       well_kind (e.label t name) bytes none =
           let (known, own) = none_in (type_faults scope t) (label_faults (type_shape scope t) (f.place_of_type t) name) none in
           let (u, u_is, all) = type_known t known in (
@@ -339,7 +339,7 @@ module _ (variables : List ShapeTree) where
           let (s, s_is, s_has, s_all) = well a bytes inside in (
             sort_of u,
             ap (option_map sort_of) u_is,
-            subst (λ o. Has variables (c.arm (arm_number (m.arm_in o name.name)) (stored (arm_shape (m.arm_in o name.name)) (meant scope a))) (sort_of u)) (sym u_is)
+            subst (λ o. Has variables (c.arm (arm_number (m.arm_in o name.name)) (convert_to (arm_shape (m.arm_in o name.name)) (meant scope a))) (sort_of u)) (sym u_is)
                 (filled_has u (f.place_of_type t) name (meant scope a) s (place_of a) all ((λ i. filled_faults (sym u_is i) (f.place_of_type t) name (sym s_is i) (place_of a)) ∙ own) s_has),
             regular_sort u all,
           )
@@ -360,7 +360,7 @@ module _ (variables : List ShapeTree) where
           let shape_is : variable_shape scope name ≡ Some v.shape = ap (option_map (λ (x : Variable). x.shape)) v_is in
           let (u, led_is, leads, all) = led_well name.at v.shape ss (whole.regular name.name v v_is) bytes (ap (λ o. suffix_faults scope name.at o ss) (sym shape_is) ∙ inside) in (
             sort_of u,
-            (λ i. option_map sort_of (unless_faulty (none i) (led (shape_is i) ss))) ∙ ap (option_map sort_of) led_is,
+            (λ i. option_map sort_of (unless_faulty (none i) (shape_led_to (shape_is i) ss))) ∙ ap (option_map sort_of) led_is,
             subst (λ o. Has variables (c.read (m.variable_place o) (c.suffix_trees (suffixes_meant scope (option_map (λ (x : Variable). x.shape) o) ss))) (sort_of u)) (sym v_is)
                 (h.read v.place (c.suffix_trees (suffixes_meant scope (Some v.shape) ss)) v.shape u (whole.found name.name v v_is) leads),
             regular_sort u all,
@@ -369,11 +369,11 @@ module _ (variables : List ShapeTree) where
       each_has : (s : ShapeTree) (n : ℕ) (es : ExpressionTrees) → AreOfBytes es → each_faults scope (alike (Some s)) n es ≡ [] → EachHas variables (c.expression_trees (each_meant scope (alike (Some s)) n es)) s
       each_has s n e.no_expressions bytes none = h.no_items s
       each_has s n (e.more_expressions a es) bytes none =
-          let (front, rest) = none_in (expression_faults scope a ++ wanted (goes_into s) (sort scope a) (place_of a)) (each_faults scope (alike (Some s)) (n + 1) es) none in
-          let (inside, own) = none_in (expression_faults scope a) (wanted (goes_into s) (sort scope a) (place_of a)) front in
+          let (front, rest) = none_in (expression_faults scope a ++ wanted_faults (goes_into s) (sort scope a) (place_of a)) (each_faults scope (alike (Some s)) (n + 1) es) none in
+          let (inside, own) = none_in (expression_faults scope a) (wanted_faults (goes_into s) (sort scope a) (place_of a)) front in
           let (t, t_is, t_has, t_all) = well a bytes.0 inside in
-          h.more_items (stored (Some s) (meant scope a)) (c.expression_trees (each_meant scope (alike (Some s)) (n + 1) es)) s
-          (goes s (meant scope a) t (place_of a) (ap (λ o. wanted (goes_into s) o (place_of a)) (sym t_is) ∙ own) t_has) (each_has s (n + 1) es bytes.1 rest)
+          h.more_items (convert_to (Some s) (meant scope a)) (c.expression_trees (each_meant scope (alike (Some s)) (n + 1) es)) s
+          (goes s (meant scope a) t (place_of a) (ap (λ o. wanted_faults (goes_into s) o (place_of a)) (sym t_is) ∙ own) t_has) (each_has s (n + 1) es bytes.1 rest)
 
       fields_have : (all : FieldTrees) (n : ℕ) (fs : FieldTrees) → behind n all ≡ fs → (es : ExpressionTrees) → AreOfBytes es → each_faults scope (for_fields all) n es ≡ [] → count es ≡ field_count fs
           → FieldsHave variables (c.expression_trees (each_meant scope (for_fields all) n es)) fs
@@ -386,8 +386,8 @@ module _ (variables : List ShapeTree) where
           let (front, rest) = none_in (expression_faults scope a ++ f.wanted_for (field_at all n) (sort scope a) (place_of a)) (each_faults scope (for_fields all) (n + 1) es) none in
           let (inside, own) = none_in (expression_faults scope a) (f.wanted_for (field_at all n) (sort scope a) (place_of a)) front in
           let (t, t_is, t_has, t_all) = well a bytes.0 inside in
-          h.more_values (stored (field_at all n) (meant scope a)) (c.expression_trees (each_meant scope (for_fields all) (n + 1) es)) name s fs
-          (subst (λ o. Has variables (stored o (meant scope a)) (of s)) (sym here)
+          h.more_values (convert_to (field_at all n) (meant scope a)) (c.expression_trees (each_meant scope (for_fields all) (n + 1) es)) name s fs
+          (subst (λ o. Has variables (convert_to o (meant scope a)) (of s)) (sym here)
           (goes s (meant scope a) t (place_of a) ((λ i. f.wanted_for (sym here i) (sym t_is i) (place_of a)) ∙ own) t_has))
           (fields_have all (n + 1) fs (ap (λ k. behind k all) one ∙ next) es bytes.1 rest (omega (arith, same)))
 
@@ -398,20 +398,20 @@ module _ (variables : List ShapeTree) where
           let (u, u_is, step, u_all) = field_well first t name all own in
           let (w, w_is, leads, w_all) = led_well first u ss u_all bytes (ap (λ o. suffix_faults scope first o ss) (sym u_is) ∙ rest) in (
             w,
-            ap (λ o. led o ss) u_is ∙ w_is,
+            ap (λ o. shape_led_to o ss) u_is ∙ w_is,
             subst (λ o. Leads variables (c.suffix_trees (field_meant (Some t) name.name ∷ suffixes_meant scope o ss)) t w) (sym u_is) (step (suffixes_meant scope (Some u) ss) w leads),
             w_all,
           )
       led_well first t (e.more_subscripts a ss) all bytes none =
-          let (front, rest) = none_in (item_faults first (Some t) ++ expression_faults scope a ++ wanted is_number (sort scope a) (place_of a)) (suffix_faults scope first (element_for (Some t)) ss) none in
-          let (more, wants) = none_in (item_faults first (Some t) ++ expression_faults scope a) (wanted is_number (sort scope a) (place_of a)) front in
+          let (front, rest) = none_in (item_faults first (Some t) ++ expression_faults scope a ++ wanted_faults is_number (sort scope a) (place_of a)) (suffix_faults scope first (element_for (Some t)) ss) none in
+          let (more, wants) = none_in (item_faults first (Some t) ++ expression_faults scope a) (wanted_faults is_number (sort scope a) (place_of a)) front in
           let (own, inside) = none_in (item_faults first (Some t)) (expression_faults scope a) more in
           let (s, s_is, s_has, s_all) = well a bytes.0 inside in
-          let counts = number_has (meant scope a) s (place_of a) (ap (λ o. wanted is_number o (place_of a)) (sym s_is) ∙ wants) s_has in
+          let counts = number_has (meant scope a) s (place_of a) (ap (λ o. wanted_faults is_number o (place_of a)) (sym s_is) ∙ wants) s_has in
           let (u, u_is, step, u_all) = element_well first t (meant scope a) counts all own in
           let (w, w_is, leads, w_all) = led_well first u ss u_all bytes.1 (ap (λ o. suffix_faults scope first o ss) (sym u_is) ∙ rest) in (
             w,
-            ap (λ o. led o ss) u_is ∙ w_is,
+            ap (λ o. shape_led_to o ss) u_is ∙ w_is,
             subst (λ o. Leads variables (c.suffix_trees (c.subscript (meant scope a) ∷ suffixes_meant scope o ss)) t w) (sym u_is) (step (suffixes_meant scope (Some u) ss) w leads),
             w_all,
           )
@@ -435,7 +435,7 @@ module _ (variables : List ShapeTree) where
       let shape_is : variable_shape scope p.name ≡ Some v.shape = ap (option_map (λ (x : Variable). x.shape)) v_is in
       let (u, led_is, leads, all) = led_well scope whole p.name.at v.shape ss (whole.regular p.name.name v v_is) bytes (ap (λ o. suffix_faults scope p.name.at o ss) (sym shape_is) ∙ inside) in (
         u,
-        (λ i. unless_faulty (none i) (led (shape_is i) ss)) ∙ led_is,
+        (λ i. unless_faulty (none i) (shape_led_to (shape_is i) ss)) ∙ led_is,
         subst (λ o. h.Holds variables (record { variable = m.variable_place o; suffixes = suffixes_meant scope (option_map (λ (x : Variable). x.shape) o) ss }) u) (sym v_is)
             (h.at (record { variable = v.place; suffixes = suffixes_meant scope (Some v.shape) ss }) v.shape u (whole.found p.name.name v v_is) leads),
       )

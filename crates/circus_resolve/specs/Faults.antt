@@ -54,14 +54,14 @@ abbrev pub faults_unless : Bool → ℕ → Faults
 faults_unless passes at = faults_if (not passes) at Mistyped
 
 -- a sort that passes is wanted there
-abbrev pub wanted : (Sort → Bool) → Option Sort → ℕ → Faults
-wanted passes None at = []
-wanted passes (Some s) at = faults_unless (passes s) at
+abbrev pub wanted_faults : (Sort → Bool) → Option Sort → ℕ → Faults
+wanted_faults passes None at = []
+wanted_faults passes (Some s) at = faults_unless (passes s) at
 
 -- a value is wanted that goes where the shape is
 abbrev pub wanted_for : Option ShapeTree → Option Sort → ℕ → Faults
 wanted_for None s at = []
-wanted_for (Some shape) s at = wanted (goes_into shape) s at
+wanted_for (Some shape) s at = wanted_faults (goes_into shape) s at
 
 -- two of one sort are wanted
 abbrev pub wanted_alike : Option Sort → Option Sort → ℕ → Faults
@@ -70,12 +70,12 @@ wanted_alike _ _ at = []
 
 -- what an operator wants of its two operands
 abbrev pub operand_faults : Operator → Option Sort → ℕ → Option Sort → ℕ → Faults
-operand_faults operator.Or s at t other = wanted is_truth s at ++ wanted is_truth t other
-operand_faults operator.And s at t other = wanted is_truth s at ++ wanted is_truth t other
+operand_faults operator.Or s at t other = wanted_faults is_truth s at ++ wanted_faults is_truth t other
+operand_faults operator.And s at t other = wanted_faults is_truth s at ++ wanted_faults is_truth t other
 operand_faults operator.Equal s at t other = wanted_alike s t at
 operand_faults operator.Unequal s at t other = wanted_alike s t at
-operand_faults operator.Join s at t other = wanted is_text s at ++ wanted is_text t other
-operand_faults _ s at t other = wanted is_number s at ++ wanted is_number t other
+operand_faults operator.Join s at t other = wanted_faults is_text s at ++ wanted_faults is_text t other
+operand_faults _ s at t other = wanted_faults is_number s at ++ wanted_faults is_number t other
 
 -- what it gives
 abbrev pub given_by : Operator → Sort
@@ -113,7 +113,7 @@ filled_label_faults (Some _) at name = faults_if true at Mistyped
 
 abbrev pub filled_arm_faults : Option ArmFound → ℕ → Named → Option Sort → ℕ → Faults
 filled_arm_faults None at name s value_at = faults_if true name.at Unknown
-filled_arm_faults (Some a) at name s value_at = cond (is_bare a.shape) (faults_if true at Mistyped) (wanted (goes_into a.shape) s value_at)
+filled_arm_faults (Some a) at name s value_at = cond (is_bare a.shape) (faults_if true at Mistyped) (wanted_faults (goes_into a.shape) s value_at)
 
 abbrev pub filled_faults : Option ShapeTree → ℕ → Named → Option Sort → ℕ → Faults
 filled_faults None at name s value_at = []
@@ -187,10 +187,10 @@ item_faults first None = []
 item_faults first (Some s) = faults_if (is_none (element_of s)) first Mistyped
 
 -- where suffixes lead
-abbrev pub led : Option ShapeTree → SuffixTrees → Option ShapeTree
-led s e.no_suffixes = s
-led s (e.more_fields name ss) = led (field_shape s name.name) ss
-led s (e.more_subscripts _ ss) = led (element_for s) ss
+abbrev pub shape_led_to : Option ShapeTree → SuffixTrees → Option ShapeTree
+shape_led_to s e.no_suffixes = s
+shape_led_to s (e.more_fields name ss) = shape_led_to (field_shape s name.name) ss
+shape_led_to s (e.more_subscripts _ ss) = shape_led_to (element_for s) ss
 
 -- a shape where no fault stands before it
 abbrev pub unless_faulty : Faults → Option ShapeTree → Option ShapeTree
@@ -226,14 +226,14 @@ module _ (scope : Scope) where
     kind_sort (e.arm t _ _) = option_map sort_of (type_shape scope t)
     kind_sort (e.items t _) = option_map sort_of (type_shape scope t)
     kind_sort (e.read name ss) =
-        option_map sort_of (unless_faulty (variable_faults name ++ suffix_faults name.at (variable_shape name) ss) (led (variable_shape name) ss))
+        option_map sort_of (unless_faulty (variable_faults name ++ suffix_faults name.at (variable_shape name) ss) (shape_led_to (variable_shape name) ss))
 
     -- of suffixes behind what has a shape
     pub suffix_faults : ℕ → Option ShapeTree → SuffixTrees → Faults
     suffix_faults first s e.no_suffixes = []
     suffix_faults first s (e.more_fields name ss) = field_faults first s name ++ suffix_faults first (field_shape s name.name) ss
     suffix_faults first s (e.more_subscripts subscript ss) =
-        item_faults first s ++ expression_faults subscript ++ wanted is_number (sort subscript) (place_of subscript)
+        item_faults first s ++ expression_faults subscript ++ wanted_faults is_number (sort subscript) (place_of subscript)
         ++ suffix_faults first (element_for s) ss
 
     pub expression_faults : ExpressionTree → Faults
@@ -242,13 +242,13 @@ module _ (scope : Scope) where
     pub kind_faults : KindTree → Faults
     kind_faults (e.binary op a b) =
         expression_faults a ++ expression_faults b ++ operand_faults op (sort a) (place_of a) (sort b) (place_of b)
-    kind_faults (e.negation a) = expression_faults a ++ wanted is_truth (sort a) (place_of a)
-    kind_faults (e.minus a) = expression_faults a ++ wanted is_number (sort a) (place_of a)
+    kind_faults (e.negation a) = expression_faults a ++ wanted_faults is_truth (sort a) (place_of a)
+    kind_faults (e.minus a) = expression_faults a ++ wanted_faults is_number (sort a) (place_of a)
     kind_faults (e.is_arm a name) = expression_faults a ++ arm_faults (sort a) (place_of a) name
     kind_faults (e.number _) = []
     kind_faults (e.text _) = []
     kind_faults (e.truth _) = []
-    kind_faults (e.length_of a) = expression_faults a ++ wanted has_length (sort a) (place_of a)
+    kind_faults (e.length_of a) = expression_faults a ++ wanted_faults has_length (sort a) (place_of a)
     kind_faults (e.label t name) = type_faults scope t ++ label_faults (type_shape scope t) (place_of_type t) name
     kind_faults (e.arm t name a) =
         type_faults scope t ++ expression_faults a ++ filled_faults (type_shape scope t) (place_of_type t) name (sort a) (place_of a)
@@ -268,4 +268,4 @@ module _ (scope : Scope) where
 
   -- what it holds, where no fault stands in it
   abbrev pub place_shape : PlaceTree → Option ShapeTree
-  place_shape p = unless_faulty (place_faults p) (led (variable_shape p.name) (suffix_trees p.suffixes))
+  place_shape p = unless_faulty (place_faults p) (shape_led_to (variable_shape p.name) (suffix_trees p.suffixes))

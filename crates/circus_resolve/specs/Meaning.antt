@@ -19,31 +19,31 @@ use Rattle.circus_resolve.specs.Named.{label_named, FieldFound, field_named, Arm
 use Rattle.circus_resolve.specs.Faults.{Slots, slots_for, slot_at, type_shape, element_for, field_shape, variable_shape, sort}
 
 -- two operands with an operator between them
-abbrev pub joined : Operator → c.ExpressionTree → c.ExpressionTree → c.ExpressionTree
-joined operator.Or a b = c.either a b
-joined operator.And a b = c.both a b
-joined operator.Equal a b = c.equal a b
-joined operator.Unequal a b = c.negation (c.equal a b)
-joined operator.Less a b = c.compare order.Less a b
-joined operator.AtMost a b = c.compare order.AtMost a b
-joined operator.Greater a b = c.compare order.Greater a b
-joined operator.AtLeast a b = c.compare order.AtLeast a b
-joined operator.Plus a b = c.calculate calculation.Plus a b
-joined operator.Minus a b = c.calculate calculation.Minus a b
-joined operator.Times a b = c.calculate calculation.Times a b
-joined operator.Div a b = c.calculate calculation.Div a b
-joined operator.Mod a b = c.calculate calculation.Mod a b
-joined operator.Join a b = c.join a b
+abbrev pub join_operands : Operator → c.ExpressionTree → c.ExpressionTree → c.ExpressionTree
+join_operands operator.Or a b = c.either a b
+join_operands operator.And a b = c.both a b
+join_operands operator.Equal a b = c.equal a b
+join_operands operator.Unequal a b = c.negation (c.equal a b)
+join_operands operator.Less a b = c.compare order.Less a b
+join_operands operator.AtMost a b = c.compare order.AtMost a b
+join_operands operator.Greater a b = c.compare order.Greater a b
+join_operands operator.AtLeast a b = c.compare order.AtLeast a b
+join_operands operator.Plus a b = c.calculate calculation.Plus a b
+join_operands operator.Minus a b = c.calculate calculation.Minus a b
+join_operands operator.Times a b = c.calculate calculation.Times a b
+join_operands operator.Div a b = c.calculate calculation.Div a b
+join_operands operator.Mod a b = c.calculate calculation.Mod a b
+join_operands operator.Join a b = c.join a b
 
 -- a number as one of a kind, and everything else as it is
-abbrev pub converted : Option NumberKind → c.ExpressionTree → c.ExpressionTree
-converted None a = a
-converted (Some k) a = c.convert k a
+abbrev pub convert_number : Option NumberKind → c.ExpressionTree → c.ExpressionTree
+convert_number None a = a
+convert_number (Some k) a = c.convert k a
 
 -- a value as it is stored where the shape is
-abbrev pub stored : Option ShapeTree → c.ExpressionTree → c.ExpressionTree
-stored None a = a
-stored (Some s) a = converted (kind_of s) a
+abbrev pub convert_to : Option ShapeTree → c.ExpressionTree → c.ExpressionTree
+convert_to None a = a
+convert_to (Some s) a = convert_number (kind_of s) a
 
 abbrev pub arm_number : Option ArmFound → ℕ
 arm_number None = 0
@@ -96,7 +96,7 @@ module _ (scope : Scope) where
     meant (e.expression _ kind) = kind_meant kind
 
     pub kind_meant : KindTree → c.ExpressionTree
-    kind_meant (e.binary op a b) = joined op (meant a) (meant b)
+    kind_meant (e.binary op a b) = join_operands op (meant a) (meant b)
     kind_meant (e.negation a) = c.negation (meant a)
     kind_meant (e.minus a) = c.minus (meant a)
     kind_meant (e.is_arm a name) = c.is_arm (arm_number (arm_in (shape_in (sort scope a)) name.name)) (meant a)
@@ -106,14 +106,14 @@ module _ (scope : Scope) where
     kind_meant (e.length_of a) = c.length_of (meant a)
     kind_meant (e.label t name) = label_meant (type_shape scope t) name.name
     kind_meant (e.arm t name a) =
-        c.arm (arm_number (arm_in (type_shape scope t) name.name)) (stored (arm_shape (arm_in (type_shape scope t) name.name)) (meant a))
+        c.arm (arm_number (arm_in (type_shape scope t) name.name)) (convert_to (arm_shape (arm_in (type_shape scope t) name.name)) (meant a))
     kind_meant (e.items t es) = c.items (form_of (type_shape scope t)) (c.expression_trees (each_meant (slots_for (type_shape scope t)) 0 es))
     kind_meant (e.read name ss) = c.read (variable_place (scope.variable name.name)) (c.suffix_trees (suffixes_meant (variable_shape scope name) ss))
 
     -- items from a place on
     pub each_meant : Slots → ℕ → ExpressionTrees → List c.ExpressionTree
     each_meant slots n e.no_expressions = []
-    each_meant slots n (e.more_expressions a es) = stored (slot_at slots n) (meant a) ∷ each_meant slots (n + 1) es
+    each_meant slots n (e.more_expressions a es) = convert_to (slot_at slots n) (meant a) ∷ each_meant slots (n + 1) es
 
     pub suffixes_meant : Option ShapeTree → SuffixTrees → List c.SuffixTree
     suffixes_meant s e.no_suffixes = []

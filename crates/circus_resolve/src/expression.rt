@@ -60,8 +60,8 @@ pub fn resolve<'s>(
         ExpressionKind::Binary(operator, left, right) => {
             binary(alloc, scope, found, *operator, left, right)
         }
-        ExpressionKind::Not(operand) => denied(alloc, scope, found, operand),
-        ExpressionKind::Minus(operand) => negative(alloc, scope, found, operand),
+        ExpressionKind::Not(operand) => resolve_not(alloc, scope, found, operand),
+        ExpressionKind::Minus(operand) => resolve_minus(alloc, scope, found, operand),
         ExpressionKind::Is(operand, name) => standing_at(alloc, scope, found, operand, name),
         ExpressionKind::Number(value) => Ok(Resolved {
             tree: CheckedExpression::Number(*value),
@@ -116,7 +116,7 @@ fn binary<'s>(
         right.expression().at,
     );
     Ok(Resolved {
-        tree: joined(alloc, operator, one.tree, two.tree)?,
+        tree: join_operands(alloc, operator, one.tree, two.tree)?,
         sort: Some(given_by(operator)),
     })
 }
@@ -135,7 +135,7 @@ fn given_by(operator: Operator) -> Sort<'static>
 }
 
 // What an operator means between two operands.
-fn joined(
+fn join_operands(
     alloc: Global,
     operator: Operator,
     left: CheckedExpression,
@@ -143,7 +143,7 @@ fn joined(
 ) -> Result<CheckedExpression, NoMemory>
     ensures { IfOk result (λ t.
         checked.tree_of t
-        ≡ meaning.joined operator (checked.tree_of left) (checked.tree_of right)) }
+        ≡ meaning.join_operands operator (checked.tree_of left) (checked.tree_of right)) }
 {
     use CheckedExpression::*;
     let one = CheckedOperand::new(alloc, left)?;
@@ -168,7 +168,7 @@ fn joined(
 
 #[cycle(resolving)]
 #[tactic(auto, using(crate::proofs::Finding::found_then))]
-fn denied<'s>(
+fn resolve_not<'s>(
     alloc: Global,
     scope: &Scope<'s, '_, '_>,
     found: &mut Findings,
@@ -193,7 +193,7 @@ fn denied<'s>(
 
 #[cycle(resolving)]
 #[tactic(auto, using(crate::proofs::Finding::found_then))]
-fn negative<'s>(
+fn resolve_minus<'s>(
     alloc: Global,
     scope: &Scope<'s, '_, '_>,
     found: &mut Findings,
@@ -318,7 +318,7 @@ fn arm<'s>(
 {
     let shape = found.named_type(scope, of);
     let value = resolve(alloc, scope, found, operand.expression())?;
-    let arm = found.filled(
+    let arm = found.arm_filled(
         shape,
         first_of(of),
         name,
@@ -329,7 +329,7 @@ fn arm<'s>(
         Some(arm) => (arm.number, Some(arm.shape)),
         None => (0, None),
     };
-    let value = CheckedOperand::new(alloc, stored(alloc, into, value.tree)?)?;
+    let value = CheckedOperand::new(alloc, convert_to(alloc, into, value.tree)?)?;
     Ok(Resolved {
         tree: CheckedExpression::Arm(number, value),
         sort: Sort::of_known(shape),
@@ -337,13 +337,13 @@ fn arm<'s>(
 }
 
 // A value as it is stored where the shape is, where that is known.
-fn stored(
+fn convert_to(
     alloc: Global,
     shape: Option<&Shape>,
     tree: CheckedExpression,
 ) -> Result<CheckedExpression, NoMemory>
     ensures { IfOk result (λ t.
-        checked.tree_of t ≡ meaning.stored (shape_as shape.entry) (checked.tree_of tree)) }
+        checked.tree_of t ≡ meaning.convert_to (shape_as shape.entry) (checked.tree_of tree)) }
 {
     let Some(shape) = shape else {
         return Ok(tree);
@@ -400,12 +400,12 @@ fn item_for<'s>(
         (faults.sort (scope_as scope.now) (tree_of item.now)) item.now.at)) }
     ensures meant { IfOk result (λ t.
         checked.tree_of t
-        ≡ meaning.stored (shape_as shape.entry)
+        ≡ meaning.convert_to (shape_as shape.entry)
         (meaning.meant (scope_as scope.now) (tree_of item.now))) }
 {
     let one = resolve(alloc, scope, found, item)?;
     found.want_for(shape, one.sort, item.at);
-    stored(alloc, shape, one.tree)
+    convert_to(alloc, shape, one.tree)
 }
 
 /// Resolves expressions in order, of each of which something is wanted, and finds their faults.
@@ -522,7 +522,7 @@ fn suffixes_of<'s>(
         (faults.suffix_faults (scope_as scope.now) first (shape_as shape.entry)
         (suffix_trees suffixes.now))) }
     ensures shape { IfOk result (λ r.
-        shape_as r.shape ≡ faults.led (shape_as shape.entry) (suffix_trees suffixes.now)) }
+        shape_as r.shape ≡ faults.shape_led_to (shape_as shape.entry) (suffix_trees suffixes.now)) }
     ensures meant { IfOk result (λ r.
         r.suffixes ≡ meaning.suffixes_meant (scope_as scope.now) (shape_as shape.entry)
         (suffix_trees suffixes.now)) }

@@ -39,7 +39,7 @@ impl Findings {
             ≡ with_faults self.old (faults.type_faults (scope_as scope.now) of.now) }
         ensures shape { shape_as result ≡ faults.type_shape (scope_as scope.now) of.now }
     {
-        match scope.standing(of) {
+        match scope.standing_of(of) {
             Standing::Type(shape) => Some(shape),
             Standing::NoModule => {
                 self.note(true, first_of(of), CheckCause::Unknown);
@@ -97,7 +97,7 @@ impl Findings {
     }
 
     /// The arm of this name of a type at the place, where a value of this sort stands behind it.
-    pub fn filled<'s>(
+    pub fn arm_filled<'s>(
         &mut self,
         shape: Option<&'s Shape>,
         at: u32,

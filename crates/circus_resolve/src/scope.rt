@@ -53,7 +53,7 @@ pub struct Scope<'s, 'm, 't> {
 }
 
 impl<'t> Types<'t> {
-    fn standing(&self, name: &[u8]) -> Standing<'t>
+    fn standing_of(&self, name: &[u8]) -> Standing<'t>
         ensures { standing_as result ≡ type_in self.now name.now }
     {
         match self.table.get(name) {
@@ -64,7 +64,7 @@ impl<'t> Types<'t> {
 }
 
 impl<'m, 't> ModuleScope<'m, 't> {
-    fn standing(&self, name: &TypeName) -> Standing<'m>
+    fn standing_of(&self, name: &TypeName) -> Standing<'m>
         ensures { standing_as result ≡ standing_among self.now name.now }
     {
         let own = name.name.name.as_slice();
@@ -90,10 +90,10 @@ impl<'s, 'm, 't> Scope<'s, 'm, 't> {
     }
 
     /// What the name of a type stands for.
-    pub fn standing(&self, name: &TypeName) -> Standing<'s>
+    pub fn standing_of(&self, name: &TypeName) -> Standing<'s>
         ensures { standing_as result ≡ standing_of (scope_as self.now) name.now }
     {
-        self.outer.standing(name)
+        self.outer.standing_of(name)
     }
 }
 
@@ -103,7 +103,7 @@ fn standing_in<'s, 't>(types: Option<&'s Types<'t>>, name: &[u8]) -> Standing<'s
         ≡ known_types (option_map (λ known. type_in known.now) types.entry) name.now }
 {
     match types {
-        Some(types) => types.standing(name),
+        Some(types) => types.standing_of(name),
         None => Standing::Unsaid,
     }
 }

@@ -21,7 +21,7 @@ impl Findings {
     pub fn want_truth(&mut self, sort: Option<Sort<'_>>, at: u32)
         ensures { self.new
             ≡ with_faults self.old
-            (faults.wanted passing.is_truth (option_map sort_as sort.entry) at) }
+            (faults.wanted_faults passing.is_truth (option_map sort_as sort.entry) at) }
     {
         if let Some(sort) = sort {
             self.want(sort.is_truth(), at);
@@ -32,7 +32,7 @@ impl Findings {
     pub fn want_number(&mut self, sort: Option<Sort<'_>>, at: u32)
         ensures { self.new
             ≡ with_faults self.old
-            (faults.wanted passing.is_number (option_map sort_as sort.entry) at) }
+            (faults.wanted_faults passing.is_number (option_map sort_as sort.entry) at) }
     {
         if let Some(sort) = sort {
             self.want(sort.is_number(), at);
@@ -43,7 +43,7 @@ impl Findings {
     pub fn want_text(&mut self, sort: Option<Sort<'_>>, at: u32)
         ensures { self.new
             ≡ with_faults self.old
-            (faults.wanted passing.is_text (option_map sort_as sort.entry) at) }
+            (faults.wanted_faults passing.is_text (option_map sort_as sort.entry) at) }
     {
         if let Some(sort) = sort {
             self.want(sort.is_text(), at);
@@ -54,7 +54,7 @@ impl Findings {
     pub fn want_length(&mut self, sort: Option<Sort<'_>>, at: u32)
         ensures { self.new
             ≡ with_faults self.old
-            (faults.wanted passing.has_length (option_map sort_as sort.entry) at) }
+            (faults.wanted_faults passing.has_length (option_map sort_as sort.entry) at) }
     {
         if let Some(sort) = sort {
             self.want(sort.has_length(), at);

@@ -20,7 +20,7 @@ use Rattle.circus_collate.specs.declared.view.Entry.{Entry}
 use Rattle.circus_collate.specs.declared.view.View.{View}
 use Rattle.circus_collate.specs.declared.deployment.Troupe.{Troupe}
 use Rattle.circus_collate.specs.Expecting.{has_node}
-use Rattle.circus_ring.specs.RingTable.{most_entries, last_incarnation, changed, waits, active, boot_entry, boot_view, boot_views, boot_views_from, is_done, table_for, table_by, troupe_of, Kept, kept_by, kept_after}
+use Rattle.circus_ring.specs.RingTable.{most_entries, last_incarnation, change_entries, waits, activate_entry, boot_entry, boot_view, boot_views, boot_views_from, is_done, table_for, table_by, troupe_of, Kept, kept_by, kept_after}
 use Rattle.circus_ring.specs.ViewOf.{IsBootable, IsViewOf}
 use Rattle.circus_ring.proofs.Performing.{get_set_same, get_set_other, has_both}
 
@@ -59,11 +59,11 @@ differ_map f same xs differ i j d before few =
     λ e. differ i j d before few_too
     (sym (same (get_or xs i d)) ∙ ap (λ (x : Entry). x.node) (sym (get_or-map f xs i d d first)) ∙ e ∙ ap (λ (x : Entry). x.node) (get_or-map f xs j d d few_too) ∙ same (get_or xs j d))
 
-active_there : (b : Bool) (node count : ℕ) (e : Entry) → waits node e ≡ b → (active node count e).node ≡ e.node
+active_there : (b : Bool) (node count : ℕ) (e : Entry) → waits node e ≡ b → (activate_entry node count e).node ≡ e.node
 active_there true node count e is = grind arith
 active_there false node count e is = grind arith
 
-active_same : (node count : ℕ) (e : Entry) → (active node count e).node ≡ e.node
+active_same : (node count : ℕ) (e : Entry) → (activate_entry node count e).node ≡ e.node
 active_same node count e = active_there (waits node e) node count e refl
 
 -- ---- one view
@@ -76,7 +76,7 @@ below i = grind arith
 
 -- the view with other entries
 with_entries : (place : ℕ) (troupe : Troupe) (view : View) (entries : List Entry) → IsViewOf place troupe view → length entries ≤ most_entries
-    → All (λ (e : Entry). is_among (troupe.founders ++ troupe.spares) e.node ≡ true) entries → AllPairs Differ entries → IsViewOf place troupe (changed view entries)
+    → All (λ (e : Entry). is_among (troupe.founders ++ troupe.spares) e.node ≡ true) entries → AllPairs Differ entries → IsViewOf place troupe (change_entries view entries)
 with_entries place troupe view entries is few members differ = record {
   number = is.number;
   first = grown view.incarnation;
@@ -91,7 +91,7 @@ spare_among troupe node is =
     list_any-append (λ n. n == node) troupe.founders troupe.spares ∙ or_right (is_among troupe.founders node) (is_among troupe.spares node) is
 
 joined_is : (place : ℕ) (troupe : Troupe) (view : View) (node : ℕ) → IsViewOf place troupe view → is_among troupe.spares node ≡ true → has_node view node ≡ false → length view.entries < most_entries
-    → IsViewOf place troupe (changed view (view.entries ++ record { node = node; since = Joining } ∷ []))
+    → IsViewOf place troupe (change_entries view (view.entries ++ record { node = node; since = Joining } ∷ []))
 joined_is place troupe view node is spare none few =
     let entry : Entry = record { node = node; since = Joining } in
     let more : length (view.entries ++ entry ∷ []) ≤ most_entries = omega (arith, length-append view.entries (entry ∷ [])) in
@@ -103,15 +103,15 @@ joined_is place troupe view node is spare none few =
     all_one P e here zero d few = here
     all_one P e here (suc k) d few = absurd (omega arith)
 
-activated_is : (place : ℕ) (troupe : Troupe) (view : View) (node count : ℕ) → IsViewOf place troupe view → IsViewOf place troupe (changed view (map (active node count) view.entries))
+activated_is : (place : ℕ) (troupe : Troupe) (view : View) (node count : ℕ) → IsViewOf place troupe view → IsViewOf place troupe (change_entries view (map (activate_entry node count) view.entries))
 activated_is place troupe view node count is =
     let P : Entry → Type 0 = λ e. is_among (troupe.founders ++ troupe.spares) e.node ≡ true in
-    let as_many : length (map (active node count) view.entries) ≤ most_entries = subst (λ n. n ≤ most_entries) (sym (length-map view.entries (active node count))) is.few in
-    with_entries place troupe view (map (active node count) view.entries) is as_many
-    (All-map P (active node count) view.entries (λ k d few. ap (is_among (troupe.founders ++ troupe.spares)) (active_same node count (get_or view.entries k d)) ∙ is.members k d few))
-    (differ_map (active node count) (active_same node count) view.entries is.differ)
+    let as_many : length (map (activate_entry node count) view.entries) ≤ most_entries = subst (λ n. n ≤ most_entries) (sym (length-map view.entries (activate_entry node count))) is.few in
+    with_entries place troupe view (map (activate_entry node count) view.entries) is as_many
+    (All-map P (activate_entry node count) view.entries (λ k d few. ap (is_among (troupe.founders ++ troupe.spares)) (active_same node count (get_or view.entries k d)) ∙ is.members k d few))
+    (differ_map (activate_entry node count) (active_same node count) view.entries is.differ)
 
-without_is : (place : ℕ) (troupe : Troupe) (view : View) (p : Entry → Bool) → IsViewOf place troupe view → IsViewOf place troupe (changed view (filter p view.entries))
+without_is : (place : ℕ) (troupe : Troupe) (view : View) (p : Entry → Bool) → IsViewOf place troupe view → IsViewOf place troupe (change_entries view (filter p view.entries))
 without_is place troupe view p is =
     let P : Entry → Type 0 = λ e. is_among (troupe.founders ++ troupe.spares) e.node ≡ true in
     let fewer : length (filter p view.entries) ≤ most_entries = omega (arith, length-filter p view.entries, count_by-le-length p view.entries, is.few) in
@@ -120,7 +120,7 @@ without_is place troupe view p is =
 join_by : (place : ℕ) (troupe : Troupe) (view : View) (node : ℕ) → IsViewOf place troupe view → (r s h f : Bool)
     → is_among troupe.spares node ≡ s → has_node view node ≡ h → nat_le most_entries (length view.entries) ≡ f
     → IsViewOf place troupe (if is_done (if r then RootTroupe else if not s then NotSpare else if not h && f then Full else Done)
-    then (if h then view else changed view (view.entries ++ record { node = node; since = Joining } ∷ [])) else view)
+    then (if h then view else change_entries view (view.entries ++ record { node = node; since = Joining } ∷ [])) else view)
 join_by place troupe view node is true s h f spare has full = is
 join_by place troupe view node is false false h f spare has full = is
 join_by place troupe view node is false true true f spare has full = is
@@ -136,9 +136,9 @@ table_is place troupe view (Lookup t) is = is
 table_is place troupe view (Join t node) is =
     join_by place troupe view node is troupe.root (is_among troupe.spares node) (has_node view node) (nat_le most_entries (length view.entries)) refl refl refl
 table_is place troupe view (Active t node count) is =
-    either place troupe (list_any (waits node) view.entries) (changed view (map (active node count) view.entries)) view (activated_is place troupe view node count is) is
+    either place troupe (list_any (waits node) view.entries) (change_entries view (map (activate_entry node count) view.entries)) view (activated_is place troupe view node count is) is
 table_is place troupe view (Gone t node) is =
-    either place troupe (has_node view node) (changed view (filter (λ (e : Entry). not (e.node == node)) view.entries)) view (without_is place troupe view (λ (e : Entry). not (e.node == node)) is) is
+    either place troupe (has_node view node) (change_entries view (filter (λ (e : Entry). not (e.node == node)) view.entries)) view (without_is place troupe view (λ (e : Entry). not (e.node == node)) is) is
 
 -- ---- the views at boot
 

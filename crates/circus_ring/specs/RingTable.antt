@@ -26,12 +26,12 @@ last_incarnation = 4294967295
 -- ---- one view
 
 -- the view with other entries: the incarnation grows, and stays once it is the last
-abbrev pub changed : View → List Entry → View
-changed view entries = record view { incarnation = min (view.incarnation + 1) last_incarnation; entries = entries }
+abbrev pub change_entries : View → List Entry → View
+change_entries view entries = record view { incarnation = min (view.incarnation + 1) last_incarnation; entries = entries }
 
 -- a node comes in, behind the others
-abbrev pub joined : View → ℕ → View
-joined view node = if has_node view node then view else changed view (view.entries ++ record { node = node; since = Joining } ∷ [])
+abbrev pub add_joiner : View → ℕ → View
+add_joiner view node = if has_node view node then view else change_entries view (view.entries ++ record { node = node; since = Joining } ∷ [])
 
 abbrev pub is_joining : Since → Bool
 is_joining Joining = true
@@ -42,19 +42,19 @@ abbrev pub waits : ℕ → Entry → Bool
 waits node e = (e.node == node) && is_joining e.since
 
 -- an entry once a node performs calls itself from a count on
-abbrev pub active : ℕ → ℕ → Entry → Entry
-active node count e = if waits node e then record { node = node; since = From count } else e
+abbrev pub activate_entry : ℕ → ℕ → Entry → Entry
+activate_entry node count e = if waits node e then record { node = node; since = From count } else e
 
 -- a node that is joining performs calls itself from a count on
-abbrev pub activated : View → ℕ → ℕ → View
-activated view node count =
+abbrev pub activate : View → ℕ → ℕ → View
+activate view node count =
     if list_any (waits node) view.entries
-    then changed view (map (active node count) view.entries)
+    then change_entries view (map (activate_entry node count) view.entries)
     else view
 
 -- a node is gone
-abbrev pub without : View → ℕ → View
-without view node = if has_node view node then changed view (filter (λ (e : Entry). not (e.node == node)) view.entries) else view
+abbrev pub remove_node : View → ℕ → View
+remove_node view node = if has_node view node then change_entries view (filter (λ (e : Entry). not (e.node == node)) view.entries) else view
 
 -- ---- a request
 
@@ -89,9 +89,9 @@ is_done Full = false
 -- the view once a request is done
 abbrev pub view_by : View → Request → View
 view_by view (Lookup t) = view
-view_by view (Join t node) = joined view node
-view_by view (Active t node count) = activated view node count
-view_by view (Gone t node) = without view node
+view_by view (Join t node) = add_joiner view node
+view_by view (Active t node count) = activate view node count
+view_by view (Gone t node) = remove_node view node
 
 -- the view after a request, and what is answered
 abbrev pub table_for : Bool → List ℕ → View → Request → Table

@@ -14,7 +14,7 @@ use std::alloc::Global;
 const LAST_INCARNATION: u32 = u32::MAX;
 
 /// How a request about this troupe is taken, and the troupe's view afterwards.
-pub fn answered(
+pub fn answer_request(
     alloc: Global,
     troupe: &Troupe,
     view: &View,
@@ -23,7 +23,7 @@ pub fn answered(
     ensures { IfOk result (λ table.
         table ≡ ring_table.table_for troupe.now.root troupe.now.spares view.now request.now) }
 {
-    let result = taken(troupe, view, request);
+    let result = result_of_request(troupe, view, request);
     let view = match result {
         RingResult::Done => view_after(alloc, view, request)?,
         _ => view.copy()?,
@@ -31,7 +31,7 @@ pub fn answered(
     Ok(Table { result, view })
 }
 
-fn taken(troupe: &Troupe, view: &View, request: &Request) -> RingResult
+fn result_of_request(troupe: &Troupe, view: &View, request: &Request) -> RingResult
     ensures { result ≡ ring_table.result_of troupe.now.root troupe.now.spares view.now request.now }
 {
     match request {
@@ -60,14 +60,14 @@ fn view_after(alloc: Global, view: &View, request: &Request) -> Result<View, NoM
 {
     match request {
         Request::Lookup(_) => view.copy(),
-        Request::Join(_, node) => joined(view, *node),
-        Request::Active(_, node, count) => activated(alloc, view, *node, *count),
-        Request::Gone(_, node) => without(alloc, view, *node),
+        Request::Join(_, node) => add_joiner(view, *node),
+        Request::Active(_, node, count) => activate(alloc, view, *node, *count),
+        Request::Gone(_, node) => remove_node(alloc, view, *node),
     }
 }
 
-fn joined(view: &View, node: u16) -> Result<View, NoMemory>
-    ensures { IfOk result (λ after. after ≡ ring_table.joined view.now node) }
+fn add_joiner(view: &View, node: u16) -> Result<View, NoMemory>
+    ensures { IfOk result (λ after. after ≡ ring_table.add_joiner view.now node) }
 {
     if view.has_node(node) {
         return view.copy();
@@ -77,16 +77,16 @@ fn joined(view: &View, node: u16) -> Result<View, NoMemory>
         node,
         since: Since::Joining,
     })?;
-    Ok(changed(view, entries))
+    Ok(change_entries(view, entries))
 }
 
-fn activated(alloc: Global, view: &View, node: u16, count: u32) -> Result<View, NoMemory>
-    ensures { IfOk result (λ after. after ≡ ring_table.activated view.now node count) }
+fn activate(alloc: Global, view: &View, node: u16, count: u32) -> Result<View, NoMemory>
+    ensures { IfOk result (λ after. after ≡ ring_table.activate view.now node count) }
 {
     if !has_waiting(view, node) {
         return view.copy();
     }
-    Ok(changed(view, active_entries(alloc, view, node, count)?))
+    Ok(change_entries(view, active_entries(alloc, view, node, count)?))
 }
 
 fn has_waiting(view: &View, node: u16) -> bool
@@ -101,11 +101,11 @@ fn has_waiting(view: &View, node: u16) -> bool
 #[tactic(auto, using(circus_collate::proofs::Going::map_more, circus_collate::proofs::Going::map_all))]
 fn active_entries(alloc: Global, view: &View, node: u16, count: u32) -> Result<Entries, NoMemory>
     ensures { IfOk result (λ entries.
-        entries ≡ map (ring_table.active node count) view.now.entries) }
+        entries ≡ map (ring_table.activate_entry node count) view.now.entries) }
 {
     let mut entries = ListOf::new(alloc);
     for entry in view.entries.as_slice() {
-        entries.push(active(entry, node, count))?;
+        entries.push(activate_entry(entry, node, count))?;
     }
     Ok(entries)
 }
@@ -117,8 +117,8 @@ fn waits(entry: &Entry, node: u16) -> bool
 }
 
 // An entry once a node is active from a count on.
-fn active(entry: &Entry, node: u16, count: u32) -> Entry
-    ensures { result ≡ ring_table.active node count entry.now }
+fn activate_entry(entry: &Entry, node: u16, count: u32) -> Entry
+    ensures { result ≡ ring_table.activate_entry node count entry.now }
 {
     if waits(entry, node) {
         Entry {
@@ -130,8 +130,8 @@ fn active(entry: &Entry, node: u16, count: u32) -> Entry
     }
 }
 
-fn without(alloc: Global, view: &View, node: u16) -> Result<View, NoMemory>
-    ensures { IfOk result (λ after. after ≡ ring_table.without view.now node) }
+fn remove_node(alloc: Global, view: &View, node: u16) -> Result<View, NoMemory>
+    ensures { IfOk result (λ after. after ≡ ring_table.remove_node view.now node) }
 {
     if !view.has_node(node) {
         return view.copy();
@@ -143,12 +143,12 @@ fn without(alloc: Global, view: &View, node: u16) -> Result<View, NoMemory>
         .copied()
         .filter(|entry| entry.node != node)
         .collect(alloc)?;
-    Ok(changed(view, ListOf::of(entries)))
+    Ok(change_entries(view, ListOf::of(entries)))
 }
 
 // The view with other entries.
-fn changed(view: &View, entries: Entries) -> View
-    ensures { result ≡ ring_table.changed view.now entries }
+fn change_entries(view: &View, entries: Entries) -> View
+    ensures { result ≡ ring_table.change_entries view.now entries }
 {
     let incarnation = view.incarnation;
     View {

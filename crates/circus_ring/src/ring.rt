@@ -6,7 +6,7 @@ ghost use Rattle.circus_collate.specs.declared.deployment.Troupe.{Troupe as Memb
 ghost use Rattle.circus_ring.specs.RingTable.{kept_after, answer_after};
 ghost use Rattle.circus_ring.specs.RingTable as ring_table;
 
-use crate::requests::answered;
+use crate::requests::answer_request;
 use circus_collate::{Deployment, Entries, Entry, Since, Table, Troupe, Troupes, View, Views};
 use circus_header::Request;
 use circus_value::{Duplicate, ListOf, NoMemory};
@@ -75,7 +75,7 @@ impl Ring {
         let place = usize::from(troupe_of(request));
         let troupe = &self.troupes.as_slice()[place];
         let view = &self.views.as_slice()[place];
-        let table = answered(self.alloc, troupe, view, request)?;
+        let table = answer_request(self.alloc, troupe, view, request)?;
         let after = table.view.copy()?;
         self.views.set(place, after);
         Ok(table)

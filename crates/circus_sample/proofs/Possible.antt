@@ -9,7 +9,7 @@ use Rattle.circus_schedule.specs.declared.line.Line.{Line}
 use Rattle.circus_schedule.specs.declared.line.Line.TheVariants.{Deliver, Tick, Crash, Down, Join}
 use Rattle.circus_schedule.specs.declared.sample.Facts.{Facts}
 use Rattle.circus_schedule.specs.Meaning.{NamesBelow}
-use Rattle.circus_schedule.specs.Sampling.{step_drawn, drawn, line_drawn, IsPossible}
+use Rattle.circus_schedule.specs.Sampling.{step_drawn, draw_line, line_drawn, IsPossible}
 use Rattle.circus_world.specs.declared.cause.LineCause.TheVariants.{NoDatagram, NotLive, NotSpare, AlreadyJoined}
 use Rattle.circus_world.specs.WorldState.{WorldState, Standing, is_live, has_joined}
 use Rattle.circus_world.specs.Legal.{refusal, unless_told, is_spare}
@@ -36,7 +36,7 @@ step_possible a b facts some = by_test (nat_le a 7) (facts.sent == 0) refl
 pub drawn_possible : (word : ℕ) (facts : Facts) → 1 ≤ facts.nodes → IsPossible facts (line_drawn word facts)
 drawn_possible word facts some = by_spare facts.spare refl
   where
-    by_spare : (spare : Option ℕ) → facts.spare ≡ spare → IsPossible facts (drawn (word / 2 ^ 33 % 64) (word / 2 ^ 33 / 64) facts.sent facts.nodes spare)
+    by_spare : (spare : Option ℕ) → facts.spare ≡ spare → IsPossible facts (draw_line (word / 2 ^ 33 % 64) (word / 2 ^ 33 / 64) facts.sent facts.nodes spare)
     by_spare None is = step_possible (word / 2 ^ 33 % 64) (word / 2 ^ 33 / 64) facts some
     by_spare (Some spare) is = by_kind (word / 2 ^ 33 % 64 == 0)
       where

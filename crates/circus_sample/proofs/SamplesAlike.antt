@@ -19,11 +19,11 @@ use Rattle.circus_schedule.specs.declared.sample.Facts.{Facts}
 use Rattle.circus_schedule.specs.Sampling.{word_behind, line_drawn}
 use Rattle.circus_world.specs.WorldState.{WorldState, Standing}
 use Rattle.circus_world.specs.Legal.{is_spare}
-use Rattle.circus_world.specs.Course.{Stepped, stepped}
+use Rattle.circus_world.specs.Course.{Stepped, step_line}
 use Rattle.circus_world.specs.Boot.{then_others}
 use Rattle.circus_world.specs.Alike.{standing_as, world_as, step_as}
 use Rattle.circus_world.proofs.WorldsAlike.{world_stepped_as}
-use Rattle.circus_sample.specs.Sampled.{spares_from, facts_of, lines_behind, sampled, lines_drawn}
+use Rattle.circus_sample.specs.Sampled.{spares_from, facts_of, lines_behind, sample_lines, lines_drawn}
 use Rattle.circus_sample.specs.Summary.{count_line, count_lines, summary}
 
 module _ {M : Type 0} (declared : M → Signature) (turn : M → List ValueTree → ℕ → List ValueTree → List Outcome → NextTurn) (first : M → List ValueTree) where
@@ -46,21 +46,21 @@ module _ {M : Type 0} (declared : M → Signature) (turn : M → List ValueTree 
       ∙ ap (known (length w.nodes)) (spares_as w.deployment 0 w.nodes)
 
   -- and then the lines that are left
-  then_as : (left word : ℕ) → ((w : WorldState M) → step_as declared turn first (sampled declared turn left word w) ≡ sampled declared_of turn_of left word (seen w))
+  then_as : (left word : ℕ) → ((w : WorldState M) → step_as declared turn first (sample_lines declared turn left word w) ≡ sample_lines declared_of turn_of left word (seen w))
       → (s : Stepped M)
-      → step_as declared turn first (then_others (sampled declared turn left word) s) ≡ then_others (sampled declared_of turn_of left word) (step_as declared turn first s)
+      → step_as declared turn first (then_others (sample_lines declared turn left word) s) ≡ then_others (sample_lines declared_of turn_of left word) (step_as declared turn first s)
   then_as left word same (Ok next) = same next
   then_as left word same (Err nodes) = refl
 
   pub sampled_as : (steps word : ℕ) (w : WorldState M)
-      → step_as declared turn first (sampled declared turn steps word w) ≡ sampled declared_of turn_of steps word (seen w)
+      → step_as declared turn first (sample_lines declared turn steps word w) ≡ sample_lines declared_of turn_of steps word (seen w)
   sampled_as zero word w = refl
   sampled_as (suc left) word w =
       let next = word_behind word in
       let drawn = line_drawn next (facts_of w) in
-      then_as left next (sampled_as left next) (stepped declared turn drawn w)
-      ∙ ap (then_others (sampled declared_of turn_of left next))
-      (world_stepped_as declared turn first drawn w ∙ ap (λ f. stepped declared_of turn_of (line_drawn next f) (seen w)) (sym (facts_as w)))
+      then_as left next (sampled_as left next) (step_line declared turn drawn w)
+      ∙ ap (then_others (sample_lines declared_of turn_of left next))
+      (world_stepped_as declared turn first drawn w ∙ ap (λ f. step_line declared_of turn_of (line_drawn next f) (seen w)) (sym (facts_as w)))
 
   -- and the lines themselves
   lines_then_as : (left word : ℕ)
@@ -76,9 +76,9 @@ module _ {M : Type 0} (declared : M → Signature) (turn : M → List ValueTree 
   lines_drawn_as (suc left) word w =
       let next = word_behind word in
       let drawn = line_drawn next (facts_of w) in
-      ap (λ f. line_drawn next f ∷ lines_behind (lines_drawn declared_of turn_of left next) (stepped declared_of turn_of (line_drawn next f) (seen w))) (facts_as w)
+      ap (λ f. line_drawn next f ∷ lines_behind (lines_drawn declared_of turn_of left next) (step_line declared_of turn_of (line_drawn next f) (seen w))) (facts_as w)
       ∙ ap (λ e. drawn ∷ lines_behind (lines_drawn declared_of turn_of left next) e) (sym (world_stepped_as declared turn first drawn w))
-      ∙ ap (λ l. drawn ∷ l) (lines_then_as left next (lines_drawn_as left next) (stepped declared turn drawn w))
+      ∙ ap (λ l. drawn ∷ l) (lines_then_as left next (lines_drawn_as left next) (step_line declared turn drawn w))
 
   -- ---- texts
 

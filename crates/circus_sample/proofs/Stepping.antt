@@ -17,11 +17,11 @@ use Rattle.circus_schedule.specs.declared.line.Line.TheVariants.{Deliver, Tick, 
 use Rattle.circus_schedule.specs.Sampling.{IsPossible, word_behind, line_drawn}
 use Rattle.circus_world.specs.declared.sent.Sent.{Sent}
 use Rattle.circus_world.specs.WorldState.{WorldState, Standing}
-use Rattle.circus_world.specs.Course.{Stepped, passed, told_to_join, concluded, comes_to, delivered, stepped}
+use Rattle.circus_world.specs.Course.{Stepped, pass_step, told_to_join, conclude_step, comes_to, deliver_sent, step_line}
 use Rattle.circus_world.specs.Boot.{then_others}
 use Rattle.circus_world.specs.Lines.{Lead}
 use Rattle.circus_world.proofs.SlotLemmas.{get_there, all_at}
-use Rattle.circus_sample.specs.Sampled.{spares_from, facts_of, lines_behind, sampled, lines_drawn}
+use Rattle.circus_sample.specs.Sampled.{spares_from, facts_of, lines_behind, sample_lines, lines_drawn}
 use Rattle.circus_sample.specs.Seen.Stepping.{NoneCrashed, left_by}
 use Rattle.circus_sample.proofs.Spares.{same_left}
 use Rattle.circus_sample.proofs.Possible.{IsToJoin, drawn_possible, to_join, named, legal}
@@ -39,11 +39,11 @@ module _ {M : Type 0} where
   KeepsIfOk spares w (Ok next) = Keeps spares w next
   KeepsIfOk spares w (Err nodes) = Unit {0}
 
-  passed_keeps : (w : WorldState M) → NoneCrashed w → Keeps (spares_from w.deployment 0 w.nodes) w (passed w)
+  passed_keeps : (w : WorldState M) → NoneCrashed w → Keeps (spares_from w.deployment 0 w.nodes) w (pass_step w)
   passed_keeps w none = record { none = none; spares_are = refl; count = refl; steps = refl }
 
   concluded_keeps : (node : ℕ) (s : Standing M) (w : WorldState M) (end : node_step.Ended M) → NoneCrashed w → slice_get w.nodes node ≡ Some s
-      → KeepsIfOk (spares_from w.deployment 0 w.nodes) w (concluded node s w end)
+      → KeepsIfOk (spares_from w.deployment 0 w.nodes) w (conclude_step node s w end)
   concluded_keeps node s w (Ok ended) none there =
       record {
         none = All-set (λ (t : Standing M). t.crashed ≡ None) w.nodes node (record s { node = ended.0 }) (all_at (λ (t : Standing M). t.crashed ≡ None) w.nodes node s none there) none;
@@ -57,25 +57,25 @@ module _ {M : Type 0} (declared : M → Signature) (turn : M → List ValueTree 
   comes_keeps : (node : ℕ) (event : Event) (w : WorldState M) (s : Standing M) → NoneCrashed w → slice_get w.nodes node ≡ Some s
       → KeepsIfOk (spares_from w.deployment 0 w.nodes) w (comes_to declared turn node event w)
   comes_keeps node event w s none there =
-      let goes : Option (Standing M) → Stepped M = λ o. option_map_or (λ (t : Standing M). concluded node t w (node_step.stepped declared turn (w.steps + 1) event t.node)) o (Ok w) in
+      let goes : Option (Standing M) → Stepped M = λ o. option_map_or (λ (t : Standing M). conclude_step node t w (node_step.step_node declared turn (w.steps + 1) event t.node)) o (Ok w) in
       subst (λ (e : Stepped M). KeepsIfOk (spares_from w.deployment 0 w.nodes) w e) (sym (ap goes there))
-      (concluded_keeps node s w (node_step.stepped declared turn (w.steps + 1) event s.node) none there)
+      (concluded_keeps node s w (node_step.step_node declared turn (w.steps + 1) event s.node) none there)
 
-  delivered_keeps : (sent : Sent) (w : WorldState M) → NoneCrashed w → KeepsIfOk (spares_from w.deployment 0 w.nodes) w (delivered declared turn sent w)
+  delivered_keeps : (sent : Sent) (w : WorldState M) → NoneCrashed w → KeepsIfOk (spares_from w.deployment 0 w.nodes) w (deliver_sent declared turn sent w)
   delivered_keeps sent w none = by_node (slice_get w.nodes sent.to) refl
     where
       by_node : (o : Option (Standing M)) → slice_get w.nodes sent.to ≡ o
-          → KeepsIfOk (spares_from w.deployment 0 w.nodes) w (if option_map_or (λ (t : Standing M). is_none t.crashed) o false then comes_to declared turn sent.to (comes.Datagram sent.from sent.bytes) w else Ok (passed w))
+          → KeepsIfOk (spares_from w.deployment 0 w.nodes) w (if option_map_or (λ (t : Standing M). is_none t.crashed) o false then comes_to declared turn sent.to (comes.Datagram sent.from sent.bytes) w else Ok (pass_step w))
       by_node None at = passed_keeps w none
       by_node (Some s) at = by_live (is_none s.crashed)
         where
-          by_live : (live : Bool) → KeepsIfOk (spares_from w.deployment 0 w.nodes) w (if live then comes_to declared turn sent.to (comes.Datagram sent.from sent.bytes) w else Ok (passed w))
+          by_live : (live : Bool) → KeepsIfOk (spares_from w.deployment 0 w.nodes) w (if live then comes_to declared turn sent.to (comes.Datagram sent.from sent.bytes) w else Ok (pass_step w))
           by_live true = comes_keeps sent.to (comes.Datagram sent.from sent.bytes) w s none at
           by_live false = passed_keeps w none
 
   -- ---- a line that can be asked for
 
-  join_keeps : (node : ℕ) (w : WorldState M) → NoneCrashed w → IsToJoin w node → KeepsIfOk (drop 1 (spares_from w.deployment 0 w.nodes)) w (stepped declared turn (Join node) w)
+  join_keeps : (node : ℕ) (w : WorldState M) → NoneCrashed w → IsToJoin w node → KeepsIfOk (drop 1 (spares_from w.deployment 0 w.nodes)) w (step_line declared turn (Join node) w)
   join_keeps node w none join =
       subst (λ (v : WorldState M). KeepsIfOk (drop 1 (spares_from w.deployment 0 w.nodes)) w (comes_to declared turn node comes.Join v)) (sym told)
       (behind (comes_to declared turn node comes.Join after) (comes_keeps node comes.Join after s alive there))
@@ -112,10 +112,10 @@ module _ {M : Type 0} (declared : M → Signature) (turn : M → List ValueTree 
       behind (Err nodes) keeps = tt
 
   pub line_keeps : (line : Line) (w : WorldState M) → NoneCrashed w → IsPossible (facts_of w) line
-      → KeepsIfOk (left_by line (spares_from w.deployment 0 w.nodes)) w (stepped declared turn line w)
+      → KeepsIfOk (left_by line (spares_from w.deployment 0 w.nodes)) w (step_line declared turn line w)
   line_keeps (Deliver number) w none possible =
       let found = get_there w.sent number possible in
-      let goes : Option Sent → Stepped M = λ o. option_map_or (λ sent. delivered declared turn sent w) o (Ok w) in
+      let goes : Option Sent → Stepped M = λ o. option_map_or (λ sent. deliver_sent declared turn sent w) o (Ok w) in
       subst (λ (e : Stepped M). KeepsIfOk (spares_from w.deployment 0 w.nodes) w e) (sym (ap goes found.1)) (delivered_keeps found.0 w none)
   line_keeps (Tick node) w none possible =
       let found = get_there w.nodes node possible in
@@ -136,17 +136,17 @@ module _ {M : Type 0} (declared : M → Signature) (turn : M → List ValueTree 
       (length (lines_drawn declared turn steps word w) ≡ steps) × Lead declared turn (lines_drawn declared turn steps word w) w last
 
   one_more : (left word : ℕ) (w last : WorldState M)
-      → ((word : ℕ) (w last : WorldState M) → NoneCrashed w → 1 ≤ length w.nodes → sampled declared turn left word w ≡ Ok last → AreLed left word w last)
-      → NoneCrashed w → 1 ≤ length w.nodes → sampled declared turn (suc left) word w ≡ Ok last → AreLed (suc left) word w last
+      → ((word : ℕ) (w last : WorldState M) → NoneCrashed w → 1 ≤ length w.nodes → sample_lines declared turn left word w ≡ Ok last → AreLed left word w last)
+      → NoneCrashed w → 1 ≤ length w.nodes → sample_lines declared turn (suc left) word w ≡ Ok last → AreLed (suc left) word w last
   one_more left word w last others none some is =
-      by_step (stepped declared turn (next_line word w) w) refl (line_keeps (next_line word w) w none possible) is
+      by_step (step_line declared turn (next_line word w) w) refl (line_keeps (next_line word w) w none possible) is
     where
       possible : IsPossible (facts_of w) (line_drawn (word_behind word) (facts_of w))
       possible = drawn_possible (word_behind word) (facts_of w) some
 
-      by_step : (e : Stepped M) → stepped declared turn (line_drawn (word_behind word) (facts_of w)) w ≡ e
+      by_step : (e : Stepped M) → step_line declared turn (line_drawn (word_behind word) (facts_of w)) w ≡ e
           → KeepsIfOk (left_by (line_drawn (word_behind word) (facts_of w)) (spares_from w.deployment 0 w.nodes)) w e
-          → then_others (sampled declared turn left (word_behind word)) e ≡ Ok last
+          → then_others (sample_lines declared turn left (word_behind word)) e ≡ Ok last
           → (suc (length (lines_behind (lines_drawn declared turn left (word_behind word)) e)) ≡ suc left)
           × Lead declared turn (next_line word w ∷ lines_behind (lines_drawn declared turn left (word_behind word)) e) w last
       by_step (Ok next) stepped_is keeps is =
@@ -157,6 +157,6 @@ module _ {M : Type 0} (declared : M → Signature) (turn : M → List ValueTree 
           )
       by_step (Err nodes) stepped_is keeps is = absurd (let clash : ◌≡◌ {A = Stepped M} (Err nodes) (Ok last) = is in cc)
 
-  pub samples_lead : (steps word : ℕ) (w last : WorldState M) → NoneCrashed w → 1 ≤ length w.nodes → sampled declared turn steps word w ≡ Ok last → AreLed steps word w last
+  pub samples_lead : (steps word : ℕ) (w last : WorldState M) → NoneCrashed w → 1 ≤ length w.nodes → sample_lines declared turn steps word w ≡ Ok last → AreLed steps word w last
   samples_lead zero word w last none some is = (refl, (let same : w ≡ last = cc in sym same))
   samples_lead (suc left) word w last none some is = one_more left word w last (samples_lead left) none some is

@@ -6,7 +6,7 @@ use Rattle.circus_value.specs.declared.outcome.Outcome.{Outcome}
 use Rattle.circus_collate.specs.declared.deployment.Deployment.{Deployment}
 use Rattle.circus_model.specs.NextTurn.{NextTurn}
 use Rattle.circus_model.specs.declared.signature.Signature.{Signature}
-use Rattle.circus_node.specs.Booting.{booted}
+use Rattle.circus_node.specs.Booting.{boot_node}
 use Rattle.circus_node.specs.Step as node_step
 use Rattle.circus_world.specs.WorldState.{WorldState, Standing}
 use Rattle.circus_world.specs.Course.{Stepped}
@@ -45,7 +45,7 @@ module _ {M : Type 0} (declared : M → Signature) (turn : M → List ValueTree 
   all_new : (hosted : List (Option M)) (w : WorldState M) → IsNew w → IsNewIfOk (all_booted declared turn first hosted w)
   all_new [] w new = new
   all_new (own ∷ others) w new =
-      let end = booted declared turn first w.deployment own (length w.nodes) in
+      let end = boot_node declared turn first w.deployment own (length w.nodes) in
       then_new (all_booted declared turn first others) (all_new others) (joined_by w end) (new_joined w end new)
 
   pub booted_new : (d : Deployment) (modules : List M) (w : WorldState M) → IsBooted declared turn first d modules (Ok w) → IsNew w

@@ -10,7 +10,7 @@ use Rattle.circus_schedule.specs.declared.sample.Facts.{Facts}
 use Rattle.circus_schedule.specs.Sampling.{word_behind, line_drawn}
 use Rattle.circus_world.specs.WorldState.{WorldState, Standing}
 use Rattle.circus_world.specs.Legal.{is_spare}
-use Rattle.circus_world.specs.Course.{Stepped, stepped}
+use Rattle.circus_world.specs.Course.{Stepped, step_line}
 use Rattle.circus_world.specs.Boot.{then_others}
 
 module _ {M : Type 0} where
@@ -35,14 +35,14 @@ module _ {M : Type 0} where
 
 module _ {M : Type 0} (declared : M → Signature) (turn : M → List ValueTree → ℕ → List ValueTree → List Outcome → NextTurn) where
   -- so many lines behind a word
-  abbrev pub sampled : ℕ → ℕ → WorldState M → Stepped M
-  sampled zero word w = Ok w
-  sampled (suc left) word w =
-      then_others (sampled left (word_behind word)) (stepped declared turn (line_drawn (word_behind word) (facts_of w)) w)
+  abbrev pub sample_lines : ℕ → ℕ → WorldState M → Stepped M
+  sample_lines zero word w = Ok w
+  sample_lines (suc left) word w =
+      then_others (sample_lines left (word_behind word)) (step_line declared turn (line_drawn (word_behind word) (facts_of w)) w)
 
   -- the lines that are stepped so
   abbrev pub lines_drawn : ℕ → ℕ → WorldState M → List Line
   lines_drawn zero word w = []
   lines_drawn (suc left) word w =
       line_drawn (word_behind word) (facts_of w)
-      ∷ lines_behind (lines_drawn left (word_behind word)) (stepped declared turn (line_drawn (word_behind word) (facts_of w)) w)
+      ∷ lines_behind (lines_drawn left (word_behind word)) (step_line declared turn (line_drawn (word_behind word) (facts_of w)) w)

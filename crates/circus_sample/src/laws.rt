@@ -7,7 +7,7 @@ ghost use Rattle.circus_world.specs.WorldState.{WorldState};
 ghost use Rattle.circus_world.specs.Answers.{IsBooted};
 ghost use Rattle.circus_world.specs.Lines.{Lead};
 ghost use Rattle.circus_world.specs.Alike.{world_as, step_as};
-ghost use Rattle.circus_sample.specs.Sampled.{IsUntouched, lines_drawn, sampled};
+ghost use Rattle.circus_sample.specs.Sampled.{IsUntouched, lines_drawn, sample_lines};
 ghost use Rattle.circus_sample.specs.Summary.{summary};
 
 use circus_model::Module;
@@ -17,7 +17,7 @@ use circus_model::Module;
 pub fn samples_are_schedules<M: Module>()
     ensures { (steps word : ℕ) (world last : WorldState M) → IsUntouched world
         → 1 ≤ length world.nodes
-        → sampled M.declared M.turn steps word world ≡ Ok last
+        → sample_lines M.declared M.turn steps word world ≡ Ok last
         → (length (lines_drawn M.declared M.turn steps word world) ≡ steps)
         × Lead M.declared M.turn (lines_drawn M.declared M.turn steps word world) world last }
 {}
@@ -25,8 +25,8 @@ pub fn samples_are_schedules<M: Module>()
 /// A sample comes to the same where behaviours stand for modules, and so do its lines and what is written of it.
 pub fn samples_depend_on_behaviours<M: Module>()
     ensures worlds { (steps word : ℕ) (world : WorldState M)
-        → step_as M.declared M.turn M.first (sampled M.declared M.turn steps word world)
-        ≡ sampled declared_of turn_of steps word (world_as M.declared M.turn M.first world) }
+        → step_as M.declared M.turn M.first (sample_lines M.declared M.turn steps word world)
+        ≡ sample_lines declared_of turn_of steps word (world_as M.declared M.turn M.first world) }
     ensures lines { (steps word : ℕ) (world : WorldState M)
         → lines_drawn declared_of turn_of steps word (world_as M.declared M.turn M.first world)
         ≡ lines_drawn M.declared M.turn steps word world }

@@ -2,7 +2,7 @@
 ghost use Rattle.std.specs.Prelude.{◌≡◌, ◌+◌, ◌<◌, ◌≤◌, [], length, IfOk};
 ghost use Rattle.circus_schedule.specs.Meaning.{NamesBelow};
 ghost use Rattle.circus_world.specs.Legal.{refusal};
-ghost use Rattle.circus_world.specs.Course.{stepped};
+ghost use Rattle.circus_world.specs.Course.{step_line};
 ghost use Rattle.circus_sample.specs.Sampled as sampling;
 ghost use Rattle.circus_sample.specs.Sampled.{IsUntouched, lines_drawn, spares_from};
 ghost use Rattle.circus_sample.specs.Answers.{AreSampled, IsSampled};
@@ -132,7 +132,7 @@ fn step<M: Module>(world: World<M>, line: &Line) -> Result<World<M>, SampleFault
     requires named { NamesBelow (length world.nodes) line.now }
     requires few { world.steps < 18446744073709551615 }
     requires legal { refusal world line.now ≡ None }
-    ensures { ComesTo result (stepped M.declared M.turn line.now world) }
+    ensures { ComesTo result (step_line M.declared M.turn line.now world) }
 {
     match world.step(line) {
         Ok(world) => Ok(world),

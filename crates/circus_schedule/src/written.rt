@@ -56,7 +56,7 @@ pub fn written_line(text: &[u8]) -> Option<Written<'_>>
 }
 
 // What stands behind the text's beginning, where it begins so.
-fn behind<'a>(beginning: &[u8], text: &'a [u8]) -> Option<&'a [u8]>
+fn text_behind<'a>(beginning: &[u8], text: &'a [u8]) -> Option<&'a [u8]>
     ensures { MatchOption result ((rest : List ℕ) → text.now ≢ beginning.now ++ rest) (λ rest.
         text.now ≡ beginning.now ++ rest.now) }
 {
@@ -68,7 +68,7 @@ fn number_behind(beginning: &[u8], text: &[u8]) -> Option<u64>
     ensures none { IfNone result
         ((number : ℕ) → number < 2 ^ 64 → text.now ≢ beginning.now ++ decimal number) }
 {
-    decimal_at_most(behind(beginning, text)?, u64::MAX)
+    decimal_at_most(text_behind(beginning, text)?, u64::MAX)
 }
 
 fn name_behind<'a>(beginning: &[u8], text: &'a [u8]) -> Option<&'a [u8]>
@@ -77,7 +77,7 @@ fn name_behind<'a>(beginning: &[u8], text: &'a [u8]) -> Option<&'a [u8]>
     ensures none { IfNone result
         ((name : List ℕ) → IsName name → text.now ≢ beginning.now ++ name) }
 {
-    let name = behind(beginning, text)?;
+    let name = text_behind(beginning, text)?;
     if is_name(name) { Some(name) } else { None }
 }
 
@@ -89,7 +89,7 @@ fn names_behind<'a>(beginning: &[u8], text: &'a [u8]) -> Option<(&'a [u8], &'a [
         ((first second : List ℕ) → IsName first → IsName second
         → text.now ≢ beginning.now ++ (first ++ SPACE ∷ second)) }
 {
-    let (first, second) = cut_at(SPACE, behind(beginning, text)?)?;
+    let (first, second) = cut_at(SPACE, text_behind(beginning, text)?)?;
     if are_names(first, second) {
         Some((first, second))
     } else {

@@ -45,12 +45,12 @@ fn part_at(message: &[u8], number: u16) -> &[u8]
 }
 
 impl Cut<'_> {
-    ghost use Rattle.circus_segment.specs.Seen.Outgoing.{outgoing};
+    ghost use Rattle.circus_segment.specs.Seen.Outgoing.{outgoing_of};
 
     /// The datagram of one segment.
     pub fn datagram(&self, alloc: Global, control: u8, number: u16) -> Result<Message, NoMemory>
         ensures { IfOk result (λ bytes.
-            bytes ≡ spelling (segment_of (outgoing self.now) control number)) }
+            bytes ≡ spelling (segment_of (outgoing_of self.now) control number)) }
     {
         let segment = Segment {
             format: self.format,
@@ -66,7 +66,7 @@ impl Cut<'_> {
 
     /// Adds the datagrams of all segments, in order.
     pub fn send_whole(&self, alloc: Global, datagrams: &mut Datagrams) -> Result<(), NoMemory>
-        ensures { OnOk result (datagrams.new ≡ datagrams.old ++ whole (outgoing self.now)) }
+        ensures { OnOk result (datagrams.new ≡ datagrams.old ++ whole (outgoing_of self.now)) }
     {
         for before in 0..self.total {
             datagrams.push(self.datagram(alloc, DATA, before + 1)?)?;

@@ -8,7 +8,7 @@ use Rattle.circus_collate.proofs.Going.{front}
 use Rattle.circus_node.specs.declared.event.Give.{Give}
 use Rattle.circus_serve.specs.Happened.{port_of, all_given}
 use Rattle.circus_serve.specs.Outside.{Tells, Asked, IsAsked}
-use Rattle.circus_serve.specs.Giving.{giving, IsPart, AreGiven}
+use Rattle.circus_serve.specs.Giving.{gives_alone, IsPart, AreGiven}
 
 pub told_none : {A : Type 0} (old : Option (List A)) → told_more old [] ≡ old
 told_none None = refl
@@ -31,7 +31,7 @@ asked_then old mid new a b first second = (
 
 -- one datagram was given
 pub asked_give : (old new : Tells) (port : ℕ) (bytes : List ℕ) → new.bound ≡ old.bound → new.taken ≡ old.taken → new.given ≡ told_more old.given ((port, bytes) ∷ [])
-    → IsAsked old new (giving ((port, bytes) ∷ []))
+    → IsAsked old new (gives_alone ((port, bytes) ∷ []))
 asked_give old new port bytes bound taken given = (bound ∙ sym (told_none old.bound), taken ∙ sym (told_none old.taken), given)
 
 -- ---- what is given one by one
@@ -40,7 +40,7 @@ asked_give old new port bytes bound taken given = (bound ∙ sym (told_none old.
 pub record HasGivenFirst (d : Deployment) (old new : Tells) (gives : List Give) (count : ℕ) : Type 0 where
   pub given : List (ℕ × List ℕ)
   pub whole : all_given d gives ≡ given ++ all_given d (drop count gives)
-  pub link : IsAsked old new (giving given)
+  pub link : IsAsked old new (gives_alone given)
 
 -- another one behind them
 pub first_more : (d : Deployment) (old mid new : Tells) (gives : List Give) (count : ℕ) (give : Give) → count < length gives → give ≡ get_or gives count give
@@ -51,7 +51,7 @@ first_more d old mid new gives count give few is bound taken given first =
     record {
       given = first.given ++ one ∷ [];
       whole = first.whole ∙ ap (λ xs. first.given ++ all_given d xs) (front gives count give few is) ∙ sym (append_assoc first.given (one ∷ []) (all_given d (drop (count + 1) gives)));
-      link = asked_then old mid new (giving first.given) (giving (one ∷ [])) first.link (asked_give mid new (port_of d give.to) give.bytes bound taken given);
+      link = asked_then old mid new (gives_alone first.given) (gives_alone (one ∷ [])) first.link (asked_give mid new (port_of d give.to) give.bytes bound taken given);
     }
 
 -- the next one was not given

@@ -27,9 +27,9 @@ use Rattle.circus_serve.specs.declared.happening.Happening.TheVariants.{Booted, 
 use Rattle.circus_serve.specs.declared.fault.ServeFault.{ServeFault}
 use Rattle.circus_serve.specs.declared.fault.ServeFault.TheVariants as fault
 use Rattle.circus_serve.specs.Happened.{peer_at, gives_in, all_given, given_in}
-use Rattle.circus_serve.specs.Serving.{Served, Progress, on, spent, happened_by, concluded, with_foreign, is_spare, at_boot, event_comes, suspected, suspects_in, comes, begun}
+use Rattle.circus_serve.specs.Serving.{Served, Progress, on, spent, happened_by, conclude_event, with_foreign, is_spare, at_boot, event_comes, suspects_by, suspects_in, comes, begin_serving}
 use Rattle.circus_serve.specs.Outside.{Tells, IsAsked}
-use Rattle.circus_serve.specs.Giving.{giving, AreGiven}
+use Rattle.circus_serve.specs.Giving.{gives_alone, AreGiven}
 use Rattle.circus_serve.specs.Seen.Asking.{HasGiven}
 use Rattle.circus_serve.specs.Seen.Counting.{ServeCounts}
 use Rattle.circus_serve.specs.Seen.Faults.{of_link, of_step}
@@ -100,24 +100,24 @@ module _ {A M : Type 0} (state : A → Served M) (d : Deployment) where
 
   -- it goes on with this noted
   gone_noted : (old new : Tells) (before : List Happening) (first : Happening) (progress : Progress M) (a : A) → progress ≡ on (state a) → (state a).happened ≡ before ++ first ∷ []
-      → IsAsked old new (giving (all_given d (gives_in first))) → HasGone state d old new before progress (Ok a)
+      → IsAsked old new (gives_alone (all_given d (gives_in first))) → HasGone state d old new before progress (Ok a)
   gone_noted old new before first progress a is happened link =
       record {
         later = first ∷ [];
         happened = ap happened_by is ∙ happened;
         goes = is;
-        given = subst (λ whole. IsAsked old new (giving whole)) (sym (given_in_one d first)) link;
+        given = subst (λ whole. IsAsked old new (gives_alone whole)) (sym (given_in_one d first)) link;
       }
 
   -- ---- an event
 
   module _ (declared : M → Signature) (turn : M → List ValueTree → ℕ → List ValueTree → List Outcome → NextTurn) (event : Event) (s : Served M) where
     -- the node has no step, or memory ran out in it
-    pub event_refused : (old new : Tells) (f : StepFault) → step.IsEnded (Err f) (step.stepped declared turn s.next event s.node) → new.bound ≡ old.bound → new.taken ≡ old.taken → new.given ≡ old.given
+    pub event_refused : (old new : Tells) (f : StepFault) → step.IsEnded (Err f) (step.step_node declared turn s.next event s.node) → new.bound ≡ old.bound → new.taken ≡ old.taken → new.given ≡ old.given
         → HasGone state d old new s.happened (event_comes declared turn event s) (Err (of_step f))
     unfolding event_comes
     event_refused old new (refused.Spent node) ended bound taken given =
-        let is : event_comes declared turn event s ≡ spent node s.happened = ap (concluded event s) ended in
+        let is : event_comes declared turn event s ≡ spent node s.happened = ap (conclude_event event s) ended in
         record {
           later = [];
           happened = ap happened_by is ∙ sym (append-nil s.happened);
@@ -127,7 +127,7 @@ module _ {A M : Type 0} (state : A → Served M) (d : Deployment) where
     event_refused old new refused.NoMemory ended bound taken given =
         gone_stopped old new s.happened (event_comes declared turn event s) (event_extends declared turn event s) bound taken given
 
-    module _ (node : NodeState M) (outputs : Outputs) (ended : step.stepped declared turn s.next event s.node ≡ Ok (node, outputs)) where
+    module _ (node : NodeState M) (outputs : Outputs) (ended : step.step_node declared turn s.next event s.node ≡ Ok (node, outputs)) where
       abbrev noted : Happening
       noted = Stepped event outputs.gives outputs.differences
 
@@ -136,7 +136,7 @@ module _ {A M : Type 0} (state : A → Served M) (d : Deployment) where
 
       event_is : event_comes declared turn event s ≡ on afterwards
       unfolding event_comes
-      event_is = ap (concluded event s) ended
+      event_is = ap (conclude_event event s) ended
 
       extends_so : Extends (s.happened ++ noted ∷ []) (event_comes declared turn event s)
       extends_so = record { later = []; is = ap happened_by event_is ∙ sym (append-nil (s.happened ++ noted ∷ [])) }
@@ -156,11 +156,11 @@ module _ {A M : Type 0} (state : A → Served M) (d : Deployment) where
           }
 
       -- its suspects
-      pub suspects_so : outputs.suspects ≡ suspected declared turn event s
-      unfolding suspected
+      pub suspects_so : outputs.suspects ≡ suspects_by declared turn event s
+      unfolding suspects_by
       suspects_so = sym (ap suspects_in ended)
 
-      pub event_noted : (old new : Tells) (a : A) → state a ≡ afterwards → IsAsked old new (giving (all_given d outputs.gives))
+      pub event_noted : (old new : Tells) (a : A) → state a ≡ afterwards → IsAsked old new (gives_alone (all_given d outputs.gives))
           → HasGone state d old new s.happened (event_comes declared turn event s) (Ok a)
       event_noted old new a is link =
           gone_noted old new s.happened noted (event_comes declared turn event s) a (event_is ∙ ap on (sym is)) (ap (λ (t : Served M). t.happened) is) link
@@ -168,21 +168,21 @@ module _ {A M : Type 0} (state : A → Served M) (d : Deployment) where
   -- ---- boot
 
   module _ (declared : M → Signature) (turn : M → List ValueTree → ℕ → List ValueTree → List Outcome → NextTurn) (node : NodeState M) (gives : List Give) where
-    begun_extends : Extends ([] ++ Booted gives ∷ []) (begun declared turn node gives)
+    begun_extends : Extends ([] ++ Booted gives ∷ []) (begin_serving declared turn node gives)
     begun_extends = by_spare (is_spare node)
       where
         by_spare : (b : Bool) → Extends (Booted gives ∷ []) (if b then comes declared turn Join (at_boot node gives) else on (at_boot node gives))
         by_spare true = comes_extends declared turn Join (at_boot node gives)
         by_spare false = record { later = []; is = refl }
 
-    pub boot_lacking : (old new : Tells) (f : LinkFault) → AreGiven {A = Unit {0}} old new (all_given d gives) (Err f) → HasGone state d old new [] (begun declared turn node gives) (Err (of_link f))
-    boot_lacking old new f given = gone_lacking old new [] (Booted gives) (begun declared turn node gives) f begun_extends given
+    pub boot_lacking : (old new : Tells) (f : LinkFault) → AreGiven {A = Unit {0}} old new (all_given d gives) (Err f) → HasGone state d old new [] (begin_serving declared turn node gives) (Err (of_link f))
+    boot_lacking old new f given = gone_lacking old new [] (Booted gives) (begin_serving declared turn node gives) f begun_extends given
 
     -- the node at boot, by its log
     pub boot_so : (next : ℕ) (happened : List Happening) → next ≡ 1 → happened ≡ Booted gives ∷ [] → record { node = node; next = next; happened = happened } ≡ at_boot node gives
     boot_so next happened next_is happened_is = λ i. record { node = node; next = next_is i; happened = happened_is i }
 
-    pub boot_noted : (old new : Tells) (a : A) → state a ≡ at_boot node gives → IsAsked old new (giving (all_given d gives)) → HasGone state d old new [] (on (at_boot node gives)) (Ok a)
+    pub boot_noted : (old new : Tells) (a : A) → state a ≡ at_boot node gives → IsAsked old new (gives_alone (all_given d gives)) → HasGone state d old new [] (on (at_boot node gives)) (Ok a)
     boot_noted old new a is link = gone_noted old new [] (Booted gives) (on (at_boot node gives)) a (ap on (sym is)) (ap (λ (t : Served M). t.happened) is) link
 
   -- ---- a foreign datagram

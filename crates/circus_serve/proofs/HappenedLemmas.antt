@@ -17,7 +17,7 @@ use Rattle.circus_node.specs.Step as step
 use Rattle.circus_serve.specs.declared.happening.Happening.{Happening}
 use Rattle.circus_serve.specs.declared.happening.Happening.TheVariants.{Stepped, Foreign}
 use Rattle.circus_serve.specs.Happened.{port_of, peer_at, gives_in, given_in}
-use Rattle.circus_serve.specs.Serving.{Served, Progress, on, spent, happened_by, and_then, concluded, event_comes, all_declared, suspected, comes, took, all_took, with_foreign}
+use Rattle.circus_serve.specs.Serving.{Served, Progress, on, spent, happened_by, and_then, conclude_event, event_comes, all_declared, suspects_by, comes, take_comes, all_took, with_foreign}
 
 pub given_in-append : (d : Deployment) (xs ys : List Happening) → given_in d (xs ++ ys) ≡ given_in d xs ++ given_in d ys
 given_in-append d xs ys =
@@ -30,7 +30,7 @@ pub record Extends {M : Type 0} (before : List Happening) (progress : Progress M
   pub is : happened_by progress ≡ before ++ later
 
 module _ {M : Type 0} where
-  concluded_extends : (event : Event) (s : Served M) (end : step.Ended M) → Extends s.happened (concluded event s end)
+  concluded_extends : (event : Event) (s : Served M) (end : step.Ended M) → Extends s.happened (conclude_event event s end)
   concluded_extends event s (Ok ended) = record { later = Stepped event ended.1.gives ended.1.differences ∷ []; is = refl }
   concluded_extends event s (Err node) = record { later = []; is = sym (append-nil s.happened) }
 
@@ -47,7 +47,7 @@ module _ {M : Type 0} where
 module _ {M : Type 0} (declared : M → Signature) (turn : M → List ValueTree → ℕ → List ValueTree → List Outcome → NextTurn) where
   pub event_extends : (event : Event) (s : Served M) → Extends s.happened (event_comes declared turn event s)
   unfolding event_comes
-  event_extends event s = concluded_extends event s (step.stepped declared turn s.next event s.node)
+  event_extends event s = concluded_extends event s (step.step_node declared turn s.next event s.node)
 
   pub declared_extends : (nodes : List ℕ) (s : Served M) → Extends s.happened (all_declared declared turn nodes s)
   declared_extends [] s = record { later = []; is = sym (append-nil s.happened) }
@@ -56,10 +56,10 @@ module _ {M : Type 0} (declared : M → Signature) (turn : M → List ValueTree 
 
   pub comes_extends : (event : Event) (s : Served M) → Extends s.happened (comes declared turn event s)
   comes_extends event s =
-      then_extends (all_declared declared turn (suspected declared turn event s)) (declared_extends (suspected declared turn event s)) s.happened (event_comes declared turn event s)
+      then_extends (all_declared declared turn (suspects_by declared turn event s)) (declared_extends (suspects_by declared turn event s)) s.happened (event_comes declared turn event s)
       (event_extends event s)
 
-  pub took_extends : (d : Deployment) (own : ℕ) (taken : TakenFrom) (s : Served M) → Extends s.happened (took declared turn d own taken s)
+  pub took_extends : (d : Deployment) (own : ℕ) (taken : TakenFrom) (s : Served M) → Extends s.happened (take_comes declared turn d own taken s)
   took_extends d own (From port bytes) s = by_peer (peer_at d own port)
     where
       by_peer : (peer : Option ℕ) → Extends s.happened (option_map_or (λ from. comes declared turn (Datagram from bytes) s) peer (on (with_foreign port bytes s)))
@@ -69,15 +69,15 @@ module _ {M : Type 0} (declared : M → Signature) (turn : M → List ValueTree 
 
   -- takes, one behind the others
   pub all_took-push : (d : Deployment) (own : ℕ) (takes : List TakenFrom) (taken : TakenFrom) (s : Served M)
-      → all_took declared turn d own (takes ++ taken ∷ []) s ≡ and_then (took declared turn d own taken) (all_took declared turn d own takes s)
-  all_took-push d own [] taken s = ends (took declared turn d own taken s)
+      → all_took declared turn d own (takes ++ taken ∷ []) s ≡ and_then (take_comes declared turn d own taken) (all_took declared turn d own takes s)
+  all_took-push d own [] taken s = ends (take_comes declared turn d own taken s)
     where
       ends : (p : Progress M) → and_then (all_took declared turn d own []) p ≡ p
       ends (on t) = refl
       ends (spent node happened) = refl
-  all_took-push d own (first ∷ others) taken s = by_first (λ t. all_took-push d own others taken t) (took declared turn d own first s)
+  all_took-push d own (first ∷ others) taken s = by_first (λ t. all_took-push d own others taken t) (take_comes declared turn d own first s)
     where
-      by_first : ((t : Served M) → all_took declared turn d own (others ++ taken ∷ []) t ≡ and_then (took declared turn d own taken) (all_took declared turn d own others t)) → (p : Progress M)
-          → and_then (all_took declared turn d own (others ++ taken ∷ [])) p ≡ and_then (took declared turn d own taken) (and_then (all_took declared turn d own others) p)
+      by_first : ((t : Served M) → all_took declared turn d own (others ++ taken ∷ []) t ≡ and_then (take_comes declared turn d own taken) (all_took declared turn d own others t)) → (p : Progress M)
+          → and_then (all_took declared turn d own (others ++ taken ∷ [])) p ≡ and_then (take_comes declared turn d own taken) (and_then (all_took declared turn d own others) p)
       by_first later (on t) = later t
       by_first later (spent node happened) = refl

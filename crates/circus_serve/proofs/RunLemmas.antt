@@ -17,7 +17,7 @@ use Rattle.circus_node.specs.Step as step
 use Rattle.circus_serve.specs.declared.happening.Happening.{Happening}
 use Rattle.circus_serve.specs.declared.happening.Happening.TheVariants.{Booted, Stepped, Foreign}
 use Rattle.circus_serve.specs.Happened.{peer_at}
-use Rattle.circus_serve.specs.Serving.{Served, Progress, on, spent, and_then, concluded, with_foreign, is_spare, at_boot, event_comes, suspected, all_declared, comes, took, all_took, begun, served}
+use Rattle.circus_serve.specs.Serving.{Served, Progress, on, spent, and_then, conclude_event, with_foreign, is_spare, at_boot, event_comes, suspects_by, all_declared, comes, take_comes, all_took, begin_serving, serve_takes}
 use Rattle.circus_serve.specs.Running.{Lead, IsRun}
 
 -- how many events happened
@@ -41,13 +41,13 @@ events_foreign (Foreign p b ∷ others) port bytes = events_foreign others port 
 
 module _ {M : Type 0} (declared : M → Signature) (turn : M → List ValueTree → ℕ → List ValueTree → List Outcome → NextTurn) where
   lead_push : (xs : List Happening) (number : ℕ) (n mid last : NodeState M) (event : Event) (outputs : Outputs) → Lead declared turn number xs n mid
-      → step.stepped declared turn (number + events_in xs) event mid ≡ Ok (last, outputs)
+      → step.step_node declared turn (number + events_in xs) event mid ≡ Ok (last, outputs)
       → Lead declared turn number (xs ++ Stepped event outputs.gives outputs.differences ∷ []) n last
   lead_push [] number n mid last event outputs led is =
-      (last, (record { outputs = outputs; is = subst (λ m. step.stepped declared turn number event m ≡ Ok (last, outputs)) led (subst (λ k. step.stepped declared turn k event mid ≡ Ok (last, outputs)) (omega arith) is); gives_are = refl; differences_are = refl }), refl)
+      (last, (record { outputs = outputs; is = subst (λ m. step.step_node declared turn number event m ≡ Ok (last, outputs)) led (subst (λ k. step.step_node declared turn k event mid ≡ Ok (last, outputs)) (omega arith) is); gives_are = refl; differences_are = refl }), refl)
   lead_push (Booted gives ∷ others) number n mid last event outputs led is = absurd led
   lead_push (Stepped e gives differences ∷ others) number n mid last event outputs led is =
-      (led.0, led.1, lead_push others (number + 1) led.0 mid last event outputs led.2 (subst (λ k. step.stepped declared turn k event mid ≡ Ok (last, outputs)) (omega arith) is))
+      (led.0, led.1, lead_push others (number + 1) led.0 mid last event outputs led.2 (subst (λ k. step.step_node declared turn k event mid ≡ Ok (last, outputs)) (omega arith) is))
   lead_push (Foreign port bytes ∷ others) number n mid last event outputs led is = lead_push others number n mid last event outputs led is
 
   lead_foreign : (xs : List Happening) (number : ℕ) (n last : NodeState M) (port : ℕ) (bytes : List ℕ) → Lead declared turn number xs n last
@@ -78,9 +78,9 @@ module _ {M : Type 0} (declared : M → Signature) (turn : M → List ValueTree 
 
     runs_event : (event : Event) (s : Served M) → HasRun s → RunsOn (event_comes declared turn event s)
     unfolding event_comes
-    runs_event event s run = by_end (step.stepped declared turn s.next event s.node) refl
+    runs_event event s run = by_end (step.step_node declared turn s.next event s.node) refl
       where
-        by_end : (end : step.Ended M) → step.stepped declared turn s.next event s.node ≡ end → RunsOn (concluded event s end)
+        by_end : (end : step.Ended M) → step.step_node declared turn s.next event s.node ≡ end → RunsOn (conclude_event event s end)
         by_end (Ok ended) is t same =
             let outputs : Outputs = ended.1 in
             let later = run.run.later in
@@ -89,7 +89,7 @@ module _ {M : Type 0} (declared : M → Signature) (turn : M → List ValueTree 
               run = record {
                 later = later ++ Stepped event outputs.gives outputs.differences ∷ [];
                 whole = ap (λ xs. xs ++ Stepped event outputs.gives outputs.differences ∷ []) run.run.whole;
-                lead = lead_push later 1 booted s.node ended.0 event outputs run.run.lead (subst (λ k. step.stepped declared turn k event s.node ≡ Ok ended) run.number is);
+                lead = lead_push later 1 booted s.node ended.0 event outputs run.run.lead (subst (λ k. step.step_node declared turn k event s.node ≡ Ok ended) run.number is);
               };
               number = omega (arith, run.number, events_push later event outputs.gives outputs.differences);
             })
@@ -102,7 +102,7 @@ module _ {M : Type 0} (declared : M → Signature) (turn : M → List ValueTree 
 
     runs_comes : (event : Event) (s : Served M) → HasRun s → RunsOn (comes declared turn event s)
     runs_comes event s run =
-        runs_then (all_declared declared turn (suspected declared turn event s)) (runs_declared (suspected declared turn event s)) (event_comes declared turn event s) (runs_event event s run)
+        runs_then (all_declared declared turn (suspects_by declared turn event s)) (runs_declared (suspects_by declared turn event s)) (event_comes declared turn event s) (runs_event event s run)
 
     runs_foreign : (port : ℕ) (bytes : List ℕ) (s : Served M) → HasRun s → HasRun (with_foreign port bytes s)
     runs_foreign port bytes s run =
@@ -115,7 +115,7 @@ module _ {M : Type 0} (declared : M → Signature) (turn : M → List ValueTree 
           number = run.number ∙ ap (λ n. 1 + n) (sym (events_foreign run.run.later port bytes));
         }
 
-    runs_took : (taken : TakenFrom) (s : Served M) → HasRun s → RunsOn (took declared turn d own taken s)
+    runs_took : (taken : TakenFrom) (s : Served M) → HasRun s → RunsOn (take_comes declared turn d own taken s)
     runs_took (From port bytes) s run = by_peer (peer_at d own port)
       where
         by_peer : (peer : Option ℕ) → RunsOn (option_map_or (λ from. comes declared turn (Datagram from bytes) s) peer (on (with_foreign port bytes s)))
@@ -125,18 +125,18 @@ module _ {M : Type 0} (declared : M → Signature) (turn : M → List ValueTree 
 
     runs_all : (takes : List TakenFrom) (s : Served M) → HasRun s → RunsOn (all_took declared turn d own takes s)
     runs_all [] s run = runs_on s run
-    runs_all (taken ∷ others) s run = runs_then (all_took declared turn d own others) (runs_all others) (took declared turn d own taken s) (runs_took taken s run)
+    runs_all (taken ∷ others) s run = runs_then (all_took declared turn d own others) (runs_all others) (take_comes declared turn d own taken s) (runs_took taken s run)
 
     runs_boot : HasRun (at_boot booted gives)
     runs_boot = record { run = record { later = []; whole = refl; lead = refl }; number = refl }
 
-    runs_begun : RunsOn (begun declared turn booted gives)
+    runs_begun : RunsOn (begin_serving declared turn booted gives)
     runs_begun = by_spare (is_spare booted)
       where
         by_spare : (b : Bool) → RunsOn (if b then comes declared turn Join (at_boot booted gives) else on (at_boot booted gives))
         by_spare true = runs_comes Join (at_boot booted gives) runs_boot
         by_spare false = runs_on (at_boot booted gives) runs_boot
 
-    pub run_of_all : (takes : List TakenFrom) (last : Served M) → served declared turn d own booted gives takes ≡ on last → IsRun declared turn booted gives last.happened last.node
+    pub run_of_all : (takes : List TakenFrom) (last : Served M) → serve_takes declared turn d own booted gives takes ≡ on last → IsRun declared turn booted gives last.happened last.node
     run_of_all takes last is =
-        (runs_then (all_took declared turn d own takes) (runs_all takes) (begun declared turn booted gives) runs_begun last is).run
+        (runs_then (all_took declared turn d own takes) (runs_all takes) (begin_serving declared turn booted gives) runs_begun last is).run

@@ -18,14 +18,14 @@ use Rattle.circus_serve.specs.declared.happening.Happening.{Happening}
 use Rattle.circus_serve.specs.declared.fault.ServeFault.{ServeFault}
 use Rattle.circus_serve.specs.declared.fault.ServeFault.TheVariants as fault
 use Rattle.circus_serve.specs.Happened.{port_of, given_in}
-use Rattle.circus_serve.specs.Serving.{Served, Progress, on, spent, happened_by, and_then, begun, took, all_took, served}
+use Rattle.circus_serve.specs.Serving.{Served, Progress, on, spent, happened_by, and_then, begin_serving, take_comes, all_took, serve_takes}
 use Rattle.circus_serve.specs.Outside.{Tells, IsAsked}
-use Rattle.circus_serve.specs.Giving.{giving, IsPart}
+use Rattle.circus_serve.specs.Giving.{gives_alone, IsPart}
 use Rattle.circus_serve.specs.Seen.Counting.{ServeCounts}
 use Rattle.circus_serve.specs.Seen.Faults.{of_link}
 use Rattle.circus_serve.proofs.AskedLemmas.{told_none, told_then, asked_then}
 use Rattle.circus_serve.specs.declared.serving.Serving.{Serving}
-use Rattle.circus_serve.specs.Answers.{asked, WasServed, IsServed, IsPartGiven, IsAnswer}
+use Rattle.circus_serve.specs.Answers.{asked_of_link, WasServed, IsServed, IsPartGiven, IsAnswer}
 use Rattle.circus_serve.specs.Seen.Going.{served_of, HasGone}
 use Rattle.circus_serve.proofs.HappenedLemmas.{given_in-append, then_extends, took_extends, all_took-push}
 
@@ -49,15 +49,15 @@ no_push (y ∷ ys) x is = cc
 
 -- what was given behind what was asked for
 given_behind : (old mid new : Tells) (d : Deployment) (own : ℕ) (taken : List Taken) (first given : List (ℕ × List ℕ))
-    → IsAsked old mid (asked d own taken first) → IsAsked mid new (giving given) → IsAsked old new (asked d own taken (first ++ given))
+    → IsAsked old mid (asked_of_link d own taken first) → IsAsked mid new (gives_alone given) → IsAsked old new (asked_of_link d own taken (first ++ given))
 given_behind old mid new d own taken first given before then =
-    subst (λ (t : List Taken). IsAsked old new (asked d own t (first ++ given))) (append-nil taken)
-    (asked_then old mid new (asked d own taken first) (giving given) before then)
+    subst (λ (t : List Taken). IsAsked old new (asked_of_link d own t (first ++ given))) (append-nil taken)
+    (asked_then old mid new (asked_of_link d own taken first) (gives_alone given) before then)
 
 -- a take behind what was asked for
 take_behind : (old mid new : Tells) (d : Deployment) (own : ℕ) (taken : List Taken) (given : List (ℕ × List ℕ)) (next : Taken)
-    → IsAsked old mid (asked d own taken given) → new.bound ≡ mid.bound → new.taken ≡ told_more mid.taken (next ∷ []) → new.given ≡ mid.given
-    → IsAsked old new (asked d own (taken ++ next ∷ []) given)
+    → IsAsked old mid (asked_of_link d own taken given) → new.bound ≡ mid.bound → new.taken ≡ told_more mid.taken (next ∷ []) → new.given ≡ mid.given
+    → IsAsked old new (asked_of_link d own (taken ++ next ∷ []) given)
 take_behind old mid new d own taken given next before bound takes gives = (
   bound ∙ before.0,
   takes ∙ ap (λ t. told_more t (next ∷ [])) before.1 ∙ told_then old.taken taken (next ∷ []),
@@ -66,7 +66,7 @@ take_behind old mid new d own taken given next before bound takes gives = (
 
 -- the port is bound
 bound_first : (old new : Tells) (d : Deployment) (own : ℕ) → new.bound ≡ told_more old.bound (port_of d own ∷ []) → new.taken ≡ old.taken → new.given ≡ old.given
-    → IsAsked old new (asked d own [] [])
+    → IsAsked old new (asked_of_link d own [] [])
 bound_first old new d own bound taken given = (bound, taken ∙ sym (told_none old.taken), given ∙ sym (told_none old.given))
 
 -- an answer is no fault
@@ -86,15 +86,15 @@ rose_then B r fault.NoMemory old mid new is same counts why = absurd cc
 module _ {M : Type 0} (declared : M → Signature) (turn : M → List ValueTree → ℕ → List ValueTree → List Outcome → NextTurn) where
   module _ (d : Deployment) (own : ℕ) (booted : NodeState M) (gives : List Give) where
     abbrev after : List TakenFrom → Progress M
-    after takes = served declared turn d own booted gives takes
+    after takes = serve_takes declared turn d own booted gives takes
 
-    after_none : after [] ≡ begun declared turn booted gives
-    after_none = then_none (begun declared turn booted gives)
+    after_none : after [] ≡ begin_serving declared turn booted gives
+    after_none = then_none (begin_serving declared turn booted gives)
 
-    after_push : (takes : List TakenFrom) (taken : TakenFrom) → after (takes ++ taken ∷ []) ≡ and_then (took declared turn d own taken) (after takes)
-    after_push takes taken = at (begun declared turn booted gives)
+    after_push : (takes : List TakenFrom) (taken : TakenFrom) → after (takes ++ taken ∷ []) ≡ and_then (take_comes declared turn d own taken) (after takes)
+    after_push takes taken = at (begin_serving declared turn booted gives)
       where
-        at : (p : Progress M) → and_then (all_took declared turn d own (takes ++ taken ∷ [])) p ≡ and_then (took declared turn d own taken) (and_then (all_took declared turn d own takes) p)
+        at : (p : Progress M) → and_then (all_took declared turn d own (takes ++ taken ∷ [])) p ≡ and_then (take_comes declared turn d own taken) (and_then (all_took declared turn d own takes) p)
         at (on s) = all_took-push declared turn d own takes taken s
         at (spent node happened) = refl
 
@@ -117,11 +117,11 @@ module _ {M : Type 0} (declared : M → Signature) (turn : M → List ValueTree 
     -- where the node is served on behind takes, it was served on before
     was_served : (takes : List TakenFrom) (s : Served M) → after takes ≡ on s → WasServed declared turn d own booted gives takes
     was_served takes s is before last whole =
-        on_before (took declared turn d own last) (after before) s (sym (after_push before last) ∙ sym (ap after whole) ∙ is)
+        on_before (take_comes declared turn d own last) (after before) s (sym (after_push before last) ∙ sym (ap after whole) ∙ is)
 
     earlier_of : (takes : List TakenFrom) (s : Served M) → after takes ≡ on s → Earlier takes (given_in d s.happened)
     earlier_of takes s is first last whole =
-        let so_far = then_extends (took declared turn d own last) (took_extends declared turn d own last) (happened_by (after first)) (after first)
+        let so_far = then_extends (take_comes declared turn d own last) (took_extends declared turn d own last) (happened_by (after first)) (after first)
         (record { later = []; is = sym (append-nil (happened_by (after first))) }) in
         let same : s.happened ≡ happened_by (after first) ++ so_far.later = ap happened_by (sym is ∙ ap after whole ∙ after_push first last) ∙ so_far.is in
         (given_in d so_far.later, ap (given_in d) same ∙ given_in-append d (happened_by (after first)) so_far.later)
@@ -150,7 +150,7 @@ module _ {M : Type 0} (declared : M → Signature) (turn : M → List ValueTree 
 
     -- a fault behind takes, of which the last one was not followed to its end
     fault_answers : {P : Type 0} (turns : ℕ) (old mid new : Tells) (takes : List TakenFrom) (before : List Happening) (f : ServeFault) → length takes ≤ turns
-        → IsAsked old mid (asked d own (map taken_of takes) (given_in d before))
+        → IsAsked old mid (asked_of_link d own (map taken_of takes) (given_in d before))
         → HasGone {A = Serving M P} served_of d mid new before (after takes) (Err f)
         → WasServed declared turn d own booted gives takes → Earlier takes (given_in d before)
         → IsAnswer declared turn d own booted gives turns old new (Err f)
@@ -161,7 +161,7 @@ module _ {M : Type 0} (declared : M → Signature) (turn : M → List ValueTree 
           before = was;
           happened = happened_by (after takes);
           is = gone.goes;
-          link = subst (λ given. IsAsked old new (asked d own (map taken_of takes) given)) (sym (ap (given_in d) gone.happened ∙ given_in-append d before gone.later))
+          link = subst (λ given. IsAsked old new (asked_of_link d own (map taken_of takes) given)) (sym (ap (given_in d) gone.happened ∙ given_in-append d before gone.later))
               (given_behind old mid new d own (map taken_of takes) (given_in d before) (given_in d gone.later) link gone.given);
         }
     fault_answers turns old mid new takes before fault.LinkFailed few link gone was earlier =
@@ -200,24 +200,24 @@ module _ {M : Type 0} (declared : M → Signature) (turn : M → List ValueTree 
         pub takes : List TakenFrom
         pub all : length takes ≡ count
         pub is : after takes ≡ on (served_of s)
-        pub link : IsAsked old new (asked d own (map taken_of takes) (given_in d s.log.happened))
+        pub link : IsAsked old new (asked_of_link d own (map taken_of takes) (given_in d s.log.happened))
 
       pub boot_faulted : (turns : ℕ) (old mid new : Tells) (f : ServeFault) → mid.bound ≡ told_more old.bound (port_of d own ∷ []) → mid.taken ≡ old.taken → mid.given ≡ old.given
-          → HasGone {A = Serving M P} served_of d mid new [] (begun declared turn booted gives) (Err f)
+          → HasGone {A = Serving M P} served_of d mid new [] (begin_serving declared turn booted gives) (Err f)
           → IsAnswer declared turn d own booted gives turns old new (Err f)
       boot_faulted turns old mid new f bound taken given gone =
           fault_answers turns old mid new [] [] f (omega arith) (bound_first old mid d own bound taken given)
           (subst (λ p. HasGone {A = Serving M P} served_of d mid new [] p (Err f)) (sym after_none) gone) was_served_none (earlier_none [])
 
       pub boot_served : (old mid new : Tells) (s : Serving M P) → mid.bound ≡ told_more old.bound (port_of d own ∷ []) → mid.taken ≡ old.taken → mid.given ≡ old.given
-          → HasGone served_of d mid new [] (begun declared turn booted gives) (Ok s) → HasServed old new 0 s
+          → HasGone served_of d mid new [] (begin_serving declared turn booted gives) (Ok s) → HasServed old new 0 s
       boot_served old mid new s bound taken given gone =
           let same : s.log.happened ≡ gone.later = ap happened_by (sym gone.goes) ∙ gone.happened in
           record {
             takes = [];
             all = refl;
             is = after_none ∙ gone.goes;
-            link = subst (λ happened. IsAsked old new (asked d own [] (given_in d happened))) (sym same)
+            link = subst (λ happened. IsAsked old new (asked_of_link d own [] (given_in d happened))) (sym same)
                 (given_behind old mid new d own [] [] (given_in d gone.later) (bound_first old mid d own bound taken given) gone.given);
           }
 
@@ -261,18 +261,18 @@ module _ {M : Type 0} (declared : M → Signature) (turn : M → List ValueTree 
       -- the takes with one more
       taken_behind : (old mid new : Tells) (count : ℕ) (s : Serving M P) (taken : TakenFrom) (so_far : HasServed old mid count s)
           → new.bound ≡ mid.bound → new.taken ≡ told_more mid.taken (taken_of taken ∷ []) → new.given ≡ mid.given
-          → IsAsked old new (asked d own (map taken_of (so_far.takes ++ taken ∷ [])) (given_in d s.log.happened))
+          → IsAsked old new (asked_of_link d own (map taken_of (so_far.takes ++ taken ∷ [])) (given_in d s.log.happened))
       taken_behind old mid new count s taken so_far bound takes given =
-          subst (λ t. IsAsked old new (asked d own t (given_in d s.log.happened))) (sym (map-append taken_of so_far.takes (taken ∷ [])))
+          subst (λ t. IsAsked old new (asked_of_link d own t (given_in d s.log.happened))) (sym (map-append taken_of so_far.takes (taken ∷ [])))
           (take_behind old mid new d own (map taken_of so_far.takes) (given_in d s.log.happened) (taken_of taken) so_far.link bound takes given)
 
       goes_by : (old mid : Tells) (count : ℕ) (s : Serving M P) (taken : TakenFrom) (so_far : HasServed old mid count s)
-          → after (so_far.takes ++ taken ∷ []) ≡ took declared turn d own taken (served_of s)
-      goes_by old mid count s taken so_far = after_push so_far.takes taken ∙ ap (and_then (took declared turn d own taken)) so_far.is
+          → after (so_far.takes ++ taken ∷ []) ≡ take_comes declared turn d own taken (served_of s)
+      goes_by old mid count s taken so_far = after_push so_far.takes taken ∙ ap (and_then (take_comes declared turn d own taken)) so_far.is
 
       pub turn_faulted : (turns : ℕ) (old mid between new : Tells) (count : ℕ) (s : Serving M P) (taken : TakenFrom) (f : ServeFault) → HasServed old mid count s → count < turns
           → between.bound ≡ mid.bound → between.taken ≡ told_more mid.taken (taken_of taken ∷ []) → between.given ≡ mid.given
-          → HasGone {A = Serving M P} served_of d between new s.log.happened (took declared turn d own taken (served_of s)) (Err f)
+          → HasGone {A = Serving M P} served_of d between new s.log.happened (take_comes declared turn d own taken (served_of s)) (Err f)
           → IsAnswer declared turn d own booted gives turns old new (Err f)
       turn_faulted turns old mid between new count s taken f so_far few bound takes given gone =
           fault_answers turns old between new (so_far.takes ++ taken ∷ []) s.log.happened f (omega (arith, so_far.all, length-append so_far.takes (taken ∷ [])))
@@ -282,7 +282,7 @@ module _ {M : Type 0} (declared : M → Signature) (turn : M → List ValueTree 
 
       pub turn_served : (old mid between new : Tells) (count : ℕ) (s t : Serving M P) (taken : TakenFrom) → HasServed old mid count s
           → between.bound ≡ mid.bound → between.taken ≡ told_more mid.taken (taken_of taken ∷ []) → between.given ≡ mid.given
-          → HasGone served_of d between new s.log.happened (took declared turn d own taken (served_of s)) (Ok t)
+          → HasGone served_of d between new s.log.happened (take_comes declared turn d own taken (served_of s)) (Ok t)
           → HasServed old new (count + 1) t
       turn_served old mid between new count s t taken so_far bound takes given gone =
           let same : t.log.happened ≡ s.log.happened ++ gone.later = ap happened_by (sym gone.goes) ∙ gone.happened in
@@ -290,7 +290,7 @@ module _ {M : Type 0} (declared : M → Signature) (turn : M → List ValueTree 
             takes = so_far.takes ++ taken ∷ [];
             all = omega (arith, so_far.all, length-append so_far.takes (taken ∷ []));
             is = goes_by old mid count s taken so_far ∙ gone.goes;
-            link = subst (λ g. IsAsked old new (asked d own (map taken_of (so_far.takes ++ taken ∷ [])) g)) (sym (ap (given_in d) same ∙ given_in-append d s.log.happened gone.later))
+            link = subst (λ g. IsAsked old new (asked_of_link d own (map taken_of (so_far.takes ++ taken ∷ [])) g)) (sym (ap (given_in d) same ∙ given_in-append d s.log.happened gone.later))
                 (given_behind old between new d own (map taken_of (so_far.takes ++ taken ∷ [])) (given_in d s.log.happened) (given_in d gone.later)
                 (taken_behind old mid between count s taken so_far bound takes given) gone.given);
           }

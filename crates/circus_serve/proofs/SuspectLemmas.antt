@@ -17,7 +17,7 @@ use Rattle.circus_node.specs.NodeState.{NodeState}
 use Rattle.circus_node.specs.Making.{hears, learns_down, is_told_to_join}
 use Rattle.circus_node.specs.Sending.{Sending, sent, spent, gives_of, all_handed}
 use Rattle.circus_node.specs.Step as step
-use Rattle.circus_serve.specs.Serving.{Served, suspected, suspects_in}
+use Rattle.circus_serve.specs.Serving.{Served, suspects_by, suspects_in}
 
 module _ {P : Type 0} (w : WireState P) where
   -- the node at a place among the others is another one
@@ -45,7 +45,7 @@ module _ {P : Type 0} (w : WireState P) where
 
 module _ {M : Type 0} where
   -- what is sent has no suspects
-  none_suspected : (n : NodeState M) (came : _) (sending : Sending) → suspects_in (step.ended n came sending) ≡ []
+  none_suspected : (n : NodeState M) (came : _) (sending : Sending) → suspects_in (step.end_step n came sending) ≡ []
   none_suspected n came (sent w gives) = refl
   none_suspected n came (spent node) = refl
 
@@ -61,10 +61,10 @@ module _ {M : Type 0} where
       All-weaker (IsOther n.wire) (IsOther m.wire) (λ node other. still_other d own n m node old new other) nodes others
 
 module _ {M : Type 0} (declared : M → Signature) (turn : M → List ValueTree → ℕ → List ValueTree → List Outcome → NextTurn) where
-  none_here : (n m : NodeState M) (came : _) (sending : Sending) → All (IsOther n.wire) (suspects_in (step.ended m came sending))
+  none_here : (n m : NodeState M) (came : _) (sending : Sending) → All (IsOther n.wire) (suspects_in (step.end_step m came sending))
   none_here n m came sending = subst (All (IsOther n.wire)) (sym (none_suspected m came sending)) (All-nil (IsOther n.wire))
 
-  suspects_are_others : (at : ℕ) (event : Event) (n : NodeState M) → All (IsOther n.wire) (suspects_in (step.stepped declared turn at event n))
+  suspects_are_others : (at : ℕ) (event : Event) (n : NodeState M) → All (IsOther n.wire) (suspects_in (step.step_node declared turn at event n))
   suspects_are_others at (Datagram from bytes) n =
       let segment = reading bytes in
       let made = hears declared turn n.deployment at from (heard_from n.wire from segment) n.acting in
@@ -80,7 +80,7 @@ module _ {M : Type 0} (declared : M → Signature) (turn : M → List ValueTree 
       none_here n (record n { acting = made.acting }) made.came (all_handed (sent n.wire []) made.came.effects)
 
   pub suspects_others : (d : Deployment) (own : ℕ) (event : Event) (s : Served M) (m : NodeState M) (suspects : List ℕ) → IsNodeOf d own s.node → IsNodeOf d own m
-      → suspects ≡ suspected declared turn event s → All (IsOther m.wire) suspects
-  unfolding suspected
+      → suspects ≡ suspects_by declared turn event s → All (IsOther m.wire) suspects
+  unfolding suspects_by
   suspects_others d own event s m suspects old new is =
-      subst (All (IsOther m.wire)) (sym is) (still_others d own s.node m (suspects_in (step.stepped declared turn s.next event s.node)) old new (suspects_are_others s.next event s.node))
+      subst (All (IsOther m.wire)) (sym is) (still_others d own s.node m (suspects_in (step.step_node declared turn s.next event s.node)) old new (suspects_are_others s.next event s.node))

@@ -22,7 +22,7 @@ use Rattle.circus_node.specs.Step as step
 use Rattle.circus_serve.specs.declared.happening.Happening.{Happening}
 use Rattle.circus_serve.specs.declared.happening.Happening.TheVariants.{Stepped, Foreign}
 use Rattle.circus_serve.specs.Happened.{port_of, peer_at, taken_by, take_of, takes_in}
-use Rattle.circus_serve.specs.Serving.{Served, Progress, on, spent, and_then, concluded, with_foreign, is_spare, at_boot, event_comes, suspected, all_declared, comes, took, all_took, begun, served}
+use Rattle.circus_serve.specs.Serving.{Served, Progress, on, spent, and_then, conclude_event, with_foreign, is_spare, at_boot, event_comes, suspects_by, all_declared, comes, take_comes, all_took, begin_serving, serve_takes}
 
 pub takes_in-append : (d : Deployment) (xs ys : List Happening) → takes_in d (xs ++ ys) ≡ takes_in d xs ++ takes_in d ys
 takes_in-append d xs ys = flat_map-append (take_of d) xs ys
@@ -43,7 +43,7 @@ module _ {M : Type 0} (d : Deployment) where
   taken_then next takes more each (on s) so_far t is = each s t is ∙ ap (λ z. z ++ more) (so_far s refl)
   taken_then next takes more each (spent node happened) so_far t is = absurd cc
 
-  taken_concluded : (event : Event) (s : Served M) (end : step.Ended M) → HasTaken d (takes_in d s.happened ++ taken_by d event) (concluded event s end)
+  taken_concluded : (event : Event) (s : Served M) (end : step.Ended M) → HasTaken d (takes_in d s.happened ++ taken_by d event) (conclude_event event s end)
   taken_concluded event s (Ok ended) t is =
       let next : Happening = Stepped event ended.1.gives ended.1.differences in
       let u : Served M = record { node = ended.0; next = s.next + 1; happened = s.happened ++ next ∷ [] } in
@@ -53,7 +53,7 @@ module _ {M : Type 0} (d : Deployment) where
 module _ {M : Type 0} (declared : M → Signature) (turn : M → List ValueTree → ℕ → List ValueTree → List Outcome → NextTurn) (d : Deployment) where
   taken_event : (event : Event) (s : Served M) → HasTaken d (takes_in d s.happened ++ taken_by d event) (event_comes declared turn event s)
   unfolding event_comes
-  taken_event event s = taken_concluded d event s (step.stepped declared turn s.next event s.node)
+  taken_event event s = taken_concluded d event s (step.step_node declared turn s.next event s.node)
 
   -- a declaration takes nothing
   taken_declared : (nodes : List ℕ) (s : Served M) → HasTaken d (takes_in d s.happened ++ []) (all_declared declared turn nodes s)
@@ -64,7 +64,7 @@ module _ {M : Type 0} (declared : M → Signature) (turn : M → List ValueTree 
 
   taken_comes : (event : Event) (s : Served M) → HasTaken d (takes_in d s.happened ++ taken_by d event) (comes declared turn event s)
   taken_comes event s t is =
-      taken_then d (all_declared declared turn (suspected declared turn event s)) (takes_in d s.happened ++ taken_by d event) [] (taken_declared (suspected declared turn event s))
+      taken_then d (all_declared declared turn (suspects_by declared turn event s)) (takes_in d s.happened ++ taken_by d event) [] (taken_declared (suspects_by declared turn event s))
       (event_comes declared turn event s) (taken_event event s) t is
       ∙ append-nil (takes_in d s.happened ++ taken_by d event)
 
@@ -90,7 +90,7 @@ module _ {M : Type 0} (declared : M → Signature) (turn : M → List ValueTree 
 
   -- ---- takes
 
-  taken_took : (own : ℕ) (taken : TakenFrom) (s : Served M) → HasTaken d (takes_in d s.happened ++ taken ∷ []) (took declared turn d own taken s)
+  taken_took : (own : ℕ) (taken : TakenFrom) (s : Served M) → HasTaken d (takes_in d s.happened ++ taken ∷ []) (take_comes declared turn d own taken s)
   taken_took own (From port bytes) s = by_peer (peer_at d own port) refl
     where
       by_peer : (peer : Option ℕ) → peer_at d own port ≡ peer
@@ -102,10 +102,10 @@ module _ {M : Type 0} (declared : M → Signature) (turn : M → List ValueTree 
   taken_all : (own : ℕ) (takes : List TakenFrom) (s : Served M) → HasTaken d (takes_in d s.happened ++ takes) (all_took declared turn d own takes s)
   taken_all own [] s t is = taken_on d s t is ∙ sym (append-nil (takes_in d s.happened))
   taken_all own (taken ∷ others) s t is =
-      taken_then d (all_took declared turn d own others) (takes_in d s.happened ++ taken ∷ []) others (taken_all own others) (took declared turn d own taken s) (taken_took own taken s) t is
+      taken_then d (all_took declared turn d own others) (takes_in d s.happened ++ taken ∷ []) others (taken_all own others) (take_comes declared turn d own taken s) (taken_took own taken s) t is
       ∙ append_assoc (takes_in d s.happened) (taken ∷ []) others
 
-  taken_begun : (booted : NodeState M) (gives : List Give) → HasTaken d [] (begun declared turn booted gives)
+  taken_begun : (booted : NodeState M) (gives : List Give) → HasTaken d [] (begin_serving declared turn booted gives)
   taken_begun booted gives = by_spare (is_spare booted)
     where
       by_spare : (b : Bool) → HasTaken d [] (if b then comes declared turn Join (at_boot booted gives) else on (at_boot booted gives))
@@ -113,6 +113,6 @@ module _ {M : Type 0} (declared : M → Signature) (turn : M → List ValueTree 
       by_spare false t is = taken_on d (at_boot booted gives) t is
 
   pub taken_in_all : (own : ℕ) (booted : NodeState M) (gives : List Give) (takes : List TakenFrom) (last : Served M)
-      → served declared turn d own booted gives takes ≡ on last → takes_in d last.happened ≡ takes
+      → serve_takes declared turn d own booted gives takes ≡ on last → takes_in d last.happened ≡ takes
   taken_in_all own booted gives takes last is =
-      taken_then d (all_took declared turn d own takes) [] takes (taken_all own takes) (begun declared turn booted gives) (taken_begun booted gives) last is
+      taken_then d (all_took declared turn d own takes) [] takes (taken_all own takes) (begin_serving declared turn booted gives) (taken_begun booted gives) last is

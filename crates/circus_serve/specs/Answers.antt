@@ -13,18 +13,18 @@ use Rattle.circus_serve.specs.declared.happening.Happening.{Happening}
 use Rattle.circus_serve.specs.declared.fault.ServeFault.{ServeFault}
 use Rattle.circus_serve.specs.declared.fault.ServeFault.TheVariants as fault
 use Rattle.circus_serve.specs.Happened.{port_of, given_in}
-use Rattle.circus_serve.specs.Serving.{Served, Progress, on, spent, happened_by, served}
+use Rattle.circus_serve.specs.Serving.{Served, Progress, on, spent, happened_by, serve_takes}
 use Rattle.circus_serve.specs.Outside.{Tells, Asked, IsAsked}
 use Rattle.circus_serve.specs.Recorded.{Recorded}
 
 -- the node's port alone was bound, and this was taken and given
-abbrev pub asked : Deployment → ℕ → List Taken → List (ℕ × List ℕ) → Asked
-asked d own taken given = record { bound = port_of d own ∷ []; taken = taken; given = given }
+abbrev pub asked_of_link : Deployment → ℕ → List Taken → List (ℕ × List ℕ) → Asked
+asked_of_link d own taken given = record { bound = port_of d own ∷ []; taken = taken; given = given }
 
 module _ {M : Type 0} (declared : M → Signature) (turn : M → List ValueTree → ℕ → List ValueTree → List Outcome → NextTurn) where
   module _ (d : Deployment) (own : ℕ) (booted : NodeState M) (gives : List Give) where
     abbrev after : List TakenFrom → Progress M
-    after takes = served declared turn d own booted gives takes
+    after takes = serve_takes declared turn d own booted gives takes
 
     -- the node was served on, up to the last of these takes
     abbrev pub WasServed : List TakenFrom → Type 0
@@ -38,7 +38,7 @@ module _ {M : Type 0} (declared : M → Signature) (turn : M → List ValueTree 
       pub is : after takes ≡ on last
       pub happened : recorded.happened ≡ last.happened
       pub node : recorded.node ≡ last.node
-      pub link : IsAsked old new (asked d own (map taken_of takes) (given_in d last.happened))
+      pub link : IsAsked old new (asked_of_link d own (map taken_of takes) (given_in d last.happened))
 
     -- behind these takes a step has no number left to a node; all was given that was sent before it
     pub record IsSpent (turns : ℕ) (old new : Tells) (node : ℕ) : Type 0 where
@@ -47,7 +47,7 @@ module _ {M : Type 0} (declared : M → Signature) (turn : M → List ValueTree 
       pub before : WasServed takes
       pub happened : List Happening
       pub is : after takes ≡ spent node happened
-      pub link : IsAsked old new (asked d own (map taken_of takes) (given_in d happened))
+      pub link : IsAsked old new (asked_of_link d own (map taken_of takes) (given_in d happened))
 
     -- a take failed, behind these
     pub record HasTakeFailed (turns : ℕ) (old new : Tells) : Type 0 where
@@ -55,7 +55,7 @@ module _ {M : Type 0} (declared : M → Signature) (turn : M → List ValueTree 
       pub few : length takes < turns
       pub last : Served M
       pub is : after takes ≡ on last
-      pub link : IsAsked old new (asked d own (map taken_of takes ++ failed ∷ []) (given_in d last.happened))
+      pub link : IsAsked old new (asked_of_link d own (map taken_of takes ++ failed ∷ []) (given_in d last.happened))
 
     -- of what was to be given by these takes this part was given, with all that the takes before the last gave
     pub record IsPartGiven (takes : List TakenFrom) (given : List (ℕ × List ℕ)) : Type 0 where
@@ -72,11 +72,11 @@ module _ {M : Type 0} (declared : M → Signature) (turn : M → List ValueTree 
       pub given : List (ℕ × List ℕ)
       pub part : IsPartGiven takes given
       pub missing : (part.rest ≡ []) → ⊥
-      pub link : IsAsked old new (asked d own (map taken_of takes) given)
+      pub link : IsAsked old new (asked_of_link d own (map taken_of takes) given)
 
     -- the node's port could not be bound
     abbrev pub HasBindFailed : Tells → Tells → Type 0
-    HasBindFailed old new = IsAsked old new (asked d own [] [])
+    HasBindFailed old new = IsAsked old new (asked_of_link d own [] [])
 
     -- memory ran out: in bind, or behind these takes
     pub record HasStopped (turns : ℕ) (old new : Tells) : Type 0 where
@@ -84,7 +84,7 @@ module _ {M : Type 0} (declared : M → Signature) (turn : M → List ValueTree 
       pub few : length takes ≤ turns
       pub given : List (ℕ × List ℕ)
       pub part : IsPartGiven takes given
-      pub link : IsAsked old new (asked d own (map taken_of takes) given)
+      pub link : IsAsked old new (asked_of_link d own (map taken_of takes) given)
 
     abbrev pub IsAnswer : ℕ → Tells → Tells → Result (Recorded M) ServeFault → Type 0
     IsAnswer turns old new (Ok recorded) = IsServed turns old new recorded

@@ -17,7 +17,7 @@ module _ {M : Type 0} (declared : M → Signature) (turn : M → List ValueTree 
   -- the event of this number leads a node to another, which gives just this, and replies differ just so
   pub record Leads (number : ℕ) (event : Event) (gives : List Give) (differences : List Difference) (n next : NodeState M) : Type 0 where
     pub outputs : Outputs
-    pub is : step.stepped declared turn number event n ≡ Ok (next, outputs)
+    pub is : step.step_node declared turn number event n ≡ Ok (next, outputs)
     pub gives_are : outputs.gives ≡ gives
     pub differences_are : outputs.differences ≡ differences
 

@@ -50,14 +50,14 @@ module _ {M : Type 0} where
   and_then next (spent node happened) = spent node happened
 
   -- an event has ended so
-  abbrev pub concluded : Event → Served M → step.Ended M → Progress M
-  concluded event s (Ok ended) =
+  abbrev pub conclude_event : Event → Served M → step.Ended M → Progress M
+  conclude_event event s (Ok ended) =
       on (record {
         node = ended.0;
         next = s.next + 1;
         happened = s.happened ++ Stepped event ended.1.gives ended.1.differences ∷ [];
       })
-  concluded event s (Err node) = spent node s.happened
+  conclude_event event s (Err node) = spent node s.happened
 
   -- the nodes that are suspected when it has ended so, in node order
   abbrev pub suspects_in : step.Ended M → List ℕ
@@ -78,11 +78,11 @@ module _ {M : Type 0} where
 
 module _ {M : Type 0} (declared : M → Signature) (turn : M → List ValueTree → ℕ → List ValueTree → List Outcome → NextTurn) where
   unfoldable pub event_comes : Event → Served M → Progress M
-  event_comes event s = concluded event s (step.stepped declared turn s.next event s.node)
+  event_comes event s = conclude_event event s (step.step_node declared turn s.next event s.node)
 
   -- the nodes that are suspected by an event, in node order
-  unfoldable pub suspected : Event → Served M → List ℕ
-  suspected event s = suspects_in (step.stepped declared turn s.next event s.node)
+  unfoldable pub suspects_by : Event → Served M → List ℕ
+  suspects_by event s = suspects_in (step.step_node declared turn s.next event s.node)
 
   -- these nodes are declared to be down, one after the other
   abbrev pub all_declared : List ℕ → Served M → Progress M
@@ -91,23 +91,23 @@ module _ {M : Type 0} (declared : M → Signature) (turn : M → List ValueTree 
 
   -- an event, and behind it a declaration of each node that is suspected then
   abbrev pub comes : Event → Served M → Progress M
-  comes event s = and_then (all_declared (suspected event s)) (event_comes event s)
+  comes event s = and_then (all_declared (suspects_by event s)) (event_comes event s)
 
   -- a take: a datagram of another node is an event, one of no other node is foreign, and where nothing came it is a tick
-  abbrev pub took : Deployment → ℕ → TakenFrom → Served M → Progress M
-  took d own (From port bytes) s =
+  abbrev pub take_comes : Deployment → ℕ → TakenFrom → Served M → Progress M
+  take_comes d own (From port bytes) s =
       option_map_or (λ from. comes (Datagram from bytes) s) (peer_at d own port) (on (with_foreign port bytes s))
-  took d own Nothing s = comes Tick s
+  take_comes d own Nothing s = comes Tick s
 
   -- takes, oldest first
   abbrev pub all_took : Deployment → ℕ → List TakenFrom → Served M → Progress M
   all_took d own [] s = on s
-  all_took d own (taken ∷ others) s = and_then (all_took d own others) (took d own taken s)
+  all_took d own (taken ∷ others) s = and_then (all_took d own others) (take_comes d own taken s)
 
   -- a spare is told to join, directly behind boot
-  abbrev pub begun : NodeState M → List Give → Progress M
-  begun booted gives = if is_spare booted then comes Join (at_boot booted gives) else on (at_boot booted gives)
+  abbrev pub begin_serving : NodeState M → List Give → Progress M
+  begin_serving booted gives = if is_spare booted then comes Join (at_boot booted gives) else on (at_boot booted gives)
 
   -- a node that booted so, over these takes
-  abbrev pub served : Deployment → ℕ → NodeState M → List Give → List TakenFrom → Progress M
-  served d own booted gives takes = and_then (all_took d own takes) (begun booted gives)
+  abbrev pub serve_takes : Deployment → ℕ → NodeState M → List Give → List TakenFrom → Progress M
+  serve_takes d own booted gives takes = and_then (all_took d own takes) (begin_serving booted gives)

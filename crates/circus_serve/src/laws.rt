@@ -12,7 +12,7 @@ ghost use Rattle.circus_node.specs.Booting as booting;
 ghost use Rattle.circus_node.specs.Accepting.{troupe_at};
 ghost use Rattle.circus_serve.specs.Happened.{takes_in};
 ghost use Rattle.circus_serve.specs.Running.{IsRun};
-ghost use Rattle.circus_serve.specs.Serving.{Served, on, at_boot, comes, begun, served};
+ghost use Rattle.circus_serve.specs.Serving.{Served, on, at_boot, comes, begin_serving, serve_takes};
 
 use circus_model::Module;
 
@@ -21,7 +21,7 @@ use circus_model::Module;
 pub fn records_have_all_takes<M: Module>()
     ensures { (d : Deployment) (own : ℕ) (booted : NodeState M) (gives : List Give)
         (takes : List TakenFrom) (last : Served M)
-        → served M.declared M.turn d own booted gives takes ≡ on last
+        → serve_takes M.declared M.turn d own booted gives takes ≡ on last
         → takes_in d last.happened ≡ takes }
 {}
 
@@ -30,7 +30,7 @@ pub fn records_have_all_takes<M: Module>()
 pub fn events_are_the_nodes<M: Module>()
     ensures { (d : Deployment) (own : ℕ) (booted : NodeState M) (gives : List Give)
         (takes : List TakenFrom) (last : Served M)
-        → served M.declared M.turn d own booted gives takes ≡ on last
+        → serve_takes M.declared M.turn d own booted gives takes ≡ on last
         → IsRun M.declared M.turn booted gives last.happened last.node }
 {}
 
@@ -38,20 +38,20 @@ pub fn events_are_the_nodes<M: Module>()
 pub fn spares_are_told_to_join<M: Module>()
     ensures spares { (d : Deployment) (hosted : M) (node number : ℕ) (troupe : Troupe)
         (booted : NodeState M) (outputs : Outputs)
-        → booting.booted M.declared M.turn M.first d (Some hosted) node ≡ Ok (booted, outputs)
+        → booting.boot_node M.declared M.turn M.first d (Some hosted) node ≡ Ok (booted, outputs)
         → troupe_at d node ≡ Some number → slice_get d.troupes number ≡ Some troupe
         → is_among troupe.founders node ≡ false
-        → begun M.declared M.turn booted outputs.gives
+        → begin_serving M.declared M.turn booted outputs.gives
         ≡ comes M.declared M.turn Join (at_boot booted outputs.gives) }
     ensures founders { (d : Deployment) (hosted : M) (node number : ℕ) (troupe : Troupe)
         (booted : NodeState M) (outputs : Outputs)
-        → booting.booted M.declared M.turn M.first d (Some hosted) node ≡ Ok (booted, outputs)
+        → booting.boot_node M.declared M.turn M.first d (Some hosted) node ≡ Ok (booted, outputs)
         → troupe_at d node ≡ Some number → slice_get d.troupes number ≡ Some troupe
         → is_among troupe.founders node ≡ true
-        → begun M.declared M.turn booted outputs.gives ≡ on (at_boot booted outputs.gives) }
+        → begin_serving M.declared M.turn booted outputs.gives ≡ on (at_boot booted outputs.gives) }
     ensures ringmaster { (d : Deployment) (hosted : Option M) (node : ℕ) (booted : NodeState M)
         (outputs : Outputs)
-        → booting.booted M.declared M.turn M.first d hosted node ≡ Ok (booted, outputs)
+        → booting.boot_node M.declared M.turn M.first d hosted node ≡ Ok (booted, outputs)
         → troupe_at d node ≡ None
-        → begun M.declared M.turn booted outputs.gives ≡ on (at_boot booted outputs.gives) }
+        → begin_serving M.declared M.turn booted outputs.gives ≡ on (at_boot booted outputs.gives) }
 {}

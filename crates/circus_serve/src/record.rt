@@ -35,7 +35,7 @@ impl<M: Module> Model for NodeRecord<M> {
 
 impl<M: Module> NodeRecord<M> {
     /// What happened, oldest first. It takes no memory.
-    pub fn happened(&self) -> &Happenings
+    pub fn happenings(&self) -> &Happenings
         ensures { result.now ≡ self.now.happened }
     {
         &self.happened

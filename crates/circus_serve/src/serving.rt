@@ -40,7 +40,7 @@ impl<M: Module> Serving<M> {
         ensures gone { HasGone served_of deployment.now
             (tells_of (L.bound link.old) (L.taken link.old) (L.given link.old))
             (tells_of (L.bound link.new) (L.taken link.new) (L.given link.new))
-            [] (model.begun M.declared M.turn core gives) result }
+            [] (model.begin_serving M.declared M.turn core gives) result }
         ensures counts { ServeCounts result (L.faults link.old) (L.faults link.new) }
     {
         let log = Log::begin(alloc, gives, deployment, link)?;
@@ -78,7 +78,7 @@ impl<M: Module> Serving<M> {
             (tells_of (L.bound link.old) (L.taken link.old) (L.given link.old))
             (tells_of (L.bound link.new) (L.taken link.new) (L.given link.new))
             self.log.happened
-            (model.took M.declared M.turn deployment.now node taken (served_of self)) result }
+            (model.take_comes M.declared M.turn deployment.now node taken (served_of self)) result }
         ensures counts { ServeCounts result (L.faults link.old) (L.faults link.new) }
     {
         match taken {
@@ -104,7 +104,7 @@ impl<M: Module> Serving<M> {
             (tells_of (L.bound link.old) (L.taken link.old) (L.given link.old))
             (tells_of (L.bound link.new) (L.taken link.new) (L.given link.new))
             self.log.happened
-            (model.took M.declared M.turn deployment.now node (TakenFrom.From port bytes)
+            (model.take_comes M.declared M.turn deployment.now node (TakenFrom.From port bytes)
             (served_of self)) result }
         ensures counts { ServeCounts result (L.faults link.old) (L.faults link.new) }
     {
@@ -178,7 +178,7 @@ impl<M: Module> Serving<M> {
         ensures node { IfOk result (λ stepped.
             IsNodeOf deployment.now self.core.wire.own stepped.0.core) }
         ensures suspects { IfOk result (λ stepped.
-            stepped.1 ≡ model.suspected M.declared M.turn event (served_of self)) }
+            stepped.1 ≡ model.suspects_by M.declared M.turn event (served_of self)) }
         ensures gone { HasGone (λ stepped. served_of stepped.0) deployment.now
             (tells_of (L.bound link.old) (L.taken link.old) (L.given link.old))
             (tells_of (L.bound link.new) (L.taken link.new) (L.given link.new))

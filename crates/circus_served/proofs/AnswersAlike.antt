@@ -11,7 +11,7 @@ use Rattle.circus_node.specs.declared.event.Give.{Give}
 use Rattle.circus_node.specs.NodeState.{NodeState}
 use Rattle.circus_alike.specs.Alike.{declared_of, turn_of, node_as}
 use Rattle.circus_serve.specs.Happened.{given_in}
-use Rattle.circus_serve.specs.Serving.{Progress, on, spent, happened_by, served}
+use Rattle.circus_serve.specs.Serving.{Progress, on, spent, happened_by, serve_takes}
 use Rattle.circus_serve.specs.Outside.{Tells}
 use Rattle.circus_serve.specs.Recorded.{Recorded}
 use Rattle.circus_serve.specs.Answers.{WasServed, IsServed, IsSpent, IsPartGiven, HasTakeFailed, HasGiveFailed, HasBindFailed}
@@ -25,13 +25,13 @@ module _ {M : Type 0} (declared : M → Signature) (turn : M → List ValueTree 
 
   module _ (d : Deployment) (own : ℕ) (booted : NodeState M) (gives : List Give) where
     abbrev after : List TakenFrom → Progress M
-    after takes = served declared turn d own booted gives takes
+    after takes = serve_takes declared turn d own booted gives takes
 
     abbrev seen : NodeState Behaviour
     seen = node_as declared turn first booted
 
     abbrev also_after : List TakenFrom → Progress Behaviour
-    also_after takes = served declared_of turn_of d own seen gives takes
+    also_after takes = serve_takes declared_of turn_of d own seen gives takes
 
     -- what it comes to over takes
     comes_to_as : (takes : List TakenFrom) (p : Progress M) → after takes ≡ p → also_after takes ≡ progress_as declared turn first p

@@ -13,7 +13,7 @@ use Rattle.circus_performing.specs.Record.{behaviour}
 use Rattle.circus_node.specs.declared.event.Outputs.{Outputs}
 use Rattle.circus_node.specs.declared.event.StepFault.TheVariants as fault
 use Rattle.circus_node.specs.NodeState.{NodeState}
-use Rattle.circus_node.specs.Booting.{IsHosted, IsBooted, booted}
+use Rattle.circus_node.specs.Booting.{IsHosted, IsBooted, boot_node}
 use Rattle.circus_alike.specs.Alike.{declared_of, turn_of, first_of, node_as, ended_as}
 use Rattle.circus_alike.proofs.NodesAlike.{node_booted_as}
 use Rattle.circus_config.specs.declared.plan.Plan.{Plan}
@@ -35,11 +35,11 @@ module _ {M : Type 0} (declared : M → Signature) (turn : M → List ValueTree 
       by_troupe (Some number) = sym (slice_get-map does modules number)
 
   module _ (plan : Plan) (d : Deployment) (modules : List M) (node : ℕ) (same : d ≡ plan.deployment) (behave : behaviours declared turn first modules ≡ behaviours_in plan) where
-    booted_as : (hosted : Option M) → IsHosted declared turn first d modules node hosted → ended_as declared turn first (booted declared turn first d hosted node) ≡ booted_node plan node
+    booted_as : (hosted : Option M) → IsHosted declared turn first d modules node hosted → ended_as declared turn first (boot_node declared turn first d hosted node) ≡ booted_node plan node
     booted_as hosted is =
         node_booted_as declared turn first d hosted node
-        ∙ ap (λ h. booted declared_of turn_of first_of d h node) (is ∙ hosted_does modules (slice_get d.nodes node))
-        ∙ (λ i. booted declared_of turn_of first_of (same i) (option_and_then (hosted_by (behave i)) (slice_get (same i).nodes node)) node)
+        ∙ ap (λ h. boot_node declared_of turn_of first_of d h node) (is ∙ hosted_does modules (slice_get d.nodes node))
+        ∙ (λ i. boot_node declared_of turn_of first_of (same i) (option_and_then (hosted_by (behave i)) (slice_get (same i).nodes node)) node)
 
     pub node_booted : (boot : NodeState M × Outputs) → IsBooted declared turn first d modules node (Ok boot) → booted_node plan node ≡ Ok (node_as declared turn first boot.0, boot.1)
     node_booted boot (hosted, are, is) = sym (booted_as hosted are) ∙ ap (ended_as declared turn first) is

@@ -26,7 +26,7 @@ use Rattle.circus_ending.specs.Status.{is_end}
 use Rattle.circus_ending.specs.Ending.{Ending}
 use Rattle.circus_ending.specs.declared.ending.Ending as coded
 use Rattle.circus_ending.specs.Seen.Ending.{ending_of}
-use Rattle.circus_ending.specs.Spent.{spent}
+use Rattle.circus_ending.specs.Spent.{end_of_spent}
 use Rattle.circus_served.specs.Alike.{recorded_as}
 use Rattle.circus_served.specs.NodeEnds.{IsEndOfBooted, IsEndOfServing}
 use Rattle.circus_served.specs.Seen.Ended.{EndsSo}
@@ -62,10 +62,10 @@ module _ {M : Type 0} (declared : M → Signature) (turn : M → List ValueTree 
           subst (λ x. by x plan.names) same (subst (by d) called (end_as (names_of d.nodes names) d node turns old new boot.0 boot.1.gives ending end)),
         )
 
-    pub spent_ends : (peer : ℕ) → IsBooted declared turn first d modules node (Err (fault.Spent peer)) → new ≡ old → ending ≡ spent (names_of d.nodes []) (node, peer)
+    pub spent_ends : (peer : ℕ) → IsBooted declared turn first d modules node (Err (fault.Spent peer)) → new ≡ old → ending ≡ end_of_spent (names_of d.nodes []) (node, peer)
         → IsEndOfServing plan node turns old new ending
     spent_ends peer booted untouched is =
-        inr (peer, none_booted declared turn first plan d modules node same behave peer booted, untouched, is ∙ ap (λ (x : Deployment). spent (names_of x.nodes []) (node, peer)) same)
+        inr (peer, none_booted declared turn first plan d modules node same behave peer booted, untouched, is ∙ ap (λ (x : Deployment). end_of_spent (names_of x.nodes []) (node, peer)) same)
 
 module _ {M : Type 0} (declared : M → Signature) (turn : M → List ValueTree → ℕ → List ValueTree → List Outcome → NextTurn) (first : M → List ValueTree) where
   module _ (plan : Plan) (d : Deployment) (modules : List M) (node turns : ℕ) (same : d ≡ plan.deployment) (behave : behaviours declared turn first modules ≡ behaviours_in plan) where
@@ -76,7 +76,7 @@ module _ {M : Type 0} (declared : M → Signature) (turn : M → List ValueTree 
     served_ends old new names boot called is (Err fault) end = tt
 
     pub none_ends : {E : Type 0} (old : Tells) (peer : ℕ) → IsBooted declared turn first d modules node (Err (fault.Spent peer))
-        → (r : Result coded.Ending E) → IfOk r (λ ending. ending_of ending ≡ spent (names_of d.nodes []) (node, peer))
+        → (r : Result coded.Ending E) → IfOk r (λ ending. ending_of ending ≡ end_of_spent (names_of d.nodes []) (node, peer))
         → IfOk r (λ ending. IsEndOfServing plan node turns old old (ending_of ending))
     none_ends old peer booted (Ok ending) is = spent_ends declared turn first plan d modules node turns old old (ending_of ending) same behave peer booted refl is
     none_ends old peer booted (Err fault) is = tt

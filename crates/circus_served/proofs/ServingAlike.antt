@@ -19,7 +19,7 @@ use Rattle.circus_node.specs.Step as step
 use Rattle.circus_alike.specs.Alike.{declared_of, turn_of, acting_as, node_as, ended_as}
 use Rattle.circus_alike.proofs.NodesAlike.{node_stepped_as}
 use Rattle.circus_serve.specs.Happened.{peer_at}
-use Rattle.circus_serve.specs.Serving.{Served, Progress, on, spent, is_outside, is_spare, at_boot, and_then, concluded, suspects_in, with_foreign, event_comes, suspected, all_declared, comes, took, all_took, begun, served}
+use Rattle.circus_serve.specs.Serving.{Served, Progress, on, spent, is_outside, is_spare, at_boot, and_then, conclude_event, suspects_in, with_foreign, event_comes, suspects_by, all_declared, comes, take_comes, all_took, begin_serving, serve_takes}
 use Rattle.circus_served.specs.Alike.{served_as, progress_as}
 
 module _ {M : Type 0} (declared : M → Signature) (turn : M → List ValueTree → ℕ → List ValueTree → List Outcome → NextTurn) (first : M → List ValueTree) where
@@ -41,24 +41,24 @@ module _ {M : Type 0} (declared : M → Signature) (turn : M → List ValueTree 
   -- ---- an event
 
   concluded_as : (event : Event) (s : Served M) (end : step.Ended M)
-      → seen (concluded event s end) ≡ concluded event (one s) (ended_as declared turn first end)
+      → seen (conclude_event event s end) ≡ conclude_event event (one s) (ended_as declared turn first end)
   concluded_as event s (Ok ended) = refl
   concluded_as event s (Err node) = refl
 
   event_comes_as : (event : Event) (s : Served M) → seen (event_comes declared turn event s) ≡ event_comes declared_of turn_of event (one s)
   unfolding event_comes
   event_comes_as event s =
-      concluded_as event s (step.stepped declared turn s.next event s.node)
-      ∙ ap (concluded event (one s)) (node_stepped_as declared turn first s.next event s.node)
+      concluded_as event s (step.step_node declared turn s.next event s.node)
+      ∙ ap (conclude_event event (one s)) (node_stepped_as declared turn first s.next event s.node)
 
   suspects_as : (end : step.Ended M) → suspects_in end ≡ suspects_in (ended_as declared turn first end)
   suspects_as (Ok ended) = refl
   suspects_as (Err node) = refl
 
-  suspected_as : (event : Event) (s : Served M) → suspected declared turn event s ≡ suspected declared_of turn_of event (one s)
-  unfolding suspected
+  suspected_as : (event : Event) (s : Served M) → suspects_by declared turn event s ≡ suspects_by declared_of turn_of event (one s)
+  unfolding suspects_by
   suspected_as event s =
-      suspects_as (step.stepped declared turn s.next event s.node) ∙ ap suspects_in (node_stepped_as declared turn first s.next event s.node)
+      suspects_as (step.step_node declared turn s.next event s.node) ∙ ap suspects_in (node_stepped_as declared turn first s.next event s.node)
 
   all_declared_as : (nodes : List ℕ) (s : Served M) → seen (all_declared declared turn nodes s) ≡ all_declared declared_of turn_of nodes (one s)
   all_declared_as [] s = refl
@@ -68,13 +68,13 @@ module _ {M : Type 0} (declared : M → Signature) (turn : M → List ValueTree 
 
   comes_as : (event : Event) (s : Served M) → seen (comes declared turn event s) ≡ comes declared_of turn_of event (one s)
   comes_as event s =
-      let suspects = suspected declared turn event s in
+      let suspects = suspects_by declared turn event s in
       and_then_as (all_declared declared turn suspects) (all_declared declared_of turn_of suspects) (all_declared_as suspects) (event_comes declared turn event s)
       ∙ (λ i. and_then (all_declared declared_of turn_of (suspected_as event s i)) (event_comes_as event s i))
 
   -- ---- takes
 
-  took_as : (d : Deployment) (own : ℕ) (taken : TakenFrom) (s : Served M) → seen (took declared turn d own taken s) ≡ took declared_of turn_of d own taken (one s)
+  took_as : (d : Deployment) (own : ℕ) (taken : TakenFrom) (s : Served M) → seen (take_comes declared turn d own taken s) ≡ take_comes declared_of turn_of d own taken (one s)
   took_as d own (From port bytes) s = by_option (peer_at d own port)
     where
       by_option : (o : Option ℕ)
@@ -88,7 +88,7 @@ module _ {M : Type 0} (declared : M → Signature) (turn : M → List ValueTree 
       → seen (all_took declared turn d own takes s) ≡ all_took declared_of turn_of d own takes (one s)
   all_took_as d own [] s = refl
   all_took_as d own (taken ∷ others) s =
-      and_then_as (all_took declared turn d own others) (all_took declared_of turn_of d own others) (all_took_as d own others) (took declared turn d own taken s)
+      and_then_as (all_took declared turn d own others) (all_took declared_of turn_of d own others) (all_took_as d own others) (take_comes declared turn d own taken s)
       ∙ ap (and_then (all_took declared_of turn_of d own others)) (took_as d own taken s)
 
   -- ---- at boot
@@ -97,7 +97,7 @@ module _ {M : Type 0} (declared : M → Signature) (turn : M → List ValueTree 
   spare_as n = ap (λ (o : Option MemberRecord). option_map_or (λ (kept : MemberRecord). is_outside kept.phase) o false) (sym (record_as n.acting))
 
   begun_as : (booted : NodeState M) (gives : List Give)
-      → seen (begun declared turn booted gives) ≡ begun declared_of turn_of (node_as declared turn first booted) gives
+      → seen (begin_serving declared turn booted gives) ≡ begin_serving declared_of turn_of (node_as declared turn first booted) gives
   begun_as booted gives =
       by_test (is_spare booted)
       ∙ ap (λ b. if b then comes declared_of turn_of Join (one (at_boot booted gives)) else on (one (at_boot booted gives))) (spare_as booted)
@@ -108,7 +108,7 @@ module _ {M : Type 0} (declared : M → Signature) (turn : M → List ValueTree 
       by_test false = refl
 
   pub serving_as : (d : Deployment) (own : ℕ) (booted : NodeState M) (gives : List Give) (takes : List TakenFrom)
-      → seen (served declared turn d own booted gives takes) ≡ served declared_of turn_of d own (node_as declared turn first booted) gives takes
+      → seen (serve_takes declared turn d own booted gives takes) ≡ serve_takes declared_of turn_of d own (node_as declared turn first booted) gives takes
   serving_as d own booted gives takes =
-      and_then_as (all_took declared turn d own takes) (all_took declared_of turn_of d own takes) (all_took_as d own takes) (begun declared turn booted gives)
+      and_then_as (all_took declared turn d own takes) (all_took declared_of turn_of d own takes) (all_took_as d own takes) (begin_serving declared turn booted gives)
       ∙ ap (and_then (all_took declared_of turn_of d own takes)) (begun_as booted gives)

@@ -21,12 +21,12 @@ use Rattle.circus_serve.specs.Answers.{IsServed, IsSpent, HasBindFailed, HasTake
 use Rattle.circus_node_text.specs.NodeText.{node_text}
 use Rattle.circus_ending.specs.declared.status.Status.TheVariants.{Done, LinkFault}
 use Rattle.circus_ending.specs.Ending.{Ending}
-use Rattle.circus_ending.specs.Spent.{spent}
+use Rattle.circus_ending.specs.Spent.{end_of_spent}
 
 -- the node at boot, by what its module does
 abbrev pub booted_node : Plan → ℕ → Ended Behaviour
 booted_node plan node =
-    booting.booted (λ b. b.declared) (λ b. b.turn) (λ b. b.first) plan.deployment
+    booting.boot_node (λ b. b.declared) (λ b. b.turn) (λ b. b.first) plan.deployment
     (option_and_then (hosted_by (behaviours_in plan)) (slice_get plan.deployment.nodes node)) node
 
 -- the link failed
@@ -46,7 +46,7 @@ module _ {M : Type 0} (declared : M → Signature) (turn : M → List ValueTree 
 
     -- no number is left for another node in a step
     abbrev IsSpentServing : Ending → Type 0
-    IsSpentServing ending = (peer : ℕ) × IsSpent declared turn d node booted gives turns old new peer × (ending ≡ spent names (node, peer))
+    IsSpentServing ending = (peer : ℕ) × IsSpent declared turn d node booted gives turns old new peer × (ending ≡ end_of_spent names (node, peer))
 
     -- the link failed in bind, in a take or in a give
     abbrev HasLinkFailed : Ending → Type 0
@@ -66,4 +66,4 @@ IsEndOfServing plan node turns old new ending =
     × IsEndOfBooted (λ b. b.declared) (λ b. b.turn) (names_of plan.deployment.nodes plan.names) plan.deployment node turns old new
     boot.0 boot.1.gives ending)
     ⊎ ((peer : ℕ) × (booted_node plan node ≡ Err peer) × (new ≡ old)
-    × (ending ≡ spent (names_of plan.deployment.nodes plan.names) (node, peer)))
+    × (ending ≡ end_of_spent (names_of plan.deployment.nodes plan.names) (node, peer)))

@@ -5,7 +5,7 @@ ghost use Rattle.circus_outside.specs.declared.link.TakenFrom.{TakenFrom};
 ghost use Rattle.circus_node.specs.declared.event.Give.{Give};
 ghost use Rattle.circus_node.specs.NodeState.{NodeState};
 ghost use Rattle.circus_alike.specs.Alike.{declared_of, turn_of, node_as};
-ghost use Rattle.circus_serve.specs.Serving.{served};
+ghost use Rattle.circus_serve.specs.Serving.{serve_takes};
 ghost use Rattle.circus_served.specs.Alike.{progress_as};
 
 use circus_model::Module;
@@ -15,6 +15,6 @@ use circus_model::Module;
 pub fn serving_depends_on_behaviours<M: Module>()
     ensures { (d : Deployment) (own : ℕ) (booted : NodeState M) (gives : List Give)
         (takes : List TakenFrom)
-        → progress_as M.declared M.turn M.first (served M.declared M.turn d own booted gives takes)
-        ≡ served declared_of turn_of d own (node_as M.declared M.turn M.first booted) gives takes }
+        → progress_as M.declared M.turn M.first (serve_takes M.declared M.turn d own booted gives takes)
+        ≡ serve_takes declared_of turn_of d own (node_as M.declared M.turn M.first booted) gives takes }
 {}

@@ -3,7 +3,7 @@ ghost use Rattle.std.specs.Prelude.{◌≡◌, ℕ, position, IfOk, IfSome, IfNo
 ghost use Rattle.circus_collate.specs.Deployment.{IsDeployment};
 ghost use Rattle.circus_ending.specs.Seen.Ending.{ending_of};
 ghost use Rattle.circus_served.specs.Named.{IsNamed, no_node as no_node_end};
-ghost use Rattle.circus_served.specs.Seen.Called.{called};
+ghost use Rattle.circus_served.specs.Seen.Called.{is_host_named};
 
 use circus_collate::{Deployment, Host};
 use circus_ending::{Ending, Status};
@@ -22,7 +22,7 @@ pub fn node_named(deployment: &Deployment, name: &str) -> Option<u16>
 
 // The place of the first host that is called so.
 fn place_of(hosts: &[Host], name: &[u8]) -> Option<usize>
-    ensures { result ≡ position (called name.now) hosts.now }
+    ensures { result ≡ position (is_host_named name.now) hosts.now }
 {
     hosts.iter().position(|host| host.name.as_slice() == name)
 }

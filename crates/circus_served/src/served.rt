@@ -13,7 +13,7 @@ ghost use Rattle.circus_serve.specs.Outside.{tells_of};
 
 use circus_collate::Deployment;
 use circus_config::{ModuleNames, Plan};
-use circus_ending::{Ending, Status, spent};
+use circus_ending::{Ending, Status, end_of_spent};
 use circus_load::{Loaded, load};
 use circus_model::Module;
 use circus_node::{Gives, NodeCore, StepFault};
@@ -56,7 +56,7 @@ pub fn serve_node<L: Link>(
             serve_booted(alloc, &deployment, &names, core, gives, node, link, turns)
         }
         Err(StepFault::NoMemory) => Err(AllocError),
-        Err(StepFault::Spent(peer)) => spent(alloc, &deployment.nodes, node, peer),
+        Err(StepFault::Spent(peer)) => end_of_spent(alloc, &deployment.nodes, node, peer),
     }
 }
 
@@ -85,11 +85,11 @@ fn serve_booted<M: Module, L: Link>(
         ending.status ≡ Status.LinkFault → Rose (L.faults link.old) (L.faults link.new)) }
 {
     let served = serve(alloc, core, gives, deployment, node, link, turns);
-    ended(alloc, deployment, names, node, served)
+    end_of_result(alloc, deployment, names, node, served)
 }
 
 // The end of a node that was served so.
-fn ended<M: Module>(
+fn end_of_result<M: Module>(
     alloc: Global,
     deployment: &Deployment,
     names: &ModuleNames,
@@ -106,15 +106,15 @@ fn ended<M: Module>(
         ending.status ≡ Status.LinkFault → IsErrOf served ServeFault.LinkFailed) }
 {
     match served {
-        Ok(record) => done(alloc, deployment, names, node, &record),
+        Ok(record) => end_of_record(alloc, deployment, names, node, &record),
         Err(ServeFault::NoMemory) => Err(AllocError),
         Err(ServeFault::LinkFailed) => Ending::of_line(alloc, Status::LinkFault, "link fault\n"),
-        Err(ServeFault::Spent(peer)) => spent(alloc, &deployment.nodes, node, peer),
+        Err(ServeFault::Spent(peer)) => end_of_spent(alloc, &deployment.nodes, node, peer),
     }
 }
 
 // The end of a node that was served for all takes.
-fn done<M: Module>(
+fn end_of_record<M: Module>(
     alloc: Global,
     deployment: &Deployment,
     names: &ModuleNames,

@@ -19,12 +19,12 @@ use Rattle.circus_node.specs.NodeState.{Acting, member, ringmaster, member_recor
 use Rattle.circus_alike.specs.Alike.{declared_of, turn_of, acting_as}
 use Rattle.circus_schedule.specs.declared.line.Line.TheVariants.{Deliver}
 use Rattle.circus_world.specs.WorldState.{WorldState, Standing}
-use Rattle.circus_world.specs.Course.{Stepped, stepped}
+use Rattle.circus_world.specs.Course.{Stepped, step_line}
 use Rattle.circus_world.specs.Alike.{standing_as, world_as, step_as}
 use Rattle.circus_world.proofs.WorldsAlike.{world_stepped_as}
 use Rattle.circus_report.specs.ViewLines.{ringmaster_line, views_lines}
 use Rattle.circus_report.specs.Report.{member_at, members_lines, ring_lines, rest_text}
-use Rattle.circus_settle.specs.Settled.{Settling, then_settled, settled}
+use Rattle.circus_settle.specs.Settled.{Settling, then_settled, settle_world}
 use Rattle.circus_settle.specs.Summary.{settled_text}
 use Rattle.circus_settle.specs.Alike.{settling_as}
 
@@ -41,20 +41,20 @@ module _ {M : Type 0} (declared : M → Signature) (turn : M → List ValueTree 
   -- ---- deliveries
 
   -- and then those that are left
-  then_as : (left number : ℕ) → ((number : ℕ) (w : WorldState M) → known (settled declared turn left number w) ≡ settled declared_of turn_of left number (seen w)) → (s : Stepped M)
-      → known (then_settled (settled declared turn left number) s) ≡ then_settled (settled declared_of turn_of left number) (step_as declared turn first s)
+  then_as : (left number : ℕ) → ((number : ℕ) (w : WorldState M) → known (settle_world declared turn left number w) ≡ settle_world declared_of turn_of left number (seen w)) → (s : Stepped M)
+      → known (then_settled (settle_world declared turn left number) s) ≡ then_settled (settle_world declared_of turn_of left number) (step_as declared turn first s)
   then_as left number same (Ok next) = same number next
   then_as left number same (Err nodes) = refl
 
-  next_as : (left number : ℕ) (w : WorldState M) → ((number : ℕ) (w : WorldState M) → known (settled declared turn left number w) ≡ settled declared_of turn_of left number (seen w)) → (some : Bool)
-      → known (if some then then_settled (settled declared turn left (number + 1)) (stepped declared turn (Deliver number) w) else Ok (record { world = w; given = number }))
-      ≡ (if some then then_settled (settled declared_of turn_of left (number + 1)) (stepped declared_of turn_of (Deliver number) (seen w)) else Ok (record { world = seen w; given = number }))
+  next_as : (left number : ℕ) (w : WorldState M) → ((number : ℕ) (w : WorldState M) → known (settle_world declared turn left number w) ≡ settle_world declared_of turn_of left number (seen w)) → (some : Bool)
+      → known (if some then then_settled (settle_world declared turn left (number + 1)) (step_line declared turn (Deliver number) w) else Ok (record { world = w; given = number }))
+      ≡ (if some then then_settled (settle_world declared_of turn_of left (number + 1)) (step_line declared_of turn_of (Deliver number) (seen w)) else Ok (record { world = seen w; given = number }))
   next_as left number w same true =
-      then_as left (number + 1) same (stepped declared turn (Deliver number) w)
-      ∙ ap (then_settled (settled declared_of turn_of left (number + 1))) (world_stepped_as declared turn first (Deliver number) w)
+      then_as left (number + 1) same (step_line declared turn (Deliver number) w)
+      ∙ ap (then_settled (settle_world declared_of turn_of left (number + 1))) (world_stepped_as declared turn first (Deliver number) w)
   next_as left number w same false = refl
 
-  pub settled_as : (most number : ℕ) (w : WorldState M) → known (settled declared turn most number w) ≡ settled declared_of turn_of most number (seen w)
+  pub settled_as : (most number : ℕ) (w : WorldState M) → known (settle_world declared turn most number w) ≡ settle_world declared_of turn_of most number (seen w)
   settled_as zero number w = refl
   settled_as (suc most) number w = next_as most number w (settled_as most) (nat_lt number (length w.sent))
 

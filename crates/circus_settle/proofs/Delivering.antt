@@ -16,10 +16,10 @@ use Rattle.circus_world.specs.declared.cause.LineCause.TheVariants.{NoDatagram}
 use Rattle.circus_world.specs.declared.sent.Sent.{Sent}
 use Rattle.circus_world.specs.WorldState.{WorldState, Standing, is_live}
 use Rattle.circus_world.specs.Legal.{refusal}
-use Rattle.circus_world.specs.Course.{Stepped, sent_by, passed, concluded, comes_to, delivered, stepped}
+use Rattle.circus_world.specs.Course.{Stepped, sent_by, pass_step, conclude_step, comes_to, deliver_sent, step_line}
 use Rattle.circus_settle.specs.declared.settling.SettleFault.{SettleFault}
 use Rattle.circus_settle.specs.declared.settling.SettleFault.TheVariants as fault
-use Rattle.circus_settle.specs.Settled.{Settling, then_settled, settled}
+use Rattle.circus_settle.specs.Settled.{Settling, then_settled, settle_world}
 use Rattle.circus_settle.specs.Answers.{IsSettled}
 use Rattle.circus_settle.specs.Seen.Stepping.{ComesTo}
 
@@ -37,7 +37,7 @@ module _ {M : Type 0} where
   still : (w : WorldState M) → Keeps w w
   still w = record { steps = omega arith; sent = omega arith }
 
-  concluded_keeps : (node : ℕ) (s : Standing M) (w : WorldState M) (end : node_step.Ended M) → KeepsIfOk w (concluded node s w end)
+  concluded_keeps : (node : ℕ) (s : Standing M) (w : WorldState M) (end : node_step.Ended M) → KeepsIfOk w (conclude_step node s w end)
   concluded_keeps node s w (Ok ended) =
       record { steps = omega arith; sent = omega (arith, length-append w.sent (map (sent_by (w.steps + 1) node) ended.1.gives)) }
   concluded_keeps node s w (Err peer) = tt
@@ -58,25 +58,25 @@ module _ {M : Type 0} (declared : M → Signature) (turn : M → List ValueTree 
   comes_keeps : (node : ℕ) (event : Event) (w : WorldState M) → KeepsIfOk w (comes_to declared turn node event w)
   comes_keeps node event w = by_option (slice_get w.nodes node)
     where
-      by_option : (o : Option (Standing M)) → KeepsIfOk w (option_map_or (λ s. concluded node s w (node_step.stepped declared turn (w.steps + 1) event s.node)) o (Ok w))
+      by_option : (o : Option (Standing M)) → KeepsIfOk w (option_map_or (λ s. conclude_step node s w (node_step.step_node declared turn (w.steps + 1) event s.node)) o (Ok w))
       by_option None = still w
-      by_option (Some s) = concluded_keeps node s w (node_step.stepped declared turn (w.steps + 1) event s.node)
+      by_option (Some s) = concluded_keeps node s w (node_step.step_node declared turn (w.steps + 1) event s.node)
 
-  sent_keeps : (sent : Sent) (w : WorldState M) → KeepsIfOk w (delivered declared turn sent w)
+  sent_keeps : (sent : Sent) (w : WorldState M) → KeepsIfOk w (deliver_sent declared turn sent w)
   sent_keeps sent w = by_test (is_live w sent.to)
     where
-      by_test : (live : Bool) → KeepsIfOk w (if live then comes_to declared turn sent.to (comes.Datagram sent.from sent.bytes) w else Ok (passed w))
+      by_test : (live : Bool) → KeepsIfOk w (if live then comes_to declared turn sent.to (comes.Datagram sent.from sent.bytes) w else Ok (pass_step w))
       by_test true = comes_keeps sent.to (comes.Datagram sent.from sent.bytes) w
       by_test false = record { steps = omega arith; sent = omega arith }
 
-  delivery_keeps : (number : ℕ) (w : WorldState M) → KeepsIfOk w (stepped declared turn (Deliver number) w)
+  delivery_keeps : (number : ℕ) (w : WorldState M) → KeepsIfOk w (step_line declared turn (Deliver number) w)
   delivery_keeps number w = by_option (slice_get w.sent number)
     where
-      by_option : (o : Option Sent) → KeepsIfOk w (option_map_or (λ sent. delivered declared turn sent w) o (Ok w))
+      by_option : (o : Option Sent) → KeepsIfOk w (option_map_or (λ sent. deliver_sent declared turn sent w) o (Ok w))
       by_option None = still w
       by_option (Some sent) = sent_keeps sent w
 
-  pub kept : (number : ℕ) (w next : WorldState M) → stepped declared turn (Deliver number) w ≡ Ok next → Keeps w next
+  pub kept : (number : ℕ) (w next : WorldState M) → step_line declared turn (Deliver number) w ≡ Ok next → Keeps w next
   kept number w next is = subst (λ (e : Stepped M). KeepsIfOk w e) is (delivery_keeps number w)
 
   -- ---- the deliveries that are left
@@ -84,23 +84,23 @@ module _ {M : Type 0} (declared : M → Signature) (turn : M → List ValueTree 
   -- the next one, where there is one
   abbrev next_of : ℕ → ℕ → WorldState M → Bool → Settling M
   next_of left number w some =
-      if some then then_settled (settled declared turn left (number + 1)) (stepped declared turn (Deliver number) w) else Ok (record { world = w; given = number })
+      if some then then_settled (settle_world declared turn left (number + 1)) (step_line declared turn (Deliver number) w) else Ok (record { world = w; given = number })
 
-  pub behind_next : (left number : ℕ) (w : WorldState M) (e : Stepped M) → number < length w.sent → stepped declared turn (Deliver number) w ≡ e
-      → settled declared turn (suc left) number w ≡ then_settled (settled declared turn left (number + 1)) e
+  pub behind_next : (left number : ℕ) (w : WorldState M) (e : Stepped M) → number < length w.sent → step_line declared turn (Deliver number) w ≡ e
+      → settle_world declared turn (suc left) number w ≡ then_settled (settle_world declared turn left (number + 1)) e
   behind_next left number w e below is =
-      ap (next_of left number w) (lt-ltb number (length w.sent) below) ∙ ap (then_settled (settled declared turn left (number + 1))) is
+      ap (next_of left number w) (lt-ltb number (length w.sent) below) ∙ ap (then_settled (settle_world declared turn left (number + 1))) is
 
-  pub goes_on : (left number : ℕ) (w next : WorldState M) (whole : Settling M) → number < length w.sent → stepped declared turn (Deliver number) w ≡ Ok next
-      → settled declared turn (suc left) number w ≡ whole → settled declared turn left (number + 1) next ≡ whole
+  pub goes_on : (left number : ℕ) (w next : WorldState M) (whole : Settling M) → number < length w.sent → step_line declared turn (Deliver number) w ≡ Ok next
+      → settle_world declared turn (suc left) number w ≡ whole → settle_world declared turn left (number + 1) next ≡ whole
   goes_on left number w next whole below is same = sym (behind_next left number w (Ok next) below is) ∙ same
 
   pub ends : (P : Type 0) (left number : ℕ) (w : WorldState M) (most : ℕ) (begun : WorldState M) (fault : SettleFault) → number < length w.sent
-      → ComesTo (Err fault) (stepped declared turn (Deliver number) w)
-      → settled declared turn (suc left) number w ≡ settled declared turn most 0 begun → IsSettled declared turn {P = P} most begun (Err fault)
+      → ComesTo (Err fault) (step_line declared turn (Deliver number) w)
+      → settle_world declared turn (suc left) number w ≡ settle_world declared turn most 0 begun → IsSettled declared turn {P = P} most begun (Err fault)
   ends P left number w most begun (fault.Spent node peer) below comes same = sym same ∙ behind_next left number w (Err (node, peer)) below comes
   ends P left number w most begun fault.NoMemory below comes same = tt
 
   -- none is left
-  pub stops : (left number : ℕ) (w : WorldState M) → length w.sent ≤ number → settled declared turn (suc left) number w ≡ Ok (record { world = w; given = number })
+  pub stops : (left number : ℕ) (w : WorldState M) → length w.sent ≤ number → settle_world declared turn (suc left) number w ≡ Ok (record { world = w; given = number })
   stops left number w none = ap (next_of left number w) (le-ltb number (length w.sent) none)

@@ -8,7 +8,7 @@ use Rattle.circus_world.specs.WorldState.{WorldState}
 use Rattle.circus_settle.specs.declared.settling.Settled.{Settled}
 use Rattle.circus_settle.specs.declared.settling.SettleFault.{SettleFault}
 use Rattle.circus_settle.specs.declared.settling.SettleFault.TheVariants as fault
-use Rattle.circus_settle.specs.Settled.{settled, HasSettled}
+use Rattle.circus_settle.specs.Settled.{settle_world, HasSettled}
 
 module _ {M : Type 0} (declared : M → Signature)
     (turn : M → List ValueTree → ℕ → List ValueTree → List Outcome → NextTurn) where
@@ -17,5 +17,5 @@ module _ {M : Type 0} (declared : M → Signature)
   IsSettled most w (Ok done) =
       HasSettled declared turn most w (record { world = done.world; given = done.given })
       × (done.left ≡ length done.world.sent - done.given)
-  IsSettled most w (Err (fault.Spent node peer)) = settled declared turn most 0 w ≡ Err (node, peer)
+  IsSettled most w (Err (fault.Spent node peer)) = settle_world declared turn most 0 w ≡ Err (node, peer)
   IsSettled most w (Err fault.NoMemory) = Unit {0}

@@ -7,7 +7,7 @@ use Rattle.circus_model.specs.declared.signature.Signature.{Signature}
 use Rattle.circus_schedule.specs.declared.line.Line.{Line}
 use Rattle.circus_schedule.specs.declared.line.Line.TheVariants.{Deliver}
 use Rattle.circus_world.specs.WorldState.{WorldState}
-use Rattle.circus_world.specs.Course.{Stepped, stepped}
+use Rattle.circus_world.specs.Course.{Stepped, step_line}
 
 -- the lines that deliver so many datagrams, the first of which has this number
 abbrev pub deliveries_from : ℕ → ℕ → List Line
@@ -35,13 +35,13 @@ then_settled others (Err spent) = Err spent
 module _ {M : Type 0} (declared : M → Signature)
     (turn : M → List ValueTree → ℕ → List ValueTree → List Outcome → NextTurn) where
   -- so many deliveries at most, where those before this number were delivered
-  abbrev pub settled : ℕ → ℕ → WorldState M → Settling M
-  settled zero number w = Ok (record { world = w; given = number })
-  settled (suc most) number w =
+  abbrev pub settle_world : ℕ → ℕ → WorldState M → Settling M
+  settle_world zero number w = Ok (record { world = w; given = number })
+  settle_world (suc most) number w =
       if nat_lt number (length w.sent) then
-      then_settled (settled most (number + 1)) (stepped declared turn (Deliver number) w)
+      then_settled (settle_world most (number + 1)) (step_line declared turn (Deliver number) w)
       else Ok (record { world = w; given = number })
 
   -- at most so many deliveries, from the first datagram on, come to this
   abbrev pub HasSettled : ℕ → WorldState M → Delivered M → Type 0
-  HasSettled most w done = settled most 0 w ≡ Ok done
+  HasSettled most w done = settle_world most 0 w ≡ Ok done

@@ -7,14 +7,14 @@ ghost use Rattle.circus_model.specs.Execution.{history_of};
 ghost use Rattle.circus_alike.specs.Alike.{declared_of, turn_of};
 ghost use Rattle.circus_record.specs.Naming.{Names};
 ghost use Rattle.circus_world.specs.WorldState.{WorldState};
-ghost use Rattle.circus_world.specs.Course.{stepped};
+ghost use Rattle.circus_world.specs.Course.{step_line};
 ghost use Rattle.circus_world.specs.Lines.{Lead};
 ghost use Rattle.circus_world.specs.Alike.{world_as};
 ghost use Rattle.circus_world_theory.specs.Worlds.{IsWorldOf};
 ghost use Rattle.circus_world_theory.specs.Done.{AskEnough, RootsAreDone};
 ghost use Rattle.circus_world_theory.specs.Enough.{all_segments};
 ghost use Rattle.circus_world_theory.specs.Quiet.{IsQuiet};
-ghost use Rattle.circus_settle.specs.Settled.{Delivered, first_deliveries, settled, HasSettled};
+ghost use Rattle.circus_settle.specs.Settled.{Delivered, first_deliveries, settle_world, HasSettled};
 ghost use Rattle.circus_settle.specs.Summary.{settled_text};
 ghost use Rattle.circus_settle.specs.Alike.{settling_as};
 
@@ -47,11 +47,11 @@ pub fn settled_worlds_are_led_to<M: Module>()
 /// be.
 pub fn settling_ends_as_steps_do<M: Module>()
     ensures { (most : ℕ) (world : WorldState M) (nodes : ℕ × ℕ)
-        → settled M.declared M.turn most 0 world ≡ Err nodes
+        → settle_world M.declared M.turn most 0 world ≡ Err nodes
         → (given : ℕ) × (last : WorldState M) × (given < most)
         × Lead M.declared M.turn (first_deliveries given) world last
         × (given < length last.sent)
-        × (stepped M.declared M.turn (Deliver given) last ≡ Err nodes) }
+        × (step_line M.declared M.turn (Deliver given) last ≡ Err nodes) }
 {}
 
 /// Of a world that has just booted, twice as many deliveries as the messages of the program's
@@ -75,8 +75,8 @@ pub fn enough_deliveries_leave_nothing<M: Module>()
 /// of it.
 pub fn settling_depends_on_behaviours<M: Module>()
     ensures worlds { (most : ℕ) (world : WorldState M)
-        → settling_as M.declared M.turn M.first (settled M.declared M.turn most 0 world)
-        ≡ settled declared_of turn_of most 0 (world_as M.declared M.turn M.first world) }
+        → settling_as M.declared M.turn M.first (settle_world M.declared M.turn most 0 world)
+        ≡ settle_world declared_of turn_of most 0 (world_as M.declared M.turn M.first world) }
     ensures texts { (names : Names) (given : ℕ) (world : WorldState M)
         → settled_text names given (world_as M.declared M.turn M.first world)
         ≡ settled_text names given world }

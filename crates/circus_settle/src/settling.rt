@@ -1,7 +1,7 @@
 // A simulation whose datagrams are delivered in the order of sending.
 ghost use Rattle.std.specs.Prelude.{◌≡◌, ◌+◌, ◌<◌, ◌≤◌, length, IfOk};
 ghost use Rattle.circus_world.specs.Legal.{refusal};
-ghost use Rattle.circus_world.specs.Course.{stepped};
+ghost use Rattle.circus_world.specs.Course.{step_line};
 ghost use Rattle.circus_world.specs.Lines.{Lead};
 ghost use Rattle.circus_world_theory.specs.Done.{EndsEveryRoot};
 ghost use Rattle.circus_settle.specs.Settled.{first_deliveries};
@@ -83,7 +83,7 @@ fn deliver<M: Module>(mut world: World<M>, deliveries: u64) -> Result<Settled<M>
 fn step<M: Module>(world: World<M>, number: u64) -> Result<World<M>, SettleFault>
     requires few { world.steps < 18446744073709551615 }
     requires legal { refusal world (Line.Deliver number) ≡ None }
-    ensures { ComesTo result (stepped M.declared M.turn (Line.Deliver number) world) }
+    ensures { ComesTo result (step_line M.declared M.turn (Line.Deliver number) world) }
 {
     match world.step(&Line::Deliver(number)) {
         Ok(world) => Ok(world),

@@ -20,7 +20,7 @@ use Rattle.circus_world.specs.Alike.{world_as, step_as}
 use Rattle.circus_world.proofs.WorldsAlike.{all_booted_as}
 use Rattle.circus_config.specs.declared.plan.Plan.{Plan}
 use Rattle.circus_load.specs.Loaded.{behaviours_in, hosted_by}
-use Rattle.circus_simulated.specs.Booted.{booted}
+use Rattle.circus_simulated.specs.Booted.{boot_world}
 
 module _ {M : Type 0} (declared : M → Signature) (turn : M → List ValueTree → ℕ → List ValueTree → List Outcome → NextTurn) (first : M → List ValueTree) where
   abbrev does : M → Behaviour
@@ -53,18 +53,18 @@ module _ {M : Type 0} (declared : M → Signature) (turn : M → List ValueTree 
 
   -- the world of a plan whose modules these are
   booted_as : (plan : Plan) (d : Deployment) (modules : List M) (hosted : List (Option M)) → d ≡ plan.deployment → behaviours declared turn first modules ≡ behaviours_in plan
-      → AreHosted declared turn first d modules hosted → step_as declared turn first (all_booted declared turn first hosted (before_any d modules)) ≡ booted plan
+      → AreHosted declared turn first d modules hosted → step_as declared turn first (all_booted declared turn first hosted (before_any d modules)) ≡ boot_world plan
   booted_as plan d modules hosted same behave are =
       all_as d modules hosted are
       ∙ (λ i. all_booted declared_of turn_of first_of (map (hosted_by (behave i)) (same i).nodes) (before_any (same i) (behave i)))
 
   pub world_booted : (plan : Plan) (d : Deployment) (modules : List M) (w : WorldState M) → d ≡ plan.deployment → behaviours declared turn first modules ≡ behaviours_in plan
-      → IsBooted declared turn first d modules (Ok w) → booted plan ≡ Ok (world_as declared turn first w)
+      → IsBooted declared turn first d modules (Ok w) → boot_world plan ≡ Ok (world_as declared turn first w)
   world_booted plan d modules w same behave (hosted, are, is) = sym (booted_as plan d modules hosted same behave are) ∙ ap (step_as declared turn first) is
 
   pub none_booted : (plan : Plan) (d : Deployment) (modules : List M) (fault : BootFault) (node peer : ℕ) → d ≡ plan.deployment → behaviours declared turn first modules ≡ behaviours_in plan
-      → fault ≡ boot_fault.Spent node peer → IsBooted declared turn first d modules (Err fault) → booted plan ≡ Err (node, peer)
+      → fault ≡ boot_fault.Spent node peer → IsBooted declared turn first d modules (Err fault) → boot_world plan ≡ Err (node, peer)
   none_booted plan d modules fault node peer same behave fault_is booted_is = by_boot (subst (λ (f : BootFault). IsBooted declared turn first d modules (Err f)) fault_is booted_is)
     where
-      by_boot : IsBooted declared turn first d modules (Err (boot_fault.Spent node peer)) → booted plan ≡ Err (node, peer)
+      by_boot : IsBooted declared turn first d modules (Err (boot_fault.Spent node peer)) → boot_world plan ≡ Err (node, peer)
       by_boot (hosted, are, is) = sym (booted_as plan d modules hosted same behave are) ∙ ap (step_as declared turn first) is

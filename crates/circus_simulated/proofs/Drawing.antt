@@ -10,14 +10,14 @@ use Rattle.circus_schedule.specs.declared.line.Line.{Line}
 use Rattle.circus_schedule.specs.ScheduleText.{IsShort}
 use Rattle.circus_world.specs.WorldState.{WorldState}
 use Rattle.circus_world.specs.Alike.{world_as, step_as}
-use Rattle.circus_sample.specs.Sampled.{lines_behind, sampled, lines_drawn}
+use Rattle.circus_sample.specs.Sampled.{lines_behind, sample_lines, lines_drawn}
 use Rattle.circus_sample.proofs.SamplesAlike.{sampled_as, lines_drawn_as}
 use Rattle.circus_config.specs.declared.plan.Plan.{Plan}
 use Rattle.circus_ending.specs.declared.ending.Ending as coded
 use Rattle.circus_ending.specs.declared.status.Status.TheVariants.{Done, Spent}
-use Rattle.circus_ending.specs.Spent.{spent}
-use Rattle.circus_simulated.specs.Booted.{booted, names_in, after_step}
-use Rattle.circus_simulated.specs.Schedule.{lines_in, lines_of_sample, drawn, schedule_in, schedule_of}
+use Rattle.circus_ending.specs.Spent.{end_of_spent}
+use Rattle.circus_simulated.specs.Booted.{boot_world, names_in, after_step}
+use Rattle.circus_simulated.specs.Schedule.{lines_in, lines_of_sample, end_of_drawing, schedule_in, schedule_of}
 use Rattle.circus_simulated.specs.declared.simulated.Simulated.{Simulated}
 use Rattle.circus_simulated.specs.Seen.Simulated.{world_of, IsOfPlan}
 
@@ -31,33 +31,33 @@ module _ {M : Type 0} (declared : M → Signature) (turn : M → List ValueTree 
 
   -- what comes of them where all were stepped
   pub lines_to_end : (hosts : List Host) (modules : List (List ℕ)) (seed steps : ℕ) (w last : WorldState M) (lines : List Line)
-      → lines ≡ lines_drawn declared turn steps seed w → sampled declared turn steps seed w ≡ Ok last
-      → drawn (names_of hosts []) lines ≡ schedule_in (names_of hosts modules) seed steps (world_as declared turn first w)
+      → lines ≡ lines_drawn declared turn steps seed w → sample_lines declared turn steps seed w ≡ Ok last
+      → end_of_drawing (names_of hosts []) lines ≡ schedule_in (names_of hosts modules) seed steps (world_as declared turn first w)
   lines_to_end hosts modules seed steps w last lines is all =
       let names = names_of hosts modules in
       let seen = world_as declared turn first w in
-      ap (drawn names) (lines_as seed steps w lines is)
-      ∙ ap (after_step names (λ after. drawn names (lines_in seed steps seen)))
+      ap (end_of_drawing names) (lines_as seed steps w lines is)
+      ∙ ap (after_step names (λ after. end_of_drawing names (lines_in seed steps seen)))
       (sym (ap (step_as declared turn first) all) ∙ sampled_as declared turn first steps seed w)
 
   -- and where a node has no number left
   pub lines_to_spent : (hosts : List Host) (modules : List (List ℕ)) (seed steps : ℕ) (w : WorldState M) (nodes : ℕ × ℕ)
-      → sampled declared turn steps seed w ≡ Err nodes
-      → spent (names_of hosts []) nodes ≡ schedule_in (names_of hosts modules) seed steps (world_as declared turn first w)
+      → sample_lines declared turn steps seed w ≡ Err nodes
+      → end_of_spent (names_of hosts []) nodes ≡ schedule_in (names_of hosts modules) seed steps (world_as declared turn first w)
   lines_to_spent hosts modules seed steps w nodes is =
       let names = names_of hosts modules in
       let seen = world_as declared turn first w in
-      ap (after_step names (λ after. drawn names (lines_in seed steps seen)))
+      ap (after_step names (λ after. end_of_drawing names (lines_in seed steps seen)))
       (sym (ap (step_as declared turn first) is) ∙ sampled_as declared turn first steps seed w)
 
 -- ---- of a plan
 
-pub schedule_booted : (plan : Plan) (s : Simulated) (seed steps : ℕ) → IsOfPlan plan s → booted plan ≡ Ok (world_of s.world)
+pub schedule_booted : (plan : Plan) (s : Simulated) (seed steps : ℕ) → IsOfPlan plan s → boot_world plan ≡ Ok (world_of s.world)
     → schedule_in (names_of s.hosts s.names) seed steps (world_of s.world) ≡ schedule_of plan seed steps
 schedule_booted plan s seed steps of is =
     (λ i. schedule_in (names_of (of.hosts i) (of.names i)) seed steps (world_of s.world)) ∙ ap (after_step (names_in plan) (schedule_in (names_in plan) seed steps)) (sym is)
 
-pub lines_booted : (plan : Plan) (s : Simulated) (seed steps : ℕ) → booted plan ≡ Ok (world_of s.world)
+pub lines_booted : (plan : Plan) (s : Simulated) (seed steps : ℕ) → boot_world plan ≡ Ok (world_of s.world)
     → lines_in seed steps (world_of s.world) ≡ lines_of_sample plan seed steps
 lines_booted plan s seed steps is = ap (lines_behind (lines_in seed steps)) (sym is)
 

@@ -15,7 +15,7 @@ use Rattle.circus_schedule.specs.declared.line.Line.{Line}
 use Rattle.circus_schedule.specs.declared.line.Line.TheVariants.{Deliver, Tick, Crash, Down, Join}
 use Rattle.circus_world.specs.declared.sent.Sent.{Sent}
 use Rattle.circus_world.specs.WorldState.{WorldState, Standing, is_live}
-use Rattle.circus_world.specs.Course.{Stepped, passed, noted, told_to_join, concluded, comes_to, delivered, stepped}
+use Rattle.circus_world.specs.Course.{Stepped, pass_step, noted, told_to_join, conclude_step, comes_to, deliver_sent, step_line}
 use Rattle.circus_world.specs.Boot.{before_any, joined_by, then_others, all_booted}
 use Rattle.circus_world.proofs.SoundLemmas.{noted_length}
 
@@ -31,13 +31,13 @@ module _ {M : Type 0} where
   KeepsIfOk w (Ok next) = Keeps w next
   KeepsIfOk w (Err nodes) = Unit {0}
 
-  passed_keeps : (w : WorldState M) → Keeps w (passed w)
+  passed_keeps : (w : WorldState M) → Keeps w (pass_step w)
   passed_keeps w = record { deployment = refl; nodes = refl; steps = omega arith }
 
   still : (w : WorldState M) → Keeps w w
   still w = record { deployment = refl; nodes = refl; steps = omega arith }
 
-  concluded_keeps : (node : ℕ) (s : Standing M) (w : WorldState M) (end : node_step.Ended M) → KeepsIfOk w (concluded node s w end)
+  concluded_keeps : (node : ℕ) (s : Standing M) (w : WorldState M) (end : node_step.Ended M) → KeepsIfOk w (conclude_step node s w end)
   concluded_keeps node s w (Ok ended) = record { deployment = refl; nodes = length-set w.nodes node (record s { node = ended.0 }); steps = omega arith }
   concluded_keeps node s w (Err peer) = tt
 
@@ -73,21 +73,21 @@ module _ {M : Type 0} (declared : M → Signature) (turn : M → List ValueTree 
   comes_keeps : (node : ℕ) (event : Event) (w : WorldState M) → KeepsIfOk w (comes_to declared turn node event w)
   comes_keeps node event w = by_option (slice_get w.nodes node)
     where
-      by_option : (o : Option (Standing M)) → KeepsIfOk w (option_map_or (λ s. concluded node s w (node_step.stepped declared turn (w.steps + 1) event s.node)) o (Ok w))
+      by_option : (o : Option (Standing M)) → KeepsIfOk w (option_map_or (λ s. conclude_step node s w (node_step.step_node declared turn (w.steps + 1) event s.node)) o (Ok w))
       by_option None = still w
-      by_option (Some s) = concluded_keeps node s w (node_step.stepped declared turn (w.steps + 1) event s.node)
+      by_option (Some s) = concluded_keeps node s w (node_step.step_node declared turn (w.steps + 1) event s.node)
 
-  delivered_keeps : (sent : Sent) (w : WorldState M) → KeepsIfOk w (delivered declared turn sent w)
+  delivered_keeps : (sent : Sent) (w : WorldState M) → KeepsIfOk w (deliver_sent declared turn sent w)
   delivered_keeps sent w = by_test (is_live w sent.to)
     where
-      by_test : (b : Bool) → KeepsIfOk w (if b then comes_to declared turn sent.to (comes.Datagram sent.from sent.bytes) w else Ok (passed w))
+      by_test : (b : Bool) → KeepsIfOk w (if b then comes_to declared turn sent.to (comes.Datagram sent.from sent.bytes) w else Ok (pass_step w))
       by_test true = comes_keeps sent.to (comes.Datagram sent.from sent.bytes) w
       by_test false = passed_keeps w
 
-  pub line_keeps : (line : Line) (w : WorldState M) → KeepsIfOk w (stepped declared turn line w)
+  pub line_keeps : (line : Line) (w : WorldState M) → KeepsIfOk w (step_line declared turn line w)
   line_keeps (Deliver number) w = by_option (slice_get w.sent number)
     where
-      by_option : (o : Option Sent) → KeepsIfOk w (option_map_or (λ sent. delivered declared turn sent w) o (Ok w))
+      by_option : (o : Option Sent) → KeepsIfOk w (option_map_or (λ sent. deliver_sent declared turn sent w) o (Ok w))
       by_option None = still w
       by_option (Some sent) = delivered_keeps sent w
   line_keeps (Tick node) w = comes_keeps node comes.Tick w
@@ -96,14 +96,14 @@ module _ {M : Type 0} (declared : M → Signature) (turn : M → List ValueTree 
   line_keeps (Join node) w =
       noted_before (λ s. record s { joins = true }) node w (comes_to declared turn node comes.Join (told_to_join node w)) (comes_keeps node comes.Join (told_to_join node w))
 
-  pub stepped_keeps : (line : Line) (w next : WorldState M) → stepped declared turn line w ≡ Ok next → Keeps w next
+  pub stepped_keeps : (line : Line) (w next : WorldState M) → step_line declared turn line w ≡ Ok next → Keeps w next
   stepped_keeps line w next is = subst (KeepsIfOk w) is (line_keeps line w)
 
 module _ {M : Type 0} (declared : M → Signature) (turn : M → List ValueTree → ℕ → List ValueTree → List Outcome → NextTurn) (first : M → List ValueTree) where
   all_join : (hosted : List (Option M)) (w : WorldState M) → JoinIfOk (length hosted) w (all_booted declared turn first hosted w)
   all_join [] w = record { deployment = refl; nodes = omega arith; steps = refl }
   all_join (h ∷ others) w =
-      by_step (joined_by w (booting.booted declared turn first w.deployment h (length w.nodes))) (λ next. all_join others next) (joined_one w (booting.booted declared turn first w.deployment h (length w.nodes)))
+      by_step (joined_by w (booting.boot_node declared turn first w.deployment h (length w.nodes))) (λ next. all_join others next) (joined_one w (booting.boot_node declared turn first w.deployment h (length w.nodes)))
     where
       by_step : (s : Stepped M) → ((next : WorldState M) → JoinIfOk (length others) next (all_booted declared turn first others next)) → JoinIfOk 1 w s
           → JoinIfOk (length (h ∷ others)) w (then_others (all_booted declared turn first others) s)

@@ -8,11 +8,11 @@ use Rattle.circus_world.specs.WorldState.{WorldState}
 use Rattle.circus_world.specs.Course.{Stepped}
 use Rattle.circus_world.specs.Boot.{before_any, all_booted}
 use Rattle.circus_ending.specs.Ending.{Ending}
-use Rattle.circus_ending.specs.Spent.{spent}
+use Rattle.circus_ending.specs.Spent.{end_of_spent}
 
 -- by what its modules do
-abbrev pub booted : Plan → Stepped Behaviour
-booted plan =
+abbrev pub boot_world : Plan → Stepped Behaviour
+boot_world plan =
     all_booted (λ b. b.declared) (λ b. b.turn) (λ b. b.first) (map (hosted_by (behaviours_in plan)) plan.deployment.nodes)
     (before_any plan.deployment (behaviours_in plan))
 
@@ -23,4 +23,4 @@ names_in plan = names_of plan.deployment.nodes plan.names
 -- what comes after a step, unless a node has no number left
 abbrev pub after_step : {M : Type 0} → Names → (WorldState M → Ending) → Stepped M → Ending
 after_step names next (Ok w) = next w
-after_step names next (Err nodes) = spent names nodes
+after_step names next (Err nodes) = end_of_spent names nodes

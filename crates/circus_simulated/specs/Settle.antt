@@ -6,12 +6,12 @@ use Rattle.circus_record.specs.Line.{line}
 use Rattle.circus_record.specs.Naming.{Names}
 use Rattle.circus_config.specs.declared.plan.Plan.{Plan}
 use Rattle.circus_world.specs.WorldState.{WorldState}
-use Rattle.circus_settle.specs.Settled.{Delivered, Settling, settled}
+use Rattle.circus_settle.specs.Settled.{Delivered, Settling, settle_world}
 use Rattle.circus_settle.specs.Summary.{settled_text}
 use Rattle.circus_ending.specs.declared.status.Status.TheVariants.{Done, Unsettled}
 use Rattle.circus_ending.specs.Ending.{Ending}
-use Rattle.circus_ending.specs.Spent.{spent}
-use Rattle.circus_simulated.specs.Booted.{booted, names_in, after_step}
+use Rattle.circus_ending.specs.Spent.{end_of_spent}
+use Rattle.circus_simulated.specs.Booted.{boot_world, names_in, after_step}
 
 -- some of the datagrams that were sent are left
 abbrev pub budget : ℕ → ℕ → Ending
@@ -27,12 +27,12 @@ module _ {M : Type 0} where
   -- unless a node has no number left
   abbrev pub after_settling : Names → ℕ → Settling M → Ending
   after_settling names deliveries (Ok done) = settled_end names deliveries done
-  after_settling names deliveries (Err nodes) = spent names nodes
+  after_settling names deliveries (Err nodes) = end_of_spent names nodes
 
 -- so many deliveries at most
 abbrev pub settle_in : Names → ℕ → WorldState Behaviour → Ending
-settle_in names deliveries w = after_settling names deliveries (settled (λ b. b.declared) (λ b. b.turn) deliveries 0 w)
+settle_in names deliveries w = after_settling names deliveries (settle_world (λ b. b.declared) (λ b. b.turn) deliveries 0 w)
 
 -- from boot on
 abbrev pub settle_of : Plan → ℕ → Ending
-settle_of plan deliveries = after_step (names_in plan) (settle_in (names_in plan) deliveries) (booted plan)
+settle_of plan deliveries = after_step (names_in plan) (settle_in (names_in plan) deliveries) (boot_world plan)

@@ -12,7 +12,7 @@ ghost use Rattle.circus_simulated.specs.Seen.Simulated.{world_of, IsFresh};
 use crate::{Simulated, boot_plan};
 use circus_collate::Hosts;
 use circus_config::Plan;
-use circus_ending::{Ending, Status, spent};
+use circus_ending::{Ending, Status, end_of_spent};
 use circus_record::ProgramNames;
 use circus_sample::{SampleFault, sample_lines, show_lines};
 use circus_schedule::Lines;
@@ -57,17 +57,17 @@ fn draw_world(
         names: _,
     } = simulated;
     match sample_lines(alloc, world, seed, steps) {
-        Ok(lines) => drawn(alloc, &hosts, &lines),
+        Ok(lines) => end_of_drawing(alloc, &hosts, &lines),
         Err(SampleFault::NoMemory) => Err(AllocError),
-        Err(SampleFault::Spent(node, peer)) => spent(alloc, &hosts, node, peer),
+        Err(SampleFault::Spent(node, peer)) => end_of_spent(alloc, &hosts, node, peer),
     }
 }
 
 // The end whose text is that of lines.
-fn drawn(alloc: Global, hosts: &Hosts, lines: &Lines) -> Result<Ending, NoMemory>
+fn end_of_drawing(alloc: Global, hosts: &Hosts, lines: &Lines) -> Result<Ending, NoMemory>
     requires { All (λ h. IsAscii (host_name h)) hosts.now }
     ensures ending { IfOk result (λ ending. ending_of ending
-        ≡ drawing.drawn (names_of hosts.now []) lines.now) }
+        ≡ drawing.end_of_drawing (names_of hosts.now []) lines.now) }
     ensures status { IfOk result (λ ending. ending.status ≡ Status.Done) }
     ensures short { IfOk result (λ _. All IsShort lines.now) }
 {

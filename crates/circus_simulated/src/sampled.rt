@@ -9,7 +9,7 @@ ghost use Rattle.circus_simulated.specs.Seen.Simulated.{world_of, IsFresh};
 
 use crate::{Simulated, boot_plan};
 use circus_config::Plan;
-use circus_ending::{Ending, Status, spent};
+use circus_ending::{Ending, Status, end_of_spent};
 use circus_sample::{SampleFault, sample, show_sample};
 use circus_value::NoMemory;
 use std::alloc::{AllocError, Global};
@@ -51,6 +51,6 @@ fn sample_world(
             text: show_sample(alloc, &world, steps)?,
         }),
         Err(SampleFault::NoMemory) => Err(AllocError),
-        Err(SampleFault::Spent(node, peer)) => spent(alloc, &hosts, node, peer),
+        Err(SampleFault::Spent(node, peer)) => end_of_spent(alloc, &hosts, node, peer),
     }
 }

@@ -10,7 +10,7 @@ ghost use Rattle.circus_simulated.specs.Seen.Simulated.{world_of, IsFresh};
 
 use crate::{Simulated, boot_plan};
 use circus_config::{ModuleNames, Plan};
-use circus_ending::{Ending, Status, spent};
+use circus_ending::{Ending, Status, end_of_spent};
 use circus_machine::TextModule;
 use circus_settle::{SettleFault, Settled, settle, show_settled};
 use circus_value::NoMemory;
@@ -44,14 +44,14 @@ fn settle_world(alloc: Global, simulated: Simulated, deliveries: u32) -> Result<
         names,
     } = simulated;
     match settle(world, u64::from(deliveries)) {
-        Ok(settled) => ended(alloc, settled, deliveries, &names),
+        Ok(settled) => end_of_settling(alloc, settled, deliveries, &names),
         Err(SettleFault::NoMemory) => Err(AllocError),
-        Err(SettleFault::Spent(node, peer)) => spent(alloc, &hosts, node, peer),
+        Err(SettleFault::Spent(node, peer)) => end_of_spent(alloc, &hosts, node, peer),
     }
 }
 
 // What is written of a world in which so many datagrams were to be delivered.
-fn ended(
+fn end_of_settling(
     alloc: Global,
     settled: Settled<TextModule>,
     deliveries: u32,

@@ -1,14 +1,14 @@
 // The world of a plan at boot.
 ghost use Rattle.std.specs.Prelude.{◌≡◌, ℕ, Ok, Err, IfOk, IfErr};
 ghost use Rattle.circus_config.specs.Program.{IsPlan};
-ghost use Rattle.circus_ending.specs.Spent.{spent as spent_end};
+ghost use Rattle.circus_ending.specs.Spent.{end_of_spent as spent_end};
 ghost use Rattle.circus_ending.specs.Seen.Ending.{ending_of};
-ghost use Rattle.circus_simulated.specs.Booted.{booted, names_in};
+ghost use Rattle.circus_simulated.specs.Booted.{boot_world, names_in};
 ghost use Rattle.circus_simulated.specs.Seen.Simulated.{world_of, IsOfPlan};
 
 use circus_collate::Hosts;
 use circus_config::{ModuleNames, Plan};
-use circus_ending::{Ending, Status, spent};
+use circus_ending::{Ending, Status, end_of_spent};
 use circus_load::{Loaded, load};
 use circus_machine::TextModule;
 use circus_value::{Duplicate, NoMemory};
@@ -28,10 +28,10 @@ pub struct Simulated {
 pub fn boot_plan(alloc: Global, plan: Plan) -> Result<Result<Simulated, Ending>, NoMemory>
     requires { IsPlan plan }
     ensures world { IfOk result (λ boot. IfOk boot (λ simulated.
-        booted plan ≡ Ok (world_of simulated.world))) }
+        boot_world plan ≡ Ok (world_of simulated.world))) }
     ensures plan { IfOk result (λ boot. IfOk boot (IsOfPlan plan)) }
     ensures ended { IfOk result (λ boot. IfErr boot (λ ending.
-        (nodes : ℕ × ℕ) × (booted plan ≡ Err nodes)
+        (nodes : ℕ × ℕ) × (boot_world plan ≡ Err nodes)
         × (ending_of ending ≡ spent_end (names_in plan) nodes))) }
     ensures status { IfOk result (λ boot. IfErr boot (λ ending. ending.status ≡ Status.Spent)) }
 {
@@ -49,6 +49,6 @@ pub fn boot_plan(alloc: Global, plan: Plan) -> Result<Result<Simulated, Ending>,
             names,
         })),
         Err(BootFault::NoMemory) => Err(AllocError),
-        Err(BootFault::Spent(node, peer)) => Ok(Err(spent(alloc, &hosts, node, peer)?)),
+        Err(BootFault::Spent(node, peer)) => Ok(Err(end_of_spent(alloc, &hosts, node, peer)?)),
     }
 }

@@ -5,9 +5,9 @@ use Rattle.circus_text.specs.Token.{Lexeme}
 use Rattle.circus_syntax.specs.declared.stopping.StopCause.TheVariants.{Unexpected, TooDeep}
 use Rattle.circus_syntax.specs.Reserved.{is_reserved, reserved_words}
 use Rattle.circus_syntax.specs.declared.named.Named.{Named}
-use Rattle.circus_syntax.specs.Placed.{Placed, first, word, sign, is_lexeme, is_name, Due, due, due_at, due_name, deeper, opened, AreWithin, IsDue, AreDue}
-use Rattle.circus_syntax.specs.Reader.{Reader, passes, nothing, both, mapped, either_case, optional}
-use Rattle.circus_syntax.specs.Reading.{fixed_at, name, listed}
+use Rattle.circus_syntax.specs.Placed.{Placed, first, word, sign, is_lexeme, is_name, Due, due, due_at, due_name, deeper, open_level, AreWithin, IsDue, AreDue}
+use Rattle.circus_syntax.specs.Reader.{Reader, passes, nothing, both, map_read, either_case, optional}
+use Rattle.circus_syntax.specs.Reading.{fixed_at, name, comma_list}
 use Rattle.circus_syntax.specs.Spelling.{each, with_commas, if_written, comma, IsName, IsEach, IsListed, IfWritten}
 use Rattle.circus_syntax.proofs.Sound.{Sound, reader, AreDue-none, sound_nothing}
 use Rattle.circus_syntax.proofs.Repeats.{sound_repeated, sound_either}
@@ -15,7 +15,7 @@ use Rattle.circus_syntax.proofs.Complete.{Any, Opens, Links}
 use Rattle.circus_syntax.proofs.Tokens.{Always, spelling_fixed, is_comma, lexeme_is, is_lexeme_of, is_name_of, opens_due, opens_due_at, opens_name, shrinks_behind}
 use Rattle.circus_syntax.proofs.Levels.{levels_nothing}
 use Rattle.circus_syntax.proofs.Lawful.{Lawful, LawfulAt, Branch, sound_good, lawful_at, lawful_weaker, lawful_fixed, lawful_fixed_at, lawful_name, lawful_both, lawful_then, lawful_mapped, lawful_opened, lawful_too_deep, branch_of, lawful_cased, lawful_required, lawful_optional, lawful_repeated, lawful_behind, lawful_listed}
-use Rattle.circus_expression.specs.ExpressionReading.{required, is_bracket, read_place, list}
+use Rattle.circus_expression.specs.ExpressionReading.{expect_where, is_bracket, read_place, list}
 use Rattle.circus_expression.specs.Written.{Written, WrittenPlace, spelling, spelling_place, spelling_suffixes, spelling_list, spelling_items, written_list, IsWritten, IsPlace}
 use Rattle.circus_expression.proofs.Follows.{at, Stays, grip_of, comma_stays}
 use Rattle.circus_expression.proofs.Productions.{AreAll, name_no_sign, name_no_word}
@@ -26,7 +26,7 @@ use Rattle.circus_statement.specs.declared.starts.StatementStart.TheVariants as 
 use Rattle.circus_statement.specs.StatementTree.{CallOf, HandledOf, assign, only_then, then_else, while, append, call, return, raise, no_statements, more_statements, no_handlers, more_handlers}
 use Rattle.circus_statement.specs.WrittenStatement.{WrittenStatement, WrittenStatements, WrittenHandler, WrittenHandlers, written_statements, written_handlers, ending, spelling_places, spelling_into, spelling_handled, spelling_caught, spelling_statement, spelling_statements, spelling_listed, AreListed, ArePlaces, AreIn, IsCaught, IsStatement, AreStatements, AreHandlers}
 use Rattle.circus_statement.specs.WrittenStatement as written
-use Rattle.circus_statement.specs.StatementReading.{is_word, begins_statement, start_of_statement, ended, required_list, places_within, places, into, call_head, of_error, of_others, handled, Block, handler_with, chosen, statement_by, statement_with, opened_block, block}
+use Rattle.circus_statement.specs.StatementReading.{is_word, begins_statement, start_of_statement, list_end, required_list, places_within, places, into, call_head, of_error, of_others, handler_head, Block, handler_with, if_statement, statement_by, statement_with, opened_block, block}
 use Rattle.circus_statement.proofs.Sounding.{listed_each, spelling_head, IsHead, IsHandled, statements_spelled, each_statement, spelling_handler, IsHandler, handlers_spelled, each_handler, SoundBlock, shrinks_handler, spelling_else, chosen_spelled, chosen_kept, sound_statement_with, shrinks_statement_with, sound_filled_block, sound_opened_block}
 
 -- What stands behind.
@@ -69,7 +69,7 @@ no_else s = rw reserved_else refl
 -- Lists of expressions and of places.
 
 open_list : Opens spelling_list (IsEach IsWritten) is_bracket
-open_list ws ts rest good d = opens_due (sign (codes "[")) (opened (spelling_items (written_list ws) ++ due (sign (codes "]")) ∷ [])) ts rest d
+open_list ws ts rest good d = opens_due (sign (codes "[")) (open_level (spelling_items (written_list ws) ++ due (sign (codes "]")) ∷ [])) ts rest d
 
 lawful_list_at : (n m : ℕ) → suc n < m → LawfulAt is_bracket n (list n) (list m) spelling_list (IsEach IsWritten) Any
 lawful_list_at n m above =
@@ -110,7 +110,7 @@ places_good true (p ∷ ps) is = absurd is
 places_good false ps is = listed_each ps is
 
 abbrev places_by : ℕ → Bool → Reader → List WrittenPlace × Reader
-places_by n = either_case (nothing []) (listed (read_place n))
+places_by n = either_case (nothing []) (comma_list (read_place n))
 
 name_no_closing : (t : Placed) → is_name t ≡ true → is_closing t ≡ false
 name_no_closing t hit = name_no_sign (codes "]") (Some t) hit
@@ -119,7 +119,7 @@ lawful_places_within : (n m : ℕ) → suc n < m → Lawful n (places_within n) 
 unfolding places_within
 lawful_places_within n m above = lawful_cased (passes is_closing) n (places_by n) (places_by m) PlacesAre branches lists.levels.filled places_begin
   where
-    lists : Lawful n (listed (read_place n)) (listed (read_place m)) (with_commas spelling_place) (IsListed IsPlace) Closed
+    lists : Lawful n (comma_list (read_place n)) (comma_list (read_place m)) (with_commas spelling_place) (IsListed IsPlace) Closed
     lists =
         lawful_weaker n Closed (λ o closed. (closed_along (Stays 7) (λ s. let none : grip_of (at (sign (codes "]")) s) ≡ 0 = refl in omega (arith, none)) o closed, closed_along (λ q. passes is_comma q ≡ false) (λ s. refl) o closed))
         (lawful_listed n (comma_stays 7) (places_lawful n m above))
@@ -204,18 +204,18 @@ handled_good false h (k, is, there, good, written) = caught_error h.at h.error h
 
 abbrev handled_by : ℕ → Bool → Reader → HandledOf WrittenPlace × Reader
 handled_by n =
-    either_case (mapped of_others (fixed_at (word (codes "OTHER"))))
-    (mapped (λ x. of_error x.0 x.1) (both name (optional is_bracket (places n))))
+    either_case (map_read of_others (fixed_at (word (codes "OTHER"))))
+    (map_read (λ x. of_error x.0 x.1) (both name (optional is_bracket (places n))))
 
 reserved_other : is_reserved (codes "OTHER") ≡ true
 unfolding is_reserved reserved_words
 reserved_other = refl
 
-lawful_handled : (n m : ℕ) → suc n < m → Lawful n (handled n) (handled m) spelling_handled IsHandled NoBracket
-unfolding handled
+lawful_handled : (n m : ℕ) → suc n < m → Lawful n (handler_head n) (handler_head m) spelling_handled IsHandled NoBracket
+unfolding handler_head
 lawful_handled n m above = lawful_cased (passes (is_word (codes "OTHER"))) n (handled_by n) (handled_by m) HandledIs branches errors.levels.filled handled_begins
   where
-    others : Lawful n (mapped of_others (fixed_at (word (codes "OTHER")))) (mapped of_others (fixed_at (word (codes "OTHER")))) spelling_handled (HandledIs true) NoBracket
+    others : Lawful n (map_read of_others (fixed_at (word (codes "OTHER")))) (map_read of_others (fixed_at (word (codes "OTHER")))) spelling_handled (HandledIs true) NoBracket
     others =
         lawful_weaker n NoBracket (λ o stays. tt)
         (lawful_mapped n of_others spelling_handled (HandledIs true) (λ x. refl) (λ x g. (refl, refl))
@@ -224,7 +224,7 @@ lawful_handled n m above = lawful_cased (passes (is_word (codes "OTHER"))) n (ha
         others_back : (p : ℕ) (e : Option Named) (ps : Option (List WrittenPlace)) → e ≡ None → ps ≡ None → of_others p ≡ record { at = p; error = e; places = ps }
         others_back p e ps none without = λ i. record { at = p; error = sym none i; places = sym without i }
 
-    errors : Lawful n (mapped (λ x. of_error x.0 x.1) (both name (optional is_bracket (places n)))) (mapped (λ x. of_error x.0 x.1) (both name (optional is_bracket (places m)))) spelling_handled (HandledIs false) NoBracket
+    errors : Lawful n (map_read (λ x. of_error x.0 x.1) (both name (optional is_bracket (places n)))) (map_read (λ x. of_error x.0 x.1) (both name (optional is_bracket (places m)))) spelling_handled (HandledIs false) NoBracket
     errors =
         lawful_mapped n (λ x. of_error x.0 x.1) spelling_handled (HandledIs false) (λ x. refl) (λ x g. (x.0, refl, refl, g.0, g.1))
         (λ h g. ((g.0, h.places), error_back h.at h.error h.places g.0 g.1 g.2, (g.3, g.4)))
@@ -251,8 +251,8 @@ lawful_handled n m above = lawful_cased (passes (is_word (codes "OTHER"))) n (ha
 abbrev pub LawfulBlock : ℕ → Block → Block → Type 0
 LawfulBlock n b b' = (w : List ℕ) → Lawful n (b w) (b' w) (spelling_listed w) AreListed NoStatement
 
-pub lawful_ended : (n : ℕ) → Lawful n ended ended (λ u. ending) Always Any
-unfolding ended
+pub lawful_ended : (n : ℕ) → Lawful n list_end list_end (λ u. ending) Always Any
+unfolding list_end
 lawful_ended n =
     lawful_mapped n (λ x. tt) (λ u. ending) Always (λ x. refl) (λ x g. tt) (λ u g. ((tt, tt), refl, (tt, tt)))
     (lawful_then n (lawful_fixed n (word (codes "END"))) (lawful_fixed n (sign (codes ";"))))
@@ -263,7 +263,7 @@ pub link_listed : {B : Type 0} {sb : B → List Due} (gb : B → Type 0) (kb Sta
 link_listed gb kb Stay w tail starts holds = link_first gb kb Stay (λ b. deeper (due (word w))) tail starts (λ b t g d. stays_lexeme Stay (word w) holds t d.0 d.1)
 
 abbrev pub body_of : List WrittenStatement → List Due
-body_of ss = opened (spelling_statements (written_statements ss))
+body_of ss = open_level (spelling_statements (written_statements ss))
 
 lawful_handler_with : (n m : ℕ) → suc n < m → {b b' : Block} → LawfulBlock n b b' → Lawful n (handler_with n b) (handler_with m b') spelling_handler IsHandler Any
 lawful_handler_with n m above B =
@@ -327,7 +327,7 @@ statement_good begins.Return (return p es) g = g
 statement_good begins.Raise (raise p k es) g = g
 statement_good _ _ g = absurd g
 
-chosen_is : (p : ℕ) (e : Written) (ss : List WrittenStatement) (o : Option (List WrittenStatement)) → IsStatement (chosen p e ss o) → StatementIs begins.If (chosen p e ss o)
+chosen_is : (p : ℕ) (e : Written) (ss : List WrittenStatement) (o : Option (List WrittenStatement)) → IsStatement (if_statement p e ss o) → StatementIs begins.If (if_statement p e ss o)
 chosen_is p e ss None g = g
 chosen_is p e ss (Some os) g = g
 
@@ -349,7 +349,7 @@ assign_back (assign p q e) g = ((q, (tt, (e, tt))), ap (λ i. assign i q e) (sym
 assign_back _ g = absurd g
 
 if_back : (s : WrittenStatement) → StatementIs begins.If s
-    → (x : Parts begins.If) × (chosen x.0 x.1.0 x.1.1.0 x.1.1.1.0 ≡ s) × (Unit {0} × (IsWritten x.1.0 × (AreListed x.1.1.0 × (IfWritten AreListed x.1.1.1.0 × Unit {0}))))
+    → (x : Parts begins.If) × (if_statement x.0 x.1.0 x.1.1.0 x.1.1.1.0 ≡ s) × (Unit {0} × (IsWritten x.1.0 × (AreListed x.1.1.0 × (IfWritten AreListed x.1.1.1.0 × Unit {0}))))
 if_back (only_then p e ss) g =
     ((p, (e, (statement_list ss, (None, tt)))), ap (only_then p e) (statement_list_is ss), (tt, (g.0, (statement_list_good ss g.1, (tt, tt)))))
 if_back (then_else p e ss os) g =
@@ -403,7 +403,7 @@ lawful_statement_by n m above B begins.Assign =
     (lawful_then n (lawful_fixed n (sign (codes ":="))) (lawful_both n (expressions_lawful n m above) (lawful_fixed n (sign (codes ";"))) (link_due _ Any (Stays 0) (sign (codes ";")) (λ u. []) (λ u. refl) (loose 0 (sign (codes ";")) (λ s. refl)))))
     (link_due _ Any (Stays 7) (sign (codes ":=")) (λ y. spelling y.1.0 ++ due (sign (codes ";")) ∷ []) (λ y. refl) (loose 7 (sign (codes ":=")) (λ s. refl))))
 lawful_statement_by n m above B begins.If =
-    lawful_mapped n (λ x. chosen x.0 x.1.0 x.1.1.0 x.1.1.1.0) spelling_statement (StatementIs begins.If) (λ x. chosen_spelled x.0 x.1.0 x.1.1.0 x.1.1.1.0)
+    lawful_mapped n (λ x. if_statement x.0 x.1.0 x.1.1.0 x.1.1.1.0) spelling_statement (StatementIs begins.If) (λ x. chosen_spelled x.0 x.1.0 x.1.1.0 x.1.1.1.0)
     (λ x g. chosen_is x.0 x.1.0 x.1.1.0 x.1.1.1.0 (chosen_kept x.0 x.1.0 x.1.1.0 x.1.1.1.0 g.1.0 g.1.1.0 g.1.1.1.0)) if_back
     (lawful_then n (lawful_fixed_at n (word (codes "IF")))
     (lawful_both n (expressions_lawful n m above)
@@ -589,7 +589,7 @@ listed_statements [] g = tt
 listed_statements (s ∷ ss) g = (g.0, listed_statements ss g.1)
 
 required_blocks : (n m : ℕ) → ((v : List ℕ) → LawfulAt (is_word v) n (opened_block n v) (opened_block m v) (spelling_listed v) AreListed NoStatement)
-    → LawfulBlock n (λ v. required (is_word v) (λ p. []) (opened_block n v)) (λ v. required (is_word v) (λ p. []) (opened_block m v))
+    → LawfulBlock n (λ v. expect_where (is_word v) (λ p. []) (opened_block n v)) (λ v. expect_where (is_word v) (λ p. []) (opened_block m v))
 required_blocks n m L v = lawful_required (is_word v) n (λ p. []) (open_listed v) (sound_filled_block Unexpected v) (L v)
 
 lawful_opened_block : (n m : ℕ) → suc n < m → (w : List ℕ) → LawfulAt (is_word w) n (opened_block n w) (opened_block m w) (spelling_listed w) AreListed NoStatement
@@ -601,12 +601,12 @@ lawful_opened_block zero (suc (suc m)) above w =
     (λ r hit. shrinks_behind (word w) (sound_repeated begins_statement (shrinks_statement_with (suc m) B) (sound_statement_with (suc m) B)) r hit)
     (λ r. omega arith) (λ ss g. omega arith)
   where
-    B : SoundBlock (λ v. required (is_word v) (λ p. []) (opened_block (suc m) v))
+    B : SoundBlock (λ v. expect_where (is_word v) (λ p. []) (opened_block (suc m) v))
     B v = sound_either (is_word v) (sound_opened_block (suc m) v) (sound_filled_block Unexpected v)
 lawful_opened_block (suc n) (suc (suc m)) above w =
     let B = required_blocks n (suc m) (λ v. lawful_opened_block n (suc m) (omega (arith, above)) v) in
     lawful_at (is_word w) (suc n)
-    (lawful_mapped (suc n) (λ ss. ss) (spelling_listed w) AreListed (λ ss. ap (λ l. opened (due (word w) ∷ l)) (statements_spelled ss)) each_statement (λ ss g. (ss, refl, listed_statements ss g))
+    (lawful_mapped (suc n) (λ ss. ss) (spelling_listed w) AreListed (λ ss. ap (λ l. open_level (due (word w) ∷ l)) (statements_spelled ss)) each_statement (λ ss g. (ss, refl, listed_statements ss g))
     (lawful_opened n
     (lawful_weaker n NoStatement (λ o stays. (tt, stays))
     (lawful_behind n (word w)

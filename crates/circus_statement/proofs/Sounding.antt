@@ -3,16 +3,16 @@ use Rattle.std.proofs.Common.{◌≡◌, ℕ, zero, suc, ◌+◌, Bool, true, fa
 use Rattle.std.specs.Prelude.{Option, Some, None, codes, if◌then◌else◌}
 use Rattle.circus_syntax.specs.declared.stopping.StopCause.{StopCause}
 use Rattle.circus_syntax.specs.declared.stopping.StopCause.TheVariants.{Unexpected, TooDeep}
-use Rattle.circus_syntax.specs.Placed.{Placed, word, sign, is_lexeme, is_name, Due, due, due_at, opened}
-use Rattle.circus_syntax.specs.Reader.{Reader, next, passes, stopped, both}
-use Rattle.circus_syntax.specs.Reading.{fixed, fixed_at}
+use Rattle.circus_syntax.specs.Placed.{Placed, word, sign, is_lexeme, is_name, Due, due, due_at, open_level}
+use Rattle.circus_syntax.specs.Reader.{Reader, next, passes, stop_reading, both}
+use Rattle.circus_syntax.specs.Reading.{expect_token, fixed_at}
 use Rattle.circus_syntax.specs.Spelling.{each, with_commas, if_written, IsEach, IsListed, IfWritten}
 use Rattle.circus_syntax.proofs.Sound.{Sound, sound_nothing, sound_both, sound_mapped, sound_opened, sound_cased}
 use Rattle.circus_syntax.proofs.Repeats.{Shrinks, sound_either, sound_optional, sound_repeated}
 use Rattle.circus_syntax.proofs.Tokens.{Always, sound_fixed, sound_fixed_at, sound_name, sound_behind, sound_listed, shrinks_at, shrinks_fixed, shrinks_both}
 use Rattle.circus_syntax.proofs.Lawful.{sound_stopped, sound_good}
 use Rattle.circus_expression.specs.declared.operator.Chain.TheVariants as of
-use Rattle.circus_expression.specs.ExpressionReading.{required, is_bracket, chained, read_place}
+use Rattle.circus_expression.specs.ExpressionReading.{expect_where, is_bracket, chained, read_place}
 use Rattle.circus_expression.specs.Written.{Written, WrittenPlace, spelling, spelling_place, spelling_list, IsWritten, IsPlace}
 use Rattle.circus_expression.proofs.Follows.{at}
 use Rattle.circus_expression.proofs.Openers.{sound_filled_list, all_each}
@@ -22,7 +22,7 @@ use Rattle.circus_statement.specs.declared.starts.StatementStart.TheVariants as 
 use Rattle.circus_statement.specs.StatementTree.{CallOf, HandledOf, assign, while, append, call, return, raise}
 use Rattle.circus_statement.specs.WrittenStatement.{WrittenStatement, WrittenHandler, written_statements, written_handlers, ending, spelling_places, spelling_into, spelling_handled, spelling_call, spelling_statement, spelling_statements, spelling_handlers, spelling_listed, AreListed, ArePlaces, AreIn, IsCaught, IsCall, IsStatement, AreStatements, AreHandlers}
 use Rattle.circus_statement.specs.WrittenStatement as written
-use Rattle.circus_statement.specs.StatementReading.{is_word, begins_statement, start_of_statement, ended, required_list, places_within, places, into, call_head, of_error, of_others, handled, Block, handler_with, chosen, statement_by, statement_with, opened_block, block, statement}
+use Rattle.circus_statement.specs.StatementReading.{is_word, begins_statement, start_of_statement, list_end, required_list, places_within, places, into, call_head, of_error, of_others, handler_head, Block, handler_with, if_statement, statement_by, statement_with, opened_block, block, statement}
 
 -- as it is spelled otherwise
 pub sound_respelled : {A : Type 0} {p : Reader → A × Reader} {sa : A → List Due} {ga : A → Type 0} (sb : A → List Due) (gb : A → Type 0) → ((x : A) → sb x ≡ sa x) → ((x : A) → ga x → gb x) → Sound p sa ga → Sound p sb gb
@@ -39,8 +39,8 @@ unfolding required_list
 sound_required_list n =
     sound_either is_bracket (sound_good (IsEach IsWritten) all_each (lists_lawful n (n + 2) (omega arith)).narrow) (sound_good (IsEach IsWritten) all_each (sound_filled_list Unexpected))
 
-pub sound_ended : Sound ended (λ u. ending) Always
-unfolding ended
+pub sound_ended : Sound list_end (λ u. ending) Always
+unfolding list_end
 sound_ended = sound_mapped (λ x. tt) (λ u. ending) Always (λ x. refl) (λ x g. tt) (sound_both (sound_fixed (word (codes "END"))) (sound_fixed (sign (codes ";"))))
 
 pub listed_each : (ps : List WrittenPlace) → IsListed IsPlace ps → ArePlaces ps
@@ -80,8 +80,8 @@ sound_call_head n =
 abbrev pub IsHandled : HandledOf WrittenPlace → Type 0
 IsHandled h = IsCaught h.at h.error h.places
 
-pub sound_handled : (n : ℕ) → Sound (handled n) spelling_handled IsHandled
-unfolding handled
+pub sound_handled : (n : ℕ) → Sound (handler_head n) spelling_handled IsHandled
+unfolding handler_head
 sound_handled n =
     sound_either (is_word (codes "OTHER"))
     (sound_mapped of_others spelling_handled IsHandled (λ x. refl) (λ x g. refl) (sound_fixed_at (word (codes "OTHER"))))
@@ -128,7 +128,7 @@ sound_handler_with n B =
 
 pub shrinks_handler : (n : ℕ) {b : Block} → SoundBlock b → Shrinks (is_word (codes "ON")) (handler_with n b)
 shrinks_handler n {b} B r hit =
-    shrinks_both (is_word (codes "ON")) (fixed (word (codes "ON"))) (both (handled n) (both (b (codes "BEGIN")) (fixed (word (codes "END"))))) (shrinks_fixed (word (codes "ON")))
+    shrinks_both (is_word (codes "ON")) (expect_token (word (codes "ON"))) (both (handler_head n) (both (b (codes "BEGIN")) (expect_token (word (codes "END"))))) (shrinks_fixed (word (codes "ON")))
     (sound_both (sound_handled n) (sound_both (B (codes "BEGIN")) (sound_fixed (word (codes "END"))))) r hit
 
 -- IF with or without ELSE, by its parts
@@ -136,11 +136,11 @@ abbrev pub spelling_else : Option (List WrittenStatement) → List Due
 spelling_else o = if_written (spelling_listed (codes "ELSE")) o
 
 pub chosen_spelled : (at : ℕ) (e : Written) (ss : List WrittenStatement) (o : Option (List WrittenStatement))
-    → spelling_statement (chosen at e ss o) ≡ due_at (word (codes "IF")) at ∷ (spelling e ++ (spelling_listed (codes "THEN") ss ++ (spelling_else o ++ ending)))
+    → spelling_statement (if_statement at e ss o) ≡ due_at (word (codes "IF")) at ∷ (spelling e ++ (spelling_listed (codes "THEN") ss ++ (spelling_else o ++ ending)))
 chosen_spelled at e ss None = refl
 chosen_spelled at e ss (Some os) = refl
 
-pub chosen_kept : (at : ℕ) (e : Written) (ss : List WrittenStatement) (o : Option (List WrittenStatement)) → IsWritten e → AreListed ss → IfWritten AreListed o → IsStatement (chosen at e ss o)
+pub chosen_kept : (at : ℕ) (e : Written) (ss : List WrittenStatement) (o : Option (List WrittenStatement)) → IsWritten e → AreListed ss → IfWritten AreListed o → IsStatement (if_statement at e ss o)
 chosen_kept at e ss None g h i = (g, h)
 chosen_kept at e ss (Some os) g h i = (g, h, i)
 
@@ -149,7 +149,7 @@ sound_statement_by n B begins.Assign =
     sound_mapped (λ x. assign x.0.name.at x.0 x.1.1.0) spelling_statement IsStatement (λ x. refl) (λ x g. (refl, g.0, g.1.1.0))
     (sound_both (sound_place_within n) (sound_both (sound_fixed (sign (codes ":="))) (sound_both (sound_expression_within n) (sound_fixed (sign (codes ";"))))))
 sound_statement_by n B begins.If =
-    sound_mapped (λ x. chosen x.0 x.1.0 x.1.1.0 x.1.1.1.0) spelling_statement IsStatement (λ x. chosen_spelled x.0 x.1.0 x.1.1.0 x.1.1.1.0)
+    sound_mapped (λ x. if_statement x.0 x.1.0 x.1.1.0 x.1.1.1.0) spelling_statement IsStatement (λ x. chosen_spelled x.0 x.1.0 x.1.1.0 x.1.1.1.0)
     (λ x g. chosen_kept x.0 x.1.0 x.1.1.0 x.1.1.1.0 g.1.0 g.1.1.0 g.1.1.1.0)
     (sound_both (sound_fixed_at (word (codes "IF"))) (sound_both (sound_expression_within n) (sound_both (B (codes "THEN")) (sound_both (sound_optional (is_word (codes "ELSE")) (B (codes "ELSE"))) sound_ended))))
 sound_statement_by n B begins.While =
@@ -231,15 +231,15 @@ shrinks_statement_with n B r hit = shrinks_led n B (start_of_statement (next r))
 
 -- The lists, level by level.
 
-pub sound_filled_block : (cause : StopCause) (w : List ℕ) → Sound (stopped cause (λ p. [])) (spelling_listed w) AreListed
+pub sound_filled_block : (cause : StopCause) (w : List ℕ) → Sound (stop_reading cause (λ p. [])) (spelling_listed w) AreListed
 sound_filled_block cause w = sound_stopped cause (λ p. []) (spelling_listed w) AreListed (λ p. (tt, at (word w) p ∷ [], (refl, tt), ((refl, refl), tt)))
 
 pub sound_opened_block : (n : ℕ) → SoundBlock (opened_block n)
 unfolding opened_block
 sound_opened_block zero w = sound_filled_block TooDeep w
 sound_opened_block (suc n) w =
-    let B : SoundBlock (λ v. required (is_word v) (λ p. []) (opened_block n v)) = λ v. sound_either (is_word v) (sound_opened_block n v) (sound_filled_block Unexpected v) in
-    sound_respelled (spelling_listed w) AreListed (λ ss. ap (λ l. opened (due (word w) ∷ l)) (statements_spelled ss)) each_statement
+    let B : SoundBlock (λ v. expect_where (is_word v) (λ p. []) (opened_block n v)) = λ v. sound_either (is_word v) (sound_opened_block n v) (sound_filled_block Unexpected v) in
+    sound_respelled (spelling_listed w) AreListed (λ ss. ap (λ l. open_level (due (word w) ∷ l)) (statements_spelled ss)) each_statement
     (sound_opened (sound_behind (word w) (sound_repeated begins_statement (shrinks_statement_with n B) (sound_statement_with n B))))
 
 pub sound_block : (n : ℕ) → SoundBlock (block n)

@@ -4,10 +4,10 @@ use Rattle.std.proofs.Common.{zero, suc}
 use Rattle.circus_syntax.specs.declared.named.Named.{Named}
 use Rattle.circus_syntax.specs.declared.stopping.StopCause.TheVariants.{TooDeep}
 use Rattle.circus_syntax.specs.Placed.{Placed, word, sign, is_lexeme, is_name}
-use Rattle.circus_syntax.specs.Reader.{Reader, stopped, nothing, both, mapped, cased, either, optional, repeated}
-use Rattle.circus_syntax.specs.Reading.{fixed, fixed_at, name, behind, listed}
+use Rattle.circus_syntax.specs.Reader.{Reader, stop_reading, nothing, both, map_read, choose_by, either, optional, repeat_while}
+use Rattle.circus_syntax.specs.Reading.{expect_token, fixed_at, name, behind, comma_list}
 use Rattle.circus_expression.specs.declared.operator.Chain.TheVariants as of
-use Rattle.circus_expression.specs.ExpressionReading.{required, in_brackets, is_bracket, chained, read_place, list}
+use Rattle.circus_expression.specs.ExpressionReading.{expect_where, in_brackets, is_bracket, chained, read_place, list}
 use Rattle.circus_expression.specs.Written.{Written, WrittenPlace}
 use Rattle.circus_statement.specs.declared.starts.StatementStart.{StatementStart}
 use Rattle.circus_statement.specs.declared.starts.StatementStart.TheVariants as begins
@@ -39,23 +39,23 @@ unfoldable pub start_of_statement : Option Placed → StatementStart
 start_of_statement = statement_start
 
 abbrev pub semicolon : Reader → Unit {0} × Reader
-semicolon = fixed (sign (codes ";"))
+semicolon = expect_token (sign (codes ";"))
 
-unfoldable pub ended : Reader → Unit {0} × Reader
-ended = mapped (λ x. tt) (both (fixed (word (codes "END"))) semicolon)
+unfoldable pub list_end : Reader → Unit {0} × Reader
+list_end = map_read (λ x. tt) (both (expect_token (word (codes "END"))) semicolon)
 
 -- a list, where its bracket stands
 unfoldable pub required_list : ℕ → Reader → List Written × Reader
-required_list levels = required is_bracket (λ at. []) (list levels)
+required_list levels = expect_where is_bracket (λ at. []) (list levels)
 
 unfoldable pub places_within : ℕ → Reader → List WrittenPlace × Reader
-places_within levels = either (is_lexeme (sign (codes "]"))) (nothing []) (listed (read_place levels))
+places_within levels = either (is_lexeme (sign (codes "]"))) (nothing []) (comma_list (read_place levels))
 
 unfoldable pub places : ℕ → Reader → List WrittenPlace × Reader
 places levels = in_brackets (places_within levels)
 
 unfoldable pub into : ℕ → Reader → IntoOf WrittenPlace × Reader
-into levels = mapped (λ x. record { at = x.0; places = x.1 }) (both (fixed_at (word (codes "INTO"))) (places levels))
+into levels = map_read (λ x. record { at = x.0; places = x.1 }) (both (fixed_at (word (codes "INTO"))) (places levels))
 
 unfoldable pub into_if_any : ℕ → Reader → Option (IntoOf WrittenPlace) × Reader
 into_if_any levels = optional (is_word (codes "INTO")) (into levels)
@@ -66,8 +66,8 @@ handled_places levels = optional is_bracket (places levels)
 
 unfoldable pub call_head : ℕ → Reader → (ℕ × CallOf Written WrittenPlace) × Reader
 call_head levels =
-    mapped (λ x. (x.0, record { «module» = x.1.0; procedure = x.1.1.1.0; arguments = x.1.1.1.1.0; into = x.1.1.1.1.1 }))
-    (both (fixed_at (word (codes "CALL"))) (both name (both (fixed (sign (codes "."))) (both name (both (required_list levels) (optional (is_word (codes "INTO")) (into levels)))))))
+    map_read (λ x. (x.0, record { «module» = x.1.0; procedure = x.1.1.1.0; arguments = x.1.1.1.1.0; into = x.1.1.1.1.1 }))
+    (both (fixed_at (word (codes "CALL"))) (both name (both (expect_token (sign (codes "."))) (both name (both (required_list levels) (optional (is_word (codes "INTO")) (into levels)))))))
 
 abbrev pub of_error : Named → Option (List WrittenPlace) → HandledOf WrittenPlace
 of_error n places = record { at = n.at; error = Some n; places = places }
@@ -75,10 +75,10 @@ of_error n places = record { at = n.at; error = Some n; places = places }
 abbrev pub of_others : ℕ → HandledOf WrittenPlace
 of_others at = record { at = at; error = None; places = None }
 
-unfoldable pub handled : ℕ → Reader → HandledOf WrittenPlace × Reader
-handled levels =
-    either (is_word (codes "OTHER")) (mapped of_others (fixed_at (word (codes "OTHER"))))
-    (mapped (λ x. of_error x.0 x.1) (both name (optional is_bracket (places levels))))
+unfoldable pub handler_head : ℕ → Reader → HandledOf WrittenPlace × Reader
+handler_head levels =
+    either (is_word (codes "OTHER")) (map_read of_others (fixed_at (word (codes "OTHER"))))
+    (map_read (λ x. of_error x.0 x.1) (both name (optional is_bracket (places levels))))
 
 -- a word and the statements that it opens a list of
 abbrev pub Block : Type 0
@@ -86,41 +86,41 @@ Block = List ℕ → Reader → List WrittenStatement × Reader
 
 abbrev pub handler_with : ℕ → Block → Reader → WrittenHandler × Reader
 handler_with levels block =
-    mapped (λ x. record { handled = x.1.0; statements = x.1.1.0 })
-    (both (fixed (word (codes "ON"))) (both (handled levels) (both (block (codes "BEGIN")) (fixed (word (codes "END"))))))
+    map_read (λ x. record { handled = x.1.0; statements = x.1.1.0 })
+    (both (expect_token (word (codes "ON"))) (both (handler_head levels) (both (block (codes "BEGIN")) (expect_token (word (codes "END"))))))
 
-abbrev pub chosen : ℕ → Written → List WrittenStatement → Option (List WrittenStatement) → WrittenStatement
-chosen at e ss None = only_then at e (written_statements ss)
-chosen at e ss (Some os) = then_else at e (written_statements ss) (written_statements os)
+abbrev pub if_statement : ℕ → Written → List WrittenStatement → Option (List WrittenStatement) → WrittenStatement
+if_statement at e ss None = only_then at e (written_statements ss)
+if_statement at e ss (Some os) = then_else at e (written_statements ss) (written_statements os)
 
 -- a statement of so many levels, whose lists of statements are read so
 abbrev pub statement_by : ℕ → Block → StatementStart → Reader → WrittenStatement × Reader
 statement_by levels block begins.Assign =
-    mapped (λ x. assign x.0.name.at x.0 x.1.1.0) (both (read_place levels) (both (fixed (sign (codes ":="))) (both (chained levels of.Expression) semicolon)))
+    map_read (λ x. assign x.0.name.at x.0 x.1.1.0) (both (read_place levels) (both (expect_token (sign (codes ":="))) (both (chained levels of.Expression) semicolon)))
 statement_by levels block begins.If =
-    mapped (λ x. chosen x.0 x.1.0 x.1.1.0 x.1.1.1.0)
-    (both (fixed_at (word (codes "IF"))) (both (chained levels of.Expression) (both (block (codes "THEN")) (both (optional (is_word (codes "ELSE")) (block (codes "ELSE"))) ended))))
+    map_read (λ x. if_statement x.0 x.1.0 x.1.1.0 x.1.1.1.0)
+    (both (fixed_at (word (codes "IF"))) (both (chained levels of.Expression) (both (block (codes "THEN")) (both (optional (is_word (codes "ELSE")) (block (codes "ELSE"))) list_end))))
 statement_by levels block begins.While =
-    mapped (λ x. while x.0 x.1.0 (written_statements x.1.1.0)) (both (fixed_at (word (codes "WHILE"))) (both (chained levels of.Expression) (both (block (codes "DO")) ended)))
+    map_read (λ x. while x.0 x.1.0 (written_statements x.1.1.0)) (both (fixed_at (word (codes "WHILE"))) (both (chained levels of.Expression) (both (block (codes "DO")) list_end)))
 statement_by levels block begins.Append =
-    mapped (λ x. append x.0 x.1.0 x.1.1.1.0)
-    (both (fixed_at (word (codes "APPEND"))) (both (chained levels of.Expression) (both (fixed (word (codes "TO"))) (both (read_place levels) semicolon))))
+    map_read (λ x. append x.0 x.1.0 x.1.1.1.0)
+    (both (fixed_at (word (codes "APPEND"))) (both (chained levels of.Expression) (both (expect_token (word (codes "TO"))) (both (read_place levels) semicolon))))
 statement_by levels block begins.Call =
-    mapped (λ x. call x.0.0 x.0.1 (written_handlers x.1.0)) (both (call_head levels) (both (repeated (is_word (codes "ON")) (handler_with levels block)) semicolon))
-statement_by levels block begins.Return = mapped (λ x. return x.0 x.1.0) (both (fixed_at (word (codes "RETURN"))) (both (required_list levels) semicolon))
-statement_by levels block begins.Raise = mapped (λ x. raise x.0 x.1.0 x.1.1.0) (both (fixed_at (word (codes "RAISE"))) (both name (both (required_list levels) semicolon)))
+    map_read (λ x. call x.0.0 x.0.1 (written_handlers x.1.0)) (both (call_head levels) (both (repeat_while (is_word (codes "ON")) (handler_with levels block)) semicolon))
+statement_by levels block begins.Return = map_read (λ x. return x.0 x.1.0) (both (fixed_at (word (codes "RETURN"))) (both (required_list levels) semicolon))
+statement_by levels block begins.Raise = map_read (λ x. raise x.0 x.1.0 x.1.1.0) (both (fixed_at (word (codes "RAISE"))) (both name (both (required_list levels) semicolon)))
 
 abbrev pub statement_with : ℕ → Block → Reader → WrittenStatement × Reader
-statement_with levels block = cased start_of_statement (statement_by levels block)
+statement_with levels block = choose_by start_of_statement (statement_by levels block)
 
 -- the word, where it opens a list of statements: one level fewer is left in it
 unfoldable pub opened_block : ℕ → Block
-opened_block zero lead = stopped TooDeep (λ at. [])
+opened_block zero lead = stop_reading TooDeep (λ at. [])
 opened_block (suc levels) lead =
-    behind (word lead) (repeated begins_statement (statement_with levels (λ w. required (is_word w) (λ at. []) (opened_block levels w))))
+    behind (word lead) (repeat_while begins_statement (statement_with levels (λ w. expect_where (is_word w) (λ at. []) (opened_block levels w))))
 
 unfoldable pub block : ℕ → Block
-block levels lead = required (is_word lead) (λ at. []) (opened_block levels lead)
+block levels lead = expect_where (is_word lead) (λ at. []) (opened_block levels lead)
 
 unfoldable pub statement : ℕ → Reader → WrittenStatement × Reader
 statement levels = statement_with levels (block levels)
@@ -132,7 +132,7 @@ unfoldable pub handler : ℕ → Reader → WrittenHandler × Reader
 handler levels = handler_with levels (block levels)
 
 unfoldable pub handlers : ℕ → Reader → List WrittenHandler × Reader
-handlers levels = repeated (is_word (codes "ON")) (handler levels)
+handlers levels = repeat_while (is_word (codes "ON")) (handler levels)
 
 unfoldable pub else_block : ℕ → Reader → Option (List WrittenStatement) × Reader
 else_block levels = optional (is_word (codes "ELSE")) (block levels (codes "ELSE"))

@@ -2,7 +2,7 @@
 -- front of what it spells.
 use Rattle.std.specs.Prelude.{◌≡◌, ℕ, List, [], ◌∷◌, ◌++◌, Option, Some, None, codes}
 use Rattle.circus_syntax.specs.declared.named.Named.{Named}
-use Rattle.circus_syntax.specs.Placed.{word, sign, Due, due, due_at, due_name, opened}
+use Rattle.circus_syntax.specs.Placed.{word, sign, Due, due, due_at, due_name, open_level}
 use Rattle.circus_syntax.specs.Spelling.{with_commas, if_written, IsName, IfWritten, IsEach}
 use Rattle.circus_expression.specs.Written.{Written, WrittenPlace, spelling, spelling_place, spelling_list, IsWritten, IsPlace}
 use Rattle.circus_statement.specs.StatementTree.{StatementOf, StatementsOf, HandlersOf, IntoOf, CallOf, HandledOf, assign, only_then, then_else, while, append, call, return, raise, no_statements, more_statements, no_handlers, more_handlers}
@@ -64,12 +64,12 @@ abbrev mutual
   -- place ":=" expression ";"
   spelling_statement (assign at p e) = spelling_place p ++ due (sign (codes ":=")) ∷ (spelling e ++ semicolon ∷ [])
   -- "IF" expression "THEN" {statement} "END" ";"
-  spelling_statement (only_then at e ss) = due_at (word (codes "IF")) at ∷ (spelling e ++ (opened (due (word (codes "THEN")) ∷ spelling_statements ss) ++ ending))
+  spelling_statement (only_then at e ss) = due_at (word (codes "IF")) at ∷ (spelling e ++ (open_level (due (word (codes "THEN")) ∷ spelling_statements ss) ++ ending))
   -- "IF" expression "THEN" {statement} "ELSE" {statement} "END" ";"
   spelling_statement (then_else at e ss os) =
-      due_at (word (codes "IF")) at ∷ (spelling e ++ (opened (due (word (codes "THEN")) ∷ spelling_statements ss) ++ (opened (due (word (codes "ELSE")) ∷ spelling_statements os) ++ ending)))
+      due_at (word (codes "IF")) at ∷ (spelling e ++ (open_level (due (word (codes "THEN")) ∷ spelling_statements ss) ++ (open_level (due (word (codes "ELSE")) ∷ spelling_statements os) ++ ending)))
   -- "WHILE" expression "DO" {statement} "END" ";"
-  spelling_statement (while at e ss) = due_at (word (codes "WHILE")) at ∷ (spelling e ++ (opened (due (word (codes "DO")) ∷ spelling_statements ss) ++ ending))
+  spelling_statement (while at e ss) = due_at (word (codes "WHILE")) at ∷ (spelling e ++ (open_level (due (word (codes "DO")) ∷ spelling_statements ss) ++ ending))
   -- "APPEND" expression "TO" place ";"
   spelling_statement (append at e p) =
       due_at (word (codes "APPEND")) at ∷ (spelling e ++ due (word (codes "TO")) ∷ (spelling_place p ++ semicolon ∷ []))
@@ -88,11 +88,11 @@ abbrev mutual
   pub spelling_handlers : WrittenHandlers → List Due
   spelling_handlers no_handlers = []
   spelling_handlers (more_handlers h ss hs) =
-      due (word (codes "ON")) ∷ (spelling_handled h ++ (opened (due (word (codes "BEGIN")) ∷ spelling_statements ss) ++ due (word (codes "END")) ∷ spelling_handlers hs))
+      due (word (codes "ON")) ∷ (spelling_handled h ++ (open_level (due (word (codes "BEGIN")) ∷ spelling_statements ss) ++ due (word (codes "END")) ∷ spelling_handlers hs))
 
 -- a word and the list of statements that it opens
 abbrev pub spelling_listed : List ℕ → List WrittenStatement → List Due
-spelling_listed lead ss = opened (due (word lead) ∷ spelling_statements (written_statements ss))
+spelling_listed lead ss = open_level (due (word lead) ∷ spelling_statements (written_statements ss))
 
 abbrev pub ArePlaces : List WrittenPlace → Type 0
 ArePlaces ps = IsEach IsPlace ps

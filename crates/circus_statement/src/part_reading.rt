@@ -6,7 +6,7 @@ ghost use Rattle.circus_expression.specs.Standing.{shown};
 ghost use Rattle.circus_expression.specs.Standing as expression;
 ghost use Rattle.circus_statement.specs.StatementOf.{into_of};
 ghost use Rattle.circus_statement.specs.StatementStanding.{places_stand_for, into_stands_for, call_stands_for, handled_stands_for};
-ghost use Rattle.circus_statement.specs.StatementReading.{required_list, places_within, places, into, into_if_any, call_head, handled, handled_places, ended};
+ghost use Rattle.circus_statement.specs.StatementReading.{required_list, places_within, places, into, into_if_any, call_head, handler_head, handled_places, list_end};
 
 use crate::{IntoText, PlaceTexts};
 use circus_expression::{Expressions, list_text, place_text};
@@ -90,8 +90,8 @@ pub fn handled_places(reader: &mut Reader<'_>, levels: u8) -> Result<Option<Plac
 }
 
 /// The end of a list of statements.
-pub fn ended(reader: &mut Reader<'_>)
-    ensures { ended reader.old ≡ (tt, reader.new) }
+pub fn list_end(reader: &mut Reader<'_>)
+    ensures { list_end reader.old ≡ (tt, reader.new) }
 {
     reader.word(b"END");
     reader.sign(b";");

@@ -5,9 +5,9 @@ ghost use Rattle.circus_expression.specs.ExpressionOf.{place_of};
 ghost use Rattle.circus_expression.specs.Standing.{shown};
 ghost use Rattle.circus_statement.specs.StatementOf.{tree_of, kind_tree, handler_of, into_of};
 ghost use Rattle.circus_statement.specs.StatementStanding.{stands_for, handler_stands_for, head_stands_for, handled_stands_for};
-ghost use Rattle.circus_statement.specs.StatementReading.{block, opened_block, else_block, statement, statement_from, handler, handlers, handled, call_head};
+ghost use Rattle.circus_statement.specs.StatementReading.{block, opened_block, else_block, statement, statement_from, handler, handlers, handler_head, call_head};
 
-use crate::part_reading::{ended, handled_places, into_if_any, required_list};
+use crate::part_reading::{list_end, handled_places, into_if_any, required_list};
 use crate::seeing::{sees_statement, statement_start};
 use crate::{
     CallText, Handler, Handlers, IntoText, PlaceTexts, Statement, StatementKind, StatementStart,
@@ -29,14 +29,14 @@ pub fn statements_text(
         shown (map stands_for) (block levels lead.now reader.old) ≡ (read, reader.new)) }
 {
     if reader.sees_word(lead) {
-        return opened(reader, lead, levels);
+        return block_behind(reader, lead, levels);
     }
     reader.stop_here(StopCause::Unexpected);
     Ok(Statements::new(reader.alloc()))
 }
 
 #[cycle(reading)]
-fn opened(reader: &mut Reader<'_>, lead: &[u8], levels: u8) -> Result<Statements, NoMemory>
+fn block_behind(reader: &mut Reader<'_>, lead: &[u8], levels: u8) -> Result<Statements, NoMemory>
     ensures { IfOk result (λ read.
         shown (map stands_for) (opened_block levels lead.now reader.old) ≡ (read, reader.new)) }
 {
@@ -100,13 +100,13 @@ fn choice(reader: &mut Reader<'_>, levels: u8) -> Result<StatementKind, NoMemory
     reader.word(b"IF");
     let condition = expression_text(reader, levels)?;
     let chosen = statements_text(reader, b"THEN", levels)?;
-    let other = otherwise(reader, levels)?;
-    ended(reader);
+    let other = else_part(reader, levels)?;
+    list_end(reader);
     Ok(StatementKind::If(condition, chosen, other))
 }
 
 #[cycle(reading)]
-fn otherwise(reader: &mut Reader<'_>, levels: u8) -> Result<Option<Statements>, NoMemory>
+fn else_part(reader: &mut Reader<'_>, levels: u8) -> Result<Option<Statements>, NoMemory>
     ensures { IfOk result (λ read.
         shown (option_map (map stands_for)) (else_block levels reader.old) ≡ (read, reader.new)) }
 {
@@ -126,7 +126,7 @@ fn repetition(reader: &mut Reader<'_>, levels: u8) -> Result<StatementKind, NoMe
     reader.word(b"WHILE");
     let condition = expression_text(reader, levels)?;
     let repeated = statements_text(reader, b"DO", levels)?;
-    ended(reader);
+    list_end(reader);
     Ok(StatementKind::While(condition, repeated))
 }
 
@@ -209,7 +209,7 @@ fn handler(reader: &mut Reader<'_>, levels: u8) -> Result<Handler, NoMemory>
 {
     reader.word(b"ON");
     let at = reader.place();
-    let (error, places) = handled(reader, levels)?;
+    let (error, places) = handler_head(reader, levels)?;
     let statements = statements_text(reader, b"BEGIN", levels)?;
     reader.word(b"END");
     Ok(Handler {
@@ -221,11 +221,11 @@ fn handler(reader: &mut Reader<'_>, levels: u8) -> Result<Handler, NoMemory>
 }
 
 // The error that a handler is for, with the places of its values, or every other one.
-fn handled(
+fn handler_head(
     reader: &mut Reader<'_>,
     levels: u8,
 ) -> Result<(Option<Named>, Option<PlaceTexts>), NoMemory>
-    ensures { IfOk result (λ read. shown handled_stands_for (handled levels reader.old)
+    ensures { IfOk result (λ read. shown handled_stands_for (handler_head levels reader.old)
         ≡ (
           record {
             at = place reader.old;

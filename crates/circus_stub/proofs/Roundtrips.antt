@@ -23,7 +23,7 @@ use Rattle.circus_external.proofs.OctetsSpelled.{fields_spelled_octets}
 use Rattle.circus_stub.specs.declared.fault.StubFault.{StubFault}
 use Rattle.circus_stub.specs.declared.fault.StubFault.TheVariants as stub
 use Rattle.circus_stub.specs.Packed.{AreArguments, MayEnd, IsOutcome, outcome_spelling, outcome_values}
-use Rattle.circus_stub.specs.Unpacked.{Answers, procedure_of, limited, values_alone, values_unpacked, arguments_unpacked, as_returned, as_raised, raised_fields, raised_values, raised_unpacked, outcome_behind, outcome_unpacked}
+use Rattle.circus_stub.specs.Unpacked.{Answers, procedure_of, unless_too_long, values_alone, values_unpacked, arguments_unpacked, as_returned, as_raised, raised_fields, raised_values, raised_unpacked, outcome_behind, outcome_unpacked}
 
 -- what was found, with nothing behind
 record Alone (a : Answer (List ValueTree)) (values : List ValueTree) : Type 0 where
@@ -37,7 +37,7 @@ alone (short place) values is = absurd cc
 alone (not_a_value place) values is = absurd cc
 alone (bad_pad place) values is = absurd cc
 
-within_limit : {X : Type 0} (limit at : ℕ) (bytes : List ℕ) (a : Result X StubFault) (x : X) → limited limit at bytes a ≡ Ok x → (length (drop at bytes) ≤ limit) × (a ≡ Ok x)
+within_limit : {X : Type 0} (limit at : ℕ) (bytes : List ℕ) (a : Result X StubFault) (x : X) → unless_too_long limit at bytes a ≡ Ok x → (length (drop at bytes) ≤ limit) × (a ≡ Ok x)
 within_limit limit at bytes a x is =
     elim (nat_lt limit (length (drop at bytes))) as (λ b. nat_lt limit (length (drop at bytes)) ≡ b → cond b (Err (stub.Large (length (drop at bytes)))) a ≡ Ok x → (length (drop at bytes) ≤ limit) × (a ≡ Ok x)) [
       | true ↦ λ above same. absurd cc

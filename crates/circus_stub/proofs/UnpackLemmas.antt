@@ -19,11 +19,11 @@ use Rattle.circus_stub.specs.declared.stubs.ErrorStub.{ErrorStub}
 use Rattle.circus_stub.specs.Seen.Faults.{stub_fault}
 use Rattle.circus_stub.specs.Flat.{flat_fields}
 use Rattle.circus_stub.specs.Seen.Standing.{FieldsStand}
-use Rattle.circus_stub.specs.Compiled.{compiled, procedure_stub, error_stub, stub_of, error_values, raised_operations}
+use Rattle.circus_stub.specs.Compiled.{compile_stubs, procedure_stub, error_stub, stub_of, error_values, raised_operations}
 use Rattle.circus_external.specs.Octets.{first_word}
 use Rattle.circus_value.specs.Among.{is_among}
 use Rattle.circus_model.specs.LanguageError.{is_language_error}
-use Rattle.circus_stub.specs.Unpacked.{Answers, as_raised, raised_values, raised_unpacked, procedure_of, error_of, raised_fields, limited, values_alone}
+use Rattle.circus_stub.specs.Unpacked.{Answers, as_raised, raised_values, raised_unpacked, procedure_of, error_of, raised_fields, unless_too_long, values_alone}
 use Rattle.circus_stub.proofs.FlatLemmas.{length-flat_fields}
 
 -- ---- values
@@ -62,14 +62,14 @@ alone_exceeds octets values next a is within =
 
 -- ---- the limit
 
-pub is_limited : {X : Type 0} (limit at n : ℕ) (octets : List ℕ) (answer : Result X StubFault) → Some n ≡ cond (nat_lt limit (length (drop at octets))) (Some (length (drop at octets))) None → limited limit at octets answer ≡ Err (stub.Large n)
+pub is_limited : {X : Type 0} (limit at n : ℕ) (octets : List ℕ) (answer : Result X StubFault) → Some n ≡ cond (nat_lt limit (length (drop at octets))) (Some (length (drop at octets))) None → unless_too_long limit at octets answer ≡ Err (stub.Large n)
 is_limited limit at n octets answer =
     elim (nat_lt limit (length (drop at octets))) as (λ b. Some n ≡ cond b (Some (length (drop at octets))) None → cond b (Err (stub.Large (length (drop at octets)))) answer ≡ Err (stub.Large n)) [
       | true ↦ λ is. let same : length (drop at octets) ≡ n = cc in ap (λ k. Err (stub.Large k)) same
       | false ↦ λ is. cc
     ]
 
-pub is_unlimited : {X : Type 0} (limit at : ℕ) (octets : List ℕ) (answer : Result X StubFault) → None ≡ cond (nat_lt limit (length (drop at octets))) (Some (length (drop at octets))) None → limited limit at octets answer ≡ answer
+pub is_unlimited : {X : Type 0} (limit at : ℕ) (octets : List ℕ) (answer : Result X StubFault) → None ≡ cond (nat_lt limit (length (drop at octets))) (Some (length (drop at octets))) None → unless_too_long limit at octets answer ≡ answer
 is_unlimited limit at octets answer =
     elim (nat_lt limit (length (drop at octets))) as (λ b. None ≡ cond b (Some (length (drop at octets))) None → cond b (Err (stub.Large (length (drop at octets)))) answer ≡ answer) [
       | true ↦ λ is. cc
@@ -86,7 +86,7 @@ find-map p f (x ∷ xs) =
       | false ↦ find-map p f xs
     ]
 
-pub stub_of-compiled : (i : Interface) (limit n : ℕ) → stub_of (compiled i limit) n ≡ option_map procedure_stub (procedure_of i n)
+pub stub_of-compiled : (i : Interface) (limit n : ℕ) → stub_of (compile_stubs i limit) n ≡ option_map procedure_stub (procedure_of i n)
 stub_of-compiled i limit n = find-map (λ (p : ProcedureStub). nat_eq p.number n) procedure_stub i.procedures
 
 mapped_some : {X Y : Type 0} (f : X → Y) (o : Option X) (y : Y) → Some y ≡ option_map f o → (x : X) × (o ≡ Some x) × (y ≡ f x)
@@ -97,10 +97,10 @@ mapped_none : {X Y : Type 0} (f : X → Y) (o : Option X) → None ≡ option_ma
 mapped_none f None is = refl
 mapped_none f (Some x) is = absurd cc
 
-pub stub_found : (i : Interface) (limit n : ℕ) (p : ProcedureStub) → Some p ≡ stub_of (compiled i limit) n → (q : Procedure) × (procedure_of i n ≡ Some q) × (p ≡ procedure_stub q)
+pub stub_found : (i : Interface) (limit n : ℕ) (p : ProcedureStub) → Some p ≡ stub_of (compile_stubs i limit) n → (q : Procedure) × (procedure_of i n ≡ Some q) × (p ≡ procedure_stub q)
 stub_found i limit n p is = mapped_some procedure_stub (procedure_of i n) p (is ∙ stub_of-compiled i limit n)
 
-pub stub_missing : (i : Interface) (limit n : ℕ) → None ≡ stub_of (compiled i limit) n → procedure_of i n ≡ None
+pub stub_missing : (i : Interface) (limit n : ℕ) → None ≡ stub_of (compile_stubs i limit) n → procedure_of i n ≡ None
 stub_missing i limit n is = mapped_none procedure_stub (procedure_of i n) (is ∙ stub_of-compiled i limit n)
 
 -- the operations of fields, in a list of their own
@@ -111,15 +111,15 @@ option_map-option_map : {X Y Z : Type 0} (f : X → Y) (g : Y → Z) (o : Option
 option_map-option_map f g None = refl
 option_map-option_map f g (Some x) = refl
 
-error_values-compiled : (i : Interface) (limit n : ℕ) → error_values (compiled i limit) n ≡ option_map fields_alone (option_map (λ (e : DeclaredError). field_trees e.arguments) (error_of i n))
+error_values-compiled : (i : Interface) (limit n : ℕ) → error_values (compile_stubs i limit) n ≡ option_map fields_alone (option_map (λ (e : DeclaredError). field_trees e.arguments) (error_of i n))
 error_values-compiled i limit n =
     ap (option_map (λ (e : ErrorStub). e.values)) (find-map (λ (e : ErrorStub). nat_eq e.number n) error_stub i.errors)
     ∙ option_map-option_map error_stub (λ (e : ErrorStub). e.values) (error_of i n)
     ∙ sym (option_map-option_map (λ (e : DeclaredError). field_trees e.arguments) fields_alone (error_of i n))
 
-pub raised_operations-compiled : (i : Interface) (p : Procedure) (limit n : ℕ) → raised_operations (compiled i limit) (procedure_stub p) n ≡ option_map fields_alone (raised_fields i p n)
+pub raised_operations-compiled : (i : Interface) (p : Procedure) (limit n : ℕ) → raised_operations (compile_stubs i limit) (procedure_stub p) n ≡ option_map fields_alone (raised_fields i p n)
 raised_operations-compiled i p limit n =
-    elim (is_among p.reports n) as (λ b. cond b (error_values (compiled i limit) n) (cond (is_language_error n) (Some []) None) ≡ option_map fields_alone (cond b (option_map (λ (e : DeclaredError). field_trees e.arguments) (error_of i n)) (cond (is_language_error n) (Some no_fields) None))) [
+    elim (is_among p.reports n) as (λ b. cond b (error_values (compile_stubs i limit) n) (cond (is_language_error n) (Some []) None) ≡ option_map fields_alone (cond b (option_map (λ (e : DeclaredError). field_trees e.arguments) (error_of i n)) (cond (is_language_error n) (Some no_fields) None))) [
       | true ↦ error_values-compiled i limit n
       | false ↦ elim (is_language_error n) as (λ b. cond b (Some []) None ≡ option_map fields_alone (cond b (Some no_fields) None)) [
         | true ↦ refl
@@ -127,10 +127,10 @@ raised_operations-compiled i p limit n =
       ]
     ]
 
-pub raised_found : (i : Interface) (p : Procedure) (limit n : ℕ) (ops : List Operation) → Some ops ≡ raised_operations (compiled i limit) (procedure_stub p) n → (fields : FieldTrees) × (raised_fields i p n ≡ Some fields) × (ops ≡ flat_fields fields 0)
+pub raised_found : (i : Interface) (p : Procedure) (limit n : ℕ) (ops : List Operation) → Some ops ≡ raised_operations (compile_stubs i limit) (procedure_stub p) n → (fields : FieldTrees) × (raised_fields i p n ≡ Some fields) × (ops ≡ flat_fields fields 0)
 raised_found i p limit n ops is = mapped_some fields_alone (raised_fields i p n) ops (is ∙ raised_operations-compiled i p limit n)
 
-pub raised_missing : (i : Interface) (p : Procedure) (limit n : ℕ) → None ≡ raised_operations (compiled i limit) (procedure_stub p) n → raised_fields i p n ≡ None
+pub raised_missing : (i : Interface) (p : Procedure) (limit n : ℕ) → None ≡ raised_operations (compile_stubs i limit) (procedure_stub p) n → raised_fields i p n ≡ None
 raised_missing i p limit n is = mapped_none fields_alone (raised_fields i p n) (is ∙ raised_operations-compiled i p limit n)
 
 -- ---- outcomes
@@ -158,11 +158,11 @@ slice_get-drop [] (suc i) k = refl
 slice_get-drop (x ∷ xs) (suc i) k = let next : suc i + k ≡ suc (i + k) = omega arith in slice_get-drop xs i k ∙ ap (slice_get (x ∷ xs)) (sym next)
 
 -- a procedure that is declared has its stub, and no other
-pub stub_declared : (i : Interface) (limit n : ℕ) (p : Procedure) (stub : ProcedureStub) → Some stub ≡ stub_of (compiled i limit) n → procedure_of i n ≡ Some p → stub ≡ procedure_stub p
+pub stub_declared : (i : Interface) (limit n : ℕ) (p : Procedure) (stub : ProcedureStub) → Some stub ≡ stub_of (compile_stubs i limit) n → procedure_of i n ≡ Some p → stub ≡ procedure_stub p
 stub_declared i limit n p stub is declared =
     let found = stub_found i limit n stub is in
     let same : found.0 ≡ p = cc in
     found.2 ∙ ap procedure_stub same
 
-pub no_stub_missing : (i : Interface) (limit n : ℕ) (p : Procedure) → None ≡ stub_of (compiled i limit) n → procedure_of i n ≡ Some p → ⊥
+pub no_stub_missing : (i : Interface) (limit n : ℕ) (p : Procedure) → None ≡ stub_of (compile_stubs i limit) n → procedure_of i n ≡ Some p → ⊥
 no_stub_missing i limit n p is declared = let missing = stub_missing i limit n is in absurd cc

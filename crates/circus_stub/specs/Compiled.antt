@@ -23,13 +23,13 @@ abbrev pub error_stub : DeclaredError → ErrorStub
 error_stub e = record { number = e.number; values = flat_fields (field_trees e.arguments) 0 }
 
 -- the stubs of an interface, for messages of at most so many bytes
-abbrev pub compiled : Interface → ℕ → Stubs
-compiled i limit =
+abbrev pub compile_stubs : Interface → ℕ → Stubs
+compile_stubs i limit =
     record { limit = limit; procedures = map procedure_stub i.procedures; errors = map error_stub i.errors }
 
 -- they are the stubs of some interface
 abbrev pub AreCompiled : Stubs → Type 0
-AreCompiled stubs = (i : Interface) × (stubs ≡ compiled i stubs.limit)
+AreCompiled stubs = (i : Interface) × (stubs ≡ compile_stubs i stubs.limit)
 
 -- the first of the stubs with a procedure's number
 abbrev pub stub_of : Stubs → ℕ → Option ProcedureStub

@@ -42,8 +42,8 @@ raised_fields i p n =
     cond (is_among p.reports n) (option_map (λ (e : DeclaredError). field_trees e.arguments) (error_of i n)) (cond (is_language_error n) (Some no_fields) None)
 
 -- the bytes from a place on are too many, or this is the answer
-abbrev pub limited : {X : Type 0} → ℕ → ℕ → List ℕ → Result X StubFault → Result X StubFault
-limited limit at bytes answer =
+abbrev pub unless_too_long : {X : Type 0} → ℕ → ℕ → List ℕ → Result X StubFault → Result X StubFault
+unless_too_long limit at bytes answer =
     cond (nat_lt limit (length (drop at bytes))) (Err (Large (length (drop at bytes)))) answer
 
 -- values behind which nothing stands
@@ -57,7 +57,7 @@ values_alone (bad_pad place) = Err (BadPad place)
 -- the values of fields, of all bytes from a place on
 abbrev pub values_unpacked : FieldTrees → ℕ → ℕ → List ℕ → Result (List ValueTree) StubFault
 values_unpacked fields limit at bytes =
-    limited limit at bytes (values_alone (fields_reading fields at (drop at bytes)))
+    unless_too_long limit at bytes (values_alone (fields_reading fields at (drop at bytes)))
 
 -- the interface's procedure decides, where there is one
 abbrev pub by_procedure : {X : Type 0} → Interface → ℕ → (Procedure → Result X StubFault) → Result X StubFault
@@ -79,7 +79,7 @@ as_raised n (Err fault) = Err fault
 -- the values that are raised under a number
 abbrev pub raised_values : ℕ → ℕ → List ℕ → Option FieldTrees → Result (List ValueTree) StubFault
 raised_values n limit bytes (Some fields) = values_unpacked fields limit 4 bytes
-raised_values n limit bytes None = limited limit 4 bytes (Err (NoError n))
+raised_values n limit bytes None = unless_too_long limit 4 bytes (Err (NoError n))
 
 -- an error's number and its values, behind the first word
 abbrev pub raised_unpacked : Interface → Procedure → ℕ → List ℕ → Option ℕ → Result Outcome StubFault

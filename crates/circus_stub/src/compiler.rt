@@ -3,7 +3,7 @@ ghost use Rattle.std.specs.Prelude.{◌≡◌, [], ◌∷◌, ◌++◌, length, 
 ghost use Rattle.circus_value.specs.ShapeOf.{tree_of};
 ghost use Rattle.circus_value.specs.ShapeTree.{field_trees, arm_trees};
 ghost use Rattle.circus_stub.specs.Flat.{label_numbers, flat, flat_fields, flat_arms};
-ghost use Rattle.circus_stub.specs.Compiled.{compiled, AreCompiled, procedure_stub, error_stub};
+ghost use Rattle.circus_stub.specs.Compiled.{compile_stubs, AreCompiled, procedure_stub, error_stub};
 
 use crate::stubs::{ErrorStub, ErrorStubs, ProcedureStub, ProcedureStubs};
 use crate::{Operation, Operations, Stubs};
@@ -14,7 +14,7 @@ use std::alloc::Global;
 /// Compiles an interface to flat operations, for which arguments, results and the values of an error may
 /// have at most `limit` bytes (docs/FORMATS.md, "Stubs"). `NoMemory` is the one fault.
 pub fn compile(alloc: Global, interface: &Interface, limit: u32) -> Result<Stubs, NoMemory>
-    ensures value { IfOk result (λ stubs. stubs ≡ compiled interface.now limit) }
+    ensures value { IfOk result (λ stubs. stubs ≡ compile_stubs interface.now limit) }
     ensures some { IfOk result AreCompiled }
 {
     Ok(Stubs {

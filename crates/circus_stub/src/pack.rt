@@ -5,7 +5,7 @@ ghost use Rattle.circus_idl.specs.declared.interface.Interface.{Interface};
 ghost use Rattle.circus_idl.specs.declared.interface.Procedure.{Procedure};
 ghost use Rattle.circus_external.specs.Spelling.{spelling_of_all, fields_admit};
 ghost use Rattle.circus_stub.specs.Flat.{flat_fields};
-ghost use Rattle.circus_stub.specs.Compiled.{compiled, procedure_stub};
+ghost use Rattle.circus_stub.specs.Compiled.{compile_stubs, procedure_stub};
 ghost use Rattle.circus_stub.specs.Packed.{AreArguments, MayEnd, IsOutcome, words, outcome_spelling};
 
 use crate::stubs::ProcedureStub;
@@ -19,12 +19,12 @@ impl Stubs {
     /// The bytes of a call's arguments, one value behind another (docs/FORMATS.md, "Stubs"). `NoMemory` is the
     /// one fault.
     pub fn pack(&self, alloc: Global, procedure: u16, values: &Values) -> Result<Message, NoMemory>
-        requires { (i : Interface) × (self.now ≡ compiled i self.now.limit)
+        requires { (i : Interface) × (self.now ≡ compile_stubs i self.now.limit)
             × AreArguments i procedure values.now }
         ensures { IfOk result (λ bytes. bytes ≡ spelling_of_all values.now) }
     {
         match self.stub(procedure) {
-            Some(stub) => packed(alloc, &[], stub.arguments.as_slice(), values),
+            Some(stub) => pack_values(alloc, &[], stub.arguments.as_slice(), values),
             None => unreachable!(),
         }
     }
@@ -37,7 +37,7 @@ impl Stubs {
         procedure: u16,
         outcome: &Outcome,
     ) -> Result<Message, NoMemory>
-        requires { (i : Interface) × (self.now ≡ compiled i self.now.limit)
+        requires { (i : Interface) × (self.now ≡ compile_stubs i self.now.limit)
             × IsOutcome i procedure outcome.now }
         ensures { IfOk result (λ bytes. bytes ≡ outcome_spelling outcome.now) }
     {
@@ -53,14 +53,14 @@ impl Stubs {
         stub: &ProcedureStub,
         outcome: &Outcome,
     ) -> Result<Message, NoMemory>
-        requires { (i : Interface) × (p : Procedure) × (self.now ≡ compiled i self.now.limit)
+        requires { (i : Interface) × (p : Procedure) × (self.now ≡ compile_stubs i self.now.limit)
             × (stub.now ≡ procedure_stub p) × MayEnd i p outcome.now }
         ensures { IfOk result (λ bytes. bytes ≡ outcome_spelling outcome.now) }
     {
         match outcome {
-            Outcome::Returned(results) => packed(alloc, &[0], stub.results.as_slice(), results),
+            Outcome::Returned(results) => pack_values(alloc, &[0], stub.results.as_slice(), results),
             Outcome::Raised(error, values) => match self.raised_operations(stub, *error) {
-                Some(operations) => packed(alloc, &[1, *error], operations, values),
+                Some(operations) => pack_values(alloc, &[1, *error], operations, values),
                 None => unreachable!(),
             },
         }
@@ -68,7 +68,7 @@ impl Stubs {
 }
 
 // Words, and behind them values, whose operations are these.
-fn packed(
+fn pack_values(
     alloc: Global,
     numbers: &[u16],
     operations: &[Operation],

@@ -6,7 +6,7 @@ ghost use Rattle.circus_value.specs.ThreadText.{numbers_behind};
 ghost use Rattle.circus_value.specs.ShapeTree.{ShapeTree, FieldTrees, ArmTrees};
 ghost use Rattle.circus_stub.specs.Flat.{flat_fields};
 ghost use Rattle.circus_stub.specs.Seen.Standing.{Stands, FieldsStand, ArmsStand};
-ghost use Rattle.circus_stub.specs.Compiled.{compiled, procedure_stub, error_stub};
+ghost use Rattle.circus_stub.specs.Compiled.{compile_stubs, procedure_stub, error_stub};
 ghost use Rattle.circus_stub.specs.StubsText.{part_words, shape_words, field_words, arm_words, interface_line, error_line, reports_line, procedure_lines, stubs_text};
 
 use crate::place::place_behind;
@@ -20,7 +20,7 @@ use std::alloc::Global;
 /// and for each procedure a line, a line of its call, one of its return and, where it reports errors, one of
 /// their numbers. `NoMemory` is the one fault.
 pub fn show_stubs(alloc: Global, interface: &Interface, stubs: &Stubs) -> Result<Octets, NoMemory>
-    requires { stubs.now ≡ compiled interface.now stubs.now.limit }
+    requires { stubs.now ≡ compile_stubs interface.now stubs.now.limit }
     ensures { IfOk result (λ text. text ≡ stubs_text interface.now) }
 {
     let mut text = Octets::new(alloc);
@@ -35,7 +35,7 @@ pub fn append_stubs(
     interface: &Interface,
     stubs: &Stubs,
 ) -> Result<(), NoMemory>
-    requires { stubs.now ≡ compiled interface.now stubs.now.limit }
+    requires { stubs.now ≡ compile_stubs interface.now stubs.now.limit }
     ensures { OnOk result (text.new ≡ text.old ++ stubs_text interface.now) }
 {
     add_interface(alloc, text, interface)?;

@@ -7,7 +7,7 @@ ghost use Rattle.circus_external.specs.Octets.{first_word};
 ghost use Rattle.circus_external.specs.Reading.{fields_reading};
 ghost use Rattle.circus_external.specs.Spelling.{spelling_of_all};
 ghost use Rattle.circus_stub.specs.Flat.{flat_fields};
-ghost use Rattle.circus_stub.specs.Compiled.{compiled, AreCompiled, procedure_stub, stub_of, error_values, raised_operations};
+ghost use Rattle.circus_stub.specs.Compiled.{compile_stubs, AreCompiled, procedure_stub, stub_of, error_values, raised_operations};
 ghost use Rattle.circus_stub.specs.Packed.{AreArguments, IsOutcome, outcome_spelling};
 ghost use Rattle.circus_stub.specs.Unpacked.{Answers, arguments_unpacked, outcome_unpacked, outcome_behind, raised_unpacked, values_unpacked, values_alone};
 
@@ -29,12 +29,12 @@ impl Stubs {
     pub fn unpack(&self, alloc: Global, procedure: u16, bytes: &[u8]) -> Result<Values, StubFault>
         requires { AreCompiled self.now }
         // What is unpacked are arguments, and the bytes are theirs.
-        ensures spelled { (i : Interface) → self.now ≡ compiled i self.now.limit
+        ensures spelled { (i : Interface) → self.now ≡ compile_stubs i self.now.limit
             → IfOk result (λ values.
             AreArguments i procedure values × (bytes.now ≡ spelling_of_all values)) }
 
         // Which answer it is.
-        ensures exact { (i : Interface) → self.now ≡ compiled i self.now.limit
+        ensures exact { (i : Interface) → self.now ≡ compile_stubs i self.now.limit
             → Answers result (arguments_unpacked i self.now.limit procedure bytes.now) }
     {
         self.arguments_from(alloc, procedure, &bytes)
@@ -54,12 +54,12 @@ impl Stubs {
     ) -> Result<Outcome, StubFault>
         requires { AreCompiled self.now }
         // What is unpacked is an outcome, and the bytes are its bytes.
-        ensures spelled { (i : Interface) → self.now ≡ compiled i self.now.limit
+        ensures spelled { (i : Interface) → self.now ≡ compile_stubs i self.now.limit
             → IfOk result (λ outcome.
             IsOutcome i procedure outcome × (bytes.now ≡ outcome_spelling outcome)) }
 
         // Which answer it is.
-        ensures exact { (i : Interface) → self.now ≡ compiled i self.now.limit
+        ensures exact { (i : Interface) → self.now ≡ compile_stubs i self.now.limit
             → Answers result (outcome_unpacked i self.now.limit procedure bytes.now) }
     {
         self.outcome_from(alloc, procedure, &bytes)
@@ -77,12 +77,12 @@ impl Stubs {
         requires stubs { AreCompiled self.now }
         requires within { at ≤ length parts.now }
         // What is unpacked are arguments, and the bytes are theirs.
-        ensures spelled { (i : Interface) → self.now ≡ compiled i self.now.limit
+        ensures spelled { (i : Interface) → self.now ≡ compile_stubs i self.now.limit
             → IfOk result (λ values.
             AreArguments i procedure values × (drop at parts.now ≡ spelling_of_all values)) }
 
         // The answer of `unpack`.
-        ensures exact { (i : Interface) → self.now ≡ compiled i self.now.limit
+        ensures exact { (i : Interface) → self.now ≡ compile_stubs i self.now.limit
             → Answers result (arguments_unpacked i self.now.limit procedure (drop at parts.now)) }
     {
         prove!(at <= parts.len());
@@ -101,12 +101,12 @@ impl Stubs {
         requires stubs { AreCompiled self.now }
         requires within { at ≤ length parts.now }
         // What is unpacked is an outcome, and the bytes are its bytes.
-        ensures spelled { (i : Interface) → self.now ≡ compiled i self.now.limit
+        ensures spelled { (i : Interface) → self.now ≡ compile_stubs i self.now.limit
             → IfOk result (λ outcome.
             IsOutcome i procedure outcome × (drop at parts.now ≡ outcome_spelling outcome)) }
 
         // The answer of `unpack_outcome`.
-        ensures exact { (i : Interface) → self.now ≡ compiled i self.now.limit
+        ensures exact { (i : Interface) → self.now ≡ compile_stubs i self.now.limit
             → Answers result (outcome_unpacked i self.now.limit procedure (drop at parts.now)) }
     {
         prove!(at <= parts.len());
@@ -120,7 +120,7 @@ impl Stubs {
         source: &S,
     ) -> Result<Values, StubFault>
         requires { AreCompiled self.now }
-        ensures { (i : Interface) → self.now ≡ compiled i self.now.limit
+        ensures { (i : Interface) → self.now ≡ compile_stubs i self.now.limit
             → Answers result (arguments_unpacked i self.now.limit procedure (S.octets source.now)) }
     {
         match self.stub(procedure) {
@@ -136,7 +136,7 @@ impl Stubs {
         source: &S,
     ) -> Result<Outcome, StubFault>
         requires { AreCompiled self.now }
-        ensures { (i : Interface) → self.now ≡ compiled i self.now.limit
+        ensures { (i : Interface) → self.now ≡ compile_stubs i self.now.limit
             → Answers result (outcome_unpacked i self.now.limit procedure (S.octets source.now)) }
     {
         match self.stub(procedure) {
@@ -151,9 +151,9 @@ impl Stubs {
         stub: &ProcedureStub,
         source: &S,
     ) -> Result<Outcome, StubFault>
-        requires { (i : Interface) × (p : Procedure) × (self.now ≡ compiled i self.now.limit)
+        requires { (i : Interface) × (p : Procedure) × (self.now ≡ compile_stubs i self.now.limit)
             × (stub.now ≡ procedure_stub p) }
-        ensures { (i : Interface) (p : Procedure) → self.now ≡ compiled i self.now.limit
+        ensures { (i : Interface) (p : Procedure) → self.now ≡ compile_stubs i self.now.limit
             → stub.now ≡ procedure_stub p
             → Answers result
             (outcome_behind i p self.now.limit (S.octets source.now)
@@ -178,9 +178,9 @@ impl Stubs {
         stub: &ProcedureStub,
         source: &S,
     ) -> Result<Outcome, StubFault>
-        requires { (i : Interface) × (p : Procedure) × (self.now ≡ compiled i self.now.limit)
+        requires { (i : Interface) × (p : Procedure) × (self.now ≡ compile_stubs i self.now.limit)
             × (stub.now ≡ procedure_stub p) }
-        ensures { (i : Interface) (p : Procedure) → self.now ≡ compiled i self.now.limit
+        ensures { (i : Interface) (p : Procedure) → self.now ≡ compile_stubs i self.now.limit
             → stub.now ≡ procedure_stub p
             → Answers result
             (raised_unpacked i p self.now.limit (S.octets source.now)

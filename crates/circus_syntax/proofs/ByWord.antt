@@ -12,8 +12,8 @@ use Rattle.circus_syntax.specs.declared.reading.TypeStart.{TypeStart}
 use Rattle.circus_syntax.specs.declared.reading.TypeStart.TheVariants as begins
 use Rattle.circus_syntax.specs.TypeTree.{TypeTree, GroupTree, ArmTree, boolean, cardinal, integer, text, enumeration, array, sequence, «record», choice, called, group_trees, arm_trees}
 use Rattle.circus_syntax.specs.Placed.{Placed, is_lexeme, is_name, is_number, word, sign}
-use Rattle.circus_syntax.specs.Reader.{Reader, place, place_of, stopped_by, passes, next, sees, token_in, both, mapped, optional, marked, marked_in}
-use Rattle.circus_syntax.specs.Reading.{fixed, fixed_at, name, number, named_of, filled_name, number_if_any, names, label, labels, behind, type_name, type_name_place, name_of_type, start_of_type, long_of, is_long_integer, long, called_of, simple, type, array_type, sequence_type, record_type, choice_type, group_of_type, arm_of_type, arms, groups, stop_in_type, unmarked_type, type_within, type_with, flat_type, nests, too_deep, groups_with, group, arm, listed}
+use Rattle.circus_syntax.specs.Reader.{Reader, place, place_of, stopped_by, passes, next, sees, token_in, both, map_read, optional, mark_stops, marked_in}
+use Rattle.circus_syntax.specs.Reading.{expect_token, fixed_at, name, number, named_of, filled_name, number_if_any, names, label, labels, behind, type_name, type_name_place, name_of_type, start_of_type, long_of, is_long_integer, long, called_of, simple_type, type, array_type, sequence_type, record_type, choice_type, group_of_type, arm_of_type, arms, groups, stop_in_type, unmarked_type, type_within, type_with, flat_type, nests, too_deep, groups_with, group, arm, comma_list}
 use Rattle.circus_syntax.proofs.Sound.{Sound, both_is}
 use Rattle.circus_syntax.proofs.Tokens.{comma_sign, is_comma}
 use Rattle.circus_syntax.proofs.Types.{spelling_group, IsGroupWithin, spelling_arm, IsArmWithin, sound_group, sound_arm, sound_type}
@@ -30,11 +30,11 @@ token_place test None [] e = refl
 token_place test None (t ∷ ts) e = tested (test t) _ _ t.start
 
 -- a word or a sign with its place
-pub fixed_at_is : (l : Lexeme) (r s : Reader) → fixed l r ≡ (tt, s) → fixed_at l r ≡ (place r, s)
-unfolding fixed fixed_at
+pub fixed_at_is : (l : Lexeme) (r s : Reader) → expect_token l r ≡ (tt, s) → fixed_at l r ≡ (place r, s)
+unfolding expect_token fixed_at
 fixed_at_is l r s is = token_place (is_lexeme l) r.stop r.rest r.end ∙ ap (λ (x : Unit {0} × Reader). (place r, x.1)) is
 
-pub at_is : {A : Type 0} (l : Lexeme) (f : ℕ → A) (r s : Reader) → fixed l r ≡ (tt, s) → mapped f (fixed_at l) r ≡ (f (place r), s)
+pub at_is : {A : Type 0} (l : Lexeme) (f : ℕ → A) (r s : Reader) → expect_token l r ≡ (tt, s) → map_read f (fixed_at l) r ≡ (f (place r), s)
 at_is l f r s is = ap (λ x. (f x.0, x.1)) (fixed_at_is l r s is)
 
 name_tested : (b : Bool) (t : Placed) (x y : Reader) → let P : Named × Reader = if b then (named_of t, x) else (filled_name t.start, y) in P.0.at ≡ t.start
@@ -60,13 +60,13 @@ optional_none test p r b seen missed = rw (← seen, missed) refl
 abbrev dot : Lexeme
 dot = sign (codes ".")
 
-pub name_of_type_two : (r s t u : Reader) (m n : Named) (b : Bool) → name r ≡ (m, s) → b ≡ sees (is_lexeme dot) s → b ≡ true → fixed dot s ≡ (tt, t) → name t ≡ (n, u)
+pub name_of_type_two : (r s t u : Reader) (m n : Named) (b : Bool) → name r ≡ (m, s) → b ≡ sees (is_lexeme dot) s → b ≡ true → expect_token dot s ≡ (tt, t) → name t ≡ (n, u)
     → name_of_type r ≡ (record { «module» = Some m; name = n }, u)
 unfolding name_of_type
 name_of_type_two r s t u m n b first seen hit dot_is second =
     ap (λ x. (type_name x.0.0 x.0.1, x.1))
     (both_is name (optional (is_lexeme dot) (behind dot name)) r s u m (Some n) first
-    (optional_some (is_lexeme dot) (behind dot name) s u n b seen hit (ap (λ y. (y.0.1, y.1)) (both_is (fixed dot) name s t u tt n dot_is second))))
+    (optional_some (is_lexeme dot) (behind dot name) s u n b seen hit (ap (λ y. (y.0.1, y.1)) (both_is (expect_token dot) name s t u tt n dot_is second))))
 
 pub name_of_type_one : (r s : Reader) (m : Named) (b : Bool) → name r ≡ (m, s) → b ≡ sees (is_lexeme dot) s → b ≡ false → name_of_type r ≡ (record { «module» = None; name = m }, s)
 unfolding name_of_type
@@ -91,39 +91,39 @@ unfolding start_of_type
 start_by_sight None = refl
 start_by_sight (Some t) = refl
 
-pub long_is : (r s t : Reader) (b c : Bool) → fixed (word (codes "LONG")) r ≡ (tt, s) → is_long_integer s ≡ (b, t) → b ≡ c → simple begins.Long r ≡ (long_of (place r, c), t)
-unfolding simple long
+pub long_is : (r s t : Reader) (b c : Bool) → expect_token (word (codes "LONG")) r ≡ (tt, s) → is_long_integer s ≡ (b, t) → b ≡ c → simple_type begins.Long r ≡ (long_of (place r, c), t)
+unfolding simple_type long
 long_is r s t b c long_word rest is =
     ap (λ x. (long_of x.0, x.1)) (both_is (fixed_at (word (codes "LONG"))) is_long_integer r s t (place r) b (fixed_at_is (word (codes "LONG")) r s long_word) rest)
     ∙ ap (λ d. (long_of (place r, d), t)) is
 
-pub labels_is : (r s t u : Reader) (ls : List LabelText) → fixed (sign (codes "{")) r ≡ (tt, s) → labels s ≡ (ls, t) → fixed (sign (codes "}")) t ≡ (tt, u) → simple begins.Labels r ≡ (enumeration (place r) ls, u)
-unfolding simple
+pub labels_is : (r s t u : Reader) (ls : List LabelText) → expect_token (sign (codes "{")) r ≡ (tt, s) → labels s ≡ (ls, t) → expect_token (sign (codes "}")) t ≡ (tt, u) → simple_type begins.Labels r ≡ (enumeration (place r) ls, u)
+unfolding simple_type
 labels_is r s t u ls opened inside closed =
     ap (λ x. (enumeration x.0.0 x.0.1.0, x.1))
-    (both_is (fixed_at (sign (codes "{"))) (both labels (fixed (sign (codes "}")))) r s u (place r) (ls, tt) (fixed_at_is (sign (codes "{")) r s opened) (both_is labels (fixed (sign (codes "}"))) s t u ls tt inside closed))
+    (both_is (fixed_at (sign (codes "{"))) (both labels (expect_token (sign (codes "}")))) r s u (place r) (ls, tt) (fixed_at_is (sign (codes "{")) r s opened) (both_is labels (expect_token (sign (codes "}"))) s t u ls tt inside closed))
 
-pub called_is : (r s : Reader) (n : TypeName) → name_of_type r ≡ (n, s) → type_name_place n.«module» n.name ≡ place r → simple begins.Name r ≡ (called (place r) n, s)
-unfolding simple
+pub called_is : (r s : Reader) (n : TypeName) → name_of_type r ≡ (n, s) → type_name_place n.«module» n.name ≡ place r → simple_type begins.Name r ≡ (called (place r) n, s)
+unfolding simple_type
 called_is r s n is placed = ap (λ x. (called_of x.0, x.1)) is ∙ ap (λ at. (called at n, s)) placed
 
-pub cardinal_is : (r s : Reader) → fixed (word (codes "CARDINAL")) r ≡ (tt, s) → simple begins.Cardinal r ≡ (cardinal (place r), s)
-unfolding simple
+pub cardinal_is : (r s : Reader) → expect_token (word (codes "CARDINAL")) r ≡ (tt, s) → simple_type begins.Cardinal r ≡ (cardinal (place r), s)
+unfolding simple_type
 cardinal_is r s is = at_is (word (codes "CARDINAL")) cardinal r s is
 
-pub integer_is : (r s : Reader) → fixed (word (codes "INTEGER")) r ≡ (tt, s) → simple begins.Integer r ≡ (integer (place r), s)
-unfolding simple
+pub integer_is : (r s : Reader) → expect_token (word (codes "INTEGER")) r ≡ (tt, s) → simple_type begins.Integer r ≡ (integer (place r), s)
+unfolding simple_type
 integer_is r s is = at_is (word (codes "INTEGER")) integer r s is
 
-pub text_is : (r s : Reader) → fixed (word (codes "STRING")) r ≡ (tt, s) → simple begins.Text r ≡ (text (place r), s)
-unfolding simple
+pub text_is : (r s : Reader) → expect_token (word (codes "STRING")) r ≡ (tt, s) → simple_type begins.Text r ≡ (text (place r), s)
+unfolding simple_type
 text_is r s is = at_is (word (codes "STRING")) text r s is
 
 -- any other start is BOOLEAN's
-pub boolean_is : (k : TypeStart) (r s : Reader) → fixed (word (codes "BOOLEAN")) r ≡ (tt, s)
+pub boolean_is : (k : TypeStart) (r s : Reader) → expect_token (word (codes "BOOLEAN")) r ≡ (tt, s)
     → (k ≡ begins.Cardinal → ⊥) → (k ≡ begins.Integer → ⊥) → (k ≡ begins.Text → ⊥) → (k ≡ begins.Long → ⊥) → (k ≡ begins.Labels → ⊥) → (k ≡ begins.Name → ⊥)
-    → simple k r ≡ (boolean (place r), s)
-unfolding simple
+    → simple_type k r ≡ (boolean (place r), s)
+unfolding simple_type
 boolean_is begins.Cardinal r s is no_cardinal no_integer no_text no_long no_labels no_name = absurd (no_cardinal refl)
 boolean_is begins.Integer r s is no_cardinal no_integer no_text no_long no_labels no_name = absurd (no_integer refl)
 boolean_is begins.Text r s is no_cardinal no_integer no_text no_long no_labels no_name = absurd (no_text refl)
@@ -134,54 +134,54 @@ boolean_is _ r s is no_cardinal no_integer no_text no_long no_labels no_name = a
 
 -- Types with others in them, their parts read with so many levels.
 
-pub array_is : (n : ℕ) (r s t u v : Reader) (k : Numeral) (e : TypeTree) → fixed (word (codes "ARRAY")) r ≡ (tt, s) → number s ≡ (k, t) → fixed (word (codes "OF")) t ≡ (tt, u) → type n u ≡ (e, v)
+pub array_is : (n : ℕ) (r s t u v : Reader) (k : Numeral) (e : TypeTree) → expect_token (word (codes "ARRAY")) r ≡ (tt, s) → number s ≡ (k, t) → expect_token (word (codes "OF")) t ≡ (tt, u) → type n u ≡ (e, v)
     → array_type n r ≡ (array (place r) k e, v)
 unfolding array_type
 array_is n r s t u v k e first second third last =
     ap (λ x. (array x.0.0 x.0.1.0 x.0.1.1.1, x.1))
-    (both_is (fixed_at (word (codes "ARRAY"))) (both number (both (fixed (word (codes "OF"))) (type n))) r s v (place r) (k, (tt, e)) (fixed_at_is (word (codes "ARRAY")) r s first)
-    (both_is number (both (fixed (word (codes "OF"))) (type n)) s t v k (tt, e) second
-    (both_is (fixed (word (codes "OF"))) (type n) t u v tt e third last)))
+    (both_is (fixed_at (word (codes "ARRAY"))) (both number (both (expect_token (word (codes "OF"))) (type n))) r s v (place r) (k, (tt, e)) (fixed_at_is (word (codes "ARRAY")) r s first)
+    (both_is number (both (expect_token (word (codes "OF"))) (type n)) s t v k (tt, e) second
+    (both_is (expect_token (word (codes "OF"))) (type n) t u v tt e third last)))
 
-pub sequence_is : (n : ℕ) (r s t u v : Reader) (b : Option Numeral) (e : TypeTree) → fixed (word (codes "SEQUENCE")) r ≡ (tt, s) → number_if_any s ≡ (b, t) → fixed (word (codes "OF")) t ≡ (tt, u) → type n u ≡ (e, v)
+pub sequence_is : (n : ℕ) (r s t u v : Reader) (b : Option Numeral) (e : TypeTree) → expect_token (word (codes "SEQUENCE")) r ≡ (tt, s) → number_if_any s ≡ (b, t) → expect_token (word (codes "OF")) t ≡ (tt, u) → type n u ≡ (e, v)
     → sequence_type n r ≡ (sequence (place r) b e, v)
 unfolding sequence_type number_if_any
 sequence_is n r s t u v b e first second third last =
     ap (λ x. (sequence x.0.0 x.0.1.0 x.0.1.1.1, x.1))
-    (both_is (fixed_at (word (codes "SEQUENCE"))) (both (optional is_number number) (both (fixed (word (codes "OF"))) (type n))) r s v (place r) (b, (tt, e)) (fixed_at_is (word (codes "SEQUENCE")) r s first)
-    (both_is (optional is_number number) (both (fixed (word (codes "OF"))) (type n)) s t v b (tt, e) second
-    (both_is (fixed (word (codes "OF"))) (type n) t u v tt e third last)))
+    (both_is (fixed_at (word (codes "SEQUENCE"))) (both (optional is_number number) (both (expect_token (word (codes "OF"))) (type n))) r s v (place r) (b, (tt, e)) (fixed_at_is (word (codes "SEQUENCE")) r s first)
+    (both_is (optional is_number number) (both (expect_token (word (codes "OF"))) (type n)) s t v b (tt, e) second
+    (both_is (expect_token (word (codes "OF"))) (type n) t u v tt e third last)))
 
-pub record_is : (n : ℕ) (r s t u v : Reader) (gs : List GroupTree) → fixed (word (codes "RECORD")) r ≡ (tt, s) → fixed (sign (codes "[")) s ≡ (tt, t) → groups n t ≡ (gs, u) → fixed (sign (codes "]")) u ≡ (tt, v)
+pub record_is : (n : ℕ) (r s t u v : Reader) (gs : List GroupTree) → expect_token (word (codes "RECORD")) r ≡ (tt, s) → expect_token (sign (codes "[")) s ≡ (tt, t) → groups n t ≡ (gs, u) → expect_token (sign (codes "]")) u ≡ (tt, v)
     → record_type n r ≡ («record» (place r) (group_trees gs), v)
 unfolding record_type groups
 record_is n r s t u v gs first second third last =
     ap (λ x. («record» x.0.0 (group_trees x.0.1.1.0), x.1))
-    (both_is (fixed_at (word (codes "RECORD"))) (both (fixed (sign (codes "["))) (both (groups_with (type n)) (fixed (sign (codes "]"))))) r s v (place r) (tt, (gs, tt)) (fixed_at_is (word (codes "RECORD")) r s first)
-    (both_is (fixed (sign (codes "["))) (both (groups_with (type n)) (fixed (sign (codes "]")))) s t v tt (gs, tt) second
-    (both_is (groups_with (type n)) (fixed (sign (codes "]"))) t u v gs tt third last)))
+    (both_is (fixed_at (word (codes "RECORD"))) (both (expect_token (sign (codes "["))) (both (groups_with (type n)) (expect_token (sign (codes "]"))))) r s v (place r) (tt, (gs, tt)) (fixed_at_is (word (codes "RECORD")) r s first)
+    (both_is (expect_token (sign (codes "["))) (both (groups_with (type n)) (expect_token (sign (codes "]")))) s t v tt (gs, tt) second
+    (both_is (groups_with (type n)) (expect_token (sign (codes "]"))) t u v gs tt third last)))
 
-pub choice_is : (n : ℕ) (r s t u v w : Reader) (others : List ArmTree) → fixed (word (codes "CHOICE")) r ≡ (tt, s) → fixed (word (codes "OF")) s ≡ (tt, t) → fixed (sign (codes "{")) t ≡ (tt, u) → arms n u ≡ (others, v) → fixed (sign (codes "}")) v ≡ (tt, w)
+pub choice_is : (n : ℕ) (r s t u v w : Reader) (others : List ArmTree) → expect_token (word (codes "CHOICE")) r ≡ (tt, s) → expect_token (word (codes "OF")) s ≡ (tt, t) → expect_token (sign (codes "{")) t ≡ (tt, u) → arms n u ≡ (others, v) → expect_token (sign (codes "}")) v ≡ (tt, w)
     → choice_type n r ≡ (choice (place r) (arm_trees others), w)
 unfolding choice_type arms arm_of_type
 choice_is n r s t u v w others first second third fourth last =
     ap (λ x. (choice x.0.0 (arm_trees x.0.1.1.1.0), x.1))
-    (both_is (fixed_at (word (codes "CHOICE"))) (both (fixed (word (codes "OF"))) (both (fixed (sign (codes "{"))) (both (listed (arm (type n))) (fixed (sign (codes "}")))))) r s w (place r) (tt, (tt, (others, tt))) (fixed_at_is (word (codes "CHOICE")) r s first)
-    (both_is (fixed (word (codes "OF"))) (both (fixed (sign (codes "{"))) (both (listed (arm (type n))) (fixed (sign (codes "}"))))) s t w tt (tt, (others, tt)) second
-    (both_is (fixed (sign (codes "{"))) (both (listed (arm (type n))) (fixed (sign (codes "}")))) t u w tt (others, tt) third
-    (both_is (listed (arm (type n))) (fixed (sign (codes "}"))) u v w others tt fourth last))))
+    (both_is (fixed_at (word (codes "CHOICE"))) (both (expect_token (word (codes "OF"))) (both (expect_token (sign (codes "{"))) (both (comma_list (arm (type n))) (expect_token (sign (codes "}")))))) r s w (place r) (tt, (tt, (others, tt))) (fixed_at_is (word (codes "CHOICE")) r s first)
+    (both_is (expect_token (word (codes "OF"))) (both (expect_token (sign (codes "{"))) (both (comma_list (arm (type n))) (expect_token (sign (codes "}"))))) s t w tt (tt, (others, tt)) second
+    (both_is (expect_token (sign (codes "{"))) (both (comma_list (arm (type n))) (expect_token (sign (codes "}")))) t u w tt (others, tt) third
+    (both_is (comma_list (arm (type n))) (expect_token (sign (codes "}"))) u v w others tt fourth last))))
 
-pub group_is : (n : ℕ) (r s t u : Reader) (ns : List Named) (e : TypeTree) → names r ≡ (ns, s) → fixed (sign (codes ":")) s ≡ (tt, t) → type n t ≡ (e, u) → group_of_type n r ≡ (record { names = ns; shape = e }, u)
+pub group_is : (n : ℕ) (r s t u : Reader) (ns : List Named) (e : TypeTree) → names r ≡ (ns, s) → expect_token (sign (codes ":")) s ≡ (tt, t) → type n t ≡ (e, u) → group_of_type n r ≡ (record { names = ns; shape = e }, u)
 unfolding group_of_type
 group_is n r s t u ns e first second last =
     ap (λ x. (record { names = x.0.0; shape = x.0.1.1 }, x.1))
-    (both_is names (both (fixed (sign (codes ":"))) (type n)) r s u ns (tt, e) first (both_is (fixed (sign (codes ":"))) (type n) s t u tt e second last))
+    (both_is names (both (expect_token (sign (codes ":"))) (type n)) r s u ns (tt, e) first (both_is (expect_token (sign (codes ":"))) (type n) s t u tt e second last))
 
-pub arm_is : (n : ℕ) (r s t u : Reader) (l : LabelText) (e : TypeTree) → label r ≡ (l, s) → fixed (sign (codes "=>")) s ≡ (tt, t) → type n t ≡ (e, u)
+pub arm_is : (n : ℕ) (r s t u : Reader) (l : LabelText) (e : TypeTree) → label r ≡ (l, s) → expect_token (sign (codes "=>")) s ≡ (tt, t) → type n t ≡ (e, u)
     → arm_of_type n r ≡ (record { name = l.name; number = l.number; shape = e }, u)
 unfolding arm_of_type label
 arm_is n r s t u l e first second last =
-    ap (λ x. (record { name = x.0.name; number = x.0.number; shape = (type n (fixed (sign (codes "=>")) x.1).1).0 }, (type n (fixed (sign (codes "=>")) x.1).1).1)) first
+    ap (λ x. (record { name = x.0.name; number = x.0.number; shape = (type n (expect_token (sign (codes "=>")) x.1).1).0 }, (type n (expect_token (sign (codes "=>")) x.1).1).1)) first
     ∙ ap (λ x. (record { name = l.name; number = l.number; shape = (type n x.1).0 }, (type n x.1).1)) second
     ∙ ap (λ x. (record { name = l.name; number = l.number; shape = x.0 }, x.1)) last
 
@@ -219,7 +219,7 @@ had_stopped None b is missed none = cc (ap not missed)
 had_stopped (Some s) b is missed none = cc
 
 pub marked_open : {A : Type 0} (mark : ℕ → Stop → Stop) (p : Reader → A × Reader) (r s m : Reader) (f : ℕ → A) (o : Option Stop) (b : Bool) (at : ℕ) → o ≡ r.stop → is_some o ≡ not b → b ≡ true → at ≡ place r
-    → p r ≡ (f (place r), s) → m ≡ record { rest = s.rest; end = s.end; stop = option_map (mark at) s.stop } → marked mark p r ≡ (f at, m)
+    → p r ≡ (f (place r), s) → m ≡ record { rest = s.rest; end = s.end; stop = option_map (mark at) s.stop } → mark_stops mark p r ≡ (f at, m)
 marked_open mark p r s m f o b at o_is some hit at_is is m_is =
     let going : r.stop ≡ None = sym o_is ∙ still_open o b some hit in
     ap (marked_in mark r.stop (place r)) is ∙ (λ i. marked_in mark (going i) (place r) (f (place r), s))
@@ -227,7 +227,7 @@ marked_open mark p r s m f o b at o_is some hit at_is is m_is =
     ∙ ap (λ t. (f at, t)) (sym m_is)
 
 pub marked_stopped : {A : Type 0} (mark : ℕ → Stop → Stop) (p : Reader → A × Reader) (r s m : Reader) (f : ℕ → A) (o : Option Stop) (b : Bool) (at : ℕ) → o ≡ r.stop → is_some o ≡ not b → b ≡ false → at ≡ place r
-    → p r ≡ (f (place r), s) → m ≡ s → marked mark p r ≡ (f at, m)
+    → p r ≡ (f (place r), s) → m ≡ s → mark_stops mark p r ≡ (f at, m)
 marked_stopped {A} mark p r s m f o b at o_is some missed at_is is m_is =
     ap (marked_in mark r.stop (place r)) is ∙ by_stop r.stop (λ none. had_stopped o b some missed (o_is ∙ none)) ∙ (λ i. (f (sym at_is i), sym m_is i))
   where
@@ -235,14 +235,14 @@ marked_stopped {A} mark p r s m f o b at o_is some missed at_is is m_is =
     by_stop None stopped = absurd (stopped refl)
     by_stop (Some stop) stopped = refl
 
-pub type_is : (n : ℕ) (r : Reader) → type n r ≡ marked stop_in_type (unmarked_type n) r
+pub type_is : (n : ℕ) (r : Reader) → type n r ≡ mark_stops stop_in_type (unmarked_type n) r
 unfolding type unmarked_type
 type_is zero r = refl
 type_is (suc n) r = refl
 
 -- A type without it.
 
-flat_simple : (k : TypeStart) → nests k ≡ false → (n : ℕ) → type_within n k ≡ simple k
+flat_simple : (k : TypeStart) → nests k ≡ false → (n : ℕ) → type_within n k ≡ simple_type k
 flat_simple begins.Array h n = cc
 flat_simple begins.Sequence h n = cc
 flat_simple begins.Record h n = cc
@@ -262,7 +262,7 @@ flat_simple begins.Name h (suc n) = refl
 flat_simple begins.Other h zero = refl
 flat_simple begins.Other h (suc n) = refl
 
-pub unmarked_simple : (n : ℕ) (r : Reader) (k : TypeStart) (x : TypeTree × Reader) (b : Bool) → k ≡ start_of_type (next r) → b ≡ nests k → b ≡ false → simple k r ≡ x → unmarked_type n r ≡ x
+pub unmarked_simple : (n : ℕ) (r : Reader) (k : TypeStart) (x : TypeTree × Reader) (b : Bool) → k ≡ start_of_type (next r) → b ≡ nests k → b ≡ false → simple_type k r ≡ x → unmarked_type n r ≡ x
 unfolding unmarked_type
 unmarked_simple n r k x b start flat is same =
     ap (λ j. type_within n j r) (sym start) ∙ ap (λ (p : Reader → TypeTree × Reader). p r) (flat_simple k (sym flat ∙ is) n) ∙ same

@@ -9,9 +9,9 @@ use Rattle.circus_syntax.specs.declared.stopping.Stop.{Stop}
 use Rattle.circus_syntax.specs.TypeTree.{GroupTree, group_trees}
 use Rattle.circus_syntax.specs.InterfaceTree.{InterfaceTree}
 use Rattle.circus_syntax.specs.Placed.{Placed, is_lexeme, is_name, word, sign, due}
-use Rattle.circus_syntax.specs.Reading.{fixed, group, groups, type, stop_in_list, fields, arguments, results, reported, reports, numbered, a_type_behind, an_error_behind, a_procedure_behind, Parts, declared_of_parts, Declaring, of_type, of_error, of_procedure, declared_start, parts_behind, declared, heading, declarations, interface_of_parts, interface}
+use Rattle.circus_syntax.specs.Reading.{expect_token, group, groups, type, stop_in_list, fields, arguments, results, error_names, reports, number_at_end, a_type_behind, an_error_behind, a_procedure_behind, Parts, declared_of_parts, Declaring, of_type, of_error, of_procedure, declared_start, parts_behind, one_declaration, heading, declarations, interface_of_parts, interface}
 use Rattle.circus_syntax.specs.Spelling.{comma, if_written, spelling_reports, spelling_numbered}
-use Rattle.circus_syntax.specs.Standing.{Standing, outside, in_list, apart, standing_type, standing_group, standing_more_groups, standing_groups, standing_fields, standing_arguments, standing_results, standing_declared, standing}
+use Rattle.circus_syntax.specs.Standing.{Standing, outside, in_list, apart, standing_type, standing_group, standing_more_groups, standing_groups, standing_fields, standing_arguments, standing_results, standing_declared, standings_of_interface}
 use Rattle.circus_syntax.proofs.Sound.{reader}
 use Rattle.circus_syntax.proofs.Tokens.{comma_sign, is_comma}
 use Rattle.circus_syntax.proofs.Interfaces.{spelling_heading}
@@ -19,7 +19,7 @@ use Rattle.circus_syntax.proofs.Cuts.{At, Cut, Cuts, cuts_nothing, cuts_both, cu
 use Rattle.circus_syntax.proofs.CutTypes.{Exactly, cuts_fixed, cuts_fixed_at, cuts_name, cuts_number, cuts_names, here_fixed, cuts_type}
 
 -- outside of types and lists
-fixed_out : (l : Lexeme) → Apart Exactly (fixed l) (λ x. due l ∷ [])
+fixed_out : (l : Lexeme) → Apart Exactly (expect_token l) (λ x. due l ∷ [])
 fixed_out = cuts_fixed Exactly (λ at. (refl, refl))
 
 cuts_group : (n : ℕ) → Cuts Exactly (group (type n)) (λ g. standing_group g.names g.shape)
@@ -69,14 +69,14 @@ cuts_results n =
     (cuts_nothing Exactly None standing_results refl)
 
 cuts_reports : Apart Exactly reports (if_written spelling_reports)
-unfolding reports reported
+unfolding reports error_names
 cuts_reports =
     apart_optional Exactly (is_lexeme (word (codes "REPORTS")))
     (apart_mapped Exactly (λ x. x.1.1.0) spelling_reports (λ x. refl)
     (apart_both Exactly (fixed_out (word (codes "REPORTS"))) (apart_both Exactly (fixed_out (sign (codes "["))) (apart_both Exactly (cuts_names Exactly (λ at. (refl, refl))) (fixed_out (sign (codes "]")))))))
 
-cuts_numbered : Apart Exactly numbered spelling_numbered
-unfolding numbered
+cuts_numbered : Apart Exactly number_at_end spelling_numbered
+unfolding number_at_end
 cuts_numbered =
     apart_mapped Exactly (λ x. x.1.0) spelling_numbered (λ x. refl)
     (apart_both Exactly (fixed_out (sign (codes "="))) (apart_both Exactly (cuts_number Exactly (λ at. (refl, refl))) (fixed_out (sign (codes ";")))))
@@ -108,8 +108,8 @@ declared_parts n (inl t) = refl
 declared_parts n (inr (inl x)) = refl
 declared_parts n (inr (inr x)) = refl
 
-cuts_declared : (n : ℕ) → Cuts Exactly (declared n) standing_declared
-unfolding declared
+cuts_declared : (n : ℕ) → Cuts Exactly (one_declaration n) standing_declared
+unfolding one_declaration
 cuts_declared n =
     cuts_mapped Exactly (λ x. declared_of_parts x.0 x.1.1) standing_declared (λ x. declared_parts x.0 x.1.1)
     (cuts_both Exactly (cuts_name Exactly (λ at. (refl, refl))).cuts (cuts_both Exactly (fixed_out (sign (codes ":"))).cuts (cuts_cased Exactly declared_start (parts_behind n) (cuts_parts n))))
@@ -123,10 +123,10 @@ cuts_heading =
     (apart_both Exactly a_name (apart_both Exactly (fixed_out (sign (codes ":"))) (apart_both Exactly (fixed_out (word (codes "PROGRAM"))) (apart_both Exactly a_number
     (apart_both Exactly (fixed_out (word (codes "VERSION"))) (apart_both Exactly a_number (apart_both Exactly (fixed_out (sign (codes "="))) (fixed_out (word (codes "BEGIN"))))))))))
 
-cuts_interface : (n : ℕ) → Cuts Exactly (interface n) standing
+cuts_interface : (n : ℕ) → Cuts Exactly (interface n) standings_of_interface
 unfolding interface declarations
 cuts_interface n =
-    cuts_mapped Exactly interface_of_parts standing (λ x. refl)
+    cuts_mapped Exactly interface_of_parts standings_of_interface (λ x. refl)
     (cuts_both Exactly cuts_heading.cuts (cuts_both Exactly (cuts_repeated Exactly is_name (cuts_declared n)) (cuts_both Exactly (fixed_out (word (codes "END"))).cuts (fixed_out (sign (codes "."))).cuts)))
 
 at_place : (ms : List Standing) (k : ℕ) (s : Stop) → At Exactly ms k s → slice_get ms k ≡ Some (record { within = s.within; list = s.list })
@@ -136,8 +136,8 @@ at_place (m ∷ ms) (suc k) s at = at_place ms k s at
 
 -- the mark of a stop that came behind these tokens
 pub cut_interface : (n : ℕ) (ts taken left : List Placed) (tree : InterfaceTree) (s : Stop) (e : ℕ) → interface n (reader None ts e) ≡ (tree, reader (Some s) left e) → ts ≡ taken ++ left
-    → slice_get (standing tree) (length taken) ≡ Some (record { within = s.within; list = s.list })
+    → slice_get (standings_of_interface tree) (length taken) ≡ Some (record { within = s.within; list = s.list })
 cut_interface n ts taken left tree s e is whole =
-    let (ends, (k, few, at)) : Cut Exactly standing (length ts) e (tree, reader (Some s) left e) = subst (Cut Exactly standing (length ts) e) is ((cuts_interface n).cut ts e) in
+    let (ends, (k, few, at)) : Cut Exactly standings_of_interface (length ts) e (tree, reader (Some s) left e) = subst (Cut Exactly standings_of_interface (length ts) e) is ((cuts_interface n).cut ts e) in
     let count : k ≡ length taken = omega (arith, few, ap length whole, length-append taken left) in
-    subst (λ j. slice_get (standing tree) j ≡ Some (record { within = s.within; list = s.list })) count (at_place (standing tree) k s at)
+    subst (λ j. slice_get (standings_of_interface tree) j ≡ Some (record { within = s.within; list = s.list })) count (at_place (standings_of_interface tree) k s at)

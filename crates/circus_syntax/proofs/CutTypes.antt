@@ -7,9 +7,9 @@ use Rattle.circus_syntax.specs.declared.stopping.StopCause.TheVariants.{Unexpect
 use Rattle.circus_syntax.specs.declared.reading.TypeStart.{TypeStart}
 use Rattle.circus_syntax.specs.declared.reading.TypeStart.TheVariants as begins
 use Rattle.circus_syntax.specs.TypeTree.{TypeTree, boolean, cardinal, integer, text, enumeration, array, sequence, «record», choice, group_trees, arm_trees, type_place}
-use Rattle.circus_syntax.specs.Placed.{Placed, first, is_lexeme, is_name, is_number, word, sign, Due, due, due_at, opened}
-use Rattle.circus_syntax.specs.Reader.{Reader, place_in, stop_at, token, mapped, cased}
-use Rattle.circus_syntax.specs.Reading.{fixed, fixed_at, name, number, named_of, numeral_of, filled_name, filled_numeral, behind, listed, names, label, label_of, labels, type_name, name_of_type, start_of_type, long_of, is_long_integer, long, called_of, simple, too_deep, group, groups_with, arm, arm_of_parts, array_with, sequence_with, record_with, choice_with, type_with, flat_type, stop_in_type, type, type_within}
+use Rattle.circus_syntax.specs.Placed.{Placed, first, is_lexeme, is_name, is_number, word, sign, Due, due, due_at, open_level}
+use Rattle.circus_syntax.specs.Reader.{Reader, place_in, stop_at, token, map_read, choose_by}
+use Rattle.circus_syntax.specs.Reading.{expect_token, fixed_at, name, number, named_of, numeral_of, filled_name, filled_numeral, behind, comma_list, names, label, label_of, labels, type_name, name_of_type, start_of_type, long_of, is_long_integer, long, called_of, simple_type, too_deep, group, groups_with, arm, arm_of_parts, array_with, sequence_with, record_with, choice_with, type_with, flat_type, stop_in_type, type, type_within}
 use Rattle.circus_syntax.specs.Spelling.{with_commas, spelling_name, spelling_names, spelling_number, spelling_label, spelling_type_name, spelling_type, spelling_groups}
 use Rattle.circus_syntax.specs.Standing.{outside, in_type, apart, standing_type}
 use Rattle.circus_syntax.proofs.Sound.{reader}
@@ -23,8 +23,8 @@ ByList m s = s.list ≡ m.list
 
 -- Tokens, whatever they are tied by.
 
-pub cuts_fixed : (R : Tie) → ((at : ℕ) → R outside (stop_at Unexpected at)) → (l : Lexeme) → Apart R (fixed l) (spelling_fixed l)
-unfolding fixed
+pub cuts_fixed : (R : Tie) → ((at : ℕ) → R outside (stop_at Unexpected at)) → (l : Lexeme) → Apart R (expect_token l) (spelling_fixed l)
+unfolding expect_token
 cuts_fixed R stands l = record { cuts = cuts_token R outside (is_lexeme l) (λ t. tt) (λ at. tt) stands }
 
 pub cuts_fixed_at : (R : Tie) → ((at : ℕ) → R outside (stop_at Unexpected at)) → (l : Lexeme) → Apart R (fixed_at l) (spelling_fixed_at l)
@@ -44,7 +44,7 @@ pub apart_behind : (R : Tie) → ((at : ℕ) → R outside (stop_at Unexpected a
 apart_behind R stands l {spell = spell} P = apart_mapped R (λ x. x.1) (λ a. due l ∷ spell a) (λ x. refl) (apart_both R (cuts_fixed R stands l) P)
 
 pub apart_listed : (R : Tie) → ((at : ℕ) → R outside (stop_at Unexpected at)) → {A : Type 0} {item : Reader → A × Reader} {spell : A → List Due}
-    → Apart R item spell → Apart R (listed item) (with_commas spell)
+    → Apart R item spell → Apart R (comma_list item) (with_commas spell)
 apart_listed R stands {spell = spell} P =
     apart_mapped R (λ x. x.0 ∷ x.1) (with_commas spell) (λ x. refl) (apart_both R P (apart_repeated R is_comma (apart_behind R stands comma_sign P)))
 
@@ -54,7 +54,7 @@ cuts_names R stands = apart_listed R stands (cuts_name R stands)
 
 -- Inside of a type.
 
-fixed_in : (l : Lexeme) → Apart ByList (fixed l) (spelling_fixed l)
+fixed_in : (l : Lexeme) → Apart ByList (expect_token l) (spelling_fixed l)
 fixed_in = cuts_fixed ByList (λ at. refl)
 
 fixed_at_in : (l : Lexeme) → Apart ByList (fixed_at l) (spelling_fixed_at l)
@@ -96,11 +96,11 @@ long_in =
     spelled at true = refl
     spelled at false = refl
 
-at_in : (w : Lexeme) (f : ℕ → TypeTree) → ((at : ℕ) → spelling_type (f at) ≡ due_at w at ∷ []) → InType (mapped f (fixed_at w)) spelling_type
+at_in : (w : Lexeme) (f : ℕ → TypeTree) → ((at : ℕ) → spelling_type (f at) ≡ due_at w at ∷ []) → InType (map_read f (fixed_at w)) spelling_type
 at_in w f spelled = apart_mapped ByList f spelling_type spelled (fixed_at_in w)
 
-simple_in : (k : TypeStart) → InType (simple k) spelling_type
-unfolding simple
+simple_in : (k : TypeStart) → InType (simple_type k) spelling_type
+unfolding simple_type
 simple_in begins.Cardinal = at_in (word (codes "CARDINAL")) cardinal (λ at. refl)
 simple_in begins.Integer = at_in (word (codes "INTEGER")) integer (λ at. refl)
 simple_in begins.Long = long_in
@@ -111,12 +111,12 @@ simple_in begins.Labels =
 simple_in begins.Name = apart_mapped ByList called_of spelling_type (λ x. refl) type_name_in
 simple_in _ = at_in (word (codes "BOOLEAN")) boolean (λ at. refl)
 
-apart_opened : (ds : List Due) → apart (opened ds) ≡ apart ds
+apart_opened : (ds : List Due) → apart (open_level ds) ≡ apart ds
 apart_opened [] = refl
 apart_opened (d ∷ ds) = ap (λ l. outside ∷ l) (apart_opened ds)
 
-opened_in : {A : Type 0} {p : Reader → A × Reader} {spell : A → List Due} → InType p spell → InType p (λ a. opened (spell a))
-opened_in {spell = spell} P = apart_as ByList (λ a. opened (spell a)) (λ a. apart_opened (spell a)) P
+opened_in : {A : Type 0} {p : Reader → A × Reader} {spell : A → List Due} → InType p spell → InType p (λ a. open_level (spell a))
+opened_in {spell = spell} P = apart_as ByList (λ a. open_level (spell a)) (λ a. apart_opened (spell a)) P
 
 group_in : {inner : Reader → TypeTree × Reader} → InType inner spelling_type → InType (group inner) spelling_group
 group_in T =
@@ -152,7 +152,7 @@ record_in T =
 choice_in : {inner : Reader → TypeTree × Reader} → InType inner spelling_type → InType (choice_with inner) spelling_type
 choice_in T =
     apart_mapped ByList (λ x. choice x.0 (arm_trees x.1.1.1.0)) spelling_type
-    (λ x. ap (λ l. opened (due_at (word (codes "CHOICE")) x.0 ∷ due (word (codes "OF")) ∷ due (sign (codes "{")) ∷ (l ++ due (sign (codes "}")) ∷ []))) (arms_spelled x.1.1.1.0))
+    (λ x. ap (λ l. open_level (due_at (word (codes "CHOICE")) x.0 ∷ due (word (codes "OF")) ∷ due (sign (codes "{")) ∷ (l ++ due (sign (codes "}")) ∷ []))) (arms_spelled x.1.1.1.0))
     (opened_in (apart_both ByList (fixed_at_in (word (codes "CHOICE"))) (apart_both ByList (fixed_in (word (codes "OF"))) (apart_both ByList (fixed_in (sign (codes "{")))
     (apart_both ByList (apart_listed ByList (λ at. refl) (arm_in T)) (fixed_in (sign (codes "}"))))))))
 
@@ -191,7 +191,7 @@ unfolding type
 type_in zero = apart_kept ByList stop_in_type (λ at m s is. is) (apart_cased ByList start_of_type flat_type flat_in)
 type_in (suc n) = apart_kept ByList stop_in_type (λ at m s is. is) (apart_cased ByList start_of_type (type_with (type n)) (type_with_in (type_in n)))
 
-unmarked_in : (n : ℕ) → InType (cased start_of_type (type_within n)) spelling_type
+unmarked_in : (n : ℕ) → InType (choose_by start_of_type (type_within n)) spelling_type
 unmarked_in zero = apart_cased ByList start_of_type flat_type flat_in
 unmarked_in (suc n) = apart_cased ByList start_of_type (type_with (type n)) (type_with_in (type_in n))
 
@@ -228,8 +228,8 @@ long_first : (at : ℕ) (b : Bool) → type_place (long_of (at, b)) ≡ at
 long_first at true = refl
 long_first at false = refl
 
-here_simple : (k : TypeStart) → Here type_place (simple k)
-unfolding simple long name_of_type
+here_simple : (k : TypeStart) → Here type_place (simple_type k)
+unfolding simple_type long name_of_type
 here_simple begins.Cardinal ts e = here_fixed (word (codes "CARDINAL")) ts e
 here_simple begins.Integer ts e = here_fixed (word (codes "INTEGER")) ts e
 here_simple begins.Long ts e = long_first _ _ ∙ here_fixed (word (codes "LONG")) ts e
@@ -265,7 +265,7 @@ here_flat begins.Labels ts e = here_simple begins.Labels ts e
 here_flat begins.Name ts e = here_simple begins.Name ts e
 here_flat begins.Other ts e = here_simple begins.Other ts e
 
-here_type : (n : ℕ) → Here type_place (cased start_of_type (type_within n))
+here_type : (n : ℕ) → Here type_place (choose_by start_of_type (type_within n))
 here_type zero ts e = here_flat (start_of_type (first ts)) ts e
 here_type (suc n) ts e = here_type_with (type n) (start_of_type (first ts)) ts e
 

@@ -7,7 +7,7 @@ use Rattle.circus_syntax.specs.declared.stopping.Stop.{Stop}
 use Rattle.circus_syntax.specs.declared.stopping.StopCause.{StopCause}
 use Rattle.circus_syntax.specs.declared.stopping.StopCause.TheVariants.{Unexpected}
 use Rattle.circus_syntax.specs.Placed.{Placed, first, Due}
-use Rattle.circus_syntax.specs.Reader.{Reader, place_in, stop_at, passes, token, stopped, nothing, both, mapped, cased, either, either_case, optional, repeat, repeated, marked}
+use Rattle.circus_syntax.specs.Reader.{Reader, place_in, stop_at, passes, token, stop_reading, nothing, both, map_read, choose_by, either, either_case, optional, repeat, repeat_while, mark_stops}
 use Rattle.circus_syntax.specs.Spelling.{each, if_written}
 use Rattle.circus_syntax.specs.Standing.{Standing, outside, apart}
 use Rattle.circus_syntax.proofs.Sound.{reader}
@@ -84,7 +84,7 @@ cuts_token R m {A} test read fill stands = record { still = λ s ts e. refl; cut
     cut (t ∷ ts) e = tested (test t) t ts e
 
 pub cuts_stopped : (R : Tie) (m : Standing) {A : Type 0} (cause : StopCause) (fill : ℕ → A) (stand : A → List Standing) → ((at : ℕ) → stand (fill at) ≡ m ∷ []) → ((at : ℕ) → R m (stop_at cause at))
-    → Cuts R (stopped cause fill) stand
+    → Cuts R (stop_reading cause fill) stand
 cuts_stopped R m cause fill stand one stands = record {
   still = λ s ts e. refl;
   cut = λ ts e. let at = place_in ts e in (refl, (0, omega arith, subst (λ ms. At R ms 0 (stop_at cause at)) (sym (one at)) (stands at)));
@@ -121,7 +121,7 @@ cuts_both R {A} {B} {p} {q} {sa} {sb} P Q = record { still = still; cut = λ ts 
         (ends, (k, few, at_front R (sa x.0) (sb (q x.1).0) k s at))
 
 -- Made into something else.
-pub cuts_mapped : (R : Tie) {A B : Type 0} (f : A → B) {p : Reader → A × Reader} {sa : A → List Standing} (sb : B → List Standing) → ((x : A) → sb (f x) ≡ sa x) → Cuts R p sa → Cuts R (mapped f p) sb
+pub cuts_mapped : (R : Tie) {A B : Type 0} (f : A → B) {p : Reader → A × Reader} {sa : A → List Standing} (sb : B → List Standing) → ((x : A) → sb (f x) ≡ sa x) → Cuts R p sa → Cuts R (map_read f p) sb
 cuts_mapped R f {p} sb same P = record {
   still = P.still;
   cut = λ ts e.
@@ -131,7 +131,7 @@ cuts_mapped R f {p} sb same P = record {
 }
 
 -- The next token decides.
-pub cuts_cased : (R : Tie) {K A : Type 0} (class : Option Placed → K) (p : K → Reader → A × Reader) {stand : A → List Standing} → ((k : K) → Cuts R (p k) stand) → Cuts R (cased class p) stand
+pub cuts_cased : (R : Tie) {K A : Type 0} (class : Option Placed → K) (p : K → Reader → A × Reader) {stand : A → List Standing} → ((k : K) → Cuts R (p k) stand) → Cuts R (choose_by class p) stand
 cuts_cased R class p each = record {
   still = λ s ts e. (each (class None)).still s ts e;
   cut = λ ts e. (each (class (first ts))).cut ts e;
@@ -145,7 +145,7 @@ cuts_either R test {p} {q} {stand} P Q = cuts_cased R (passes test) (either_case
     each false = Q
 
 -- For as long as the next token begins an item.
-pub cuts_repeated : (R : Tie) {A : Type 0} (test : Placed → Bool) {item : Reader → A × Reader} {stand : A → List Standing} → Cuts R item stand → Cuts R (repeated test item) (flat_map stand)
+pub cuts_repeated : (R : Tie) {A : Type 0} (test : Placed → Bool) {item : Reader → A × Reader} {stand : A → List Standing} → Cuts R item stand → Cuts R (repeat_while test item) (flat_map stand)
 cuts_repeated R {A} test {item} {stand} P = record {
   still = λ s ts e. (times (length ts)).still s ts e;
   cut = λ ts e. (times (length ts)).cut ts e;
@@ -159,7 +159,7 @@ cuts_repeated R {A} test {item} {stand} P = record {
 -- Marks.
 
 -- a mark that leaves what is tied
-pub cuts_kept : (R : Tie) {A : Type 0} (mark : ℕ → Stop → Stop) {p : Reader → A × Reader} {stand : A → List Standing} → ((at : ℕ) (m : Standing) (s : Stop) → R m s → R m (mark at s)) → Cuts R p stand → Cuts R (marked mark p) stand
+pub cuts_kept : (R : Tie) {A : Type 0} (mark : ℕ → Stop → Stop) {p : Reader → A × Reader} {stand : A → List Standing} → ((at : ℕ) (m : Standing) (s : Stop) → R m s → R m (mark at s)) → Cuts R p stand → Cuts R (mark_stops mark p) stand
 cuts_kept R mark {p} {stand} keeps P = record {
   still = P.still;
   cut = λ ts e. let x = p (reader None ts e) in let (ends, told) = P.cut ts e in (ends, by_stop (place_in ts e) (stand x.0) (length ts) x.1.rest x.1.stop told);
@@ -177,7 +177,7 @@ cuts_kept R mark {p} {stand} keeps P = record {
 -- a mark with the place of what is answered, which is that of the next token
 pub cuts_marked : (R S : Tie) {A : Type 0} (mark : ℕ → Stop → Stop) (put : ℕ → Standing → Standing) (place : A → ℕ) {p : Reader → A × Reader} {stand : A → List Standing}
     → ((at : ℕ) (m : Standing) (s : Stop) → R m s → S (put at m) (mark at s)) → ((ts : List Placed) (e : ℕ) → place (p (reader None ts e)).0 ≡ place_in ts e)
-    → Cuts R p stand → Cuts S (marked mark p) (λ a. map (put (place a)) (stand a))
+    → Cuts R p stand → Cuts S (mark_stops mark p) (λ a. map (put (place a)) (stand a))
 cuts_marked R S mark put place {p} {stand} step first_place P = record {
   still = P.still;
   cut = λ ts e.
@@ -205,10 +205,10 @@ pub apart_both : (R : Tie) {A B : Type 0} {p : Reader → A × Reader} {q : Read
     → Apart R p sa → Apart R q sb → Apart R (both p q) (λ x. sa x.0 ++ sb x.1)
 apart_both R {sa = sa} {sb = sb} P Q = record { cuts = cuts_as R (λ x. apart (sa x.0 ++ sb x.1)) (λ x. map-append (λ _. outside) (sa x.0) (sb x.1)) (cuts_both R P.cuts Q.cuts) }
 
-pub apart_mapped : (R : Tie) {A B : Type 0} (f : A → B) {p : Reader → A × Reader} {sa : A → List Due} (sb : B → List Due) → ((x : A) → sb (f x) ≡ sa x) → Apart R p sa → Apart R (mapped f p) sb
+pub apart_mapped : (R : Tie) {A B : Type 0} (f : A → B) {p : Reader → A × Reader} {sa : A → List Due} (sb : B → List Due) → ((x : A) → sb (f x) ≡ sa x) → Apart R p sa → Apart R (map_read f p) sb
 apart_mapped R f sb same P = record { cuts = cuts_mapped R f (λ b. apart (sb b)) (λ x. ap apart (same x)) P.cuts }
 
-pub apart_cased : (R : Tie) {K A : Type 0} (class : Option Placed → K) (p : K → Reader → A × Reader) {spell : A → List Due} → ((k : K) → Apart R (p k) spell) → Apart R (cased class p) spell
+pub apart_cased : (R : Tie) {K A : Type 0} (class : Option Placed → K) (p : K → Reader → A × Reader) {spell : A → List Due} → ((k : K) → Apart R (p k) spell) → Apart R (choose_by class p) spell
 apart_cased R class p each = record { cuts = cuts_cased R class p (λ k. (each k).cuts) }
 
 pub apart_either : (R : Tie) {A : Type 0} (test : Placed → Bool) {p q : Reader → A × Reader} {spell : A → List Due} → Apart R p spell → Apart R q spell → Apart R (either test p q) spell
@@ -220,12 +220,12 @@ apart_nothing R a spell none = record { cuts = cuts_nothing R a (λ b. apart (sp
 pub apart_optional : (R : Tie) {A : Type 0} (test : Placed → Bool) {p : Reader → A × Reader} {spell : A → List Due} → Apart R p spell → Apart R (optional test p) (if_written spell)
 apart_optional R test {spell = spell} P = apart_either R test (apart_mapped R (λ x. Some x) (if_written spell) (λ x. refl) P) (apart_nothing R None (if_written spell) refl)
 
-pub apart_repeated : (R : Tie) {A : Type 0} (test : Placed → Bool) {item : Reader → A × Reader} {spell : A → List Due} → Apart R item spell → Apart R (repeated test item) (each spell)
+pub apart_repeated : (R : Tie) {A : Type 0} (test : Placed → Bool) {item : Reader → A × Reader} {spell : A → List Due} → Apart R item spell → Apart R (repeat_while test item) (each spell)
 apart_repeated R {A} test {spell = spell} P = record { cuts = cuts_as R (λ xs. apart (each spell xs)) all (cuts_repeated R test P.cuts) }
   where
     all : (xs : List A) → apart (each spell xs) ≡ flat_map (λ x. apart (spell x)) xs
     all [] = refl
     all (x ∷ xs) = map-append (λ _. outside) (spell x) (each spell xs) ∙ ap (λ l. apart (spell x) ++ l) (all xs)
 
-pub apart_kept : (R : Tie) {A : Type 0} (mark : ℕ → Stop → Stop) {p : Reader → A × Reader} {spell : A → List Due} → ((at : ℕ) (m : Standing) (s : Stop) → R m s → R m (mark at s)) → Apart R p spell → Apart R (marked mark p) spell
+pub apart_kept : (R : Tie) {A : Type 0} (mark : ℕ → Stop → Stop) {p : Reader → A × Reader} {spell : A → List Due} → ((at : ℕ) (m : Standing) (s : Stop) → R m s → R m (mark at s)) → Apart R p spell → Apart R (mark_stops mark p) spell
 apart_kept R mark keeps P = record { cuts = cuts_kept R mark keeps P.cuts }

@@ -7,7 +7,7 @@ use Rattle.circus_syntax.specs.TypeTree.{group_trees}
 use Rattle.circus_syntax.specs.InterfaceTree.{DeclaredTree, a_type, an_error, a_procedure, InterfaceTree}
 use Rattle.circus_syntax.specs.Placed.{Placed, is_lexeme, is_name, word, sign, Due, due, due_number, AreWithin}
 use Rattle.circus_syntax.specs.Reader.{Reader, optional}
-use Rattle.circus_syntax.specs.Reading.{name, stop_in_list, fields, arguments, results, reported, reports, numbered, a_type_behind, an_error_behind, a_procedure_behind, declared_of_parts, Declaring, of_type, of_error, of_procedure, declared_start, parts_behind, declared, heading, declarations, interface_of_parts, interface}
+use Rattle.circus_syntax.specs.Reading.{name, stop_in_list, fields, arguments, results, error_names, reports, number_at_end, a_type_behind, an_error_behind, a_procedure_behind, declared_of_parts, Declaring, of_type, of_error, of_procedure, declared_start, parts_behind, one_declaration, heading, declarations, interface_of_parts, interface}
 use Rattle.circus_syntax.specs.Spelling.{each, if_written, spelling_type, spelling_groups, spelling_fields, spelling_results, spelling_reports, spelling_numbered, spelling_declared, spelling, IsEach, field_levels, declared_levels, IsGrammatical, IsWithin}
 use Rattle.circus_syntax.proofs.Opened.{within_front, within_back}
 use Rattle.circus_syntax.proofs.Sound.{Sound, sound_nothing, sound_both, sound_cased}
@@ -47,14 +47,14 @@ levels_results n m less =
     (levels_nothing n None refl (sound_nothing None (if_written spelling_results) (λ x. Unit {0}) tt refl)) (calm_of (sound_results n)) (calm_of (sound_results m))
 
 levels_reports : (n : ℕ) → Levels n reports reports (if_written spelling_reports)
-unfolding reports reported
+unfolding reports error_names
 levels_reports n =
     levels_optional (is_lexeme (word (codes "REPORTS"))) n sound_reported sound_reported
     (levels_mapped n (λ x. x.1.1.0) spelling_reports (λ x. refl)
     (levels_both n (lawful_fixed n (word (codes "REPORTS"))).levels (levels_both n (lawful_fixed n (sign (codes "["))).levels (levels_both n (lawful_names n).levels (lawful_fixed n (sign (codes "]"))).levels))))
 
-levels_numbered : (n : ℕ) → Levels n numbered numbered spelling_numbered
-unfolding numbered
+levels_numbered : (n : ℕ) → Levels n number_at_end number_at_end spelling_numbered
+unfolding number_at_end
 levels_numbered n =
     levels_mapped n (λ x. x.1.0) spelling_numbered (λ x. refl)
     (levels_both n (lawful_fixed n (sign (codes "="))).levels (levels_both n (lawful_number n).levels (lawful_fixed n (sign (codes ";"))).levels))
@@ -75,8 +75,8 @@ levels_parts n m less of_procedure =
     (levels_both n (lawful_fixed n (word (codes "PROCEDURE"))).levels
     (levels_both n (levels_arguments n m less) (levels_both n (levels_results n m less) (levels_both n (levels_reports n) (levels_numbered n))))))
 
-levels_declared : (n m : ℕ) → n < m → Levels n (declared n) (declared m) spelling_declared
-unfolding declared
+levels_declared : (n m : ℕ) → n < m → Levels n (one_declaration n) (one_declaration m) spelling_declared
+unfolding one_declaration
 levels_declared n m less =
     levels_mapped n (λ x. declared_of_parts x.0 x.1.1) spelling_declared declared_spelled
     (levels_both n (lawful_name n).levels (levels_both n (lawful_fixed n (sign (codes ":"))).levels

@@ -11,8 +11,8 @@ use Rattle.circus_syntax.specs.Reserved.{is_reserved, reserved_words}
 use Rattle.circus_syntax.specs.TypeTree.{TypeTree, group_trees}
 use Rattle.circus_syntax.specs.InterfaceTree.{DeclaredTree, a_type, an_error, a_procedure, InterfaceTree}
 use Rattle.circus_syntax.specs.Placed.{Placed, first, is_lexeme, is_name, word, sign, Due, due, due_name, due_number, AreDue}
-use Rattle.circus_syntax.specs.Reader.{passes, both, cased}
-use Rattle.circus_syntax.specs.Reading.{fixed, name, stop_in_list, fields, arguments, results, reported, reports, numbered, a_type_behind, an_error_behind, a_procedure_behind, Parts, declared_of_parts, Declaring, of_type, of_error, of_procedure, declared_start, parts_behind, declared, heading, declarations, interface_of_parts, interface}
+use Rattle.circus_syntax.specs.Reader.{passes, both, choose_by}
+use Rattle.circus_syntax.specs.Reading.{expect_token, name, stop_in_list, fields, arguments, results, error_names, reports, number_at_end, a_type_behind, an_error_behind, a_procedure_behind, Parts, declared_of_parts, Declaring, of_type, of_error, of_procedure, declared_start, parts_behind, one_declaration, heading, declarations, interface_of_parts, interface}
 use Rattle.circus_syntax.specs.Spelling.{each, if_written, spelling_names, spelling_type, spelling_groups, spelling_fields, spelling_results, spelling_reports, spelling_numbered, spelling_declared, spelling, IsEach, IsListed, IfWritten, IsName, IsNumeral, AreFields, field_levels, IsDeclared, declared_levels, IsGrammatical, IsWithin}
 use Rattle.circus_syntax.proofs.Sound.{Sound, reader, sound_mapped, sound_both, sound_cased}
 use Rattle.circus_syntax.proofs.Repeats.{Shrinks, sound_repeated, sound_marked, sound_optional}
@@ -39,8 +39,8 @@ pub sound_results : (n : ℕ) → Sound (results n) (if_written spelling_results
 unfolding results
 sound_results n = sound_optional (is_lexeme (word (codes "RETURNS"))) (sound_behind (word (codes "RETURNS")) (sound_fields n))
 
-pub sound_reported : Sound reported spelling_reports (IsListed IsName)
-unfolding reported
+pub sound_reported : Sound error_names spelling_reports (IsListed IsName)
+unfolding error_names
 sound_reported =
     sound_mapped (λ x. x.1.1.0) spelling_reports (IsListed IsName) (λ x. refl) (λ x g. g.1.1.0)
     (sound_both (sound_fixed (word (codes "REPORTS"))) (sound_both (sound_fixed (sign (codes "["))) (sound_both sound_names (sound_fixed (sign (codes "]"))))))
@@ -49,8 +49,8 @@ pub sound_reports : Sound reports (if_written spelling_reports) (IfWritten (IsLi
 unfolding reports
 sound_reports = sound_optional (is_lexeme (word (codes "REPORTS"))) sound_reported
 
-pub sound_numbered : Sound numbered spelling_numbered IsNumeral
-unfolding numbered
+pub sound_numbered : Sound number_at_end spelling_numbered IsNumeral
+unfolding number_at_end
 sound_numbered =
     sound_mapped (λ x. x.1.0) spelling_numbered IsNumeral (λ x. refl) (λ x g. g.1.0)
     (sound_both (sound_fixed (sign (codes "="))) (sound_both sound_number (sound_fixed (sign (codes ";")))))
@@ -141,8 +141,8 @@ declared_good n x g = by_parts x.1.1 g.1.1
         let r = fields_good n y.1.0 h.1.0 in
         ((g.0, a.0, r.0, h.1.1.0, h.1.1.1), max-le a.1 r.1)
 
-pub sound_declared : (n : ℕ) → Sound (declared n) spelling_declared (IsDeclaredWithin n)
-unfolding declared
+pub sound_declared : (n : ℕ) → Sound (one_declaration n) spelling_declared (IsDeclaredWithin n)
+unfolding one_declaration
 sound_declared n =
     sound_mapped (λ x. declared_of_parts x.0 x.1.1) spelling_declared (IsDeclaredWithin n) declared_spelled (declared_good n)
     (sound_both sound_name (sound_both (sound_fixed (sign (codes ":"))) (sound_cased declared_start (parts_behind n) (sound_parts n))))
@@ -162,10 +162,10 @@ sound_heading =
     (sound_both sound_name (sound_both (sound_fixed (sign (codes ":"))) (sound_both (sound_fixed (word (codes "PROGRAM"))) (sound_both sound_number
     (sound_both (sound_fixed (word (codes "VERSION"))) (sound_both sound_number (sound_both (sound_fixed (sign (codes "="))) (sound_fixed (word (codes "BEGIN"))))))))))
 
-pub shrinks_declared : (n : ℕ) → Shrinks is_name (declared n)
-unfolding declared
+pub shrinks_declared : (n : ℕ) → Shrinks is_name (one_declaration n)
+unfolding one_declaration
 shrinks_declared n r hit =
-    shrinks_both is_name name (both (fixed (sign (codes ":"))) (cased declared_start (parts_behind n))) shrinks_name
+    shrinks_both is_name name (both (expect_token (sign (codes ":"))) (choose_by declared_start (parts_behind n))) shrinks_name
     (sound_both (sound_fixed (sign (codes ":"))) (sound_cased declared_start (parts_behind n) (sound_parts n))) r hit
 
 pub sound_declarations : (n : ℕ) → Sound (declarations n) (each spelling_declared) (IsEach (IsDeclaredWithin n))
@@ -218,8 +218,8 @@ complete_results n =
     (complete_optional (is_lexeme (word (codes "RETURNS"))) (complete_behind (word (codes "RETURNS")) (complete_fields n))
     (λ f ts rest g d. opens_due (word (codes "RETURNS")) (spelling_fields f) ts rest d))
 
-complete_reported : Complete reported spelling_reports (IsListed IsName) Any
-unfolding reported
+complete_reported : Complete error_names spelling_reports (IsListed IsName) Any
+unfolding error_names
 complete_reported =
     complete_mapped (λ x. x.1.1.0) spelling_reports (IsListed IsName) (λ x. refl) (λ ns g. ((tt, (tt, (ns, tt))), refl, (tt, (tt, (g, tt)))))
     (complete_then (complete_fixed (word (codes "REPORTS"))) (complete_then (complete_fixed (sign (codes "["))) (complete_both complete_names (complete_fixed (sign (codes "]")))
@@ -232,8 +232,8 @@ complete_reports =
     (complete_optional (is_lexeme (word (codes "REPORTS"))) complete_reported
     (λ ns ts rest g d. opens_due (word (codes "REPORTS")) (due (sign (codes "[")) ∷ (spelling_names ns ++ due (sign (codes "]")) ∷ [])) ts rest d))
 
-complete_numbered : Complete numbered spelling_numbered IsNumeral Any
-unfolding numbered
+complete_numbered : Complete number_at_end spelling_numbered IsNumeral Any
+unfolding number_at_end
 complete_numbered =
     complete_mapped (λ x. x.1.0) spelling_numbered IsNumeral (λ x. refl) (λ n g. ((tt, (n, tt)), refl, (tt, (g, tt))))
     (complete_then (complete_fixed (sign (codes "="))) (complete_then complete_number (complete_fixed (sign (codes ";")))))
@@ -289,10 +289,10 @@ declared_begins : (w : List ℕ) (k : Declaring) (ds : List Due) (ts rest : List
 declared_begins w k ds [] rest is d = absurd d
 declared_begins w k ds (t ∷ ts) rest is d = (λ i. declared_start (Some (record { kind = d.0.0 i; bytes = d.0.1 i; start = t.start }))) ∙ is t.start
 
-complete_parts : (n : ℕ) → Complete (cased declared_start (parts_behind n)) spelling_parts (AreParts n) Any
+complete_parts : (n : ℕ) → Complete (choose_by declared_start (parts_behind n)) spelling_parts (AreParts n) Any
 complete_parts n = record { reads = reads }
   where
-    reads : (x : Parts) (ts rest : List Placed) (e : ℕ) → AreParts n x → AreDue (spelling_parts x) ts → Unit {0} → cased declared_start (parts_behind n) (reader None (ts ++ rest) e) ≡ (x, reader None rest e)
+    reads : (x : Parts) (ts rest : List Placed) (e : ℕ) → AreParts n x → AreDue (spelling_parts x) ts → Unit {0} → choose_by declared_start (parts_behind n) (reader None (ts ++ rest) e) ≡ (x, reader None rest e)
     reads (inl t) ts rest e g d stays =
         cased_is declared_start (parts_behind n) of_type (ts ++ rest) e (inl t, reader None rest e)
         (declared_begins (codes "TYPE") of_type (due (sign (codes "=")) ∷ (spelling_type t ++ due (sign (codes ";")) ∷ [])) ts rest (λ s. refl) d)
@@ -329,8 +329,8 @@ declared_back n (a_procedure p) g = (
   ),
 )
 
-complete_declared : (n : ℕ) → Complete (declared n) spelling_declared (IsDeclaredWithin n) Any
-unfolding declared
+complete_declared : (n : ℕ) → Complete (one_declaration n) spelling_declared (IsDeclaredWithin n) Any
+unfolding one_declaration
 complete_declared n =
     complete_mapped (λ x. declared_of_parts x.0 x.1.1) spelling_declared (IsDeclaredWithin n) declared_spelled (declared_back n)
     (complete_then complete_name (complete_then (complete_fixed (sign (codes ":"))) (complete_parts n)))

@@ -5,9 +5,9 @@ use Rattle.circus_text.specs.Token.{Lexeme, content_of}
 use Rattle.circus_syntax.specs.declared.stopping.Stop.{Stop}
 use Rattle.circus_syntax.specs.declared.stopping.StopCause.{StopCause}
 use Rattle.circus_syntax.specs.declared.stopping.StopCause.TheVariants.{Unexpected, TooDeep}
-use Rattle.circus_syntax.specs.Placed.{Placed, first, is_lexeme, is_name, is_number, is_text, Due, due, opened, AreWithin, AreDue}
-use Rattle.circus_syntax.specs.Reader.{Reader, place_in, stop_at, passes, token, stopped, nothing, both, mapped, cased, either, either_case, optional, repeated}
-use Rattle.circus_syntax.specs.Reading.{fixed, fixed_at, name, number, quoted, named_of, numeral_of, filled_name, filled_numeral, behind, listed}
+use Rattle.circus_syntax.specs.Placed.{Placed, first, is_lexeme, is_name, is_number, is_text, Due, due, open_level, AreWithin, AreDue}
+use Rattle.circus_syntax.specs.Reader.{Reader, place_in, stop_at, passes, token, stop_reading, nothing, both, map_read, choose_by, either, either_case, optional, repeat_while}
+use Rattle.circus_syntax.specs.Reading.{expect_token, fixed_at, name, number, quoted_text, named_of, numeral_of, filled_name, filled_numeral, behind, comma_list}
 use Rattle.circus_syntax.specs.Spelling.{each, with_commas, comma, if_written, spelling_name, spelling_number, IsEach, IsListed, IfWritten, IsName, IsNumeral}
 use Rattle.circus_syntax.specs.Stopping.{StandAt}
 use Rattle.circus_syntax.proofs.Opened.{StandsDeeper, within_opened, opened_due, within_front, within_back}
@@ -55,8 +55,8 @@ lawful_token n test read fill {spell} {Good} one S C = record {
   levels = levels_token n test read fill one S;
 }
 
-pub lawful_fixed : (n : ℕ) (l : Lexeme) → Lawful n (fixed l) (fixed l) (spelling_fixed l) Always Any
-unfolding fixed
+pub lawful_fixed : (n : ℕ) (l : Lexeme) → Lawful n (expect_token l) (expect_token l) (spelling_fixed l) Always Any
+unfolding expect_token
 lawful_fixed n l = lawful_token n (is_lexeme l) (λ t. tt) (λ at. tt) (λ a. (_, refl, refl)) (sound_fixed l) (complete_fixed l)
 
 pub lawful_fixed_at : (n : ℕ) (l : Lexeme) → Lawful n (fixed_at l) (fixed_at l) (spelling_fixed_at l) Always Any
@@ -71,8 +71,8 @@ pub lawful_number : (n : ℕ) → Lawful n number number spelling_number IsNumer
 unfolding number
 lawful_number n = lawful_token n is_number numeral_of filled_numeral (λ a. (_, refl, refl)) sound_number complete_number
 
-pub lawful_quoted : (n : ℕ) → Lawful n quoted quoted spelling_quoted IsQuotedText Any
-unfolding quoted
+pub lawful_quoted : (n : ℕ) → Lawful n quoted_text quoted_text spelling_quoted IsQuotedText Any
+unfolding quoted_text
 lawful_quoted n = lawful_token n is_text (λ t. (content_of t.bytes, t.start)) (λ at. ([], at)) (λ a. (_, refl, refl)) sound_quoted complete_quoted
 
 -- One behind the other.
@@ -114,7 +114,7 @@ lawful_at_both test n P Q link = record {
 
 within_mapped : {A B : Type 0} (n : ℕ) {p : Reader → A × Reader} {sa : A → List Due} {ga : A → Type 0} {Stays : Option Placed → Type 0} (f : A → B) (sb : B → List Due) (gb : B → Type 0)
     → ((x : A) → sb (f x) ≡ sa x) → ((b : B) → gb b → (x : A) × (f x ≡ b) × ga x)
-    → Complete p sa (λ a. ga a × AreWithin n (sa a)) Stays → Complete (mapped f p) sb (λ b. gb b × AreWithin n (sb b)) Stays
+    → Complete p sa (λ a. ga a × AreWithin n (sa a)) Stays → Complete (map_read f p) sb (λ b. gb b × AreWithin n (sb b)) Stays
 within_mapped {A} {B} n {sa = sa} f sb gb spelled back P =
     complete_mapped f sb (λ b. gb b × AreWithin n (sb b)) spelled
     (λ b g.
@@ -124,7 +124,7 @@ within_mapped {A} {B} n {sa = sa} f sb gb spelled back P =
 
 pub lawful_mapped : {A B : Type 0} (n : ℕ) {p q : Reader → A × Reader} {sa : A → List Due} {ga : A → Type 0} {Stays : Option Placed → Type 0} (f : A → B) (sb : B → List Due) (gb : B → Type 0)
     → ((x : A) → sb (f x) ≡ sa x) → ((x : A) → ga x → gb (f x)) → ((b : B) → gb b → (x : A) × (f x ≡ b) × ga x)
-    → Lawful n p q sa ga Stays → Lawful n (mapped f p) (mapped f q) sb gb Stays
+    → Lawful n p q sa ga Stays → Lawful n (map_read f p) (map_read f q) sb gb Stays
 lawful_mapped n f sb gb spelled kept back P = record {
   narrow = sound_mapped f sb gb spelled kept P.narrow;
   wide = sound_mapped f sb gb spelled kept P.wide;
@@ -134,7 +134,7 @@ lawful_mapped n f sb gb spelled kept back P = record {
 
 pub lawful_at_mapped : {A B : Type 0} (test : Placed → Bool) (n : ℕ) {p q : Reader → A × Reader} {sa : A → List Due} {ga : A → Type 0} {Stays : Option Placed → Type 0} (f : A → B) (sb : B → List Due) (gb : B → Type 0)
     → ((x : A) → sb (f x) ≡ sa x) → ((x : A) → ga x → gb (f x)) → ((b : B) → gb b → (x : A) × (f x ≡ b) × ga x)
-    → LawfulAt test n p q sa ga Stays → LawfulAt test n (mapped f p) (mapped f q) sb gb Stays
+    → LawfulAt test n p q sa ga Stays → LawfulAt test n (map_read f p) (map_read f q) sb gb Stays
 lawful_at_mapped test n f sb gb spelled kept back P = record {
   narrow = sound_mapped f sb gb spelled kept P.narrow;
   wide = sound_mapped f sb gb spelled kept P.wide;
@@ -145,7 +145,7 @@ lawful_at_mapped test n f sb gb spelled kept back P = record {
 -- A level more.
 
 pub lawful_opened : {A : Type 0} (n : ℕ) {p q : Reader → A × Reader} {spell : A → List Due} {Good : A → Type 0} {Stays : Option Placed → Type 0}
-    → Lawful n p q spell Good Stays → Lawful (suc n) p q (λ a. opened (spell a)) Good Stays
+    → Lawful n p q spell Good Stays → Lawful (suc n) p q (λ a. open_level (spell a)) Good Stays
 lawful_opened n {spell = spell} P = record {
   narrow = sound_opened P.narrow;
   wide = sound_opened P.wide;
@@ -157,7 +157,7 @@ lawful_opened n {spell = spell} P = record {
 
 -- what stops fills in
 pub sound_stopped : {A : Type 0} (cause : StopCause) (fill : ℕ → A) (spell : A → List Due) (Good : A → Type 0)
-    → ((at : ℕ) → Good (fill at) × (more : List Placed) × StandAt at more × AreDue (spell (fill at)) more) → Sound (stopped cause fill) spell Good
+    → ((at : ℕ) → Good (fill at) × (more : List Placed) × StandAt at more × AreDue (spell (fill at)) more) → Sound (stop_reading cause fill) spell Good
 sound_stopped cause fill spell Good filled = record {
   fills = λ s e. let (good, more, there, spelled) = filled s.place in record { tree = fill s.place; more = more; stays = λ ts. refl; good = good; due = spelled; there = there };
   runs = λ ts e.
@@ -182,7 +182,7 @@ without_level (d ∷ ds) deep within = omega (arith, deep, within.0)
 
 -- no level is left
 pub lawful_too_deep : {A : Type 0} (test : Placed → Bool) (fill : ℕ → A) {q : Reader → A × Reader} {spell : A → List Due} {Good : A → Type 0} {Stays : Option Placed → Type 0}
-    → Sound (stopped TooDeep fill) spell Good → Sound q spell Good → Shrinks test q → Deep q spell → ((a : A) → Good a → StandsDeeper 0 (spell a) []) → LawfulAt test 0 (stopped TooDeep fill) q spell Good Stays
+    → Sound (stop_reading TooDeep fill) spell Good → Sound q spell Good → Shrinks test q → Deep q spell → ((a : A) → Good a → StandsDeeper 0 (spell a) []) → LawfulAt test 0 (stop_reading TooDeep fill) q spell Good Stays
 lawful_too_deep test fill {spell = spell} S S' shrinks answers deep = record {
   narrow = S;
   wide = S';
@@ -230,7 +230,7 @@ pub lawful_cased : {K A : Type 0} (class : Option Placed → K) (n : ℕ) (p q :
     → ((k : K) → Branch class k n (p k) (q k) spell Good (Is k) Stays)
     → ((s : Stop) (ts : List Placed) (e : ℕ) → q (class None) (reader (Some s) ts e) ≡ p (class None) (reader (Some s) ts e))
     → ((a : A) (ts rest : List Placed) → Good a → AreDue (spell a) ts → Stays (first rest) → (k : K) × (class (first (ts ++ rest)) ≡ k) × Is k a)
-    → Lawful n (cased class p) (cased class q) spell Good Stays
+    → Lawful n (choose_by class p) (choose_by class q) spell Good Stays
 lawful_cased class n p q {spell} {Good} Is branches filled begins = record {
   narrow = narrow;
   wide = wide;
@@ -242,22 +242,22 @@ lawful_cased class n p q {spell} {Good} Is branches filled begins = record {
   levels = levels_cased class n p q (calm_of narrow) (calm_of wide) filled (λ k. (branches k).reaches);
 }
   where
-    narrow : Sound (cased class p) spell Good
+    narrow : Sound (choose_by class p) spell Good
     narrow = sound_cased class p (λ k. (branches k).narrow)
 
-    wide : Sound (cased class q) spell Good
+    wide : Sound (choose_by class q) spell Good
     wide = sound_cased class q (λ k. (branches k).wide)
 
 -- p, or what q fills in where the token that p begins with is missing
 pub lawful_required : {A : Type 0} (test : Placed → Bool) (n : ℕ) (fill : ℕ → A) {p q : Reader → A × Reader} {spell : A → List Due} {Good : A → Type 0} {Stays : Option Placed → Type 0}
-    → Opens spell Good test → Sound (stopped Unexpected fill) spell Good → LawfulAt test n p q spell Good Stays
-    → Lawful n (either test p (stopped Unexpected fill)) (either test q (stopped Unexpected fill)) spell Good Stays
+    → Opens spell Good test → Sound (stop_reading Unexpected fill) spell Good → LawfulAt test n p q spell Good Stays
+    → Lawful n (either test p (stop_reading Unexpected fill)) (either test q (stop_reading Unexpected fill)) spell Good Stays
 lawful_required test n fill {p} {q} {spell} opens S P = record {
   narrow = sound_either test P.narrow S;
   wide = sound_either test P.wide S;
   complete = record {
     reads = λ a ts rest e good d stays.
-        cased_is (passes test) (either_case p (stopped Unexpected fill)) true (ts ++ rest) e (a, reader None rest e) (opens a ts rest good.0 d) (P.complete.reads a ts rest e good d stays);
+        cased_is (passes test) (either_case p (stop_reading Unexpected fill)) true (ts ++ rest) e (a, reader None rest e) (opens a ts rest good.0 d) (P.complete.reads a ts rest e good d stays);
   };
   levels = levels_either test n P.levels (levels_stopped n fill S) (calm_of (sound_either test P.narrow S)) (calm_of (sound_either test P.wide S));
 }
@@ -323,7 +323,7 @@ each_within n spell Good (x ∷ xs) good within =
 
 pub lawful_repeated : {A : Type 0} (test : Placed → Bool) (n : ℕ) {item item' : Reader → A × Reader} {spell : A → List Due} {Good : A → Type 0} {Stays : Option Placed → Type 0}
     → Shrinks test item → Shrinks test item' → Opens spell Good test → ((o : Option Placed) → passes test o ≡ true → Stays o) → LawfulAt test n item item' spell Good Stays
-    → Lawful n (repeated test item) (repeated test item') (each spell) (IsEach Good) (λ o. Stays o × (passes test o ≡ false))
+    → Lawful n (repeat_while test item) (repeat_while test item') (each spell) (IsEach Good) (λ o. Stays o × (passes test o ≡ false))
 lawful_repeated test n {spell = spell} {Good = Good} shrinks shrinks' opens follows P = record {
   narrow = sound_repeated test shrinks P.narrow;
   wide = sound_repeated test shrinks' P.wide;
@@ -340,7 +340,7 @@ lawful_behind n l {spell = spell} {Good = Good} P =
 
 pub lawful_listed : {A : Type 0} (n : ℕ) {item item' : Reader → A × Reader} {spell : A → List Due} {Good : A → Type 0} {Stays : Option Placed → Type 0}
     → ((o : Option Placed) → passes is_comma o ≡ true → Stays o) → Lawful n item item' spell Good Stays
-    → Lawful n (listed item) (listed item') (with_commas spell) (IsListed Good) (λ o. Stays o × (passes is_comma o ≡ false))
+    → Lawful n (comma_list item) (comma_list item') (with_commas spell) (IsListed Good) (λ o. Stays o × (passes is_comma o ≡ false))
 lawful_listed {A} n {spell = spell} {Good = Good} {Stays = Stays} follows P =
     lawful_mapped n (λ x. x.0 ∷ x.1) (with_commas spell) (IsListed Good) (λ x. refl) (λ x g. g) back
     (lawful_both n P

@@ -5,9 +5,9 @@ use Rattle.std.specs.Prelude.{Option, Some, None, option_map, if◌then◌else�
 use Rattle.circus_syntax.specs.declared.stopping.Stop.{Stop}
 use Rattle.circus_syntax.specs.declared.stopping.StopCause.{StopCause}
 use Rattle.circus_syntax.specs.declared.stopping.StopCause.TheVariants.{Unexpected, TooDeep}
-use Rattle.circus_syntax.specs.Placed.{Placed, first, Due, depth, opened, StandWithin}
-use Rattle.circus_syntax.specs.Reader.{Reader, place_in, stop_at, passes, token, stopped, nothing, both, mapped, cased, either, either_case, repeated, marked, marked_in}
-use Rattle.circus_syntax.specs.Reading.{fixed, listed}
+use Rattle.circus_syntax.specs.Placed.{Placed, first, Due, depth, open_level, StandWithin}
+use Rattle.circus_syntax.specs.Reader.{Reader, place_in, stop_at, passes, token, stop_reading, nothing, both, map_read, choose_by, either, either_case, repeat_while, mark_stops, marked_in}
+use Rattle.circus_syntax.specs.Reading.{expect_token, comma_list}
 use Rattle.circus_syntax.specs.Spelling.{each, with_commas, comma}
 use Rattle.circus_syntax.proofs.Opened.{StandsDeeper, stand_append, stand_front, deeper_front, deeper_append, length_opened, stand_opened, deeper_opened}
 use Rattle.circus_syntax.proofs.Sound.{Sound, reader}
@@ -108,7 +108,7 @@ levels_nothing n a {spell} none S = record {
   };
 }
 
-pub levels_stopped : {A : Type 0} (n : ℕ) (fill : ℕ → A) {spell : A → List Due} {Good : A → Type 0} → Sound (stopped Unexpected fill) spell Good → Levels n (stopped Unexpected fill) (stopped Unexpected fill) spell
+pub levels_stopped : {A : Type 0} (n : ℕ) (fill : ℕ → A) {spell : A → List Due} {Good : A → Type 0} → Sound (stop_reading Unexpected fill) spell Good → Levels n (stop_reading Unexpected fill) (stop_reading Unexpected fill) spell
 levels_stopped n fill {spell} S = record {
   narrow = calm_of S;
   wide = calm_of S;
@@ -228,7 +228,7 @@ reaches_mapped n f sa sb spelled ts x y R =
       further = deeper_mapped n f sa sb spelled R.taken x.1.stop x y R.further;
     }
 
-pub levels_mapped : {A B : Type 0} (n : ℕ) (f : A → B) {p q : Reader → A × Reader} {sa : A → List Due} (sb : B → List Due) → ((a : A) → sb (f a) ≡ sa a) → Levels n p q sa → Levels n (mapped f p) (mapped f q) sb
+pub levels_mapped : {A B : Type 0} (n : ℕ) (f : A → B) {p q : Reader → A × Reader} {sa : A → List Due} (sb : B → List Due) → ((a : A) → sb (f a) ≡ sa a) → Levels n p q sa → Levels n (map_read f p) (map_read f q) sb
 levels_mapped n f {p} {q} {sa} sb spelled P = record {
   narrow = calm_mapped f P.narrow;
   wide = calm_mapped f P.wide;
@@ -237,7 +237,7 @@ levels_mapped n f {p} {q} {sa} sb spelled P = record {
 }
 
 pub levels_at_mapped : {A B : Type 0} (test : Placed → Bool) (n : ℕ) (f : A → B) {p q : Reader → A × Reader} {sa : A → List Due} (sb : B → List Due) → ((a : A) → sb (f a) ≡ sa a)
-    → LevelsAt test n p q sa → LevelsAt test n (mapped f p) (mapped f q) sb
+    → LevelsAt test n p q sa → LevelsAt test n (map_read f p) (map_read f q) sb
 levels_at_mapped test n f {p} {q} {sa} sb spelled P = record {
   narrow = calm_mapped f P.narrow;
   wide = calm_mapped f P.wide;
@@ -246,15 +246,15 @@ levels_at_mapped test n f {p} {q} {sa} sb spelled P = record {
 
 -- A level more.
 
-deeper_level : {A : Type 0} (n : ℕ) (spell : A → List Due) (taken : List Placed) (stop : Option Stop) (x y : A × Reader) → Deeper n spell taken stop x y → Deeper (suc n) (λ a. opened (spell a)) taken stop x y
+deeper_level : {A : Type 0} (n : ℕ) (spell : A → List Due) (taken : List Placed) (stop : Option Stop) (x y : A × Reader) → Deeper n spell taken stop x y → Deeper (suc n) (λ a. open_level (spell a)) taken stop x y
 deeper_level n spell taken None x y is = is
 deeper_level {A} n spell taken (Some s) x y is = by_cause s.cause is
   where
-    by_cause : (cause : StopCause) → DeeperBy n spell taken cause x y → DeeperBy (suc n) (λ a. opened (spell a)) taken cause x y
+    by_cause : (cause : StopCause) → DeeperBy n spell taken cause x y → DeeperBy (suc n) (λ a. open_level (spell a)) taken cause x y
     by_cause Unexpected is = is
     by_cause TooDeep deep = (deep.0, deeper_opened n (spell y.0) taken deep.1)
 
-pub levels_opened : {A : Type 0} (n : ℕ) {p q : Reader → A × Reader} {spell : A → List Due} → Levels n p q spell → Levels (suc n) p q (λ a. opened (spell a))
+pub levels_opened : {A : Type 0} (n : ℕ) {p q : Reader → A × Reader} {spell : A → List Due} → Levels n p q spell → Levels (suc n) p q (λ a. open_level (spell a))
 levels_opened n {p} {q} {spell} P = record {
   narrow = P.narrow;
   wide = P.wide;
@@ -275,7 +275,7 @@ levels_opened n {p} {q} {spell} P = record {
 
 -- what takes the token that opened a level too many
 pub further_of : {A : Type 0} (test : Placed → Bool) {q : Reader → A × Reader} (fill : ℕ → A) → Shrinks test q → Calm q → (ts : List Placed) (e : ℕ) → passes test (first ts) ≡ true
-    → Further (stopped TooDeep fill (reader None ts e)) (q (reader None ts e))
+    → Further (stop_reading TooDeep fill (reader None ts e)) (q (reader None ts e))
 further_of test {q} fill shrinks calm ts e hit =
     let (c, leaves) = calm.leaves (reader None ts e) in
     taken c leaves (shrinks (reader None ts e) hit)
@@ -291,7 +291,7 @@ Deep q spell = (r : Reader) → StandsDeeper 0 (spell (q r).0) []
 
 -- no level is left
 pub levels_too_deep : {A : Type 0} (test : Placed → Bool) (fill : ℕ → A) {q : Reader → A × Reader} {spell : A → List Due} {Good : A → Type 0}
-    → Sound (stopped TooDeep fill) spell Good → Calm q → Shrinks test q → Deep q spell → LevelsAt test 0 (stopped TooDeep fill) q spell
+    → Sound (stop_reading TooDeep fill) spell Good → Calm q → Shrinks test q → Deep q spell → LevelsAt test 0 (stop_reading TooDeep fill) q spell
 levels_too_deep test fill {q} {spell} S calm shrinks deep = record {
   narrow = calm_of S;
   wide = calm;
@@ -307,10 +307,10 @@ levels_too_deep test fill {q} {spell} S calm shrinks deep = record {
 
 -- The next token decides.
 
-pub levels_cased : {K A : Type 0} (class : Option Placed → K) (n : ℕ) (p q : K → Reader → A × Reader) {spell : A → List Due} → Calm (cased class p) → Calm (cased class q)
+pub levels_cased : {K A : Type 0} (class : Option Placed → K) (n : ℕ) (p q : K → Reader → A × Reader) {spell : A → List Due} → Calm (choose_by class p) → Calm (choose_by class q)
     → ((s : Stop) (ts : List Placed) (e : ℕ) → q (class None) (reader (Some s) ts e) ≡ p (class None) (reader (Some s) ts e))
     → ((k : K) (ts : List Placed) (e : ℕ) → class (first ts) ≡ k → Reaches n spell ts (p k (reader None ts e)) (q k (reader None ts e)))
-    → Levels n (cased class p) (cased class q) spell
+    → Levels n (choose_by class p) (choose_by class q) spell
 levels_cased class n p q narrow wide filled each_reaches = record {
   narrow = narrow;
   wide = wide;
@@ -343,7 +343,7 @@ still_none mark at None none = refl
 still_none mark at (Some s) none = cc
 
 pub levels_marked : {A : Type 0} (n : ℕ) (mark : ℕ → Stop → Stop) {p q : Reader → A × Reader} {spell : A → List Due} → ((at : ℕ) (s : Stop) → (mark at s).cause ≡ s.cause)
-    → Calm (marked mark p) → Calm (marked mark q) → Levels n p q spell → Levels n (marked mark p) (marked mark q) spell
+    → Calm (mark_stops mark p) → Calm (mark_stops mark q) → Levels n p q spell → Levels n (mark_stops mark p) (mark_stops mark q) spell
 levels_marked n mark {p} {q} {spell} keeps narrow wide L = record {
   narrow = narrow;
   wide = wide;
@@ -369,10 +369,10 @@ reaches_none n spell ts e = record { taken = []; whole = refl; fits = omega arit
 repeated_step : {A : Type 0} (test : Placed → Bool) (n : ℕ) {item item' : Reader → A × Reader} {spell : A → List Due} {Good Better : A → Type 0}
     → Shrinks test item → Shrinks test item' → Sound item spell Good → Sound item' spell Better → LevelsAt test n item item' spell
     → (ts : List Placed) (e : ℕ)
-    → ((us : List Placed) (end : ℕ) → length us < length ts → Reaches n (each spell) us (repeated test item (reader None us end)) (repeated test item' (reader None us end)))
-    → (b : Bool) → passes test (first ts) ≡ b → Reaches n (each spell) ts (repeated test item (reader None ts e)) (repeated test item' (reader None ts e))
+    → ((us : List Placed) (end : ℕ) → length us < length ts → Reaches n (each spell) us (repeat_while test item (reader None us end)) (repeat_while test item' (reader None us end)))
+    → (b : Bool) → passes test (first ts) ≡ b → Reaches n (each spell) ts (repeat_while test item (reader None ts e)) (repeat_while test item' (reader None ts e))
 repeated_step test n {item} {item'} {spell} shrinks shrinks' S S' L ts e less false missed =
-    reaches_along n (each spell) ts (repeated test item (reader None ts e)) ([], reader None ts e) (repeated test item' (reader None ts e)) ([], reader None ts e)
+    reaches_along n (each spell) ts (repeat_while test item (reader None ts e)) ([], reader None ts e) (repeat_while test item' (reader None ts e)) ([], reader None ts e)
     (repeated_none test item (reader None ts e) missed) (repeated_none test item' (reader None ts e) missed) (reaches_none n spell ts e)
 repeated_step test n {item} {item'} {spell} shrinks shrinks' S S' L ts e less true hit =
     let r : Reader = reader None ts e in
@@ -380,13 +380,13 @@ repeated_step test n {item} {item'} {spell} shrinks shrinks' S S' L ts e less tr
     let all = reaches_both n spell (each spell) ts x (item' r) (calm_of (sound_repeated test shrinks S)) (calm_of (sound_repeated test shrinks' S'))
     (λ s us end. repeated_none test item' (reader (Some s) us end) refl ∙ sym (repeated_none test item (reader (Some s) us end) refl))
     (L.reaches ts e hit) (less x.1.rest x.1.end (shrinks r hit)) in
-    reaches_along n (each spell) ts (repeated test item r) (mapped (λ z. z.0 ∷ z.1) (both item (repeated test item)) r) (repeated test item' r) (mapped (λ z. z.0 ∷ z.1) (both item' (repeated test item')) r)
+    reaches_along n (each spell) ts (repeat_while test item r) (map_read (λ z. z.0 ∷ z.1) (both item (repeat_while test item)) r) (repeat_while test item' r) (map_read (λ z. z.0 ∷ z.1) (both item' (repeat_while test item')) r)
     (repeated_sees test item shrinks r hit) (repeated_sees test item' shrinks' r hit)
-    (reaches_mapped n (λ z. z.0 ∷ z.1) (λ z. spell z.0 ++ each spell z.1) (each spell) (λ z. refl) ts (both item (repeated test item) r) (both item' (repeated test item') r) all)
+    (reaches_mapped n (λ z. z.0 ∷ z.1) (λ z. spell z.0 ++ each spell z.1) (each spell) (λ z. refl) ts (both item (repeat_while test item) r) (both item' (repeat_while test item') r) all)
 
 reaches_repeated : {A : Type 0} (test : Placed → Bool) (n : ℕ) {item item' : Reader → A × Reader} {spell : A → List Due} {Good Better : A → Type 0}
     → Shrinks test item → Shrinks test item' → Sound item spell Good → Sound item' spell Better → LevelsAt test n item item' spell
-    → (m : ℕ) (ts : List Placed) (e : ℕ) → length ts ≤ m → Reaches n (each spell) ts (repeated test item (reader None ts e)) (repeated test item' (reader None ts e))
+    → (m : ℕ) (ts : List Placed) (e : ℕ) → length ts ≤ m → Reaches n (each spell) ts (repeat_while test item (reader None ts e)) (repeat_while test item' (reader None ts e))
 reaches_repeated test n shrinks shrinks' S S' L zero ts e h =
     repeated_step test n shrinks shrinks' S S' L ts e (λ us end less. absurd (omega arith)) (passes test (first ts)) refl
 reaches_repeated test n shrinks shrinks' S S' L (suc m) ts e h =
@@ -394,7 +394,7 @@ reaches_repeated test n shrinks shrinks' S S' L (suc m) ts e h =
 
 pub levels_repeated : {A : Type 0} (test : Placed → Bool) (n : ℕ) {item item' : Reader → A × Reader} {spell : A → List Due} {Good Better : A → Type 0}
     → Shrinks test item → Shrinks test item' → Sound item spell Good → Sound item' spell Better → LevelsAt test n item item' spell
-    → Levels n (repeated test item) (repeated test item') (each spell)
+    → Levels n (repeat_while test item) (repeat_while test item') (each spell)
 levels_repeated test n {item} {item'} shrinks shrinks' S S' L = record {
   narrow = calm_of (sound_repeated test shrinks S);
   wide = calm_of (sound_repeated test shrinks' S');
@@ -404,12 +404,12 @@ levels_repeated test n {item} {item'} shrinks shrinks' S S' L = record {
 
 -- Items with commas between them.
 
-levels_comma : (n : ℕ) → Levels n (fixed comma_sign) (fixed comma_sign) (spelling_fixed comma_sign)
-unfolding fixed
+levels_comma : (n : ℕ) → Levels n (expect_token comma_sign) (expect_token comma_sign) (spelling_fixed comma_sign)
+unfolding expect_token
 levels_comma n = levels_token n is_comma (λ t. tt) (λ at. tt) (λ a. (_, refl, refl)) (sound_fixed comma_sign)
 
 pub levels_listed : {A : Type 0} (n : ℕ) {item item' : Reader → A × Reader} {spell : A → List Due} {Good Better : A → Type 0} → Sound item spell Good → Sound item' spell Better → Levels n item item' spell
-    → Levels n (listed item) (listed item') (with_commas spell)
+    → Levels n (comma_list item) (comma_list item') (with_commas spell)
 levels_listed n {spell = spell} S S' L =
     levels_mapped n (λ x. x.0 ∷ x.1) (with_commas spell) (λ x. refl)
     (levels_both n L

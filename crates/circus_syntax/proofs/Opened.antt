@@ -1,6 +1,6 @@
 -- How deep what is due stands.
 use Rattle.std.proofs.Common.{◌≡◌, ℕ, suc, ◌<◌, ◌≤◌, List, [], ◌∷◌, ◌++◌, length, refl, arith}
-use Rattle.circus_syntax.specs.Placed.{Placed, Due, depth, opened, AreWithin, AreDue, StandWithin}
+use Rattle.circus_syntax.specs.Placed.{Placed, Due, depth, open_level, AreWithin, AreDue, StandWithin}
 
 -- where these are due, what stands behind the tokens is deeper
 abbrev pub StandsDeeper : ℕ → List Due → List Placed → Type 0
@@ -32,35 +32,35 @@ deeper_append n (d ∷ ds) es (t ∷ ts) us same deep = deeper_append n ds es ts
 
 -- A level.
 
-pub length_opened : (ds : List Due) → length (opened ds) ≡ length ds
+pub length_opened : (ds : List Due) → length (open_level ds) ≡ length ds
 length_opened [] = refl
 length_opened (d ∷ ds) = omega (arith, length_opened ds)
 
-pub stand_opened : (n : ℕ) (ds : List Due) (ts : List Placed) → StandWithin n ds ts → StandWithin (suc n) (opened ds) ts
+pub stand_opened : (n : ℕ) (ds : List Due) (ts : List Placed) → StandWithin n ds ts → StandWithin (suc n) (open_level ds) ts
 stand_opened n ds [] front = tt
 stand_opened n [] (t ∷ ts) front = tt
 stand_opened n (d ∷ ds) (t ∷ ts) front = (omega (arith, front.0), stand_opened n ds ts front.1)
 
-pub deeper_opened : (n : ℕ) (ds : List Due) (ts : List Placed) → StandsDeeper n ds ts → StandsDeeper (suc n) (opened ds) ts
+pub deeper_opened : (n : ℕ) (ds : List Due) (ts : List Placed) → StandsDeeper n ds ts → StandsDeeper (suc n) (open_level ds) ts
 deeper_opened n [] ts deep = absurd deep
 deeper_opened n (d ∷ ds) [] deep = omega (arith, deep)
 deeper_opened n (d ∷ ds) (t ∷ ts) deep = deeper_opened n ds ts deep
 
-pub within_opened : (n : ℕ) (ds : List Due) → AreWithin (suc n) (opened ds) → AreWithin n ds
+pub within_opened : (n : ℕ) (ds : List Due) → AreWithin (suc n) (open_level ds) → AreWithin n ds
 within_opened n [] within = tt
 within_opened n (d ∷ ds) within = (omega (arith, within.0), within_opened n ds within.1)
 
-pub opened_within : (n : ℕ) (ds : List Due) → AreWithin n ds → AreWithin (suc n) (opened ds)
+pub opened_within : (n : ℕ) (ds : List Due) → AreWithin n ds → AreWithin (suc n) (open_level ds)
 opened_within n [] within = tt
 opened_within n (d ∷ ds) within = (omega (arith, within.0), opened_within n ds within.1)
 
-pub due_opened : (ds : List Due) (ts : List Placed) → AreDue ds ts → AreDue (opened ds) ts
+pub due_opened : (ds : List Due) (ts : List Placed) → AreDue ds ts → AreDue (open_level ds) ts
 due_opened [] [] due = tt
 due_opened [] (t ∷ ts) due = absurd due
 due_opened (d ∷ ds) [] due = absurd due
 due_opened (d ∷ ds) (t ∷ ts) due = (due.0, due_opened ds ts due.1)
 
-pub opened_due : (ds : List Due) (ts : List Placed) → AreDue (opened ds) ts → AreDue ds ts
+pub opened_due : (ds : List Due) (ts : List Placed) → AreDue (open_level ds) ts → AreDue ds ts
 opened_due [] [] due = tt
 opened_due [] (t ∷ ts) due = absurd due
 opened_due (d ∷ ds) [] due = absurd due

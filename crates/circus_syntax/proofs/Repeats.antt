@@ -4,7 +4,7 @@ use Rattle.std.specs.Prelude.{Option, Some, None, option_map}
 use Rattle.circus_syntax.specs.declared.stopping.Stop.{Stop}
 use Rattle.circus_syntax.specs.Placed.{Placed, first, Due}
 use Rattle.circus_syntax.specs.Stopping.{StandAt}
-use Rattle.circus_syntax.specs.Reader.{Reader, place_in, passes, sees, next_of, either, either_case, optional, repeat, repeated, marked, marked_in}
+use Rattle.circus_syntax.specs.Reader.{Reader, place_in, passes, sees, next_of, either, either_case, optional, repeat, repeat_while, mark_stops, marked_in}
 use Rattle.circus_syntax.specs.Spelling.{each, if_written, IsEach, IfWritten}
 use Rattle.circus_syntax.proofs.Sound.{Sound, Ran, Fills, EndsAt, reader, ran_is, ran_both, ran_mapped, ran_like, sound_cased, sound_mapped, sound_nothing, first_append, place_first}
 
@@ -45,14 +45,14 @@ enough test item shrinks (suc n) (suc m) r a b =
     enough_step test item shrinks n m r (λ s less. enough test item shrinks n m s (omega arith) (omega arith)) (sees test r) refl
 
 pub repeated_sees : {A : Type 0} (test : Placed → Bool) (item : Reader → A × Reader) → Shrinks test item → (r : Reader) → sees test r ≡ true
-    → repeated test item r ≡ ((item r).0 ∷ (repeated test item (item r).1).0, (repeated test item (item r).1).1)
+    → repeat_while test item r ≡ ((item r).0 ∷ (repeat_while test item (item r).1).0, (repeat_while test item (item r).1).1)
 repeated_sees test item shrinks r hit =
     let shorter : length (item r).1.rest < length r.rest = shrinks r hit in
     let same = enough test item shrinks (length r.rest) (length (item r).1.rest) (item r).1 (omega arith) (omega arith) in
     enough test item shrinks (length r.rest) (suc (length r.rest)) r (omega arith) (omega arith)
     ∙ repeat_sees test item (length r.rest) r hit ∙ (λ i. ((item r).0 ∷ (same i).0, (same i).1))
 
-pub repeated_none : {A : Type 0} (test : Placed → Bool) (item : Reader → A × Reader) (r : Reader) → sees test r ≡ false → repeated test item r ≡ ([], r)
+pub repeated_none : {A : Type 0} (test : Placed → Bool) (item : Reader → A × Reader) (r : Reader) → sees test r ≡ false → repeat_while test item r ≡ ([], r)
 repeated_none test item r missed = repeat_none test item (length r.rest) r missed
 
 -- a production leaves no more tokens than there were
@@ -69,7 +69,7 @@ never_longer {A = A} {p = p} P r = by_stop r.stop
         subst (λ (x : A × Reader). length x.1.rest ≤ length r.rest) (sym (F.stays r.rest)) (omega arith)
 
 ran_none : {A : Type 0} (test : Placed → Bool) (item : Reader → A × Reader) (spell : A → List Due) (Good : A → Type 0) (ts : List Placed) (e : ℕ)
-    → passes test (first ts) ≡ false → Ran (repeated test item) (each spell) (IsEach Good) ts e
+    → passes test (first ts) ≡ false → Ran (repeat_while test item) (each spell) (IsEach Good) ts e
 ran_none test item spell Good ts e missed = record {
   tree = [];
   taken = [];
@@ -84,7 +84,7 @@ ran_none test item spell Good ts e missed = record {
 }
 
 fills_repeated : {A : Type 0} (test : Placed → Bool) (item : Reader → A × Reader) (spell : A → List Due) (Good : A → Type 0) (s : Stop) (e : ℕ)
-    → Fills (repeated test item) (each spell) (IsEach Good) s e
+    → Fills (repeat_while test item) (each spell) (IsEach Good) s e
 fills_repeated test item spell Good s e = record {
   tree = [];
   more = [];
@@ -95,25 +95,25 @@ fills_repeated test item spell Good s e = record {
 }
 
 ran_step : {A : Type 0} (test : Placed → Bool) (item : Reader → A × Reader) (spell : A → List Due) (Good : A → Type 0) → Shrinks test item → Sound item spell Good
-    → (ts : List Placed) (e : ℕ) → ((us : List Placed) → length us < length ts → Ran (repeated test item) (each spell) (IsEach Good) us e)
-    → (b : Bool) → passes test (first ts) ≡ b → Ran (repeated test item) (each spell) (IsEach Good) ts e
+    → (ts : List Placed) (e : ℕ) → ((us : List Placed) → length us < length ts → Ran (repeat_while test item) (each spell) (IsEach Good) us e)
+    → (b : Bool) → passes test (first ts) ≡ b → Ran (repeat_while test item) (each spell) (IsEach Good) ts e
 ran_step test item spell Good shrinks sound ts e less false missed = ran_none test item spell Good ts e missed
 ran_step {A = A} test item spell Good shrinks sound ts e less true hit =
     let P = sound.runs ts e in
     let shorter = subst (λ (x : A × Reader). length x.1.rest < length ts) (ran_is P) (shrinks (reader None ts e) hit) in
-    ran_like (repeated test item)
+    ran_like (repeat_while test item)
     (λ us same. repeated_sees test item shrinks (reader None us e) (ap (passes test) same ∙ hit))
     (ran_mapped (λ x. x.0 ∷ x.1) (each spell) (IsEach Good) (λ x. refl) (λ x g. g)
     (ran_both P (λ s. fills_repeated test item spell Good s e) (less P.left shorter)))
 
 ran_repeated : {A : Type 0} (test : Placed → Bool) (item : Reader → A × Reader) (spell : A → List Due) (Good : A → Type 0) → Shrinks test item → Sound item spell Good
-    → (n : ℕ) (ts : List Placed) (e : ℕ) → length ts ≤ n → Ran (repeated test item) (each spell) (IsEach Good) ts e
+    → (n : ℕ) (ts : List Placed) (e : ℕ) → length ts ≤ n → Ran (repeat_while test item) (each spell) (IsEach Good) ts e
 ran_repeated test item spell Good shrinks sound zero ts e h = ran_none test item spell Good ts e (sees_none test (reader None ts e) h)
 ran_repeated test item spell Good shrinks sound (suc n) ts e h =
     ran_step test item spell Good shrinks sound ts e (λ us less. ran_repeated test item spell Good shrinks sound n us e (omega arith)) (passes test (first ts)) refl
 
 pub sound_repeated : {A : Type 0} (test : Placed → Bool) {item : Reader → A × Reader} {spell : A → List Due} {Good : A → Type 0} → Shrinks test item → Sound item spell Good
-    → Sound (repeated test item) (each spell) (IsEach Good)
+    → Sound (repeat_while test item) (each spell) (IsEach Good)
 sound_repeated test {item = item} {spell = spell} {Good = Good} shrinks sound = record {
   fills = λ s e. fills_repeated test item spell Good s e;
   runs = λ ts e. ran_repeated test item spell Good shrinks sound (length ts) ts e (omega arith);
@@ -128,13 +128,13 @@ ended_marked mark keeps at (Some s) left e more ended =
     (keeps at s ∙ ended.0, subst (λ place. StandAt place more) (sym (keeps at s)) ended.1)
 
 pub sound_marked : {A : Type 0} (mark : ℕ → Stop → Stop) {p : Reader → A × Reader} {spell : A → List Due} {Good : A → Type 0}
-    → ((at : ℕ) (s : Stop) → (mark at s).place ≡ s.place) → Sound p spell Good → Sound (marked mark p) spell Good
+    → ((at : ℕ) (s : Stop) → (mark at s).place ≡ s.place) → Sound p spell Good → Sound (mark_stops mark p) spell Good
 sound_marked mark {p = p} {spell = spell} {Good = Good} keeps P = record {
   fills = λ s e. let F = P.fills s e in record { tree = F.tree; more = F.more; stays = F.stays; good = F.good; due = F.due; there = F.there };
   runs = runs;
 }
   where
-    runs : (ts : List Placed) (e : ℕ) → Ran (marked mark p) spell Good ts e
+    runs : (ts : List Placed) (e : ℕ) → Ran (mark_stops mark p) spell Good ts e
     runs ts e =
         let R = P.runs ts e in
         record {

@@ -4,8 +4,8 @@ use Rattle.std.specs.Prelude.{Option, Some, None}
 use Rattle.circus_text.specs.Token.{IsSpelling}
 use Rattle.circus_syntax.specs.declared.stopping.Stop.{Stop}
 use Rattle.circus_syntax.specs.declared.stopping.StopCause.TheVariants.{Unexpected}
-use Rattle.circus_syntax.specs.Placed.{Placed, first, AreTokens, Due, opened, AreDue}
-use Rattle.circus_syntax.specs.Reader.{Reader, place_in, stop_at, token, nothing, both, mapped, cased}
+use Rattle.circus_syntax.specs.Placed.{Placed, first, AreTokens, Due, open_level, AreDue}
+use Rattle.circus_syntax.specs.Reader.{Reader, place_in, stop_at, token, nothing, both, map_read, choose_by}
 use Rattle.circus_syntax.specs.Stopping.{StandAt}
 use Rattle.circus_syntax.proofs.Opened.{due_opened}
 
@@ -248,7 +248,7 @@ sound_both P Q = record {
 -- Made into something else.
 
 pub fills_mapped : {A B : Type 0} {p : Reader → A × Reader} {sa : A → List Due} {ga : A → Type 0} {s : Stop} {e : ℕ} (f : A → B) (sb : B → List Due) (gb : B → Type 0)
-    → ((x : A) → sb (f x) ≡ sa x) → ((x : A) → ga x → gb (f x)) → Fills p sa ga s e → Fills (mapped f p) sb gb s e
+    → ((x : A) → sb (f x) ≡ sa x) → ((x : A) → ga x → gb (f x)) → Fills p sa ga s e → Fills (map_read f p) sb gb s e
 fills_mapped f sb gb spelled kept P = record {
   tree = f P.tree;
   more = P.more;
@@ -259,7 +259,7 @@ fills_mapped f sb gb spelled kept P = record {
 }
 
 pub ran_mapped : {A B : Type 0} {p : Reader → A × Reader} {sa : A → List Due} {ga : A → Type 0} {ts : List Placed} {e : ℕ} (f : A → B) (sb : B → List Due) (gb : B → Type 0)
-    → ((x : A) → sb (f x) ≡ sa x) → ((x : A) → ga x → gb (f x)) → Ran p sa ga ts e → Ran (mapped f p) sb gb ts e
+    → ((x : A) → sb (f x) ≡ sa x) → ((x : A) → ga x → gb (f x)) → Ran p sa ga ts e → Ran (map_read f p) sb gb ts e
 ran_mapped f sb gb spelled kept P = record {
   tree = f P.tree;
   taken = P.taken;
@@ -274,7 +274,7 @@ ran_mapped f sb gb spelled kept P = record {
 }
 
 pub sound_mapped : {A B : Type 0} {p : Reader → A × Reader} {sa : A → List Due} {ga : A → Type 0} (f : A → B) (sb : B → List Due) (gb : B → Type 0)
-    → ((x : A) → sb (f x) ≡ sa x) → ((x : A) → ga x → gb (f x)) → Sound p sa ga → Sound (mapped f p) sb gb
+    → ((x : A) → sb (f x) ≡ sa x) → ((x : A) → ga x → gb (f x)) → Sound p sa ga → Sound (map_read f p) sb gb
 sound_mapped f sb gb spelled kept P = record {
   fills = λ s e. fills_mapped f sb gb spelled kept (P.fills s e);
   runs = λ ts e. ran_mapped f sb gb spelled kept (P.runs ts e);
@@ -282,7 +282,7 @@ sound_mapped f sb gb spelled kept P = record {
 
 -- A level deeper.
 
-pub sound_opened : {A : Type 0} {p : Reader → A × Reader} {spell : A → List Due} {Good : A → Type 0} → Sound p spell Good → Sound p (λ a. opened (spell a)) Good
+pub sound_opened : {A : Type 0} {p : Reader → A × Reader} {spell : A → List Due} {Good : A → Type 0} → Sound p spell Good → Sound p (λ a. open_level (spell a)) Good
 sound_opened {spell = spell} P = record {
   fills = λ s e.
       let F = P.fills s e in
@@ -322,8 +322,8 @@ ran_like p alike Q = record {
 }
 
 pub sound_cased : {K A : Type 0} (class : Option Placed → K) (p : K → Reader → A × Reader) {spell : A → List Due} {Good : A → Type 0}
-    → ((k : K) → Sound (p k) spell Good) → Sound (cased class p) spell Good
+    → ((k : K) → Sound (p k) spell Good) → Sound (choose_by class p) spell Good
 sound_cased class p each = record {
   fills = λ s e. let F = (each (class None)).fills s e in record { tree = F.tree; more = F.more; stays = F.stays; good = F.good; due = F.due; there = F.there };
-  runs = λ ts e. ran_like (cased class p) (λ us same. ap (λ k. p k (reader None us e)) (ap class same)) ((each (class (first ts))).runs ts e);
+  runs = λ ts e. ran_like (choose_by class p) (λ us same. ap (λ k. p k (reader None us e)) (ap class same)) ((each (class (first ts))).runs ts e);
 }

@@ -13,7 +13,7 @@ use Rattle.circus_syntax.specs.declared.named.Numeral.{Numeral}
 use Rattle.circus_syntax.specs.Reserved.{is_reserved, reserved_words}
 use Rattle.circus_syntax.specs.Placed.{Placed, first, same_kind, is_lexeme, is_name, is_number, is_text, in_quotes, sign, Due, due, due_at, due_name, due_number, due_text, AreDue}
 use Rattle.circus_syntax.specs.Reader.{Reader, passes, next_of, token, token_in, both}
-use Rattle.circus_syntax.specs.Reading.{fixed, fixed_at, name, number, quoted, named_of, numeral_of, filled_name, filled_numeral, behind, listed}
+use Rattle.circus_syntax.specs.Reading.{expect_token, fixed_at, name, number, quoted_text, named_of, numeral_of, filled_name, filled_numeral, behind, comma_list}
 use Rattle.circus_syntax.specs.Spelling.{with_commas, comma, spelling_name, spelling_number, IsEach, IsListed, IsName, IsNumeral, IsText}
 use Rattle.circus_syntax.proofs.Sound.{Sound, sound_token, sound_mapped, sound_both}
 use Rattle.circus_syntax.proofs.Repeats.{Shrinks, never_longer, sound_repeated}
@@ -61,8 +61,8 @@ spelling_fixed_at l at = due_at l at ∷ []
 abbrev pub Always : {A : Type 0} → A → Type 0
 Always a = Unit {0}
 
-pub sound_fixed : (l : Lexeme) → Sound (fixed l) (spelling_fixed l) Always
-unfolding fixed
+pub sound_fixed : (l : Lexeme) → Sound (expect_token l) (spelling_fixed l) Always
+unfolding expect_token
 sound_fixed l =
     sound_token (is_lexeme l) (λ t. tt) (λ at. tt) (spelling_fixed l) Always
     (λ t hit fine. (tt, (lexeme_is l t hit, tt)))
@@ -109,8 +109,8 @@ sound_number =
     (ltb-false _ _ spelled.no_long_number, ((kind, spelled, refl, refl), tt)))
     (λ at. (omega arith, record { kind = Number; bytes = codes "0"; start = at }, refl, ((refl, zero_is_number, refl, refl), tt)))
 
-pub complete_fixed : (l : Lexeme) → Complete (fixed l) (spelling_fixed l) Always Any
-unfolding fixed
+pub complete_fixed : (l : Lexeme) → Complete (expect_token l) (spelling_fixed l) Always Any
+unfolding expect_token
 complete_fixed l = complete_token (is_lexeme l) (λ t. tt) (λ at. tt) (spelling_fixed l) Always back
   where
     back : (a : Unit {0}) (ts : List Placed) → Unit {0} → AreDue (due l ∷ []) ts → (t : Placed) × (ts ≡ t ∷ []) × (is_lexeme l t ≡ true) × (tt ≡ a)
@@ -178,8 +178,8 @@ quoted_is t spelled =
 no_text : IsText []
 no_text = record { formed = ([], refl, refl); no_bad_byte = refl; no_long_number = refl }
 
-pub sound_quoted : Sound quoted spelling_quoted IsQuotedText
-unfolding quoted
+pub sound_quoted : Sound quoted_text spelling_quoted IsQuotedText
+unfolding quoted_text
 sound_quoted =
     sound_token is_text (λ t. (content_of t.bytes, t.start)) (λ at. ([], at)) spelling_quoted IsQuotedText
     (λ t hit fine.
@@ -188,8 +188,8 @@ sound_quoted =
     (subst (IsSpelling Quoted) (quoted_is t spelled) spelled, ((kind, quoted_is t spelled, refl), tt)))
     (λ at. (no_text, record { kind = Quoted; bytes = in_quotes []; start = at }, refl, ((refl, refl, refl), tt)))
 
-pub complete_quoted : Complete quoted spelling_quoted IsQuotedText Any
-unfolding quoted
+pub complete_quoted : Complete quoted_text spelling_quoted IsQuotedText Any
+unfolding quoted_text
 complete_quoted = complete_token is_text (λ t. (content_of t.bytes, t.start)) (λ at. ([], at)) spelling_quoted IsQuotedText back
   where
     back : (a : List ℕ × ℕ) (ts : List Placed) → IsQuotedText a → AreDue (due_text a.0 a.1 ∷ []) ts → (t : Placed) × (ts ≡ t ∷ []) × (is_text t ≡ true) × ((content_of t.bytes, t.start) ≡ a)
@@ -212,8 +212,8 @@ shrinks_token test read fill r hit = by_parts r.stop r.rest hit
     by_parts None [] h = cc
     by_parts None (t ∷ ts) h = rw h (omega arith)
 
-pub shrinks_fixed : (l : Lexeme) → Shrinks (is_lexeme l) (fixed l)
-unfolding fixed
+pub shrinks_fixed : (l : Lexeme) → Shrinks (is_lexeme l) (expect_token l)
+unfolding expect_token
 shrinks_fixed l = shrinks_token (is_lexeme l) (λ t. tt) (λ at. tt)
 
 pub shrinks_at : (l : Lexeme) → Shrinks (is_lexeme l) (fixed_at l)
@@ -245,9 +245,9 @@ complete_behind l {spell = spell} {Good = Good} P =
     complete_mapped (λ x. x.1) (λ x. due l ∷ spell x) Good (λ x. refl) (λ b g. ((tt, b), refl, (tt, g))) (complete_then (complete_fixed l) P)
 
 pub shrinks_behind : {A : Type 0} (l : Lexeme) {p : Reader → A × Reader} {spell : A → List Due} {Good : A → Type 0} → Sound p spell Good → Shrinks (is_lexeme l) (behind l p)
-shrinks_behind l {p = p} P r hit = shrinks_both (is_lexeme l) (fixed l) p (shrinks_fixed l) P r hit
+shrinks_behind l {p = p} P r hit = shrinks_both (is_lexeme l) (expect_token l) p (shrinks_fixed l) P r hit
 
-pub sound_listed : {A : Type 0} {item : Reader → A × Reader} {spell : A → List Due} {Good : A → Type 0} → Sound item spell Good → Sound (listed item) (with_commas spell) (IsListed Good)
+pub sound_listed : {A : Type 0} {item : Reader → A × Reader} {spell : A → List Due} {Good : A → Type 0} → Sound item spell Good → Sound (comma_list item) (with_commas spell) (IsListed Good)
 sound_listed {spell = spell} {Good = Good} P =
     sound_mapped (λ x. x.0 ∷ x.1) (with_commas spell) (IsListed Good) (λ x. refl) (λ x g. g)
     (sound_both P (sound_repeated is_comma (shrinks_behind comma_sign P) (sound_behind comma_sign P)))
@@ -258,7 +258,7 @@ listed_back Good (x ∷ xs) g = ((x, xs), refl, g)
 
 pub complete_listed : {A : Type 0} {item : Reader → A × Reader} {spell : A → List Due} {Good : A → Type 0} {Stays : Option Placed → Type 0}
     → Sound item spell Good → Complete item spell Good Stays → ((o : Option Placed) → passes is_comma o ≡ true → Stays o)
-    → Complete (listed item) (with_commas spell) (IsListed Good) (λ o. Stays o × (passes is_comma o ≡ false))
+    → Complete (comma_list item) (with_commas spell) (IsListed Good) (λ o. Stays o × (passes is_comma o ≡ false))
 complete_listed {spell = spell} {Good = Good} {Stays = Stays} P C follows =
     complete_mapped (λ x. x.0 ∷ x.1) (with_commas spell) (IsListed Good) (λ x. refl) (listed_back Good)
     (complete_both C (complete_repeated is_comma (shrinks_behind comma_sign P) (complete_behind comma_sign C) opens follows)

@@ -6,9 +6,9 @@ use Rattle.circus_text.specs.Token.{Lexeme}
 use Rattle.circus_syntax.specs.declared.reading.TypeStart.{TypeStart}
 use Rattle.circus_syntax.specs.declared.reading.TypeStart.TheVariants as begins
 use Rattle.circus_syntax.specs.TypeTree.{TypeTree, GroupTrees, ArmTrees, boolean, cardinal, long_cardinal, integer, long_integer, text, enumeration, array, sequence, «record», choice, called, no_groups, more_groups, no_arms, more_arms, group_trees, arm_trees}
-use Rattle.circus_syntax.specs.Placed.{Placed, first, is_lexeme, is_name, is_number, word, sign, due, due_at, due_name, due_number, opened, AreWithin}
-use Rattle.circus_syntax.specs.Reader.{Reader, passes, both, mapped, optional}
-use Rattle.circus_syntax.specs.Reading.{fixed, fixed_at, number, listed, names, label, label_of, labels, type_name, name_of_type, start_of_type, long_of, is_long_integer, long, called_of, simple, too_deep, group, groups_with, arm, arm_of_parts, array_with, sequence_with, record_with, choice_with, type_with, flat_type, stop_in_type, type, groups}
+use Rattle.circus_syntax.specs.Placed.{Placed, first, is_lexeme, is_name, is_number, word, sign, due, due_at, due_name, due_number, open_level, AreWithin}
+use Rattle.circus_syntax.specs.Reader.{Reader, passes, both, map_read, optional}
+use Rattle.circus_syntax.specs.Reading.{expect_token, fixed_at, number, comma_list, names, label, label_of, labels, type_name, name_of_type, start_of_type, long_of, is_long_integer, long, called_of, simple_type, too_deep, group, groups_with, arm, arm_of_parts, array_with, sequence_with, record_with, choice_with, type_with, flat_type, stop_in_type, type, groups}
 use Rattle.circus_syntax.specs.Spelling.{with_commas, if_written, spelling_name, spelling_names, spelling_number, spelling_label, spelling_type_name, spelling_type, spelling_groups, spelling_more_groups, spelling_arms, spelling_more_arms, IsListed, IsName, IsLabel, IsType, levels, group_levels, arm_levels}
 use Rattle.circus_syntax.proofs.Opened.{StandsDeeper, within_opened, within_front, within_back}
 use Rattle.circus_syntax.proofs.Sound.{Sound, reader, sound_nothing, sound_both, sound_cased}
@@ -114,11 +114,11 @@ long_spelled : (at : ℕ) (b : Bool) → spelling_type (long_of (at, b)) ≡ due
 long_spelled at true = refl
 long_spelled at false = refl
 
-levels_word : (n : ℕ) (l : Lexeme) (f : ℕ → TypeTree) → ((at : ℕ) → spelling_type (f at) ≡ due_at l at ∷ []) → Levels n (mapped f (fixed_at l)) (mapped f (fixed_at l)) spelling_type
+levels_word : (n : ℕ) (l : Lexeme) (f : ℕ → TypeTree) → ((at : ℕ) → spelling_type (f at) ≡ due_at l at ∷ []) → Levels n (map_read f (fixed_at l)) (map_read f (fixed_at l)) spelling_type
 levels_word n l f spelled = levels_mapped n f spelling_type spelled (lawful_fixed_at n l).levels
 
-levels_simple : (n : ℕ) (k : TypeStart) → Levels n (simple k) (simple k) spelling_type
-unfolding simple long
+levels_simple : (n : ℕ) (k : TypeStart) → Levels n (simple_type k) (simple_type k) spelling_type
+unfolding simple_type long
 levels_simple n begins.Cardinal = levels_word n (word (codes "CARDINAL")) cardinal (λ at. refl)
 levels_simple n begins.Integer = levels_word n (word (codes "INTEGER")) integer (λ at. refl)
 levels_simple n begins.Long =
@@ -177,7 +177,7 @@ levels_record n m I =
 levels_choice : (n m : ℕ) {inner wide : Reader → TypeTree × Reader} → Inner n m inner wide → Levels (suc n) (choice_with inner) (choice_with wide) spelling_type
 levels_choice n m I =
     levels_mapped (suc n) (λ x. choice x.0 (arm_trees x.1.1.1.0)) spelling_type
-    (λ x. ap (λ l. opened (due_at (word (codes "CHOICE")) x.0 ∷ due (word (codes "OF")) ∷ due (sign (codes "{")) ∷ (l ++ due (sign (codes "}")) ∷ []))) (arms_spelled x.1.1.1.0))
+    (λ x. ap (λ l. open_level (due_at (word (codes "CHOICE")) x.0 ∷ due (word (codes "OF")) ∷ due (sign (codes "{")) ∷ (l ++ due (sign (codes "}")) ∷ []))) (arms_spelled x.1.1.1.0))
     (levels_opened n (levels_both n (lawful_fixed_at n (word (codes "CHOICE"))).levels (levels_both n (lawful_fixed n (word (codes "OF"))).levels (levels_both n (lawful_fixed n (sign (codes "{"))).levels
     (levels_both n (levels_listed n (sound_arm n I.narrow_sound) (sound_arm m I.wide_sound) (levels_arm n m I)) (lawful_fixed n (sign (codes "}"))).levels)))))
 
@@ -250,22 +250,22 @@ flat_reaches : (m : ℕ) {inner : Reader → TypeTree × Reader} → Sound inner
     → Reaches 0 spelling_type ts (flat_type k (reader None ts e)) (type_with inner k (reader None ts e))
 flat_reaches m {inner} S begins.Array ts e is =
     reaches_deep (word (codes "ARRAY"))
-    (λ r hit. shrinks_both (is_lexeme (word (codes "ARRAY"))) (fixed_at (word (codes "ARRAY"))) (both number (both (fixed (word (codes "OF"))) inner)) (shrinks_at (word (codes "ARRAY")))
+    (λ r hit. shrinks_both (is_lexeme (word (codes "ARRAY"))) (fixed_at (word (codes "ARRAY"))) (both number (both (expect_token (word (codes "OF"))) inner)) (shrinks_at (word (codes "ARRAY")))
     (sound_both sound_number (sound_both (sound_fixed (word (codes "OF"))) S)) r hit)
     (sound_array m S) (λ us end. omega arith) ts e (holds_first begins.Array (word (codes "ARRAY")) ts is (λ h. cc none_starts) (λ t h. h))
 flat_reaches m {inner} S begins.Sequence ts e is =
     reaches_deep (word (codes "SEQUENCE"))
-    (λ r hit. shrinks_both (is_lexeme (word (codes "SEQUENCE"))) (fixed_at (word (codes "SEQUENCE"))) (both (optional is_number number) (both (fixed (word (codes "OF"))) inner)) (shrinks_at (word (codes "SEQUENCE")))
+    (λ r hit. shrinks_both (is_lexeme (word (codes "SEQUENCE"))) (fixed_at (word (codes "SEQUENCE"))) (both (optional is_number number) (both (expect_token (word (codes "OF"))) inner)) (shrinks_at (word (codes "SEQUENCE")))
     (sound_both (sound_optional is_number sound_number) (sound_both (sound_fixed (word (codes "OF"))) S)) r hit)
     (sound_sequence m S) (λ us end. omega arith) ts e (holds_first begins.Sequence (word (codes "SEQUENCE")) ts is (λ h. cc none_starts) (λ t h. h))
 flat_reaches m {inner} S begins.Record ts e is =
     reaches_deep (word (codes "RECORD"))
-    (λ r hit. shrinks_both (is_lexeme (word (codes "RECORD"))) (fixed_at (word (codes "RECORD"))) (both (fixed (sign (codes "["))) (both (groups_with inner) (fixed (sign (codes "]"))))) (shrinks_at (word (codes "RECORD")))
+    (λ r hit. shrinks_both (is_lexeme (word (codes "RECORD"))) (fixed_at (word (codes "RECORD"))) (both (expect_token (sign (codes "["))) (both (groups_with inner) (expect_token (sign (codes "]"))))) (shrinks_at (word (codes "RECORD")))
     (sound_both (sound_fixed (sign (codes "["))) (sound_both (sound_groups_with m S) (sound_fixed (sign (codes "]"))))) r hit)
     (sound_record m S) (λ us end. omega arith) ts e (holds_first begins.Record (word (codes "RECORD")) ts is (λ h. cc none_starts) (λ t h. h))
 flat_reaches m {inner} S begins.Choice ts e is =
     reaches_deep (word (codes "CHOICE"))
-    (λ r hit. shrinks_both (is_lexeme (word (codes "CHOICE"))) (fixed_at (word (codes "CHOICE"))) (both (fixed (word (codes "OF"))) (both (fixed (sign (codes "{"))) (both (listed (arm inner)) (fixed (sign (codes "}")))))) (shrinks_at (word (codes "CHOICE")))
+    (λ r hit. shrinks_both (is_lexeme (word (codes "CHOICE"))) (fixed_at (word (codes "CHOICE"))) (both (expect_token (word (codes "OF"))) (both (expect_token (sign (codes "{"))) (both (comma_list (arm inner)) (expect_token (sign (codes "}")))))) (shrinks_at (word (codes "CHOICE")))
     (sound_both (sound_fixed (word (codes "OF"))) (sound_both (sound_fixed (sign (codes "{"))) (sound_both (sound_listed (sound_arm m S)) (sound_fixed (sign (codes "}")))))) r hit)
     (sound_choice m S) (λ us end. omega arith) ts e (holds_first begins.Choice (word (codes "CHOICE")) ts is (λ h. cc none_starts) (λ t h. h))
 flat_reaches m S begins.Cardinal ts e is = (levels_simple 0 begins.Cardinal).reaches ts e

@@ -10,9 +10,9 @@ use Rattle.circus_syntax.specs.declared.stopping.StopCause.TheVariants.{TooDeep}
 use Rattle.circus_syntax.specs.declared.reading.TypeStart.{TypeStart}
 use Rattle.circus_syntax.specs.declared.reading.TypeStart.TheVariants as begins
 use Rattle.circus_syntax.specs.TypeTree.{TypeTree, GroupTree, ArmTree, boolean, cardinal, integer, text, enumeration, array, sequence, «record», choice, group_trees, arm_trees}
-use Rattle.circus_syntax.specs.Placed.{Placed, is_lexeme, is_number, word, sign, Due, due, due_at, due_name, due_number, opened}
-use Rattle.circus_syntax.specs.Reader.{Reader, place_in, stop_at, mapped}
-use Rattle.circus_syntax.specs.Reading.{fixed_at, names, label, label_of, labels, type_name, name_of_type, start_of_type, long_of, is_long_integer, long, called_of, simple, too_deep, group, groups_with, arm, arm_of_parts, array_with, sequence_with, record_with, choice_with, type_with, flat_type, stop_in_type, type, groups}
+use Rattle.circus_syntax.specs.Placed.{Placed, is_lexeme, is_number, word, sign, Due, due, due_at, due_name, due_number, open_level}
+use Rattle.circus_syntax.specs.Reader.{Reader, place_in, stop_at, map_read}
+use Rattle.circus_syntax.specs.Reading.{fixed_at, names, label, label_of, labels, type_name, name_of_type, start_of_type, long_of, is_long_integer, long, called_of, simple_type, too_deep, group, groups_with, arm, arm_of_parts, array_with, sequence_with, record_with, choice_with, type_with, flat_type, stop_in_type, type, groups}
 use Rattle.circus_syntax.specs.Spelling.{each, with_commas, comma, if_written, spelling_name, spelling_names, spelling_label, spelling_type_name, spelling_type, spelling_groups, spelling_more_groups, spelling_arms, spelling_more_arms, IsEach, IsListed, IfWritten, IsName, IsNumeral, IsLabel, IsType, AreGroups, AreArms, levels, group_levels, arm_levels}
 use Rattle.circus_syntax.proofs.Sound.{Sound, reader, place_first, sound_nothing, sound_mapped, sound_both, sound_cased, sound_opened}
 use Rattle.circus_syntax.proofs.Repeats.{sound_marked, sound_either, sound_optional}
@@ -88,11 +88,11 @@ sound_long n =
     (sound_both (sound_fixed_at (word (codes "LONG"))) sound_is_long_integer)
 
 sound_at : (n : ℕ) (w : Lexeme) (f : ℕ → TypeTree) → ((at : ℕ) → spelling_type (f at) ≡ due_at w at ∷ []) → ((at : ℕ) → IsTypeWithin n (f at))
-    → Sound (mapped f (fixed_at w)) spelling_type (IsTypeWithin n)
+    → Sound (map_read f (fixed_at w)) spelling_type (IsTypeWithin n)
 sound_at n w f spelled good = sound_mapped f spelling_type (IsTypeWithin n) spelled (λ at g. good at) (sound_fixed_at w)
 
-pub sound_simple : (n : ℕ) (k : TypeStart) → Sound (simple k) spelling_type (IsTypeWithin n)
-unfolding simple
+pub sound_simple : (n : ℕ) (k : TypeStart) → Sound (simple_type k) spelling_type (IsTypeWithin n)
+unfolding simple_type
 sound_simple n begins.Cardinal = sound_at n (word (codes "CARDINAL")) cardinal (λ at. refl) (λ at. (tt, omega arith))
 sound_simple n begins.Integer = sound_at n (word (codes "INTEGER")) integer (λ at. refl) (λ at. (tt, omega arith))
 sound_simple n begins.Long = sound_long n
@@ -214,7 +214,7 @@ choice_good n at (a ∷ rest) g = let good = arms_good n (a ∷ rest) g in (good
 pub sound_choice : (n : ℕ) {inner : Reader → TypeTree × Reader} → Sound inner spelling_type (IsTypeWithin n) → Sound (choice_with inner) spelling_type (IsTypeWithin (suc n))
 sound_choice n T =
     sound_mapped (λ x. choice x.0 (arm_trees x.1.1.1.0)) spelling_type (IsTypeWithin (suc n))
-    (λ x. ap (λ l. opened (due_at (word (codes "CHOICE")) x.0 ∷ due (word (codes "OF")) ∷ due (sign (codes "{")) ∷ (l ++ due (sign (codes "}")) ∷ []))) (arms_spelled x.1.1.1.0))
+    (λ x. ap (λ l. open_level (due_at (word (codes "CHOICE")) x.0 ∷ due (word (codes "OF")) ∷ due (sign (codes "{")) ∷ (l ++ due (sign (codes "}")) ∷ []))) (arms_spelled x.1.1.1.0))
     (λ x g. choice_good n x.0 x.1.1.1.0 g.1.1.1.0)
     (sound_opened (sound_both (sound_fixed_at (word (codes "CHOICE"))) (sound_both (sound_fixed (word (codes "OF"))) (sound_both (sound_fixed (sign (codes "{")))
     (sound_both (sound_listed (sound_arm n T)) (sound_fixed (sign (codes "}"))))))))

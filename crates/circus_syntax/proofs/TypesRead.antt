@@ -13,9 +13,9 @@ use Rattle.circus_syntax.specs.declared.reading.TypeStart.{TypeStart}
 use Rattle.circus_syntax.specs.declared.reading.TypeStart.TheVariants as begins
 use Rattle.circus_syntax.specs.Reserved.{is_reserved, reserved_words}
 use Rattle.circus_syntax.specs.TypeTree.{TypeTree, GroupTree, ArmTree, GroupTrees, ArmTrees, boolean, cardinal, long_cardinal, integer, long_integer, text, enumeration, array, sequence, «record», choice, called, no_groups, more_groups, no_arms, more_arms, group_trees, arm_trees}
-use Rattle.circus_syntax.specs.Placed.{Placed, first, same_kind, is_lexeme, is_name, is_number, word, sign, Due, due, due_at, due_name, due_number, opened, AreDue}
-use Rattle.circus_syntax.specs.Reader.{Reader, passes, nothing, both, mapped, cased, either, either_case}
-use Rattle.circus_syntax.specs.Reading.{fixed, fixed_at, number, listed, names, label, label_of, labels, type_name, name_of_type, start_of_type, long_of, is_long_integer, long, called_of, type_name_place, simple, group, groups_with, arm, arm_of_parts, array_with, sequence_with, record_with, choice_with, type_with, flat_type, stop_in_type, type, groups}
+use Rattle.circus_syntax.specs.Placed.{Placed, first, same_kind, is_lexeme, is_name, is_number, word, sign, Due, due, due_at, due_name, due_number, open_level, AreDue}
+use Rattle.circus_syntax.specs.Reader.{Reader, passes, nothing, both, map_read, choose_by, either, either_case}
+use Rattle.circus_syntax.specs.Reading.{expect_token, fixed_at, number, comma_list, names, label, label_of, labels, type_name, name_of_type, start_of_type, long_of, is_long_integer, long, called_of, type_name_place, simple_type, group, groups_with, arm, arm_of_parts, array_with, sequence_with, record_with, choice_with, type_with, flat_type, stop_in_type, type, groups}
 use Rattle.circus_syntax.specs.Spelling.{each, spelling_more_groups, with_commas, comma, if_written, spelling_name, spelling_number, spelling_names, spelling_label, spelling_type_name, spelling_type, spelling_groups, spelling_arms, IsEach, IsListed, IfWritten, IsName, IsNumeral, IsLabel, IsType, IsTypeNameAt, levels, arm_levels}
 use Rattle.circus_syntax.proofs.Opened.{opened_due}
 use Rattle.circus_syntax.proofs.Sound.{Sound, reader, AreDue-none}
@@ -115,12 +115,12 @@ unfolding is_long_integer
 complete_is_long_integer = record { reads = reads }
   where
     reads : (b : Bool) (ts rest : List Placed) (e : ℕ) → Unit {0} → AreDue (spelling_long b) ts → Unit {0}
-        → either (is_lexeme (word (codes "INTEGER"))) (mapped (λ x. true) (fixed (word (codes "INTEGER")))) (mapped (λ x. false) (fixed (word (codes "CARDINAL")))) (reader None (ts ++ rest) e) ≡ (b, reader None rest e)
+        → either (is_lexeme (word (codes "INTEGER"))) (map_read (λ x. true) (expect_token (word (codes "INTEGER")))) (map_read (λ x. false) (expect_token (word (codes "CARDINAL")))) (reader None (ts ++ rest) e) ≡ (b, reader None rest e)
     reads true ts rest e good d stays =
-        cased_is (passes (is_lexeme (word (codes "INTEGER")))) (either_case (mapped (λ x. true) (fixed (word (codes "INTEGER")))) (mapped (λ x. false) (fixed (word (codes "CARDINAL"))))) true (ts ++ rest) e (true, reader None rest e) (opens_due (word (codes "INTEGER")) [] ts rest d)
+        cased_is (passes (is_lexeme (word (codes "INTEGER")))) (either_case (map_read (λ x. true) (expect_token (word (codes "INTEGER")))) (map_read (λ x. false) (expect_token (word (codes "CARDINAL"))))) true (ts ++ rest) e (true, reader None rest e) (opens_due (word (codes "INTEGER")) [] ts rest d)
         (ap (λ y. (true, y.1)) ((complete_fixed (word (codes "INTEGER"))).reads tt ts rest e tt d tt))
     reads false ts rest e good d stays =
-        cased_is (passes (is_lexeme (word (codes "INTEGER")))) (either_case (mapped (λ x. true) (fixed (word (codes "INTEGER")))) (mapped (λ x. false) (fixed (word (codes "CARDINAL"))))) false (ts ++ rest) e (false, reader None rest e) (clash (word (codes "CARDINAL")) [] ts rest (is_lexeme (word (codes "INTEGER"))) (λ s. refl) d)
+        cased_is (passes (is_lexeme (word (codes "INTEGER")))) (either_case (map_read (λ x. true) (expect_token (word (codes "INTEGER")))) (map_read (λ x. false) (expect_token (word (codes "CARDINAL"))))) false (ts ++ rest) e (false, reader None rest e) (clash (word (codes "CARDINAL")) [] ts rest (is_lexeme (word (codes "INTEGER"))) (λ s. refl) d)
         (ap (λ y. (false, y.1)) ((complete_fixed (word (codes "CARDINAL"))).reads tt ts rest e tt d tt))
 
 long_is : (at : ℕ) (b : Bool) (ts rest : List Placed) (e : ℕ) → AreDue (due_at (word (codes "LONG")) at ∷ spelling_long b) ts
@@ -148,20 +148,20 @@ record SimplyRead (t : TypeTree) (ts rest : List Placed) (e : ℕ) : Type 0 wher
   start : TypeStart
   flat : nests start ≡ false
   begun : start_of_type (first (ts ++ rest)) ≡ start
-  is : simple start (reader None (ts ++ rest) e) ≡ (t, reader None rest e)
+  is : simple_type start (reader None (ts ++ rest) e) ≡ (t, reader None rest e)
 
 at_is : (w : Lexeme) (f : ℕ → TypeTree) (at : ℕ) (ts rest : List Placed) (e : ℕ) → AreDue (due_at w at ∷ []) ts
-    → mapped f (fixed_at w) (reader None (ts ++ rest) e) ≡ (f at, reader None rest e)
+    → map_read f (fixed_at w) (reader None (ts ++ rest) e) ≡ (f at, reader None rest e)
 at_is w f at ts rest e d = ap (λ y. (f y.0, y.1)) ((complete_fixed_at w).reads at ts rest e tt d tt)
 
-braces : Complete (both (fixed_at (sign (codes "{"))) (both labels (fixed (sign (codes "}"))))) (λ x. due_at (sign (codes "{")) x.0 ∷ (with_commas spelling_label x.1.0 ++ due (sign (codes "}")) ∷ []))
+braces : Complete (both (fixed_at (sign (codes "{"))) (both labels (expect_token (sign (codes "}"))))) (λ x. due_at (sign (codes "{")) x.0 ∷ (with_commas spelling_label x.1.0 ++ due (sign (codes "}")) ∷ []))
     (λ x. Unit {0} × (IsListed IsLabel x.1.0 × Unit {0})) Any
 braces =
     complete_then (complete_fixed_at (sign (codes "{")))
     (complete_both complete_labels (complete_fixed (sign (codes "}"))) (λ b ts rest g d stays. clash (sign (codes "}")) [] ts rest is_comma (λ s. refl) d))
 
 simply_read : (t : TypeTree) (ts rest : List Placed) (e : ℕ) → is_nested t ≡ false → IsType t → AreDue (spelling_type t) ts → NotDot (first rest) → SimplyRead t ts rest e
-unfolding simple start_of_type
+unfolding simple_type start_of_type
 simply_read (boolean at) ts rest e flat good d stays = record {
   start = begins.Other;
   flat = refl;
@@ -224,7 +224,7 @@ simply_read (called at t) ts rest e flat good d stays = record {
     placed_good at t g = subst (λ p. IsTypeNameAt p t.«module» t.name) (place_is at t g) g
 simply_read _ ts rest e flat good d stays = cc
 
-flat_is : (k : TypeStart) → nests k ≡ false → flat_type k ≡ simple k
+flat_is : (k : TypeStart) → nests k ≡ false → flat_type k ≡ simple_type k
 flat_is begins.Array h = cc
 flat_is begins.Sequence h = cc
 flat_is begins.Record h = cc
@@ -237,7 +237,7 @@ flat_is begins.Labels h = refl
 flat_is begins.Name h = refl
 flat_is begins.Other h = refl
 
-with_is : (inner : Reader → TypeTree × Reader) (k : TypeStart) → nests k ≡ false → type_with inner k ≡ simple k
+with_is : (inner : Reader → TypeTree × Reader) (k : TypeStart) → nests k ≡ false → type_with inner k ≡ simple_type k
 with_is inner begins.Array h = cc
 with_is inner begins.Sequence h = cc
 with_is inner begins.Record h = cc
@@ -289,17 +289,17 @@ pub complete_groups_with : (n : ℕ) {inner : Reader → TypeTree × Reader} →
     → Complete (groups_with inner) (λ gs. spelling_groups (group_trees gs)) (AreGroupsWithin n) NotGroups
 complete_groups_with n {inner} S T = record { reads = reads }
   where
-    listed_group : Complete (listed (group inner)) (with_commas spelling_group) (IsListed (IsGroupWithin n)) (λ o. NotDot o × NotComma o)
+    listed_group : Complete (comma_list (group inner)) (with_commas spelling_group) (IsListed (IsGroupWithin n)) (λ o. NotDot o × NotComma o)
     listed_group = complete_listed (sound_group n S) (complete_group n T) comma_is_no_dot
 
     reads : (gs : List GroupTree) (ts rest : List Placed) (e : ℕ) → AreGroupsWithin n gs → AreDue (spelling_groups (group_trees gs)) ts → NotGroups (first rest)
         → groups_with inner (reader None (ts ++ rest) e) ≡ (gs, reader None rest e)
     reads [] ts rest e good d stays =
         subst (λ (us : List Placed). groups_with inner (reader None (us ++ rest) e) ≡ ([], reader None rest e)) (sym (AreDue-none ts d))
-        (cased_is (passes is_closing) (either_case (nothing []) (listed (group inner))) true rest e ([], reader None rest e) stays.2 refl)
+        (cased_is (passes is_closing) (either_case (nothing []) (comma_list (group inner))) true rest e ([], reader None rest e) stays.2 refl)
     reads (g ∷ gs) ts rest e good d stays =
         let each_good : IsEach (IsGroupWithin n) (g ∷ gs) = groups_each n (g ∷ gs) good in
-        cased_is (passes is_closing) (either_case (nothing []) (listed (group inner))) false (ts ++ rest) e (g ∷ gs, reader None rest e)
+        cased_is (passes is_closing) (either_case (nothing []) (comma_list (group inner))) false (ts ++ rest) e (g ∷ gs, reader None rest e)
         (name_closes_not (first (ts ++ rest)) (opens_group n g gs ts rest each_good.0 d))
         (listed_group.reads (g ∷ gs) ts rest e each_good (subst (λ ds. AreDue ds ts) (groups_spelled (g ∷ gs)) d) (stays.0, stays.1))
 
@@ -393,31 +393,31 @@ choice_read n {inner} S T at others ts rest e =
 
 type_reads : (n : ℕ) {inner : Reader → TypeTree × Reader} → Sound inner spelling_type (IsTypeWithin n) → Complete inner spelling_type (IsTypeWithin n) NotDot
     → (t : TypeTree) (ts rest : List Placed) (e : ℕ) → IsTypeWithin (suc n) t → AreDue (spelling_type t) ts → NotDot (first rest)
-    → cased start_of_type (type_with inner) (reader None (ts ++ rest) e) ≡ (t, reader None rest e)
+    → choose_by start_of_type (type_with inner) (reader None (ts ++ rest) e) ≡ (t, reader None rest e)
 unfolding start_of_type
 type_reads n {inner} S T t ts rest e good d stays = by_tree t good d
   where
-    simple_one : (u : TypeTree) → SimplyRead u ts rest e → cased start_of_type (type_with inner) (reader None (ts ++ rest) e) ≡ (u, reader None rest e)
+    simple_one : (u : TypeTree) → SimplyRead u ts rest e → choose_by start_of_type (type_with inner) (reader None (ts ++ rest) e) ≡ (u, reader None rest e)
     simple_one u R =
         cased_is start_of_type (type_with inner) R.start (ts ++ rest) e (u, reader None rest e) R.begun
         (ap (λ p. p (reader None (ts ++ rest) e)) (with_is inner R.start R.flat) ∙ R.is)
 
-    by_tree : (u : TypeTree) → IsTypeWithin (suc n) u → AreDue (spelling_type u) ts → cased start_of_type (type_with inner) (reader None (ts ++ rest) e) ≡ (u, reader None rest e)
+    by_tree : (u : TypeTree) → IsTypeWithin (suc n) u → AreDue (spelling_type u) ts → choose_by start_of_type (type_with inner) (reader None (ts ++ rest) e) ≡ (u, reader None rest e)
     by_tree (array at k u) good d =
         cased_is start_of_type (type_with inner) begins.Array (ts ++ rest) e (array at k u, reader None rest e)
-        (start_fixed (word (codes "ARRAY")) begins.Array at (opened (due_number k ∷ due (word (codes "OF")) ∷ spelling_type u)) ts rest (λ s. refl) d)
+        (start_fixed (word (codes "ARRAY")) begins.Array at (open_level (due_number k ∷ due (word (codes "OF")) ∷ spelling_type u)) ts rest (λ s. refl) d)
         (array_is n T at k u ts rest e good.0.0 (good.0.1, omega (arith, good.1)) d stays)
     by_tree (sequence at b u) good d =
         cased_is start_of_type (type_with inner) begins.Sequence (ts ++ rest) e (sequence at b u, reader None rest e)
-        (start_fixed (word (codes "SEQUENCE")) begins.Sequence at (opened (if_written spelling_number b ++ due (word (codes "OF")) ∷ spelling_type u)) ts rest (λ s. refl) d)
+        (start_fixed (word (codes "SEQUENCE")) begins.Sequence at (open_level (if_written spelling_number b ++ due (word (codes "OF")) ∷ spelling_type u)) ts rest (λ s. refl) d)
         (sequence_is n T at b u ts rest e good.0.0 (good.0.1, omega (arith, good.1)) d stays)
     by_tree («record» at gs) good d =
         cased_is start_of_type (type_with inner) begins.Record (ts ++ rest) e («record» at gs, reader None rest e)
-        (start_fixed (word (codes "RECORD")) begins.Record at (opened (due (sign (codes "[")) ∷ (spelling_groups gs ++ due (sign (codes "]")) ∷ []))) ts rest (λ s. refl) d)
+        (start_fixed (word (codes "RECORD")) begins.Record at (open_level (due (sign (codes "[")) ∷ (spelling_groups gs ++ due (sign (codes "]")) ∷ []))) ts rest (λ s. refl) d)
         (record_read n S T at gs ts rest e good d)
     by_tree (choice at os) good d =
         cased_is start_of_type (type_with inner) begins.Choice (ts ++ rest) e (choice at os, reader None rest e)
-        (start_fixed (word (codes "CHOICE")) begins.Choice at (opened (due (word (codes "OF")) ∷ due (sign (codes "{")) ∷ (spelling_arms os ++ due (sign (codes "}")) ∷ []))) ts rest (λ s. refl) d)
+        (start_fixed (word (codes "CHOICE")) begins.Choice at (open_level (due (word (codes "OF")) ∷ due (sign (codes "{")) ∷ (spelling_arms os ++ due (sign (codes "}")) ∷ []))) ts rest (λ s. refl) d)
         (choice_read n S T at os ts rest e good d)
     by_tree (boolean at) good d = simple_one (boolean at) (simply_read (boolean at) ts rest e refl good.0 d stays)
     by_tree (cardinal at) good d = simple_one (cardinal at) (simply_read (cardinal at) ts rest e refl good.0 d stays)
@@ -429,10 +429,10 @@ type_reads n {inner} S T t ts rest e good d stays = by_tree t good d
     by_tree (called at m) good d = simple_one (called at m) (simply_read (called at m) ts rest e refl good.0 d stays)
 
 flat_reads : (t : TypeTree) (ts rest : List Placed) (e : ℕ) → IsTypeWithin 0 t → AreDue (spelling_type t) ts → NotDot (first rest)
-    → cased start_of_type flat_type (reader None (ts ++ rest) e) ≡ (t, reader None rest e)
+    → choose_by start_of_type flat_type (reader None (ts ++ rest) e) ≡ (t, reader None rest e)
 flat_reads t ts rest e good d stays = simple_one (simply_read t ts rest e (is_flat t good.1) good.0 d stays)
   where
-    simple_one : SimplyRead t ts rest e → cased start_of_type flat_type (reader None (ts ++ rest) e) ≡ (t, reader None rest e)
+    simple_one : SimplyRead t ts rest e → choose_by start_of_type flat_type (reader None (ts ++ rest) e) ≡ (t, reader None rest e)
     simple_one R =
         cased_is start_of_type flat_type R.start (ts ++ rest) e (t, reader None rest e) R.begun
         (ap (λ p. p (reader None (ts ++ rest) e)) (flat_is R.start R.flat) ∙ R.is)

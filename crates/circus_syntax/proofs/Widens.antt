@@ -5,7 +5,7 @@ use Rattle.circus_syntax.specs.declared.stopping.Stop.{Stop}
 use Rattle.circus_syntax.specs.declared.stopping.StopCause.{StopCause}
 use Rattle.circus_syntax.specs.declared.stopping.StopCause.TheVariants.{Unexpected, TooDeep}
 use Rattle.circus_syntax.specs.Placed.{Placed, Due}
-use Rattle.circus_syntax.specs.Reader.{Reader, both, mapped}
+use Rattle.circus_syntax.specs.Reader.{Reader, both, map_read}
 use Rattle.circus_syntax.proofs.Sound.{Sound, reader, ran_is, both_is}
 
 -- y has taken the token at which x stopped
@@ -55,7 +55,7 @@ calm_both {p = p} {q = q} P Q = record {
       (c ++ d, front ∙ ap (λ l. c ++ l) back ∙ sym (append_assoc c d (q (p r).1).1.rest));
 }
 
-pub calm_mapped : {A B : Type 0} (f : A → B) {p : Reader → A × Reader} → Calm p → Calm (mapped f p)
+pub calm_mapped : {A B : Type 0} (f : A → B) {p : Reader → A × Reader} → Calm p → Calm (map_read f p)
 calm_mapped f P = record {
   fill = λ s e. f (P.fill s e);
   stays = λ s e ts. ap (λ z. (f z.0, z.1)) (P.stays s e ts);

@@ -83,9 +83,9 @@ depth (deeper d) = suc (depth d)
 depth _ = 0
 
 -- a level, with all that stands in it
-abbrev pub opened : List Due → List Due
-opened [] = []
-opened (d ∷ ds) = deeper d ∷ opened ds
+abbrev pub open_level : List Due → List Due
+open_level [] = []
+open_level (d ∷ ds) = deeper d ∷ open_level ds
 
 -- each stands at most so many levels deep
 abbrev pub AreWithin : ℕ → List Due → Type 0

@@ -73,8 +73,8 @@ abbrev pub token : {A : Type 0} → (Placed → Bool) → (Placed → A) → (�
 token test read default r = token_in test read default r.stop r.rest r.end
 
 -- reading stops here, and what the place gives is answered
-abbrev pub stopped : {A : Type 0} → StopCause → (ℕ → A) → Reader → A × Reader
-stopped cause default r = (default (place r), stopped_by cause r.stop r.rest r.end)
+abbrev pub stop_reading : {A : Type 0} → StopCause → (ℕ → A) → Reader → A × Reader
+stop_reading cause default r = (default (place r), stopped_by cause r.stop r.rest r.end)
 
 -- nothing is read
 abbrev pub nothing : {A : Type 0} → A → Reader → A × Reader
@@ -85,12 +85,12 @@ abbrev pub both : {A B : Type 0} → (Reader → A × Reader) → (Reader → B 
 both p q r = (((p r).0, (q (p r).1).0), (q (p r).1).1)
 
 -- what is read, made into something else
-abbrev pub mapped : {A B : Type 0} → (A → B) → (Reader → A × Reader) → Reader → B × Reader
-mapped f p r = (f (p r).0, (p r).1)
+abbrev pub map_read : {A B : Type 0} → (A → B) → (Reader → A × Reader) → Reader → B × Reader
+map_read f p r = (f (p r).0, (p r).1)
 
 -- the next token decides
-abbrev pub cased : {K A : Type 0} → (Option Placed → K) → (K → Reader → A × Reader) → Reader → A × Reader
-cased class p r = p (class (next r)) r
+abbrev pub choose_by : {K A : Type 0} → (Option Placed → K) → (K → Reader → A × Reader) → Reader → A × Reader
+choose_by class p r = p (class (next r)) r
 
 -- p where the test is passed, else q
 abbrev pub either_case : {A : Type 0} → (Reader → A × Reader) → (Reader → A × Reader) → Bool → Reader → A × Reader
@@ -98,26 +98,26 @@ either_case p q true = p
 either_case p q false = q
 
 abbrev pub either : {A : Type 0} → (Placed → Bool) → (Reader → A × Reader) → (Reader → A × Reader) → Reader → A × Reader
-either test p q = cased (passes test) (either_case p q)
+either test p q = choose_by (passes test) (either_case p q)
 
 -- p or nothing
 abbrev pub optional : {A : Type 0} → (Placed → Bool) → (Reader → A × Reader) → Reader → Option A × Reader
-optional test p = either test (mapped (λ x. Some x) p) (nothing None)
+optional test p = either test (map_read (λ x. Some x) p) (nothing None)
 
 -- an item for as long as the next token begins one, so many times at most
 abbrev pub repeat : {A : Type 0} → (Placed → Bool) → (Reader → A × Reader) → ℕ → Reader → List A × Reader
 repeat test item zero r = ([], r)
 repeat test item (suc n) r =
-    either test (mapped (λ x. x.0 ∷ x.1) (both item (repeat test item n))) (nothing []) r
+    either test (map_read (λ x. x.0 ∷ x.1) (both item (repeat test item n))) (nothing []) r
 
 -- an item for as long as the next token begins one; each takes a token
-abbrev pub repeated : {A : Type 0} → (Placed → Bool) → (Reader → A × Reader) → Reader → List A × Reader
-repeated test item r = repeat test item (length r.rest) r
+abbrev pub repeat_while : {A : Type 0} → (Placed → Bool) → (Reader → A × Reader) → Reader → List A × Reader
+repeat_while test item r = repeat test item (length r.rest) r
 
 -- what a stop is marked with where it came while p read: here with the place at which p began
 abbrev pub marked_in : {A : Type 0} → (ℕ → Stop → Stop) → Option Stop → ℕ → A × Reader → A × Reader
 marked_in mark (Some s) at x = x
 marked_in mark None at x = (x.0, record { rest = x.1.rest; end = x.1.end; stop = option_map (mark at) x.1.stop })
 
-abbrev pub marked : {A : Type 0} → (ℕ → Stop → Stop) → (Reader → A × Reader) → Reader → A × Reader
-marked mark p r = marked_in mark r.stop (place r) (p r)
+abbrev pub mark_stops : {A : Type 0} → (ℕ → Stop → Stop) → (Reader → A × Reader) → Reader → A × Reader
+mark_stops mark p r = marked_in mark r.stop (place r) (p r)

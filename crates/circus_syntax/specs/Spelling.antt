@@ -11,7 +11,7 @@ use Rattle.circus_syntax.specs.declared.interface_text.FieldsText.{FieldsText}
 use Rattle.circus_syntax.specs.Reserved.{is_reserved}
 use Rattle.circus_syntax.specs.TypeTree.{TypeTree, GroupTrees, ArmTrees, boolean, cardinal, long_cardinal, integer, long_integer, text, enumeration, array, sequence, «record», choice, called, no_groups, more_groups, no_arms, more_arms, group_trees}
 use Rattle.circus_syntax.specs.InterfaceTree.{DeclaredTree, a_type, an_error, a_procedure, InterfaceTree}
-use Rattle.circus_syntax.specs.Placed.{Placed, word, sign, in_quotes, Due, due, due_at, due_name, due_number, opened, AreDue}
+use Rattle.circus_syntax.specs.Placed.{Placed, word, sign, in_quotes, Due, due, due_at, due_name, due_number, open_level, AreDue}
 
 -- items one behind the other
 abbrev pub each : {A : Type 0} → (A → List Due) → List A → List Due
@@ -61,13 +61,13 @@ abbrev mutual
   spelling_type (enumeration at ls) =
       due_at (sign (codes "{")) at ∷ (with_commas spelling_label ls ++ due (sign (codes "}")) ∷ [])
   spelling_type (array at n t) =
-      opened (due_at (word (codes "ARRAY")) at ∷ due_number n ∷ due (word (codes "OF")) ∷ spelling_type t)
+      open_level (due_at (word (codes "ARRAY")) at ∷ due_number n ∷ due (word (codes "OF")) ∷ spelling_type t)
   spelling_type (sequence at bound t) =
-      opened (due_at (word (codes "SEQUENCE")) at ∷ (if_written spelling_number bound ++ due (word (codes "OF")) ∷ spelling_type t))
+      open_level (due_at (word (codes "SEQUENCE")) at ∷ (if_written spelling_number bound ++ due (word (codes "OF")) ∷ spelling_type t))
   spelling_type («record» at gs) =
-      opened (due_at (word (codes "RECORD")) at ∷ due (sign (codes "[")) ∷ (spelling_groups gs ++ due (sign (codes "]")) ∷ []))
+      open_level (due_at (word (codes "RECORD")) at ∷ due (sign (codes "[")) ∷ (spelling_groups gs ++ due (sign (codes "]")) ∷ []))
   spelling_type (choice at rest) =
-      opened (due_at (word (codes "CHOICE")) at ∷ due (word (codes "OF")) ∷ due (sign (codes "{")) ∷ (spelling_arms rest ++ due (sign (codes "}")) ∷ []))
+      open_level (due_at (word (codes "CHOICE")) at ∷ due (word (codes "OF")) ∷ due (sign (codes "{")) ∷ (spelling_arms rest ++ due (sign (codes "}")) ∷ []))
   spelling_type (called at name) = spelling_type_name name
 
   pub spelling_groups : GroupTrees → List Due

@@ -68,8 +68,8 @@ standing_declared (a_procedure p) =
     ++ (standing_arguments p.arguments ++ (standing_results p.results ++ (apart (if_written spelling_reports p.reports) ++ apart (spelling_numbered p.number))))
 
 -- the tokens that spell an interface, one after the other
-abbrev pub standing : InterfaceTree → List Standing
-standing tree =
+abbrev pub standings_of_interface : InterfaceTree → List Standing
+standings_of_interface tree =
     apart (due_name tree.name ∷ due (sign (codes ":")) ∷ due (word (codes "PROGRAM")) ∷ due_number tree.number ∷ due (word (codes "VERSION"))
     ∷ due_number tree.version ∷ due (sign (codes "=")) ∷ due (word (codes "BEGIN")) ∷ [])
     ++ (flat_map standing_declared tree.declared ++ apart (due (word (codes "END")) ∷ due (sign (codes ".")) ∷ []))

@@ -4,7 +4,7 @@ use Rattle.circus_syntax.specs.declared.stopping.Stop.{Stop}
 use Rattle.circus_syntax.specs.InterfaceTree.{InterfaceTree}
 use Rattle.circus_syntax.specs.Placed.{Placed}
 use Rattle.circus_syntax.specs.Spelling.{IsInterface, IsWithin, most_levels, Begins, BeginsWithin}
-use Rattle.circus_syntax.specs.Standing.{standing}
+use Rattle.circus_syntax.specs.Standing.{standings_of_interface}
 
 -- no interface is read whole
 abbrev pub NoneIsWhole : List Placed → Type 0
@@ -44,4 +44,4 @@ pub record IsFilledIn (ts left : List Placed) (stop : Stop) (tree : InterfaceTre
   pub interface : IsInterface (read ++ more) tree
   pub within : IsWithin most_levels tree
   pub there : StandAt stop.place more
-  pub cut : slice_get (standing tree) (length read) ≡ Some (record { within = stop.within; list = stop.list })
+  pub cut : slice_get (standings_of_interface tree) (length read) ≡ Some (record { within = stop.within; list = stop.list })

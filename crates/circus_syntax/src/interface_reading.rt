@@ -6,7 +6,7 @@ ghost use Rattle.circus_syntax.specs.TypeOf.{tree_of};
 ghost use Rattle.circus_syntax.specs.InterfaceTree.{interface_of, declared_of};
 ghost use Rattle.circus_syntax.specs.Placed.{placed_of};
 ghost use Rattle.circus_syntax.specs.Reader.{open_at};
-ghost use Rattle.circus_syntax.specs.Reading.{fields, arguments, results, reported, reports, numbered, a_type_behind, an_error_behind, a_procedure_behind, declared, heading, declarations, interface};
+ghost use Rattle.circus_syntax.specs.Reading.{fields, arguments, results, error_names, reports, number_at_end, a_type_behind, an_error_behind, a_procedure_behind, one_declaration, heading, declarations, interface};
 ghost use Rattle.circus_syntax.specs.Spelling.{most_levels};
 ghost use Rattle.circus_syntax.specs.Read.{Answers};
 
@@ -97,14 +97,14 @@ impl Reader<'_> {
     {
         let mut declared = DeclaredTexts::new(self.alloc());
         while self.sees_name() {
-            declared.push(self.declared()?)?;
+            declared.push(self.one_declaration()?)?;
         }
         Ok(declared)
     }
 
-    fn declared(&mut self) -> Result<DeclaredText, NoMemory>
+    fn one_declaration(&mut self) -> Result<DeclaredText, NoMemory>
         ensures { IfOk result (λ read.
-            declared most_levels self.old ≡ (declared_of read, self.new)) }
+            one_declaration most_levels self.old ≡ (declared_of read, self.new)) }
     {
         let name = self.name()?;
         self.sign(b":");
@@ -145,7 +145,7 @@ impl Reader<'_> {
     {
         self.word(b"ERROR");
         let arguments = self.arguments()?;
-        Ok((arguments, self.numbered()))
+        Ok((arguments, self.number_at_end()))
     }
 
     fn procedure_parts(
@@ -167,7 +167,7 @@ impl Reader<'_> {
         let arguments = self.arguments()?;
         let results = self.results()?;
         let reports = self.reports()?;
-        Ok((arguments, results, reports, self.numbered()))
+        Ok((arguments, results, reports, self.number_at_end()))
     }
 
     fn arguments(&mut self) -> Result<Option<FieldsText>, NoMemory>
@@ -209,14 +209,14 @@ impl Reader<'_> {
         ensures { IfOk result (λ read. reports self.old ≡ (read, self.new)) }
     {
         if self.sees_word(b"REPORTS") {
-            Ok(Some(self.reported()?))
+            Ok(Some(self.error_names()?))
         } else {
             Ok(None)
         }
     }
 
-    fn reported(&mut self) -> Result<Nameds, NoMemory>
-        ensures { IfOk result (λ read. reported self.old ≡ (read, self.new)) }
+    fn error_names(&mut self) -> Result<Nameds, NoMemory>
+        ensures { IfOk result (λ read. error_names self.old ≡ (read, self.new)) }
     {
         self.word(b"REPORTS");
         self.sign(b"[");
@@ -225,8 +225,8 @@ impl Reader<'_> {
         Ok(names)
     }
 
-    fn numbered(&mut self) -> Numeral
-        ensures { numbered self.old ≡ (result, self.new) }
+    fn number_at_end(&mut self) -> Numeral
+        ensures { number_at_end self.old ≡ (result, self.new) }
     {
         self.sign(b"=");
         let number = self.number();

@@ -2,7 +2,7 @@
 ghost use Rattle.std.specs.Prelude.{◌≡◌, ◌≢◌, true, false, option_map, IfOk};
 ghost use Rattle.circus_syntax.specs.TypeOf.{tree_at, tree_of, group_of, arm_of};
 ghost use Rattle.circus_syntax.specs.Reader.{next, place};
-ghost use Rattle.circus_syntax.specs.Reading.{label, labels, name_of_type, start_of_type, is_long_integer, simple, type_name_place, unmarked_type, array_type, sequence_type, record_type, choice_type, group_of_type, arm_of_type, arms, groups, number_if_any, nests, type};
+ghost use Rattle.circus_syntax.specs.Reading.{label, labels, name_of_type, start_of_type, is_long_integer, simple_type, type_name_place, unmarked_type, array_type, sequence_type, record_type, choice_type, group_of_type, arm_of_type, arms, groups, number_if_any, nests, type};
 
 use crate::{
     ArmText, ArmTexts, ElementText, GroupText, GroupTexts, LabelText, LabelTexts, Numeral, Reader,
@@ -127,7 +127,7 @@ impl Reader<'_> {
 
     fn simple_kind(&mut self, start: TypeStart) -> Result<TypeKind, NoMemory>
         ensures { IfOk result (λ kind.
-            simple start self.old ≡ (tree_at (place self.old) kind, self.new)) }
+            simple_type start self.old ≡ (tree_at (place self.old) kind, self.new)) }
     {
         match start {
             TypeStart::Long => return Ok(self.long_kind()),
@@ -143,7 +143,7 @@ impl Reader<'_> {
         requires long { start ≢ TypeStart.Long }
         requires labels { start ≢ TypeStart.Labels }
         requires named { start ≢ TypeStart.Name }
-        ensures { simple start self.old ≡ (tree_at (place self.old) result, self.new) }
+        ensures { simple_type start self.old ≡ (tree_at (place self.old) result, self.new) }
     {
         match start {
             TypeStart::Cardinal => {
@@ -166,7 +166,7 @@ impl Reader<'_> {
     }
 
     fn long_kind(&mut self) -> TypeKind
-        ensures { simple TypeStart.Long self.old ≡ (tree_at (place self.old) result, self.new) }
+        ensures { simple_type TypeStart.Long self.old ≡ (tree_at (place self.old) result, self.new) }
     {
         self.word(b"LONG");
         if self.is_long_integer() {
@@ -178,7 +178,7 @@ impl Reader<'_> {
 
     fn labels_kind(&mut self) -> Result<TypeKind, NoMemory>
         ensures { IfOk result (λ kind.
-            simple TypeStart.Labels self.old ≡ (tree_at (place self.old) kind, self.new)) }
+            simple_type TypeStart.Labels self.old ≡ (tree_at (place self.old) kind, self.new)) }
     {
         self.sign(b"{");
         let labels = self.labels()?;
@@ -241,7 +241,7 @@ impl Reader<'_> {
             sequence_type levels self.old ≡ (tree_at (place self.old) kind, self.new)) }
     {
         self.word(b"SEQUENCE");
-        let bound = self.bound();
+        let bound = self.upper_bound();
         self.word(b"OF");
         let element = self.type_text(levels)?;
         Ok(TypeKind::Sequence(bound, ElementText::new(self.alloc(), element)?))
@@ -327,7 +327,7 @@ impl Reader<'_> {
     }
 
     #[tactic(auto, unfolding(crate::specs::Reading::number_if_any))]
-    fn bound(&mut self) -> Option<Numeral>
+    fn upper_bound(&mut self) -> Option<Numeral>
         ensures { number_if_any self.old ≡ (result, self.new) }
     {
         if self.sees_number() {

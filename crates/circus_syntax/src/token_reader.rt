@@ -4,7 +4,7 @@ ghost use Rattle.circus_text.specs.Token.{IsTokenIn, IsSpelling, bytes_of, conte
 ghost use Rattle.circus_syntax.specs.Placed.{Placed, placed_of, is_lexeme, is_name, is_number, is_text, word, sign, digits};
 ghost use Rattle.circus_syntax.specs.Read.{placed_from};
 ghost use Rattle.circus_syntax.specs.Reader.{open_at, place, next, sees, skipped_by, stopped_by};
-ghost use Rattle.circus_syntax.specs.Reading.{fixed, name, number, quoted, names, stop_in_type, stop_in_list};
+ghost use Rattle.circus_syntax.specs.Reading.{expect_token, name, number, quoted_text, names, stop_in_type, stop_in_list};
 ghost use Rattle.circus_text.specs.Form.{longest_text, number_value};
 
 use crate::reserved::is_reserved_word;
@@ -250,28 +250,28 @@ impl<'a> Reader<'a> {
 
     /// Reads this word, or stops.
     pub fn word(&mut self, bytes: &[u8])
-        ensures { fixed (word bytes.now) self.old ≡ (tt, self.new) }
+        ensures { expect_token (word bytes.now) self.old ≡ (tt, self.new) }
     {
         self.fixed(TokenKind::Word, bytes);
     }
 
     /// Reads this sign, or stops.
     pub fn sign(&mut self, bytes: &[u8])
-        ensures { fixed (sign bytes.now) self.old ≡ (tt, self.new) }
+        ensures { expect_token (sign bytes.now) self.old ≡ (tt, self.new) }
     {
         self.fixed(TokenKind::Sign, bytes);
     }
 
     /// Reads a number that is written so, or stops.
     pub fn digits(&mut self, bytes: &[u8])
-        ensures { fixed (digits bytes.now) self.old ≡ (tt, self.new) }
+        ensures { expect_token (digits bytes.now) self.old ≡ (tt, self.new) }
     {
         self.fixed(TokenKind::Number, bytes);
     }
 
-    #[tactic(auto, unfolding(crate::specs::Reading::fixed))]
+    #[tactic(auto, unfolding(crate::specs::Reading::expect_token))]
     fn fixed(&mut self, kind: TokenKind, bytes: &[u8])
-        ensures { fixed (record { kind = kind; bytes = bytes.now }) self.old ≡ (tt, self.new) }
+        ensures { expect_token (record { kind = kind; bytes = bytes.now }) self.old ≡ (tt, self.new) }
     {
         if self.sees(kind, bytes) {
             self.skip();
@@ -320,9 +320,9 @@ impl<'a> Reader<'a> {
 
     /// Reads a string and answers what stands between its quotes, or stops and answers nothing between them.
     /// `NoMemory` leaves the reader where it is.
-    #[tactic(auto, unfolding(crate::specs::Reading::quoted))]
+    #[tactic(auto, unfolding(crate::specs::Reading::quoted_text))]
     pub fn text(&mut self) -> Result<Octets, NoMemory>
-        ensures { IfOk result (λ content. quoted self.old ≡ ((content, place self.old), self.new)) }
+        ensures { IfOk result (λ content. quoted_text self.old ≡ ((content, place self.old), self.new)) }
     {
         let mut content = Octets::new(self.alloc);
         match self.next_text() {

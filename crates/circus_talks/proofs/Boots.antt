@@ -19,7 +19,7 @@ use Rattle.circus_wire.specs.WireStanding.{WireStands}
 use Rattle.circus_member_rules.specs.declared.occurrence.Purpose.{Purpose}
 use Rattle.circus_member_rules.specs.declared.occurrence.Effect.{Effect}
 use Rattle.circus_node.specs.declared.event.Outputs.{Outputs}
-use Rattle.circus_node.specs.Booting.{AreOfTroupes, booted, fresh_wire, home_of, made_at_boot}
+use Rattle.circus_node.specs.Booting.{AreOfTroupes, boot_node, fresh_wire, home_of, made_at_boot}
 use Rattle.circus_node.specs.NodeState.{NodeState}
 use Rattle.circus_node.specs.Step as node_step
 use Rattle.circus_schedule.specs.declared.line.Line.{Line}
@@ -56,7 +56,7 @@ module _ {M : Type 0} (declared : M → Signature) (turn : M → List ValueTree 
     sent : All (IsGiven d at_boot) w.sent
 
   one_more : (w : WorldState M) (own : Option M) (ended : NodeState M × Outputs) → SoFar w → length w.nodes < length d.nodes → slice_get hosted (length w.nodes) ≡ Some own
-      → booted declared turn first w.deployment own (length w.nodes) ≡ Ok ended
+      → boot_node declared turn first w.deployment own (length w.nodes) ≡ Ok ended
       → SoFar (record w {
         nodes = w.nodes ++ record { node = ended.0; crashed = None; joins = false } ∷ [];
         sent = w.sent ++ map (course.sent_by 0 (length w.nodes)) ended.1.gives;
@@ -72,7 +72,7 @@ module _ {M : Type 0} (declared : M → Signature) (turn : M → List ValueTree 
       gives : Gives (beginning_of d (length w.nodes)) (at_boot (length w.nodes)) ended
       gives =
           subst (λ (o : Option (Option M)). Gives (beginning_of d (length w.nodes)) (with_all begun (acts_at_boot declared turn first d (option_and_then (λ (x : Option M). x) o) (length w.nodes))) ended) (sym at)
-          (boot_gives declared turn first d own (length w.nodes) (HaveGiven (beginning_of d (length w.nodes))) ended within (given_carries (beginning_of d (length w.nodes))) (ap (λ x. booted declared turn first x own (length w.nodes)) (sym so_far.deployment) ∙ ends))
+          (boot_gives declared turn first d own (length w.nodes) (HaveGiven (beginning_of d (length w.nodes))) ended within (given_carries (beginning_of d (length w.nodes))) (ap (λ x. boot_node declared turn first x own (length w.nodes)) (sym so_far.deployment) ∙ ends))
 
       by_place : (node : ℕ) (s : Standing M) → ((node ≡ length w.nodes) × (s ≡ record { node = ended.0; crashed = None; joins = false })) ⊎ (slice_get w.nodes node ≡ Some s)
           → WireStands s.node.wire (beginning_of d node) (at_boot node)
@@ -88,9 +88,9 @@ module _ {M : Type 0} (declared : M → Signature) (turn : M → List ValueTree 
       → all_booted declared turn first others w ≡ Ok last → SoFar last
 
   next_so_far : (own : Option M) (others : List (Option M)) → LeaveSoFar others → LeaveSoFar (own ∷ others)
-  next_so_far own others leave w last so_far all hosts is = by_end (booted declared turn first w.deployment own (length w.nodes)) refl is
+  next_so_far own others leave w last so_far all hosts is = by_end (boot_node declared turn first w.deployment own (length w.nodes)) refl is
     where
-      by_end : (e : node_step.Ended M) → booted declared turn first w.deployment own (length w.nodes) ≡ e
+      by_end : (e : node_step.Ended M) → boot_node declared turn first w.deployment own (length w.nodes) ≡ e
           → then_others (all_booted declared turn first others) (joined_by w e) ≡ Ok last → SoFar last
       by_end (Err peer) ends is = absurd (let clash : ◌≡◌ {A = Stepped M} (Err (length w.nodes, peer)) (Ok last) = is in cc)
       by_end (Ok ended) ends is =

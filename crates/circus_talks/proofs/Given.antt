@@ -12,7 +12,7 @@ use Rattle.circus_pair.proofs.Following as following
 use Rattle.circus_pair.proofs.Lasting.{lasts_called, lasts_returned}
 use Rattle.circus_value.specs.declared.caller.Caller.{Caller}
 use Rattle.circus_wire.specs.declared.delivery.Batch.{Batch}
-use Rattle.circus_wire.specs.Wire.{PeerState, WireState, Beginning, IsOther, node_at, place_of, changed_at, changed, peer_at, of_peer, sent_to, is_up, next_number, is_awaited, peer_called, peer_answered, called_to, sent_by_call, answered, sent_by_answer}
+use Rattle.circus_wire.specs.Wire.{PeerState, WireState, Beginning, IsOther, node_at, place_of, changed_at, change_peer, peer_at, of_peer, sent_to, is_up, next_number, is_awaited, peer_called, peer_answered, called_to, sent_by_call, answer_caller, sent_by_answer}
 use Rattle.circus_wire.specs.WireActs.{WireAct, WireActs, followed_by, CallTo, AnswerTo, acts_at}
 use Rattle.circus_wire.specs.WireStanding.{WireStands, pair_of, owed_to, sent_in}
 use Rattle.circus_wire.proofs.Changing.{found_by, peer_is}
@@ -25,8 +25,8 @@ use Rattle.circus_node.specs.declared.event.Give.{Give}
 use Rattle.circus_node.specs.declared.event.Outputs.{Outputs}
 use Rattle.circus_node.specs.NodeState.{NodeState}
 use Rattle.circus_node.specs.Making.{Made}
-use Rattle.circus_node.specs.Sending.{Sending, sent, spent, give_to, gives_of, is_sendable, handed, all_handed}
-use Rattle.circus_node.specs.Step.{ended, concluded}
+use Rattle.circus_node.specs.Sending.{Sending, sent, spent, give_to, gives_of, is_sendable, hand_over, all_handed}
+use Rattle.circus_node.specs.Step.{end_step, conclude_step}
 use Rattle.circus_talks.specs.NodeActs.{with_all, handed_by}
 use Rattle.circus_talks.proofs.Spelled.{few_made}
 
@@ -167,7 +167,7 @@ module _ (change : PeerState Purpose → PeerState Purpose) (same : (p : PeerSta
   up_either true o q is = refl
   up_either false o q is = is
 
-  up_changed : (w : WireState Purpose) (at node : ℕ) → is_up (changed change w at) node ≡ is_up w node
+  up_changed : (w : WireState Purpose) (at node : ℕ) → is_up (change_peer change w at) node ≡ is_up w node
   unfolding peer_at
   up_changed w at node =
       up_either (eqb node w.own) (slice_get (changed_at change w.peers (place_of w.own at)) (place_of w.own node)) (slice_get w.peers (place_of w.own node))
@@ -176,7 +176,7 @@ module _ (change : PeerState Purpose → PeerState Purpose) (same : (p : PeerSta
 up_called : (w : WireState Purpose) (to node : ℕ) (message : List ℕ) (purpose : Purpose) → is_up (called_to w to message purpose) node ≡ is_up w node
 up_called w to node message purpose = up_changed (λ p. peer_called p message purpose) (λ p. (lasts_called p.exchange message).stopped) w to node
 
-up_answered : (w : WireState Purpose) (caller : Caller) (message : List ℕ) (node : ℕ) → is_up (changed (λ p. peer_answered p caller.number message) w caller.node) node ≡ is_up w node
+up_answered : (w : WireState Purpose) (caller : Caller) (message : List ℕ) (node : ℕ) → is_up (change_peer (λ p. peer_answered p caller.number message) w caller.node) node ≡ is_up w node
 up_answered w caller message node =
     up_changed (λ p. peer_answered p caller.number message) (λ p. (lasts_returned p.exchange caller.number message).stopped) w caller.node node
 
@@ -220,7 +220,7 @@ module _ (b : Beginning) (P : OfGives) (carries : Carries b P) (low : b.first �
       let f = found_by (λ (p : PeerState Purpose). awaits_return p.exchange caller.number) w w.own w.format w.peers caller.node refl is in
       peer_found b acts w caller.node f.peer so_far.stands f.differs f.there
 
-  call_on : (to : ℕ) (message : List ℕ) (purpose : Purpose) → IsHanded b P (with_all acts (handed_by w (made.Call to message purpose))) old (handed w gives (made.Call to message purpose))
+  call_on : (to : ℕ) (message : List ℕ) (purpose : Purpose) → IsHanded b P (with_all acts (handed_by w (made.Call to message purpose))) old (hand_over w gives (made.Call to message purpose))
   call_on to message purpose = by_test (is_up w to && is_sendable w.format message) refl
     where
       next : WireState Purpose
@@ -247,11 +247,11 @@ module _ (b : Beginning) (P : OfGives) (carries : Carries b P) (low : b.first �
       by_test true is = (let parts = and_parts (is_up w to) (is_sendable w.format message) is in by_number parts.0 parts.1 (next_number w to == never_used) refl)
       by_test false is = so_far
 
-  answer_on : (caller : Caller) (message : List ℕ) → IsHanded b P (with_all acts (handed_by w (made.Answer caller message))) old (handed w gives (made.Answer caller message))
+  answer_on : (caller : Caller) (message : List ℕ) → IsHanded b P (with_all acts (handed_by w (made.Answer caller message))) old (hand_over w gives (made.Answer caller message))
   answer_on caller message = by_test (is_sendable w.format message) refl
     where
       next : WireState Purpose
-      next = changed (λ p. peer_answered p caller.number message) w caller.node
+      next = change_peer (λ p. peer_answered p caller.number message) w caller.node
 
       sends : Batch
       sends = sent_to (λ p. datagrams_of_return p.exchange caller.number message) w caller.node
@@ -281,7 +281,7 @@ module _ (b : Beginning) (P : OfGives) (carries : Carries b P) (low : b.first �
 
       by_test : (test : Bool) → is_sendable w.format message ≡ test
           → IsHanded b P (with_all acts (if test then AnswerTo caller message ∷ [] else [])) old
-          (if test then sent (answered w caller message) (gives ++ gives_of (sent_by_answer w caller message)) else sent w gives)
+          (if test then sent (answer_caller w caller message) (gives ++ gives_of (sent_by_answer w caller message)) else sent w gives)
       by_test true is = by_call (can_send w.format message is) (is_awaited w caller) refl
       by_test false is = so_far
 
@@ -294,12 +294,12 @@ handed_alike b P acts old w gives (made.Answer caller message) so_far =
     λ i. if is_sendable (so_far.format i) message then AnswerTo caller message ∷ [] else []
 
 one_on : (b : Beginning) (P : OfGives) → Carries b P → b.first ≤ never_used → (acts : WireActs Purpose) (old w : WireState Purpose) (gives : List Give) (e : Effect) → Handed b P acts old w gives
-    → IsHanded b P (with_all acts (handed_by old e)) old (handed w gives e)
+    → IsHanded b P (with_all acts (handed_by old e)) old (hand_over w gives e)
 one_on b P carries low acts old w gives (made.Call to message purpose) so_far =
-    subst (λ l. IsHanded b P (with_all acts l) old (handed w gives (made.Call to message purpose))) (handed_alike b P acts old w gives (made.Call to message purpose) so_far)
+    subst (λ l. IsHanded b P (with_all acts l) old (hand_over w gives (made.Call to message purpose))) (handed_alike b P acts old w gives (made.Call to message purpose) so_far)
     (call_on b P carries low acts old w gives so_far to message purpose)
 one_on b P carries low acts old w gives (made.Answer caller message) so_far =
-    subst (λ l. IsHanded b P (with_all acts l) old (handed w gives (made.Answer caller message))) (handed_alike b P acts old w gives (made.Answer caller message) so_far)
+    subst (λ l. IsHanded b P (with_all acts l) old (hand_over w gives (made.Answer caller message))) (handed_alike b P acts old w gives (made.Answer caller message) so_far)
     (answer_on b P carries low acts old w gives so_far caller message)
 
 spent_on : (b : Beginning) (P : OfGives) (acts : WireActs Purpose) (old : WireState Purpose) (node : ℕ) (effects : List Effect) → IsHanded b P acts old (all_handed (spent node) effects)
@@ -311,8 +311,8 @@ all_on : (b : Beginning) (P : OfGives) → Carries b P → b.first ≤ never_use
 all_on b P carries low acts old s [] so_far = so_far
 all_on b P carries low acts old (spent node) (e ∷ effects) so_far = spent_on b P (with_all acts (flat_map (handed_by old) (e ∷ effects))) old node effects
 all_on b P carries low acts old (sent w gives) (e ∷ effects) so_far =
-    subst (λ x. IsHanded b P x old (all_handed (handed w gives e) effects)) (sym (with_both acts (handed_by old e) (flat_map (handed_by old) effects)))
-    (all_on b P carries low (with_all acts (handed_by old e)) old (handed w gives e) effects (one_on b P carries low acts old w gives e so_far))
+    subst (λ x. IsHanded b P x old (all_handed (hand_over w gives e) effects)) (sym (with_both acts (handed_by old e) (flat_map (handed_by old) effects)))
+    (all_on b P carries low (with_all acts (handed_by old e)) old (hand_over w gives e) effects (one_on b P carries low acts old w gives e so_far))
 
 -- ---- a step
 
@@ -330,13 +330,13 @@ module _ {M : Type 0} where
   same_end x y is = cc
 
   ended_gives : (b : Beginning) (P : OfGives) (acts : WireActs Purpose) (old : WireState Purpose) (n : NodeState M) (m : Made M) (s : Sending) (r : NodeState M × Outputs)
-      → IsHanded b P acts old s → ended n m.came s ≡ Ok r → GivesSo b P acts r
+      → IsHanded b P acts old s → end_step n m.came s ≡ Ok r → GivesSo b P acts r
   ended_gives b P acts old n m (sent w gives) r on is = subst (GivesSo b P acts) (same_end _ r is) (record { stands = on.stands; given = on.given })
   ended_gives b P acts old n m (spent node) r on is = absurd (let clash : ◌≡◌ {A = Result (NodeState M × Outputs) ℕ} (Err node) (Ok r) = is in cc)
 
   -- what came of an event is sent
   pub concluded_gives : (b : Beginning) (P : OfGives) → Carries b P → b.first ≤ never_used → (acts : WireActs Purpose) (n : NodeState M) (gives : List Give) (m : Made M) (r : NodeState M × Outputs)
-      → WireStands n.wire b acts → All (P acts) gives → concluded n gives m.came ≡ Ok r → GivesSo b P (with_all acts (flat_map (handed_by n.wire) m.came.effects)) r
+      → WireStands n.wire b acts → All (P acts) gives → conclude_step n gives m.came ≡ Ok r → GivesSo b P (with_all acts (flat_map (handed_by n.wire) m.came.effects)) r
   concluded_gives b P carries low acts n gives m r stands given is =
       ended_gives b P (with_all acts (flat_map (handed_by n.wire) m.came.effects)) n.wire n m (all_handed (sent n.wire gives) m.came.effects) r
       (all_on b P carries low acts n.wire (sent n.wire gives) m.came.effects (record { stands = stands; given = given; up = λ node. refl; format = refl }))

@@ -20,7 +20,7 @@ use Rattle.circus_world.specs.declared.sent.Sent.{Sent}
 use Rattle.circus_world.specs.declared.cause.LineCause.{LineCause}
 use Rattle.circus_world.specs.declared.cause.LineCause.TheVariants.{NoDatagram}
 use Rattle.circus_world.specs.WorldState.{WorldState, Standing, is_live}
-use Rattle.circus_world.specs.Course.{Stepped, noted, passed, crashed, told_to_join, comes_to, stepped}
+use Rattle.circus_world.specs.Course.{Stepped, noted, pass_step, crash_node, told_to_join, comes_to, step_line}
 use Rattle.circus_world.specs.Lines.{Leads, Lead}
 use Rattle.circus_world.proofs.ComeLemmas.{datagram_may_come, delivered_at, down_differs}
 use Rattle.circus_world.proofs.SlotLemmas.{get_set, get_there, all_at}
@@ -58,7 +58,7 @@ module _ {M : Type 0} where
         | inr there ↦ so_far.stands x t there
       ]
 
-  passed_stands : (d : Deployment) (acts : ℕ → WireActs Purpose) (w : WorldState M) → Stands d acts w → Stands d acts (passed w)
+  passed_stands : (d : Deployment) (acts : ℕ → WireActs Purpose) (w : WorldState M) → Stands d acts w → Stands d acts (pass_step w)
   passed_stands d acts w so_far = record {
     known = so_far.known;
     sound = passed_sound w so_far.sound;
@@ -123,7 +123,7 @@ module _ {M : Type 0} (declared : M → Signature) (turn : M → List ValueTree 
         (here_by line w node event comes_it s at (acts node)) (λ other differs. elsewhere_by line w node event comes_it other differs (acts other)) next is
 
     delivered_stands : (number : ℕ) (sent : Sent) (live : Bool) → slice_get w.sent number ≡ Some sent → is_live w sent.to ≡ live
-        → stepped declared turn (Deliver number) w ≡ Ok next → Stands d (behind (Deliver number)) next
+        → step_line declared turn (Deliver number) w ≡ Ok next → Stands d (behind (Deliver number)) next
     delivered_stands number sent true there live is =
         let s = live_there (slice_get w.nodes sent.to) live in
         let may = datagram_may_come w number sent so_far.sound there in
@@ -133,7 +133,7 @@ module _ {M : Type 0} (declared : M → Signature) (turn : M → List ValueTree 
         (sym (delivered_at declared turn w number sent true there live) ∙ is)
     delivered_stands number sent false there live is =
         unmoved (Deliver number) (ap (option_and_then (delivery w)) there ∙ ap (λ b. if b then Some (sent.to, comes.Datagram sent.from sent.bytes) else None) live)
-        (stands_so d acts (passed w) next (sym (delivered_at declared turn w number sent false there live) ∙ is) (passed_stands d acts w so_far))
+        (stands_so d acts (pass_step w) next (sym (delivered_at declared turn w number sent false there live) ∙ is) (passed_stands d acts w so_far))
 
     line_stands : (line : Line) → Leads declared turn line w next → Stands d (behind line) next
     line_stands (Deliver number) leads =
@@ -145,7 +145,7 @@ module _ {M : Type 0} (declared : M → Signature) (turn : M → List ValueTree 
         moved (Tick node) node comes.Tick s.0 refl s.1 tt leads.stepped_is
     line_stands (Crash node) leads =
         unmoved (Crash node) refl
-        (stands_so d acts (crashed node w) next leads.stepped_is
+        (stands_so d acts (crash_node node w) next leads.stepped_is
         (passed_stands d acts _ (noted_stands d acts (λ s. record s { crashed = Some (w.steps + 1) }) node w (λ s. refl) so_far)))
     line_stands (Down node told) leads =
         let s = get_there w.nodes told leads.named.1 in

@@ -17,7 +17,7 @@ use Rattle.circus_pair.specs.TwoEnds.{Arrival, WasSent, arrived_in, handed_over,
 use Rattle.circus_pair.proofs.Following.{arrives_as_owed}
 use Rattle.circus_wire.specs.declared.delivery.Heard.{Heard}
 use Rattle.circus_wire.specs.declared.delivery.Heard.TheVariants.{Dropped, Taken, Called, Returned}
-use Rattle.circus_wire.specs.Wire.{told, told_return, heard_from}
+use Rattle.circus_wire.specs.Wire.{hear_arrival, told_return, heard_from}
 use Rattle.circus_wire.specs.WireActs.{WireActs, purpose_of}
 use Rattle.circus_wire.specs.WireStanding.{pair_of}
 use Rattle.circus_wire.proofs.Performing.{came_tells}
@@ -40,7 +40,7 @@ nothing_returned : (call : ℕ) (purpose : Purpose) (message : List ℕ) → ◌
 nothing_returned call purpose message is = cc
 
 called_is : (purposes : ℕ → Option Purpose) (node : ℕ) (taken : Bool) (a : Arrived) (caller : Caller) (message : List ℕ)
-    → cond taken (told purposes node a) Dropped ≡ Called caller message → (caller.node ≡ node) × (a ≡ ArrivedCall caller.number message)
+    → cond taken (hear_arrival purposes node a) Dropped ≡ Called caller message → (caller.node ≡ node) × (a ≡ ArrivedCall caller.number message)
 called_is purposes node false a caller message is = absurd (let clash : ◌≡◌ {A = Heard Purpose} Dropped (Called caller message) = is in cc)
 called_is purposes node true Nothing caller message is = absurd (nothing_called caller message is)
 called_is purposes node true (ArrivedCall number m) caller message is =
@@ -55,7 +55,7 @@ called_is purposes node true (ArrivedReturn number m) caller message is = absurd
     by_purpose (Some purpose) is = cc
 
 returned_is : (purposes : ℕ → Option Purpose) (node : ℕ) (taken : Bool) (a : Arrived) (call : ℕ) (purpose : Purpose) (message : List ℕ)
-    → cond taken (told purposes node a) Dropped ≡ Returned call purpose message → (a ≡ ArrivedReturn call message) × (purposes call ≡ Some purpose)
+    → cond taken (hear_arrival purposes node a) Dropped ≡ Returned call purpose message → (a ≡ ArrivedReturn call message) × (purposes call ≡ Some purpose)
 returned_is purposes node false a call purpose message is = absurd (let clash : ◌≡◌ {A = Heard Purpose} Dropped (Returned call purpose message) = is in cc)
 returned_is purposes node true Nothing call purpose message is = absurd (nothing_returned call purpose message is)
 returned_is purposes node true (ArrivedCall number m) call purpose message is = absurd (clash (record { node = node; number = number }) is)
@@ -111,7 +111,7 @@ module _ {M : Type 0} (d : Deployment) (acts : ℕ → WireActs Purpose) (w : Wo
         (agree d.format (more here (Came p)) yonder so_far.known talks).0.sent)
 
     heard : heard_from s.node.wire sent.from (Ok p)
-        ≡ cond (takes_after (start 0 d.format) here p) (told (purpose_of (start 0 d.format) sent.from (acts sent.to)) sent.from (arrival_after (start 0 d.format) here p)) Dropped
+        ≡ cond (takes_after (start 0 d.format) here p) (hear_arrival (purpose_of (start 0 d.format) sent.from (acts sent.to)) sent.from (arrival_after (start 0 d.format) here p)) Dropped
     heard =
         let stands = so_far.stands sent.to s at in
         came_tells (beginning_of d sent.to) (acts sent.to) s.node.wire sent.from p p (is_other d sent.to sent.from s.node.wire (acts sent.to) stands from_below differs) stands refl came.0

@@ -7,7 +7,7 @@ use Rattle.circus_segment.proofs.Spellings.{read_again}
 use Rattle.circus_exchange.specs.Limits.{never_used}
 use Rattle.circus_exchange.specs.Exchange.{start}
 use Rattle.circus_pair.specs.Acts.{Call, Acts, none_yet, more, end_after, taken_by}
-use Rattle.circus_pair.specs.Handed.{made}
+use Rattle.circus_pair.specs.Handed.{calls_made}
 use Rattle.circus_pair.specs.Lawful.{AreLawful}
 use Rattle.circus_pair.specs.TwoEnds.{sent_by}
 use Rattle.circus_pair.proofs.Each.{Each, each_append, each_at, each_map}
@@ -16,10 +16,10 @@ use Rattle.circus_pair.proofs.Told.{may_do, keeping_lawful}
 
 -- ---- numbers
 
-pub few_made : (first format : ℕ) (acts : Acts) → first ≤ never_used → AreLawful first format acts → first + made acts ≤ never_used
-unfolding made
+pub few_made : (first format : ℕ) (acts : Acts) → first ≤ never_used → AreLawful first format acts → first + calls_made acts ≤ never_used
+unfolding calls_made
 few_made first format none_yet low lawful = omega arith
-few_made first format (more acts (Call message)) low lawful = (let left : first + made acts < never_used = lawful.1.1 in omega arith)
+few_made first format (more acts (Call message)) low lawful = (let left : first + calls_made acts < never_used = lawful.1.1 in omega arith)
 few_made first format (more acts act) low lawful = few_made first format acts low lawful.0
 
 -- ---- what is sent

@@ -24,25 +24,25 @@ use Rattle.circus_member_rules.specs.declared.occurrence.Purpose.{Purpose}
 use Rattle.circus_node.specs.declared.event.Event.{Event}
 use Rattle.circus_node.specs.declared.event.Event.TheVariants.{Datagram, Tick, Down, Join}
 use Rattle.circus_node.specs.declared.event.Outputs.{Outputs}
-use Rattle.circus_node.specs.Booting.{home_of, made_at_boot, booted, fresh_wire}
+use Rattle.circus_node.specs.Booting.{home_of, made_at_boot, boot_node, fresh_wire}
 use Rattle.circus_node.specs.Making.{hears, learns_down, is_told_to_join}
 use Rattle.circus_node.specs.NodeState.{NodeState}
 use Rattle.circus_node.specs.Sending.{gives_of}
-use Rattle.circus_node.specs.Step.{CanCome, stepped}
+use Rattle.circus_node.specs.Step.{CanCome, step_node}
 use Rattle.circus_talks.specs.Histories.{beginning_of}
-use Rattle.circus_talks.specs.NodeActs.{with_all, coming, acts_in, acts_at_boot}
+use Rattle.circus_talks.specs.NodeActs.{with_all, acts_of_datagram, acts_in, acts_at_boot}
 use Rattle.circus_talks.proofs.Given.{HaveGiven, OfGives, HoldsBy, Carries, peer_by, peer_at_place, owed_holds, given_by, given_carries, GivesSo, with_both, same_end, concluded_gives}
 
 -- ---- a datagram
 
 module _ (b : Beginning) (acts : WireActs Purpose) (w : WireState Purpose) (from : ℕ) (other : IsOther w from) (stands : WireStands w b acts) where
   datagram_stands : (segment : Result Piece SegmentFault) → ((s : Piece) → segment ≡ Ok s → IsSegment s)
-      → WireStands (after_datagram w from segment) b (with_all acts (coming from segment))
+      → WireStands (after_datagram w from segment) b (with_all acts (acts_of_datagram from segment))
   datagram_stands (Ok s) is = came_stands b acts w from s s other stands refl (is s refl) (after_datagram w from (Ok s)) refl
   datagram_stands (Err fault) is = stands
 
   datagram_gives : (P : OfGives) (segment : Result Piece SegmentFault) → ((s : Piece) → segment ≡ Ok s → IsSegment s) → ((s : Piece) → segment ≡ Ok s → HoldsBy b P acts (CameFrom from s))
-      → All (P (with_all acts (coming from segment))) (gives_of (sent_by_datagram w from segment))
+      → All (P (with_all acts (acts_of_datagram from segment))) (gives_of (sent_by_datagram w from segment))
   datagram_gives P (Ok s) is holds =
       owed_holds b P acts (CameFrom from s) (after_datagram w from (Ok s)) (sent_by_datagram w from (Ok s)) (holds s refl) (datagram_stands (Ok s) is) (peer_by b acts w from stands other)
       (ap (λ (x : Batch). x.datagrams) (came_owes b acts w from s s other stands refl (is s refl)))
@@ -101,12 +101,12 @@ module _ {M : Type 0} (declared : M → Signature) (turn : M → List ValueTree 
   behind b P acts some more r gives = subst (λ x. GivesSo b P x r) (sym (with_both acts some more)) gives
 
   pub step_gives : (b : Beginning) (P : OfGives) → b.first ≤ never_used → (acts : WireActs Purpose) (at : ℕ) (event : Event) (n : NodeState M) (r : NodeState M × Outputs) → Brings b P acts event
-      → WireStands n.wire b acts → CanCome n event → IsRead event → stepped declared turn at event n ≡ Ok r → GivesSo b P (with_all acts (acts_in declared turn at event n)) r
+      → WireStands n.wire b acts → CanCome n event → IsRead event → step_node declared turn at event n ≡ Ok r → GivesSo b P (with_all acts (acts_in declared turn at event n)) r
   step_gives b P low acts at (Datagram from bytes) n r brings stands can read is =
       let m = hears declared turn n.deployment at from (heard_from n.wire from (reading bytes)) n.acting in
       let wire = after_datagram n.wire from (reading bytes) in
-      behind b P acts (coming from (reading bytes)) _ r
-      (concluded_gives b P brings.0 low (with_all acts (coming from (reading bytes))) (record n { wire = wire; acting = m.acting }) (gives_of (sent_by_datagram n.wire from (reading bytes))) m r
+      behind b P acts (acts_of_datagram from (reading bytes)) _ r
+      (concluded_gives b P brings.0 low (with_all acts (acts_of_datagram from (reading bytes))) (record n { wire = wire; acting = m.acting }) (gives_of (sent_by_datagram n.wire from (reading bytes))) m r
       (datagram_stands b acts n.wire from can stands (reading bytes) read) (datagram_gives b acts n.wire from can stands P (reading bytes) read brings.1) is)
   step_gives b P low acts at Tick n r brings stands can read is =
       subst (GivesSo b P (followed_by acts TickAll)) (same_end _ r is)
@@ -121,7 +121,7 @@ module _ {M : Type 0} (declared : M → Signature) (turn : M → List ValueTree 
 
   module _ (first : M → List ValueTree) where
     pub boot_gives : (d : Deployment) (hosted : Option M) (node : ℕ) (P : OfGives) (r : NodeState M × Outputs) → node < length d.nodes → Carries (beginning_of d node) P
-        → booted declared turn first d hosted node ≡ Ok r → GivesSo (beginning_of d node) P (with_all begun (acts_at_boot declared turn first d hosted node)) r
+        → boot_node declared turn first d hosted node ≡ Ok r → GivesSo (beginning_of d node) P (with_all begun (acts_at_boot declared turn first d hosted node)) r
     boot_gives d hosted node P r within carries is =
         let m = made_at_boot declared turn first d (home_of d node) hosted in
         concluded_gives (beginning_of d node) P carries (omega arith) begun (record { deployment = d; wire = fresh_wire d node; acting = m.acting; dropped = 0 }) [] m r

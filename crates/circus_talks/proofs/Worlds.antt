@@ -30,12 +30,12 @@ use Rattle.circus_node.specs.Step as node_step
 use Rattle.circus_world.specs.declared.sent.Sent.{Sent}
 use Rattle.circus_world.specs.WorldState.{WorldState, Standing}
 use Rattle.circus_world.specs.Course as course
-use Rattle.circus_world.specs.Course.{Stepped, noted, passed, crashed, told_to_join, concluded, comes_to, stepped}
+use Rattle.circus_world.specs.Course.{Stepped, noted, pass_step, crash_node, told_to_join, conclude_step, comes_to, step_line}
 use Rattle.circus_world.specs.Seen.Sound.{IsSound}
 use Rattle.circus_world.proofs.SlotLemmas.{get_set, get_there}
 use Rattle.circus_world.proofs.SoundLemmas.{comes_sound}
 use Rattle.circus_talks.specs.Histories.{beginning_of}
-use Rattle.circus_talks.specs.NodeActs.{with_all, coming, came_by, wire_behind, acts_in}
+use Rattle.circus_talks.specs.NodeActs.{with_all, acts_of_datagram, came_by, wire_behind, acts_in}
 use Rattle.circus_node.specs.Trace.{effects_in}
 use Rattle.circus_talks.proofs.Given.{HaveGiven, WasGiven, AreGiven, Gives, given_on}
 use Rattle.circus_talks.proofs.Spelled.{sent_is_read}
@@ -120,7 +120,7 @@ module _ {M : Type 0} (d : Deployment) (acts : ℕ → WireActs Purpose) (w : Wo
 
   -- what comes of a datagram was sent
   datagram_sent : (from node other : ℕ) (bytes : List ℕ) → node < length d.nodes → IsReal d acts node (comes.Datagram from bytes)
-      → (segment : Result Piece SegmentFault) → reading bytes ≡ segment → AllSent (sent_by (start 0 d.format) (at_pair d acts other node)) other (coming from segment)
+      → (segment : Result Piece SegmentFault) → reading bytes ≡ segment → AllSent (sent_by (start 0 d.format) (at_pair d acts other node)) other (acts_of_datagram from segment)
   datagram_sent from node other bytes below real (Ok s) read =
       (λ same. subst (λ k. WasSent (sent_by (start 0 d.format) (at_pair d acts k node)) (Came s)) same (came_sent from node bytes s real.0 below real.1 real.2 read).1, tt)
   datagram_sent from node other bytes below real (Err fault) read = tt
@@ -142,10 +142,10 @@ module _ {M : Type 0} (declared : M → Signature) (turn : M → List ValueTree 
   abbrev later : List (WireAct Purpose)
   later = acts_in declared turn (w.steps + 1) event s.node
 
-  comes_is : comes_to declared turn node event w ≡ concluded node s w (node_step.stepped declared turn (w.steps + 1) event s.node)
-  comes_is = ap (λ (o : Option (Standing M)). option_map_or (λ (t : Standing M). concluded node t w (node_step.stepped declared turn (w.steps + 1) event t.node)) o (Ok w)) at
+  comes_is : comes_to declared turn node event w ≡ conclude_step node s w (node_step.step_node declared turn (w.steps + 1) event s.node)
+  comes_is = ap (λ (o : Option (Standing M)). option_map_or (λ (t : Standing M). conclude_step node t w (node_step.step_node declared turn (w.steps + 1) event t.node)) o (Ok w)) at
 
-  module _ (ended : NodeState M × Outputs) (ends : node_step.stepped declared turn (w.steps + 1) event s.node ≡ Ok ended) where
+  module _ (ended : NodeState M × Outputs) (ends : node_step.step_node declared turn (w.steps + 1) event s.node ≡ Ok ended) where
     abbrev after : WorldState M
     after = record w {
       nodes = set w.nodes node (record s { node = ended.0 });
@@ -159,7 +159,7 @@ module _ {M : Type 0} (declared : M → Signature) (turn : M → List ValueTree 
         (given_brings (beginning_of d node) (acts node) event) (so_far.stands node s at) (can_come d acts w so_far node event s at real) (is_read d acts w so_far node event below real) ends
 
     after_is : comes_to declared turn node event w ≡ Ok after
-    after_is = comes_is ∙ ap (concluded node s w) ends
+    after_is = comes_is ∙ ap (conclude_step node s w) ends
 
     still_stands : (x : ℕ) (t : Standing M) → slice_get after.nodes x ≡ Some t → WireStands t.node.wire (beginning_of d x) (new x)
     still_stands x t found = elim (eqb_tells x node) [
@@ -227,8 +227,8 @@ module _ {M : Type 0} (declared : M → Signature) (turn : M → List ValueTree 
   same_world a b is = cc
 
   pub comes_stand : (next : WorldState M) → comes_to declared turn node event w ≡ Ok next → Stands d new next
-  comes_stand next is = by_end (node_step.stepped declared turn (w.steps + 1) event s.node) refl
+  comes_stand next is = by_end (node_step.step_node declared turn (w.steps + 1) event s.node) refl
     where
-      by_end : (e : node_step.Ended M) → node_step.stepped declared turn (w.steps + 1) event s.node ≡ e → Stands d new next
+      by_end : (e : node_step.Ended M) → node_step.step_node declared turn (w.steps + 1) event s.node ≡ e → Stands d new next
       by_end (Ok ended) ends = subst (λ (v : WorldState M). Stands d new v) (same_world (after ended ends) next (sym (after_is ended ends) ∙ is)) (after_stands ended ends)
-      by_end (Err peer) ends = absurd (let clash : ◌≡◌ {A = Stepped M} (Err (node, peer)) (Ok next) = sym (comes_is ∙ ap (concluded node s w) ends) ∙ is in cc)
+      by_end (Err peer) ends = absurd (let clash : ◌≡◌ {A = Stepped M} (Err (node, peer)) (Ok next) = sym (comes_is ∙ ap (conclude_step node s w) ends) ∙ is in cc)

@@ -17,7 +17,7 @@ use Rattle.circus_schedule.specs.declared.line.Line.{Line}
 use Rattle.circus_schedule.specs.declared.line.Line.TheVariants.{Deliver, Tick, Crash, Down, Join}
 use Rattle.circus_world.specs.declared.sent.Sent.{Sent}
 use Rattle.circus_world.specs.WorldState.{WorldState, Standing, is_live}
-use Rattle.circus_world.specs.Course.{Stepped, stepped}
+use Rattle.circus_world.specs.Course.{Stepped, step_line}
 use Rattle.circus_talks.specs.NodeActs.{with_all, acts_in, acts_at_boot}
 
 -- the pairs of a node of a program before any act
@@ -58,7 +58,7 @@ module _ {M : Type 0} (declared : M → Signature) (turn : M → List ValueTree 
   abbrev pub with_lines : ℕ → WireActs Purpose → List Line → WorldState M → WireActs Purpose
   with_lines node acts [] w = acts
   with_lines node acts (line ∷ lines) w =
-      with_others (with_lines node (with_line node acts line w) lines) acts (stepped declared turn line w)
+      with_others (with_lines node (with_line node acts line w) lines) acts (step_line declared turn line w)
 
 module _ {M : Type 0} (declared : M → Signature) (turn : M → List ValueTree → ℕ → List ValueTree → List Outcome → NextTurn) (first : M → List ValueTree) where
   -- from boot on, where the nodes host these modules

@@ -26,13 +26,13 @@ with_all acts [] = acts
 with_all acts (next ∷ others) = with_all (followed_by acts next) others
 
 -- a datagram that is a segment comes; one that is none is dropped
-abbrev pub coming : ℕ → Result Piece SegmentFault → List (WireAct Purpose)
-coming from (Ok s) = CameFrom from s ∷ []
-coming from (Err fault) = []
+abbrev pub acts_of_datagram : ℕ → Result Piece SegmentFault → List (WireAct Purpose)
+acts_of_datagram from (Ok s) = CameFrom from s ∷ []
+acts_of_datagram from (Err fault) = []
 
 -- what an event is at the pairs
 abbrev pub came_by : Event → List (WireAct Purpose)
-came_by (Datagram from bytes) = coming from (reading bytes)
+came_by (Datagram from bytes) = acts_of_datagram from (reading bytes)
 came_by Tick = TickAll ∷ []
 came_by (Down node) = StopOf node ∷ []
 came_by Join = []

@@ -11,7 +11,7 @@ use Rattle.circus_text.specs.declared.lex_fault.LexFault.{LexFault}
 use Rattle.circus_text.specs.declared.lex_fault.LexFault.TheVariants as fault
 use Rattle.circus_text.specs.Form.{HasForm, bad_place, is_long_number}
 use Rattle.circus_text.specs.Front.{Piece, BeginsWith, IsLongest, IsNext, IsBadCharacter, IsOpenString, IsLongNumber}
-use Rattle.circus_text.specs.Division.{joined, EachIsNext, DividesTo, tokens_from, IsAnswer}
+use Rattle.circus_text.specs.Division.{bytes_of_pieces, EachIsNext, DividesTo, tokens_from, IsAnswer}
 use Rattle.circus_text.proofs.Fronts.{form_length, form_one}
 
 -- two fronts of one text that are of one length are equal
@@ -58,24 +58,24 @@ stuck_long rest i (q, longest, long, place) p next =
     false≢true (sym next.no_long_number ∙ subst (λ x. is_long_number x.form x.bytes ≡ true) (longest_one rest q p longest next.longest) long)
 
 -- A text divides in one way up to where no piece goes on.
-division_one : (ps qs : List Piece) (r s : List ℕ) → joined ps ++ r ≡ joined qs ++ s → EachIsNext ps r → EachIsNext qs s → IsStuck r → IsStuck s → (ps ≡ qs) × (r ≡ s)
+division_one : (ps qs : List Piece) (r s : List ℕ) → bytes_of_pieces ps ++ r ≡ bytes_of_pieces qs ++ s → EachIsNext ps r → EachIsNext qs s → IsStuck r → IsStuck s → (ps ≡ qs) × (r ≡ s)
 division_one [] [] r s e each_p each_q stuck_r stuck_s = (refl, e)
 division_one [] (q ∷ qs) r s e each_p each_q stuck_r stuck_s = absurd (stuck_r q (subst (λ t. IsNext t q) (sym e) each_q.0))
 division_one (p ∷ ps) [] r s e each_p each_q stuck_r stuck_s = absurd (stuck_s p (subst (λ t. IsNext t p) e each_p.0))
 division_one (p ∷ ps) (q ∷ qs) r s e each_p each_q stuck_r stuck_s =
-    let next : IsNext (joined (p ∷ ps) ++ r) q = subst (λ t. IsNext t q) (sym e) each_q.0 in
-    let same = longest_one (joined (p ∷ ps) ++ r) p q each_p.0.longest next.longest in
-    let rests : p.bytes ++ (joined ps ++ r) ≡ p.bytes ++ (joined qs ++ s) =
-    sym (append_assoc p.bytes (joined ps) r) ∙ e ∙ append_assoc q.bytes (joined qs) s ∙ ap (λ (x : Piece). x.bytes ++ (joined qs ++ s)) (sym same) in
+    let next : IsNext (bytes_of_pieces (p ∷ ps) ++ r) q = subst (λ t. IsNext t q) (sym e) each_q.0 in
+    let same = longest_one (bytes_of_pieces (p ∷ ps) ++ r) p q each_p.0.longest next.longest in
+    let rests : p.bytes ++ (bytes_of_pieces ps ++ r) ≡ p.bytes ++ (bytes_of_pieces qs ++ s) =
+    sym (append_assoc p.bytes (bytes_of_pieces ps) r) ∙ e ∙ append_assoc q.bytes (bytes_of_pieces qs) s ∙ ap (λ (x : Piece). x.bytes ++ (bytes_of_pieces qs ++ s)) (sym same) in
     let tail = division_one ps qs r s (append_cancel_left p.bytes _ _ rests) each_p.1 each_q.1 stuck_r stuck_s in
     (λ i. same i ∷ tail.0 i, tail.1)
 
 -- what an answer says of the rest at which the pieces end
 abbrev EndsWith : List Piece → List ℕ → Result (List Token) LexFault → Type 0
 EndsWith ps rest (Ok ts) = (rest ≡ []) × (ts ≡ tokens_from 0 ps)
-EndsWith ps rest (Err (fault.BadCharacter place)) = (i : ℕ) × IsBadCharacter rest i × (place ≡ length (joined ps) + i)
-EndsWith ps rest (Err (fault.OpenString place)) = (i : ℕ) × IsOpenString rest i × (place ≡ length (joined ps) + i)
-EndsWith ps rest (Err (fault.LongNumber place)) = (i : ℕ) × IsLongNumber rest i × (place ≡ length (joined ps) + i)
+EndsWith ps rest (Err (fault.BadCharacter place)) = (i : ℕ) × IsBadCharacter rest i × (place ≡ length (bytes_of_pieces ps) + i)
+EndsWith ps rest (Err (fault.OpenString place)) = (i : ℕ) × IsOpenString rest i × (place ≡ length (bytes_of_pieces ps) + i)
+EndsWith ps rest (Err (fault.LongNumber place)) = (i : ℕ) × IsLongNumber rest i × (place ≡ length (bytes_of_pieces ps) + i)
 EndsWith ps rest (Err fault.NoMemory) = ⊥
 
 record Ends (text : List ℕ) (answer : Result (List Token) LexFault) : Type 0 where
@@ -146,19 +146,19 @@ end_one ps rest (Ok ts) (Err (fault.OpenString k)) (nil, _) (j, b, _) = absurd (
 end_one ps rest (Ok ts) (Err (fault.LongNumber k)) (nil, _) (j, b, _) = absurd (nil_not_long j (subst (λ r. IsLongNumber r j) nil b))
 end_one ps rest (Ok ts) (Err fault.NoMemory) a b = absurd b
 end_one ps rest (Err (fault.BadCharacter k)) (Ok us) (i, a, _) (nil, _) = absurd (nil_not_bad i (subst (λ r. IsBadCharacter r i) nil a))
-end_one ps rest (Err (fault.BadCharacter k)) (Err (fault.BadCharacter l)) (i, a, e) (j, b, f) = ap (λ n. Err (fault.BadCharacter n)) (e ∙ ap (λ n. length (joined ps) + n) (bad_one rest i j a b) ∙ sym f)
+end_one ps rest (Err (fault.BadCharacter k)) (Err (fault.BadCharacter l)) (i, a, e) (j, b, f) = ap (λ n. Err (fault.BadCharacter n)) (e ∙ ap (λ n. length (bytes_of_pieces ps) + n) (bad_one rest i j a b) ∙ sym f)
 end_one ps rest (Err (fault.BadCharacter k)) (Err (fault.OpenString l)) (i, a, e) (j, b, f) = absurd (bad_not_open rest i j a b)
 end_one ps rest (Err (fault.BadCharacter k)) (Err (fault.LongNumber l)) (i, a, e) (j, b, f) = absurd (bad_not_long rest i j a b)
 end_one ps rest (Err (fault.BadCharacter k)) (Err fault.NoMemory) a b = absurd b
 end_one ps rest (Err (fault.OpenString k)) (Ok us) (i, a, _) (nil, _) = absurd (nil_not_open i (subst (λ r. IsOpenString r i) nil a))
 end_one ps rest (Err (fault.OpenString k)) (Err (fault.BadCharacter l)) (i, a, e) (j, b, f) = absurd (bad_not_open rest j i b a)
-end_one ps rest (Err (fault.OpenString k)) (Err (fault.OpenString l)) (i, (_, _, a), e) (j, (_, _, b), f) = ap (λ n. Err (fault.OpenString n)) (e ∙ ap (λ n. length (joined ps) + n) (a ∙ sym b) ∙ sym f)
+end_one ps rest (Err (fault.OpenString k)) (Err (fault.OpenString l)) (i, (_, _, a), e) (j, (_, _, b), f) = ap (λ n. Err (fault.OpenString n)) (e ∙ ap (λ n. length (bytes_of_pieces ps) + n) (a ∙ sym b) ∙ sym f)
 end_one ps rest (Err (fault.OpenString k)) (Err (fault.LongNumber l)) (i, a, e) (j, b, f) = absurd (open_not_long rest i j a b)
 end_one ps rest (Err (fault.OpenString k)) (Err fault.NoMemory) a b = absurd b
 end_one ps rest (Err (fault.LongNumber k)) (Ok us) (i, a, _) (nil, _) = absurd (nil_not_long i (subst (λ r. IsLongNumber r i) nil a))
 end_one ps rest (Err (fault.LongNumber k)) (Err (fault.BadCharacter l)) (i, a, e) (j, b, f) = absurd (bad_not_long rest j i b a)
 end_one ps rest (Err (fault.LongNumber k)) (Err (fault.OpenString l)) (i, a, e) (j, b, f) = absurd (open_not_long rest j i b a)
-end_one ps rest (Err (fault.LongNumber k)) (Err (fault.LongNumber l)) (i, (_, _, _, a), e) (j, (_, _, _, b), f) = ap (λ n. Err (fault.LongNumber n)) (e ∙ ap (λ n. length (joined ps) + n) (a ∙ sym b) ∙ sym f)
+end_one ps rest (Err (fault.LongNumber k)) (Err (fault.LongNumber l)) (i, (_, _, _, a), e) (j, (_, _, _, b), f) = ap (λ n. Err (fault.LongNumber n)) (e ∙ ap (λ n. length (bytes_of_pieces ps) + n) (a ∙ sym b) ∙ sym f)
 end_one ps rest (Err (fault.LongNumber k)) (Err fault.NoMemory) a b = absurd b
 end_one ps rest (Err fault.NoMemory) b a none = absurd a
 

@@ -11,8 +11,8 @@ use Rattle.circus_text.specs.declared.front.Form.{Form}
 use Rattle.circus_text.specs.declared.front.Form.TheVariants as form
 use Rattle.circus_text.specs.Form.{HasForm, IsSign}
 use Rattle.circus_text.specs.Front.{IsFirst, Piece, BeginsWith, IsNext}
-use Rattle.circus_text.specs.Token.{Lexeme, lexeme_of, lexemes_of, spaced, IsSpelling, AreSpelled}
-use Rattle.circus_text.specs.Division.{joined, EachIsNext, token_of, tokens_from, AreTokensOf}
+use Rattle.circus_text.specs.Token.{Lexeme, lexeme_of, lexemes_of, text_with_spaces, IsSpelling, AreSpelled}
+use Rattle.circus_text.specs.Division.{bytes_of_pieces, EachIsNext, token_of, tokens_from, AreTokensOf}
 use Rattle.circus_text.proofs.TokensLie.{bytes_of_piece}
 use Rattle.circus_text.proofs.Fronts.{opener, opener_is, first_of, first_append, letter_form, digit_form, space_form, mark_form, in_word, in_number, in_spacing, word_passes, prefix_bound, inside_is, sign_short, double_sign_byte, dashes, sign_no_dashes}
 
@@ -110,21 +110,21 @@ spaced_pieces [] = []
 spaced_pieces (l ∷ []) = token_piece l ∷ []
 spaced_pieces (l ∷ m ∷ ls) = token_piece l ∷ space_piece ∷ spaced_pieces (m ∷ ls)
 
-joined-spaced_pieces : (ls : List Lexeme) → joined (spaced_pieces ls) ≡ spaced ls
+joined-spaced_pieces : (ls : List Lexeme) → bytes_of_pieces (spaced_pieces ls) ≡ text_with_spaces ls
 joined-spaced_pieces [] = refl
 joined-spaced_pieces (l ∷ []) = append-nil l.bytes
 joined-spaced_pieces (l ∷ m ∷ ls) = ap (λ s. l.bytes ++ 32 ∷ s) (joined-spaced_pieces (m ∷ ls))
 
 -- a spaced text begins with its first lexeme
-after_first : (l : Lexeme) (ls : List Lexeme) → (rest : List ℕ) × (joined (spaced_pieces (l ∷ ls)) ≡ l.bytes ++ rest)
+after_first : (l : Lexeme) (ls : List Lexeme) → (rest : List ℕ) × (bytes_of_pieces (spaced_pieces (l ∷ ls)) ≡ l.bytes ++ rest)
 after_first l [] = ([], refl)
-after_first l (m ∷ ls) = (32 ∷ joined (spaced_pieces (m ∷ ls)), refl)
+after_first l (m ∷ ls) = (32 ∷ bytes_of_pieces (spaced_pieces (m ∷ ls)), refl)
 
 each_spaced : (ls : List Lexeme) → AreSpelled ls → EachIsNext (spaced_pieces ls) []
 each_spaced [] spelled = tt
 each_spaced (l ∷ []) spelled = (subst (λ t. IsNext t (token_piece l)) (sym (append-nil (l.bytes ++ []))) (lexeme_next l [] spelled.0 tt), tt)
 each_spaced (l ∷ m ∷ ls) spelled =
-    let tail = joined (spaced_pieces (m ∷ ls)) in
+    let tail = bytes_of_pieces (spaced_pieces (m ∷ ls)) in
     let (rest, same) = after_first m ls in (
       subst (λ t. IsNext t (token_piece l)) (sym (append-nil (l.bytes ++ 32 ∷ tail))) (lexeme_next l (32 ∷ tail) spelled.0 refl),
       (subst (λ t. IsNext (32 ∷ t) space_piece) (sym (append-nil tail ∙ same)) (space_next m rest spelled.1.0), each_spaced (m ∷ ls) spelled.1),
@@ -152,20 +152,20 @@ lexeme_here front w after text form.Spacing same = refl
 lexeme_here front w after text form.Comment same = refl
 
 -- the tokens of pieces have their lexemes
-lexemes_from : (front text : List ℕ) (ps : List Piece) (rest : List ℕ) → text ≡ front ++ (joined ps ++ rest) → map (lexeme_of text) (tokens_from (length front) ps) ≡ lexemes_in ps
+lexemes_from : (front text : List ℕ) (ps : List Piece) (rest : List ℕ) → text ≡ front ++ (bytes_of_pieces ps ++ rest) → map (lexeme_of text) (tokens_from (length front) ps) ≡ lexemes_in ps
 lexemes_from front text [] rest same = refl
 lexemes_from front text (p ∷ ps) rest same =
-    let here : text ≡ front ++ (p.bytes ++ (joined ps ++ rest)) = same ∙ ap (λ l. front ++ l) (append_assoc p.bytes (joined ps) rest) in
-    let behind : text ≡ (front ++ p.bytes) ++ (joined ps ++ rest) = here ∙ sym (append_assoc front p.bytes (joined ps ++ rest)) in
+    let here : text ≡ front ++ (p.bytes ++ (bytes_of_pieces ps ++ rest)) = same ∙ ap (λ l. front ++ l) (append_assoc p.bytes (bytes_of_pieces ps) rest) in
+    let behind : text ≡ (front ++ p.bytes) ++ (bytes_of_pieces ps ++ rest) = here ∙ sym (append_assoc front p.bytes (bytes_of_pieces ps ++ rest)) in
     let tail = subst (λ n. map (lexeme_of text) (tokens_from n ps) ≡ lexemes_in ps) (length-append front p.bytes) (lexemes_from (front ++ p.bytes) text ps rest behind) in
     map-append (lexeme_of text) (token_of (length front) p.form (length p.bytes)) (tokens_from (length front + length p.bytes) ps)
-    ∙ (λ i. lexeme_here front p.bytes (joined ps ++ rest) text p.form here i ++ tail i)
+    ∙ (λ i. lexeme_here front p.bytes (bytes_of_pieces ps ++ rest) text p.form here i ++ tail i)
 
 -- A spaced text has the tokens that it was made of.
-pub spaced_read : (ls : List Lexeme) → AreSpelled ls → (ts : List Token) × AreTokensOf (spaced ls) ts × (lexemes_of (spaced ls) ts ≡ ls)
+pub spaced_read : (ls : List Lexeme) → AreSpelled ls → (ts : List Token) × AreTokensOf (text_with_spaces ls) ts × (lexemes_of (text_with_spaces ls) ts ≡ ls)
 spaced_read ls spelled =
-    let whole : spaced ls ≡ joined (spaced_pieces ls) ++ [] = sym (append-nil (joined (spaced_pieces ls)) ∙ joined-spaced_pieces ls) in (
+    let whole : text_with_spaces ls ≡ bytes_of_pieces (spaced_pieces ls) ++ [] = sym (append-nil (bytes_of_pieces (spaced_pieces ls)) ∙ joined-spaced_pieces ls) in (
       tokens_from 0 (spaced_pieces ls),
       (spaced_pieces ls, record { whole = whole; each = each_spaced ls spelled }, refl),
-      lexemes_from [] (spaced ls) (spaced_pieces ls) [] whole ∙ lexemes_in-spaced_pieces ls,
+      lexemes_from [] (text_with_spaces ls) (spaced_pieces ls) [] whole ∙ lexemes_in-spaced_pieces ls,
     )

@@ -10,7 +10,7 @@ use Rattle.circus_text.specs.declared.front.Form.{Form}
 use Rattle.circus_text.specs.declared.front.Form.TheVariants as form
 use Rattle.circus_text.specs.Front.{Piece, IsNext}
 use Rattle.circus_text.specs.Token.{bytes_of, IsTokenIn, IsSpelling, IsBefore}
-use Rattle.circus_text.specs.Division.{joined, EachIsNext, token_of, tokens_from, AreTokensOf}
+use Rattle.circus_text.specs.Division.{bytes_of_pieces, EachIsNext, token_of, tokens_from, AreTokensOf}
 use Rattle.circus_text.proofs.Fronts.{form_length}
 
 -- the bytes of a token are those of its piece
@@ -35,14 +35,14 @@ piece_in front w after text (form.Token kind) same next =
 piece_in front w after text form.Spacing same next = All-nil (IsTokenIn text)
 piece_in front w after text form.Comment same next = All-nil (IsTokenIn text)
 
-pieces_in : (front text : List ℕ) (ps : List Piece) (rest : List ℕ) → text ≡ front ++ (joined ps ++ rest) → EachIsNext ps rest → All (IsTokenIn text) (tokens_from (length front) ps)
+pieces_in : (front text : List ℕ) (ps : List Piece) (rest : List ℕ) → text ≡ front ++ (bytes_of_pieces ps ++ rest) → EachIsNext ps rest → All (IsTokenIn text) (tokens_from (length front) ps)
 pieces_in front text [] rest same each = All-nil (IsTokenIn text)
 pieces_in front text (p ∷ ps) rest same each =
-    let group = append_assoc p.bytes (joined ps) rest in
-    let here : text ≡ front ++ (p.bytes ++ (joined ps ++ rest)) = same ∙ ap (λ l. front ++ l) group in
-    let behind : text ≡ (front ++ p.bytes) ++ (joined ps ++ rest) = here ∙ sym (append_assoc front p.bytes (joined ps ++ rest)) in
+    let group = append_assoc p.bytes (bytes_of_pieces ps) rest in
+    let here : text ≡ front ++ (p.bytes ++ (bytes_of_pieces ps ++ rest)) = same ∙ ap (λ l. front ++ l) group in
+    let behind : text ≡ (front ++ p.bytes) ++ (bytes_of_pieces ps ++ rest) = here ∙ sym (append_assoc front p.bytes (bytes_of_pieces ps ++ rest)) in
     All-append (IsTokenIn text) (token_of (length front) p.form (length p.bytes)) (tokens_from (length front + length p.bytes) ps)
-    (piece_in front p.bytes (joined ps ++ rest) text p.form here (subst (λ t. IsNext t p) group each.0))
+    (piece_in front p.bytes (bytes_of_pieces ps ++ rest) text p.form here (subst (λ t. IsNext t p) group each.0))
     (subst (λ n. All (IsTokenIn text) (tokens_from n ps)) (length-append front p.bytes) (pieces_in (front ++ p.bytes) text ps rest behind each.1))
 
 -- Each of the tokens is in the text.

@@ -9,17 +9,17 @@ use Rattle.circus_text.specs.declared.lex_fault.LexFault.TheVariants as fault
 use Rattle.circus_text.specs.Front.{Piece, IsNext, IsBadCharacter, IsOpenString, IsLongNumber}
 
 -- the bytes of the pieces, one behind another
-abbrev pub joined : List Piece → List ℕ
-joined ps = flat_map (λ (p : Piece). p.bytes) ps
+abbrev pub bytes_of_pieces : List Piece → List ℕ
+bytes_of_pieces ps = flat_map (λ (p : Piece). p.bytes) ps
 
 -- each piece is the next one in what is left of the text, at whose end rest stands
 abbrev pub EachIsNext : List Piece → List ℕ → Type 0
 EachIsNext [] rest = Unit {0}
-EachIsNext (p ∷ ps) rest = IsNext (joined (p ∷ ps) ++ rest) p × EachIsNext ps rest
+EachIsNext (p ∷ ps) rest = IsNext (bytes_of_pieces (p ∷ ps) ++ rest) p × EachIsNext ps rest
 
 -- the text is these pieces and then the rest
 pub record DividesTo (text : List ℕ) (ps : List Piece) (rest : List ℕ) : Type 0 where
-  pub whole : text ≡ joined ps ++ rest
+  pub whole : text ≡ bytes_of_pieces ps ++ rest
   pub each : EachIsNext ps rest
 
 -- the token that a piece of this form, place and length is; spacing and comments are none
@@ -41,7 +41,7 @@ AreTokensOf text ts = (ps : List Piece) × DividesTo text ps [] × (ts ≡ token
 abbrev pub HasFault : (List ℕ → ℕ → Type 0) → List ℕ → ℕ → Type 0
 HasFault is_fault text place =
     (ps : List Piece) × (rest : List ℕ) × (offset : ℕ)
-    × DividesTo text ps rest × is_fault rest offset × (place ≡ length (joined ps) + offset)
+    × DividesTo text ps rest × is_fault rest offset × (place ≡ length (bytes_of_pieces ps) + offset)
 
 -- what the text has: tokens, or a fault at a place
 abbrev pub IsAnswer : List ℕ → Result (List Token) LexFault → Type 0

@@ -48,10 +48,10 @@ abbrev pub lexemes_of : List ℕ → List Token → List Lexeme
 lexemes_of text ts = map (lexeme_of text) ts
 
 -- the text of lexemes with one space between two
-abbrev pub spaced : List Lexeme → List ℕ
-spaced [] = []
-spaced (l ∷ []) = l.bytes
-spaced (l ∷ m ∷ ls) = l.bytes ++ 32 ∷ spaced (m ∷ ls)
+abbrev pub text_with_spaces : List Lexeme → List ℕ
+text_with_spaces [] = []
+text_with_spaces (l ∷ []) = l.bytes
+text_with_spaces (l ∷ m ∷ ls) = l.bytes ++ 32 ∷ text_with_spaces (m ∷ ls)
 
 -- each lexeme may stand in a text
 abbrev pub AreSpelled : List Lexeme → Type 0

@@ -35,7 +35,7 @@ pub fn front_of(text: &[u8]) -> Front
     requires { 0 < length text.now }
     ensures { IsFront text.now result }
 {
-    match longest(text) {
+    match longest_form(text) {
         Some((form, len)) => front_with(text, form, len),
         None => match ByteClass::of(text[0]) {
             ByteClass::Quote => Front::OpenString,
@@ -94,7 +94,7 @@ fn is_long_number(form: Form, bytes: &[u8]) -> bool
 }
 
 // The longest form at the front and its length, if any form begins there.
-fn longest(text: &[u8]) -> Option<(Form, usize)>
+fn longest_form(text: &[u8]) -> Option<(Form, usize)>
     requires { 0 < length text.now }
     ensures { IsLongestFront text.now result }
 {

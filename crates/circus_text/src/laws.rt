@@ -5,7 +5,7 @@ ghost use Rattle.circus_text.specs.declared.token.Token.{Token};
 ghost use Rattle.circus_text.specs.declared.lex_fault.LexFault.{LexFault};
 ghost use Rattle.circus_text.specs.declared.token.TokenKind.TheVariants as kind;
 ghost use Rattle.circus_text.specs.Form.{greatest_number, number_value};
-ghost use Rattle.circus_text.specs.Token.{IsSpelling, IsTokenIn, IsBefore, Lexeme, lexemes_of, spaced, AreSpelled};
+ghost use Rattle.circus_text.specs.Token.{IsSpelling, IsTokenIn, IsBefore, Lexeme, lexemes_of, text_with_spaces, AreSpelled};
 ghost use Rattle.circus_text.specs.Division.{AreTokensOf, IsAnswer};
 
 /// A text has one answer: tokens, or one fault at one place.
@@ -24,8 +24,8 @@ pub fn tokens_lie()
 /// What is written with one space between two tokens has these tokens.
 pub fn spaced_tokens()
     ensures { (lexemes : List Lexeme) → AreSpelled lexemes
-        → (found : List Token) × AreTokensOf (spaced lexemes) found
-        × (lexemes_of (spaced lexemes) found ≡ lexemes) }
+        → (found : List Token) × AreTokensOf (text_with_spaces lexemes) found
+        × (lexemes_of (text_with_spaces lexemes) found ≡ lexemes) }
 {}
 
 /// What `{}` writes for a number is a number of that value.

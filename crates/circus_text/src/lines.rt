@@ -7,7 +7,7 @@ const NEWLINE: u8 = b'\n';
 
 // What stands before a place, or the whole where it isn't inside.
 #[tactic(auto, using(std::proofs::lemmas::List::take_all))]
-fn before(text: &[u8], place: usize) -> &[u8]
+fn text_before(text: &[u8], place: usize) -> &[u8]
     ensures { result.now ≡ take place text.now }
 {
     if place < text.len() {
@@ -22,7 +22,7 @@ pub fn line_at(text: &[u8], place: u64) -> u32
     requires { length text.now ≤ longest_text }
     ensures { result ≡ line_of text.now place }
 {
-    let ends = before(text, place as usize)
+    let ends = text_before(text, place as usize)
         .iter()
         .filter(|byte| **byte == NEWLINE)
         .count();

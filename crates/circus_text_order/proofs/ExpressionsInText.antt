@@ -4,7 +4,7 @@ use Rattle.std.specs.Prelude.{nat_lt, ◌==◌, is_none}
 use Rattle.circus_value.specs.ShapeTree.{ShapeTree, enumeration, array, sequence, «record», choice}
 use Rattle.circus_syntax.specs.declared.named.Named.{Named}
 use Rattle.circus_syntax.specs.declared.named.TypeName.{TypeName}
-use Rattle.circus_syntax.specs.Placed.{Due, word, sign, due, due_at, due_name, due_text, opened}
+use Rattle.circus_syntax.specs.Placed.{Due, word, sign, due, due_at, due_name, due_text, open_level}
 use Rattle.circus_syntax.specs.Spelling.{comma, spelling_type_name}
 use Rattle.circus_syntax.specs.Reading.{type_name_place}
 use Rattle.circus_expression.specs.declared.operator.Operator.{Operator}
@@ -13,13 +13,13 @@ use Rattle.circus_expression.specs.Operators.{lexeme_of}
 use Rattle.circus_expression.specs.ExpressionTree.{ExpressionTree, PlaceTree, expression_trees, suffix_trees}
 use Rattle.circus_expression.specs.ExpressionTree as e
 use Rattle.circus_expression.specs.Written.{Written, Links, WrittenList, WrittenSuffixes, WrittenPlace, written_list, truth_lexeme, chain, negation, comparison, is_arm, minus, number, text, truth, parentheses, length_of, label, arm, items, place, no_links, link, no_items, more_items, no_suffixes, field, subscript, spelling, spelling_links, spelling_items, spelling_more_items, spelling_suffixes, spelling_argument, spelling_list, spelling_place}
-use Rattle.circus_expression.specs.Standing.{place_of_tree, joined, beginning, type_place, stands_for, leaning, stand_for, suffixes_stand_for, place_stands_for}
+use Rattle.circus_expression.specs.Standing.{place_of_tree, join_with, beginning, type_place, stands_for, lean_left, stand_for, suffixes_stand_for, place_stands_for}
 use Rattle.circus_checked.specs.Sorts.{Sort, of}
 use Rattle.circus_resolve.specs.declared.cause.CheckCause.TheVariants.{Unknown, Mistyped}
 use Rattle.circus_resolve.specs.Scope.{Scope, Standing, a_type, no_module, no_type, unsaid, standing_of}
 use Rattle.circus_resolve.specs.Passing.{sort_eq, is_number, is_truth, is_text, has_length, goes_into}
 use Rattle.circus_resolve.specs.Named.{ArmFound, label_named, field_named, arm_named, is_bare, element_of}
-use Rattle.circus_resolve.specs.Faults.{first_of, place_of_type, standing_faults, type_faults, type_shape, wanted, wanted_for, wanted_alike, operand_faults, arm_faults, empty_arm_faults, label_faults, filled_label_faults, filled_arm_faults, filled_faults, count, field_count, count_faults, Slots, slots_for, slot_at, field_faults, field_shape, element_for, item_faults, place_of, variable_shape, variable_faults, sort, suffix_faults, expression_faults, each_faults, place_faults}
+use Rattle.circus_resolve.specs.Faults.{first_of, place_of_type, standing_faults, type_faults, type_shape, wanted_faults, wanted_for, wanted_alike, operand_faults, arm_faults, empty_arm_faults, label_faults, filled_label_faults, filled_arm_faults, filled_faults, count, field_count, count_faults, Slots, slots_for, slot_at, field_faults, field_shape, element_for, item_faults, place_of, variable_shape, variable_faults, sort, suffix_faults, expression_faults, each_faults, place_faults}
 use Rattle.circus_text_order.proofs.Rising.{Rise, below, split, front, back, behind, unopened, Lies, first, lies_wider}
 use Rattle.circus_text_order.proofs.InText.{AreIn, one, wider}
 use Rattle.circus_text_order.proofs.InText as found
@@ -28,7 +28,7 @@ use Rattle.circus_text_order.proofs.TypesInText.{named, numbered, TypeNamed, typ
 -- ---- what is wanted of sorts
 
 module _ (low high : ℕ) where
-  pub wanted_in : (passes : Sort → Bool) (s : Option Sort) (at : ℕ) → Lies low high at → AreIn low high (wanted passes s at)
+  pub wanted_in : (passes : Sort → Bool) (s : Option Sort) (at : ℕ) → Lies low high at → AreIn low high (wanted_faults passes s at)
   wanted_in passes None at lies = tt
   wanted_in passes (Some s) at lies = one low high (not (passes s)) at Mistyped lies
 
@@ -41,8 +41,8 @@ module _ (low high : ℕ) where
   alike_in (Some s) None at lies = tt
   alike_in None t at lies = tt
 
-  both_in : (passes : Sort → Bool) (s t : Option Sort) (at other : ℕ) → Lies low high at → Lies low high other → AreIn low high (wanted passes s at ++ wanted passes t other)
-  both_in passes s t at other left right = found.joined low high (wanted passes s at) (wanted passes t other) (wanted_in passes s at left) (wanted_in passes t other right)
+  both_in : (passes : Sort → Bool) (s t : Option Sort) (at other : ℕ) → Lies low high at → Lies low high other → AreIn low high (wanted_faults passes s at ++ wanted_faults passes t other)
+  both_in passes s t at other left right = found.joined low high (wanted_faults passes s at) (wanted_faults passes t other) (wanted_in passes s at left) (wanted_in passes t other right)
 
   operands_in : (o : Operator) (s t : Option Sort) (at other : ℕ) → Lies low high at → Lies low high other → AreIn low high (operand_faults o s at t other)
   operands_in operator.Or s t at other left right = both_in is_truth s t at other left right
@@ -134,7 +134,7 @@ module _ (scope : Scope) where
     faults = wider low high less more (expression_faults scope a) under over s.faults;
   }
 
-  pair : (low high : ℕ) (o : Operator) (a b : ExpressionTree) → Stands low high a → Stands low high b → Stands low high (joined o a b)
+  pair : (low high : ℕ) (o : Operator) (a b : ExpressionTree) → Stands low high a → Stands low high b → Stands low high (join_with o a b)
   pair low high o (e.expression at k) b left right = record {
     begins = left.begins;
     faults =
@@ -153,9 +153,9 @@ module _ (scope : Scope) where
   begun : (low high at : ℕ) (a : ExpressionTree) → Lies low high at → Stands low high a → Stands low high (beginning at a)
   begun low high at (e.expression _ k) lies s = record { begins = lies; faults = s.faults }
 
-  wanting : (low high at : ℕ) (passes : Sort → Bool) (a : ExpressionTree) → Stands low high a → AreIn low high (expression_faults scope a ++ wanted passes (sort scope a) (place_of a))
+  wanting : (low high at : ℕ) (passes : Sort → Bool) (a : ExpressionTree) → Stands low high a → AreIn low high (expression_faults scope a ++ wanted_faults passes (sort scope a) (place_of a))
   wanting low high at passes a s =
-      found.joined low high (expression_faults scope a) (wanted passes (sort scope a) (place_of a)) s.faults (wanted_in low high passes (sort scope a) (place_of a) s.begins)
+      found.joined low high (expression_faults scope a) (wanted_faults passes (sort scope a) (place_of a)) s.faults (wanted_in low high passes (sort scope a) (place_of a) s.begins)
 
   variable_in : (low high : ℕ) (n : Named) → Lies low high n.at → AreIn low high (variable_faults scope n)
   variable_in low high n lies = one low high (is_none (scope.variable n.name)) n.at Unknown lies
@@ -209,10 +209,10 @@ module _ (scope : Scope) where
         (written_in low high w (front low high (spelling w) (due (sign (codes ")")) ∷ []) (behind low high (due_at (sign (codes "(")) at) ds own)))
     written_in low high (length_of at w) rise =
         let inner = due (sign (codes "(")) ∷ (spelling w ++ due (sign (codes ")")) ∷ []) in
-        let own = unopened low high (due_at (word (codes "LENGTH")) at ∷ opened inner) rise in
-        let argument = unopened low high inner (behind low high (due_at (word (codes "LENGTH")) at) (opened inner) own) in
+        let own = unopened low high (due_at (word (codes "LENGTH")) at ∷ open_level inner) rise in
+        let argument = unopened low high inner (behind low high (due_at (word (codes "LENGTH")) at) (open_level inner) own) in
         let a = written_in low high w (front low high (spelling w) (due (sign (codes ")")) ∷ []) (behind low high (due (sign (codes "("))) (spelling w ++ due (sign (codes ")")) ∷ []) argument)) in
-        record { begins = first low high (due_at (word (codes "LENGTH")) at) (opened inner) at (λ p is. is) own; faults = wanting low high at has_length (stands_for w) a }
+        record { begins = first low high (due_at (word (codes "LENGTH")) at) (open_level inner) at (λ p is. is) own; faults = wanting low high at has_length (stands_for w) a }
     written_in low high (label t n) rise =
         let ds = due (sign (codes "#")) ∷ due_name n ∷ [] in
         let places = type_in_front low high t ds rise in
@@ -238,9 +238,9 @@ module _ (scope : Scope) where
         }
     written_in low high (items t ws) rise =
         let inner = spelling_items ws ++ due (sign (codes "]")) ∷ [] in
-        let ds = due (sign (codes "#")) ∷ opened (due (sign (codes "[")) ∷ inner) in
+        let ds = due (sign (codes "#")) ∷ open_level (due (sign (codes "[")) ∷ inner) in
         let places = type_in_front low high t ds rise in
-        let own = unopened low high (due (sign (codes "[")) ∷ inner) (behind low high (due (sign (codes "#"))) (opened (due (sign (codes "[")) ∷ inner)) (back low high (spelling_type_name t) ds rise)) in
+        let own = unopened low high (due (sign (codes "[")) ∷ inner) (behind low high (due (sign (codes "#"))) (open_level (due (sign (codes "[")) ∷ inner)) (back low high (spelling_type_name t) ds rise)) in
         let es = expression_trees (stand_for ws) in
         let counted = count_faults (type_shape scope t) (place_of_type t) (count es) in
         let slots = slots_for (type_shape scope t) in
@@ -259,16 +259,16 @@ module _ (scope : Scope) where
         }
 
     -- what stands in front, joined to one operand after the other
-    links_in : (low mid high : ℕ) (a : ExpressionTree) (ls : Links) → Stands low mid a → Rise mid high (spelling_links ls) → Stands low high (leaning a ls)
+    links_in : (low mid high : ℕ) (a : ExpressionTree) (ls : Links) → Stands low mid a → Rise mid high (spelling_links ls) → Stands low high (lean_left a ls)
     links_in low mid high a no_links s rise = stands_wider low mid low high a (omega arith) rise s
     links_in low mid high a (link o w ls) s rise =
-        let own = behind mid high (due (lexeme_of o)) (spelling w ++ opened (spelling_links ls)) rise in
-        let cut = split mid high (spelling w) (opened (spelling_links ls)) own in
+        let own = behind mid high (due (lexeme_of o)) (spelling w ++ open_level (spelling_links ls)) rise in
+        let cut = split mid high (spelling w) (open_level (spelling_links ls)) own in
         let over = below mid cut.mid (spelling w) cut.front in
         let left = stands_wider low mid low cut.mid a (omega arith) over s in
         let under = lowest low mid a s in
         let right = stands_wider mid cut.mid low cut.mid (stands_for w) under (omega arith) (written_in mid cut.mid w cut.front) in
-        links_in low cut.mid high (joined o a (stands_for w)) ls (pair low cut.mid o a (stands_for w) left right) (unopened cut.mid high (spelling_links ls) cut.back)
+        links_in low cut.mid high (join_with o a (stands_for w)) ls (pair low cut.mid o a (stands_for w) left right) (unopened cut.mid high (spelling_links ls) cut.back)
 
     pub items_in : (low high : ℕ) (slots : Slots) (k : ℕ) (ws : WrittenList) → Rise low high (spelling_items ws) → AreIn low high (each_faults scope slots k (expression_trees (stand_for ws)))
     items_in low high slots k no_items rise = tt
@@ -285,17 +285,17 @@ module _ (scope : Scope) where
     suffixes_in : (low high at : ℕ) (o : Option ShapeTree) (ss : WrittenSuffixes) → Lies low high at → Rise low high (spelling_suffixes ss) → AreIn low high (suffix_faults scope at o (suffix_trees (suffixes_stand_for ss)))
     suffixes_in low high at o no_suffixes lies rise = tt
     suffixes_in low high at o (field n ss) lies rise =
-        let name = behind low high (due (sign (codes "."))) (due_name n ∷ opened (spelling_suffixes ss)) rise in
-        let others = unopened low high (spelling_suffixes ss) (behind low high (due_name n) (opened (spelling_suffixes ss)) name) in
+        let name = behind low high (due (sign (codes "."))) (due_name n ∷ open_level (spelling_suffixes ss)) rise in
+        let others = unopened low high (spelling_suffixes ss) (behind low high (due_name n) (open_level (spelling_suffixes ss)) name) in
         found.joined low high (field_faults at o n) (suffix_faults scope at (field_shape o n.name) (suffix_trees (suffixes_stand_for ss)))
-        (field_in low high at o n lies (named low high n (opened (spelling_suffixes ss)) name)) (suffixes_in low high at (field_shape o n.name) ss lies others)
+        (field_in low high at o n lies (named low high n (open_level (spelling_suffixes ss)) name)) (suffixes_in low high at (field_shape o n.name) ss lies others)
     suffixes_in low high at o (subscript w ss) lies rise =
         let inner = spelling w ++ due (sign (codes "]")) ∷ [] in
-        let own = unopened low high (due (sign (codes "[")) ∷ inner) (front low high (opened (due (sign (codes "[")) ∷ inner)) (opened (spelling_suffixes ss)) rise) in
-        let others = unopened low high (spelling_suffixes ss) (back low high (opened (due (sign (codes "[")) ∷ inner)) (opened (spelling_suffixes ss)) rise) in
+        let own = unopened low high (due (sign (codes "[")) ∷ inner) (front low high (open_level (due (sign (codes "[")) ∷ inner)) (open_level (spelling_suffixes ss)) rise) in
+        let others = unopened low high (spelling_suffixes ss) (back low high (open_level (due (sign (codes "[")) ∷ inner)) (open_level (spelling_suffixes ss)) rise) in
         let a = stands_for w in
         let s = written_in low high w (front low high (spelling w) (due (sign (codes "]")) ∷ []) (behind low high (due (sign (codes "["))) inner own)) in
-        let sorted = wanted is_number (sort scope a) (place_of a) in
+        let sorted = wanted_faults is_number (sort scope a) (place_of a) in
         found.joined low high ((item_faults at o ++ expression_faults scope a) ++ sorted) (suffix_faults scope at (element_for o) (suffix_trees (suffixes_stand_for ss)))
         (found.joined low high (item_faults at o ++ expression_faults scope a) sorted
         (found.joined low high (item_faults at o) (expression_faults scope a) (item_in low high at o lies) s.faults)

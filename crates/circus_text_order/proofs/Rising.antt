@@ -3,7 +3,7 @@ use Rattle.std.specs.Prelude.{All, AllPairs, slice_index_or}
 use Rattle.std.proofs.Common.{map, ◌≡◌, ℕ, suc, ◌≤◌, ◌<◌, List, [], ◌∷◌, ◌++◌, arith}
 use Rattle.circus_text.specs.declared.token.Token.{Token}
 use Rattle.circus_text.specs.Token.{IsTokenIn, IsBefore}
-use Rattle.circus_syntax.specs.Placed.{placed_of, Placed, Due, due, due_at, due_name, due_number, due_text, deeper, opened, IsDue, AreDue}
+use Rattle.circus_syntax.specs.Placed.{placed_of, Placed, Due, due, due_at, due_name, due_number, due_text, deeper, open_level, IsDue, AreDue}
 
 -- tokens stand one behind the other, the first of them at a place or behind it
 abbrev AreRising : ℕ → List Placed → Type 0
@@ -88,7 +88,7 @@ back low high ds es rise = let s = split low high ds es rise in lower s.mid low 
 pub behind : (low high : ℕ) (d : Due) (ds : List Due) → Rise low high (d ∷ ds) → Rise low high ds
 behind low high d ds (at, from, is, rest) = lower (suc at) low high ds (omega (arith, from)) rest
 
-pub unopened : (low high : ℕ) (ds : List Due) → Rise low high (opened ds) → Rise low high ds
+pub unopened : (low high : ℕ) (ds : List Due) → Rise low high (open_level ds) → Rise low high ds
 unopened low high [] rise = rise
 unopened low high (d ∷ ds) (at, from, is, rest) = (at, from, is, unopened (suc at) high ds rest)
 

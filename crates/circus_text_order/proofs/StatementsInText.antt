@@ -3,7 +3,7 @@ use Rattle.std.proofs.Common.{◌≡◌, ℕ, ◌+◌, not, List, [], ◌∷◌,
 use Rattle.std.specs.Prelude.{◌==◌, is_none, option_map}
 use Rattle.circus_value.specs.ShapeTree.{ShapeTree, sequence}
 use Rattle.circus_syntax.specs.declared.named.Named.{Named}
-use Rattle.circus_syntax.specs.Placed.{Due, word, sign, due, due_at, due_name, opened}
+use Rattle.circus_syntax.specs.Placed.{Due, word, sign, due, due_at, due_name, open_level}
 use Rattle.circus_syntax.specs.Spelling.{comma, each, with_commas, if_written}
 use Rattle.circus_expression.specs.ExpressionTree.{PlaceTree, expression_trees}
 use Rattle.circus_expression.specs.Written.{Written, WrittenPlace, spelling, spelling_place, spelling_list}
@@ -15,9 +15,9 @@ use Rattle.circus_statement.specs.StatementStanding.{places_stand_for, into_stan
 use Rattle.circus_checked.specs.Sorts.{sort_of}
 use Rattle.circus_resolve.specs.declared.cause.CheckCause.TheVariants.{Unknown, Mistyped}
 use Rattle.circus_resolve.specs.Passing.{is_truth}
-use Rattle.circus_resolve.specs.Faults.{Slots, alike, for_fields, slot_at, field_count, each_faults, expression_faults, place_faults, place_shape, sort, place_of, wanted, wanted_for, wanted_alike}
+use Rattle.circus_resolve.specs.Faults.{Slots, alike, for_fields, slot_at, field_count, each_faults, expression_faults, place_faults, place_shape, sort, place_of, wanted_faults, wanted_for, wanted_alike}
 use Rattle.circus_body.specs.Context.{Offered, Called, not_imported, unsaid, a_module, Context}
-use Rattle.circus_body.specs.Faults.{called_faults, arguments_of, results_of, reported_by, values_of, error_faults, number_faults, sequence_faults, item_shape, last_faults, list_faults, places_faults, into_faults, tested, handled_faults, asked, results_faults, ask_faults, faults, all_faults, handlers_faults}
+use Rattle.circus_body.specs.Faults.{called_faults, arguments_of, results_of, reported_by, values_of, error_faults, number_faults, sequence_faults, item_shape, last_faults, list_faults, places_faults, into_faults, faults_of_condition, handled_faults, faults_of_call, results_faults, ask_faults, faults, all_faults, handlers_faults}
 use Rattle.circus_text_order.proofs.Rising.{Rise, front, back, behind, unopened, Lies, first}
 use Rattle.circus_text_order.proofs.InText.{AreIn, joined, one}
 use Rattle.circus_text_order.proofs.TypesInText.{named}
@@ -53,11 +53,11 @@ caught_at low high at (Some n) ps ds (same, named_good, places_good) rise =
     subst (Lies low high) (sym same) (named low high n (if_written spelling_places ps ++ ds) rise)
 
 module _ (context : Context) where
-  tested_in : (low high : ℕ) (w : Written) → Rise low high (spelling w) → AreIn low high (tested context (expression.stands_for w))
+  tested_in : (low high : ℕ) (w : Written) → Rise low high (spelling w) → AreIn low high (faults_of_condition context (expression.stands_for w))
   tested_in low high w rise =
       let a = expression.stands_for w in
       let s = written_in context.scope low high w rise in
-      joined low high (expression_faults context.scope a) (wanted is_truth (sort context.scope a) (place_of a)) s.faults
+      joined low high (expression_faults context.scope a) (wanted_faults is_truth (sort context.scope a) (place_of a)) s.faults
       (wanted_in low high is_truth (sort context.scope a) (place_of a) s.begins)
 
   values_in : (low high : ℕ) (slots : Slots) (at : ℕ) (ws : List Written) → Lies low high at → Rise low high (spelling_list ws) → AreIn low high (list_faults context slots at (map expression.stands_for ws))
@@ -117,12 +117,12 @@ module _ (context : Context) where
       let rest = behind low high (due_name c.procedure) given second_name in
       let own = called_faults (context.called c.«module».name) c.«module» c.procedure in
       let lies = named low high c.procedure given second_name in
-      let arguments = list_faults context (arguments_of (asked context tree)) c.procedure.at tree.arguments in
-      joined low high (own ++ arguments) (results_faults context (results_of (asked context tree)) tree.into)
+      let arguments = list_faults context (arguments_of (faults_of_call context tree)) c.procedure.at tree.arguments in
+      joined low high (own ++ arguments) (results_faults context (results_of (faults_of_call context tree)) tree.into)
       (joined low high own arguments
       (called_in low high (context.called c.«module».name) c.«module» c.procedure (named low high c.«module» (due (sign (codes ".")) ∷ procedure) first_name) lies)
-      (values_in low high (arguments_of (asked context tree)) c.procedure.at c.arguments lies (front low high (spelling_list c.arguments) (if_written spelling_into c.into) rest)))
-      (results_in low high (results_of (asked context tree)) c.into (back low high (spelling_list c.arguments) (if_written spelling_into c.into) rest))
+      (values_in low high (arguments_of (faults_of_call context tree)) c.procedure.at c.arguments lies (front low high (spelling_list c.arguments) (if_written spelling_into c.into) rest)))
+      (results_in low high (results_of (faults_of_call context tree)) c.into (back low high (spelling_list c.arguments) (if_written spelling_into c.into) rest))
 
   handled_in : (low high : ℕ) (o : Option Offered) (at : ℕ) (n : Option Named) (ps : Option (List WrittenPlace)) → IsCaught at n ps → Rise low high (spelling_caught at n ps) → AreIn low high (handled_faults context o at n (option_map places_stand_for ps))
   handled_in low high o at None ps good rise = subst (λ given. AreIn low high (handled_faults context o at None (option_map places_stand_for given))) (sym good) tt
@@ -136,10 +136,10 @@ module _ (context : Context) where
   -- ---- statements
 
   -- a list of statements behind the word that opens it
-  listed : (low high : ℕ) (lead : List ℕ) (ss : WrittenStatements) (ds : List Due) → Rise low high (opened (due (word lead) ∷ spelling_statements ss) ++ ds) → Rise low high (spelling_statements ss)
+  listed : (low high : ℕ) (lead : List ℕ) (ss : WrittenStatements) (ds : List Due) → Rise low high (open_level (due (word lead) ∷ spelling_statements ss) ++ ds) → Rise low high (spelling_statements ss)
   listed low high lead ss ds rise =
       behind low high (due (word lead)) (spelling_statements ss)
-      (unopened low high (due (word lead) ∷ spelling_statements ss) (front low high (opened (due (word lead) ∷ spelling_statements ss)) ds rise))
+      (unopened low high (due (word lead) ∷ spelling_statements ss) (front low high (open_level (due (word lead) ∷ spelling_statements ss)) ds rise))
 
   mutual
     pub statement_in : (low high : ℕ) (s : WrittenStatement) → IsStatement s → Rise low high (spelling_statement s) → AreIn low high (faults context (stands_for s))
@@ -155,24 +155,24 @@ module _ (context : Context) where
         (joined low high (place_faults context.scope tree) (expression_faults context.scope a) (place_in context.scope low high p place) s.faults)
         (wanted_for_in low high (place_shape context.scope tree) (sort context.scope a) (place_of a) s.begins)
     statement_in low high (only_then at w ss) good rise =
-        let chosen = opened (due (word (codes "THEN")) ∷ spelling_statements ss) ++ ending in
+        let chosen = open_level (due (word (codes "THEN")) ∷ spelling_statements ss) ++ ending in
         let own = behind low high (due_at (word (codes "IF")) at) (spelling w ++ chosen) rise in
-        joined low high (tested context (expression.stands_for w)) (all_faults context (stand_for ss))
+        joined low high (faults_of_condition context (expression.stands_for w)) (all_faults context (stand_for ss))
         (tested_in low high w (front low high (spelling w) chosen own))
         (statements_in low high ss good.1 (listed low high (codes "THEN") ss ending (back low high (spelling w) chosen own)))
     statement_in low high (then_else at w ss os) (written_good, chosen_good, other_good) rise =
-        let other = opened (due (word (codes "ELSE")) ∷ spelling_statements os) ++ ending in
-        let chosen = opened (due (word (codes "THEN")) ∷ spelling_statements ss) ++ other in
+        let other = open_level (due (word (codes "ELSE")) ∷ spelling_statements os) ++ ending in
+        let chosen = open_level (due (word (codes "THEN")) ∷ spelling_statements ss) ++ other in
         let own = behind low high (due_at (word (codes "IF")) at) (spelling w ++ chosen) rise in
         let both = back low high (spelling w) chosen own in
-        joined low high (tested context (expression.stands_for w) ++ all_faults context (stand_for ss)) (all_faults context (stand_for os))
-        (joined low high (tested context (expression.stands_for w)) (all_faults context (stand_for ss))
+        joined low high (faults_of_condition context (expression.stands_for w) ++ all_faults context (stand_for ss)) (all_faults context (stand_for os))
+        (joined low high (faults_of_condition context (expression.stands_for w)) (all_faults context (stand_for ss))
         (tested_in low high w (front low high (spelling w) chosen own)) (statements_in low high ss chosen_good (listed low high (codes "THEN") ss other both)))
-        (statements_in low high os other_good (listed low high (codes "ELSE") os ending (back low high (opened (due (word (codes "THEN")) ∷ spelling_statements ss)) other both)))
+        (statements_in low high os other_good (listed low high (codes "ELSE") os ending (back low high (open_level (due (word (codes "THEN")) ∷ spelling_statements ss)) other both)))
     statement_in low high (while at w ss) good rise =
-        let repeated = opened (due (word (codes "DO")) ∷ spelling_statements ss) ++ ending in
+        let repeated = open_level (due (word (codes "DO")) ∷ spelling_statements ss) ++ ending in
         let own = behind low high (due_at (word (codes "WHILE")) at) (spelling w ++ repeated) rise in
-        joined low high (tested context (expression.stands_for w)) (all_faults context (stand_for ss))
+        joined low high (faults_of_condition context (expression.stands_for w)) (all_faults context (stand_for ss))
         (tested_in low high w (front low high (spelling w) repeated own))
         (statements_in low high ss good.1 (listed low high (codes "DO") ss ending (back low high (spelling w) repeated own)))
     statement_in low high (append at w p) good rise =
@@ -191,7 +191,7 @@ module _ (context : Context) where
         (wanted_for_in low high (item_shape shape) (sort context.scope a) (place_of a) s.begins)
     statement_in low high (call at c hs) good rise =
         let ds = spelling_handlers hs ++ semicolon ∷ [] in
-        let o = asked context (call_stands_for c) in
+        let o = faults_of_call context (call_stands_for c) in
         joined low high (ask_faults context (call_stands_for c)) (handlers_faults context o (handlers_stand_for hs))
         (ask_in low high at c (front low high (spelling_call at c) ds rise))
         (handlers_in low high o hs good.1 (front low high (spelling_handlers hs) (semicolon ∷ []) (back low high (spelling_call at c) ds rise)))
@@ -216,10 +216,10 @@ module _ (context : Context) where
     handlers_in low high o no_handlers good rise = tt
     handlers_in low high o (more_handlers h ss hs) (caught_good, statements_good, others_good) rise =
         let others = due (word (codes "END")) ∷ spelling_handlers hs in
-        let block = opened (due (word (codes "BEGIN")) ∷ spelling_statements ss) ++ others in
+        let block = open_level (due (word (codes "BEGIN")) ∷ spelling_statements ss) ++ others in
         let own = behind low high (due (word (codes "ON"))) (spelling_handled h ++ block) rise in
         let rest = back low high (spelling_handled h) block own in
-        let later = back low high (opened (due (word (codes "BEGIN")) ∷ spelling_statements ss)) others rest in
+        let later = back low high (open_level (due (word (codes "BEGIN")) ∷ spelling_statements ss)) others rest in
         let lies = caught_at low high h.at h.error h.places block caught_good own in
         let tree = handled_stands_for h in
         let trees = handlers_stand_for hs in

@@ -9,7 +9,7 @@ use Rattle.circus_record.specs.declared.record.AskRecord.{AskRecord}
 use Rattle.circus_record.specs.declared.record.MemberRecord.{MemberRecord}
 use Rattle.circus_record.specs.declared.record.RunRecord.{RunRecord}
 use Rattle.circus_fanout.specs.Knowing.{Knowing}
-use Rattle.circus_fanout.specs.Asking.{Asking, begun, calls_for_a_view, with_view, with_reply, with_before}
+use Rattle.circus_fanout.specs.Asking.{Asking, begin_asking, calls_for_a_view, with_view, with_reply, with_before}
 use Rattle.circus_member_rules.specs.declared.place.Place.{Place}
 use Rattle.circus_member_rules.specs.declared.occurrence.AskName.{AskName}
 use Rattle.circus_member_rules.specs.declared.occurrence.Effect.{Effect}
@@ -17,7 +17,7 @@ use Rattle.circus_member_rules.specs.declared.occurrence.Effect.TheVariants as m
 use Rattle.circus_member_rules.specs.declared.occurrence.Occurrence.TheVariants as comes
 use Rattle.circus_member_rules.specs.OpenAsks.{is_name, asking_of, with_ask, with_asking}
 use Rattle.circus_member_rules.specs.Rules.{by_view, calls_of_ask, after_stale, call_again, calls_for_a_new_view, with_new_view, stays_open}
-use Rattle.circus_timely.specs.Past.{Past, booted, followed, now, known, down, is_newer}
+use Rattle.circus_timely.specs.Past.{Past, booted, followed, now, views_known, nodes_declared_down, is_newer}
 use Rattle.circus_timely.specs.Requests.{is_no_ask}
 
 -- it is a call of an ask
@@ -43,7 +43,7 @@ module _ (place : Place) where
   abbrev pub as_made : ℕ → ℕ → List ℕ → ℕ → List ℕ → AskRecord → AskName × Asking
   as_made index root path number clock ask = (
     record { run = index; ask = number },
-    begun
+    begin_asking
         (record {
           root = root;
           path = path ++ number ∷ [];
@@ -82,7 +82,7 @@ module _ (place : Place) where
   module _ (boot : List View) where
     -- what is known at the end of a past
     abbrev pub knows : Past → Knowing
-    knows p = record { views = known boot p; down = down p; wants = [] }
+    knows p = record { views = views_known boot p; down = nodes_declared_down p; wants = [] }
 
     -- an ask is opened, and sent to each entry of its server's view that isn't down
     abbrev pub opened_one : Knowing → List (AskName × Asking) → AskName × Asking
@@ -105,7 +105,7 @@ module _ (place : Place) where
         (after_stale (knows (followed p step (comes.IsStale name server from incarnation))) from
         incarnation) asks
     asks_behind (followed p step (comes.Told request table)) asks =
-        if is_newer (known boot p) table.view
+        if is_newer (views_known boot p) table.view
         then with_new_view (knows (followed p step (comes.Told request table))) table.view asks
         else asks
     asks_behind _ asks = asks
@@ -119,7 +119,7 @@ module _ (place : Place) where
         from incarnation)
         (asking_of asks name) []
     calls_behind (followed p step (comes.Told request table)) asks =
-        if is_newer (known boot p) table.view
+        if is_newer (views_known boot p) table.view
         then calls_for_a_new_view (knows (followed p step (comes.Told request table)))
         table.view asks
         else []

@@ -16,7 +16,7 @@ use Rattle.circus_member_rules.specs.declared.occurrence.AskName.{AskName}
 use Rattle.circus_member_rules.specs.declared.occurrence.Difference.{Difference}
 use Rattle.circus_member_rules.specs.declared.occurrence.Occurrence.TheVariants as comes
 use Rattle.circus_member_rules.specs.OpenAsks.{asking_of}
-use Rattle.circus_timely.specs.Past.{Past, booted, followed, said}
+use Rattle.circus_timely.specs.Past.{Past, booted, followed, replies_to}
 use Rattle.circus_timely.specs.Returns.{run_of}
 use Rattle.circus_timely.specs.Asks.{open_asks}
 
@@ -56,7 +56,7 @@ module _ (place : Place) (boot : List View) (kept : MemberRecord) where
   -- the first reply that came to it by then
   abbrev pub first_reply : Past → AskName → Option (Said Reply)
   first_reply p name =
-      option_and_then (λ (ask : AskRecord). slice_get (said ask.asked name p) 0)
+      option_and_then (λ (ask : AskRecord). slice_get (replies_to ask.asked name p) 0)
       (ask_named kept name)
 
   -- what is told of what came last: of a reply to an ask that was open before

@@ -46,33 +46,33 @@ with_view views view =
     if is_newer views view then slice_set views view.troupe view else views
 
 -- of each troupe the first of the greatest incarnation among its boot view and its tables
-abbrev pub known : List View → Past → List View
-known boot booted = boot
-known boot (followed p step (comes.Told request table)) = with_view (known boot p) table.view
-known boot (followed p step _) = known boot p
+abbrev pub views_known : List View → Past → List View
+views_known boot booted = boot
+views_known boot (followed p step (comes.Told request table)) = with_view (views_known boot p) table.view
+views_known boot (followed p step _) = views_known boot p
 
 -- the nodes that were declared to be down, in order
-abbrev pub down : Past → List ℕ
-down booted = []
-down (followed p step (comes.Declared node)) =
-    if is_among (down p) node then down p else down p ++ node ∷ []
-down (followed p step _) = down p
+abbrev pub nodes_declared_down : Past → List ℕ
+nodes_declared_down booted = []
+nodes_declared_down (followed p step (comes.Declared node)) =
+    if is_among (nodes_declared_down p) node then nodes_declared_down p else nodes_declared_down p ++ node ∷ []
+nodes_declared_down (followed p step _) = nodes_declared_down p
 
 -- the greatest incarnation of the state requests, or 0
-abbrev pub required : Past → ℕ
-required booted = 0
-required (followed p step (comes.Fetched incarnation sender)) =
-    max (required p) incarnation
-required (followed p step _) = required p
+abbrev pub required_incarnation : Past → ℕ
+required_incarnation booted = 0
+required_incarnation (followed p step (comes.Fetched incarnation sender)) =
+    max (required_incarnation p) incarnation
+required_incarnation (followed p step _) = required_incarnation p
 
 -- ---- calls and replies
 
 -- the asks of other members, in order of arrival
-abbrev pub arrived : Past → List HeldCall
-arrived booted = []
-arrived (followed p step (comes.Asked header body sender)) =
-    arrived p ++ record { header = header; body = body; sender = sender } ∷ []
-arrived (followed p step _) = arrived p
+abbrev pub calls_arrived : Past → List HeldCall
+calls_arrived booted = []
+calls_arrived (followed p step (comes.Asked header body sender)) =
+    calls_arrived p ++ record { header = header; body = body; sender = sender } ∷ []
+calls_arrived (followed p step _) = calls_arrived p
 
 -- a reply to the ask of a name that was made in a step, if it came later
 abbrev pub reply_said : ℕ → AskName → ℕ → AskName → ℕ → Reply → List (Said Reply)
@@ -82,11 +82,11 @@ reply_said asked name step other from reply =
     else []
 
 -- the replies to an ask, in order of arrival
-abbrev pub said : ℕ → AskName → Past → List (Said Reply)
-said asked name booted = []
-said asked name (followed p step (comes.Replied other from reply)) =
-    said asked name p ++ reply_said asked name step other from reply
-said asked name (followed p step _) = said asked name p
+abbrev pub replies_to : ℕ → AskName → Past → List (Said Reply)
+replies_to asked name booted = []
+replies_to asked name (followed p step (comes.Replied other from reply)) =
+    replies_to asked name p ++ reply_said asked name step other from reply
+replies_to asked name (followed p step _) = replies_to asked name p
 
 -- ---- the way into the troupe, from this phase at boot on
 
@@ -127,8 +127,8 @@ phase begins (followed p step (comes.Restored state count)) =
 phase begins (followed p step _) = phase begins p
 
 -- the first snapshot that came while the member fetched one: a state with a count
-abbrev pub fetched : Joiner → Past → Option (List ValueTree × ℕ)
-fetched begins booted = None
-fetched begins (followed p step (comes.Restored state count)) =
-    if is_fetching (phase begins p) then Some (state, count) else fetched begins p
-fetched begins (followed p step _) = fetched begins p
+abbrev pub snapshot_fetched : Joiner → Past → Option (List ValueTree × ℕ)
+snapshot_fetched begins booted = None
+snapshot_fetched begins (followed p step (comes.Restored state count)) =
+    if is_fetching (phase begins p) then Some (state, count) else snapshot_fetched begins p
+snapshot_fetched begins (followed p step _) = snapshot_fetched begins p

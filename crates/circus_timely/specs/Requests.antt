@@ -20,7 +20,7 @@ use Rattle.circus_member_rules.specs.declared.occurrence.Purpose.{Purpose}
 use Rattle.circus_member_rules.specs.declared.occurrence.Purpose.TheVariants as for
 use Rattle.circus_member_rules.specs.Rules.{ringmaster, request_call, state_requests, lookup_call}
 use Rattle.circus_member_rules.specs.Step.{is_lookup}
-use Rattle.circus_timely.specs.Past.{Past, booted, followed, known, down, required, phase}
+use Rattle.circus_timely.specs.Past.{Past, booted, followed, views_known, nodes_declared_down, required_incarnation, phase}
 use Rattle.circus_timely.specs.Returns.{is_before, reply_by}
 
 -- it is such a call
@@ -52,8 +52,8 @@ module _ (place : Place) (boot : List View) (begins : Joiner) where
   abbrev pub gone_from : Past → ℕ → ℕ → List Effect
   gone_from p node troupe =
       option_map_or
-      (λ (v : View). if has_node v node then to_ring (down p) (Gone troupe node) else [])
-      (slice_get (known boot p) troupe) []
+      (λ (v : View). if has_node v node then to_ring (nodes_declared_down p) (Gone troupe node) else [])
+      (slice_get (views_known boot p) troupe) []
 
   abbrev pub gone : Past → ℕ → List Effect
   gone p node =
@@ -64,15 +64,15 @@ module _ (place : Place) (boot : List View) (begins : Joiner) where
   -- Active as it has a state, Gone at a declaration
   abbrev pub for_what_came : Past → List Effect
   for_what_came (followed p step comes.Joins) =
-      to_ring (down p) (Join place.troupe place.node)
+      to_ring (nodes_declared_down p) (Join place.troupe place.node)
   for_what_came (followed p step (comes.Told request table)) =
       if not (is_fetching (phase begins p))
       && is_fetching (phase begins (followed p step (comes.Told request table)))
-      then state_requests place (down p) table.view
+      then state_requests place (nodes_declared_down p) table.view
       else []
   for_what_came (followed p step (comes.Restored state count)) =
       if is_fetching (phase begins p)
-      then to_ring (down p) (Active place.troupe place.node count)
+      then to_ring (nodes_declared_down p) (Active place.troupe place.node count)
       else []
   for_what_came (followed p step (comes.Declared node)) =
       gone (followed p step (comes.Declared node)) node
@@ -85,7 +85,7 @@ module _ (place : Place) (boot : List View) (begins : Joiner) where
     -- the first call, and has no reply
     abbrev pub is_held : Past → HeldCall → Bool
     is_held p call =
-        not (nat_lt call.header.server_incarnation (required p))
+        not (nat_lt call.header.server_incarnation (required_incarnation p))
         && not (is_before place.troupe begins kept call p)
         && is_none (reply_by place.troupe begins kept call p)
 
@@ -116,7 +116,7 @@ module _ (place : Place) (boot : List View) (begins : Joiner) where
 
     abbrev pub due : (ℕ → Bool) → Past → List ℕ
     due unanswered p =
-        if is_among (down p) ringmaster then [] else due_from unanswered p 0 (known boot p)
+        if is_among (nodes_declared_down p) ringmaster then [] else due_from unanswered p 0 (views_known boot p)
 
     -- a Lookup for a troupe was made, and isn't answered
     abbrev pub is_unanswered : Past → ℕ → Bool

@@ -10,7 +10,7 @@ use Rattle.circus_gather.specs.Gathering.{index_of}
 use Rattle.circus_gather.specs.declared.held.HeldCall.{HeldCall}
 use Rattle.circus_member_rules.specs.Messages.{reply_message, stale_message, before_message}
 use Rattle.circus_member_rules.specs.Step.{reply_of_run}
-use Rattle.circus_timely.specs.Past.{Past, now, required, phase}
+use Rattle.circus_timely.specs.Past.{Past, now, required_incarnation, phase}
 use Rattle.circus_timely.specs.First.{first_given}
 
 -- the index from which a member is active, and 0 as long as it isn't
@@ -39,7 +39,7 @@ module _ (troupe : ℕ) (begins : Joiner) (kept : MemberRecord) where
   -- started before, unless it comes now
   abbrev pub is_stale : ℕ → HeldCall → Past → Bool
   is_stale step call p =
-      nat_lt call.header.server_incarnation (required p)
+      nat_lt call.header.server_incarnation (required_incarnation p)
       && (nat_eq step (now p) || not (was_started kept (index_of troupe call.header) (now p)))
 
   -- it is before the first call that the member performs itself
@@ -58,7 +58,7 @@ module _ (troupe : ℕ) (begins : Joiner) (kept : MemberRecord) where
   abbrev pub return_at : ℕ → HeldCall → Past → Option (List ℕ)
   return_at step call p =
       if nat_lt (now p) step then None
-      else if is_stale step call p then Some (stale_message (required p))
+      else if is_stale step call p then Some (stale_message (required_incarnation p))
       else if is_before call p then Some (before_message (first_of (phase begins p)))
       else reply_by call p
 

@@ -10,7 +10,7 @@ use Rattle.circus_record.specs.declared.record.RunRecord.{RunRecord}
 use Rattle.circus_record.specs.declared.record.MemberRecord.{MemberRecord}
 use Rattle.circus_performing.specs.Performing.{is_active, state_after}
 use Rattle.circus_performing.specs.Record.{count_after}
-use Rattle.circus_timely.specs.Past.{Past, now, phase, fetched}
+use Rattle.circus_timely.specs.Past.{Past, now, phase, snapshot_fetched}
 use Rattle.circus_timely.specs.First.{first_given}
 use Rattle.circus_timely.specs.Returns.{first_of, has_ended}
 
@@ -22,7 +22,7 @@ runs_before kept p = filter (λ (run : RunRecord). nat_lt run.started (now p)) k
 module _ (begins : Joiner) (first : List ValueTree) where
   -- the state with which it became active
   abbrev pub began : Past → List ValueTree
-  began p = option_map_or (λ (s : List ValueTree × ℕ). s.0) (fetched begins p) first
+  began p = option_map_or (λ (s : List ValueTree × ℕ). s.0) (snapshot_fetched begins p) first
 
   -- by its record in the end: in a step the first moment is that at which the member is active and
   -- the runs before have ended

@@ -10,7 +10,7 @@ use Rattle.circus_collate.specs.declared.giving.Said.{Said}
 use Rattle.circus_collate.specs.declared.collating.Collated.{Collated}
 use Rattle.circus_collate.specs.declared.collating.Collated.TheVariants.{Waiting, Answer, Differ}
 use Rattle.circus_collate.specs.Expecting.{expected_nodes}
-use Rattle.circus_collate.specs.Collating.{collated}
+use Rattle.circus_collate.specs.Collating.{collate}
 use Rattle.circus_transfer.specs.declared.joiner.Joiner.{Joiner}
 use Rattle.circus_model.specs.Execution.{is_spent}
 use Rattle.circus_model.specs.declared.signature.ProcedureShape.{ProcedureShape}
@@ -24,7 +24,7 @@ use Rattle.circus_performing.specs.Record.{start_of}
 use Rattle.circus_member_rules.specs.declared.place.Place.{Place}
 use Rattle.circus_member_rules.specs.declared.occurrence.AskName.{AskName}
 use Rattle.circus_member_rules.specs.Step.{start_by_call}
-use Rattle.circus_timely.specs.Past.{Past, now, known, down, required, arrived, said, phase, fetched}
+use Rattle.circus_timely.specs.Past.{Past, now, views_known, nodes_declared_down, required_incarnation, calls_arrived, replies_to, phase, snapshot_fetched}
 use Rattle.circus_timely.specs.First.{first_given}
 
 -- a value at the place that a collator answers
@@ -62,22 +62,22 @@ module _ (place : Place) (boot : List View) (begins : Joiner) where
   -- and of a known client's view
   abbrev pub counted_calls : ℕ → Past → List HeldCall
   counted_calls index p =
-      filter (is_counted place.troupe (required p) (known boot p) index) (arrived p)
+      filter (is_counted place.troupe (required_incarnation p) (views_known boot p) index) (calls_arrived p)
 
   abbrev pub collated_call : ℕ → Past → Option HeldCall
   collated_call index p =
-      given_call (known boot p) (down p) place.calls (map as_said (counted_calls index p))
+      given_call (views_known boot p) (nodes_declared_down p) place.calls (map as_said (counted_calls index p))
 
   -- of the replies to an ask of a name, by the view of its server
   abbrev pub reply_by_view : AskName → AskRecord → Past → View → Option Reply
   reply_by_view name ask p view =
-      given_value (said ask.asked name p)
-      (collated reply_eq (expected_nodes view ask.index) (down p) (said ask.asked name p)
+      given_value (replies_to ask.asked name p)
+      (collate reply_eq (expected_nodes view ask.index) (nodes_declared_down p) (replies_to ask.asked name p)
       place.replies)
 
   abbrev pub collated_reply : AskName → AskRecord → Past → Option Reply
   collated_reply name ask p =
-      option_and_then (reply_by_view name ask p) (slice_get (known boot p) ask.callee)
+      option_and_then (reply_by_view name ask p) (slice_get (views_known boot p) ask.callee)
 
   -- ---- when something may come
 
@@ -147,5 +147,5 @@ module _ (place : Place) (boot : List View) (begins : Joiner) where
       pub phase_is : kept.phase ≡ phase begins p
       pub active : is_active begins ≡ false
           → (step : ℕ) (state : List ValueTree) (count : ℕ)
-          → first_given (fetched begins) p ≡ Some (step, (state, count))
+          → first_given (snapshot_fetched begins) p ≡ Some (step, (state, count))
           → (kept.active_at ≡ step) × (kept.from ≡ count)

@@ -4,8 +4,8 @@ use Rattle.std.specs.Prelude.{Option, Some, None, codes, bytes_eq}
 use Rattle.circus_syntax.specs.declared.named.Numeral.{Numeral}
 use Rattle.circus_syntax.specs.declared.stopping.StopCause.TheVariants.{Unexpected}
 use Rattle.circus_syntax.specs.Placed.{Placed, first, word, sign, Due, due, due_at, due_name, due_number, IsDue, AreDue}
-use Rattle.circus_syntax.specs.Reader.{Reader, both, passes, stopped, nothing, either, either_case}
-use Rattle.circus_syntax.specs.Reading.{fixed}
+use Rattle.circus_syntax.specs.Reader.{Reader, both, passes, stop_reading, nothing, either, either_case}
+use Rattle.circus_syntax.specs.Reading.{expect_token}
 use Rattle.circus_syntax.specs.Spelling.{each, if_written, IsNumeral, IsEach, IsListed, IfWritten}
 use Rattle.circus_syntax.proofs.Sound.{Sound, reader, AreDue-none, sound_nothing, sound_both}
 use Rattle.circus_syntax.proofs.Repeats.{Shrinks}
@@ -22,7 +22,7 @@ use Rattle.circus_troupe.specs.declared.deployment_text.WrittenKind.TheVariants.
 use Rattle.circus_troupe.specs.declared.deployment_text.KindText.{KindText}
 use Rattle.circus_troupe.specs.declared.deployment_text.HostText.{HostText}
 use Rattle.circus_troupe.specs.DeploymentSpelling.{spelling_ringmaster, spelling_kind_at, spelling_kind, spelling_host, spelling_hosts, spelling_spares, spelling_troupe, spelling_deployment, IsRingmasterText, IsReplyKind, IsCallKind, IsHostText, IsTroupeText, IsDeploymentText}
-use Rattle.circus_troupe.specs.DeploymentReading.{ringmaster, kind_by, at_least, call_kind, reply_kind, host, hosts, spares, troupe_of_parts, troupe, troupes, any_token, ended, deployment}
+use Rattle.circus_troupe.specs.DeploymentReading.{ringmaster, kind_by, at_least, call_kind, reply_kind, host, hosts, spares, troupe_of_parts, troupe, troupes, any_token, text_end, deployment}
 
 lawful_ringmaster : (n : ℕ) → Lawful n ringmaster ringmaster spelling_ringmaster IsRingmasterText Any
 unfolding ringmaster
@@ -240,7 +240,7 @@ lawful_troupe n =
 pub shrinks_troupe : Shrinks (is_word (codes "TROUPE")) troupe
 unfolding troupe
 shrinks_troupe r hit =
-    shrinks_both (is_word (codes "TROUPE")) (fixed (word (codes "TROUPE"))) _ (shrinks_fixed (word (codes "TROUPE")))
+    shrinks_both (is_word (codes "TROUPE")) (expect_token (word (codes "TROUPE"))) _ (shrinks_fixed (word (codes "TROUPE")))
     (sound_both sound_name (sound_both (sound_fixed (word (codes "CALLS"))) (sound_both (lawful_call_kind 0).narrow (sound_both (sound_fixed (word (codes "REPLIES"))) (sound_both (lawful_reply_kind 0).narrow
     (sound_both (sound_fixed (word (codes "MEMBERS"))) (sound_both (lawful_hosts 0).narrow (sound_both (lawful_spares 0).narrow (sound_fixed (sign (codes ";"))))))))))) r hit
 
@@ -270,17 +270,17 @@ abbrev spelling_none : Unit {0} → List Due
 spelling_none u = []
 
 abbrev stop_or_not : Bool → Reader → Unit {0} × Reader
-stop_or_not = either_case (stopped Unexpected (λ p. tt)) (nothing tt)
+stop_or_not = either_case (stop_reading Unexpected (λ p. tt)) (nothing tt)
 
-lawful_ended : (n : ℕ) → Lawful n ended ended spelling_none Always AtEnd
-unfolding ended
+lawful_ended : (n : ℕ) → Lawful n text_end text_end spelling_none Always AtEnd
+unfolding text_end
 lawful_ended n = lawful_cased (passes any_token) n stop_or_not stop_or_not Goes branches (λ s ts e. refl) at_end
   where
     Goes : Bool → Unit {0} → Type 0
     Goes true u = ⊥
     Goes false u = Unit {0}
 
-    stop_sound : Sound (stopped Unexpected (λ p. tt)) spelling_none Always
+    stop_sound : Sound (stop_reading Unexpected (λ p. tt)) spelling_none Always
     stop_sound = sound_stopped Unexpected (λ p. tt) spelling_none Always (λ p. (tt, [], tt, tt))
 
     none_sound : Sound (nothing tt) spelling_none Always

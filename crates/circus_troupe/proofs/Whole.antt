@@ -18,7 +18,7 @@ use Rattle.circus_troupe.specs.declared.deployment_text.RingmasterText.{Ringmast
 use Rattle.circus_troupe.specs.declared.deployment_text.TroupeText.{TroupeText}
 use Rattle.circus_troupe.specs.declared.deployment_text.DeploymentText.{DeploymentText}
 use Rattle.circus_troupe.specs.DeploymentSpelling.{spelling_deployment, IsDeploymentText}
-use Rattle.circus_troupe.specs.DeploymentReading.{ringmaster, troupes, ended, deployment}
+use Rattle.circus_troupe.specs.DeploymentReading.{ringmaster, troupes, text_end, deployment}
 use Rattle.circus_troupe.proofs.Deployments.{lawful_listing, deployments_lawful}
 
 pub deployment_read : (all : List Placed) (tree : DeploymentText) (e : ℕ) → Are spelling_deployment IsDeploymentText all tree → deployment (reader None all e) ≡ (tree, reader None [] e)
@@ -29,18 +29,18 @@ deployment_read all tree e are =
 -- and so it is in front of a token that begins no troupe, at which reading stops
 pub deployment_in_front : (own left : List Placed) (t : Placed) (tree : DeploymentText) (e : ℕ) → Are spelling_deployment IsDeploymentText own tree → is_word (codes "TROUPE") t ≡ false
     → deployment (reader None (own ++ t ∷ left) e) ≡ (tree, reader (Some (stop_at Unexpected t.start)) (t ∷ left) e)
-unfolding deployment ended
+unfolding deployment text_end
 deployment_in_front own left t tree e are missed =
     let (n, within) = enough (spelling_deployment tree) in
-    ap (λ (x : (RingmasterText × List TroupeText) × Reader). (deployment_of x.0.0 x.0.1, (ended x.1).1))
+    ap (λ (x : (RingmasterText × List TroupeText) × Reader). (deployment_of x.0.0 x.0.1, (text_end x.1).1))
     ((lawful_listing n).complete.reads (tree.ringmaster, tree.troupes) own (t ∷ left) e (are.good, within) are.spelled (tt, missed))
   where
     deployment_of : RingmasterText → List TroupeText → DeploymentText
     deployment_of m ts = record { ringmaster = m; troupes = ts }
 
 -- nothing is left where the end isn't a stop
-none_left : (stop : Option Stop) (ts left : List Placed) (e end : ℕ) → (ended (reader stop ts e)).1 ≡ reader None left end → left ≡ []
-unfolding ended
+none_left : (stop : Option Stop) (ts left : List Placed) (e end : ℕ) → (text_end (reader stop ts e)).1 ≡ reader None left end → left ≡ []
+unfolding text_end
 none_left (Some s) ts left e end is = let stops : Some s ≡ None = ap (λ (r : Reader). r.stop) is in cc
 none_left None [] left e end is = ap (λ (r : Reader). r.rest) (sym is)
 none_left None (t ∷ ts) left e end is = let stops = ap (λ (r : Reader). r.stop) is in cc

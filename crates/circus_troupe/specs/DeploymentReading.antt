@@ -3,8 +3,8 @@ use Rattle.std.specs.Prelude.{ℕ, Bool, true, List, Option, codes}
 use Rattle.circus_syntax.specs.declared.named.Named.{Named}
 use Rattle.circus_syntax.specs.declared.stopping.StopCause.TheVariants.{Unexpected}
 use Rattle.circus_syntax.specs.Placed.{Placed, word}
-use Rattle.circus_syntax.specs.Reader.{Reader, stopped, nothing, both, mapped, either, optional, repeated}
-use Rattle.circus_syntax.specs.Reading.{fixed, fixed_at, name, number, behind, listed}
+use Rattle.circus_syntax.specs.Reader.{Reader, stop_reading, nothing, both, map_read, either, optional, repeat_while}
+use Rattle.circus_syntax.specs.Reading.{expect_token, fixed_at, name, number, behind, comma_list}
 use Rattle.circus_statement.specs.StatementReading.{is_word, semicolon}
 use Rattle.circus_troupe.specs.declared.deployment_text.RingmasterText.{RingmasterText}
 use Rattle.circus_troupe.specs.declared.deployment_text.WrittenKind.{WrittenKind}
@@ -16,16 +16,16 @@ use Rattle.circus_troupe.specs.declared.deployment_text.DeploymentText.{Deployme
 
 unfoldable pub ringmaster : Reader → RingmasterText × Reader
 ringmaster =
-    mapped (λ x. record { name = x.1.0; port = x.1.1.1.0 })
-    (both (fixed (word (codes "RINGMASTER"))) (both name (both (fixed (word (codes "PORT"))) (both number semicolon))))
+    map_read (λ x. record { name = x.1.0; port = x.1.1.1.0 })
+    (both (expect_token (word (codes "RINGMASTER"))) (both name (both (expect_token (word (codes "PORT"))) (both number semicolon))))
 
 -- the kind that is this word
 abbrev pub kind_by : List ℕ → WrittenKind → Reader → KindText × Reader
-kind_by w k = mapped (λ at. record { at = at; kind = k }) (fixed_at (word w))
+kind_by w k = map_read (λ at. record { at = at; kind = k }) (fixed_at (word w))
 
 unfoldable pub at_least : Reader → KindText × Reader
 at_least =
-    mapped (λ x. record { at = x.0; kind = AtLeast x.1.1 }) (both (fixed_at (word (codes "AT"))) (both (fixed (word (codes "LEAST"))) number))
+    map_read (λ x. record { at = x.0; kind = AtLeast x.1.1 }) (both (fixed_at (word (codes "AT"))) (both (expect_token (word (codes "LEAST"))) number))
 
 -- where none begins it is read as FIRST, which stops
 unfoldable pub call_kind : Reader → KindText × Reader
@@ -39,10 +39,10 @@ unfoldable pub reply_kind : Reader → KindText × Reader
 reply_kind = either (is_word (codes "WATCHDOG")) (kind_by (codes "WATCHDOG") Watchdog) call_kind
 
 unfoldable pub host : Reader → HostText × Reader
-host = mapped (λ x. record { name = x.0; port = x.1.1 }) (both name (both (fixed (word (codes "PORT"))) number))
+host = map_read (λ x. record { name = x.0; port = x.1.1 }) (both name (both (expect_token (word (codes "PORT"))) number))
 
 unfoldable pub hosts : Reader → List HostText × Reader
-hosts = listed host
+hosts = comma_list host
 
 unfoldable pub spares : Reader → Option (List HostText) × Reader
 spares = optional (is_word (codes "SPARES")) (behind (word (codes "SPARES")) hosts)
@@ -58,19 +58,19 @@ troupe_of_parts x = record {
 
 unfoldable pub troupe : Reader → TroupeText × Reader
 troupe =
-    mapped troupe_of_parts
-    (both (fixed (word (codes "TROUPE"))) (both name (both (fixed (word (codes "CALLS"))) (both call_kind (both (fixed (word (codes "REPLIES"))) (both reply_kind
-    (both (fixed (word (codes "MEMBERS"))) (both hosts (both spares semicolon)))))))))
+    map_read troupe_of_parts
+    (both (expect_token (word (codes "TROUPE"))) (both name (both (expect_token (word (codes "CALLS"))) (both call_kind (both (expect_token (word (codes "REPLIES"))) (both reply_kind
+    (both (expect_token (word (codes "MEMBERS"))) (both hosts (both spares semicolon)))))))))
 
 unfoldable pub troupes : Reader → List TroupeText × Reader
-troupes = repeated (is_word (codes "TROUPE")) troupe
+troupes = repeat_while (is_word (codes "TROUPE")) troupe
 
 abbrev pub any_token : Placed → Bool
 any_token t = true
 
 -- there is no token more
-unfoldable pub ended : Reader → Unit {0} × Reader
-ended = either any_token (stopped Unexpected (λ at. tt)) (nothing tt)
+unfoldable pub text_end : Reader → Unit {0} × Reader
+text_end = either any_token (stop_reading Unexpected (λ at. tt)) (nothing tt)
 
 unfoldable pub deployment : Reader → DeploymentText × Reader
-deployment = mapped (λ x. record { ringmaster = x.0; troupes = x.1.0 }) (both ringmaster (both troupes ended))
+deployment = map_read (λ x. record { ringmaster = x.0; troupes = x.1.0 }) (both ringmaster (both troupes text_end))

@@ -1,6 +1,6 @@
 // Reading the Ringmaster and the troupes.
 ghost use Rattle.std.specs.Prelude.{◌≡◌, IfOk};
-ghost use Rattle.circus_troupe.specs.DeploymentReading.{deployment, ringmaster, troupes, troupe, call_kind, reply_kind, at_least, hosts, host, spares, ended};
+ghost use Rattle.circus_troupe.specs.DeploymentReading.{deployment, ringmaster, troupes, troupe, call_kind, reply_kind, at_least, hosts, host, spares, text_end};
 
 use crate::{
     DeploymentText, HostText, HostTexts, KindText, RingmasterText, TroupeText, TroupeTexts,
@@ -15,7 +15,7 @@ pub fn deployment(reader: &mut Reader<'_>) -> Result<DeploymentText, NoMemory>
 {
     let ringmaster = ringmaster(reader)?;
     let troupes = troupes(reader)?;
-    ended(reader);
+    text_end(reader);
     Ok(DeploymentText {
         ringmaster,
         troupes,
@@ -147,8 +147,8 @@ fn host(reader: &mut Reader<'_>) -> Result<HostText, NoMemory>
 }
 
 // Stops where a token is left.
-fn ended(reader: &mut Reader<'_>)
-    ensures { ended reader.old ≡ (tt, reader.new) }
+fn text_end(reader: &mut Reader<'_>)
+    ensures { text_end reader.old ≡ (tt, reader.new) }
 {
     if reader.left() > 0 {
         reader.stop_here(StopCause::Unexpected);

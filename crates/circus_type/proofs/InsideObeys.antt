@@ -21,7 +21,7 @@ use Rattle.circus_fault.proofs.Items.{none_in}
 use Rattle.circus_type.specs.declared.cause.TypeCause.{TypeCause}
 use Rattle.circus_type.specs.declared.cause.TypeCause.TheVariants.{OutOfRange}
 use Rattle.circus_type.specs.Inside.{no_name, repeated_names, labels_faults, group_names, arm_labels, is_bare, is_empty_record, length_faults, bound_faults, unknown_faults, inside, inside_groups, inside_arms}
-use Rattle.circus_type.specs.Meaning.{word_of, bound_of, label_meant, fields_named, written, written_groups, written_arms}
+use Rattle.circus_type.specs.Meaning.{word_of, bound_of, label_meant, fields_named, shape_of_type, written_groups, written_arms}
 use Rattle.circus_type.specs.Distinct.{AreDistinct}
 use Rattle.circus_type.specs.Together.{names_of}
 use Rattle.circus_type.specs.Obeys as rule
@@ -104,7 +104,7 @@ module _ (form : TypeName → ShapeTree) where
   names_are : (groups : GroupTrees) → names_of (written_groups form groups) ≡ map (λ (n : Named). n.name) (group_names groups)
   names_are no_groups = refl
   names_are (more_groups names t groups) =
-      named_is names (written form t) (written_groups form groups)
+      named_is names (shape_of_type form t) (written_groups form groups)
       ∙ ap (λ ns. map (λ (n : Named). n.name) names ++ ns) (names_are groups)
       ∙ sym (map-append (λ (n : Named). n.name) names (group_names groups))
 
@@ -142,7 +142,7 @@ known_name : {C : Type 0} (embed : TypeCause → C) (unknown : Option ℕ) → u
 known_name embed None clean = refl
 known_name embed (Some at) clean = absurd (cc)
 
-empty_written : (form : TypeName → ShapeTree) (t : TypeTree) → is_empty_record t ≡ true → written form t ≡ shape.«record» shape.no_fields
+empty_written : (form : TypeName → ShapeTree) (t : TypeTree) → is_empty_record t ≡ true → shape_of_type form t ≡ shape.«record» shape.no_fields
 empty_written form («record» at no_groups) is = refl
 empty_written form («record» at (more_groups names t others)) is = absurd (cc)
 empty_written form (boolean at) is = absurd (cc)
@@ -168,7 +168,7 @@ fields_obey (n ∷ ns) s rest own others = (own, fields_obey ns s rest own other
 -- where the names that are known stand for shapes in which no rule is broken
 module _ {C : Type 0} (embed : TypeCause → C) (unknown : TypeName → Option ℕ) (form : TypeName → ShapeTree) (known : (n : TypeName) → unknown n ≡ None → ObeysInside (form n)) where
   mutual
-    pub inside_obeys : (t : TypeTree) → IsType t → inside embed unknown t ≡ [] → ObeysInside (written form t)
+    pub inside_obeys : (t : TypeTree) → IsType t → inside embed unknown t ≡ [] → ObeysInside (shape_of_type form t)
     inside_obeys (boolean at) good clean = tt
     inside_obeys (cardinal at) good clean = tt
     inside_obeys (long_cardinal at) good clean = tt
@@ -198,7 +198,7 @@ module _ {C : Type 0} (embed : TypeCause → C) (unknown : TypeName → Option �
     groups_obey no_groups good clean = tt
     groups_obey (more_groups names t groups) good clean =
         let (own, rest) = none_in (inside embed unknown t) (inside_groups embed unknown groups) clean in
-        fields_obey names (written form t) (written_groups form groups) (inside_obeys t good.1 own) (groups_obey groups good.2 rest)
+        fields_obey names (shape_of_type form t) (written_groups form groups) (inside_obeys t good.1 own) (groups_obey groups good.2 rest)
 
     arms_obey : (arms : ArmTrees) → AreArms arms → inside_arms embed unknown arms ≡ [] → ObeyArmTypes (arm_trees (written_arms form arms))
     arms_obey no_arms good clean = tt

@@ -14,12 +14,12 @@ use Rattle.circus_type.specs.declared.cause.TypeCause.TheVariants.{TooLarge}
 use Rattle.circus_type.specs.declared.measuring.Measure.{Measure}
 use Rattle.circus_type.specs.Limits.{most_parts, most_zero_bytes}
 use Rattle.circus_type.specs.Written.{levels, parts, zero_size}
-use Rattle.circus_type.specs.Meaning.{written}
+use Rattle.circus_type.specs.Meaning.{shape_of_type}
 use Rattle.circus_type.specs.Scale.{is_large, written_out}
 use Rattle.circus_type.specs.Inside.{inside}
 use Rattle.circus_type.specs.Whole.{is_place, whole_faults}
 use Rattle.circus_type.specs.Obeys.{ObeysInside, ObeysWhole}
-use Rattle.circus_type.specs.Seen.Measured.{measure_of, measured, more_parts, is_over, cut_off}
+use Rattle.circus_type.specs.Seen.Measured.{measure_of, measure_of_type, more_parts, is_over, cut_off}
 use Rattle.circus_type.proofs.Sizes.{stopped_times, measured_is}
 use Rattle.circus_fault.proofs.NoFaults.{no_fault}
 use Rattle.circus_type.proofs.InsideObeys.{inside_obeys}
@@ -43,8 +43,8 @@ abbrev pub sizes_of : (TypeName → ShapeTree) → TypeName → Measure
 sizes_of forms n = measure_of (forms n)
 
 -- the parts with those of so many more types
-pub with_type : (forms : TypeName → ShapeTree) (so_far n : ℕ) (t : TypeTree) → more_parts (min so_far (1 + most_parts)) n (measured (sizes_of forms) t) ≡ min (so_far + n * parts (written forms t)) (1 + most_parts)
-with_type forms so_far n t = ap (more_parts (min so_far (1 + most_parts)) n) (measured_is forms t) ∙ parts_cut so_far n (written forms t)
+pub with_type : (forms : TypeName → ShapeTree) (so_far n : ℕ) (t : TypeTree) → more_parts (min so_far (1 + most_parts)) n (measure_of_type (sizes_of forms) t) ≡ min (so_far + n * parts (shape_of_type forms t)) (1 + most_parts)
+with_type forms so_far n t = ap (more_parts (min so_far (1 + most_parts)) n) (measured_is forms t) ∙ parts_cut so_far n (shape_of_type forms t)
 
 -- what is tested where there is no other fault
 pub tested : (a b : Bool) → a ≡ true → (a && true && b) ≡ false → b ≡ false
@@ -68,15 +68,15 @@ not_large counted s is =
 module _ {C : Type 0} (embed : TypeCause → C) (unknown : TypeName → Option ℕ) (form : TypeName → ShapeTree) where
   pub whole_cut : (within : Option ℕ) (so_far n : ℕ) (t : TypeTree) → whole_faults embed cut_off unknown (sizes_of form) within (min so_far (1 + most_parts)) n t ≡ whole_faults embed written_out unknown form within so_far n t
   whole_cut within so_far n t =
-      let s = written form t in
+      let s = shape_of_type form t in
       let over = (λ i. is_over (with_type form so_far n t i) (measured_is form t i)) ∙ over_cut (so_far + n * parts s) s in
       ap (λ b. inside embed unknown t ++ faults_if (is_clean (inside embed unknown t) && not (is_place (type_place t) within) && b) (type_place t) (embed TooLarge)) over
 
   -- where the names that are known stand for shapes in which no rule is broken, a whole type that so many names share
   pub whole_obeys : (known : (n : TypeName) → unknown n ≡ None → ObeysInside (form n)) (before n : ℕ) (t : TypeTree) → IsType t → whole_faults embed written_out unknown form None before n t ≡ []
-      → (inside embed unknown t ≡ []) × ObeysWhole (written form t) × (before + n * parts (written form t) ≤ most_parts)
+      → (inside embed unknown t ≡ []) × ObeysWhole (shape_of_type form t) × (before + n * parts (shape_of_type form t) ≤ most_parts)
   whole_obeys known before n t good clean =
       let (none, large) = none_in (inside embed unknown t) _ clean in
       let fits = tested (is_clean (inside embed unknown t)) _ (clean_none (inside embed unknown t) none) (no_fault _ _ _ large) in
-      let small = not_large (before + n * parts (written form t)) (written form t) fits in
+      let small = not_large (before + n * parts (shape_of_type form t)) (shape_of_type form t) fits in
       (none, record { inside = inside_obeys embed unknown form known t good none; small = small.zeros; shallow = small.levels }, small.parts)

@@ -28,26 +28,26 @@ fields_named names s = map (λ (n : Named). record { name = n.name; shape = s })
 
 abbrev mutual
   -- the shape that is meant, where this is what each name stands for
-  pub written : (TypeName → ShapeTree) → TypeTree → ShapeTree
-  written form (boolean _) = shape.boolean
-  written form (cardinal _) = shape.cardinal
-  written form (long_cardinal _) = shape.long_cardinal
-  written form (integer _) = shape.integer
-  written form (long_integer _) = shape.long_integer
-  written form (text _) = shape.text
-  written form (enumeration _ labels) = shape.enumeration (map label_meant labels)
-  written form (array _ n t) = shape.array (word_of n) (written form t)
-  written form (sequence _ bound t) = shape.sequence (bound_of bound) (written form t)
-  written form («record» _ groups) = shape.«record» (field_trees (written_groups form groups))
-  written form (choice _ arms) = shape.choice (arm_trees (written_arms form arms))
-  written form (called _ t) = form t
+  pub shape_of_type : (TypeName → ShapeTree) → TypeTree → ShapeTree
+  shape_of_type form (boolean _) = shape.boolean
+  shape_of_type form (cardinal _) = shape.cardinal
+  shape_of_type form (long_cardinal _) = shape.long_cardinal
+  shape_of_type form (integer _) = shape.integer
+  shape_of_type form (long_integer _) = shape.long_integer
+  shape_of_type form (text _) = shape.text
+  shape_of_type form (enumeration _ labels) = shape.enumeration (map label_meant labels)
+  shape_of_type form (array _ n t) = shape.array (word_of n) (shape_of_type form t)
+  shape_of_type form (sequence _ bound t) = shape.sequence (bound_of bound) (shape_of_type form t)
+  shape_of_type form («record» _ groups) = shape.«record» (field_trees (written_groups form groups))
+  shape_of_type form (choice _ arms) = shape.choice (arm_trees (written_arms form arms))
+  shape_of_type form (called _ t) = form t
 
   -- a field for each name, with the type of its group
   pub written_groups : (TypeName → ShapeTree) → GroupTrees → List FieldTree
   written_groups form no_groups = []
-  written_groups form (more_groups names t groups) = fields_named names (written form t) ++ written_groups form groups
+  written_groups form (more_groups names t groups) = fields_named names (shape_of_type form t) ++ written_groups form groups
 
   pub written_arms : (TypeName → ShapeTree) → ArmTrees → List ArmTree
   written_arms form no_arms = []
   written_arms form (more_arms name number t arms) =
-      record { name = name.name; number = word_of number; shape = written form t } ∷ written_arms form arms
+      record { name = name.name; number = word_of number; shape = shape_of_type form t } ∷ written_arms form arms

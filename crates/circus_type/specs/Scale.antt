@@ -7,7 +7,7 @@ use Rattle.circus_syntax.specs.TypeTree.{TypeTree, GroupTrees}
 use Rattle.circus_type.specs.Limits.{most_parts, most_zero_bytes}
 use Rattle.circus_type.specs.Written.{levels, parts, zero_size}
 use Rattle.circus_type.specs.Together.{zero_size_of}
-use Rattle.circus_type.specs.Meaning.{written, written_groups}
+use Rattle.circus_type.specs.Meaning.{shape_of_type, written_groups}
 
 -- a way to tell it
 pub record Scale (S : Type 0) : Type 0 where
@@ -29,7 +29,7 @@ is_large so_far s = nat_lt most_zero_bytes (zero_size s) || nat_lt most_levels (
 -- types written out
 abbrev pub written_out : Scale ShapeTree
 written_out = record {
-  of_type = written;
+  of_type = shape_of_type;
   of_none = boolean;
   parts_with = λ so_far n s. so_far + n * parts s;
   is_over = is_large;

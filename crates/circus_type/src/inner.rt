@@ -119,7 +119,7 @@ fn called<N: TypeNames, C: WithTypeCauses>(names: &N, best: &mut Best<C>, name: 
 
 /// Finds the faults inside of a type.
 #[cycle(inside)]
-pub fn inside<N: TypeNames, C: WithTypeCauses>(
+pub fn check_inside<N: TypeNames, C: WithTypeCauses>(
     alloc: Global,
     names: &N,
     best: &mut Best<C>,
@@ -137,11 +137,11 @@ pub fn inside<N: TypeNames, C: WithTypeCauses>(
                 len.at,
                 C::of_type(TypeCause::OutOfRange),
             );
-            inside(alloc, names, best, element.shape())
+            check_inside(alloc, names, best, element.shape())
         }
         TypeKind::Sequence(bound, element) => {
             bound_inside(best, bound);
-            inside(alloc, names, best, element.shape())
+            check_inside(alloc, names, best, element.shape())
         }
         TypeKind::Record(groups) => {
             best.note(
@@ -187,7 +187,7 @@ pub fn inside_groups<N: TypeNames, C: WithTypeCauses>(
         (group_trees (map group_of groups.now)))) }
 {
     for group in groups {
-        inside(alloc, names, best, &group.shape)?;
+        check_inside(alloc, names, best, &group.shape)?;
     }
     Ok(())
 }
@@ -205,7 +205,7 @@ fn inside_arms<N: TypeNames, C: WithTypeCauses>(
 {
     for arm in arms {
         if !is_empty_record(&arm.shape) {
-            inside(alloc, names, best, &arm.shape)?;
+            check_inside(alloc, names, best, &arm.shape)?;
         }
     }
     Ok(())

@@ -17,11 +17,11 @@ mod wholes;
 mod writing;
 
 pub use cause::{TypeCause, WithTypeCauses};
-pub use inner::{field_names, inside, inside_groups};
+pub use inner::{field_names, check_inside, inside_groups};
 pub use laws::{faultless_obeys, sizes_are_cut_off};
 pub use limits::{GREATEST_WORD, MOST_PARTS, MOST_ZERO_BYTES};
-pub use measuring::{Measure, measured, measured_groups, shape_measure, word};
+pub use measuring::{Measure, measure_of_type, measured_groups, shape_measure, word};
 pub use names::{meet_name, meet_number, note_above};
 pub use type_names::TypeNames;
 pub use wholes::whole;
-pub use writing::{written, written_groups};
+pub use writing::{shape_of_type, written_groups};

@@ -117,8 +117,8 @@ pub fn word(number: Numeral) -> u16
 
 /// The size of a type.
 #[cycle(measured)]
-pub fn measured<N: TypeNames>(names: &N, shape: &TypeText) -> Measure
-    ensures { result ≡ size.measured (N.sizes names.now) (tree_of shape.now) }
+pub fn measure_of_type<N: TypeNames>(names: &N, shape: &TypeText) -> Measure
+    ensures { result ≡ size.measure_of_type (N.sizes names.now) (tree_of shape.now) }
 {
     match &shape.kind {
         TypeKind::LongCardinal | TypeKind::LongInteger => Measure::new(1, 0, 4),
@@ -127,8 +127,8 @@ pub fn measured<N: TypeNames>(names: &N, shape: &TypeText) -> Measure
             0,
             2,
         ),
-        TypeKind::Array(len, element) => measured(names, element.shape()).items(word(*len)),
-        TypeKind::Sequence(_, element) => measured(names, element.shape()).sequence(),
+        TypeKind::Array(len, element) => measure_of_type(names, element.shape()).items(word(*len)),
+        TypeKind::Sequence(_, element) => measure_of_type(names, element.shape()).sequence(),
         TypeKind::Record(groups) => measured_groups(names, groups.as_slice()).of_record(),
         TypeKind::Choice(arms) => measured_arms(names, arms.as_slice()).of_choice(),
         TypeKind::Called(name) => names.measure(name),
@@ -147,7 +147,7 @@ pub fn measured_groups<N: TypeNames>(names: &N, groups: &[GroupText]) -> Measure
     while place > 0 {
         place -= 1;
         let group = &groups[place];
-        size = measured(names, &group.shape).fields(group.names.len(), size);
+        size = measure_of_type(names, &group.shape).fields(group.names.len(), size);
     }
     size
 }
@@ -161,7 +161,7 @@ fn measured_arms<N: TypeNames>(names: &N, arms: &[ArmText]) -> Measure
     while place > 0 {
         place -= 1;
         let arm = &arms[place];
-        size = measured(names, &arm.shape).arm(size);
+        size = measure_of_type(names, &arm.shape).arm(size);
     }
     size
 }

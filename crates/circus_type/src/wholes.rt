@@ -4,11 +4,11 @@ ghost use Rattle.circus_syntax.specs.TypeOf.{tree_of};
 ghost use Rattle.circus_fault.specs.Least.{least_from};
 ghost use Rattle.circus_type.specs.Inside as faults;
 ghost use Rattle.circus_type.specs.Whole.{whole_faults};
-ghost use Rattle.circus_type.specs.Seen.Measured.{measured, more_parts, is_over, cut_off};
+ghost use Rattle.circus_type.specs.Seen.Measured.{measure_of_type, more_parts, is_over, cut_off};
 
-use crate::inner::inside;
+use crate::inner::check_inside;
 use crate::limits::{MOST_PARTS, MOST_ZERO_BYTES};
-use crate::measuring::{Measure, measured};
+use crate::measuring::{Measure, measure_of_type};
 use crate::{TypeCause, TypeNames, WithTypeCauses};
 use circus_fault::Best;
 use circus_syntax::{MOST_LEVELS, TypeText};
@@ -43,7 +43,7 @@ fn found_inside<N: TypeNames, C: WithTypeCauses>(
         (faults.inside C.embed (N.unknown names.now) (tree_of shape.now))) }
 {
     let mut own: Best<C> = Best { fault: None };
-    inside(alloc, names, &mut own, shape)?;
+    check_inside(alloc, names, &mut own, shape)?;
     Ok(own)
 }
 
@@ -63,13 +63,13 @@ pub fn whole<N: TypeNames, C: WithTypeCauses>(
         (N.sizes names.now) within parts.old count (tree_of shape.now))) }
     ensures counted { OnOk result
         (parts.new ≡ more_parts parts.old count
-        (measured (N.sizes names.now) (tree_of shape.now))) }
+        (measure_of_type (N.sizes names.now) (tree_of shape.now))) }
     ensures sized { IfOk result (λ measure.
-        measure ≡ measured (N.sizes names.now) (tree_of shape.now)) }
+        measure ≡ measure_of_type (N.sizes names.now) (tree_of shape.now)) }
 {
     let own = found_inside::<N, C>(alloc, names, shape)?;
     best.join(own);
-    let size = measured(names, shape);
+    let size = measure_of_type(names, shape);
     *parts = more_parts(*parts, count, size);
     let tested = own.is_clean() && within != Some(shape.at);
     best.note(

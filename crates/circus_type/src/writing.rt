@@ -13,9 +13,9 @@ use std::alloc::Global;
 
 /// The shape that a type means.
 #[cycle(written)]
-pub fn written<N: TypeNames>(alloc: Global, names: &N, shape: &TypeText) -> Result<Shape, NoMemory>
+pub fn shape_of_type<N: TypeNames>(alloc: Global, names: &N, shape: &TypeText) -> Result<Shape, NoMemory>
     ensures { IfOk result (λ s.
-        shapes.tree_of s ≡ meant.written (N.forms names.now) (tree_of shape.now)) }
+        shapes.tree_of s ≡ meant.shape_of_type (N.forms names.now) (tree_of shape.now)) }
 {
     Ok(match &shape.kind {
         TypeKind::Boolean => Shape::Boolean,
@@ -26,11 +26,11 @@ pub fn written<N: TypeNames>(alloc: Global, names: &N, shape: &TypeText) -> Resu
         TypeKind::Text => Shape::Text,
         TypeKind::Enumeration(list) => Shape::Enumeration(labels(alloc, list.as_slice())?),
         TypeKind::Array(len, element) => {
-            let items = written(alloc, names, element.shape())?;
+            let items = shape_of_type(alloc, names, element.shape())?;
             Shape::Array(word(*len), Element::new(alloc, items)?)
         }
         TypeKind::Sequence(bound, element) => {
-            let items = written(alloc, names, element.shape())?;
+            let items = shape_of_type(alloc, names, element.shape())?;
             Shape::Sequence(bound_of(bound), Element::new(alloc, items)?)
         }
         TypeKind::Record(groups) => {
@@ -89,7 +89,7 @@ pub fn written_groups<N: TypeNames>(
 {
     let mut fields = Fields::new(alloc);
     for group in groups {
-        let shape = written(alloc, names, &group.shape)?;
+        let shape = shape_of_type(alloc, names, &group.shape)?;
         push_fields(&mut fields, group.names.as_slice(), &shape)?;
     }
     Ok(fields)
@@ -105,7 +105,7 @@ fn written_arms<N: TypeNames>(alloc: Global, names: &N, arms: &[ArmText]) -> Res
         list.push(Arm {
             name: arm.name.name.copy()?,
             number: word(arm.number),
-            shape: written(alloc, names, &arm.shape)?,
+            shape: shape_of_type(alloc, names, &arm.shape)?,
         })?;
     }
     Ok(list)

@@ -5,7 +5,7 @@ use Rattle.circus_value.specs.ValueTree.{value_trees}
 use Rattle.circus_value.specs.ValueOf.{tree_of}
 use Rattle.circus_value.specs.declared.value.Value.{Value}
 use Rattle.std.specs.Fmt.{decimal}
-use Rattle.circus_value.specs.Shown.{shown, shown_byte, shown_bytes, shown_others}
+use Rattle.circus_value.specs.Shown.{text_of_value, shown_byte, shown_bytes, shown_others}
 use Rattle.circus_value.specs.ThreadText.{numbers_behind}
 
 -- of two texts joined
@@ -24,11 +24,11 @@ others_text vs = shown_others (value_trees (map tree_of vs))
 -- of two lists of values joined
 pub others_text-append : (xs ys : List Value) → others_text (xs ++ ys) ≡ others_text xs ++ others_text ys
 others_text-append [] ys = refl
-others_text-append (x ∷ xs) ys = ap (λ bs. 44 ∷ 32 ∷ (shown (tree_of x) ++ bs)) (others_text-append xs ys) ∙ ap (λ bs. 44 ∷ 32 ∷ bs) (sym (append_assoc (shown (tree_of x)) (others_text xs) (others_text ys)))
+others_text-append (x ∷ xs) ys = ap (λ bs. 44 ∷ 32 ∷ (text_of_value (tree_of x) ++ bs)) (others_text-append xs ys) ∙ ap (λ bs. 44 ∷ 32 ∷ bs) (sym (append_assoc (text_of_value (tree_of x)) (others_text xs) (others_text ys)))
 
 -- of the front with one more value
-pub others_text_more : (xs : List Value) (i : ℕ) (d : Value) → i < length xs → others_text (take (i + 1) xs) ≡ others_text (take i xs) ++ (44 ∷ 32 ∷ shown (tree_of (get_or xs i d)))
-others_text_more xs i d below = ap others_text (take_more xs i d below) ∙ others_text-append (take i xs) (get_or xs i d ∷ []) ∙ ap (λ bs. others_text (take i xs) ++ (44 ∷ 32 ∷ bs)) (append-nil (shown (tree_of (get_or xs i d))))
+pub others_text_more : (xs : List Value) (i : ℕ) (d : Value) → i < length xs → others_text (take (i + 1) xs) ≡ others_text (take i xs) ++ (44 ∷ 32 ∷ text_of_value (tree_of (get_or xs i d)))
+others_text_more xs i d below = ap others_text (take_more xs i d below) ∙ others_text-append (take i xs) (get_or xs i d ∷ []) ∙ ap (λ bs. others_text (take i xs) ++ (44 ∷ 32 ∷ bs)) (append-nil (text_of_value (tree_of (get_or xs i d))))
 
 -- of two lists of numbers joined
 pub numbers_behind-append : (mark : ℕ) (xs ys : List ℕ) → numbers_behind mark (xs ++ ys) ≡ numbers_behind mark xs ++ numbers_behind mark ys

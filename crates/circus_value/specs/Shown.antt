@@ -26,28 +26,28 @@ shown_bytes [] = []
 shown_bytes (b ∷ bytes) = shown_byte b ++ shown_bytes bytes
 
 abbrev mutual
-  pub shown : ValueTree → List ℕ
-  shown (boolean truth) = truth_text truth
-  shown (cardinal n) = decimal n
-  shown (long_cardinal n) = decimal n
-  shown (integer z) = signed_decimal z
-  shown (long_integer z) = signed_decimal z
-  shown (text bytes) = 34 ∷ (shown_bytes bytes ++ 34 ∷ [])
-  shown (enumeration n) = 35 ∷ decimal n
-  shown (array items) = 123 ∷ (shown_items items ++ 125 ∷ [])
-  shown (sequence items) = 123 ∷ (shown_items items ++ 125 ∷ [])
-  shown («record» items) = 91 ∷ (shown_items items ++ 93 ∷ [])
-  shown (choice n t) = decimal n ++ 40 ∷ (shown t ++ 41 ∷ [])
+  pub text_of_value : ValueTree → List ℕ
+  text_of_value (boolean truth) = truth_text truth
+  text_of_value (cardinal n) = decimal n
+  text_of_value (long_cardinal n) = decimal n
+  text_of_value (integer z) = signed_decimal z
+  text_of_value (long_integer z) = signed_decimal z
+  text_of_value (text bytes) = 34 ∷ (shown_bytes bytes ++ 34 ∷ [])
+  text_of_value (enumeration n) = 35 ∷ decimal n
+  text_of_value (array items) = 123 ∷ (shown_items items ++ 125 ∷ [])
+  text_of_value (sequence items) = 123 ∷ (shown_items items ++ 125 ∷ [])
+  text_of_value («record» items) = 91 ∷ (shown_items items ++ 93 ∷ [])
+  text_of_value (choice n t) = decimal n ++ 40 ∷ (text_of_value t ++ 41 ∷ [])
 
   -- values with a comma and a space between two
   pub shown_items : ValueTrees → List ℕ
   shown_items none = []
-  shown_items (more t ts) = shown t ++ shown_others ts
+  shown_items (more t ts) = text_of_value t ++ shown_others ts
 
   -- each value behind a comma and a space
   pub shown_others : ValueTrees → List ℕ
   shown_others none = []
-  shown_others (more t ts) = 44 ∷ 32 ∷ (shown t ++ shown_others ts)
+  shown_others (more t ts) = 44 ∷ 32 ∷ (text_of_value t ++ shown_others ts)
 
 -- a list of values, or a state
 abbrev pub shown_list : List ValueTree → List ℕ

@@ -210,7 +210,7 @@ fn first_above(ends: &[usize], at: usize) -> usize
 {
     match ends.first() {
         Some(first) if *first > 0 && is_first_above(ends, at / *first, at) => at / *first,
-        _ => searched(ends, at),
+        _ => search(ends, at),
     }
 }
 
@@ -224,7 +224,7 @@ fn is_first_above(ends: &[usize], place: usize, at: usize) -> bool
 }
 
 // As `first_above`, by halves.
-fn searched(ends: &[usize], at: usize) -> usize
+fn search(ends: &[usize], at: usize) -> usize
     ensures within { result ≤ length ends.now }
     ensures before { 0 < result → slice_index ends.now (result - 1) ≤ at }
     ensures above { result < length ends.now → at < slice_index ends.now result }

@@ -3,7 +3,7 @@ ghost use Rattle.std.specs.Prelude.{◌≡◌, ◌++◌, ◌∷◌, [], Some, If
 ghost use Rattle.std.specs.Fmt.{WritesOnOk};
 ghost use Rattle.circus_value.specs.ValueOf.{tree_of};
 ghost use Rattle.circus_value.specs.ValueTree.{value_trees};
-ghost use Rattle.circus_value.specs.Shown.{truth_text, is_plain, shown_byte, shown_bytes, shown, shown_items, shown_list};
+ghost use Rattle.circus_value.specs.Shown.{truth_text, is_plain, shown_byte, shown_bytes, text_of_value, shown_items, shown_list};
 ghost use Rattle.circus_value.specs.OutcomeText.{outcome_text};
 
 use crate::{ListOf, NoMemory, Octets, Outcome, Value, Values};
@@ -13,7 +13,7 @@ use std::fmt::Display;
 
 /// The text of a value, by the rules of docs/FORMATS.md. `NoMemory` is the one fault.
 pub fn show(alloc: Global, value: &Value) -> Result<Octets, NoMemory>
-    ensures { IfOk result (λ text. text ≡ shown (tree_of value.now)) }
+    ensures { IfOk result (λ text. text ≡ text_of_value (tree_of value.now)) }
 {
     let text = format!(in alloc; "{value}")?;
     ListOf::from_text(alloc, &text)
@@ -34,7 +34,7 @@ impl ListOf<u8> {
 
 /// Writes the text of docs/FORMATS.md.
 impl fmt::Display for Value {
-    ghost output = { λ value. Some (shown (tree_of value)) };
+    ghost output = { λ value. Some (text_of_value (tree_of value)) };
 
     #[cycle(value_text)]
     fn fmt<W: fmt::Write>(&self, f: &mut fmt::Formatter<W>) -> fmt::Result {

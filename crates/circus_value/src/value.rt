@@ -151,7 +151,7 @@ impl Values {
     pub fn as_slice(&self) -> &[Value]
         ensures { map tree_of result.now ≡ self.now }
     {
-        listed(&self.items)
+        items_of(&self.items)
     }
 
     /// How many bytes they have in external form one after another, or 18,446,744,073,709,551,615 where there are more.
@@ -178,7 +178,7 @@ impl Values {
         ensures err { OnErr result (self.new ≡ self.old) }
     {
         keep_first(&mut self.items, len)?;
-        self.size = size_of_all(listed(&self.items));
+        self.size = size_of_all(items_of(&self.items));
         Ok(())
     }
 
@@ -191,13 +191,13 @@ impl Values {
     {
         let grows = external_size(&item);
         let old = exchange(&mut self.items, place, item)?;
-        self.size = resized(&self.items, self.size, external_size(&old), grows);
+        self.size = size_after(&self.items, self.size, external_size(&old), grows);
         Ok(old)
     }
 }
 
 // The items.
-fn listed(items: &Option<Rc<Vec<Value>>>) -> &[Value]
+fn items_of(items: &Option<Rc<Vec<Value>>>) -> &[Value]
     ensures { result.now ≡ items_in items.now }
 {
     match items {
@@ -250,11 +250,11 @@ fn exchange(
 }
 
 // The size of items of which one was put in the place of another: before that all together had this size.
-fn resized(items: &Option<Rc<Vec<Value>>>, before: u64, shrinks: u64, grows: u64) -> u64
+fn size_after(items: &Option<Rc<Vec<Value>>>, before: u64, shrinks: u64, grows: u64) -> u64
     ensures { IsRecounted items.now before shrinks grows result }
 {
     if before == u64::MAX {
-        size_of_all(listed(items))
+        size_of_all(items_of(items))
     } else {
         before.saturating_sub(shrinks).saturating_add(grows)
     }

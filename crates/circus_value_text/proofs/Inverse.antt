@@ -10,8 +10,8 @@ use Rattle.circus_value.specs.ShapeTree.{ShapeTree, FieldTrees, ArmTrees, no_fie
 use Rattle.circus_value.specs.ShapeTree as S
 use Rattle.circus_value.specs.declared.shape.Label.{Label}
 use Rattle.circus_value.specs.Fits.{fits, fields_fit, arm_fits, every, count_of}
-use Rattle.circus_value.specs.Shown.{truth_text, shown_bytes, shown, shown_items, shown_others, shown_list}
-use Rattle.circus_value_text.specs.Reading.{Read, and_then, seen_as, passed, behind, between, meant, number_read, signed_read, octets_read, comma, one_more, items_read, none_if, items_within, truth_if, truth_read, label_of, label_read, text_read, reading, fields_reading, arm_reading, choice_read, list_reading}
+use Rattle.circus_value.specs.Shown.{truth_text, shown_bytes, text_of_value, shown_items, shown_others, shown_list}
+use Rattle.circus_value_text.specs.Reading.{Read, and_then, seen_as, behind_prefix, behind, between, read_meaning, number_read, signed_read, octets_read, comma, one_more, items_read, none_if, items_within, truth_if, truth_read, label_of, label_read, text_read, reading, fields_reading, arm_reading, choice_read, list_reading}
 use Rattle.circus_value_text.specs.Stopping.{Stops}
 use Rattle.circus_value_text.proofs.Marks.{pair_is, passed_front, passed_stands, behind_some, and_then_some, seen_as_some, between_complete, between_sound}
 use Rattle.circus_value_text.proofs.Numbers.{no_brace, number_complete, number_sound, signed_complete, signed_sound}
@@ -29,7 +29,7 @@ trees_listed (more t ts) = ap (more t) (trees_listed ts)
 -- the texts of values, the first of them behind this, and the others behind a comma
 abbrev pub shown_behind : List ℕ → ValueTrees → List ℕ
 shown_behind mark none = []
-shown_behind mark (more t ts) = mark ++ (shown t ++ shown_others ts)
+shown_behind mark (more t ts) = mark ++ (text_of_value t ++ shown_others ts)
 
 pub others_behind : (ts : ValueTrees) → shown_behind comma ts ≡ shown_others ts
 others_behind none = refl
@@ -40,11 +40,11 @@ items_behind none = refl
 items_behind (more t ts) = refl
 
 -- the text of more values
-behind_more : (mark : List ℕ) (t : ValueTree) (ts : ValueTrees) (rest : List ℕ) → shown_behind mark (more t ts) ++ rest ≡ mark ++ (shown t ++ (shown_behind comma ts ++ rest))
+behind_more : (mark : List ℕ) (t : ValueTree) (ts : ValueTrees) (rest : List ℕ) → shown_behind mark (more t ts) ++ rest ≡ mark ++ (text_of_value t ++ (shown_behind comma ts ++ rest))
 behind_more mark t ts rest =
-    append_assoc mark (shown t ++ shown_others ts) rest
-    ∙ ap (λ x. mark ++ x) (append_assoc (shown t) (shown_others ts) rest)
-    ∙ ap (λ x. mark ++ (shown t ++ (x ++ rest))) (sym (others_behind ts))
+    append_assoc mark (text_of_value t ++ shown_others ts) rest
+    ∙ ap (λ x. mark ++ x) (append_assoc (text_of_value t) (shown_others ts) rest)
+    ∙ ap (λ x. mark ++ (text_of_value t ++ (x ++ rest))) (sym (others_behind ts))
 
 -- no digit begins what stands behind a value
 others_stop : (ts : ValueTrees) (rest : List ℕ) → Stops rest → Stops (shown_behind comma ts ++ rest)
@@ -55,12 +55,12 @@ others_stop (more t ts) rest stops = refl
 
 -- a reader of items reads what is shown of a value that passes
 abbrev pub Completes : (List ℕ → Read ValueTree) → (ValueTree → Bool) → Type 0
-Completes item passes = (t : ValueTree) (rest : List ℕ) → passes t ≡ true → Stops rest → item (shown t ++ rest) ≡ Some (t, rest)
+Completes item passes = (t : ValueTree) (rest : List ℕ) → passes t ≡ true → Stops rest → item (text_of_value t ++ rest) ≡ Some (t, rest)
 
-one_complete : (item : List ℕ → Read ValueTree) (mark : List ℕ) (t : ValueTree) (ts : ValueTrees) (rest : List ℕ) (others : List ℕ → Read (List ValueTree)) → item (shown t ++ (shown_behind comma ts ++ rest)) ≡ Some (t, shown_behind comma ts ++ rest) → others (shown_behind comma ts ++ rest) ≡ Some (listed ts, rest) → behind (passed mark (shown_behind mark (more t ts) ++ rest)) (λ inner. and_then (item inner) (λ u later. one_more u (others later))) ≡ Some (t ∷ listed ts, rest)
+one_complete : (item : List ℕ → Read ValueTree) (mark : List ℕ) (t : ValueTree) (ts : ValueTrees) (rest : List ℕ) (others : List ℕ → Read (List ValueTree)) → item (text_of_value t ++ (shown_behind comma ts ++ rest)) ≡ Some (t, shown_behind comma ts ++ rest) → others (shown_behind comma ts ++ rest) ≡ Some (listed ts, rest) → behind (behind_prefix mark (shown_behind mark (more t ts) ++ rest)) (λ inner. and_then (item inner) (λ u later. one_more u (others later))) ≡ Some (t ∷ listed ts, rest)
 one_complete item mark t ts rest others first later =
-    ap (λ text. behind (passed mark text) (λ inner. and_then (item inner) (λ u more. one_more u (others more)))) (behind_more mark t ts rest)
-    ∙ ap (λ r. behind r (λ inner. and_then (item inner) (λ u more. one_more u (others more)))) (passed_front mark (shown t ++ (shown_behind comma ts ++ rest)))
+    ap (λ text. behind (behind_prefix mark text) (λ inner. and_then (item inner) (λ u more. one_more u (others more)))) (behind_more mark t ts rest)
+    ∙ ap (λ r. behind r (λ inner. and_then (item inner) (λ u more. one_more u (others more)))) (passed_front mark (text_of_value t ++ (shown_behind comma ts ++ rest)))
     ∙ ap (λ r. and_then r (λ u more. one_more u (others more))) first
     ∙ ap (one_more t) later
 
@@ -75,11 +75,11 @@ items_complete item passes complete (suc n) mark (more t ts) rest count all stop
 
 -- a value that passes begins with no closing brace
 abbrev pub BeginsWithout : (ValueTree → Bool) → Type 0
-BeginsWithout passes = (t : ValueTree) (rest : List ℕ) → passes t ≡ true → passed (codes "}") (shown t ++ rest) ≡ None
+BeginsWithout passes = (t : ValueTree) (rest : List ℕ) → passes t ≡ true → behind_prefix (codes "}") (text_of_value t ++ rest) ≡ None
 
 -- a mark that keeps a closing brace away
 abbrev pub KeepsOff : (ValueTree → Bool) → List ℕ → Type 0
-KeepsOff passes mark = (t : ValueTree) (rest : List ℕ) → passes t ≡ true → passed (codes "}") (mark ++ (shown t ++ rest)) ≡ None
+KeepsOff passes mark = (t : ValueTree) (rest : List ℕ) → passes t ≡ true → behind_prefix (codes "}") (mark ++ (text_of_value t ++ rest)) ≡ None
 
 within_complete : (item : List ℕ → Read ValueTree) (passes : ValueTree → Bool) → Completes item passes → (bound : ℕ) (mark : List ℕ) (ts : ValueTrees) (rest : List ℕ) → KeepsOff passes mark → count_of ts ≤ bound → every passes ts ≡ true → items_within item bound mark (shown_behind mark ts ++ (125 ∷ rest)) ≡ Some (listed ts, 125 ∷ rest)
 within_complete item passes complete zero mark none rest off few all = refl
@@ -88,8 +88,8 @@ within_complete item passes complete (suc n) mark none rest off few all = refl
 within_complete item passes complete (suc n) mark (more t ts) rest off few all =
     let parts = and_parts (passes t) (every passes ts) all in
     let text = shown_behind mark (more t ts) ++ (125 ∷ rest) in
-    let go_on = behind (passed mark text) (λ inner. and_then (item inner) (λ u later. one_more u (items_within item n comma later))) in
-    let opening : passed (codes "}") text ≡ None = ap (passed (codes "}")) (behind_more mark t ts (125 ∷ rest)) ∙ off t (shown_behind comma ts ++ (125 ∷ rest)) parts.0 in
+    let go_on = behind (behind_prefix mark text) (λ inner. and_then (item inner) (λ u later. one_more u (items_within item n comma later))) in
+    let opening : behind_prefix (codes "}") text ≡ None = ap (behind_prefix (codes "}")) (behind_more mark t ts (125 ∷ rest)) ∙ off t (shown_behind comma ts ++ (125 ∷ rest)) parts.0 in
     ap (λ r. none_if text r go_on) opening
     ∙ one_complete item mark t ts (125 ∷ rest) (items_within item n comma) (complete t (shown_behind comma ts ++ (125 ∷ rest)) parts.0 (others_stop ts (125 ∷ rest) refl))
     (within_complete item passes complete n comma ts rest (λ u more is. refl) (omega (arith, few)) parts.1)
@@ -102,8 +102,8 @@ label_complete : (labels : List Label) (n : ℕ) (rest : List ℕ) → (nat_lt n
 label_complete labels n rest fit stops =
     let parts = and_parts (nat_lt n 65536) (list_any (λ (l : Label). nat_eq l.number n) labels) fit in
     let small = ltb-true n 65536 parts.0 in
-    ap (λ r. and_then r (λ m later. meant (label_of labels m) later)) (number_complete 65535 n rest (omega (arith, small)) (omega arith) stops)
-    ∙ ap (λ is. meant (cond is (Some (V.enumeration n)) None) rest) parts.1
+    ap (λ r. and_then r (λ m later. read_meaning (label_of labels m) later)) (number_complete 65535 n rest (omega (arith, small)) (omega arith) stops)
+    ∙ ap (λ is. read_meaning (cond is (Some (V.enumeration n)) None) rest) parts.1
 
 begins_without : (s : ShapeTree) → BeginsWithout (fits s)
 begins_without S.boolean (V.boolean true) rest fit = refl
@@ -122,7 +122,7 @@ begins_without (S.«record» _) (V.«record» items) rest fit = refl
 begins_without (S.choice arms) (V.choice n t) rest fit =
     let parts = and_parts (nat_lt n 65536) (arm_fits arms n t) fit in
     let small = ltb-true n 65536 parts.0 in
-    ap (passed (codes "}")) (append_assoc (decimal n) (40 ∷ (shown t ++ 41 ∷ [])) rest) ∙ no_brace n ((40 ∷ (shown t ++ 41 ∷ [])) ++ rest) (omega (arith, small))
+    ap (behind_prefix (codes "}")) (append_assoc (decimal n) (40 ∷ (text_of_value t ++ 41 ∷ [])) rest) ∙ no_brace n ((40 ∷ (text_of_value t ++ 41 ∷ [])) ++ rest) (omega (arith, small))
 begins_without _ _ rest fit = cc
 
 -- items between two marks
@@ -169,10 +169,10 @@ mutual
   complete (S.choice arms) (V.choice n t) rest fit stops =
       let parts = and_parts (nat_lt n 65536) (arm_fits arms n t) fit in
       let small = ltb-true n 65536 parts.0 in
-      let inner = 40 ∷ (shown t ++ (41 ∷ rest)) in
-      ap (choice_read arms) (append_assoc (decimal n) (40 ∷ (shown t ++ 41 ∷ [])) rest ∙ ap (λ x. decimal n ++ (40 ∷ x)) (append_assoc (shown t) (41 ∷ []) rest))
+      let inner = 40 ∷ (text_of_value t ++ (41 ∷ rest)) in
+      ap (choice_read arms) (append_assoc (decimal n) (40 ∷ (text_of_value t ++ 41 ∷ [])) rest ∙ ap (λ x. decimal n ++ (40 ∷ x)) (append_assoc (text_of_value t) (41 ∷ []) rest))
       ∙ ap (λ r. and_then r (λ m later. between (codes "(") (codes ")") (arm_reading arms m) later)) (number_complete 65535 n inner (omega (arith, small)) (omega arith) refl)
-      ∙ between_complete (40 ∷ []) (41 ∷ []) (shown t) rest (arm_reading arms n) (V.choice n t) (arm_complete arms n t (41 ∷ rest) parts.1 refl)
+      ∙ between_complete (40 ∷ []) (41 ∷ []) (text_of_value t) rest (arm_reading arms n) (V.choice n t) (arm_complete arms n t (41 ∷ rest) parts.1 refl)
   complete _ _ rest fit stops = cc
 
   pub fields_complete : (fields : FieldTrees) (mark : List ℕ) (ts : ValueTrees) (rest : List ℕ) → fields_fit fields ts ≡ true → Stops rest → fields_reading fields mark (shown_behind mark ts ++ rest) ≡ Some (listed ts, rest)
@@ -184,18 +184,18 @@ mutual
       one_complete (reading s) mark t ts rest (fields_reading fields comma) (complete s t (shown_behind comma ts ++ rest) parts.0 (others_stop ts rest stops))
       (fields_complete fields comma ts rest parts.1 stops)
 
-  pub arm_complete : (arms : ArmTrees) (n : ℕ) (t : ValueTree) (rest : List ℕ) → arm_fits arms n t ≡ true → Stops rest → arm_reading arms n (shown t ++ rest) ≡ Some (V.choice n t, rest)
+  pub arm_complete : (arms : ArmTrees) (n : ℕ) (t : ValueTree) (rest : List ℕ) → arm_fits arms n t ≡ true → Stops rest → arm_reading arms n (text_of_value t ++ rest) ≡ Some (V.choice n t, rest)
   arm_complete no_arms n t rest fit stops = cc
   arm_complete (more_arms name number s arms) n t rest fit stops = by_number (nat_eq n number) (λ is. complete s t rest is stops) (λ is. arm_complete arms n t rest is stops) fit
     where
-      by_number : (is : Bool) → (fits s t ≡ true → reading s (shown t ++ rest) ≡ Some (t, rest)) → (arm_fits arms n t ≡ true → arm_reading arms n (shown t ++ rest) ≡ Some (V.choice n t, rest)) → cond is (fits s t) (arm_fits arms n t) ≡ true → cond is (seen_as (λ u. V.choice n u) (reading s (shown t ++ rest))) (arm_reading arms n (shown t ++ rest)) ≡ Some (V.choice n t, rest)
+      by_number : (is : Bool) → (fits s t ≡ true → reading s (text_of_value t ++ rest) ≡ Some (t, rest)) → (arm_fits arms n t ≡ true → arm_reading arms n (text_of_value t ++ rest) ≡ Some (V.choice n t, rest)) → cond is (fits s t) (arm_fits arms n t) ≡ true → cond is (seen_as (λ u. V.choice n u) (reading s (text_of_value t ++ rest))) (arm_reading arms n (text_of_value t ++ rest)) ≡ Some (V.choice n t, rest)
       by_number true here others fit = ap (seen_as (λ u. V.choice n u)) (here fit)
       by_number false here others fit = others fit
 
 -- ---- what is read is shown
 
 abbrev pub Sounds : (List ℕ → Read ValueTree) → (ValueTree → Bool) → Type 0
-Sounds item passes = (text : List ℕ) (t : ValueTree) (rest : List ℕ) → item text ≡ Some (t, rest) → (text ≡ shown t ++ rest) × (passes t ≡ true)
+Sounds item passes = (text : List ℕ) (t : ValueTree) (rest : List ℕ) → item text ≡ Some (t, rest) → (text ≡ text_of_value t ++ rest) × (passes t ≡ true)
 
 -- a value, and others behind it
 record IsOne (passes : ValueTree → Bool) (mark text : List ℕ) (others : List ℕ → Read (List ValueTree)) (ts : List ValueTree) (rest : List ℕ) : Type 0 where
@@ -203,13 +203,13 @@ record IsOne (passes : ValueTree → Bool) (mark text : List ℕ) (others : List
   more : List ValueTree
   later : List ℕ
   are : ts ≡ first ∷ more
-  text_is : text ≡ mark ++ (shown first ++ later)
+  text_is : text ≡ mark ++ (text_of_value first ++ later)
   passing : passes first ≡ true
   others_are : others later ≡ Some (more, rest)
 
-one_sound : (item : List ℕ → Read ValueTree) (passes : ValueTree → Bool) → Sounds item passes → (mark text : List ℕ) (others : List ℕ → Read (List ValueTree)) (ts : List ValueTree) (rest : List ℕ) → behind (passed mark text) (λ inner. and_then (item inner) (λ t later. one_more t (others later))) ≡ Some (ts, rest) → IsOne passes mark text others ts rest
+one_sound : (item : List ℕ → Read ValueTree) (passes : ValueTree → Bool) → Sounds item passes → (mark text : List ℕ) (others : List ℕ → Read (List ValueTree)) (ts : List ValueTree) (rest : List ℕ) → behind (behind_prefix mark text) (λ inner. and_then (item inner) (λ t later. one_more t (others later))) ≡ Some (ts, rest) → IsOne passes mark text others ts rest
 one_sound item passes sound mark text others ts rest is =
-    let opened = behind_some (passed mark text) (λ inner. and_then (item inner) (λ t later. one_more t (others later))) (ts, rest) is in
+    let opened = behind_some (behind_prefix mark text) (λ inner. and_then (item inner) (λ t later. one_more t (others later))) (ts, rest) is in
     let value = and_then_some (item opened.0) (λ t later. one_more t (others later)) (ts, rest) opened.2 in
     let chain = seen_as_some (λ us. value.0.0 ∷ us) (others value.0.1) ts rest value.2 in
     let shown_first = sound opened.0 value.0.0 value.0.1 value.1 in
@@ -224,9 +224,9 @@ one_sound item passes sound mark text others ts rest is =
     }
 
 -- the text of a value and others
-joined : (mark text rest : List ℕ) (t : ValueTree) (us ts : List ValueTree) (later : List ℕ) → ts ≡ t ∷ us → text ≡ mark ++ (shown t ++ later) → later ≡ shown_behind comma (value_trees us) ++ rest → text ≡ shown_behind mark (value_trees ts) ++ rest
+joined : (mark text rest : List ℕ) (t : ValueTree) (us ts : List ValueTree) (later : List ℕ) → ts ≡ t ∷ us → text ≡ mark ++ (text_of_value t ++ later) → later ≡ shown_behind comma (value_trees us) ++ rest → text ≡ shown_behind mark (value_trees ts) ++ rest
 joined mark text rest t us ts later are text_is later_is =
-    text_is ∙ ap (λ x. mark ++ (shown t ++ x)) later_is ∙ sym (behind_more mark t (value_trees us) rest) ∙ ap (λ xs. shown_behind mark (value_trees xs) ++ rest) (sym are)
+    text_is ∙ ap (λ x. mark ++ (text_of_value t ++ x)) later_is ∙ sym (behind_more mark t (value_trees us) rest) ∙ ap (λ xs. shown_behind mark (value_trees xs) ++ rest) (sym are)
 
 passing_more : (passes : ValueTree → Bool) (t : ValueTree) (us ts : List ValueTree) → ts ≡ t ∷ us → passes t ≡ true → every passes (value_trees us) ≡ true → every passes (value_trees ts) ≡ true
 passing_more passes t us ts are first later = ap (λ xs. every passes (value_trees xs)) are ∙ ap (λ is. is && every passes (value_trees us)) first ∙ later
@@ -249,10 +249,10 @@ within_sound item passes sound zero mark text ts rest is =
     let parts = pair_is [] ts text rest is in
     let no = parts.0 in
     (parts.1 ∙ ap (λ xs. shown_behind mark (value_trees xs) ++ rest) no, omega (arith, ap (λ xs. count_of (value_trees xs)) no), sym (ap (λ xs. every passes (value_trees xs)) no))
-within_sound item passes sound (suc n) mark text ts rest is = by_brace (passed (codes "}") text) (within_sound item passes sound n) is
+within_sound item passes sound (suc n) mark text ts rest is = by_brace (behind_prefix (codes "}") text) (within_sound item passes sound n) is
   where
     go_on : Read (List ValueTree)
-    go_on = behind (passed mark text) (λ inner. and_then (item inner) (λ u later. one_more u (items_within item n comma later)))
+    go_on = behind (behind_prefix mark text) (λ inner. and_then (item inner) (λ u later. one_more u (items_within item n comma later)))
 
     by_brace : (r : Option (List ℕ)) → ((m later : List ℕ) (us : List ValueTree) (more : List ℕ) → items_within item n m later ≡ Some (us, more) → (later ≡ shown_behind m (value_trees us) ++ more) × (count_of (value_trees us) ≤ n) × (every passes (value_trees us) ≡ true)) → none_if text r go_on ≡ Some (ts, rest) → (text ≡ shown_behind mark (value_trees ts) ++ rest) × (count_of (value_trees ts) ≤ suc n) × (every passes (value_trees ts) ≡ true)
     by_brace (Some closed) go_further is =
@@ -274,9 +274,9 @@ enclosed_sound opening closing text rest ts read is =
     (r.0, r.2, λ inner. r.1 ∙ ap (λ x. opening ∷ x) (inner ∙ ap (λ x. x ++ (closing ∷ rest)) (items_behind (value_trees ts)) ∙ sym (append_assoc (shown_items (value_trees ts)) (closing ∷ []) rest)))
 
 truth_sound : (text rest : List ℕ) (b : Bool) → truth_read text ≡ Some (b, rest) → text ≡ truth_text b ++ rest
-truth_sound text rest b is = by_marks (passed (codes "TRUE") text) (passed (codes "FALSE") text) refl refl is
+truth_sound text rest b is = by_marks (behind_prefix (codes "TRUE") text) (behind_prefix (codes "FALSE") text) refl refl is
   where
-    by_marks : (one other : Option (List ℕ)) → passed (codes "TRUE") text ≡ one → passed (codes "FALSE") text ≡ other → truth_if one other ≡ Some (b, rest) → text ≡ truth_text b ++ rest
+    by_marks : (one other : Option (List ℕ)) → behind_prefix (codes "TRUE") text ≡ one → behind_prefix (codes "FALSE") text ≡ other → truth_if one other ≡ Some (b, rest) → text ≡ truth_text b ++ rest
     by_marks (Some later) other yes_is no_is is =
         let parts = pair_is true b later rest is in
         passed_stands (codes "TRUE") text later yes_is ∙ (λ i. truth_text (parts.0 i) ++ parts.1 i)
@@ -285,17 +285,17 @@ truth_sound text rest b is = by_marks (passed (codes "TRUE") text) (passed (code
         passed_stands (codes "FALSE") text later no_is ∙ (λ i. truth_text (parts.0 i) ++ parts.1 i)
     by_marks None None yes_is no_is is = cc
 
-label_sound : (labels : List Label) (text : List ℕ) (t : ValueTree) (rest : List ℕ) → label_read labels text ≡ Some (t, rest) → (text ≡ shown t ++ rest) × (fits (S.enumeration labels) t ≡ true)
+label_sound : (labels : List Label) (text : List ℕ) (t : ValueTree) (rest : List ℕ) → label_read labels text ≡ Some (t, rest) → (text ≡ text_of_value t ++ rest) × (fits (S.enumeration labels) t ≡ true)
 label_sound labels text t rest is =
-    let marked = behind_some (passed (codes "#") text) (λ inner. and_then (number_read 65535 inner) (λ n later. meant (label_of labels n) later)) (t, rest) is in
-    let number = and_then_some (number_read 65535 marked.0) (λ n later. meant (label_of labels n) later) (t, rest) marked.2 in
+    let marked = behind_some (behind_prefix (codes "#") text) (λ inner. and_then (number_read 65535 inner) (λ n later. read_meaning (label_of labels n) later)) (t, rest) is in
+    let number = and_then_some (number_read 65535 marked.0) (λ n later. read_meaning (label_of labels n) later) (t, rest) marked.2 in
     let spelled = number_sound 65535 number.0.0 marked.0 number.0.1 (omega arith) number.1 in
     by_label number.0.0 number.0.1 (list_any (λ (l : Label). nat_eq l.number number.0.0) labels) refl number.2 (passed_stands (codes "#") text marked.0 marked.1 ∙ ap (λ x. 35 ∷ x) spelled.0) (omega (arith, spelled.1))
   where
-    by_label : (n : ℕ) (later : List ℕ) (has : Bool) → list_any (λ (l : Label). nat_eq l.number n) labels ≡ has → meant (cond has (Some (V.enumeration n)) None) later ≡ Some (t, rest) → text ≡ 35 ∷ (decimal n ++ later) → n < 65536 → (text ≡ shown t ++ rest) × (fits (S.enumeration labels) t ≡ true)
+    by_label : (n : ℕ) (later : List ℕ) (has : Bool) → list_any (λ (l : Label). nat_eq l.number n) labels ≡ has → read_meaning (cond has (Some (V.enumeration n)) None) later ≡ Some (t, rest) → text ≡ 35 ∷ (decimal n ++ later) → n < 65536 → (text ≡ text_of_value t ++ rest) × (fits (S.enumeration labels) t ≡ true)
     by_label n later true has is spelled small =
         let parts = pair_is (V.enumeration n) t later rest is in
-        (spelled ∙ (λ i. shown (parts.0 i) ++ parts.1 i), ap (fits (S.enumeration labels)) (sym parts.0) ∙ ap (λ b. b && list_any (λ (l : Label). nat_eq l.number n) labels) (lt-ltb n 65536 small) ∙ has)
+        (spelled ∙ (λ i. text_of_value (parts.0 i) ++ parts.1 i), ap (fits (S.enumeration labels)) (sym parts.0) ∙ ap (λ b. b && list_any (λ (l : Label). nat_eq l.number n) labels) (lt-ltb n 65536 small) ∙ has)
     by_label n later false has is spelled small = cc
 
 text_sound : (text bytes rest : List ℕ) → text_read text ≡ Some (bytes, rest) → (text ≡ 34 ∷ ((shown_bytes bytes ++ 34 ∷ []) ++ rest)) × (fits S.text (V.text bytes) ≡ true)
@@ -310,53 +310,53 @@ mutual
   pub sound : (s : ShapeTree) → Sounds (reading s) (fits s)
   sound S.boolean text t rest is =
       let r = seen_as_some V.boolean (truth_read text) t rest is in
-      (truth_sound text rest r.0 r.1 ∙ ap (λ u. shown u ++ rest) (sym r.2), ap (fits S.boolean) r.2)
+      (truth_sound text rest r.0 r.1 ∙ ap (λ u. text_of_value u ++ rest) (sym r.2), ap (fits S.boolean) r.2)
   sound S.cardinal text t rest is =
       let r = seen_as_some V.cardinal (number_read 65535 text) t rest is in
       let n = number_sound 65535 r.0 text rest (omega arith) r.1 in
-      (n.0 ∙ ap (λ u. shown u ++ rest) (sym r.2), ap (fits S.cardinal) r.2 ∙ lt-ltb r.0 65536 (omega (arith, n.1)))
+      (n.0 ∙ ap (λ u. text_of_value u ++ rest) (sym r.2), ap (fits S.cardinal) r.2 ∙ lt-ltb r.0 65536 (omega (arith, n.1)))
   sound S.long_cardinal text t rest is =
       let r = seen_as_some V.long_cardinal (number_read 4294967295 text) t rest is in
       let n = number_sound 4294967295 r.0 text rest (omega arith) r.1 in
-      (n.0 ∙ ap (λ u. shown u ++ rest) (sym r.2), ap (fits S.long_cardinal) r.2 ∙ lt-ltb r.0 4294967296 (omega (arith, n.1)))
+      (n.0 ∙ ap (λ u. text_of_value u ++ rest) (sym r.2), ap (fits S.long_cardinal) r.2 ∙ lt-ltb r.0 4294967296 (omega (arith, n.1)))
   sound S.integer text t rest is =
       let r = seen_as_some V.integer (signed_read 32768 text) t rest is in
       let z = signed_sound 32768 r.0 text rest (omega arith) (omega arith) r.1 in
-      (z.0 ∙ ap (λ u. shown u ++ rest) (sym r.2), ap (fits S.integer) r.2 ∙ z.1)
+      (z.0 ∙ ap (λ u. text_of_value u ++ rest) (sym r.2), ap (fits S.integer) r.2 ∙ z.1)
   sound S.long_integer text t rest is =
       let r = seen_as_some V.long_integer (signed_read 2147483648 text) t rest is in
       let z = signed_sound 2147483648 r.0 text rest (omega arith) (omega arith) r.1 in
-      (z.0 ∙ ap (λ u. shown u ++ rest) (sym r.2), ap (fits S.long_integer) r.2 ∙ z.1)
+      (z.0 ∙ ap (λ u. text_of_value u ++ rest) (sym r.2), ap (fits S.long_integer) r.2 ∙ z.1)
   sound S.text text t rest is =
       let r = seen_as_some V.text (text_read text) t rest is in
       let bytes = text_sound text r.0 rest r.1 in
-      (bytes.0 ∙ ap (λ u. shown u ++ rest) (sym r.2), ap (fits S.text) r.2 ∙ bytes.1)
+      (bytes.0 ∙ ap (λ u. text_of_value u ++ rest) (sym r.2), ap (fits S.text) r.2 ∙ bytes.1)
   sound (S.enumeration labels) text t rest is = label_sound labels text t rest is
   sound (S.array len s) text t rest is =
       let r = seen_as_some (λ ts. V.array (value_trees ts)) (between (codes "{") (codes "}") (items_read (reading s) len []) text) t rest is in
       let inner = enclosed_sound 123 125 text rest r.0 (items_read (reading s) len []) r.1 in
       let items = items_sound (reading s) (fits s) (sound s) len [] inner.0 r.0 (125 ∷ rest) inner.1 in (
-        inner.2 items.0 ∙ ap (λ u. shown u ++ rest) (sym r.2),
+        inner.2 items.0 ∙ ap (λ u. text_of_value u ++ rest) (sym r.2),
         ap (fits (S.array len s)) r.2 ∙ ap (λ b. b && every (fits s) (value_trees r.0)) (eq-eqb (count_of (value_trees r.0)) len items.1) ∙ items.2,
       )
   sound (S.sequence bound s) text t rest is =
       let r = seen_as_some (λ ts. V.sequence (value_trees ts)) (between (codes "{") (codes "}") (items_within (reading s) bound []) text) t rest is in
       let inner = enclosed_sound 123 125 text rest r.0 (items_within (reading s) bound []) r.1 in
       let items = within_sound (reading s) (fits s) (sound s) bound [] inner.0 r.0 (125 ∷ rest) inner.1 in (
-        inner.2 items.0 ∙ ap (λ u. shown u ++ rest) (sym r.2),
+        inner.2 items.0 ∙ ap (λ u. text_of_value u ++ rest) (sym r.2),
         ap (fits (S.sequence bound s)) r.2 ∙ ap (λ b. b && every (fits s) (value_trees r.0)) (le-leb (count_of (value_trees r.0)) bound items.1) ∙ items.2,
       )
   sound (S.«record» fields) text t rest is =
       let r = seen_as_some (λ ts. V.«record» (value_trees ts)) (between (codes "[") (codes "]") (fields_reading fields []) text) t rest is in
       let inner = enclosed_sound 91 93 text rest r.0 (fields_reading fields []) r.1 in
       let items = fields_sound fields [] inner.0 r.0 (93 ∷ rest) inner.1 in
-      (inner.2 items.0 ∙ ap (λ u. shown u ++ rest) (sym r.2), ap (fits (S.«record» fields)) r.2 ∙ items.1)
+      (inner.2 items.0 ∙ ap (λ u. text_of_value u ++ rest) (sym r.2), ap (fits (S.«record» fields)) r.2 ∙ items.1)
   sound (S.choice arms) text t rest is =
       let number = and_then_some (number_read 65535 text) (λ n later. between (codes "(") (codes ")") (arm_reading arms n) later) (t, rest) is in
       let spelled = number_sound 65535 number.0.0 text number.0.1 (omega arith) number.1 in
       let inner = between_sound (40 ∷ []) (41 ∷ []) number.0.1 rest (arm_reading arms number.0.0) t number.2 in
       let arm = arm_sound arms number.0.0 inner.0 t (41 ∷ rest) inner.2 in (
-        spelled.0 ∙ ap (λ x. decimal number.0.0 ++ x) (inner.1 ∙ ap (λ x. 40 ∷ x) (arm.2.0 ∙ sym (append_assoc (shown arm.0) (41 ∷ []) rest))) ∙ sym (append_assoc (decimal number.0.0) (40 ∷ (shown arm.0 ++ 41 ∷ [])) rest) ∙ ap (λ u. shown u ++ rest) (sym arm.1),
+        spelled.0 ∙ ap (λ x. decimal number.0.0 ++ x) (inner.1 ∙ ap (λ x. 40 ∷ x) (arm.2.0 ∙ sym (append_assoc (text_of_value arm.0) (41 ∷ []) rest))) ∙ sym (append_assoc (decimal number.0.0) (40 ∷ (text_of_value arm.0 ++ 41 ∷ [])) rest) ∙ ap (λ u. text_of_value u ++ rest) (sym arm.1),
         ap (fits (S.choice arms)) arm.1 ∙ ap (λ b. b && arm_fits arms number.0.0 arm.0) (lt-ltb number.0.0 65536 (omega (arith, spelled.1))) ∙ arm.2.1,
       )
 
@@ -372,11 +372,11 @@ mutual
         ap (λ xs. fields_fit (more_fields name s fields) (value_trees xs)) one.are ∙ ap (λ b. b && fields_fit fields (value_trees one.more)) one.passing ∙ later.1,
       )
 
-  pub arm_sound : (arms : ArmTrees) (n : ℕ) (text : List ℕ) (t : ValueTree) (rest : List ℕ) → arm_reading arms n text ≡ Some (t, rest) → (u : ValueTree) × (t ≡ V.choice n u) × ((text ≡ shown u ++ rest) × (arm_fits arms n u ≡ true))
+  pub arm_sound : (arms : ArmTrees) (n : ℕ) (text : List ℕ) (t : ValueTree) (rest : List ℕ) → arm_reading arms n text ≡ Some (t, rest) → (u : ValueTree) × (t ≡ V.choice n u) × ((text ≡ text_of_value u ++ rest) × (arm_fits arms n u ≡ true))
   arm_sound no_arms n text t rest is = cc
   arm_sound (more_arms name number s arms) n text t rest is = by_number (nat_eq n number) refl (sound s text) (arm_sound arms n text t rest) is
     where
-      by_number : (same : Bool) → nat_eq n number ≡ same → ((u : ValueTree) (more : List ℕ) → reading s text ≡ Some (u, more) → (text ≡ shown u ++ more) × (fits s u ≡ true)) → (arm_reading arms n text ≡ Some (t, rest) → (u : ValueTree) × (t ≡ V.choice n u) × ((text ≡ shown u ++ rest) × (arm_fits arms n u ≡ true))) → cond same (seen_as (λ u. V.choice n u) (reading s text)) (arm_reading arms n text) ≡ Some (t, rest) → (u : ValueTree) × (t ≡ V.choice n u) × ((text ≡ shown u ++ rest) × (cond (nat_eq n number) (fits s u) (arm_fits arms n u) ≡ true))
+      by_number : (same : Bool) → nat_eq n number ≡ same → ((u : ValueTree) (more : List ℕ) → reading s text ≡ Some (u, more) → (text ≡ text_of_value u ++ more) × (fits s u ≡ true)) → (arm_reading arms n text ≡ Some (t, rest) → (u : ValueTree) × (t ≡ V.choice n u) × ((text ≡ text_of_value u ++ rest) × (arm_fits arms n u ≡ true))) → cond same (seen_as (λ u. V.choice n u) (reading s text)) (arm_reading arms n text) ≡ Some (t, rest) → (u : ValueTree) × (t ≡ V.choice n u) × ((text ≡ text_of_value u ++ rest) × (cond (nat_eq n number) (fits s u) (arm_fits arms n u) ≡ true))
       by_number true same here others is =
           let r = seen_as_some (λ u. V.choice n u) (reading s text) t rest is in
           let value = here r.0 rest r.1 in

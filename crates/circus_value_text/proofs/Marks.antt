@@ -1,20 +1,20 @@
 -- Marks that stand in front, and what stands between two.
 use Rattle.std.proofs.Common.{◌≡◌, ◌∙◌, ℕ, Bool, true, false, cond, nat_eq, List, [], ◌∷◌, ◌++◌, Option, Some, None, refl, sym, ap, eq-eqb}
 use Rattle.std.proofs.lemmas.Bool.{eqb-true}
-use Rattle.circus_value_text.specs.Reading.{Read, and_then, seen_as, passed, behind, ended, between}
+use Rattle.circus_value_text.specs.Reading.{Read, and_then, seen_as, behind_prefix, behind, with_end, between}
 
 -- a mark that stands in front is passed
-pub passed_front : (front text : List ℕ) → passed front (front ++ text) ≡ Some text
+pub passed_front : (front text : List ℕ) → behind_prefix front (front ++ text) ≡ Some text
 passed_front [] text = refl
-passed_front (b ∷ front) text = ap (λ same. cond same (passed front (front ++ text)) None) (eq-eqb b b refl) ∙ passed_front front text
+passed_front (b ∷ front) text = ap (λ same. cond same (behind_prefix front (front ++ text)) None) (eq-eqb b b refl) ∙ passed_front front text
 
 -- and what is passed stands in front
-pub passed_stands : (front text rest : List ℕ) → passed front text ≡ Some rest → text ≡ front ++ rest
+pub passed_stands : (front text rest : List ℕ) → behind_prefix front text ≡ Some rest → text ≡ front ++ rest
 passed_stands [] text rest is = cc
 passed_stands (b ∷ front) [] rest is = cc
 passed_stands (b ∷ front) (c ∷ text) rest is = by_byte (nat_eq c b) refl (passed_stands front text rest) is
   where
-    by_byte : (same : Bool) → nat_eq c b ≡ same → (passed front text ≡ Some rest → text ≡ front ++ rest) → cond same (passed front text) None ≡ Some rest → c ∷ text ≡ b ∷ (front ++ rest)
+    by_byte : (same : Bool) → nat_eq c b ≡ same → (behind_prefix front text ≡ Some rest → text ≡ front ++ rest) → cond same (behind_prefix front text) None ≡ Some rest → c ∷ text ≡ b ∷ (front ++ rest)
     by_byte true same others is =
         let here : c ≡ b = eqb-true c b same in
         let later : text ≡ front ++ rest = others is in
@@ -47,15 +47,15 @@ seen_as_some f None b rest is = cc
 
 pub between_complete : {A : Type 0} (opening closing inner rest : List ℕ) (read : List ℕ → Read A) (a : A) → read (inner ++ (closing ++ rest)) ≡ Some (a, closing ++ rest) → between opening closing read (opening ++ (inner ++ (closing ++ rest))) ≡ Some (a, rest)
 between_complete opening closing inner rest read a is =
-    ap (λ r. behind r (λ text. ended closing (read text))) (passed_front opening (inner ++ (closing ++ rest)))
-    ∙ ap (ended closing) is
+    ap (λ r. behind r (λ text. with_end closing (read text))) (passed_front opening (inner ++ (closing ++ rest)))
+    ∙ ap (with_end closing) is
     ∙ ap (λ r. behind r (λ later. Some (a, later))) (passed_front closing rest)
 
 pub between_sound : {A : Type 0} (opening closing text rest : List ℕ) (read : List ℕ → Read A) (a : A) → between opening closing read text ≡ Some (a, rest) → (inner : List ℕ) × (text ≡ opening ++ inner) × (read inner ≡ Some (a, closing ++ rest))
 between_sound opening closing text rest read a is =
-    let opened = behind_some (passed opening text) (λ inner. ended closing (read inner)) (a, rest) is in
-    let inner = and_then_some (read opened.0) (λ b more. behind (passed closing more) (λ later. Some (b, later))) (a, rest) opened.2 in
-    let closed = behind_some (passed closing inner.0.1) (λ later. Some (inner.0.0, later)) (a, rest) inner.2 in
+    let opened = behind_some (behind_prefix opening text) (λ inner. with_end closing (read inner)) (a, rest) is in
+    let inner = and_then_some (read opened.0) (λ b more. behind (behind_prefix closing more) (λ later. Some (b, later))) (a, rest) opened.2 in
+    let closed = behind_some (behind_prefix closing inner.0.1) (λ later. Some (inner.0.0, later)) (a, rest) inner.2 in
     let parts = pair_is inner.0.0 a closed.0 rest closed.2 in
     let stands : inner.0.1 ≡ closing ++ rest = passed_stands closing inner.0.1 closed.0 closed.1 ∙ ap (λ x. closing ++ x) parts.1 in
     (opened.0, passed_stands opening text opened.0 opened.1, inner.1 ∙ (λ i. Some (parts.0 i, stands i)))

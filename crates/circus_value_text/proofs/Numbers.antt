@@ -11,7 +11,7 @@ use Rattle.std.proofs.lemmas.Fmt.{decimal-digits_value, digits_decimal, digits_v
 use Rattle.std.proofs.lemmas.Str.Parse.{digit_from_value}
 use Rattle.circus_value.specs.Fits.{is_signed_below}
 use Rattle.circus_schedule.proofs.Numerals.{own, decimal_begins}
-use Rattle.circus_value_text.specs.Reading.{and_then, seen_as, passed, meant, is_numeral, number_of, number_read, negated, negative_read, by_sign, signed_read}
+use Rattle.circus_value_text.specs.Reading.{and_then, seen_as, behind_prefix, read_meaning, is_numeral, number_of, number_read, negate, negative_read, by_sign, signed_read}
 use Rattle.circus_value_text.specs.Stopping.{Stops}
 use Rattle.circus_value_text.proofs.Marks.{pair_is, passed_stands, and_then_some, seen_as_some}
 
@@ -100,12 +100,12 @@ take_exactly (x ∷ xs) ys = ap (λ zs. x ∷ zs) (take_exactly xs ys)
 pub number_complete : (greatest n : ℕ) (rest : List ℕ) → n ≤ greatest → greatest < 2 ^ 64 → Stops rest → number_read greatest (decimal n ++ rest) ≡ Some (n, rest)
 number_complete greatest n rest small short stops =
     let count : prefix_len is_ascii_digit (decimal n ++ rest) ≡ length (decimal n) = digits_before (decimal n) rest (digits_decimal own n (omega arith)) stops in
-    ap (λ k. meant (number_of greatest (take k (decimal n ++ rest))) (drop k (decimal n ++ rest))) count
-    ∙ ap (λ digits. meant (number_of greatest digits) (drop (length (decimal n)) (decimal n ++ rest))) (take_exactly (decimal n) rest)
-    ∙ ap (λ found. meant found (drop (length (decimal n)) (decimal n ++ rest))) (number_of_decimal greatest n small short)
+    ap (λ k. read_meaning (number_of greatest (take k (decimal n ++ rest))) (drop k (decimal n ++ rest))) count
+    ∙ ap (λ digits. read_meaning (number_of greatest digits) (drop (length (decimal n)) (decimal n ++ rest))) (take_exactly (decimal n) rest)
+    ∙ ap (λ found. read_meaning found (drop (length (decimal n)) (decimal n ++ rest))) (number_of_decimal greatest n small short)
     ∙ ap (λ later. Some (n, later)) (drop_exactly (decimal n) rest)
 
-meant_some : {A : Type 0} (found : Option A) (later : List ℕ) (a : A) (rest : List ℕ) → meant found later ≡ Some (a, rest) → (found ≡ Some a) × (later ≡ rest)
+meant_some : {A : Type 0} (found : Option A) (later : List ℕ) (a : A) (rest : List ℕ) → read_meaning found later ≡ Some (a, rest) → (found ≡ Some a) × (later ≡ rest)
 meant_some (Some b) later a rest is = let parts = pair_is b a later rest is in ((λ i. Some (parts.0 i)), parts.1)
 meant_some None later a rest is = cc
 
@@ -119,16 +119,16 @@ number_sound greatest n text rest short is =
 -- ---- signed numbers
 
 -- a mark that is no digit begins no number
-no_number : (mark : ℕ) (digits rest : List ℕ) → ((d : ℕ) → IsInRange 48 57 d → d ≡ mark → ⊥) → AllDigits 10 digits → 0 < length digits → passed (mark ∷ []) (digits ++ rest) ≡ None
+no_number : (mark : ℕ) (digits rest : List ℕ) → ((d : ℕ) → IsInRange 48 57 d → d ≡ mark → ⊥) → AllDigits 10 digits → 0 < length digits → behind_prefix (mark ∷ []) (digits ++ rest) ≡ None
 no_number mark [] rest other all some = absurd (omega (arith, some))
 no_number mark (b ∷ digits) rest other all some =
     ap (λ same. cond same (Some (digits ++ rest)) None) (ne_eqb b mark (other b (digit_from_value b all.0)))
 
-no_sign : (digits : List ℕ) (rest : List ℕ) → AllDigits 10 digits → 0 < length digits → passed (45 ∷ []) (digits ++ rest) ≡ None
+no_sign : (digits : List ℕ) (rest : List ℕ) → AllDigits 10 digits → 0 < length digits → behind_prefix (45 ∷ []) (digits ++ rest) ≡ None
 no_sign digits rest all some = no_number 45 digits rest (λ d range same. omega (arith, range, same)) all some
 
 -- as a closing brace
-pub no_brace : (n : ℕ) (rest : List ℕ) → n < 2 ^ 64 → passed (125 ∷ []) (decimal n ++ rest) ≡ None
+pub no_brace : (n : ℕ) (rest : List ℕ) → n < 2 ^ 64 → behind_prefix (125 ∷ []) (decimal n ++ rest) ≡ None
 no_brace n rest small = no_number 125 (decimal n) rest (λ d range same. omega (arith, range, same)) (digits_decimal own n small) (decimal_begins n small).0
 
 pub signed_complete : (limit : ℕ) (z : ℤ) (rest : List ℕ) → is_signed_below limit z ≡ true → limit < 2 ^ 63 → Stops rest → signed_read limit (signed_decimal z ++ rest) ≡ Some (z, rest)
@@ -139,14 +139,14 @@ signed_complete limit (pos n) rest below small stops =
     ∙ ap (seen_as (λ (m : ℕ). pos m)) (number_complete (limit - 1) n rest (omega (arith, less)) (omega arith) stops)
 signed_complete limit (negsuc n) rest below small stops =
     let less : n < limit = ltb-true n limit below in
-    ap (λ r. and_then r (λ m later. meant (negated m) later)) (number_complete limit (suc n) rest (omega (arith, less)) (omega arith) stops)
+    ap (λ r. and_then r (λ m later. read_meaning (negate m) later)) (number_complete limit (suc n) rest (omega (arith, less)) (omega arith) stops)
 
 pub negative_sound : (limit : ℕ) (z : ℤ) (text rest : List ℕ) → limit < 2 ^ 63 → negative_read limit text ≡ Some (z, rest) → (45 ∷ text ≡ signed_decimal z ++ rest) × (is_signed_below limit z ≡ true)
 negative_sound limit z text rest small is =
-    let read = and_then_some (number_read limit text) (λ m later. meant (negated m) later) (z, rest) is in
+    let read = and_then_some (number_read limit text) (λ m later. read_meaning (negate m) later) (z, rest) is in
     by_number read.0.0 read.0.1 read.1 read.2
   where
-    by_number : (m : ℕ) (later : List ℕ) → number_read limit text ≡ Some (m, later) → meant (negated m) later ≡ Some (z, rest) → (45 ∷ text ≡ signed_decimal z ++ rest) × (is_signed_below limit z ≡ true)
+    by_number : (m : ℕ) (later : List ℕ) → number_read limit text ≡ Some (m, later) → read_meaning (negate m) later ≡ Some (z, rest) → (45 ∷ text ≡ signed_decimal z ++ rest) × (is_signed_below limit z ≡ true)
     by_number zero later read is = cc
     by_number (suc m) later read is =
         let parts = pair_is (negsuc m) z later rest is in
@@ -156,9 +156,9 @@ negative_sound limit z text rest small is =
         (ap (λ x. 45 ∷ x) spelled.0 ∙ (λ i. signed_decimal (parts.0 i) ++ parts.1 i), sym (ap (is_signed_below limit) parts.0) ∙ below)
 
 pub signed_sound : (limit : ℕ) (z : ℤ) (text rest : List ℕ) → 1 ≤ limit → limit < 2 ^ 63 → signed_read limit text ≡ Some (z, rest) → (text ≡ signed_decimal z ++ rest) × (is_signed_below limit z ≡ true)
-signed_sound limit z text rest some small is = by_mark (passed (45 ∷ []) text) refl is
+signed_sound limit z text rest some small is = by_mark (behind_prefix (45 ∷ []) text) refl is
   where
-    by_mark : (r : Option (List ℕ)) → passed (45 ∷ []) text ≡ r → by_sign limit text r ≡ Some (z, rest) → (text ≡ signed_decimal z ++ rest) × (is_signed_below limit z ≡ true)
+    by_mark : (r : Option (List ℕ)) → behind_prefix (45 ∷ []) text ≡ r → by_sign limit text r ≡ Some (z, rest) → (text ≡ signed_decimal z ++ rest) × (is_signed_below limit z ≡ true)
     by_mark (Some digits) mark is =
         let read = negative_sound limit z digits rest small is in
         (passed_stands (45 ∷ []) text digits mark ∙ read.0, read.1)

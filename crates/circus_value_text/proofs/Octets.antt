@@ -4,7 +4,7 @@ use Rattle.std.specs.List.{list_all}
 use Rattle.std.proofs.lemmas.Bool.{eqb-true, and_parts, ltb-true}
 use Rattle.std.proofs.lemmas.Bool.Decides.{nat_tests}
 use Rattle.circus_value.specs.Shown.{hexadecimal_digit, is_plain, shown_byte, shown_bytes}
-use Rattle.circus_value_text.specs.Reading.{Read, seen_as, meant, nibble, hidden_byte, hidden_read, octet_read, octets_if, octets_read}
+use Rattle.circus_value_text.specs.Reading.{Read, seen_as, read_meaning, nibble, hidden_byte, hidden_read, octet_read, octets_if, octets_read}
 use Rattle.circus_value_text.proofs.Marks.{pair_is, seen_as_some}
 
 -- ---- digits
@@ -33,10 +33,10 @@ octet_complete b rest small = by_plain (is_plain b) refl
         ap (λ mark. cond mark (hidden_read rest) (cond (is_plain b) (Some (b, rest)) None)) no_mark
         ∙ ap (λ plain. cond plain (Some (b, rest)) None) is
     by_plain false is =
-        ap (λ high. meant (hidden_byte high (nibble (hexadecimal_digit (b % 16)))) rest) (nibble_of (b / 16) (omega arith))
-        ∙ ap (λ low. meant (hidden_byte (Some (b / 16)) low) rest) (nibble_of (b % 16) (omega arith))
-        ∙ ap (λ n. meant (cond (is_plain n) None (Some n)) rest) whole
-        ∙ ap (λ plain. meant (cond plain None (Some b)) rest) is
+        ap (λ high. read_meaning (hidden_byte high (nibble (hexadecimal_digit (b % 16)))) rest) (nibble_of (b / 16) (omega arith))
+        ∙ ap (λ low. read_meaning (hidden_byte (Some (b / 16)) low) rest) (nibble_of (b % 16) (omega arith))
+        ∙ ap (λ n. read_meaning (cond (is_plain n) None (Some n)) rest) whole
+        ∙ ap (λ plain. read_meaning (cond plain None (Some b)) rest) is
 
 hidden_sound : (high low b : ℕ) → hidden_byte (nibble high) (nibble low) ≡ Some b → (92 ∷ high ∷ low ∷ [] ≡ shown_byte b) × (b < 256)
 hidden_sound high low b is = by_digits (nibble high) (nibble low) refl refl is
@@ -59,7 +59,7 @@ hidden_sound high low b is = by_digits (nibble high) (nibble low) refl refl is
     by_digits (Some h) None high_is low_is is = cc
     by_digits None l high_is low_is is = cc
 
-meant_is : (found : Option ℕ) (later : List ℕ) (b : ℕ) (rest : List ℕ) → meant found later ≡ Some (b, rest) → (found ≡ Some b) × (later ≡ rest)
+meant_is : (found : Option ℕ) (later : List ℕ) (b : ℕ) (rest : List ℕ) → read_meaning found later ≡ Some (b, rest) → (found ≡ Some b) × (later ≡ rest)
 meant_is (Some a) later b rest is = let parts = pair_is a b later rest is in ((λ i. Some (parts.0 i)), parts.1)
 meant_is None later b rest is = cc
 

@@ -4,7 +4,7 @@ use Rattle.std.specs.Char.{is_ascii_digit}
 use Rattle.std.specs.Fmt.{decimal}
 use Rattle.std.specs.List.{prefix_len, position_or_len}
 use Rattle.std.specs.Str.Parse.{AllDigits}
-use Rattle.circus_value_text.specs.Reading.{Read, seen_as, passed, meant, number_of, number_read, octet_read, octets_if, octets_read, behind, ended, between}
+use Rattle.circus_value_text.specs.Reading.{Read, seen_as, behind_prefix, read_meaning, number_of, number_read, octet_read, octets_if, octets_read, behind, with_end, between}
 use Rattle.circus_value_text.specs.declared.unread.Unread.{Unread}
 use Rattle.circus_value_text.specs.declared.unread.Unread.TheVariants as unread
 use Rattle.circus_value_text.specs.Seen.Given.{Gives}
@@ -13,13 +13,13 @@ use Rattle.circus_value_text.proofs.Numbers.{all_digits, decimal_of_number, numb
 
 -- ---- marks
 
-pub passed_where : (front text rest : List ℕ) → text ≡ front ++ rest → passed front text ≡ Some rest
-passed_where front text rest is = ap (passed front) is ∙ passed_front front rest
+pub passed_where : (front text rest : List ℕ) → text ≡ front ++ rest → behind_prefix front text ≡ Some rest
+passed_where front text rest is = ap (behind_prefix front) is ∙ passed_front front rest
 
-pub passed_nowhere : (front text : List ℕ) → ((rest : List ℕ) → text ≢ front ++ rest) → passed front text ≡ None
-passed_nowhere front text none = by_answer (passed front text) refl
+pub passed_nowhere : (front text : List ℕ) → ((rest : List ℕ) → text ≢ front ++ rest) → behind_prefix front text ≡ None
+passed_nowhere front text none = by_answer (behind_prefix front text) refl
   where
-    by_answer : (r : Option (List ℕ)) → passed front text ≡ r → r ≡ None
+    by_answer : (r : Option (List ℕ)) → behind_prefix front text ≡ r → r ≡ None
     by_answer (Some rest) is = absurd (none rest (passed_stands front text rest is))
     by_answer None is = refl
 
@@ -64,16 +64,16 @@ no_other p xs r is none = by_order (nat_lt (position_or_len (λ x. not (p x)) xs
 
 pub number_found : (greatest n k : ℕ) (text : List ℕ) → k ≡ prefix_len is_ascii_digit text → take k text ≡ decimal n → n ≤ greatest → greatest < 2 ^ 64 → number_read greatest text ≡ Some (n, drop k text)
 number_found greatest n k text count digits small short =
-    ap (λ j. meant (number_of greatest (take j text)) (drop j text)) (sym count)
-    ∙ ap (λ ds. meant (number_of greatest ds) (drop k text)) digits
-    ∙ ap (λ r. meant r (drop k text)) (number_of_decimal greatest n small short)
+    ap (λ j. read_meaning (number_of greatest (take j text)) (drop j text)) (sym count)
+    ∙ ap (λ ds. read_meaning (number_of greatest ds) (drop k text)) digits
+    ∙ ap (λ r. read_meaning r (drop k text)) (number_of_decimal greatest n small short)
 
 pub number_missing : (greatest k : ℕ) (text : List ℕ) → k ≡ prefix_len is_ascii_digit text → ((n : ℕ) → n ≤ greatest → take k text ≢ decimal n) → greatest < 2 ^ 64 → number_read greatest text ≡ None
 number_missing greatest k text count none short =
-    ap (λ j. meant (number_of greatest (take j text)) (drop j text)) (sym count)
+    ap (λ j. read_meaning (number_of greatest (take j text)) (drop j text)) (sym count)
     ∙ by_number (number_of greatest (take k text)) refl
   where
-    by_number : (r : Option ℕ) → number_of greatest (take k text) ≡ r → meant r (drop k text) ≡ None
+    by_number : (r : Option ℕ) → number_of greatest (take k text) ≡ r → read_meaning r (drop k text) ≡ None
     by_number (Some n) is =
         let spelled = decimal_of_number greatest n (take k text) short (subst (λ j. AllDigits 10 (take j text)) (sym count) (all_digits text)) is in
         absurd (none n spelled.1 spelled.0)
@@ -117,7 +117,7 @@ found_behind text at len x answer within short is =
 
 -- ---- between two marks
 
-pub between_fault : {X Y Z : Type 0} (tree : Y → X) (other : Z → X) (octets : List ℕ) (f : Unread) (opening closing text inner : List ℕ) (read : List ℕ → Read X) → passed opening text ≡ Some inner → Gives tree octets (Err f) (read inner) → Gives other octets (Err f) (between opening closing read text)
+pub between_fault : {X Y Z : Type 0} (tree : Y → X) (other : Z → X) (octets : List ℕ) (f : Unread) (opening closing text inner : List ℕ) (read : List ℕ → Read X) → behind_prefix opening text ≡ Some inner → Gives tree octets (Err f) (read inner) → Gives other octets (Err f) (between opening closing read text)
 between_fault tree other octets unread.Unlike opening closing text inner read mark fault =
-    ap (λ r. behind r (λ x. ended closing (read x))) mark ∙ ap (ended closing) fault
+    ap (λ r. behind r (λ x. with_end closing (read x))) mark ∙ ap (with_end closing) fault
 between_fault tree other octets unread.NoMemory opening closing text inner read mark fault = tt

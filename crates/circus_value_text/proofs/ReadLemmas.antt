@@ -10,7 +10,7 @@ use Rattle.circus_value.specs.Seen.ShapeWeight.{weight, arm_weights}
 use Rattle.circus_value.specs.ArmShape.{arm_shape}
 use Rattle.circus_value_text.specs.declared.unread.Unread.{Unread}
 use Rattle.circus_value_text.specs.declared.unread.Unread.TheVariants as unread
-use Rattle.circus_value_text.specs.Reading.{Read, and_then, seen_as, passed, behind, comma, one_more, items_read, none_if, items_within, reading, fields_reading, arm_reading}
+use Rattle.circus_value_text.specs.Reading.{Read, and_then, seen_as, behind_prefix, behind, comma, one_more, items_read, none_if, items_within, reading, fields_reading, arm_reading}
 use Rattle.circus_value_text.specs.Seen.Given.{Gives, mark_behind, next_read, stands}
 
 -- these values in front of the others
@@ -31,29 +31,29 @@ mark_more (u ∷ done) t = refl
 
 -- a value behind a mark, and others
 abbrev pub one_read : List ℕ → (List ℕ → Read ValueTree) → (List ℕ → List ℕ → Read (List ValueTree)) → List ℕ → Read (List ValueTree)
-one_read mark item others text = behind (passed mark text) (λ inner. and_then (item inner) (λ t rest. one_more t (others comma rest)))
+one_read mark item others text = behind (behind_prefix mark text) (λ inner. and_then (item inner) (λ t rest. one_more t (others comma rest)))
 
 behind_then : (p : Option (List ℕ)) (item : List ℕ → Read ValueTree) (go_on : ValueTree → List ℕ → Read (List ValueTree)) → behind p (λ inner. and_then (item inner) go_on) ≡ and_then (behind p item) go_on
 behind_then (Some inner) item go_on = refl
 behind_then None item go_on = refl
 
 -- one more value was read
-more : (mark : List ℕ) (item : List ℕ → Read ValueTree) (others : List ℕ → List ℕ → Read (List ValueTree)) (done : List ValueTree) (t : ValueTree) (text rest : List ℕ) → behind (passed mark text) item ≡ Some (t, rest) → before done (one_read mark item others text) ≡ before (done ++ t ∷ []) (others (mark_behind (done ++ t ∷ [])) rest)
+more : (mark : List ℕ) (item : List ℕ → Read ValueTree) (others : List ℕ → List ℕ → Read (List ValueTree)) (done : List ValueTree) (t : ValueTree) (text rest : List ℕ) → behind (behind_prefix mark text) item ≡ Some (t, rest) → before done (one_read mark item others text) ≡ before (done ++ t ∷ []) (others (mark_behind (done ++ t ∷ [])) rest)
 more mark item others done t text rest next =
-    ap (before done) (behind_then (passed mark text) item (λ u later. one_more u (others comma later)))
+    ap (before done) (behind_then (behind_prefix mark text) item (λ u later. one_more u (others comma later)))
     ∙ ap (λ r. before done (and_then r (λ u later. one_more u (others comma later)))) next
     ∙ before_more done t (others comma rest)
     ∙ ap (λ m. before (done ++ t ∷ []) (others m rest)) (sym (mark_more done t))
 
 -- or none could be
-no_more : {W : Type 0} (tree : W → ValueTree) (octets : List ℕ) (f : Unread) (mark : List ℕ) (item : List ℕ → Read ValueTree) (others : List ℕ → List ℕ → Read (List ValueTree)) (done : List ValueTree) (text : List ℕ) (whole : Read (List ValueTree)) → Gives tree octets (Err f) (behind (passed mark text) item) → whole ≡ before done (one_read mark item others text) → Gives (λ (ts : List ValueTree). ts) octets (Err f) whole
+no_more : {W : Type 0} (tree : W → ValueTree) (octets : List ℕ) (f : Unread) (mark : List ℕ) (item : List ℕ → Read ValueTree) (others : List ℕ → List ℕ → Read (List ValueTree)) (done : List ValueTree) (text : List ℕ) (whole : Read (List ValueTree)) → Gives tree octets (Err f) (behind (behind_prefix mark text) item) → whole ≡ before done (one_read mark item others text) → Gives (λ (ts : List ValueTree). ts) octets (Err f) whole
 no_more tree octets unread.Unlike mark item others done text whole fault is =
-    is ∙ ap (before done) (behind_then (passed mark text) item (λ u later. one_more u (others comma later)))
+    is ∙ ap (before done) (behind_then (behind_prefix mark text) item (λ u later. one_more u (others comma later)))
     ∙ ap (λ r. before done (and_then r (λ u later. one_more u (others comma later)))) fault
 no_more tree octets unread.NoMemory mark item others done text whole fault is = tt
 
 -- what is read behind a mark
-pub behind_gives : {X Y : Type 0} (tree : Y → X) (octets : List ℕ) (r : Result (Y × ℕ) Unread) (mark text inner : List ℕ) (read : List ℕ → Read X) → passed mark text ≡ Some inner → Gives tree octets r (read inner) → Gives tree octets r (behind (passed mark text) read)
+pub behind_gives : {X Y : Type 0} (tree : Y → X) (octets : List ℕ) (r : Result (Y × ℕ) Unread) (mark text inner : List ℕ) (read : List ℕ → Read X) → behind_prefix mark text ≡ Some inner → Gives tree octets r (read inner) → Gives tree octets r (behind (behind_prefix mark text) read)
 behind_gives tree octets r mark text inner read is gives = subst (λ p. Gives tree octets r (behind p read)) (sym is) gives
 
 -- ---- items
@@ -84,7 +84,7 @@ items_all item count i done mark text whole all is =
 abbrev pub within_left : (List ℕ → Read ValueTree) → ℕ → ℕ → List ℕ → List ℕ → Read (List ValueTree)
 within_left item bound i mark text = items_within item (bound - i) mark text
 
-within_are : (item : List ℕ → Read ValueTree) (bound i : ℕ) (mark text : List ℕ) → i < bound → within_left item bound i mark text ≡ none_if text (passed (codes "}") text) (one_read mark item (within_left item bound (i + 1)) text)
+within_are : (item : List ℕ → Read ValueTree) (bound i : ℕ) (mark text : List ℕ) → i < bound → within_left item bound i mark text ≡ none_if text (behind_prefix (codes "}") text) (one_read mark item (within_left item bound (i + 1)) text)
 within_are item bound i mark text few =
     let left : bound - i ≡ suc (bound - (i + 1)) = omega arith in
     ap (λ n. items_within item n mark text) left
@@ -99,11 +99,11 @@ others_where None text others brace = refl
 
 unclosed : (item : List ℕ → Read ValueTree) (bound i : ℕ) (mark text : List ℕ) → i < bound → stands (codes "}") text ≡ false → within_left item bound i mark text ≡ one_read mark item (within_left item bound (i + 1)) text
 unclosed item bound i mark text few brace =
-    within_are item bound i mark text few ∙ others_where (passed (codes "}") text) text (one_read mark item (within_left item bound (i + 1)) text) brace
+    within_are item bound i mark text few ∙ others_where (behind_prefix (codes "}") text) text (one_read mark item (within_left item bound (i + 1)) text) brace
 
 pub within_closed : (item : List ℕ → Read ValueTree) (bound i : ℕ) (done : List ValueTree) (mark text : List ℕ) (whole : Read (List ValueTree)) → i < bound → stands (codes "}") text ≡ true → whole ≡ before done (within_left item bound i mark text) → whole ≡ Some (done, text)
 within_closed item bound i done mark text whole few brace all =
-    all ∙ ap (before done) (within_are item bound i mark text few ∙ none_where (passed (codes "}") text) text (one_read mark item (within_left item bound (i + 1)) text) brace)
+    all ∙ ap (before done) (within_are item bound i mark text few ∙ none_where (behind_prefix (codes "}") text) text (one_read mark item (within_left item bound (i + 1)) text) brace)
     ∙ ap (λ ts. Some (ts, text)) (append-nil done)
 
 pub within_more : (item : List ℕ → Read ValueTree) (bound i : ℕ) (done : List ValueTree) (t : ValueTree) (text rest : List ℕ) (whole : Read (List ValueTree)) → i < bound → stands (codes "}") text ≡ false → next_read done item text ≡ Some (t, rest) → whole ≡ before done (within_left item bound i (mark_behind done) text) → whole ≡ before (done ++ t ∷ []) (within_left item bound (i + 1) (mark_behind (done ++ t ∷ [])) rest)

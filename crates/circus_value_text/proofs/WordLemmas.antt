@@ -1,7 +1,7 @@
 -- Reading one number, or one byte, behind another.
 use Rattle.std.proofs.Common.{◌≡◌, ◌∙◌, ℕ, suc, ◌+◌, ◌-◌, ◌<◌, ◌≤◌, List, [], ◌∷◌, ◌++◌, length, get_or, take, drop, codes, Option, Some, None, option_map, refl, sym, ap, arith, append_assoc, append-nil}
 use Rattle.std.proofs.Math.Seq.{take-length}
-use Rattle.circus_value_text.specs.Reading.{Read, and_then, passed, behind, number_read}
+use Rattle.circus_value_text.specs.Reading.{Read, and_then, behind_prefix, behind, number_read}
 use Rattle.circus_value_text.specs.WordReading.{number_more, counts_read, asks_if, asks_read, byte_of, byte_more, bytes_of}
 use Rattle.circus_value_text.specs.Seen.Given.{count_mark}
 use Rattle.circus_value_text.proofs.PieceLemmas.{octets_before}
@@ -16,7 +16,7 @@ mark_more (m ∷ done) n = refl
 
 -- ---- counts
 
-pub counts_more : (count i n : ℕ) (done text inner rest : List ℕ) (whole : Read (List ℕ)) → i < count → passed (count_mark done) text ≡ Some inner → number_read 4294967295 inner ≡ Some (n, rest) → whole ≡ octets_before done (counts_read (count - i) (count_mark done) text) → whole ≡ octets_before (done ++ n ∷ []) (counts_read (count - (i + 1)) (count_mark (done ++ n ∷ [])) rest)
+pub counts_more : (count i n : ℕ) (done text inner rest : List ℕ) (whole : Read (List ℕ)) → i < count → behind_prefix (count_mark done) text ≡ Some inner → number_read 4294967295 inner ≡ Some (n, rest) → whole ≡ octets_before done (counts_read (count - i) (count_mark done) text) → whole ≡ octets_before (done ++ n ∷ []) (counts_read (count - (i + 1)) (count_mark (done ++ n ∷ [])) rest)
 counts_more count i n done text inner rest whole few mark number all =
     let left : count - i ≡ suc (count - (i + 1)) = omega arith in
     let go_on = λ (m : ℕ) (later : List ℕ). number_more m (counts_read (count - (i + 1)) (codes ",") later) in
@@ -28,7 +28,7 @@ counts_more count i n done text inner rest whole few mark number all =
 
 -- ---- asks
 
-pub asks_more : (most i n : ℕ) (done text inner rest : List ℕ) (whole : Read (List ℕ)) → i < most → passed (codes ".") text ≡ Some inner → number_read 65535 inner ≡ Some (n, rest) → whole ≡ octets_before done (asks_read (most - i) text) → whole ≡ octets_before (done ++ n ∷ []) (asks_read (most - (i + 1)) rest)
+pub asks_more : (most i n : ℕ) (done text inner rest : List ℕ) (whole : Read (List ℕ)) → i < most → behind_prefix (codes ".") text ≡ Some inner → number_read 65535 inner ≡ Some (n, rest) → whole ≡ octets_before done (asks_read (most - i) text) → whole ≡ octets_before (done ++ n ∷ []) (asks_read (most - (i + 1)) rest)
 asks_more most i n done text inner rest whole few mark number all =
     let left : most - i ≡ suc (most - (i + 1)) = omega arith in
     let go_on = λ (m : ℕ) (later : List ℕ). number_more m (asks_read (most - (i + 1)) later) in
@@ -37,7 +37,7 @@ asks_more most i n done text inner rest whole few mark number all =
     ∙ ap (λ r. octets_before done (and_then r go_on)) number
     ∙ before_more done n (asks_read (most - (i + 1)) rest)
 
-pub asks_end : (most i : ℕ) (done text : List ℕ) (whole : Read (List ℕ)) → i < most → passed (codes ".") text ≡ None → whole ≡ octets_before done (asks_read (most - i) text) → whole ≡ Some (done, text)
+pub asks_end : (most i : ℕ) (done text : List ℕ) (whole : Read (List ℕ)) → i < most → behind_prefix (codes ".") text ≡ None → whole ≡ octets_before done (asks_read (most - i) text) → whole ≡ Some (done, text)
 asks_end most i done text whole few mark all =
     let left : most - i ≡ suc (most - (i + 1)) = omega arith in
     all ∙ ap (λ k. octets_before done (asks_read k text)) left

@@ -5,7 +5,7 @@ use Rattle.std.specs.List.{AllByRecursion}
 use Rattle.hex.specs.Hex.{lower_digits, encode_with, encode_lower}
 use Rattle.circus_value.specs.Shown.{hexadecimal_digit}
 use Rattle.circus_value.specs.ThreadText.{numbers_behind, clock_text}
-use Rattle.circus_value_text.specs.Reading.{Read, and_then, passed, behind, number_read, nibble}
+use Rattle.circus_value_text.specs.Reading.{Read, and_then, behind_prefix, behind, number_read, nibble}
 use Rattle.circus_value_text.specs.WordReading.{number_more, counts_read, asks_if, asks_read, pair_of, byte_of, byte_more, bytes_of}
 use Rattle.circus_value_text.specs.Stopping.{Stops}
 use Rattle.circus_value_text.proofs.Marks.{pair_is, passed_front, passed_stands, behind_some, and_then_some, seen_as_some}
@@ -43,7 +43,7 @@ counts_complete mark (n ∷ ns) rest small stops =
     let go_on = λ (m : ℕ) (later : List ℕ). number_more m (counts_read (length ns) (codes ",") later) in
     let later = counts_text (codes ",") ns ++ rest in
     let first : n < 2 ^ 32 = small.0 in
-    ap (λ text. behind (passed mark text) (λ inner. and_then (number_read 4294967295 inner) go_on)) (more_counts mark ns rest n)
+    ap (λ text. behind (behind_prefix mark text) (λ inner. and_then (number_read 4294967295 inner) go_on)) (more_counts mark ns rest n)
     ∙ ap (λ r. behind r (λ inner. and_then (number_read 4294967295 inner) go_on)) (passed_front mark (decimal n ++ later))
     ∙ ap (λ r. and_then r go_on) (number_complete 4294967295 n later (omega (arith, first)) (omega arith) (commas_stop ns rest stops))
     ∙ ap (number_more n) (counts_complete (codes ",") ns rest small.1 stops)
@@ -81,7 +81,7 @@ counts_sound zero mark text ns rest is =
     let parts = pair_is [] ns text rest is in
     (parts.1 ∙ ap (λ ms. counts_text mark ms ++ rest) parts.0, sym (ap length parts.0), subst (AllByRecursion (λ n. n < 2 ^ 32)) parts.0 tt)
 counts_sound (suc count) mark text ns rest is =
-    let opened = behind_some (passed mark text) (λ inner. and_then (number_read 4294967295 inner) (λ n later. number_more n (counts_read count (codes ",") later))) (ns, rest) is in
+    let opened = behind_some (behind_prefix mark text) (λ inner. and_then (number_read 4294967295 inner) (λ n later. number_more n (counts_read count (codes ",") later))) (ns, rest) is in
     let one = one_number 4294967295 opened.0 (counts_read count (codes ",")) ns rest (omega arith) opened.2 in
     let others = counts_sound count (codes ",") one.later one.more rest one.others_are in (
       passed_stands mark text opened.0 opened.1 ∙ ap (λ x. mark ++ x) (one.text_is ∙ ap (λ x. decimal one.first ++ x) others.0) ∙ sym (more_counts mark one.more rest one.first) ∙ ap (λ ms. counts_text mark ms ++ rest) (sym one.are),
@@ -100,7 +100,7 @@ asks_stop : (ns rest : List ℕ) → Stops rest → Stops (numbers_behind 46 ns 
 asks_stop [] rest stops = stops
 asks_stop (n ∷ ns) rest stops = refl
 
-pub asks_complete : (most : ℕ) (ns rest : List ℕ) → length ns ≤ most → AllByRecursion (λ n. n < 2 ^ 16) ns → Stops rest → passed (codes ".") rest ≡ None → asks_read most (numbers_behind 46 ns ++ rest) ≡ Some (ns, rest)
+pub asks_complete : (most : ℕ) (ns rest : List ℕ) → length ns ≤ most → AllByRecursion (λ n. n < 2 ^ 16) ns → Stops rest → behind_prefix (codes ".") rest ≡ None → asks_read most (numbers_behind 46 ns ++ rest) ≡ Some (ns, rest)
 asks_complete zero [] rest few small stops ends = refl
 asks_complete (suc most) [] rest few small stops ends = ap (λ r. asks_if rest r (λ inner. and_then (number_read 65535 inner) (λ n later. number_more n (asks_read most later)))) ends
 asks_complete zero (n ∷ ns) rest few small stops ends = absurd (omega (arith, few))
@@ -118,9 +118,9 @@ no_asks text ns rest is =
 
 pub asks_sound : (most : ℕ) (text ns rest : List ℕ) → asks_read most text ≡ Some (ns, rest) → (text ≡ numbers_behind 46 ns ++ rest) × AllByRecursion (λ n. n < 2 ^ 16) ns
 asks_sound zero text ns rest is = no_asks text ns rest is
-asks_sound (suc most) text ns rest is = by_point (passed (codes ".") text) refl (asks_sound most) is
+asks_sound (suc most) text ns rest is = by_point (behind_prefix (codes ".") text) refl (asks_sound most) is
   where
-    by_point : (r : Option (List ℕ)) → passed (codes ".") text ≡ r → ((later ms more : List ℕ) → asks_read most later ≡ Some (ms, more) → (later ≡ numbers_behind 46 ms ++ more) × AllByRecursion (λ n. n < 2 ^ 16) ms) → asks_if text r (λ inner. and_then (number_read 65535 inner) (λ n later. number_more n (asks_read most later))) ≡ Some (ns, rest) → (text ≡ numbers_behind 46 ns ++ rest) × AllByRecursion (λ n. n < 2 ^ 16) ns
+    by_point : (r : Option (List ℕ)) → behind_prefix (codes ".") text ≡ r → ((later ms more : List ℕ) → asks_read most later ≡ Some (ms, more) → (later ≡ numbers_behind 46 ms ++ more) × AllByRecursion (λ n. n < 2 ^ 16) ms) → asks_if text r (λ inner. and_then (number_read 65535 inner) (λ n later. number_more n (asks_read most later))) ≡ Some (ns, rest) → (text ≡ numbers_behind 46 ns ++ rest) × AllByRecursion (λ n. n < 2 ^ 16) ns
     by_point (Some inner) point go_on is =
         let one = one_number 65535 inner (asks_read most) ns rest (omega arith) is in
         let others = go_on one.later one.more rest one.others_are in (

@@ -23,22 +23,22 @@ seen_as f (Some r) = Some (f r.0, r.1)
 seen_as f None = None
 
 -- what stands behind this, where the text begins with it
-abbrev pub passed : List ℕ → List ℕ → Option (List ℕ)
-passed [] text = Some text
-passed (b ∷ front) [] = None
-passed (b ∷ front) (c ∷ text) = cond (c == b) (passed front text) None
+abbrev pub behind_prefix : List ℕ → List ℕ → Option (List ℕ)
+behind_prefix [] text = Some text
+behind_prefix (b ∷ front) [] = None
+behind_prefix (b ∷ front) (c ∷ text) = cond (c == b) (behind_prefix front text) None
 
 abbrev pub behind : {B : Type 0} → Option (List ℕ) → (List ℕ → Read B) → Read B
 behind (Some rest) f = f rest
 behind None f = None
 
 -- what is read where this stands behind it
-abbrev pub ended : {A : Type 0} → List ℕ → Read A → Read A
-ended closing r = and_then r (λ a rest. behind (passed closing rest) (λ later. Some (a, later)))
+abbrev pub with_end : {A : Type 0} → List ℕ → Read A → Read A
+with_end closing r = and_then r (λ a rest. behind (behind_prefix closing rest) (λ later. Some (a, later)))
 
 -- what is read between two marks
 abbrev pub between : {A : Type 0} → List ℕ → List ℕ → (List ℕ → Read A) → List ℕ → Read A
-between opening closing read text = behind (passed opening text) (λ inner. ended closing (read inner))
+between opening closing read text = behind (behind_prefix opening text) (λ inner. with_end closing (read inner))
 
 -- ---- numbers
 
@@ -55,21 +55,21 @@ abbrev pub number_of : ℕ → List ℕ → Option ℕ
 number_of greatest digits =
     cond (is_numeral digits && nat_le (digits_value 10 digits) greatest) (Some (digits_value 10 digits)) None
 
-abbrev pub meant : {A : Type 0} → Option A → List ℕ → Read A
-meant (Some a) rest = Some (a, rest)
-meant None rest = None
+abbrev pub read_meaning : {A : Type 0} → Option A → List ℕ → Read A
+read_meaning (Some a) rest = Some (a, rest)
+read_meaning None rest = None
 
 -- all digits in front, as a number of at most the greatest
 abbrev pub number_read : ℕ → List ℕ → Read ℕ
 number_read greatest text =
-    let digits = prefix_len is_ascii_digit text in meant (number_of greatest (take digits text)) (drop digits text)
+    let digits = prefix_len is_ascii_digit text in read_meaning (number_of greatest (take digits text)) (drop digits text)
 
-abbrev pub negated : ℕ → Option ℤ
-negated zero = None
-negated (suc n) = Some (negsuc n)
+abbrev pub negate : ℕ → Option ℤ
+negate zero = None
+negate (suc n) = Some (negsuc n)
 
 abbrev pub negative_read : ℕ → List ℕ → Read ℤ
-negative_read limit digits = and_then (number_read limit digits) (λ n rest. meant (negated n) rest)
+negative_read limit digits = and_then (number_read limit digits) (λ n rest. read_meaning (negate n) rest)
 
 -- a number, by the digits behind a minus sign, or by those of the text where there is none
 abbrev pub by_sign : ℕ → List ℕ → Option (List ℕ) → Read ℤ
@@ -78,7 +78,7 @@ by_sign limit text None = seen_as (λ n. pos n) (number_read (limit - 1) text)
 
 -- a number from -limit to limit - 1
 abbrev pub signed_read : ℕ → List ℕ → Read ℤ
-signed_read limit text = by_sign limit text (passed (codes "-") text)
+signed_read limit text = by_sign limit text (behind_prefix (codes "-") text)
 
 -- ---- the bytes of a string
 
@@ -96,7 +96,7 @@ hidden_byte None _ = None
 abbrev pub hidden_read : List ℕ → Read ℕ
 hidden_read [] = None
 hidden_read (high ∷ []) = None
-hidden_read (high ∷ low ∷ text) = meant (hidden_byte (nibble high) (nibble low)) text
+hidden_read (high ∷ low ∷ text) = read_meaning (hidden_byte (nibble high) (nibble low)) text
 
 -- a byte: itself, or behind a backslash
 abbrev pub octet_read : List ℕ → Read ℕ
@@ -129,7 +129,7 @@ one_more t r = seen_as (λ ts. t ∷ ts) r
 abbrev pub items_read : (List ℕ → Read ValueTree) → ℕ → List ℕ → List ℕ → Read (List ValueTree)
 items_read item zero mark text = Some ([], text)
 items_read item (suc count) mark text =
-    behind (passed mark text) (λ inner. and_then (item inner) (λ t rest. one_more t (items_read item count comma rest)))
+    behind (behind_prefix mark text) (λ inner. and_then (item inner) (λ t rest. one_more t (items_read item count comma rest)))
 
 -- no values where a mark stands, else others
 abbrev pub none_if : List ℕ → Option (List ℕ) → Read (List ValueTree) → Read (List ValueTree)
@@ -140,8 +140,8 @@ none_if text None others = others
 abbrev pub items_within : (List ℕ → Read ValueTree) → ℕ → List ℕ → List ℕ → Read (List ValueTree)
 items_within item zero mark text = Some ([], text)
 items_within item (suc bound) mark text =
-    none_if text (passed (codes "}") text)
-    (behind (passed mark text) (λ inner. and_then (item inner) (λ t rest. one_more t (items_within item bound comma rest))))
+    none_if text (behind_prefix (codes "}") text)
+    (behind (behind_prefix mark text) (λ inner. and_then (item inner) (λ t rest. one_more t (items_within item bound comma rest))))
 
 -- ---- values
 
@@ -151,13 +151,13 @@ truth_if None (Some rest) = Some (false, rest)
 truth_if None None = None
 
 abbrev pub truth_read : List ℕ → Read Bool
-truth_read text = truth_if (passed (codes "TRUE") text) (passed (codes "FALSE") text)
+truth_read text = truth_if (behind_prefix (codes "TRUE") text) (behind_prefix (codes "FALSE") text)
 
 abbrev pub label_of : List Label → ℕ → Option ValueTree
 label_of labels n = cond (list_any (λ (l : Label). l.number == n) labels) (Some (V.enumeration n)) None
 
 abbrev pub label_read : List Label → List ℕ → Read ValueTree
-label_read labels text = behind (passed (codes "#") text) (λ inner. and_then (number_read 65535 inner) (λ n rest. meant (label_of labels n) rest))
+label_read labels text = behind (behind_prefix (codes "#") text) (λ inner. and_then (number_read 65535 inner) (λ n rest. read_meaning (label_of labels n) rest))
 
 abbrev mutual
   -- a value of the shape
@@ -182,7 +182,7 @@ abbrev mutual
   pub fields_reading : FieldTrees → List ℕ → List ℕ → Read (List ValueTree)
   fields_reading no_fields = λ mark text. Some ([], text)
   fields_reading (more_fields _ shape fields) =
-      λ mark text. behind (passed mark text) (λ inner. and_then (reading shape inner) (λ t rest. one_more t (fields_reading fields comma rest)))
+      λ mark text. behind (behind_prefix mark text) (λ inner. and_then (reading shape inner) (λ t rest. one_more t (fields_reading fields comma rest)))
 
   -- a value of the first arm with this number
   pub arm_reading : ArmTrees → ℕ → List ℕ → Read ValueTree

@@ -1,6 +1,6 @@
 -- Reading clocks, the asks of a path, and bytes in hexadecimal digits, from the front on.
 use Rattle.std.specs.Prelude.{ℕ, zero, suc, ◌+◌, ◌*◌, List, [], ◌∷◌, codes, Option, Some, None}
-use Rattle.circus_value_text.specs.Reading.{Read, and_then, seen_as, passed, behind, number_read, nibble}
+use Rattle.circus_value_text.specs.Reading.{Read, and_then, seen_as, behind_prefix, behind, number_read, nibble}
 
 -- a number in front of others
 abbrev pub number_more : ℕ → Read (List ℕ) → Read (List ℕ)
@@ -10,7 +10,7 @@ number_more n r = seen_as (λ ns. n ∷ ns) r
 abbrev pub counts_read : ℕ → List ℕ → List ℕ → Read (List ℕ)
 counts_read zero mark text = Some ([], text)
 counts_read (suc count) mark text =
-    behind (passed mark text) (λ inner. and_then (number_read 4294967295 inner) (λ n rest. number_more n (counts_read count (codes ",") rest)))
+    behind (behind_prefix mark text) (λ inner. and_then (number_read 4294967295 inner) (λ n rest. number_more n (counts_read count (codes ",") rest)))
 
 -- no numbers where no mark stands, else others
 abbrev pub asks_if : List ℕ → Option (List ℕ) → (List ℕ → Read (List ℕ)) → Read (List ℕ)
@@ -21,7 +21,7 @@ asks_if text None others = Some ([], text)
 abbrev pub asks_read : ℕ → List ℕ → Read (List ℕ)
 asks_read zero text = Some ([], text)
 asks_read (suc most) text =
-    asks_if text (passed (codes ".") text) (λ inner. and_then (number_read 65535 inner) (λ n rest. number_more n (asks_read most rest)))
+    asks_if text (behind_prefix (codes ".") text) (λ inner. and_then (number_read 65535 inner) (λ n rest. number_more n (asks_read most rest)))
 
 -- the byte of two digits
 abbrev pub pair_of : Option ℕ → Option ℕ → Option ℕ

@@ -3,7 +3,7 @@ ghost use Rattle.std.specs.Prelude.{◌≡◌, ◌++◌, ℕ, List, Some, true};
 ghost use Rattle.circus_value.specs.ValueTree.{ValueTree, value_trees};
 ghost use Rattle.circus_value.specs.ShapeTree.{ShapeTree, FieldTrees};
 ghost use Rattle.circus_value.specs.Fits.{fits, fields_fit};
-ghost use Rattle.circus_value.specs.Shown.{shown, shown_list};
+ghost use Rattle.circus_value.specs.Shown.{text_of_value, shown_list};
 ghost use Rattle.circus_value_text.specs.Reading.{reading, list_reading};
 ghost use Rattle.circus_value_text.specs.Stopping.{Stops};
 
@@ -11,14 +11,14 @@ ghost use Rattle.circus_value_text.specs.Stopping.{Stops};
 pub fn shown_is_read()
     ensures { (shape : ShapeTree) (value : ValueTree) (rest : List ℕ)
         → fits shape value ≡ true → Stops rest
-        → reading shape (shown value ++ rest) ≡ Some (value, rest) }
+        → reading shape (text_of_value value ++ rest) ≡ Some (value, rest) }
 {}
 
 /// What is read as a value is the text of one that fits.
 pub fn read_is_shown()
     ensures { (shape : ShapeTree) (text : List ℕ) (value : ValueTree) (rest : List ℕ)
         → reading shape text ≡ Some (value, rest)
-        → (text ≡ shown value ++ rest) × (fits shape value ≡ true) }
+        → (text ≡ text_of_value value ++ rest) × (fits shape value ≡ true) }
 {}
 
 /// The text of a list of values that fit is read as the list.

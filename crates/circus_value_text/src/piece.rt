@@ -33,7 +33,7 @@ pub(crate) fn rest_at(text: &[u8], at: usize) -> &[u8]
 /// The place behind a mark that stands at a place. `None` exactly where another text stands there. It takes no memory.
 pub fn behind_mark(text: &[u8], at: usize, mark: &[u8]) -> Option<usize>
     requires { at ≤ length text.now }
-    ensures { IsPassed text.now result (reading.passed mark.now (drop at text.now)) }
+    ensures { IsPassed text.now result (reading.behind_prefix mark.now (drop at text.now)) }
 {
     if rest_at(text, at).starts_with(mark) {
         Some(at + mark.len())
@@ -45,7 +45,7 @@ pub fn behind_mark(text: &[u8], at: usize, mark: &[u8]) -> Option<usize>
 /// The place behind a mark that stands at a place, or `Unlike` where another text stands there. It takes no memory.
 pub fn pass(text: &[u8], at: usize, mark: &[u8]) -> Result<usize, Unread>
     requires { at ≤ length text.now }
-    ensures { PassesTo text.now result (reading.passed mark.now (drop at text.now)) }
+    ensures { PassesTo text.now result (reading.behind_prefix mark.now (drop at text.now)) }
 {
     match behind_mark(text, at, mark) {
         Some(next) => Ok(next),

@@ -3,7 +3,7 @@ ghost use Rattle.std.specs.Prelude.{◌≡◌, ◌++◌, ◌<◌, ◌≤◌, ◌
 ghost use Rattle.std.specs.List.{AllByRecursion};
 ghost use Rattle.hex.specs.Hex.{encode_lower};
 ghost use Rattle.circus_value.specs.ThreadText.{clock_text, numbers_behind};
-ghost use Rattle.circus_value_text.specs.Reading.{passed};
+ghost use Rattle.circus_value_text.specs.Reading.{behind_prefix};
 ghost use Rattle.circus_value_text.specs.WordReading.{counts_read, asks_read, bytes_of};
 ghost use Rattle.circus_value_text.specs.Stopping.{Stops};
 
@@ -24,7 +24,7 @@ pub fn read_clock_is_shown()
 /// The asks of a path are read, where neither a digit nor a point stands behind them.
 pub fn asks_are_read()
     ensures { (most : ℕ) (path rest : List ℕ) → length path ≤ most
-        → AllByRecursion (λ n. n < 2 ^ 16) path → Stops rest → passed (codes ".") rest ≡ None
+        → AllByRecursion (λ n. n < 2 ^ 16) path → Stops rest → behind_prefix (codes ".") rest ≡ None
         → asks_read most (numbers_behind 46 path ++ rest) ≡ Some (path, rest) }
 {}
 

@@ -76,7 +76,7 @@ module _ {M : Type 0} (declared : M → Signature) (turn : M → List ValueTree 
         hosts : option_map does h.hosted ≡ option_and_then (slice_get (behaviours declared turn first modules)) (troupe_at d given.node)
         hosts = h.is_hosted ∙ sym (does_there modules (troupe_at d given.node))
 
-        at_boot : booting.booted declared turn first d h.hosted given.node ≡ Err peer → behind_all d (option_map does h.hosted) given.node (came_later (came_as given.events)) ≡ Err peer
+        at_boot : booting.boot_node declared turn first d h.hosted given.node ≡ Err peer → behind_all d (option_map does h.hosted) given.node (came_later (came_as given.events)) ≡ Err peer
         at_boot is = ends_at_boot declared turn first d h.hosted given.node peer (came_later (came_as given.events)) is
 
         among : EndsAmong declared turn first d given.node h.hosted boot later peer → behind_all d (option_map does h.hosted) given.node (came_later (came_as given.events)) ≡ Err peer

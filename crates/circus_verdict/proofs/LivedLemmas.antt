@@ -75,7 +75,7 @@ module _ {M : Type 0} (declared : M → Signature) (turn : M → List ValueTree 
   -- one event more
   pub lived_on : (boot : GivenEvent) (before : List GivenEvent) (core next : NodeState M) (is_told still : Bool) (awaited : Option (List ℕ)) (told : GivenEvent) (event : Event) (outputs : Outputs)
       → (h : HasLived declared turn first d node hosted boot before core is_told awaited) → told.event ≡ Some event → ComesSo d node event
-      → Decides still ((boot ∷ before ≡ events_in h.lived) × IsSaid told outputs) → step.stepped declared turn (length before + 1) event core ≡ Ok (next, outputs)
+      → Decides still ((boot ∷ before ≡ events_in h.lived) × IsSaid told outputs) → step.step_node declared turn (length before + 1) event core ≡ Ok (next, outputs)
       → HasLived declared turn first d node hosted boot (before ++ told ∷ []) next still (option_and_then (awaited_by event outputs.suspects) awaited)
   lived_on boot before core next is_told still awaited told event outputs h came comes parts is = record {
     lived = stepped h.lived (length before + 1) event (effects_in declared turn (length before + 1) event core) outputs;

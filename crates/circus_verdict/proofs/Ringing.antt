@@ -80,7 +80,7 @@ module _ {M : Type 0} (declared : M → Signature) (turn : M → List ValueTree 
   boot_makes_nothing : (made_at_boot declared turn first d (home_of d node) None).came.effects ≡ []
   boot_makes_nothing = elim (home_of d node) as (λ h. (made_at_boot declared turn first d h None).came.effects ≡ []) [ None ↦ refl | (Some home) ↦ refl ]
 
-  boot_tells_nothing : (n : NodeState M) (outputs : Outputs) → booting.booted declared turn first d None node ≡ Ok (n, outputs) → outputs.differences ≡ []
+  boot_tells_nothing : (n : NodeState M) (outputs : Outputs) → booting.boot_node declared turn first d None node ≡ Ok (n, outputs) → outputs.differences ≡ []
   boot_tells_nothing n outputs is = by_sending (all_handed (sent (fresh_wire d node) []) m.came.effects) is ∙ none
     where
       m : Made M
@@ -89,7 +89,7 @@ module _ {M : Type 0} (declared : M → Signature) (turn : M → List ValueTree 
       none : (made_at_boot declared turn first d (home_of d node) None).came.differences ≡ []
       none = elim (home_of d node) as (λ h. (made_at_boot declared turn first d h None).came.differences ≡ []) [ None ↦ refl | (Some home) ↦ refl ]
 
-      by_sending : (s : Sending) → node_step.ended (record { deployment = d; wire = fresh_wire d node; acting = m.acting; dropped = 0 }) m.came s ≡ Ok (n, outputs) → outputs.differences ≡ m.came.differences
+      by_sending : (s : Sending) → node_step.end_step (record { deployment = d; wire = fresh_wire d node; acting = m.acting; dropped = 0 }) m.came s ≡ Ok (n, outputs) → outputs.differences ≡ m.came.differences
       by_sending (sent w gives) ends =
           let same = same_ok _ _ ends in
           sym (ap (λ (e : NodeState M × Outputs). e.1.differences) same)

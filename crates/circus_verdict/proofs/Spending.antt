@@ -39,7 +39,7 @@ more_events at [] fs n m is =
     let same = same_ok n m is in
     let here : at ≡ at + 0 = omega arith in
     λ i. behind_events (here i) fs (same i)
-more_events at (e ∷ es) fs n m is = by_step (λ k goes. more_events (at + 1) es fs k m goes) (step.stepped declared_of turn_of at e n) is
+more_events at (e ∷ es) fs n m is = by_step (λ k goes. more_events (at + 1) es fs k m goes) (step.step_node declared_of turn_of at e n) is
   where
     later : at + 1 + length es ≡ at + length (e ∷ es)
     later = omega arith
@@ -57,7 +57,7 @@ more_behind es fs m (Err peer) goes = absurd (err_ok peer m goes)
 
 pub more_all : (d : Deployment) (hosted : Option Behaviour) (node : ℕ) (es fs : List Event) (m : NodeState Behaviour) → behind_all d hosted node es ≡ Ok m
     → behind_all d hosted node (es ++ fs) ≡ behind_events (1 + length es) fs m
-more_all d hosted node es fs m goes = more_behind es fs m (booting.booted declared_of turn_of first_of d hosted node) goes
+more_all d hosted node es fs m goes = more_behind es fs m (booting.boot_node declared_of turn_of first_of d hosted node) goes
 
 -- ---- the events of a trace
 
@@ -83,12 +83,12 @@ module _ {M : Type 0} (declared : M → Signature) (turn : M → List ValueTree 
 
   -- one step more
   pub one_step : (t : Trace) (before : NodeState M) (event : Event) (r : Ended M) → IsNumbered t → behind_all d does node (later_in t) ≡ Ok (seen before)
-      → step.stepped declared turn (now t + 1) event before ≡ r → (rest : List Event)
+      → step.step_node declared turn (now t + 1) event before ≡ r → (rest : List Event)
       → behind_all d does node (later_in t ++ event ∷ rest) ≡ behind_step (behind_events (1 + length (later_in t) + 1) rest) (ended_as declared turn first r)
   one_step t before event r numbered goes is rest =
       let at : 1 + length (later_in t) ≡ now t + 1 = (let many = as_many t numbered in omega (arith, many)) in
-      let same : step.stepped declared_of turn_of (1 + length (later_in t)) event (seen before) ≡ ended_as declared turn first r =
-      ap (λ k. step.stepped declared_of turn_of k event (seen before)) at ∙ sym (node_stepped_as declared turn first (now t + 1) event before) ∙ ap (ended_as declared turn first) is in
+      let same : step.step_node declared_of turn_of (1 + length (later_in t)) event (seen before) ≡ ended_as declared turn first r =
+      ap (λ k. step.step_node declared_of turn_of k event (seen before)) at ∙ sym (node_stepped_as declared turn first (now t + 1) event before) ∙ ap (ended_as declared turn first) is in
       more_all d does node (later_in t) (event ∷ rest) (seen before) goes ∙ ap (behind_step (behind_events (1 + length (later_in t) + 1) rest)) same
 
   pub comes_through : (t : Trace) (n : NodeState M) → StandsFor declared turn first d hosted node t n → IsNumbered t → behind_all d does node (later_in t) ≡ Ok (seen n)
@@ -96,16 +96,16 @@ module _ {M : Type 0} (declared : M → Signature) (turn : M → List ValueTree 
       ap (behind_step (behind_events 1 [])) (sym (node_booted_as declared turn first d hosted node) ∙ ap (ended_as declared turn first) stands.0)
   comes_through (stepped t at event made outputs) n stands numbered =
       let before = comes_through t stands.0 stands.1 numbered.0 in
-      let is : step.stepped declared turn (now t + 1) event stands.0 ≡ Ok (n, outputs) = ap (λ k. step.stepped declared turn k event stands.0) (sym numbered.1) ∙ stands.2 in
+      let is : step.step_node declared turn (now t + 1) event stands.0 ≡ Ok (n, outputs) = ap (λ k. step.step_node declared turn k event stands.0) (sym numbered.1) ∙ stands.2 in
       ap (behind_all d does node) (later_on t event) ∙ one_step t stands.0 event (Ok (n, outputs)) numbered.0 before is []
 
   -- no number was left to it at boot
-  pub ends_at_boot : (peer : ℕ) (events : List Event) → booting.booted declared turn first d hosted node ≡ Err peer → behind_all d does node events ≡ Err peer
+  pub ends_at_boot : (peer : ℕ) (events : List Event) → booting.boot_node declared turn first d hosted node ≡ Err peer → behind_all d does node events ≡ Err peer
   ends_at_boot peer events is =
       ap (behind_step (behind_events 1 events)) (sym (node_booted_as declared turn first d hosted node) ∙ ap (ended_as declared turn first) is)
 
   -- or in a step
   pub ends_in : (t : Trace) (before : NodeState M) (event : Event) (peer : ℕ) (rest : List Event) → StandsFor declared turn first d hosted node t before → IsNumbered t
-      → step.stepped declared turn (now t + 1) event before ≡ Err peer → behind_all d does node (later_in t ++ event ∷ rest) ≡ Err peer
+      → step.step_node declared turn (now t + 1) event before ≡ Err peer → behind_all d does node (later_in t ++ event ∷ rest) ≡ Err peer
   ends_in t before event peer rest stands numbered is =
       one_step t before event (Err peer) numbered (comes_through t before stands numbered) is rest

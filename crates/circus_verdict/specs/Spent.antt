@@ -5,9 +5,9 @@ use Rattle.std.specs.Option.{option_to_list}
 use Rattle.circus_collate.specs.declared.deployment.Deployment.{Deployment}
 use Rattle.circus_model.specs.Behaviour.{Behaviour}
 use Rattle.circus_node.specs.Accepting.{troupe_at}
-use Rattle.circus_node.specs.Booting.{booted}
+use Rattle.circus_node.specs.Booting.{boot_node}
 use Rattle.circus_node.specs.NodeState.{NodeState}
-use Rattle.circus_node.specs.Step.{Ended, stepped}
+use Rattle.circus_node.specs.Step.{Ended, step_node}
 use Rattle.circus_node.specs.declared.event.Event.{Event}
 use Rattle.circus_alike.specs.Alike.{declared_of, turn_of, first_of}
 use Rattle.circus_audit.specs.declared.given.GivenEvent.{GivenEvent}
@@ -25,11 +25,11 @@ behind_step goes_on (Err peer) = Err peer
 -- behind events, of which the first comes in this step
 abbrev pub behind_events : ℕ → List Event → NodeState Behaviour → Result (NodeState Behaviour) ℕ
 behind_events at [] n = Ok n
-behind_events at (event ∷ events) n = behind_step (behind_events (at + 1) events) (stepped declared_of turn_of at event n)
+behind_events at (event ∷ events) n = behind_step (behind_events (at + 1) events) (step_node declared_of turn_of at event n)
 
 -- behind boot and events, where it hosts this
 abbrev pub behind_all : Deployment → Option Behaviour → ℕ → List Event → Result (NodeState Behaviour) ℕ
-behind_all d hosted node events = behind_step (behind_events 1 events) (booted declared_of turn_of first_of d hosted node)
+behind_all d hosted node events = behind_step (behind_events 1 events) (boot_node declared_of turn_of first_of d hosted node)
 
 -- in the events of a record no number is left to its node
 abbrev pub IsSpent : Deployment → List Behaviour → Given → Type 0

@@ -5,16 +5,16 @@ use Rattle.std.proofs.lemmas.Bool.{ne_eqb, ltb-true, ltb-false}
 use Rattle.std.proofs.lemmas.Bool.Decides.{eqb_tells}
 use Rattle.std.proofs.lemmas.List.{length-set}
 use Rattle.std.proofs.lemmas.Option.{slice_get_read, slice_get_past, slice_get_within, get_or_from_slice_get}
-use Rattle.circus_wire.specs.Wire.{PeerState, WireState, place_of, node_at, changed_at, changed, peer_at, of_peer, Remains, IsOther}
+use Rattle.circus_wire.specs.Wire.{PeerState, WireState, place_of, node_at, changed_at, change_peer, peer_at, of_peer, Remains, IsOther}
 use Rattle.circus_wire.specs.Seen.Kept.{AreKept}
 use Rattle.circus_wire.proofs.Places.{set_is, place_within}
 
 module _ {P : Type 0} where
-  pub state_is : (w : WireState P) (own format node place : ℕ) (peers : List (PeerState P)) (old new : PeerState P) (change : PeerState P → PeerState P) → ◌≡◌ {A = WireState P} (record { own = own; format = format; peers = peers }) w → place ≡ place_of own node → slice_get peers place ≡ Some old → new ≡ change old → ◌≡◌ {A = WireState P} (record { own = own; format = format; peers = set peers place new }) (changed change w node)
+  pub state_is : (w : WireState P) (own format node place : ℕ) (peers : List (PeerState P)) (old new : PeerState P) (change : PeerState P → PeerState P) → ◌≡◌ {A = WireState P} (record { own = own; format = format; peers = peers }) w → place ≡ place_of own node → slice_get peers place ≡ Some old → new ≡ change old → ◌≡◌ {A = WireState P} (record { own = own; format = format; peers = set peers place new }) (change_peer change w node)
   state_is w own format node place peers old new change is at here then_ =
       ap (λ (ps : List (PeerState P)). let x : WireState P = record { own = own; format = format; peers = ps } in x)
       (ap (set peers place) then_ ∙ set_is change peers place old here ∙ ap (λ n. changed_at change peers n) at)
-      ∙ ap (λ (x : WireState P). changed change x node) is
+      ∙ ap (λ (x : WireState P). change_peer change x node) is
 
   -- the pair with a node, where it is in a list of pairs
   pub record Found (own : ℕ) (peers : List (PeerState P)) (node : ℕ) (Q : PeerState P → Type 0) : Type 0 where

@@ -12,7 +12,7 @@ use Rattle.circus_exchange.specs.Exchange.{start, takes, arrived_after}
 use Rattle.circus_exchange.proofs.Ties.{nat_ties}
 use Rattle.circus_pair.specs.Taken.{is_of, has_arrived, message_in}
 use Rattle.circus_pair.specs.Acts.{Came, Acts, more, end_after, taken_by, arrives_by, arrival_by}
-use Rattle.circus_pair.specs.Handed.{made, call_at}
+use Rattle.circus_pair.specs.Handed.{calls_made, call_at}
 use Rattle.circus_pair.specs.Lawful.{AreLawful}
 use Rattle.circus_pair.specs.Sending.{takes_after}
 use Rattle.circus_pair.specs.Standing.{arrival_after}
@@ -23,7 +23,7 @@ use Rattle.circus_pair.proofs.OneEnd.{arrived_stays}
 use Rattle.circus_pair.proofs.Outputs.{taken_is}
 use Rattle.circus_pair.proofs.Standing.{arrival_is}
 use Rattle.circus_pair.proofs.Taking.{return_is}
-use Rattle.circus_wire.specs.Wire.{without, told, told_return}
+use Rattle.circus_wire.specs.Wire.{drop_purpose, hear_arrival, told_return}
 
 -- the return to a call that was not made has not arrived
 pub unmade_unreturned : (first format : ℕ) (acts : Acts) (call : ℕ) → AreLawful first format acts → call_at first acts call ≡ None → has_arrived (taken_by (start first format) acts) 1 call ≡ false
@@ -31,10 +31,10 @@ unmade_unreturned first format acts call lawful none =
     none_arrived (taken_by (start first format) acts) call ((kept_after first format acts lawful).no_call call none)
 
 -- nor has that to the next one
-pub next_unreturned : (first format : ℕ) (acts : Acts) (call : ℕ) → AreLawful first format acts → call ≡ first + made acts → has_arrived (taken_by (start first format) acts) 1 call ≡ false
+pub next_unreturned : (first format : ℕ) (acts : Acts) (call : ℕ) → AreLawful first format acts → call ≡ first + calls_made acts → has_arrived (taken_by (start first format) acts) 1 call ≡ false
 next_unreturned first format acts call lawful at =
     let hands = hands_lawful first format acts lawful in
-    let next : (end_after (start first format) acts).next ≡ first + made acts = hands.next in
+    let next : (end_after (start first format) acts).next ≡ first + calls_made acts = hands.next in
     unmade_unreturned first format acts call lawful (hands.later call (omega arith))
 
 other_kind : (s : Piece) (n : ℕ) → eqb s.kind 0 ≡ true → is_of 1 n s ≡ false
@@ -56,13 +56,13 @@ module _ {P : Type 0} where
   same_purpose o a b e = ap (λ x. cond x None o) e
 
   -- after a segment that was taken
-  taken_purposes : (s : Piece) (ts : List Piece) (kept : FinMap nat_cmp P) (o : ℕ → Option P) → IsSegment s → (has_arrived ts s.kind s.call ≡ true → has_arrived (s ∷ ts) s.kind s.call ≡ true) → ((n : ℕ) → get kept n ≡ cond (has_arrived ts 1 n) None (o n)) → (n : ℕ) → get (without (arrival_by ts s) kept) n ≡ cond (has_arrived (s ∷ ts) 1 n) None (o n)
+  taken_purposes : (s : Piece) (ts : List Piece) (kept : FinMap nat_cmp P) (o : ℕ → Option P) → IsSegment s → (has_arrived ts s.kind s.call ≡ true → has_arrived (s ∷ ts) s.kind s.call ≡ true) → ((n : ℕ) → get kept n ≡ cond (has_arrived ts 1 n) None (o n)) → (n : ℕ) → get (drop_purpose (arrival_by ts s) kept) n ≡ cond (has_arrived (s ∷ ts) 1 n) None (o n)
   taken_purposes s ts kept o segment up given n =
       let m = message_in (s ∷ ts) s.kind s.call s.total in
       let wanted : Option P = cond (has_arrived (s ∷ ts) 1 n) None (o n) in
-      elim (arrives_by ts s) as (λ b. arrives_by ts s ≡ b → get (without (cond b (cond (eqb s.kind 0) (ArrivedCall s.call m) (ArrivedReturn s.call m)) Nothing) kept) n ≡ wanted) [
+      elim (arrives_by ts s) as (λ b. arrives_by ts s ≡ b → get (drop_purpose (cond b (cond (eqb s.kind 0) (ArrivedCall s.call m) (ArrivedReturn s.call m)) Nothing) kept) n ≡ wanted) [
         | false ↦ λ none. given n ∙ same_purpose (o n) _ _ (no_arrival s ts up none 1 n)
-        | true ↦ λ whole. elim (eqb s.kind 0) as (λ k. eqb s.kind 0 ≡ k → get (without (cond k (ArrivedCall s.call m) (ArrivedReturn s.call m)) kept) n ≡ wanted) [
+        | true ↦ λ whole. elim (eqb s.kind 0) as (λ k. eqb s.kind 0 ≡ k → get (drop_purpose (cond k (ArrivedCall s.call m) (ArrivedReturn s.call m)) kept) n ≡ wanted) [
           | true ↦ λ call. given n ∙ same_purpose (o n) _ _ (sym (arrived_other s ts 1 n (other_kind s n call)))
           | false ↦ λ return_. returned whole return_
         ] refl
@@ -83,13 +83,13 @@ module _ {P : Type 0} where
           ]
 
   -- the purposes that are kept after a segment came are those of calls whose return has not arrived
-  pub came_purposes : (first format : ℕ) (acts : Acts) (s : Piece) (kept : FinMap nat_cmp P) (o : ℕ → Option P) → AreLawful first format (more acts (Came s)) → ((n : ℕ) → get kept n ≡ cond (has_arrived (taken_by (start first format) acts) 1 n) None (o n)) → (n : ℕ) → get (without (arrived_after (end_after (start first format) acts) s) kept) n ≡ cond (has_arrived (taken_by (start first format) (more acts (Came s))) 1 n) None (o n)
+  pub came_purposes : (first format : ℕ) (acts : Acts) (s : Piece) (kept : FinMap nat_cmp P) (o : ℕ → Option P) → AreLawful first format (more acts (Came s)) → ((n : ℕ) → get kept n ≡ cond (has_arrived (taken_by (start first format) acts) 1 n) None (o n)) → (n : ℕ) → get (drop_purpose (arrived_after (end_after (start first format) acts) s) kept) n ≡ cond (has_arrived (taken_by (start first format) (more acts (Came s))) 1 n) None (o n)
   came_purposes first format acts s kept o lawful given n =
       let e = end_after (start first format) acts in
       let ts = taken_by (start first format) acts in
-      elim (takes e s) as (λ b. takes e s ≡ b → (has_arrived ts s.kind s.call ≡ true → has_arrived (cond b (s ∷ ts) ts) s.kind s.call ≡ true) → get (without (arrived_after e s) kept) n ≡ cond (has_arrived (cond b (s ∷ ts) ts) 1 n) None (o n)) [
-        | true ↦ λ h up. ap (λ a. get (without a kept) n) (arrival_is ts e s (stands_lawful first format acts lawful.0) lawful.1 h) ∙ taken_purposes s ts kept o lawful.1 up given n
-        | false ↦ λ h up. ap (λ a. get (without a kept) n) (dropped e s h) ∙ given n
+      elim (takes e s) as (λ b. takes e s ≡ b → (has_arrived ts s.kind s.call ≡ true → has_arrived (cond b (s ∷ ts) ts) s.kind s.call ≡ true) → get (drop_purpose (arrived_after e s) kept) n ≡ cond (has_arrived (cond b (s ∷ ts) ts) 1 n) None (o n)) [
+        | true ↦ λ h up. ap (λ a. get (drop_purpose a kept) n) (arrival_is ts e s (stands_lawful first format acts lawful.0) lawful.1 h) ∙ taken_purposes s ts kept o lawful.1 up given n
+        | false ↦ λ h up. ap (λ a. get (drop_purpose a kept) n) (dropped e s h) ∙ given n
       ] refl (arrived_stays first format acts (Came s) s.kind s.call lawful)
 
   -- ---- what is told of it
@@ -97,7 +97,7 @@ module _ {P : Type 0} where
   same_told : (n : ℕ) (m : List ℕ) (x y : Option P) → x ≡ y → told_return n m x ≡ told_return n m y
   same_told n m x y e = ap (told_return n m) e
 
-  pub told_alike : (f g : ℕ → Option P) (node : ℕ) (arrived : Arrived) → ((n : ℕ) (m : List ℕ) → arrived ≡ ArrivedReturn n m → f n ≡ g n) → told f node arrived ≡ told g node arrived
+  pub told_alike : (f g : ℕ → Option P) (node : ℕ) (arrived : Arrived) → ((n : ℕ) (m : List ℕ) → arrived ≡ ArrivedReturn n m → f n ≡ g n) → hear_arrival f node arrived ≡ hear_arrival g node arrived
   told_alike f g node Nothing h = refl
   told_alike f g node (ArrivedCall n m) h = refl
   told_alike f g node (ArrivedReturn n m) h = same_told n m (f n) (g n) (h n m refl)

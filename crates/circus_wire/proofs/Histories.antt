@@ -11,7 +11,7 @@ use Rattle.circus_exchange.specs.Exchange.{start}
 use Rattle.circus_exchange.proofs.Ties.{equal}
 use Rattle.circus_pair.specs.Taken.{has_arrived}
 use Rattle.circus_pair.specs.Acts.{Act, Call, Return, Came, Tick, Stop, Acts, more, end_after, taken_by}
-use Rattle.circus_pair.specs.Handed.{made, call_at}
+use Rattle.circus_pair.specs.Handed.{calls_made, call_at}
 use Rattle.circus_pair.specs.Lawful.{AreLawful, is_stopped_after}
 use Rattle.circus_pair.specs.Standing.{arrival_after}
 use Rattle.circus_pair.specs.Sending.{outputs}
@@ -31,17 +31,17 @@ use Rattle.circus_wire.proofs.Standing.{down_is}
 
 -- ---- one act more at a pair
 
-made_with : (acts : Acts) (b : Bool) (a : Act) (n : ℕ) → made acts ≡ n → made (more acts a) ≡ n → made (with_act acts (cond b (Some a) None)) ≡ n
+made_with : (acts : Acts) (b : Bool) (a : Act) (n : ℕ) → calls_made acts ≡ n → calls_made (more acts a) ≡ n → calls_made (with_act acts (cond b (Some a) None)) ≡ n
 made_with acts true a n still added = added
 made_with acts false a n still added = still
 
-made_more : (acts : Acts) (b : Bool) (message : List ℕ) (n : ℕ) → made acts ≡ n → made (with_act acts (cond b (Some (Call message)) None)) ≡ cond b (n + 1) n
-unfolding made
+made_more : (acts : Acts) (b : Bool) (message : List ℕ) (n : ℕ) → calls_made acts ≡ n → calls_made (with_act acts (cond b (Some (Call message)) None)) ≡ cond b (n + 1) n
+unfolding calls_made
 made_more acts true message n is = ap (λ k. k + 1) is
 made_more acts false message n is = is
 
-made_ticked : (acts : Acts) (b : Bool) (n : ℕ) → made acts ≡ n → made (with_act acts (cond b None (Some Tick))) ≡ n
-unfolding made
+made_ticked : (acts : Acts) (b : Bool) (n : ℕ) → calls_made acts ≡ n → calls_made (with_act acts (cond b None (Some Tick))) ≡ n
+unfolding calls_made
 made_ticked acts true n is = is
 made_ticked acts false n is = is
 
@@ -104,8 +104,8 @@ stop_sends_nothing e acts false = refl
 module _ {P : Type 0} where
   -- ---- numbers and purposes
 
-  pub made_is : (b : Beginning) (acts : WireActs P) (node : ℕ) → made (acts_at (pair_of b) node acts) ≡ made_to node acts
-  unfolding made made_to
+  pub made_is : (b : Beginning) (acts : WireActs P) (node : ℕ) → calls_made (acts_at (pair_of b) node acts) ≡ made_to node acts
+  unfolding calls_made made_to
   made_is b begun node = refl
   made_is b (followed_by acts (CallTo to message purpose)) node = made_more (acts_at (pair_of b) node acts) (eqb to node) message (made_to node acts) (made_is b acts node)
   made_is b (followed_by acts (AnswerTo caller message)) node = made_with (acts_at (pair_of b) node acts) (eqb caller.node node && awaits_after (pair_of b) (acts_at (pair_of b) node acts) caller.number) (Return caller.number message) _ (made_is b acts node) (made_is b acts node)
@@ -118,15 +118,15 @@ module _ {P : Type 0} where
   message_at b acts node message purpose =
       let here = acts_at (pair_of b) node acts in
       ap (λ x. call_at b.first (with_act here (cond x (Some (Call message)) None)) (b.first + made_to node acts)) (equal node)
-      ∙ ap (λ n. cond (eqb (b.first + n) (b.first + made here)) (Some message) (call_at b.first here (b.first + n))) (sym (made_is b acts node))
-      ∙ ap (λ x. cond x (Some message) (call_at b.first here (b.first + made here))) (equal (b.first + made here))
+      ∙ ap (λ n. cond (eqb (b.first + n) (b.first + calls_made here)) (Some message) (call_at b.first here (b.first + n))) (sym (made_is b acts node))
+      ∙ ap (λ x. cond x (Some message) (call_at b.first here (b.first + calls_made here))) (equal (b.first + calls_made here))
 
   pub purpose_at : (b : Beginning) (acts : WireActs P) (node : ℕ) (message : List ℕ) (purpose : P) → purpose_of (pair_of b) node (followed_by acts (CallTo node message purpose)) (b.first + made_to node acts) ≡ Some purpose
   purpose_at b acts node message purpose =
       let here = acts_at (pair_of b) node acts in
-      ap (λ x. cond (x && eqb (b.first + made_to node acts) (b.first + made here)) (Some purpose) (purpose_of (pair_of b) node acts (b.first + made_to node acts))) (equal node)
-      ∙ ap (λ n. cond (eqb (b.first + n) (b.first + made here)) (Some purpose) (purpose_of (pair_of b) node acts (b.first + n))) (sym (made_is b acts node))
-      ∙ ap (λ x. cond x (Some purpose) (purpose_of (pair_of b) node acts (b.first + made here))) (equal (b.first + made here))
+      ap (λ x. cond (x && eqb (b.first + made_to node acts) (b.first + calls_made here)) (Some purpose) (purpose_of (pair_of b) node acts (b.first + made_to node acts))) (equal node)
+      ∙ ap (λ n. cond (eqb (b.first + n) (b.first + calls_made here)) (Some purpose) (purpose_of (pair_of b) node acts (b.first + n))) (sym (made_is b acts node))
+      ∙ ap (λ x. cond x (Some purpose) (purpose_of (pair_of b) node acts (b.first + calls_made here))) (equal (b.first + calls_made here))
 
   put_below : (a : Bool) (n m first : ℕ) (o : Option P) (q p : P) → (o ≡ Some p → n < first + m) → cond (a && eqb n (first + m)) (Some q) o ≡ Some p → n < first + cond a (m + 1) m
   put_below true n m first o q p low h = elim (eqb_tells n (first + m)) [
@@ -153,16 +153,16 @@ module _ {P : Type 0} where
 
   pub purpose_stays : (b : Beginning) (acts : WireActs P) (act : WireAct P) (node n : ℕ) (p : P) → purpose_of (pair_of b) node acts n ≡ Some p → purpose_of (pair_of b) node (followed_by acts act) n ≡ Some p
   purpose_stays b acts (CallTo to message purpose) node n p h =
-      put_other (eqb to node) n (b.first + made (acts_at (pair_of b) node acts)) (purpose_of (pair_of b) node acts n) purpose p
-      (let low : n < b.first + made_to node acts = purpose_below b acts node n p h in let same : made (acts_at (pair_of b) node acts) ≡ made_to node acts = made_is b acts node in omega arith) h
+      put_other (eqb to node) n (b.first + calls_made (acts_at (pair_of b) node acts)) (purpose_of (pair_of b) node acts n) purpose p
+      (let low : n < b.first + made_to node acts = purpose_below b acts node n p h in let same : calls_made (acts_at (pair_of b) node acts) ≡ made_to node acts = made_is b acts node in omega arith) h
   purpose_stays b acts (AnswerTo caller message) node n p h = h
   purpose_stays b acts (CameFrom from s) node n p h = h
   purpose_stays b acts TickAll node n p h = h
   purpose_stays b acts (StopOf down) node n p h = h
 
-  put_alike : (first : ℕ) (acts : Acts) (message : List ℕ) (a : Bool) (n : ℕ) (q : P) (o : Option P) → is_some o ≡ is_some (call_at first acts n) → is_some (cond (a && eqb n (first + made acts)) (Some q) o) ≡ is_some (call_at first (with_act acts (cond a (Some (Call message)) None)) n)
+  put_alike : (first : ℕ) (acts : Acts) (message : List ℕ) (a : Bool) (n : ℕ) (q : P) (o : Option P) → is_some o ≡ is_some (call_at first acts n) → is_some (cond (a && eqb n (first + calls_made acts)) (Some q) o) ≡ is_some (call_at first (with_act acts (cond a (Some (Call message)) None)) n)
   unfolding call_at
-  put_alike first acts message true n q o same = elim (eqb n (first + made acts)) as (λ x. is_some (cond x (Some q) o) ≡ is_some (cond x (Some message) (call_at first acts n))) [ true ↦ refl | false ↦ same ]
+  put_alike first acts message true n q o same = elim (eqb n (first + calls_made acts)) as (λ x. is_some (cond x (Some q) o) ≡ is_some (cond x (Some message) (call_at first acts n))) [ true ↦ refl | false ↦ same ]
   put_alike first acts message false n q o same = same
 
   -- there is a purpose where a call was made

@@ -8,12 +8,12 @@ use Rattle.circus_segment.specs.Segment.{Piece}
 use Rattle.circus_exchange.specs.declared.exchange.Exchange.{Exchange}
 use Rattle.circus_exchange.specs.declared.taken.Arrived.{Arrived}
 use Rattle.circus_exchange.specs.declared.taken.Arrived.TheVariants.{Nothing, ArrivedCall, ArrivedReturn}
-use Rattle.circus_exchange.specs.Exchange.{start, called, after}
+use Rattle.circus_exchange.specs.Exchange.{start, send_call, after}
 use Rattle.circus_exchange.proofs.Finite.{put_back}
 use Rattle.circus_exchange.proofs.Ties.{other_key}
 use Rattle.circus_pair.proofs.Lasting.{lasts_called, lasts_after}
 use Rattle.circus_pair.proofs.Sides.{next_called, next_after}
-use Rattle.circus_wire.specs.Wire.{PeerState, without}
+use Rattle.circus_wire.specs.Wire.{PeerState, drop_purpose}
 use Rattle.circus_wire.specs.Seen.Kept.{IsKept, AreKept}
 use Rattle.circus_wire.proofs.Places.{set_is, length_changed, changed_has}
 
@@ -57,7 +57,7 @@ module _ {P : Type 0} where
       ∙ ap (λ b. cond b (Some purpose) (get purposes number)) (other_key number key (λ same. absurd (omega arith)))
       ∙ free
 
-  pub kept_called : (old new : Exchange) (purposes after_ : FinMap nat_cmp P) (number : ℕ) (message : List ℕ) (purpose : P) (is_down : Bool) → number ≡ old.next → new ≡ called old message → after_ ≡ insert purposes number purpose → IsKept old purposes is_down → IsKept new after_ is_down
+  pub kept_called : (old new : Exchange) (purposes after_ : FinMap nat_cmp P) (number : ℕ) (message : List ℕ) (purpose : P) (is_down : Bool) → number ≡ old.next → new ≡ send_call old message → after_ ≡ insert purposes number purpose → IsKept old purposes is_down → IsKept new after_ is_down
   kept_called old new purposes after_ number message purpose is_down at is put kept =
       let next : new.next ≡ old.next + 1 = ap (λ (e : Exchange). e.next) is ∙ next_called old message in
       record {
@@ -70,7 +70,7 @@ module _ {P : Type 0} where
   put_back_next pair purposes first then_ number purpose is_down at kept put out =
       out ∙ ap (λ m. remove m number) put ∙ put_back nat_cmp nat_cmp_total nat_cmp-IsAntisymmetric purposes number purpose (ap is_some (kept.fresh number (omega arith)))
 
-  free_taken : (arrived : Arrived) (purposes : FinMap nat_cmp P) (number : ℕ) → get purposes number ≡ None → get (without arrived purposes) number ≡ None
+  free_taken : (arrived : Arrived) (purposes : FinMap nat_cmp P) (number : ℕ) → get purposes number ≡ None → get (drop_purpose arrived purposes) number ≡ None
   free_taken Nothing purposes number free = free
   free_taken (ArrivedCall n m) purposes number free = free
   free_taken (ArrivedReturn n m) purposes number free = get-remove nat_cmp_total purposes n number ∙ either _ free
@@ -79,7 +79,7 @@ module _ {P : Type 0} where
       either true h = refl
       either false h = h
 
-  pub kept_heard : (old new : Exchange) (purposes after_ : FinMap nat_cmp P) (s : Piece) (arrived : Arrived) (is_down : Bool) → new ≡ after old s → after_ ≡ without arrived purposes → IsKept old purposes is_down → IsKept new after_ is_down
+  pub kept_heard : (old new : Exchange) (purposes after_ : FinMap nat_cmp P) (s : Piece) (arrived : Arrived) (is_down : Bool) → new ≡ after old s → after_ ≡ drop_purpose arrived purposes → IsKept old purposes is_down → IsKept new after_ is_down
   kept_heard old new purposes after_ s arrived is_down is out kept = record {
     fresh = λ q le. ap (λ m. get m q) out ∙ free_taken arrived purposes q (kept.fresh q (subst (λ n. n ≤ q) (ap (λ (e : Exchange). e.next) is ∙ next_after old s) le));
     down = kept.down ∙ sym (ap (λ (e : Exchange). e.stopped) is ∙ (lasts_after old s).stopped);

@@ -20,7 +20,7 @@ use Rattle.circus_value.specs.declared.caller.Caller.{Caller}
 use Rattle.circus_wire.specs.declared.delivery.Batch.{Batch}
 use Rattle.circus_wire.specs.declared.delivery.Heard.{Heard}
 use Rattle.circus_wire.specs.declared.delivery.Heard.TheVariants.{Dropped}
-use Rattle.circus_wire.specs.Wire.{PeerState, WireState, Beginning, place_of, node_at, peer_at, of_peer, sent_to, heard_by, told, batches, suspicion, given_below}
+use Rattle.circus_wire.specs.Wire.{PeerState, WireState, Beginning, place_of, node_at, peer_at, of_peer, sent_to, heard_by, hear_arrival, batches, suspicion, given_below}
 use Rattle.circus_wire.specs.WireActs.{WireAct, WireActs, CallTo, AnswerTo, CameFrom, TickAll, act_at, acts_at, purpose_of, awaits_after}
 use Rattle.circus_wire.specs.WireStanding.{pair_of, PeerStands, WireStands, outputs_for, owed_to, heard_after, ticks_below, suspects_below}
 use Rattle.circus_wire.proofs.Hearing.{told_alike, unreturned_before}
@@ -62,8 +62,8 @@ module _ {P : Type 0} where
   heard_owed b acts from s p segment stands =
       let e = pair_of b in
       let here = acts_at e from acts in
-      ap (λ (a : Arrived). cond (takes p.exchange s) (told (get p.purposes) from a) Dropped) (following.arrives_as_owed p.exchange b.first b.format here stands.pair s segment)
-      ∙ ap (λ x. cond x (told (get p.purposes) from (arrival_after e here s)) Dropped) (following.takes_as_owed p.exchange b.first b.format here stands.pair s segment)
+      ap (λ (a : Arrived). cond (takes p.exchange s) (hear_arrival (get p.purposes) from a) Dropped) (following.arrives_as_owed p.exchange b.first b.format here stands.pair s segment)
+      ∙ ap (λ x. cond x (hear_arrival (get p.purposes) from (arrival_after e here s)) Dropped) (following.takes_as_owed p.exchange b.first b.format here stands.pair s segment)
       ∙ ap (λ (h : Heard P). cond (takes_after e here s) h Dropped)
       (told_alike (get p.purposes) (purpose_of e from acts) from (arrival_after e here s)
       (λ n m is. stands.purposes n ∙ ap (λ x. cond x None (purpose_of e from acts n)) (unreturned_before b.first b.format here s n m segment is)))

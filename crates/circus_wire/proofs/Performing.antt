@@ -10,7 +10,7 @@ use Rattle.circus_pair.proofs.Following as following
 use Rattle.circus_value.specs.declared.caller.Caller.{Caller}
 use Rattle.circus_wire.specs.declared.delivery.Batch.{Batch}
 use Rattle.circus_wire.specs.declared.delivery.Heard.TheVariants.{Dropped}
-use Rattle.circus_wire.specs.Wire.{PeerState, WireState, Beginning, place_of, peer_at, of_peer, sent_to, changed, IsOther, is_up, next_number, is_awaited, called_to, sent_by_call, answered, sent_by_answer, peer_answered, after_datagram, sent_by_datagram, heard_from, heard_by}
+use Rattle.circus_wire.specs.Wire.{PeerState, WireState, Beginning, place_of, peer_at, of_peer, sent_to, change_peer, IsOther, is_up, next_number, is_awaited, called_to, sent_by_call, answer_caller, sent_by_answer, peer_answered, after_datagram, sent_by_datagram, heard_from, heard_by}
 use Rattle.circus_pair.specs.Acts.{Return}
 use Rattle.circus_wire.specs.WireActs.{WireActs, followed_by, CallTo, AnswerTo, CameFrom, acts_at, awaits_after}
 use Rattle.circus_wire.specs.WireStanding.{pair_of, PeerStands, WireStands, outputs_for, owed_to, heard_after}
@@ -73,10 +73,10 @@ module _ {P : Type 0} where
         (stood b acts w to (λ p. not p.exchange.stopped) up stands)
 
   module _ (b : Beginning) (acts : WireActs P) (w : WireState P) (caller : Caller) (message : List ℕ) (stands : WireStands w b acts) where
-    pub answer_stands : (new : WireState P) → IsSendable w.format message → is_awaited w caller ≡ true → new ≡ answered w caller message → WireStands new b (followed_by acts (AnswerTo caller message))
+    pub answer_stands : (new : WireState P) → IsSendable w.format message → is_awaited w caller ≡ true → new ≡ answer_caller w caller message → WireStands new b (followed_by acts (AnswerTo caller message))
     answer_stands new may awaits is =
         let f = found b acts w caller.node (λ p. awaits_return p.exchange caller.number) awaits stands in
-        let then_ : new ≡ changed (λ p. peer_answered p caller.number message) w caller.node = is ∙ ap (λ x. cond x (changed (λ p. peer_answered p caller.number message) w caller.node) w) awaits in
+        let then_ : new ≡ change_peer (λ p. peer_answered p caller.number message) w caller.node = is ∙ ap (λ x. cond x (change_peer (λ p. peer_answered p caller.number message) w caller.node) w) awaits in
         subst (λ x. WireStands x b (followed_by acts (AnswerTo caller message))) (sym then_)
         (stands_answered b acts w caller message f.differs
         (λ p at. subst (λ (q : PeerState P). IsSendable q.exchange.format message × (awaits_return q.exchange caller.number ≡ true)) (same b acts w caller.node (λ p. awaits_return p.exchange caller.number) awaits stands p at)

@@ -10,18 +10,18 @@ use Rattle.std.proofs.lemmas.Bool.Decides.{eqb_tells}
 use Rattle.circus_segment.specs.Segment.{Piece, IsSegment}
 use Rattle.circus_exchange.specs.declared.exchange.Exchange.{Exchange}
 use Rattle.circus_exchange.specs.Limits.{never_used}
-use Rattle.circus_exchange.specs.Exchange.{start, IsSendable, awaits_return, stopped, ticked}
+use Rattle.circus_exchange.specs.Exchange.{start, IsSendable, awaits_return, stop_exchange, ticked}
 use Rattle.circus_exchange.proofs.Ties.{nat_ties, equal}
 use Rattle.circus_pair.specs.Taken.{has_arrived}
 use Rattle.circus_pair.specs.Acts.{Act, Call, Return, Came, Tick, Stop, none_yet, more, taken_by}
-use Rattle.circus_pair.specs.Handed.{made}
+use Rattle.circus_pair.specs.Handed.{calls_made}
 use Rattle.circus_pair.specs.Lawful.{is_stopped_after}
 use Rattle.circus_pair.specs.Standing.{StandsFor}
 use Rattle.circus_pair.specs.TwoEnds.{with_act}
 use Rattle.circus_pair.proofs.Flowing.{flows_after}
 use Rattle.circus_pair.proofs.Following as following
 use Rattle.circus_value.specs.declared.caller.Caller.{Caller}
-use Rattle.circus_wire.specs.Wire.{PeerState, WireState, Beginning, place_of, node_at, changed, peer_called, peer_answered, peer_heard, peer_ticked, peer_stopped, all_ticked, before_any, fresh_peer}
+use Rattle.circus_wire.specs.Wire.{PeerState, WireState, Beginning, place_of, node_at, change_peer, peer_called, peer_answered, peer_heard, peer_ticked, peer_stopped, all_ticked, before_any, fresh_peer}
 use Rattle.circus_wire.specs.WireActs.{WireAct, WireActs, begun, followed_by, CallTo, AnswerTo, CameFrom, TickAll, StopOf, act_at, acts_at, purpose_of, purpose_kept, awaits_after}
 use Rattle.circus_wire.specs.WireStanding.{pair_of, PeerStands, WireStands}
 use Rattle.circus_wire.proofs.Hearing.{next_unreturned, came_purposes}
@@ -69,19 +69,19 @@ module _ {P : Type 0} where
   called_purposes b acts to message purpose p stands n =
       let e = pair_of b in
       let here = acts_at e to acts in
-      let next : p.exchange.next ≡ b.first + made here = following.next_is p.exchange b.first b.format here stands.pair in
+      let next : p.exchange.next ≡ b.first + calls_made here = following.next_is p.exchange b.first b.format here stands.pair in
       get-insert nat_cmp_total p.purposes p.exchange.next purpose n
       ∙ ap (λ x. cond x (Some purpose) (get p.purposes n)) (nat_ties n p.exchange.next ∙ ap (eqb n) next)
-      ∙ ap (cond (eqb n (b.first + made here)) (Some purpose)) (stands.purposes n)
-      ∙ elim (eqb_tells n (b.first + made here)) [
+      ∙ ap (cond (eqb n (b.first + calls_made here)) (Some purpose)) (stands.purposes n)
+      ∙ elim (eqb_tells n (b.first + calls_made here)) [
         | inl same ↦ ap (λ x. cond x (Some purpose) (purpose_kept e to acts n)) same.0
             ∙ sym (
-            ap (λ x. cond x None (cond (eqb to to && eqb n (b.first + made here)) (Some purpose) (purpose_of e to acts n))) (next_unreturned b.first b.format here n stands.pair.lawful same.1)
-            ∙ ap (λ x. cond (x && eqb n (b.first + made here)) (Some purpose) (purpose_of e to acts n)) (equal to)
+            ap (λ x. cond x None (cond (eqb to to && eqb n (b.first + calls_made here)) (Some purpose) (purpose_of e to acts n))) (next_unreturned b.first b.format here n stands.pair.lawful same.1)
+            ∙ ap (λ x. cond (x && eqb n (b.first + calls_made here)) (Some purpose) (purpose_of e to acts n)) (equal to)
             ∙ ap (λ x. cond x (Some purpose) (purpose_of e to acts n)) same.0)
         | inr differ ↦ ap (λ x. cond x (Some purpose) (purpose_kept e to acts n)) differ.0
             ∙ sym (
-            ap (λ x. cond (has_arrived (taken_by e here) 1 n) None (cond (x && eqb n (b.first + made here)) (Some purpose) (purpose_of e to acts n))) (equal to)
+            ap (λ x. cond (has_arrived (taken_by e here) 1 n) None (cond (x && eqb n (b.first + calls_made here)) (Some purpose) (purpose_of e to acts n))) (equal to)
             ∙ ap (λ x. cond (has_arrived (taken_by e here) 1 n) None (cond x (Some purpose) (purpose_of e to acts n))) differ.0)
       ]
 
@@ -121,12 +121,12 @@ module _ {P : Type 0} where
   pub peer_stands_stopped : (b : Beginning) (acts : WireActs P) (node : ℕ) (p : PeerState P) → PeerStands b acts node p → PeerStands b (followed_by acts (StopOf node)) node (peer_stopped p)
   peer_stands_stopped b acts node p stands =
       moved b acts (StopOf node) node (peer_stopped p) Stop (ap (λ x. cond x (Some Stop) None) (equal node))
-      (record { lawful = (stands.pair.lawful, tt); is = ap stopped stands.pair.is })
+      (record { lawful = (stands.pair.lawful, tt); is = ap stop_exchange stands.pair.is })
       stands.purposes
 
   -- ---- all pairs
 
-  stands_changed : (b : Beginning) (acts : WireActs P) (act : WireAct P) (change : PeerState P → PeerState P) (w : WireState P) (node : ℕ) → node ≢ w.own → WireStands w b acts → ((p : PeerState P) → slice_get w.peers (place_of w.own node) ≡ Some p → PeerStands b acts node p → PeerStands b (followed_by acts act) node (change p)) → ((other : ℕ) (p : PeerState P) → other ≢ node → PeerStands b acts other p → PeerStands b (followed_by acts act) other p) → WireStands (changed change w node) b (followed_by acts act)
+  stands_changed : (b : Beginning) (acts : WireActs P) (act : WireAct P) (change : PeerState P → PeerState P) (w : WireState P) (node : ℕ) → node ≢ w.own → WireStands w b acts → ((p : PeerState P) → slice_get w.peers (place_of w.own node) ≡ Some p → PeerStands b acts node p → PeerStands b (followed_by acts act) node (change p)) → ((other : ℕ) (p : PeerState P) → other ≢ node → PeerStands b acts other p → PeerStands b (followed_by acts act) other p) → WireStands (change_peer change w node) b (followed_by acts act)
   stands_changed b acts act change w node differ stands here there = record {
     one = stands.one;
     own = stands.own;
@@ -142,20 +142,20 @@ module _ {P : Type 0} where
       stood : (place : ℕ) (x : PeerState P) → slice_get w.peers place ≡ Some x → PeerStands b acts (node_at w.own place) x
       stood place x at = subst (λ own. PeerStands b acts (node_at own place) x) (sym stands.own) (stands.peers place x at)
 
-  pub stands_called : (b : Beginning) (acts : WireActs P) (w : WireState P) (to : ℕ) (message : List ℕ) (purpose : P) → to ≢ w.own → ((p : PeerState P) → slice_get w.peers (place_of w.own to) ≡ Some p → IsSendable p.exchange.format message × (p.exchange.stopped ≡ false) × (p.exchange.next < never_used)) → WireStands w b acts → WireStands (changed (λ p. peer_called p message purpose) w to) b (followed_by acts (CallTo to message purpose))
+  pub stands_called : (b : Beginning) (acts : WireActs P) (w : WireState P) (to : ℕ) (message : List ℕ) (purpose : P) → to ≢ w.own → ((p : PeerState P) → slice_get w.peers (place_of w.own to) ≡ Some p → IsSendable p.exchange.format message × (p.exchange.stopped ≡ false) × (p.exchange.next < never_used)) → WireStands w b acts → WireStands (change_peer (λ p. peer_called p message purpose) w to) b (followed_by acts (CallTo to message purpose))
   stands_called b acts w to message purpose differ may stands =
       stands_changed b acts (CallTo to message purpose) _ w to differ stands
       (λ p at here. peer_stands_called b acts to message purpose p (may p at).0 (may p at).1 (may p at).2 here)
       (λ other p differs here. unmoved b acts (CallTo to message purpose) other p (elsewhere (Call message) to other differs)
-      (λ n. ap (λ x. cond (x && eqb n (b.first + made (acts_at (pair_of b) other acts))) (Some purpose) (purpose_of (pair_of b) other acts n)) (ne_eqb to other (λ same. differs (sym same)))) here)
+      (λ n. ap (λ x. cond (x && eqb n (b.first + calls_made (acts_at (pair_of b) other acts))) (Some purpose) (purpose_of (pair_of b) other acts n)) (ne_eqb to other (λ same. differs (sym same)))) here)
 
-  pub stands_heard : (b : Beginning) (acts : WireActs P) (w : WireState P) (from : ℕ) (s : Piece) → from ≢ w.own → IsSegment s → WireStands w b acts → WireStands (changed (λ p. peer_heard p s) w from) b (followed_by acts (CameFrom from s))
+  pub stands_heard : (b : Beginning) (acts : WireActs P) (w : WireState P) (from : ℕ) (s : Piece) → from ≢ w.own → IsSegment s → WireStands w b acts → WireStands (change_peer (λ p. peer_heard p s) w from) b (followed_by acts (CameFrom from s))
   stands_heard b acts w from s differ segment stands =
       stands_changed b acts (CameFrom from s) _ w from differ stands
       (λ p at here. peer_stands_heard b acts from s p segment here)
       (λ other p differs here. unmoved b acts (CameFrom from s) other p (elsewhere (Came s) from other differs) (λ n. refl) here)
 
-  pub stands_stopped : (b : Beginning) (acts : WireActs P) (w : WireState P) (node : ℕ) → node ≢ w.own → WireStands w b acts → WireStands (changed peer_stopped w node) b (followed_by acts (StopOf node))
+  pub stands_stopped : (b : Beginning) (acts : WireActs P) (w : WireState P) (node : ℕ) → node ≢ w.own → WireStands w b acts → WireStands (change_peer peer_stopped w node) b (followed_by acts (StopOf node))
   stands_stopped b acts w node differ stands =
       stands_changed b acts (StopOf node) _ w node differ stands
       (λ p at here. peer_stands_stopped b acts node p here)
@@ -175,7 +175,7 @@ module _ {P : Type 0} where
       ticked place p (Some x) at is = (let same : peer_ticked x ≡ p = cc in subst (λ q. PeerStands b (followed_by acts TickAll) (node_at b.own place) q) same (peer_stands_ticked b acts (node_at b.own place) x (stands.peers place x at)))
 
   -- a return that is handed over where its call awaits it, or to no use
-  pub stands_answered : (b : Beginning) (acts : WireActs P) (w : WireState P) (caller : Caller) (message : List ℕ) → caller.node ≢ w.own → ((p : PeerState P) → slice_get w.peers (place_of w.own caller.node) ≡ Some p → IsSendable p.exchange.format message × (awaits_return p.exchange caller.number ≡ true)) → WireStands w b acts → WireStands (changed (λ p. peer_answered p caller.number message) w caller.node) b (followed_by acts (AnswerTo caller message))
+  pub stands_answered : (b : Beginning) (acts : WireActs P) (w : WireState P) (caller : Caller) (message : List ℕ) → caller.node ≢ w.own → ((p : PeerState P) → slice_get w.peers (place_of w.own caller.node) ≡ Some p → IsSendable p.exchange.format message × (awaits_return p.exchange caller.number ≡ true)) → WireStands w b acts → WireStands (change_peer (λ p. peer_answered p caller.number message) w caller.node) b (followed_by acts (AnswerTo caller message))
   stands_answered b acts w caller message differ may stands =
       stands_changed b acts (AnswerTo caller message) _ w caller.node differ stands
       (λ p at here. peer_stands_answered b acts caller message p (may p at).0 (may p at).1 here)

@@ -7,7 +7,7 @@ use Rattle.circus_segment.specs.declared.fault.SegmentFault.{SegmentFault}
 use Rattle.circus_exchange.specs.declared.exchange.Exchange.{Exchange}
 use Rattle.circus_exchange.specs.declared.taken.Arrived.{Arrived}
 use Rattle.circus_exchange.specs.declared.taken.Arrived.TheVariants.{Nothing, ArrivedCall, ArrivedReturn}
-use Rattle.circus_exchange.specs.Exchange.{start, called, datagrams_of_call, returned, datagrams_of_return, awaits_return, takes, after, datagrams_after, arrived_after, ticked, is_suspect, datagrams_of_tick, stopped}
+use Rattle.circus_exchange.specs.Exchange.{start, send_call, datagrams_of_call, send_return, datagrams_of_return, awaits_return, takes, after, datagrams_after, arrived_after, ticked, is_suspect, datagrams_of_tick, stop_exchange}
 use Rattle.circus_value.specs.declared.caller.Caller.{Caller}
 use Rattle.circus_wire.specs.declared.delivery.Batch.{Batch}
 use Rattle.circus_wire.specs.declared.delivery.Heard.{Heard}
@@ -26,21 +26,21 @@ module _ {P : Type 0} where
 
   -- a call is handed over for a purpose
   abbrev pub peer_called : PeerState P → List ℕ → P → PeerState P
-  peer_called p message purpose = record { exchange = called p.exchange message; purposes = insert p.purposes p.exchange.next purpose }
+  peer_called p message purpose = record { exchange = send_call p.exchange message; purposes = insert p.purposes p.exchange.next purpose }
 
   -- the return to a call is handed over
   abbrev pub peer_answered : PeerState P → ℕ → List ℕ → PeerState P
-  peer_answered p number message = record p { exchange = returned p.exchange number message }
+  peer_answered p number message = record p { exchange = send_return p.exchange number message }
 
   -- the purpose of a call whose return arrives is kept no longer
-  abbrev pub without : Arrived → FinMap nat_cmp P → FinMap nat_cmp P
-  without Nothing purposes = purposes
-  without (ArrivedCall number message) purposes = purposes
-  without (ArrivedReturn number message) purposes = remove purposes number
+  abbrev pub drop_purpose : Arrived → FinMap nat_cmp P → FinMap nat_cmp P
+  drop_purpose Nothing purposes = purposes
+  drop_purpose (ArrivedCall number message) purposes = purposes
+  drop_purpose (ArrivedReturn number message) purposes = remove purposes number
 
   -- a segment comes
   abbrev pub peer_heard : PeerState P → Piece → PeerState P
-  peer_heard p s = record { exchange = after p.exchange s; purposes = without (arrived_after p.exchange s) p.purposes }
+  peer_heard p s = record { exchange = after p.exchange s; purposes = drop_purpose (arrived_after p.exchange s) p.purposes }
 
   -- a tick comes, unless the other node was declared down
   abbrev pub peer_ticked : PeerState P → PeerState P
@@ -48,21 +48,21 @@ module _ {P : Type 0} where
 
   -- the other node is declared down
   abbrev pub peer_stopped : PeerState P → PeerState P
-  peer_stopped p = record p { exchange = stopped p.exchange }
+  peer_stopped p = record p { exchange = stop_exchange p.exchange }
 
   abbrev pub told_return : ℕ → List ℕ → Option P → Heard P
   told_return number message (Some purpose) = Returned number purpose message
   told_return number message None = Taken
 
   -- what came of a segment of a node that was taken, by what arrived and what the calls were made for
-  abbrev pub told : (ℕ → Option P) → ℕ → Arrived → Heard P
-  told purposes node Nothing = Taken
-  told purposes node (ArrivedCall number message) = Called (record { node = node; number = number }) message
-  told purposes node (ArrivedReturn number message) = told_return number message (purposes number)
+  abbrev pub hear_arrival : (ℕ → Option P) → ℕ → Arrived → Heard P
+  hear_arrival purposes node Nothing = Taken
+  hear_arrival purposes node (ArrivedCall number message) = Called (record { node = node; number = number }) message
+  hear_arrival purposes node (ArrivedReturn number message) = told_return number message (purposes number)
 
   -- what came of a segment of a node
   abbrev pub heard_by : PeerState P → ℕ → Piece → Heard P
-  heard_by p node s = if takes p.exchange s then told (get p.purposes) node (arrived_after p.exchange s) else Dropped
+  heard_by p node s = if takes p.exchange s then hear_arrival (get p.purposes) node (arrived_after p.exchange s) else Dropped
 
 -- ---- the other nodes
 
@@ -123,8 +123,8 @@ module _ {P : Type 0} where
   of_peer none given (Some p) = given p
 
   -- with the pair with another node changed
-  abbrev pub changed : (PeerState P → PeerState P) → WireState P → ℕ → WireState P
-  changed change w node = record w { peers = changed_at change w.peers (place_of w.own node) }
+  abbrev pub change_peer : (PeerState P → PeerState P) → WireState P → ℕ → WireState P
+  change_peer change w node = record w { peers = changed_at change w.peers (place_of w.own node) }
 
   -- datagrams for a node, if it is another one
   abbrev pub sent_to : (PeerState P → List (List ℕ)) → WireState P → ℕ → Batch
@@ -145,15 +145,15 @@ module _ {P : Type 0} where
   -- ---- a call is handed over
 
   abbrev pub called_to : WireState P → ℕ → List ℕ → P → WireState P
-  called_to w to message purpose = changed (λ p. peer_called p message purpose) w to
+  called_to w to message purpose = change_peer (λ p. peer_called p message purpose) w to
 
   abbrev pub sent_by_call : WireState P → ℕ → List ℕ → Batch
   sent_by_call w to message = sent_to (λ p. datagrams_of_call p.exchange message) w to
 
   -- ---- a return is handed over, if its call awaits it
 
-  abbrev pub answered : WireState P → Caller → List ℕ → WireState P
-  answered w caller message = if is_awaited w caller then changed (λ p. peer_answered p caller.number message) w caller.node else w
+  abbrev pub answer_caller : WireState P → Caller → List ℕ → WireState P
+  answer_caller w caller message = if is_awaited w caller then change_peer (λ p. peer_answered p caller.number message) w caller.node else w
 
   abbrev pub sent_by_answer : WireState P → Caller → List ℕ → Batch
   sent_by_answer w caller message =
@@ -164,7 +164,7 @@ module _ {P : Type 0} where
   -- ---- a datagram comes, which is read as a segment or is none
 
   abbrev pub after_datagram : WireState P → ℕ → Result Piece SegmentFault → WireState P
-  after_datagram w from (Ok s) = changed (λ p. peer_heard p s) w from
+  after_datagram w from (Ok s) = change_peer (λ p. peer_heard p s) w from
   after_datagram w from (Err fault) = w
 
   abbrev pub sent_by_datagram : WireState P → ℕ → Result Piece SegmentFault → Batch
@@ -207,4 +207,4 @@ module _ {P : Type 0} where
   -- ---- a node is declared down
 
   abbrev pub stopped_at : WireState P → ℕ → WireState P
-  stopped_at w node = changed peer_stopped w node
+  stopped_at w node = change_peer peer_stopped w node

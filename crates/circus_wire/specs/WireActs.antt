@@ -4,7 +4,7 @@ use Rattle.circus_segment.specs.Segment.{Piece}
 use Rattle.circus_exchange.specs.declared.exchange.Exchange.{Exchange}
 use Rattle.circus_pair.specs.Taken.{has_arrived}
 use Rattle.circus_pair.specs.Acts.{Act, Call, Return, Came, Tick, Stop, Acts, none_yet, taken_by}
-use Rattle.circus_pair.specs.Handed.{made, return_at}
+use Rattle.circus_pair.specs.Handed.{calls_made, return_at}
 use Rattle.circus_pair.specs.Lawful.{is_stopped_after}
 use Rattle.circus_pair.specs.TwoEnds.{with_act}
 use Rattle.circus_value.specs.declared.caller.Caller.{Caller}
@@ -48,7 +48,7 @@ module _ {P : Type 0} where
   -- what the call of a number to a node was made for
   abbrev pub purpose_of : Exchange → ℕ → WireActs P → ℕ → Option P
   purpose_of e node begun number = None
-  purpose_of e node (followed_by acts (CallTo to message purpose)) number = if to == node && (number == e.next + made (acts_at e node acts)) then Some purpose else purpose_of e node acts number
+  purpose_of e node (followed_by acts (CallTo to message purpose)) number = if to == node && (number == e.next + calls_made (acts_at e node acts)) then Some purpose else purpose_of e node acts number
   purpose_of e node (followed_by acts act) number = purpose_of e node acts number
 
   -- what it was made for, where its return has not arrived

@@ -13,7 +13,7 @@ use Rattle.circus_pair.specs.TwoEnds.{Arrival, noted}
 use Rattle.circus_wire.specs.declared.delivery.Batch.{Batch}
 use Rattle.circus_wire.specs.declared.delivery.Heard.{Heard}
 use Rattle.circus_wire.specs.declared.delivery.Heard.TheVariants.{Dropped}
-use Rattle.circus_wire.specs.Wire.{PeerState, WireState, Beginning, node_at, told}
+use Rattle.circus_wire.specs.Wire.{PeerState, WireState, Beginning, node_at, hear_arrival}
 use Rattle.circus_wire.specs.WireActs.{WireAct, WireActs, begun, followed_by, CameFrom, TickAll, act_at, acts_at, purpose_of, purpose_kept}
 
 -- a pair at its beginning
@@ -48,7 +48,7 @@ module _ {P : Type 0} where
   abbrev pub heard_after : Beginning → WireActs P → ℕ → Piece → Heard P
   heard_after b acts from s =
       if takes_after (pair_of b) (acts_at (pair_of b) from acts) s
-      then told (purpose_of (pair_of b) from acts) from (arrival_after (pair_of b) (acts_at (pair_of b) from acts) s)
+      then hear_arrival (purpose_of (pair_of b) from acts) from (arrival_after (pair_of b) (acts_at (pair_of b) from acts) s)
       else Dropped
 
   -- what is owed for a tick to the nodes at the places below one that were not declared down, in order

@@ -3,7 +3,7 @@ ghost use Rattle.std.specs.Prelude.{◌≡◌, ◌≢◌, ℕ, ◌+◌, ◌≤�
 ghost use Rattle.circus_segment.specs.Segment.{Piece, IsSegment};
 ghost use Rattle.circus_exchange.specs.declared.taken.Arrived.TheVariants.{ArrivedReturn};
 ghost use Rattle.circus_pair.specs.Acts.{taken_by};
-ghost use Rattle.circus_pair.specs.Handed.{made, call_at};
+ghost use Rattle.circus_pair.specs.Handed.{calls_made, call_at};
 ghost use Rattle.circus_pair.specs.Lawful.{AreLawful, is_stopped_after};
 ghost use Rattle.circus_pair.specs.Standing.{arrival_after};
 ghost use Rattle.circus_pair.specs.Taken.{has_arrived};
@@ -31,7 +31,7 @@ pub fn wires_know_their_acts<P>()
 /// its purpose, whatever is added (docs/PROTOCOL.md, "Paired messages").
 pub fn calls_are_numbered<P>()
     ensures count { (b : Beginning) (acts : WireActs P) (node : ℕ)
-        → made (acts_at (pair_of b) node acts) ≡ made_to node acts }
+        → calls_made (acts_at (pair_of b) node acts) ≡ made_to node acts }
     ensures message { (b : Beginning) (acts : WireActs P) (node : ℕ) (message : List ℕ)
         (purpose : P)
         → call_at b.first

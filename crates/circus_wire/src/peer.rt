@@ -6,7 +6,7 @@ ghost use Rattle.circus_segment.specs.Seen.Pieces.{piece};
 ghost use Rattle.circus_pair.specs.declared.fault.PairFault.TheVariants.{Spent};
 ghost use Rattle.circus_exchange.specs.Limits.{never_used};
 ghost use Rattle.circus_exchange.specs.Exchange.{IsSendable, awaits_return, datagrams_of_call, datagrams_of_return, datagrams_after};
-ghost use Rattle.circus_wire.specs.Wire.{fresh_peer, peer_called, peer_answered, peer_heard, peer_ticked, peer_stopped, batches, suspicion, heard_by, told, without};
+ghost use Rattle.circus_wire.specs.Wire.{fresh_peer, peer_called, peer_answered, peer_heard, peer_ticked, peer_stopped, batches, suspicion, heard_by, hear_arrival, drop_purpose};
 
 use crate::delivery::{Batch, Batches, Delivery, Heard};
 use bytes::Bytes;
@@ -195,8 +195,8 @@ fn note_tick(
 
 // What came of a segment that was taken, by what arrived; the purpose of a call whose return arrived is handed out.
 fn hand_out<P: Drop>(purposes: &mut ByCall<P>, node: u16, arrived: Arrived) -> Heard<P>
-    ensures heard { result ≡ told (map.get purposes.old) node arrived }
-    ensures purposes { purposes.new ≡ without arrived purposes.old }
+    ensures heard { result ≡ hear_arrival (map.get purposes.old) node arrived }
+    ensures purposes { purposes.new ≡ drop_purpose arrived purposes.old }
 {
     match arrived {
         Arrived::Nothing => Heard::Taken,

@@ -201,7 +201,7 @@ impl<P: Drop> Wire<P> {
             → model.IsOther self.old caller.node
             → IfOk result (λ sent. sent ≡ owed_to b acts (AnswerTo caller message) caller.node) }
         ensures sent { IfOk result (λ sent. sent ≡ model.sent_by_answer self.old caller message) }
-        ensures state { OnOk result (self.new ≡ model.answered self.old caller message) }
+        ensures state { OnOk result (self.new ≡ model.answer_caller self.old caller message) }
         ensures err { OnErr result (self.new ≡ self.old) }
         ensures remains { model.Remains self.old self.new }
     {
@@ -221,7 +221,7 @@ impl<P: Drop> Wire<P> {
         requires sendable { IsSendable self.old.format message }
         ensures sent { IfOk result (λ datagrams.
             datagrams ≡ (model.sent_by_answer self.old caller message).datagrams) }
-        ensures state { OnOk result (self.new ≡ model.answered self.old caller message) }
+        ensures state { OnOk result (self.new ≡ model.answer_caller self.old caller message) }
         ensures err { OnErr result (self.new ≡ self.old) }
         ensures remains { model.Remains self.old self.new }
     {

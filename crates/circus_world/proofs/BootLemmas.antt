@@ -10,7 +10,7 @@ use Rattle.circus_model.specs.NextTurn.{NextTurn}
 use Rattle.circus_model.specs.declared.signature.Signature.{Signature}
 use Rattle.circus_performing.specs.Record.{behaviour}
 use Rattle.circus_node.specs.Accepting.{troupe_at}
-use Rattle.circus_node.specs.Booting.{booted, IsHosted}
+use Rattle.circus_node.specs.Booting.{boot_node, IsHosted}
 use Rattle.circus_world.specs.declared.sent.Sent.{Sent}
 use Rattle.circus_world.specs.declared.slot.Slot.{Slot}
 use Rattle.circus_world.specs.declared.world.BootFault.{BootFault}
@@ -75,14 +75,14 @@ module _ {M P : Type 0} (declared : M → Signature) (turn : M → List ValueTre
   -- the next node boots
   next_world : (d : Deployment) (modules : List M) (count : ℕ) (slots new : List (Slot M P)) (sent after : List Sent)
       → HaveSome d modules count slots sent → (h : HasBootedAt declared turn first d modules count slots sent new after)
-      → joined_by (world_of d modules slots sent 0) (booted declared turn first d h.own (length (standings slots))) ≡ Ok (world_of d modules new after 0)
+      → joined_by (world_of d modules slots sent 0) (boot_node declared turn first d h.own (length (standings slots))) ≡ Ok (world_of d modules new after 0)
   next_world d modules count slots new sent after some h =
       let w : WorldState M = world_of d modules slots sent 0 in
       let place : length (standings slots) ≡ count = length_full slots some.full ∙ some.slots_count in
       let slot : Slot M P = record { core = Some h.core; crashed = None; joins = false } in
       let whole : List (Standing M) → List Sent → Stepped M = λ l m. Ok (record { deployment = d; modules = modules; nodes = l; sent = m; steps = 0 }) in
       let nodes : standings new ≡ standings slots ++ standing h.core slot ∷ [] = ap standings h.new_is ∙ push_full slots slot h.core some.full refl in
-      ap (λ k. joined_by w (booted declared turn first d h.own k)) place
+      ap (λ k. joined_by w (boot_node declared turn first d h.own k)) place
       ∙ ap (λ e. joined_by w e) h.booted_is
       ∙ ap (λ k. whole (standings slots ++ standing h.core slot ∷ []) (sent ++ map (sent_by 0 k) h.outputs.gives)) place
       ∙ sym (ap (λ l. whole l after) nodes ∙ ap (λ m. whole (standings slots ++ standing h.core slot ∷ []) m) h.after_is)
@@ -138,7 +138,7 @@ module _ {M P : Type 0} (declared : M → Signature) (turn : M → List ValueTre
         };
         booted_is =
             some.on rest
-            ∙ ap (λ k. then_others (all_booted declared turn first (hosted_from declared turn first d modules (suc count) (length d.nodes - suc count))) (joined_by w (booted declared turn first d h.own k))) place
+            ∙ ap (λ k. then_others (all_booted declared turn first (hosted_from declared turn first d modules (suc count) (length d.nodes - suc count))) (joined_by w (boot_node declared turn first d h.own k))) place
             ∙ ap (λ e. then_others (all_booted declared turn first (hosted_from declared turn first d modules (suc count) (length d.nodes - suc count))) (joined_by w e)) h.booted_is
             ∙ ap failure place;
       }

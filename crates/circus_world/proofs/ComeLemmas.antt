@@ -16,7 +16,7 @@ use Rattle.circus_world.specs.declared.cause.LineCause.{LineCause}
 use Rattle.circus_world.specs.declared.cause.LineCause.TheVariants.{NotCrashed, NotLive}
 use Rattle.circus_world.specs.WorldState.{WorldState, Standing, is_live, has_crashed}
 use Rattle.circus_world.specs.Legal.{refusal, unless_live}
-use Rattle.circus_world.specs.Course.{passed, comes_to, delivered, stepped}
+use Rattle.circus_world.specs.Course.{pass_step, comes_to, deliver_sent, step_line}
 use Rattle.circus_world.specs.Lines.{IsBetween}
 use Rattle.circus_world.specs.Seen.Coming.{MayCome}
 use Rattle.circus_world.specs.Seen.Sound.{IsSound}
@@ -75,7 +75,7 @@ module _ {M : Type 0} where
 module _ {M : Type 0} (declared : M → Signature) (turn : M → List ValueTree → ℕ → List ValueTree → List Outcome → NextTurn) where
   -- a datagram is delivered, or lost
   pub delivered_at : (w : WorldState M) (number : ℕ) (sent : Sent) (live : Bool) → slice_get w.sent number ≡ Some sent → is_live w sent.to ≡ live
-      → stepped declared turn (Deliver number) w ≡ (if live then comes_to declared turn sent.to (comes.Datagram sent.from sent.bytes) w else Ok (passed w))
+      → step_line declared turn (Deliver number) w ≡ (if live then comes_to declared turn sent.to (comes.Datagram sent.from sent.bytes) w else Ok (pass_step w))
   delivered_at w number sent live there is =
-      ap (λ (o : Option Sent). option_map_or (λ s. delivered declared turn s w) o (Ok w)) there
-      ∙ ap (λ (b : Bool). if b then comes_to declared turn sent.to (comes.Datagram sent.from sent.bytes) w else Ok (passed w)) is
+      ap (λ (o : Option Sent). option_map_or (λ s. deliver_sent declared turn s w) o (Ok w)) there
+      ∙ ap (λ (b : Bool). if b then comes_to declared turn sent.to (comes.Datagram sent.from sent.bytes) w else Ok (pass_step w)) is

@@ -13,7 +13,7 @@ use Rattle.circus_model.specs.NextTurn.{NextTurn}
 use Rattle.circus_model.specs.declared.signature.Signature.{Signature}
 use Rattle.circus_node.specs.declared.event.Event.{Event}
 use Rattle.circus_node.specs.declared.event.Event.TheVariants as comes
-use Rattle.circus_node.specs.Booting.{AreOfTroupes, booted}
+use Rattle.circus_node.specs.Booting.{AreOfTroupes, boot_node}
 use Rattle.circus_node.specs.Step as node_step
 use Rattle.circus_schedule.specs.declared.line.Line.{Line}
 use Rattle.circus_schedule.specs.declared.line.Line.TheVariants.{Deliver, Tick, Crash, Down, Join}
@@ -21,7 +21,7 @@ use Rattle.circus_world.specs.declared.cause.LineCause.{LineCause}
 use Rattle.circus_world.specs.declared.cause.LineCause.TheVariants.{NoDatagram}
 use Rattle.circus_world.specs.declared.sent.Sent.{Sent}
 use Rattle.circus_world.specs.WorldState.{WorldState, Standing, is_live}
-use Rattle.circus_world.specs.Course.{sent_by, Stepped, passed, crashed, told_to_join, concluded, comes_to, delivered}
+use Rattle.circus_world.specs.Course.{sent_by, Stepped, pass_step, crash_node, told_to_join, conclude_step, comes_to, deliver_sent}
 use Rattle.circus_world.specs.Boot.{before_any, joined_by, then_others, all_booted}
 use Rattle.circus_world.specs.Answers.{IsBooted}
 use Rattle.circus_world.specs.Lines.{IsBetween, Leads, Lead}
@@ -98,10 +98,10 @@ module _ {M : Type 0} where
 module _ {M : Type 0} (declared : M → Signature) (turn : M → List ValueTree → ℕ → List ValueTree → List Outcome → NextTurn) where
   there_adds : (node : ℕ) (event : Event) (w next : WorldState M) (s : Standing M) → slice_get w.nodes node ≡ Some s → comes_to declared turn node event w ≡ Ok next → Adds w next
   there_adds node event w next s at is =
-      by_end (node_step.stepped declared turn (w.steps + 1) event s.node)
-      (sym (ap (λ (o : Option (Standing M)). option_map_or (λ (t : Standing M). concluded node t w (node_step.stepped declared turn (w.steps + 1) event t.node)) o (Ok w)) at) ∙ is)
+      by_end (node_step.step_node declared turn (w.steps + 1) event s.node)
+      (sym (ap (λ (o : Option (Standing M)). option_map_or (λ (t : Standing M). conclude_step node t w (node_step.step_node declared turn (w.steps + 1) event t.node)) o (Ok w)) at) ∙ is)
     where
-      by_end : (e : node_step.Ended M) → concluded node s w e ≡ Ok next → Adds w next
+      by_end : (e : node_step.Ended M) → conclude_step node s w e ≡ Ok next → Adds w next
       by_end (Err peer) is = absurd (let clash : ◌≡◌ {A = Stepped M} (Err (node, peer)) (Ok next) = is in cc)
       by_end (Ok ended) is =
           adds_so w _ next is
@@ -118,11 +118,11 @@ module _ {M : Type 0} (declared : M → Signature) (turn : M → List ValueTree 
       let found = get_there w.nodes node below in
       there_adds node event w next found.0 found.1 is
 
-  delivery_adds : (sent : Sent) (w next : WorldState M) → delivered declared turn sent w ≡ Ok next → Adds w next
+  delivery_adds : (sent : Sent) (w next : WorldState M) → deliver_sent declared turn sent w ≡ Ok next → Adds w next
   delivery_adds sent w next is = by_live (is_live w sent.to) refl is
     where
-      by_live : (live : Bool) → is_live w sent.to ≡ live → (if live then comes_to declared turn sent.to (comes.Datagram sent.from sent.bytes) w else Ok (passed w)) ≡ Ok next → Adds w next
-      by_live false live is = adds_so w (passed w) next is (adds_none w (passed w) refl refl refl)
+      by_live : (live : Bool) → is_live w sent.to ≡ live → (if live then comes_to declared turn sent.to (comes.Datagram sent.from sent.bytes) w else Ok (pass_step w)) ≡ Ok next → Adds w next
+      by_live false live is = adds_so w (pass_step w) next is (adds_none w (pass_step w) refl refl refl)
       by_live true live is =
           let there = live_there (slice_get w.nodes sent.to) live in
           there_adds sent.to (comes.Datagram sent.from sent.bytes) w next there.0 there.1 is
@@ -131,9 +131,9 @@ module _ {M : Type 0} (declared : M → Signature) (turn : M → List ValueTree 
   line_adds (Deliver number) w next leads =
       let below : number < length w.sent = ltb-true number (length w.sent) (below_sent (nat_lt number (length w.sent)) number (length w.sent) leads.legal) in
       let found = get_there w.sent number below in
-      delivery_adds found.0 w next (sym (ap (λ (o : Option Sent). option_map_or (λ sent. delivered declared turn sent w) o (Ok w)) found.1) ∙ leads.stepped_is)
+      delivery_adds found.0 w next (sym (ap (λ (o : Option Sent). option_map_or (λ sent. deliver_sent declared turn sent w) o (Ok w)) found.1) ∙ leads.stepped_is)
   line_adds (Tick node) w next leads = comes_adds node comes.Tick w next leads.named leads.stepped_is
-  line_adds (Crash node) w next leads = adds_so w (crashed node w) next leads.stepped_is (adds_none w (crashed node w) refl refl refl)
+  line_adds (Crash node) w next leads = adds_so w (crash_node node w) next leads.stepped_is (adds_none w (crash_node node w) refl refl refl)
   line_adds (Down node told) w next leads = comes_adds told (comes.Down node) w next leads.named.1 leads.stepped_is
   line_adds (Join node) w next leads =
       let told : WorldState M = told_to_join node w in
@@ -174,7 +174,7 @@ module _ {M : Type 0} (declared : M → Signature) (turn : M → List ValueTree 
   LeaveBoot d hosted = (w last : WorldState M) → AtBoot d w → all_booted declared turn first hosted w ≡ Ok last → AtBoot d last
 
   next_at_boot : (d : Deployment) (own : Option M) (others : List (Option M)) → LeaveBoot d others → LeaveBoot d (own ∷ others)
-  next_at_boot d own others leave w last at is = by_end (booted declared turn first w.deployment own (length w.nodes)) is
+  next_at_boot d own others leave w last at is = by_end (boot_node declared turn first w.deployment own (length w.nodes)) is
     where
       by_end : (e : node_step.Ended M) → then_others (all_booted declared turn first others) (joined_by w e) ≡ Ok last → AtBoot d last
       by_end (Err peer) is = absurd (let clash : ◌≡◌ {A = Stepped M} (Err (length w.nodes, peer)) (Ok last) = is in cc)

@@ -18,7 +18,7 @@ use Rattle.circus_node.specs.declared.event.Give.{Give}
 use Rattle.circus_node.specs.declared.event.Outputs.{Outputs}
 use Rattle.circus_node.specs.NodeState.{NodeState}
 use Rattle.circus_node.specs.Node.{IsNodeOf, GoToOthers}
-use Rattle.circus_node.specs.Booting.{AreOfTroupes, IsHosted, booted}
+use Rattle.circus_node.specs.Booting.{AreOfTroupes, IsHosted, boot_node}
 use Rattle.circus_node.specs.Step as node_step
 use Rattle.circus_node.proofs.NodeLemmas.{Boots, stepped_stays, booted_boots}
 use Rattle.circus_node.proofs.TroupeLemmas.{hosted_can_boot}
@@ -26,7 +26,7 @@ use Rattle.circus_schedule.specs.declared.line.Line.{Line}
 use Rattle.circus_schedule.specs.declared.line.Line.TheVariants.{Deliver, Tick, Crash, Down, Join}
 use Rattle.circus_world.specs.declared.sent.Sent.{Sent}
 use Rattle.circus_world.specs.WorldState.{WorldState, Standing, is_live}
-use Rattle.circus_world.specs.Course.{sent_by, Stepped, noted, passed, crashed, told_to_join, concluded, comes_to, delivered, stepped}
+use Rattle.circus_world.specs.Course.{sent_by, Stepped, noted, pass_step, crash_node, told_to_join, conclude_step, comes_to, deliver_sent, step_line}
 use Rattle.circus_world.specs.Boot.{before_any, joined_by, then_others, all_booted, AreHosted}
 use Rattle.circus_world.specs.Lines.{IsBetween}
 use Rattle.circus_world.specs.Seen.Sound.{IsSound}
@@ -78,7 +78,7 @@ module _ {M : Type 0} where
         sent = All-append (IsBetween (length w.deployment.nodes)) w.sent more sound.sent all;
       }
 
-  pub passed_sound : (w : WorldState M) → IsSound w → IsSound (passed w)
+  pub passed_sound : (w : WorldState M) → IsSound w → IsSound (pass_step w)
   passed_sound w sound = record { deployment = sound.deployment; all = sound.all; nodes = sound.nodes; sent = sound.sent }
 
   pub noted_length : (note : Standing M → Standing M) (node : ℕ) (w : WorldState M) → length (noted note node w).nodes ≡ length w.nodes
@@ -102,8 +102,8 @@ module _ {M : Type 0} (declared : M → Signature) (turn : M → List ValueTree 
   pub comes_sound : (node : ℕ) (event : Event) (w next : WorldState M) → IsSound w → comes_to declared turn node event w ≡ Ok next → IsSound next
   comes_sound node event w next sound is = by_node (slice_get w.nodes node) refl is
     where
-      by_end : (s : Standing M) (e : node_step.Ended M) → slice_get w.nodes node ≡ Some s → node_step.stepped declared turn (w.steps + 1) event s.node ≡ e
-          → concluded node s w e ≡ Ok next → IsSound next
+      by_end : (s : Standing M) (e : node_step.Ended M) → slice_get w.nodes node ≡ Some s → node_step.step_node declared turn (w.steps + 1) event s.node ≡ e
+          → conclude_step node s w e ≡ Ok next → IsSound next
       by_end s (Err peer) at ends is = absurd (let clash : ◌≡◌ {A = Stepped M} (Err (node, peer)) (Ok next) = is in cc)
       by_end s (Ok ended) at ends is =
           let stays = stepped_stays declared turn (w.steps + 1) event s.node ended ends in
@@ -114,23 +114,23 @@ module _ {M : Type 0} (declared : M → Signature) (turn : M → List ValueTree 
           (node_sound w node (record s { node = ended.0 }) sound of) (between w.deployment (w.steps + 1) node ended.0 ended.1.gives of within stays.others))
 
       by_node : (o : Option (Standing M)) → slice_get w.nodes node ≡ o
-          → option_map_or (λ (s : Standing M). concluded node s w (node_step.stepped declared turn (w.steps + 1) event s.node)) o (Ok w) ≡ Ok next → IsSound next
+          → option_map_or (λ (s : Standing M). conclude_step node s w (node_step.step_node declared turn (w.steps + 1) event s.node)) o (Ok w) ≡ Ok next → IsSound next
       by_node None at is = sound_so w next is sound
-      by_node (Some s) at is = by_end s (node_step.stepped declared turn (w.steps + 1) event s.node) at refl is
+      by_node (Some s) at is = by_end s (node_step.step_node declared turn (w.steps + 1) event s.node) at refl is
 
-  pub step_sound : (line : Line) (w next : WorldState M) → IsSound w → stepped declared turn line w ≡ Ok next → IsSound next
+  pub step_sound : (line : Line) (w next : WorldState M) → IsSound w → step_line declared turn line w ≡ Ok next → IsSound next
   step_sound (Deliver number) w next sound is = by_sent (slice_get w.sent number) is
     where
-      by_live : (sent : Sent) (live : Bool) → (if live then comes_to declared turn sent.to (comes.Datagram sent.from sent.bytes) w else Ok (passed w)) ≡ Ok next → IsSound next
+      by_live : (sent : Sent) (live : Bool) → (if live then comes_to declared turn sent.to (comes.Datagram sent.from sent.bytes) w else Ok (pass_step w)) ≡ Ok next → IsSound next
       by_live sent true is = comes_sound sent.to (comes.Datagram sent.from sent.bytes) w next sound is
-      by_live sent false is = sound_so (passed w) next is (passed_sound w sound)
+      by_live sent false is = sound_so (pass_step w) next is (passed_sound w sound)
 
-      by_sent : (o : Option Sent) → option_map_or (λ sent. delivered declared turn sent w) o (Ok w) ≡ Ok next → IsSound next
+      by_sent : (o : Option Sent) → option_map_or (λ sent. deliver_sent declared turn sent w) o (Ok w) ≡ Ok next → IsSound next
       by_sent None is = sound_so w next is sound
       by_sent (Some sent) is = by_live sent (is_live w sent.to) is
   step_sound (Tick node) w next sound is = comes_sound node comes.Tick w next sound is
   step_sound (Crash node) w next sound is =
-      sound_so (crashed node w) next is (passed_sound _ (noted_sound (λ s. record s { crashed = Some (w.steps + 1) }) node w (λ s. refl) sound))
+      sound_so (crash_node node w) next is (passed_sound _ (noted_sound (λ s. record s { crashed = Some (w.steps + 1) }) node w (λ s. refl) sound))
   step_sound (Down node told) w next sound is = comes_sound told (comes.Down node) w next sound is
   step_sound (Join node) w next sound is =
       comes_sound node comes.Join (told_to_join node w) next (noted_sound (λ s. record s { joins = true }) node w (λ s. refl) sound) is
@@ -145,7 +145,7 @@ module _ {M : Type 0} (declared : M → Signature) (turn : M → List ValueTree 
   module _ (first : M → List ValueTree) where
     one_more : (w : WorldState M) (own : Option M) (ended : NodeState M × Outputs) → SoFar w → IsDeployment w.deployment → AreOfTroupes w.deployment (map declared w.modules)
         → length w.nodes < length w.deployment.nodes → IsHosted declared turn first w.deployment w.modules (length w.nodes) own
-        → booted declared turn first w.deployment own (length w.nodes) ≡ Ok ended
+        → boot_node declared turn first w.deployment own (length w.nodes) ≡ Ok ended
         → SoFar (record w {
           nodes = w.nodes ++ record { node = ended.0; crashed = None; joins = false } ∷ [];
           sent = w.sent ++ map (sent_by 0 (length w.nodes)) ended.1.gives;
@@ -175,7 +175,7 @@ module _ {M : Type 0} (declared : M → Signature) (turn : M → List ValueTree 
         → all_booted declared turn first hosted w ≡ Ok last → IsSound last
 
     next_sound : (own : Option M) (others : List (Option M)) → LeaveSound others → LeaveSound (own ∷ others)
-    next_sound own others leave w last so_far good are all hosts is = by_end (booted declared turn first w.deployment own (length w.nodes)) refl is
+    next_sound own others leave w last so_far good are all hosts is = by_end (boot_node declared turn first w.deployment own (length w.nodes)) refl is
       where
         within : length w.nodes < length w.deployment.nodes
         within = omega (arith, all)
@@ -183,7 +183,7 @@ module _ {M : Type 0} (declared : M → Signature) (turn : M → List ValueTree 
         hosts_it : IsHosted declared turn first w.deployment w.modules (length w.nodes) own
         hosts_it = subst (λ k. IsHosted declared turn first w.deployment w.modules k own) (add-zero (length w.nodes)) (hosts 0 own refl)
 
-        by_end : (e : node_step.Ended M) → booted declared turn first w.deployment own (length w.nodes) ≡ e
+        by_end : (e : node_step.Ended M) → boot_node declared turn first w.deployment own (length w.nodes) ≡ e
             → then_others (all_booted declared turn first others) (joined_by w e) ≡ Ok last → IsSound last
         by_end (Err peer) ends is = absurd (let clash : ◌≡◌ {A = Stepped M} (Err (length w.nodes, peer)) (Ok last) = is in cc)
         by_end (Ok ended) ends is =

@@ -15,7 +15,7 @@ use Rattle.circus_world.specs.declared.slot.Slot.{Slot}
 use Rattle.circus_world.specs.declared.world.Loss.{Loss}
 use Rattle.circus_world.specs.declared.world.Loss.TheVariants as loss
 use Rattle.circus_world.specs.WorldState.{WorldState, Standing}
-use Rattle.circus_world.specs.Course.{sent_by, Stepped, noted, concluded, comes_to}
+use Rattle.circus_world.specs.Course.{sent_by, Stepped, noted, conclude_step, comes_to}
 use Rattle.circus_world.specs.Seen.Slots.{standing, standings, AreFull, world_of}
 use Rattle.circus_world.specs.Seen.Followed.{IsFollowed}
 use Rattle.circus_world.specs.Seen.Made.{CanMake}
@@ -66,10 +66,10 @@ module _ {M P : Type 0} (declared : M → Signature) (turn : M → List ValueTre
   comes_there : (d : Deployment) (modules : List M) (steps node : ℕ) (event : Event) (old : List (Slot M P)) (before : List Sent) (slot : Slot M P) (n : NodeState M)
       → AreFull old → slice_get old node ≡ Some slot → slot.core ≡ Some n
       → comes_to declared turn node event (world_of d modules old before steps)
-      ≡ concluded node (standing n slot) (world_of d modules old before steps) (node_step.stepped declared turn (steps + 1) event n)
+      ≡ conclude_step node (standing n slot) (world_of d modules old before steps) (node_step.step_node declared turn (steps + 1) event n)
   comes_there d modules steps node event old before slot n full at core =
       let w : WorldState M = world_of d modules old before steps in
-      let next : Standing M → Stepped M = λ s. concluded node s w (node_step.stepped declared turn (steps + 1) event s.node) in
+      let next : Standing M → Stepped M = λ s. conclude_step node s w (node_step.step_node declared turn (steps + 1) event s.node) in
       ap (λ (o : Option (Standing M)). option_map_or next o (Ok w)) (get_full old node slot n full at core)
 
   pub made_is : (d : Deployment) (modules : List M) (steps node : ℕ) (event : Event) (old new : List (Slot M P)) (before after : List Sent)
@@ -88,7 +88,7 @@ module _ {M P : Type 0} (declared : M → Signature) (turn : M → List ValueTre
       let whole : List (Standing M) → List Sent → Stepped M =
       λ l m. Ok (record { deployment = d; modules = modules; nodes = l; sent = m; steps = steps + 1 }) in
       comes_there d modules steps node event old before h.slot made.before full h.there made.core
-      ∙ ap (λ e. concluded node s w e) made.stepped_is
+      ∙ ap (λ e. conclude_step node s w e) made.stepped_is
       ∙ sym (ap (λ l. whole l after) slots ∙ ap (λ m. whole (set (standings old) node (record s { node = made.after })) m) given)
 
   pub spent_is : (d : Deployment) (modules : List M) (steps node : ℕ) (event : Event) (old : List (Slot M P)) (before : List Sent) (peer : ℕ)
@@ -96,7 +96,7 @@ module _ {M P : Type 0} (declared : M → Signature) (turn : M → List ValueTre
       → comes_to declared turn node event (world_of d modules old before steps) ≡ Err (node, peer)
   spent_is d modules steps node event old before peer full h =
       comes_there d modules steps node event old before h.slot h.before full h.there h.core
-      ∙ ap (λ e. concluded node (standing h.before h.slot) (world_of d modules old before steps) e) h.stepped_is
+      ∙ ap (λ e. conclude_step node (standing h.before h.slot) (world_of d modules old before steps) e) h.stepped_is
 
   -- what can come to a node can come to it in its slot
   pub can_make : (d : Deployment) (modules : List M) (steps node : ℕ) (event : Event) (old : List (Slot M P)) (before : List Sent)

@@ -77,7 +77,7 @@ module _ {M : Type 0} (declared : M → Signature) (turn : M → List ValueTree 
   -- ---- steps
 
   concluded_as : (node : ℕ) (s : Standing M) (w : WorldState M) (end : node_step.Ended M)
-      → step_as declared turn first (course.concluded node s w end) ≡ course.concluded node (one s) (seen w) (ended_as declared turn first end)
+      → step_as declared turn first (course.conclude_step node s w end) ≡ course.conclude_step node (one s) (seen w) (ended_as declared turn first end)
   concluded_as node s w (Ok ended) =
       let whole : List (Standing Behaviour) → Stepped Behaviour = λ nodes.
       Ok (record (seen w) { nodes = nodes; sent = w.sent ++ map (course.sent_by (w.steps + 1) node) ended.1.gives; steps = w.steps + 1 }) in
@@ -88,24 +88,24 @@ module _ {M : Type 0} (declared : M → Signature) (turn : M → List ValueTree 
       → step_as declared turn first (course.comes_to declared turn node event w) ≡ course.comes_to declared_of turn_of node event (seen w)
   comes_to_as node event w =
       of_option (slice_get w.nodes node)
-      ∙ sym (by_node (λ s. course.concluded node s (seen w) (node_step.stepped declared_of turn_of (w.steps + 1) event s.node)) (Ok (seen w)) w node)
+      ∙ sym (by_node (λ s. course.conclude_step node s (seen w) (node_step.step_node declared_of turn_of (w.steps + 1) event s.node)) (Ok (seen w)) w node)
     where
       of_option : (o : Option (Standing M))
-          → step_as declared turn first (option_map_or (λ s. course.concluded node s w (node_step.stepped declared turn (w.steps + 1) event s.node)) o (Ok w))
-          ≡ option_map_or (λ s. course.concluded node (one s) (seen w) (node_step.stepped declared_of turn_of (w.steps + 1) event (one s).node)) o (Ok (seen w))
+          → step_as declared turn first (option_map_or (λ s. course.conclude_step node s w (node_step.step_node declared turn (w.steps + 1) event s.node)) o (Ok w))
+          ≡ option_map_or (λ s. course.conclude_step node (one s) (seen w) (node_step.step_node declared_of turn_of (w.steps + 1) event (one s).node)) o (Ok (seen w))
       of_option None = refl
       of_option (Some s) =
-          concluded_as node s w (node_step.stepped declared turn (w.steps + 1) event s.node)
-          ∙ ap (course.concluded node (one s) (seen w)) (node_stepped_as declared turn first (w.steps + 1) event s.node)
+          concluded_as node s w (node_step.step_node declared turn (w.steps + 1) event s.node)
+          ∙ ap (course.conclude_step node (one s) (seen w)) (node_stepped_as declared turn first (w.steps + 1) event s.node)
 
-  delivered_as : (sent : Sent) (w : WorldState M) → step_as declared turn first (course.delivered declared turn sent w) ≡ course.delivered declared_of turn_of sent (seen w)
+  delivered_as : (sent : Sent) (w : WorldState M) → step_as declared turn first (course.deliver_sent declared turn sent w) ≡ course.deliver_sent declared_of turn_of sent (seen w)
   delivered_as sent w =
       by_test (is_live w sent.to)
-      ∙ sym (ap (λ b. if b then course.comes_to declared_of turn_of sent.to (comes.Datagram sent.from sent.bytes) (seen w) else Ok (course.passed (seen w))) (live_as w sent.to))
+      ∙ sym (ap (λ b. if b then course.comes_to declared_of turn_of sent.to (comes.Datagram sent.from sent.bytes) (seen w) else Ok (course.pass_step (seen w))) (live_as w sent.to))
     where
       by_test : (b : Bool)
-          → step_as declared turn first (if b then course.comes_to declared turn sent.to (comes.Datagram sent.from sent.bytes) w else Ok (course.passed w))
-          ≡ (if b then course.comes_to declared_of turn_of sent.to (comes.Datagram sent.from sent.bytes) (seen w) else Ok (course.passed (seen w)))
+          → step_as declared turn first (if b then course.comes_to declared turn sent.to (comes.Datagram sent.from sent.bytes) w else Ok (course.pass_step w))
+          ≡ (if b then course.comes_to declared_of turn_of sent.to (comes.Datagram sent.from sent.bytes) (seen w) else Ok (course.pass_step (seen w)))
       by_test true = comes_to_as sent.to (comes.Datagram sent.from sent.bytes) w
       by_test false = refl
 
@@ -122,16 +122,16 @@ module _ {M : Type 0} (declared : M → Signature) (turn : M → List ValueTree 
       of_option (Some s) = set_map one w.nodes node (note s) ∙ ap (slice_set (map one w.nodes) node) (same s)
 
   pub world_stepped_as : (line : Line) (w : WorldState M)
-      → step_as declared turn first (course.stepped declared turn line w) ≡ course.stepped declared_of turn_of line (seen w)
+      → step_as declared turn first (course.step_line declared turn line w) ≡ course.step_line declared_of turn_of line (seen w)
   world_stepped_as (Deliver number) w = of_option (slice_get w.sent number)
     where
-      of_option : (o : Option Sent) → step_as declared turn first (option_map_or (λ sent. course.delivered declared turn sent w) o (Ok w))
-          ≡ option_map_or (λ sent. course.delivered declared_of turn_of sent (seen w)) o (Ok (seen w))
+      of_option : (o : Option Sent) → step_as declared turn first (option_map_or (λ sent. course.deliver_sent declared turn sent w) o (Ok w))
+          ≡ option_map_or (λ sent. course.deliver_sent declared_of turn_of sent (seen w)) o (Ok (seen w))
       of_option None = refl
       of_option (Some sent) = delivered_as sent w
   world_stepped_as (Tick node) w = comes_to_as node comes.Tick w
   world_stepped_as (Crash node) w =
-      ap (λ (x : WorldState Behaviour). Ok (course.passed x))
+      ap (λ (x : WorldState Behaviour). Ok (course.pass_step x))
       (noted_as (λ s. record s { crashed = Some (w.steps + 1) }) (λ s. record s { crashed = Some (w.steps + 1) }) (λ s. refl) node w)
   world_stepped_as (Down node told) w = comes_to_as told (comes.Down node) w
   world_stepped_as (Join node) w =
@@ -163,11 +163,11 @@ module _ {M : Type 0} (declared : M → Signature) (turn : M → List ValueTree 
       ≡ all_booted declared_of turn_of first_of (map (option_map (behaviour declared turn first)) hosted) (seen w)
   all_booted_as [] w = refl
   all_booted_as (h ∷ others) w =
-      let end = booting.booted declared turn first w.deployment h (length w.nodes) in
+      let end = booting.boot_node declared turn first w.deployment h (length w.nodes) in
       let rest = map (option_map (behaviour declared turn first)) others in
       then_others_as others (all_booted_as others) (joined_by w end)
       ∙ ap (then_others (all_booted declared_of turn_of first_of rest)) (
       joined_by_as w end
       ∙ ap (joined_by (seen w)) (
       node_booted_as declared turn first w.deployment h (length w.nodes)
-      ∙ ap (booting.booted declared_of turn_of first_of w.deployment (option_map (behaviour declared turn first) h)) (sym (length-map w.nodes one))))
+      ∙ ap (booting.boot_node declared_of turn_of first_of w.deployment (option_map (behaviour declared turn first) h)) (sym (length-map w.nodes one))))

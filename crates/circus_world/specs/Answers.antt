@@ -12,15 +12,15 @@ use Rattle.circus_world.specs.declared.world.WorldFault.{WorldFault}
 use Rattle.circus_world.specs.declared.world.WorldFault.TheVariants as fault
 use Rattle.circus_world.specs.WorldState.{WorldState}
 use Rattle.circus_world.specs.Legal.{refusal}
-use Rattle.circus_world.specs.Course.{stepped}
+use Rattle.circus_world.specs.Course.{step_line}
 use Rattle.circus_world.specs.Boot.{before_any, all_booted, AreHosted}
 
 module _ {M : Type 0} (declared : M → Signature) (turn : M → List ValueTree → ℕ → List ValueTree → List Outcome → NextTurn) where
   -- a line is refused for the first cause, or stepped, but for want of memory
   abbrev pub IsStepped : {P : Type 0} → Line → WorldState M → Result (WorldState M) (WorldFault M P) → Type 0
-  IsStepped line w (Ok next) = (refusal w line ≡ None) × (stepped declared turn line w ≡ Ok next)
+  IsStepped line w (Ok next) = (refusal w line ≡ None) × (step_line declared turn line w ≡ Ok next)
   IsStepped line w (Err (fault.Illegal same cause)) = (refusal w line ≡ Some cause) × (same ≡ w)
-  IsStepped line w (Err (fault.Spent node peer)) = (refusal w line ≡ None) × (stepped declared turn line w ≡ Err (node, peer))
+  IsStepped line w (Err (fault.Spent node peer)) = (refusal w line ≡ None) × (step_line declared turn line w ≡ Err (node, peer))
   IsStepped line w (Err fault.NoMemory) = Unit {0}
 
 module _ {M : Type 0} (declared : M → Signature) (turn : M → List ValueTree → ℕ → List ValueTree → List Outcome → NextTurn) (first : M → List ValueTree) where

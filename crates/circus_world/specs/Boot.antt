@@ -35,7 +35,7 @@ module _ {M : Type 0} (declared : M → Signature) (turn : M → List ValueTree 
   all_booted [] w = Ok w
   all_booted (hosted ∷ others) w =
       then_others (all_booted others)
-      (joined_by w (booting.booted declared turn first w.deployment hosted (length w.nodes)))
+      (joined_by w (booting.boot_node declared turn first w.deployment hosted (length w.nodes)))
 
   -- each node hosts a module that does what its troupe's does
   pub record AreHosted (d : Deployment) (modules : List M) (hosted : List (Option M)) : Type 0 where

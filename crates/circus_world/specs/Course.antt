@@ -24,43 +24,43 @@ Stepped M = Result (WorldState M) (ℕ × ℕ)
 
 module _ {M : Type 0} where
   -- a step in which no node does anything
-  abbrev pub passed : WorldState M → WorldState M
-  passed w = record w { steps = w.steps + 1 }
+  abbrev pub pass_step : WorldState M → WorldState M
+  pass_step w = record w { steps = w.steps + 1 }
 
   -- something is noted of a node
   abbrev pub noted : (Standing M → Standing M) → ℕ → WorldState M → WorldState M
   noted note node w = record w { nodes = option_map_or (λ s. slice_set w.nodes node (note s)) (slice_get w.nodes node) w.nodes }
 
-  abbrev pub crashed : ℕ → WorldState M → WorldState M
-  crashed node w = passed (noted (λ s. record s { crashed = Some (w.steps + 1) }) node w)
+  abbrev pub crash_node : ℕ → WorldState M → WorldState M
+  crash_node node w = pass_step (noted (λ s. record s { crashed = Some (w.steps + 1) }) node w)
 
   abbrev pub told_to_join : ℕ → WorldState M → WorldState M
   told_to_join node w = noted (λ s. record s { joins = true }) node w
 
   -- a node has made a step, which came to this
-  abbrev pub concluded : ℕ → Standing M → WorldState M → node_step.Ended M → Stepped M
-  concluded node s w (Ok ended) =
+  abbrev pub conclude_step : ℕ → Standing M → WorldState M → node_step.Ended M → Stepped M
+  conclude_step node s w (Ok ended) =
       Ok (record w {
         nodes = slice_set w.nodes node (record s { node = ended.0 });
         sent = w.sent ++ map (sent_by (w.steps + 1) node) ended.1.gives;
         steps = w.steps + 1;
       })
-  concluded node s w (Err peer) = Err (node, peer)
+  conclude_step node s w (Err peer) = Err (node, peer)
 
 module _ {M : Type 0} (declared : M → Signature) (turn : M → List ValueTree → ℕ → List ValueTree → List Outcome → NextTurn) where
   -- something comes to a node
   abbrev pub comes_to : ℕ → Event → WorldState M → Stepped M
   comes_to node event w =
-      option_map_or (λ s. concluded node s w (node_step.stepped declared turn (w.steps + 1) event s.node)) (slice_get w.nodes node) (Ok w)
+      option_map_or (λ s. conclude_step node s w (node_step.step_node declared turn (w.steps + 1) event s.node)) (slice_get w.nodes node) (Ok w)
 
   -- a datagram is delivered; one for a crashed node is lost
-  abbrev pub delivered : Sent → WorldState M → Stepped M
-  delivered sent w = if is_live w sent.to then comes_to sent.to (comes.Datagram sent.from sent.bytes) w else Ok (passed w)
+  abbrev pub deliver_sent : Sent → WorldState M → Stepped M
+  deliver_sent sent w = if is_live w sent.to then comes_to sent.to (comes.Datagram sent.from sent.bytes) w else Ok (pass_step w)
 
   -- a line that may be stepped
-  abbrev pub stepped : Line → WorldState M → Stepped M
-  stepped (Deliver number) w = option_map_or (λ sent. delivered sent w) (slice_get w.sent number) (Ok w)
-  stepped (Tick node) w = comes_to node comes.Tick w
-  stepped (Crash node) w = Ok (crashed node w)
-  stepped (Down node told) w = comes_to told (comes.Down node) w
-  stepped (Join node) w = comes_to node comes.Join (told_to_join node w)
+  abbrev pub step_line : Line → WorldState M → Stepped M
+  step_line (Deliver number) w = option_map_or (λ sent. deliver_sent sent w) (slice_get w.sent number) (Ok w)
+  step_line (Tick node) w = comes_to node comes.Tick w
+  step_line (Crash node) w = Ok (crash_node node w)
+  step_line (Down node told) w = comes_to told (comes.Down node) w
+  step_line (Join node) w = comes_to node comes.Join (told_to_join node w)

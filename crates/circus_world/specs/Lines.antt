@@ -9,7 +9,7 @@ use Rattle.circus_schedule.specs.Meaning.{NamesBelow}
 use Rattle.circus_world.specs.declared.sent.Sent.{Sent}
 use Rattle.circus_world.specs.WorldState.{WorldState}
 use Rattle.circus_world.specs.Legal.{refusal}
-use Rattle.circus_world.specs.Course.{stepped}
+use Rattle.circus_world.specs.Course.{step_line}
 
 -- a datagram goes from one of so many nodes to another one
 pub record IsBetween (nodes : ℕ) (sent : Sent) : Type 0 where
@@ -22,7 +22,7 @@ module _ {M : Type 0} (declared : M → Signature) (turn : M → List ValueTree 
   pub record Leads (line : Line) (w next : WorldState M) : Type 0 where
     pub named : NamesBelow (length w.nodes) line
     pub legal : refusal w line ≡ None
-    pub stepped_is : stepped declared turn line w ≡ Ok next
+    pub stepped_is : step_line declared turn line w ≡ Ok next
 
   -- such lines, one behind another
   abbrev pub Lead : List Line → WorldState M → WorldState M → Type 0

@@ -9,7 +9,7 @@ ghost use Rattle.circus_schedule.specs.declared.line.Line.{Line};
 ghost use Rattle.circus_world.specs.declared.sent.Sent.{Sent};
 ghost use Rattle.circus_world.specs.WorldState.{WorldState};
 ghost use Rattle.circus_world.specs.Legal.{refusal};
-ghost use Rattle.circus_world.specs.Course.{stepped};
+ghost use Rattle.circus_world.specs.Course.{step_line};
 ghost use Rattle.circus_world.specs.Boot.{all_booted};
 ghost use Rattle.circus_world.specs.Alike.{world_as, step_as};
 ghost use Rattle.circus_world.specs.Answers.{IsBooted};
@@ -61,8 +61,8 @@ pub fn worlds_depend_on_behaviours<M: Module>()
     ensures refusals { (line : Line) (world : WorldState M)
         → refusal (world_as M.declared M.turn M.first world) line ≡ refusal world line }
     ensures steps { (line : Line) (world : WorldState M)
-        → step_as M.declared M.turn M.first (stepped M.declared M.turn line world)
-        ≡ stepped declared_of turn_of line (world_as M.declared M.turn M.first world) }
+        → step_as M.declared M.turn M.first (step_line M.declared M.turn line world)
+        ≡ step_line declared_of turn_of line (world_as M.declared M.turn M.first world) }
     ensures boots { (hosted : List (Option M)) (world : WorldState M)
         → step_as M.declared M.turn M.first (all_booted M.declared M.turn M.first hosted world)
         ≡ all_booted declared_of turn_of first_of

@@ -275,7 +275,7 @@ impl<M: Module> World<M> {
         requires named { NamesBelow (length self.nodes) line.now }
         requires few { self.steps < 18446744073709551615 }
         requires legal { refusal self line.now ≡ None }
-        ensures { IsFollowed result (course.stepped M.declared M.turn line.now self) }
+        ensures { IsFollowed result (course.step_line M.declared M.turn line.now self) }
     {
         match *line {
             Line::Deliver(number) => self.deliver(number),
@@ -289,7 +289,7 @@ impl<M: Module> World<M> {
     // A datagram is delivered; one for a crashed node is lost.
     fn deliver(self, number: u64) -> Result<Self, Loss>
         requires few { self.steps < 18446744073709551615 }
-        ensures { IsFollowed result (course.stepped M.declared M.turn (Line.Deliver number) self) }
+        ensures { IsFollowed result (course.step_line M.declared M.turn (Line.Deliver number) self) }
     {
         let Some(sent) = self.sent.get(number as usize) else {
             return Ok(self);
@@ -330,7 +330,7 @@ impl<M: Module> World<M> {
     // A step in which no node does anything.
     fn pass(self) -> Self
         requires { self.steps < 18446744073709551615 }
-        ensures { result ≡ course.passed self }
+        ensures { result ≡ course.pass_step self }
     {
         let World {
             deployment,
@@ -351,7 +351,7 @@ impl<M: Module> World<M> {
     fn crash(self, node: u16) -> Self
         requires node { node < length self.nodes }
         requires few { self.steps < 18446744073709551615 }
-        ensures { result ≡ course.crashed node self }
+        ensures { result ≡ course.crash_node node self }
     {
         let World {
             deployment,

@@ -22,7 +22,7 @@ use Rattle.circus_member_rules.specs.declared.occurrence.Occurrence.TheVariants 
 use Rattle.circus_member_rules.specs.declared.occurrence.Purpose.{Purpose}
 use Rattle.circus_member_rules.specs.declared.occurrence.Purpose.TheVariants as for
 use Rattle.circus_member_rules.specs.MemberState.{MemberState, Doing}
-use Rattle.circus_node.specs.Accepting.{accepted}
+use Rattle.circus_node.specs.Accepting.{occurrence_of_heard}
 use Rattle.circus_node.specs.declared.event.Event.{Event}
 use Rattle.circus_node.specs.declared.event.Event.TheVariants as comes
 use Rattle.circus_node.specs.Booting.{home_of, made_at_boot, fresh_wire}
@@ -35,7 +35,7 @@ use Rattle.circus_alike.proofs.MembersAlike.{stepped_as, booted_as}
 use Rattle.circus_world.specs.declared.sent.Sent.{Sent}
 use Rattle.circus_world.specs.WorldState.{WorldState, Standing}
 use Rattle.circus_world.specs.Alike.{standing_as, world_as, step_as}
-use Rattle.circus_world.specs.Course.{Stepped, stepped}
+use Rattle.circus_world.specs.Course.{Stepped, step_line}
 use Rattle.circus_world.proofs.WorldsAlike.{world_stepped_as}
 use Rattle.circus_talks.specs.Histories.{delivery, comes_by, with_others, with_step, with_line, with_lines, acts_of}
 use Rattle.circus_talks.specs.NodeActs.{with_all, came_by, handed_by, wire_behind, acts_in, acts_at_boot}
@@ -51,7 +51,7 @@ module _ {M : Type 0} (declared : M → Signature) (turn : M → List ValueTree 
   -- ---- a node
 
   pub accepted_as : (d : Deployment) (s : Signature) (m : MemberState M) (from : ℕ) (h : Heard Purpose)
-      → accepted d s (member_as declared turn first m) from h ≡ accepted d s m from h
+      → occurrence_of_heard d s (member_as declared turn first m) from h ≡ occurrence_of_heard d s m from h
   accepted_as d s m from Dropped = refl
   accepted_as d s m from Taken = refl
   accepted_as d s m from (Called sender message) = refl
@@ -72,14 +72,14 @@ module _ {M : Type 0} (declared : M → Signature) (turn : M → List ValueTree 
   arriving_as d at from heard (member m) =
       ap
       (λ o. (option_map_or (making.happens declared_of turn_of at (member_as declared turn first m)) o
-      (making.refused (member (member_as declared turn first m)))).came.effects)
+      (making.refuse (member (member_as declared turn first m)))).came.effects)
       (accepted_as d (declared m.performing.hosted) m from heard)
-      ∙ by_option (accepted d (declared m.performing.hosted) m from heard)
+      ∙ by_option (occurrence_of_heard d (declared m.performing.hosted) m from heard)
     where
       by_option : (o : Option Occurrence)
           → (option_map_or (making.happens declared_of turn_of at (member_as declared turn first m)) o
-          (making.refused (member (member_as declared turn first m)))).came.effects
-          ≡ (option_map_or (making.happens declared turn at m) o (making.refused (member m))).came.effects
+          (making.refuse (member (member_as declared turn first m)))).came.effects
+          ≡ (option_map_or (making.happens declared turn at m) o (making.refuse (member m))).came.effects
       by_option None = refl
       by_option (Some o) = happening_as at m o
 
@@ -185,9 +185,9 @@ module _ {M : Type 0} (declared : M → Signature) (turn : M → List ValueTree 
         → with_lines declared_of turn_of node acts lines (seen w) ≡ with_lines declared turn node acts lines w
     lines_as acts [] w = refl
     lines_as acts (line ∷ lines) w =
-        ap (λ q. with_others (with_lines declared_of turn_of node q lines) acts (stepped declared_of turn_of line (seen w))) (line_as acts line w)
+        ap (λ q. with_others (with_lines declared_of turn_of node q lines) acts (step_line declared_of turn_of line (seen w))) (line_as acts line w)
         ∙ ap (with_others (with_lines declared_of turn_of node behind lines) acts) (sym (world_stepped_as declared turn first line w))
-        ∙ of_step (λ next. lines_as behind lines next) (stepped declared turn line w)
+        ∙ of_step (λ next. lines_as behind lines next) (step_line declared turn line w)
       where
         behind : WireActs Purpose
         behind = with_line declared turn node acts line w

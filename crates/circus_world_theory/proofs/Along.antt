@@ -28,7 +28,7 @@ use Rattle.circus_world.specs.declared.sent.Sent.{Sent}
 use Rattle.circus_world.specs.declared.cause.LineCause.{LineCause}
 use Rattle.circus_world.specs.declared.cause.LineCause.TheVariants.{NoDatagram}
 use Rattle.circus_world.specs.WorldState.{WorldState, Standing, is_live}
-use Rattle.circus_world.specs.Course.{Stepped, noted, passed, crashed, told_to_join, comes_to, stepped}
+use Rattle.circus_world.specs.Course.{Stepped, noted, pass_step, crash_node, told_to_join, comes_to, step_line}
 use Rattle.circus_world.specs.Lines.{Leads, Lead}
 use Rattle.circus_world.proofs.ComeLemmas.{delivered_at}
 use Rattle.circus_world.proofs.SlotLemmas.{get_set, get_there}
@@ -106,7 +106,7 @@ module _ {M : Type 0} (declared : M → Signature) (turn : M → List ValueTree 
     (program : List Behaviour) (d : Deployment) where
   -- ---- something is noted of a node
 
-  passed_true : (acts : ℕ → WireActs Purpose) (w : WorldState M) → NodesTrue declared turn first program d acts w → NodesTrue declared turn first program d acts (passed w)
+  passed_true : (acts : ℕ → WireActs Purpose) (w : WorldState M) → NodesTrue declared turn first program d acts w → NodesTrue declared turn first program d acts (pass_step w)
   passed_true acts w so_far = record { deployment = so_far.deployment; nodes = so_far.nodes; said = so_far.said }
 
   noted_true : (acts : ℕ → WireActs Purpose) (note : Standing M → Standing M) (node : ℕ) (w : WorldState M) → ((s : Standing M) → (note s).node ≡ s.node)
@@ -159,7 +159,7 @@ module _ {M : Type 0} (declared : M → Signature) (turn : M → List ValueTree 
         (λ other differs. elsewhere_by declared turn line w node event comes_it other differs (acts other)) next is
 
     delivered_true : (number : ℕ) (sent : Sent) (live : Bool) → slice_get w.sent number ≡ Some sent → is_live w sent.to ≡ live
-        → stepped declared turn (Deliver number) w ≡ Ok next → IsTrue (behind (Deliver number))
+        → step_line declared turn (Deliver number) w ≡ Ok next → IsTrue (behind (Deliver number))
     delivered_true number sent true there live is =
         let s = live_there (slice_get w.nodes sent.to) live in
         moved (Deliver number) sent.to (comes.Datagram sent.from sent.bytes) s.0
@@ -168,7 +168,7 @@ module _ {M : Type 0} (declared : M → Signature) (turn : M → List ValueTree 
         (sym (delivered_at declared turn w number sent true there live) ∙ is)
     delivered_true number sent false there live is =
         unmoved (Deliver number) (ap (option_and_then (delivery w)) there ∙ ap (λ b. if b then Some (sent.to, comes.Datagram sent.from sent.bytes) else None) live)
-        (true_so declared turn first program d acts (passed w) next (sym (delivered_at declared turn w number sent false there live) ∙ is) (passed_true declared turn first program d acts w so_far))
+        (true_so declared turn first program d acts (pass_step w) next (sym (delivered_at declared turn w number sent false there live) ∙ is) (passed_true declared turn first program d acts w so_far))
 
     pub line_true : (line : Line) → Leads declared turn line w next → IsTrue (behind line)
     line_true (Deliver number) leads =
@@ -180,7 +180,7 @@ module _ {M : Type 0} (declared : M → Signature) (turn : M → List ValueTree 
         moved (Tick node) node comes.Tick s.0 refl s.1 tt leads.stepped_is
     line_true (Crash node) leads =
         unmoved (Crash node) refl
-        (true_so declared turn first program d acts (crashed node w) next leads.stepped_is
+        (true_so declared turn first program d acts (crash_node node w) next leads.stepped_is
         (passed_true declared turn first program d acts _ (noted_true declared turn first program d acts (λ s. record s { crashed = Some (w.steps + 1) }) node w (λ s. refl) so_far)))
     line_true (Down node told) leads =
         let s = get_there w.nodes told leads.named.1 in

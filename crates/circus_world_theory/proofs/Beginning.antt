@@ -29,7 +29,7 @@ use Rattle.circus_member_rules.specs.Step as member_step
 use Rattle.circus_member_rules.specs.Seen.Sound.{IsRested}
 use Rattle.circus_node.specs.Accepting.{troupe_at}
 use Rattle.circus_node.specs.declared.event.Outputs.{Outputs}
-use Rattle.circus_node.specs.Booting.{AreOfTroupes, IsHosted, home_in, home_of, made_at_boot, member_at_boot, booted, fresh_wire}
+use Rattle.circus_node.specs.Booting.{AreOfTroupes, IsHosted, home_in, home_of, made_at_boot, member_at_boot, boot_node, fresh_wire}
 use Rattle.circus_node.specs.NodeState.{NodeState}
 use Rattle.circus_node.specs.Making.{Made}
 use Rattle.circus_node.proofs.BootLemmas.{is_home}
@@ -103,7 +103,7 @@ module _ {M : Type 0} (declared : M → Signature) (turn : M → List ValueTree 
       member_true =
           let home = home_in d node number one in
           let views = boot_views d.troupes in
-          let booted = member_step.booted declared turn first home.place views home.beginning hosted in
+          let boot_node = member_step.boot_member declared turn first home.place views home.beginning hosted in
           let stands = is_home d node home (declared hosted) good home_is (fit.each number (declared hosted) declared_there) in
           let many = length_boot d.troupes in
           let rests = boot_rests declared turn first lawful home.place views home.beginning hosted stands in
@@ -112,11 +112,11 @@ module _ {M : Type 0} (declared : M → Signature) (turn : M → List ValueTree 
           record {
             acting = record {
               at = subst (λ (h : M). IsAt program number (behaviour declared turn first h)) (sym rests.hosted) at;
-              rested = subst (λ (h : M). IsRested (behaviour declared turn first h) booted.member) (sym rests.hosted) rests.rested;
+              rested = subst (λ (h : M). IsRested (behaviour declared turn first h) boot_node.member) (sym rests.hosted) rests.rested;
               of = record { views = ap (λ (vs : List View). length vs) rests.views ∙ many };
-              is = subst (λ (h : M). IsTrueMember (history_of program) number (first h) Called booted.member) (sym rests.hosted) keeps.member;
+              is = subst (λ (h : M). IsTrueMember (history_of program) number (first h) Called boot_node.member) (sym rests.hosted) keeps.member;
             };
-            effects = All-weaker (IsTrueEffect (history_of program) number (first hosted) Called) (EffectSo program Called (Some number)) effect_so booted.effects keeps.effects;
+            effects = All-weaker (IsTrueEffect (history_of program) number (first hosted) Called) (EffectSo program Called (Some number)) effect_so boot_node.effects keeps.effects;
             differences = refl;
           }
 
@@ -145,7 +145,7 @@ module _ {M : Type 0} (declared : M → Signature) (turn : M → List ValueTree 
     made_true : (own : Option M) → IsHosted declared turn first d modules node own → Makes (troupe_at d node) (made_at_boot declared turn first d (home_of d node) own)
     made_true own hosts = by_troupe own (troupe_at d node) refl hosts
 
-    booted_true : (own : Option M) (ended : NodeState M × Outputs) → IsHosted declared turn first d modules node own → booted declared turn first d own node ≡ Ok ended
+    booted_true : (own : Option M) (ended : NodeState M × Outputs) → IsHosted declared turn first d modules node own → boot_node declared turn first d own node ≡ Ok ended
         → EndsTrue declared turn first program d Called (troupe_at d node) (made_at_boot declared turn first d (home_of d node) own).came.effects ended
     booted_true own ended hosts is =
         let m = made_at_boot declared turn first d (home_of d node) own in

@@ -9,7 +9,7 @@ use Rattle.circus_collate.specs.declared.deployment.Deployment.{Deployment}
 use Rattle.circus_model.specs.NextTurn.{NextTurn}
 use Rattle.circus_model.specs.declared.signature.Signature.{Signature}
 use Rattle.circus_node.specs.declared.event.Outputs.{Outputs}
-use Rattle.circus_node.specs.Booting.{booted}
+use Rattle.circus_node.specs.Booting.{boot_node}
 use Rattle.circus_node.specs.NodeState.{NodeState}
 use Rattle.circus_node.specs.Step as node_step
 use Rattle.circus_world.specs.WorldState.{WorldState, Standing}
@@ -25,7 +25,7 @@ module _ {M : Type 0} (declared : M → Signature) (turn : M → List ValueTree 
     pub own : Option M
     pub own_is : slice_get hosted node ≡ Some own
     pub outputs : Outputs
-    pub booted_is : booted declared turn first d own node ≡ Ok (n, outputs)
+    pub booted_is : boot_node declared turn first d own node ≡ Ok (n, outputs)
 
   -- with the deployment, so has each node
   pub record SoFar (w : WorldState M) : Type 0 where
@@ -33,7 +33,7 @@ module _ {M : Type 0} (declared : M → Signature) (turn : M → List ValueTree 
     pub nodes : (node : ℕ) (s : Standing M) → slice_get w.nodes node ≡ Some s → HasBooted node s.node
 
   one_more : (w : WorldState M) (own : Option M) (ended : NodeState M × Outputs) → SoFar w → slice_get hosted (length w.nodes) ≡ Some own
-      → booted declared turn first w.deployment own (length w.nodes) ≡ Ok ended
+      → boot_node declared turn first w.deployment own (length w.nodes) ≡ Ok ended
       → SoFar (record w {
         nodes = w.nodes ++ record { node = ended.0; crashed = None; joins = false } ∷ [];
         sent = w.sent ++ map (course.sent_by 0 (length w.nodes)) ended.1.gives;
@@ -45,7 +45,7 @@ module _ {M : Type 0} (declared : M → Signature) (turn : M → List ValueTree 
       }
     where
       last : HasBooted (length w.nodes) ended.0
-      last = record { own = own; own_is = at; outputs = ended.1; booted_is = ap (λ x. booted declared turn first x own (length w.nodes)) (sym so_far.deployment) ∙ ends }
+      last = record { own = own; own_is = at; outputs = ended.1; booted_is = ap (λ x. boot_node declared turn first x own (length w.nodes)) (sym so_far.deployment) ∙ ends }
 
       by_place : (node : ℕ) (s : Standing M) → ((node ≡ length w.nodes) × (s ≡ record { node = ended.0; crashed = None; joins = false })) ⊎ (slice_get w.nodes node ≡ Some s)
           → HasBooted node s.node
@@ -59,9 +59,9 @@ module _ {M : Type 0} (declared : M → Signature) (turn : M → List ValueTree 
       → all_booted declared turn first others w ≡ Ok last → SoFar last
 
   next_so_far : (own : Option M) (others : List (Option M)) → LeaveSoFar others → LeaveSoFar (own ∷ others)
-  next_so_far own others leave w last so_far are_there is = by_end (booted declared turn first w.deployment own (length w.nodes)) refl is
+  next_so_far own others leave w last so_far are_there is = by_end (boot_node declared turn first w.deployment own (length w.nodes)) refl is
     where
-      by_end : (e : node_step.Ended M) → booted declared turn first w.deployment own (length w.nodes) ≡ e
+      by_end : (e : node_step.Ended M) → boot_node declared turn first w.deployment own (length w.nodes) ≡ e
           → then_others (all_booted declared turn first others) (joined_by w e) ≡ Ok last → SoFar last
       by_end (Err peer) ends is = absurd (let clash : ◌≡◌ {A = Stepped M} (Err (length w.nodes, peer)) (Ok last) = is in cc)
       by_end (Ok ended) ends is =

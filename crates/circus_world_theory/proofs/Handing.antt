@@ -15,7 +15,7 @@ use Rattle.circus_member_rules.specs.declared.occurrence.Effect.TheVariants as m
 use Rattle.circus_node.specs.declared.event.Event.{Event}
 use Rattle.circus_node.specs.declared.event.Event.TheVariants as comes
 use Rattle.circus_node.specs.Sending.{is_sendable}
-use Rattle.circus_talks.specs.NodeActs.{with_all, coming, came_by, handed_by}
+use Rattle.circus_talks.specs.NodeActs.{with_all, acts_of_datagram, came_by, handed_by}
 use Rattle.circus_world_theory.proofs.Saying.{IsSaid, AllSaid, call_stays}
 
 pub calls_stay : (b : Beginning) (acts : WireActs Purpose) (later : List (WireAct Purpose)) (node n : ℕ) (found : List ℕ)
@@ -45,7 +45,7 @@ module _ (OfCall : Purpose → List ℕ → Type 0) (OfReturn : Caller → List 
   came_said : (event : Event) → EachSaid (came_by event)
   came_said (comes.Datagram from bytes) = by_segment (reading bytes)
     where
-      by_segment : (segment : Result Piece SegmentFault) → EachSaid (coming from segment)
+      by_segment : (segment : Result Piece SegmentFault) → EachSaid (acts_of_datagram from segment)
       by_segment (Ok s) = (tt, tt)
       by_segment (Err fault) = tt
   came_said comes.Tick = (tt, tt)

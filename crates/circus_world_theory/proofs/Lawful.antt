@@ -19,7 +19,7 @@ use Rattle.circus_schedule.specs.Meaning.{NamesBelow}
 use Rattle.circus_alike.specs.Alike.{declared_of, turn_of, first_of, acting_as}
 use Rattle.circus_world.specs.WorldState.{WorldState}
 use Rattle.circus_world.specs.Alike.{standing_as, world_as, step_as}
-use Rattle.circus_world.specs.Course.{Stepped, stepped}
+use Rattle.circus_world.specs.Course.{Stepped, step_line}
 use Rattle.circus_world.specs.Boot.{before_any, all_booted, AreHosted}
 use Rattle.circus_world.specs.Lines.{Lead}
 use Rattle.circus_world.proofs.WorldsAlike.{refusal_as, world_stepped_as, all_booted_as}
@@ -118,7 +118,7 @@ lifts_lead : (lines : List Line) (w : WorldState Lawful) (last : WorldState Beha
 lifts_lead [] w last lead = record { world = w; leads = refl; same = sym lead }
 lifts_lead (line ∷ lines) w last lead =
     let l = lead.1 in
-    let step = lifts (stepped declared turn line w) lead.0 (world_stepped_as declared turn first line w ∙ l.stepped_is) in
+    let step = lifts (step_line declared turn line w) lead.0 (world_stepped_as declared turn first line w ∙ l.stepped_is) in
     let rest = lifts_lead lines step.world last (subst (λ (v : WorldState Behaviour). Lead declared_of turn_of lines v last) (sym step.same) lead.2) in
     record {
       world = rest.world;

@@ -28,12 +28,12 @@ use Rattle.circus_member_rules.specs.declared.occurrence.Effect.TheVariants as m
 use Rattle.circus_member_rules.specs.declared.occurrence.Occurrence.{Occurrence}
 use Rattle.circus_member_rules.specs.declared.occurrence.Occurrence.TheVariants as comes
 use Rattle.circus_member_rules.specs.MemberState.{MemberState}
-use Rattle.circus_member_rules.specs.Step.{stepped}
+use Rattle.circus_member_rules.specs.Step.{step_member}
 use Rattle.circus_member_rules.specs.Happening.{CanHappen}
 use Rattle.circus_member_rules.specs.Seen.Sound.{IsRested}
-use Rattle.circus_node.specs.Accepting.{accepted, accepted_request}
+use Rattle.circus_node.specs.Accepting.{occurrence_of_heard, accepted_request}
 use Rattle.circus_node.specs.NodeState.{Acting, member, ringmaster}
-use Rattle.circus_node.specs.Making.{Made, happens, unchanged, refused, arrives_at_ring, by_ring, hears, learns_down, is_told_to_join, performs, table_message, a_drop}
+use Rattle.circus_node.specs.Making.{Made, happens, keep_acting, refuse, arrives_at_ring, by_ring, hears, learns_down, is_told_to_join, performs, table_message, a_drop}
 use Rattle.circus_truth.specs.Proper.{AreProper}
 use Rattle.circus_truth.specs.Truth.{IsTrueMember, IsTrueOccurrence, IsTrueEffect, IsTrueCallFor, IsTrueReturn}
 use Rattle.circus_member_theory.proofs.Accepting.True.{call_is_true, return_is_true}
@@ -102,7 +102,7 @@ module _ {M : Type 0} (declared : M → Signature) (first : M → List ValueTree
 -- it does so where it is accepted of what is heard
 abbrev pub Accepts : {M : Type 0} → (M → Signature) → (M → List ValueTree) → List Behaviour → Deployment → (Caller → List ℕ → Type 0) → ℕ → MemberState M → ℕ → Heard Purpose → Type 0
 Accepts declared first program d Called troupe m from h =
-    (x : Occurrence) → accepted d (declared m.performing.hosted) m from h ≡ Some x → Happens declared first program Called troupe m x
+    (x : Occurrence) → occurrence_of_heard d (declared m.performing.hosted) m from h ≡ Some x → Happens declared first program Called troupe m x
 
 module _ {M : Type 0} (declared : M → Signature) (turn : M → List ValueTree → ℕ → List ValueTree → List Outcome → NextTurn) (first : M → List ValueTree)
     (program : List Behaviour) (d : Deployment) (Called : Caller → List ℕ → Type 0) (troupe : ℕ) (m : MemberState M)
@@ -171,7 +171,7 @@ module _ {M : Type 0} (declared : M → Signature) (turn : M → List ValueTree 
 
     happens_true : (at : ℕ) (o : Occurrence) → Happens declared first program Called troupe m o → Makes (happens declared turn at m o)
     happens_true at o (can, so) =
-        let n = stepped declared turn at o m in
+        let n = step_member declared turn at o m in
         let rests = step_rests declared turn first lawful at o m so_far.rested can (in_range program agree are troupe (first m.performing.hosted) Called m o so) in
         let keeps = step_keeps_true declared turn first lawful program agree are proper troupe Called at o m so_far.at so_far.rested can so_far.is so in
         record {
@@ -185,23 +185,23 @@ module _ {M : Type 0} (declared : M → Signature) (turn : M → List ValueTree 
           differences = ap (λ (o : Option Difference). option_to_list o) (no_difference (history_of program) troupe (first m.performing.hosted) Called o m so_far.is so);
         }
 
-    nothing_made : Makes (unchanged (member m))
+    nothing_made : Makes (keep_acting (member m))
     nothing_made = record { acting = so_far; effects = All-nil (EffectSo program Called (Some troupe)); differences = refl }
 
-    nothing_accepted : Makes (refused (member m))
+    nothing_accepted : Makes (refuse (member m))
     nothing_accepted = record { acting = so_far; effects = All-nil (EffectSo program Called (Some troupe)); differences = refl }
 
     by_accepted : (at : ℕ) (o : Option Occurrence) → ((x : Occurrence) → o ≡ Some x → Happens declared first program Called troupe m x)
-        → Makes (option_map_or (happens declared turn at m) o (refused (member m)))
+        → Makes (option_map_or (happens declared turn at m) o (refuse (member m)))
     by_accepted at None so = nothing_accepted
     by_accepted at (Some o) so = happens_true at o (so o refl)
 
     heard_true : (at from : ℕ) (h : Heard Purpose) → Accepts declared first program d Called troupe m from h → Makes (hears declared turn d at from h (member m))
     heard_true at from heard.Dropped so = nothing_accepted
     heard_true at from heard.Taken so = nothing_made
-    heard_true at from (heard.Called sender message) so = by_accepted at (accepted d (declared m.performing.hosted) m from (heard.Called sender message)) so
+    heard_true at from (heard.Called sender message) so = by_accepted at (occurrence_of_heard d (declared m.performing.hosted) m from (heard.Called sender message)) so
     heard_true at from (heard.Returned number purpose message) so =
-        by_accepted at (accepted d (declared m.performing.hosted) m from (heard.Returned number purpose message)) so
+        by_accepted at (occurrence_of_heard d (declared m.performing.hosted) m from (heard.Returned number purpose message)) so
 
   -- ---- either
 

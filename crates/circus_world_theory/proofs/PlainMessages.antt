@@ -40,14 +40,14 @@ seen_none_differ w none = λ line node event s ended came at stepped_is.
   where
     by_node : (line : Line) (node : ℕ) (event : Event) (s : Standing Behaviour) (ended : NodeState Behaviour × Outputs) → comes_by line w ≡ Some (node, event)
         → (o : Option (Standing Lawful)) → slice_get w.nodes node ≡ o → option_map (standing_as lawful.declared lawful.turn lawful.first) o ≡ Some s
-        → node_step.stepped declared_of turn_of (w.steps + 1) event s.node ≡ Ok ended → ended.1.differences ≡ []
+        → node_step.step_node declared_of turn_of (w.steps + 1) event s.node ≡ Ok ended → ended.1.differences ≡ []
     by_node line node event s ended came None there at stepped_is = absurd (none-some s at)
     by_node line node event s ended came (Some t) there at stepped_is =
         let same : standing_as lawful.declared lawful.turn lawful.first t ≡ s = same_Some _ _ at in
-        differ_as (node_step.stepped lawful.declared lawful.turn (w.steps + 1) event t.node) ended
+        differ_as (node_step.step_node lawful.declared lawful.turn (w.steps + 1) event t.node) ended
         (λ e is. none line node event t e came there is)
         (node_stepped_as lawful.declared lawful.turn lawful.first (w.steps + 1) event t.node
-        ∙ ap (λ (v : Standing Behaviour). node_step.stepped declared_of turn_of (w.steps + 1) event v.node) same ∙ stepped_is)
+        ∙ ap (λ (v : Standing Behaviour). node_step.step_node declared_of turn_of (w.steps + 1) event v.node) same ∙ stepped_is)
 
 -- ---- a world of behaviours
 

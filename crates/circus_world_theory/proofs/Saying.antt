@@ -4,7 +4,7 @@ use Rattle.std.specs.Prelude.{is_some, IfSome}
 use Rattle.std.proofs.lemmas.Bool.{eqb-true, ne_eqb}
 use Rattle.circus_value.specs.declared.caller.Caller.{Caller}
 use Rattle.circus_pair.specs.Acts.{Act, Call, Return, Came, Tick, Stop, Acts, more}
-use Rattle.circus_pair.specs.Handed.{made, call_at, return_at}
+use Rattle.circus_pair.specs.Handed.{calls_made, call_at, return_at}
 use Rattle.circus_pair.specs.Lawful.{is_stopped_after}
 use Rattle.circus_pair.specs.TwoEnds.{with_act}
 use Rattle.circus_pair.proofs.Flowing.{made_call}
@@ -18,8 +18,8 @@ call_other : (first : ℕ) (acts : Acts) (message found : List ℕ) (n : ℕ) �
 unfolding call_at
 call_other first acts message found n is =
     let below = made_call first acts n (ap is_some is) in
-    let high : n < first + made acts = below.1 in
-    ap (λ b. cond b (Some message) (call_at first acts n)) (ne_eqb n (first + made acts) (λ same. absurd (omega arith))) ∙ is
+    let high : n < first + calls_made acts = below.1 in
+    ap (λ b. cond b (Some message) (call_at first acts n)) (ne_eqb n (first + calls_made acts) (λ same. absurd (omega arith))) ∙ is
 
 call_chosen : (first : ℕ) (acts : Acts) (b : Bool) (a : Act) (found : List ℕ) (n : ℕ)
     → (call_at first acts n ≡ Some found → call_at first (more acts a) n ≡ Some found)
@@ -71,10 +71,10 @@ module _ {P : Type 0} (OfCall : P → List ℕ → Type 0) (OfReturn : Caller �
   IsPaired (Some message) (Some purpose) = OfCall purpose message
 
   put : (first : ℕ) (here : Acts) (message : List ℕ) (purpose : P) (a : Bool) (n : ℕ) (o : Option P) → OfCall purpose message → IsPaired (call_at first here n) o
-      → IsPaired (call_at first (with_act here (cond a (Some (Call message)) None)) n) (cond (a && eqb n (first + made here)) (Some purpose) o)
+      → IsPaired (call_at first (with_act here (cond a (Some (Call message)) None)) n) (cond (a && eqb n (first + calls_made here)) (Some purpose) o)
   unfolding call_at
   put first here message purpose true n o so paired =
-      elim (eqb n (first + made here)) as (λ b. IsPaired (cond b (Some message) (call_at first here n)) (cond b (Some purpose) o)) [ true ↦ so | false ↦ paired ]
+      elim (eqb n (first + calls_made here)) as (λ b. IsPaired (cond b (Some message) (call_at first here n)) (cond b (Some purpose) o)) [ true ↦ so | false ↦ paired ]
   put first here message purpose false n o so paired = paired
 
   chosen : (first : ℕ) (here : Acts) (b : Bool) (a : Act) (n : ℕ) (o : Option P) → (IsPaired (call_at first here n) o → IsPaired (call_at first (more here a) n) o)

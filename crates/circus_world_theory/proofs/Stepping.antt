@@ -37,7 +37,7 @@ use Rattle.circus_node.specs.Making.{Made, hears, learns_down, is_told_to_join}
 use Rattle.circus_node.specs.Sending.{Sending, sent, spent, gives_of, all_handed}
 use Rattle.circus_node.specs.Step as node_step
 use Rattle.circus_world.specs.WorldState.{WorldState, Standing}
-use Rattle.circus_world.specs.Course.{Stepped, concluded, comes_to}
+use Rattle.circus_world.specs.Course.{Stepped, conclude_step, comes_to}
 use Rattle.circus_world.specs.Course as course
 use Rattle.circus_world.proofs.SlotLemmas.{get_set, get_there}
 use Rattle.circus_talks.specs.Histories.{beginning_of}
@@ -130,9 +130,9 @@ same_world a b is = cc
 -- what comes to a node that stands in a world is a step of this node
 pub comes_is : {M : Type 0} (declared : M → Signature) (turn : M → List ValueTree → ℕ → List ValueTree → List Outcome → NextTurn)
     (w : WorldState M) (node : ℕ) (event : Event) (s : Standing M) → slice_get w.nodes node ≡ Some s
-    → comes_to declared turn node event w ≡ concluded node s w (node_step.stepped declared turn (w.steps + 1) event s.node)
+    → comes_to declared turn node event w ≡ conclude_step node s w (node_step.step_node declared turn (w.steps + 1) event s.node)
 comes_is {M} declared turn w node event s at =
-    ap (λ (o : Option (Standing M)). option_map_or (λ (t : Standing M). concluded node t w (node_step.stepped declared turn (w.steps + 1) event t.node)) o (Ok w)) at
+    ap (λ (o : Option (Standing M)). option_map_or (λ (t : Standing M). conclude_step node t w (node_step.step_node declared turn (w.steps + 1) event t.node)) o (Ok w)) at
 
 module _ {M : Type 0} (declared : M → Signature) (turn : M → List ValueTree → ℕ → List ValueTree → List Outcome → NextTurn) (first : M → List ValueTree)
     (program : List Behaviour) (d : Deployment) where
@@ -150,7 +150,7 @@ module _ {M : Type 0} (declared : M → Signature) (turn : M → List ValueTree 
 
   module _ (Called : Caller → List ℕ → Type 0) (own : Option ℕ) where
     sent_ends : (n : NodeState M) (m : Made M) (s : Sending) (ended : NodeState M × Outputs) → MakesTrue declared turn first program d Called own m → n.acting ≡ m.acting
-        → node_step.ended n m.came s ≡ Ok ended → EndsTrue Called own m.came.effects ended
+        → node_step.end_step n m.came s ≡ Ok ended → EndsTrue Called own m.came.effects ended
     sent_ends n m (sent w gives) ended makes acting is =
         subst (λ (e : NodeState M × Outputs). EndsTrue Called own m.came.effects e) (same_ended _ ended is)
         (record { acting = subst (λ (a : Acting M). ActsTrue declared turn first program d Called own a) (sym acting) makes.acting; effects = makes.effects; differences = makes.differences })
@@ -158,7 +158,7 @@ module _ {M : Type 0} (declared : M → Signature) (turn : M → List ValueTree 
 
     pub concluded_ends : (n : NodeState M) (gives : List Give) (m : Made M) (ended : NodeState M × Outputs) → MakesTrue declared turn first program d Called own m
         → n.acting ≡ m.acting
-        → node_step.concluded n gives m.came ≡ Ok ended → EndsTrue Called own m.came.effects ended
+        → node_step.conclude_step n gives m.came ≡ Ok ended → EndsTrue Called own m.came.effects ended
     concluded_ends n gives m ended makes acting is = sent_ends n m (all_handed (sent n.wire gives) m.came.effects) ended makes acting is
 
 -- what comes to a node truly comes to it
@@ -185,7 +185,7 @@ module _ {M : Type 0} (declared : M → Signature) (turn : M → List ValueTree 
   here_true : ActsTrue declared turn first program d (CalledAt d acts node) (troupe_at d node) s.node.acting
   here_true = so_far.nodes node s at
 
-  pub ends_true : (event : Event) (ended : NodeState M × Outputs) → ComesTruly d acts node event s.node → node_step.stepped declared turn (w.steps + 1) event s.node ≡ Ok ended
+  pub ends_true : (event : Event) (ended : NodeState M × Outputs) → ComesTruly d acts node event s.node → node_step.step_node declared turn (w.steps + 1) event s.node ≡ Ok ended
       → Ends event ended
   ends_true (comes.Datagram from bytes) ended truly is =
       let h = heard_from s.node.wire from (reading bytes) in
@@ -242,7 +242,7 @@ module _ {M : Type 0} (declared : M → Signature) (turn : M → List ValueTree 
     effect_made (made.Call to message purpose) so = so
     effect_made (made.Answer caller message) so = so
 
-    module _ (ended : NodeState M × Outputs) (ends : node_step.stepped declared turn (w.steps + 1) event s.node ≡ Ok ended) where
+    module _ (ended : NodeState M × Outputs) (ends : node_step.step_node declared turn (w.steps + 1) event s.node ≡ Ok ended) where
       abbrev after : WorldState M
       after = record w {
         nodes = set w.nodes node (record s { node = ended.0 });
@@ -284,11 +284,11 @@ module _ {M : Type 0} (declared : M → Signature) (turn : M → List ValueTree 
       after_true = record { deployment = so_far.deployment; nodes = still_true; said = still_said }
 
     pub comes_true : (next : WorldState M) → comes_to declared turn node event w ≡ Ok next → NodesTrue declared turn first program d new next
-    comes_true next is = by_end (node_step.stepped declared turn (w.steps + 1) event s.node) refl
+    comes_true next is = by_end (node_step.step_node declared turn (w.steps + 1) event s.node) refl
       where
-        by_end : (e : node_step.Ended M) → node_step.stepped declared turn (w.steps + 1) event s.node ≡ e → NodesTrue declared turn first program d new next
+        by_end : (e : node_step.Ended M) → node_step.step_node declared turn (w.steps + 1) event s.node ≡ e → NodesTrue declared turn first program d new next
         by_end (Ok ended) ends =
             subst (λ (v : WorldState M). NodesTrue declared turn first program d new v)
-            (same_world (after ended ends) next (sym (comes_is declared turn w node event s at ∙ ap (concluded node s w) ends) ∙ is)) (after_true ended ends)
+            (same_world (after ended ends) next (sym (comes_is declared turn w node event s at ∙ ap (conclude_step node s w) ends) ∙ is)) (after_true ended ends)
         by_end (Err peer) ends = absurd (let clash : ◌≡◌ {A = Stepped M} (Err (node, peer)) (Ok next) =
-            sym (comes_is declared turn w node event s at ∙ ap (concluded node s w) ends) ∙ is in cc)
+            sym (comes_is declared turn w node event s at ∙ ap (conclude_step node s w) ends) ∙ is in cc)

@@ -118,4 +118,4 @@ OthersCiteNothing d acts = (node other number : ℕ) (message : List ℕ) → tr
 abbrev pub NoneDiffer : {M : Type 0} → (M → Signature) → (M → List ValueTree → ℕ → List ValueTree → List Outcome → NextTurn) → WorldState M → Type 0
 NoneDiffer {M} declared turn w =
     (line : Line) (node : ℕ) (event : Event) (s : Standing M) (ended : NodeState M × Outputs) → comes_by line w ≡ Some (node, event) → slice_get w.nodes node ≡ Some s
-    → node_step.stepped declared turn (w.steps + 1) event s.node ≡ Ok ended → ended.1.differences ≡ []
+    → node_step.step_node declared turn (w.steps + 1) event s.node ≡ Ok ended → ended.1.differences ≡ []

@@ -10,13 +10,13 @@ use Rattle.circus_wire.specs.Wire.{heard_from}
 use Rattle.circus_member_rules.specs.declared.occurrence.Occurrence.{Occurrence}
 use Rattle.circus_member_rules.specs.declared.occurrence.Occurrence.TheVariants as occurs
 use Rattle.circus_member_rules.specs.MemberState.{MemberState}
-use Rattle.circus_node.specs.Accepting.{accepted}
+use Rattle.circus_node.specs.Accepting.{occurrence_of_heard}
 use Rattle.circus_node.specs.declared.event.Event.{Event}
 use Rattle.circus_node.specs.declared.event.Event.TheVariants as comes
 use Rattle.circus_node.specs.NodeState.{Acting, member, ringmaster, NodeState}
 use Rattle.circus_schedule.specs.declared.line.Line.{Line}
 use Rattle.circus_world.specs.WorldState.{WorldState, Standing}
-use Rattle.circus_world.specs.Course.{Stepped, stepped}
+use Rattle.circus_world.specs.Course.{Stepped, step_line}
 use Rattle.circus_talks.specs.Histories.{comes_by}
 use Rattle.circus_timely.specs.Past.{Past, booted, followed}
 
@@ -31,7 +31,7 @@ module _ {M : Type 0} where
 module _ {M : Type 0} (declared : M → Signature) where
   -- what is accepted of a message that arrives, a declaration, or a join
   abbrev pub happens_to : NodeState M → Event → MemberState M → Option Occurrence
-  happens_to n (comes.Datagram from bytes) m = accepted n.deployment (declared m.performing.hosted) m from (heard_from n.wire from (reading bytes))
+  happens_to n (comes.Datagram from bytes) m = occurrence_of_heard n.deployment (declared m.performing.hosted) m from (heard_from n.wire from (reading bytes))
   happens_to n comes.Tick m = None
   happens_to n (comes.Down node) m = Some (occurs.Declared node)
   happens_to n comes.Join m = Some occurs.Joins
@@ -68,7 +68,7 @@ module _ {M : Type 0} (declared : M → Signature) (turn : M → List ValueTree 
   -- behind lines, as far as they are stepped
   abbrev pub with_lines : ℕ → Past → List Line → WorldState M → Past
   with_lines node p [] w = p
-  with_lines node p (line ∷ lines) w = with_others (with_lines node (with_line declared node p line w) lines) p (stepped declared turn line w)
+  with_lines node p (line ∷ lines) w = with_others (with_lines node (with_line declared node p line w) lines) p (step_line declared turn line w)
 
   -- the past of the member of a node, from boot on
   abbrev pub past_of : List Line → WorldState M → ℕ → Past

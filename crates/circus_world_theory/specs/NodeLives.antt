@@ -12,7 +12,7 @@ use Rattle.circus_node.specs.declared.event.Outputs.{Outputs}
 use Rattle.circus_node.specs.Booting.{CanBoot}
 use Rattle.circus_node.specs.Booting as booting
 use Rattle.circus_node.specs.NodeState.{NodeState}
-use Rattle.circus_node.specs.Step.{Ended, stepped}
+use Rattle.circus_node.specs.Step.{Ended, step_node}
 use Rattle.circus_timely.specs.Past.{Past, booted}
 use Rattle.circus_world_theory.specs.Happened.{happens_by, with_one}
 
@@ -36,7 +36,7 @@ module _ {M : Type 0} (declared : M → Signature) (turn : M → List ValueTree 
   -- events come to a node one behind another, and lead to this: datagrams of anyone with any bytes, ticks, declarations and joins
   abbrev pub Comes : Events → NodeState M → NodeState M → Type 0
   Comes [] n last = last ≡ n
-  Comes (next ∷ events) n last = (ended : NodeState M × Outputs) × IsOfBytes next.1 × (stepped declared turn next.0 next.1 n ≡ Ok ended) × Comes events ended.0 last
+  Comes (next ∷ events) n last = (ended : NodeState M × Outputs) × IsOfBytes next.1 × (step_node declared turn next.0 next.1 n ≡ Ok ended) × Comes events ended.0 last
 
   -- and then behind others, from the node on that a step came to, if it came to one
   abbrev pub with_rest : (NodeState M → Past) → Past → Ended M → Past
@@ -47,7 +47,7 @@ module _ {M : Type 0} (declared : M → Signature) (turn : M → List ValueTree 
   abbrev pub with_events : Past → Events → NodeState M → Past
   with_events p [] n = p
   with_events p (next ∷ events) n =
-      with_rest (with_events (with_one p next.0 (happens_by declared next.1 n)) events) p (stepped declared turn next.0 next.1 n)
+      with_rest (with_events (with_one p next.0 (happens_by declared next.1 n)) events) p (step_node declared turn next.0 next.1 n)
 
   -- from boot on
   abbrev pub past_behind : Events → NodeState M → Past
@@ -58,6 +58,6 @@ module _ {M : Type 0} (declared : M → Signature) (turn : M → List ValueTree 
   pub record IsLife (d : Deployment) (own : M) (node : ℕ) (events : Events) (begun last : NodeState M) : Type 0 where
     pub can : CanBoot d node (Some (declared own))
     pub outputs : Outputs
-    pub boots : booting.booted declared turn first d (Some own) node ≡ Ok (begun, outputs)
+    pub boots : booting.boot_node declared turn first d (Some own) node ≡ Ok (begun, outputs)
     pub rising : Rising 0 events
     pub comes : Comes declared turn events begun last

@@ -65,7 +65,7 @@ fn lines(
 }
 
 // The lines of the server of one call.
-fn shown(alloc: Global, record: &MemberRecord) -> Result<Octets, Fail> {
+fn show_record(alloc: Global, record: &MemberRecord) -> Result<Octets, Fail> {
     let Loaded {
         deployment,
         names,
@@ -77,7 +77,7 @@ fn shown(alloc: Global, record: &MemberRecord) -> Result<Octets, Fail> {
 #[test]
 fn a_member_is_shown(rt: HostRuntime) -> Result<(), Fail> {
     let server = server(rt.alloc(), "1")?;
-    let text = shown(rt.alloc(), server.record().ok_or("no record")?)?;
+    let text = show_record(rt.alloc(), server.record().ok_or("no record")?)?;
     let lines = "member s1 Counter live from 0 at 0 count 0\nnow idle state [0]\n";
     assert_eq!(rt; text.as_slice(), lines.as_bytes());
     Ok(())

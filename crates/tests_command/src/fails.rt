@@ -143,7 +143,7 @@ pub fn strings(alloc: Global, texts: &[&str]) -> Result<Vec<String>, NoMemory> {
 }
 
 // The call that fails, if a number is given.
-fn failing(alloc: Global, number: Option<u64>) -> Result<Failing, NoMemory> {
+fn fail_at(alloc: Global, number: Option<u64>) -> Result<Failing, NoMemory> {
     let mut failing = Failing::new(alloc);
     if let Some(number) = number {
         failing.push(number)?;
@@ -162,12 +162,12 @@ pub fn shelf(alloc: Global, contents: Contents, fails: Option<u64>) -> Result<Me
     let mut files = Files::new(alloc);
     files.push(file(alloc, "p", contents.0)?)?;
     files.push(file(alloc, "s", contents.1)?)?;
-    Ok(MemShelf::new(alloc, files, failing(alloc, fails)?))
+    Ok(MemShelf::new(alloc, files, fail_at(alloc, fails)?))
 }
 
 /// A link at which nothing arrives.
 pub fn idle_link(alloc: Global, fails: Option<u64>) -> Result<MemLink, NoMemory> {
-    Ok(MemLink::new(alloc, Arrivals::new(alloc), failing(alloc, fails)?))
+    Ok(MemLink::new(alloc, Arrivals::new(alloc), fail_at(alloc, fails)?))
 }
 
 // Performs the words.
@@ -179,7 +179,7 @@ fn perform(
 ) -> Result<Ended, NoMemory> {
     let words = strings(alloc, words)?;
     let mut shelf = shelf(alloc, contents, failures.shelf)?;
-    let mut sink = MemSink::new(alloc, failing(alloc, failures.sink)?);
+    let mut sink = MemSink::new(alloc, fail_at(alloc, failures.sink)?);
     let mut link = idle_link(alloc, failures.link)?;
     let status = circus(alloc, words.as_slice(), &mut shelf, &mut sink, &mut link);
     Ok(Ended {

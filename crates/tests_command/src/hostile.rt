@@ -44,7 +44,7 @@ const BYTES: [(usize, usize, bool); 11] = [
 ];
 
 // The nodes of a program at boot, and what they give.
-fn booted(alloc: Global, format: &str) -> Result<ListOf<(GuardedNode<TextModule>, Outputs)>, Fail> {
+fn boot_nodes(alloc: Global, format: &str) -> Result<ListOf<(GuardedNode<TextModule>, Outputs)>, Fail> {
     let behind = ONE_CALL.strip_prefix("CIRCUS 1;").ok_or("no format")?;
     let text = format!(in alloc; "CIRCUS {format};{behind}")?;
     let program = load(alloc, read_program(alloc, text.as_bytes())?)?;
@@ -54,7 +54,7 @@ fn booted(alloc: Global, format: &str) -> Result<ListOf<(GuardedNode<TextModule>
 
 /// The server of one call at boot, in a format.
 pub fn server(alloc: Global, format: &str) -> Result<GuardedNode<TextModule>, Fail> {
-    for (node, _) in booted(alloc, format)?.into_items() {
+    for (node, _) in boot_nodes(alloc, format)?.into_items() {
         if node.number() == 1 {
             return Ok(node);
         }
@@ -73,20 +73,20 @@ fn message(alloc: Global, digits: &str, place: Option<usize>) -> Result<Message,
 }
 
 // How much the server of a program in a format drops, where these bytes come from the root.
-fn dropped(alloc: Global, format: &str, bytes: Message) -> Result<u64, Fail> {
+fn count_dropped(alloc: Global, format: &str, bytes: Message) -> Result<u64, Fail> {
     let server = server(alloc, format)?;
     let (server, _) = server.step(1, Event::Datagram(2, bytes.shared()?))?;
-    Ok(server.dropped())
+    Ok(server.count_dropped())
 }
 
 #[test]
 fn what_is_no_segment_is_dropped(rt: HostRuntime) -> Result<(), Fail> {
     for digits in NO_SEGMENTS {
         let bytes = message(rt.alloc(), digits, None)?;
-        assert_eq!(rt; dropped(rt.alloc(), "1", bytes)?, 1, "at {digits}");
+        assert_eq!(rt; count_dropped(rt.alloc(), "1", bytes)?, 1, "at {digits}");
     }
     let bytes = message(rt.alloc(), FIRST_CALL, None)?;
-    assert_eq!(rt; dropped(rt.alloc(), "2", bytes)?, 1);
+    assert_eq!(rt; count_dropped(rt.alloc(), "2", bytes)?, 1);
     Ok(())
 }
 
@@ -95,7 +95,7 @@ fn each_byte_of_a_call(rt: HostRuntime) -> Result<(), Fail> {
     for (first, end, counts_for_nothing) in BYTES {
         for place in first..end {
             let bytes = message(rt.alloc(), FIRST_CALL, Some(place))?;
-            let dropped = dropped(rt.alloc(), "1", bytes)?;
+            let dropped = count_dropped(rt.alloc(), "1", bytes)?;
             assert_eq!(rt; dropped, u64::from(counts_for_nothing), "at {place}");
         }
     }
@@ -107,6 +107,6 @@ fn each_byte_of_a_call(rt: HostRuntime) -> Result<(), Fail> {
 fn a_segment_that_is_too_long(rt: HostRuntime) -> Result<(), Fail> {
     let mut bytes = message(rt.alloc(), "0000010100000000", None)?;
     bytes.append(&[0; 1025])?;
-    assert_eq!(rt; dropped(rt.alloc(), "1", bytes)?, 1);
+    assert_eq!(rt; count_dropped(rt.alloc(), "1", bytes)?, 1);
     Ok(())
 }

@@ -20,7 +20,7 @@ fn sum_of(alloc: Global, sum: u32) -> Result<Values, NoMemory> {
 }
 
 // What a tally does at this sum, to which a number is added.
-fn added(alloc: Global, sum: u32, number: u16) -> Result<Turn<Unused>, NoMemory> {
+fn turn_of_sum(alloc: Global, sum: u32, number: u16) -> Result<Turn<Unused>, NoMemory> {
     let mut state = State::new(alloc);
     state.push(Value::LongCardinal(sum))?;
     let mut arguments = Values::new(alloc);
@@ -32,9 +32,9 @@ fn added(alloc: Global, sum: u32, number: u16) -> Result<Turn<Unused>, NoMemory>
 fn ends_so(alloc: Global, sum: u32, number: u16, gives: Option<u32>) -> Result<bool, NoMemory> {
     let expected = match gives {
         Some(new) => Outcome::Returned(sum_of(alloc, new)?),
-        None => LanguageError::Range.raised(alloc),
+        None => LanguageError::Range.raised_outcome(alloc),
     };
-    match added(alloc, sum, number)? {
+    match turn_of_sum(alloc, sum, number)? {
         Turn::Ends { outcome, state } => {
             Ok(outcome == expected && state == sum_of(alloc, gives.unwrap_or(sum))?)
         }

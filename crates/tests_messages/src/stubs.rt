@@ -1,6 +1,6 @@
 // The stubs of two small interfaces.
 ghost use Rattle.std.specs.Prelude.{◌≡◌};
-ghost use Rattle.circus_stub.specs.Compiled.{compiled};
+ghost use Rattle.circus_stub.specs.Compiled.{compile_stubs};
 
 use crate::shown::interface;
 use bytes::Bytes;
@@ -48,7 +48,7 @@ fn is_again(
     bytes: &[u8],
     text: &str,
 ) -> Result<bool, Fail>
-    requires { stubs.now ≡ compiled interface.now stubs.now.limit }
+    requires { stubs.now ≡ compile_stubs interface.now stubs.now.limit }
 {
     let outcome = stubs.unpack_outcome(alloc, 1, bytes)?;
     let again = stubs.pack_outcome(alloc, 1, &outcome)?;
@@ -62,7 +62,7 @@ fn arguments_again(
     stubs: &Stubs,
     bytes: &[u8],
 ) -> Result<Message, Fail>
-    requires { stubs.now ≡ compiled interface.now stubs.now.limit }
+    requires { stubs.now ≡ compile_stubs interface.now stubs.now.limit }
 {
     let values = stubs.unpack(alloc, 1, bytes)?;
     Ok(stubs.pack(alloc, 1, &values)?)

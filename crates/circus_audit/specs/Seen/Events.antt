@@ -3,7 +3,7 @@ use Rattle.std.specs.Prelude.{ℕ, ◌==◌, cond, List, codes, bytes_eq, option
 use Rattle.circus_node.specs.declared.event.Event.{Event}
 use Rattle.circus_node.specs.declared.event.Event.TheVariants.{Datagram, Tick, Down, Join}
 use Rattle.circus_node.specs.declared.event.Give.{Give}
-use Rattle.circus_value_text.specs.Reading.{Read, behind, passed, number_read}
+use Rattle.circus_value_text.specs.Reading.{Read, behind, behind_prefix, number_read}
 use Rattle.circus_value_text.specs.WordReading.{bytes_of}
 use Rattle.circus_audit.specs.declared.noted.Differing.{Differing}
 use Rattle.circus_audit.specs.Seen.Answers.{found, from_some, or_else, whole, only_if}
@@ -11,7 +11,7 @@ use Rattle.circus_audit.specs.Seen.Names.{named, other}
 
 -- bytes, to the end
 abbrev pub addressed_by : ℕ → List ℕ → Option (ℕ × List ℕ)
-addressed_by node text = from_some (passed (codes " ") text) (λ inner. option_map (λ bytes. (node, bytes)) (bytes_of inner))
+addressed_by node text = from_some (behind_prefix (codes " ") text) (λ inner. option_map (λ bytes. (node, bytes)) (bytes_of inner))
 
 -- a number of two bytes, and bytes
 abbrev pub foreign_read : List ℕ → Option (ℕ × List ℕ)
@@ -25,7 +25,7 @@ bare_event text =
 
 -- another node behind a mark
 abbrev pub other_behind : List ℕ → List (List ℕ) → ℕ → List ℕ → Read ℕ
-other_behind mark nodes own text = behind (passed mark text) (λ inner. other own (named nodes inner))
+other_behind mark nodes own text = behind (behind_prefix mark text) (λ inner. other own (named nodes inner))
 
 module _ (nodes : List (List ℕ)) (own : ℕ) where
   -- another node
@@ -44,13 +44,13 @@ module _ (nodes : List (List ℕ)) (own : ℕ) where
 
   abbrev pub what_read : List ℕ → Option (Option Event)
   what_read text =
-      or_else (passed (codes "datagram ") text) (λ inner. option_map (λ e. Some e) (datagram_read inner))
-      (or_else (passed (codes "down ") text) (λ inner. option_map (λ e. Some e) (down_read inner)) (bare_event text))
+      or_else (behind_prefix (codes "datagram ") text) (λ inner. option_map (λ e. Some e) (datagram_read inner))
+      (or_else (behind_prefix (codes "down ") text) (λ inner. option_map (λ e. Some e) (down_read inner)) (bare_event text))
 
   -- the event of this number
   abbrev pub event_read : ℕ → List ℕ → Option (Option Event)
   event_read number text =
-      found (number_read 4294967295 text) (λ n rest. only_if (n == number) (from_some (passed (codes " ") rest) what_read))
+      found (number_read 4294967295 text) (λ n rest. only_if (n == number) (from_some (behind_prefix (codes " ") rest) what_read))
 
   abbrev pub give_read : List ℕ → Option Give
   give_read text = option_map (λ r. record { to = r.0; bytes = r.1 }) (addressed text)
@@ -58,5 +58,5 @@ module _ (nodes : List (List ℕ)) (own : ℕ) where
 -- which ask of which run, and what was replied
 abbrev pub differing_read : List ℕ → Option Differing
 differing_read text =
-    found (number_read 4294967295 text) (λ run rest. from_some (passed (codes " ask ") rest)
+    found (number_read 4294967295 text) (λ run rest. from_some (behind_prefix (codes " ask ") rest)
     (λ inner. found (number_read 4294967295 inner) (λ ask replies. Some (record { run = run; ask = ask; replies = replies }))))

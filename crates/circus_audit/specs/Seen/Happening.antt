@@ -1,7 +1,7 @@
 -- What happened, by one more line.
 use Rattle.std.specs.Prelude.{ℕ, Bool, true, false, List, [], ◌∷◌, ◌++◌, length, codes, option_map, Option, Some, None}
 use Rattle.circus_node.specs.declared.event.Event.{Event}
-use Rattle.circus_value_text.specs.Reading.{passed}
+use Rattle.circus_value_text.specs.Reading.{behind_prefix}
 use Rattle.circus_audit.specs.declared.noted.Noted.{Noted}
 use Rattle.circus_audit.specs.declared.noted.Kind.{Kind}
 use Rattle.circus_audit.specs.declared.noted.Kind.TheVariants.{Gives, Differences, Foreign}
@@ -59,7 +59,7 @@ module _ (nodes : List (List ℕ)) (own : ℕ) where
   -- by a line of an event
   abbrev pub happened_after : Happened → List ℕ → Option Happened
   happened_after h line =
-      or_else (passed (codes "event ") line) (event_added h)
-      (or_else (passed (codes "give ") line) (give_added h)
-      (or_else (passed (codes "differ run ") line) (differing_added h)
-      (from_some (passed (codes "foreign ") line) (foreign_passed h))))
+      or_else (behind_prefix (codes "event ") line) (event_added h)
+      (or_else (behind_prefix (codes "give ") line) (give_added h)
+      (or_else (behind_prefix (codes "differ run ") line) (differing_added h)
+      (from_some (behind_prefix (codes "foreign ") line) (foreign_passed h))))

@@ -9,7 +9,7 @@ use Rattle.circus_collate.specs.declared.deployment.Deployment.{Deployment}
 use Rattle.circus_record.specs.declared.record.AskRecord.{AskRecord}
 use Rattle.circus_record.specs.declared.record.RunRecord.{RunRecord}
 use Rattle.circus_node.specs.Accepting.{is_root}
-use Rattle.circus_value_text.specs.Reading.{Read, and_then, behind, passed, number_read}
+use Rattle.circus_value_text.specs.Reading.{Read, and_then, behind, behind_prefix, number_read}
 use Rattle.circus_value_text.specs.WordReading.{counts_read, asks_read}
 use Rattle.circus_audit.specs.declared.member_line.Phase.{Phase}
 use Rattle.circus_audit.specs.declared.member_line.Phase.TheVariants.{Apart, Active}
@@ -23,15 +23,15 @@ use Rattle.circus_audit.specs.Seen.Values.{values_behind, outcome_behind, by_sha
 
 -- a number of four bytes behind a mark
 abbrev pub long_behind : List ℕ → List ℕ → Read ℕ
-long_behind mark text = behind (passed mark text) (number_read 4294967295)
+long_behind mark text = behind (behind_prefix mark text) (number_read 4294967295)
 
 -- a number of two bytes behind a mark
 abbrev pub word_behind : List ℕ → List ℕ → Read ℕ
-word_behind mark text = behind (passed mark text) (number_read 65535)
+word_behind mark text = behind (behind_prefix mark text) (number_read 65535)
 
 -- a name behind a mark
 abbrev pub name_behind : List ℕ → List (List ℕ) → List ℕ → Read ℕ
-name_behind mark names text = behind (passed mark text) (named names)
+name_behind mark names text = behind (behind_prefix mark text) (named names)
 
 -- what stands behind this number
 abbrev pub behind_this : ℕ → List ℕ → Option (List ℕ)
@@ -43,7 +43,7 @@ step_read events text = cond (nat_lt 0 events) (number_read (events - 1) text) N
 
 -- a step behind a mark
 abbrev pub step_behind : List ℕ → ℕ → List ℕ → Read ℕ
-step_behind mark events text = behind (passed mark text) (step_read events)
+step_behind mark events text = behind (behind_prefix mark text) (step_read events)
 
 -- this number, and a step
 abbrev pub numbered_step : ℕ → ℕ → List ℕ → Read ℕ
@@ -51,7 +51,7 @@ numbered_step number events text = behind (behind_this number text) (step_behind
 
 -- a clock of so many counts
 abbrev pub clock_behind : ℕ → List ℕ → Read (List ℕ)
-clock_behind modules text = behind (passed (codes " clock ") text) (counts_read modules [])
+clock_behind modules text = behind (behind_prefix (codes " clock ") text) (counts_read modules [])
 
 abbrev pub state_read : Signature → List ℕ → Read (List ValueTree)
 state_read s text = values_behind (codes " state ") s.variables text

@@ -2,7 +2,7 @@
 use Rattle.std.specs.Prelude.{ℕ, ◌==◌, List, [], take, drop, position, bytes_eq, cond, slice_get, unwrap_or, Option, Some, None}
 use Rattle.std.specs.Char.{is_ascii_alphanumeric}
 use Rattle.std.specs.List.{prefix_len}
-use Rattle.circus_value_text.specs.Reading.{Read, and_then, meant}
+use Rattle.circus_value_text.specs.Reading.{Read, and_then, read_meaning}
 
 -- how many letters and digits stand in front
 abbrev pub name_length : List ℕ → ℕ
@@ -14,7 +14,7 @@ place_of names name = position (λ each. bytes_eq each name) names
 
 -- the number of the name that all of them are
 abbrev pub named : List (List ℕ) → List ℕ → Read ℕ
-named names text = meant (place_of names (take (name_length text) text)) (drop (name_length text) text)
+named names text = read_meaning (place_of names (take (name_length text) text)) (drop (name_length text) text)
 
 -- a number other than this one
 abbrev pub other : ℕ → Read ℕ → Read ℕ

@@ -7,7 +7,7 @@ use Rattle.circus_transfer.specs.declared.joiner.Joiner.TheVariants as joiner
 use Rattle.circus_record.specs.declared.record.AskRecord.{AskRecord}
 use Rattle.circus_record.specs.declared.record.RunRecord.{RunRecord}
 use Rattle.circus_performing.specs.Record.{count_after}
-use Rattle.circus_value_text.specs.Reading.{passed}
+use Rattle.circus_value_text.specs.Reading.{behind_prefix}
 use Rattle.circus_audit.specs.declared.performed.Current.{Current}
 use Rattle.circus_audit.specs.declared.performed.Current.TheVariants.{Nothing, Run, Ask}
 use Rattle.circus_audit.specs.declared.performed.Performed.{Performed}
@@ -57,7 +57,7 @@ module _ (modules : List (List ℕ)) (s : Signature) (events : ℕ) where
 
   -- by a line where a run is performed
   abbrev pub run_goes_on : Performed → RunRecord → List ℕ → Option After
-  run_goes_on p run line = or_else (passed (codes "ask ") line) (ask_begins p run) (from_some (passed (codes "end ") line) (run_ends p run))
+  run_goes_on p run line = or_else (behind_prefix (codes "ask ") line) (ask_begins p run) (from_some (behind_prefix (codes "end ") line) (run_ends p run))
 
   abbrev pub reply_comes : Performed → RunRecord → AskRecord → List ℕ → Option After
   reply_comes p run ask text =
@@ -66,7 +66,7 @@ module _ (modules : List (List ℕ)) (s : Signature) (events : ℕ) where
   -- by a line where a reply is awaited
   abbrev pub ask_goes_on : Performed → RunRecord → AskRecord → List ℕ → Option After
   ask_goes_on p run ask line =
-      or_else (passed (codes "reply ") line) (reply_comes p run ask) (from_some (passed (codes "now waiting ask ") line) (waits s p run ask))
+      or_else (behind_prefix (codes "reply ") line) (reply_comes p run ask) (from_some (behind_prefix (codes "now waiting ask ") line) (waits s p run ask))
 
 module _ (modules : List (List ℕ)) (d : Deployment) (s : Signature) (events : ℕ) where
   -- on a line of so many bytes
@@ -77,7 +77,7 @@ module _ (modules : List (List ℕ)) (d : Deployment) (s : Signature) (events : 
 
   -- by a line where no run is performed
   abbrev pub next_read : Performed → List ℕ → Option After
-  next_read p line = or_else (passed (codes "run ") line) (run_begins (length line) p) (from_some (passed (codes "now idle") line) (idles s p))
+  next_read p line = or_else (behind_prefix (codes "run ") line) (run_begins (length line) p) (from_some (behind_prefix (codes "now idle") line) (idles s p))
 
   abbrev pub performed_by : Performed → Current → List ℕ → Option After
   performed_by p Nothing line = next_read p line

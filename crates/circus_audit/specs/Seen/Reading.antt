@@ -11,7 +11,7 @@ use Rattle.circus_value_text.specs.declared.unread.Unread.{Unread}
 use Rattle.circus_value_text.specs.declared.unread.Unread.TheVariants as unread
 use Rattle.circus_audit.specs.declared.fault.RecordFault.{RecordFault}
 use Rattle.circus_audit.specs.declared.fault.RecordFault.TheVariants.{BadLine, NoMemory}
-use Rattle.circus_value_text.specs.Reading.{behind, passed}
+use Rattle.circus_value_text.specs.Reading.{behind, behind_prefix}
 use Rattle.circus_audit.specs.Possible.{declared_by}
 use Rattle.circus_audit.specs.declared.given.GivenEvent.{GivenEvent}
 use Rattle.circus_audit.specs.declared.given.Given.{Given}
@@ -43,7 +43,7 @@ node_names plan = map host_name plan.deployment.nodes
 
 -- the node of the first line
 abbrev pub own_read : Plan → List ℕ → Option ℕ
-own_read plan line = whole (behind (passed (codes "circus node 1 ") line) (named (node_names plan)))
+own_read plan line = whole (behind (behind_prefix (codes "circus node 1 ") line) (named (node_names plan)))
 
 -- ---- stages
 
@@ -77,8 +77,8 @@ with_views plan noted views = cond (length views == length plan.names) (Done not
 -- who a member of a module is, and that it is live
 abbrev pub who_read : Plan → ℕ → ℕ → List ℕ → Option (List ℕ)
 who_read plan own «module» text =
-    from_some (passed (name_at (node_names plan) own) text) (λ a. from_some (passed (codes " ") a)
-    (λ b. from_some (passed (name_at plan.names «module») b) (passed (codes " live "))))
+    from_some (behind_prefix (name_at (node_names plan) own) text) (λ a. from_some (behind_prefix (codes " ") a)
+    (λ b. from_some (behind_prefix (name_at plan.names «module») b) (behind_prefix (codes " live "))))
 
 abbrev pub member_begins : Plan → ℕ → List Noted → Hosted → List ℕ → Option Stage
 member_begins plan own noted host text =
@@ -91,7 +91,7 @@ member_if plan own noted (Some host) text = member_begins plan own noted host te
 -- the Ringmaster's line, which is live
 abbrev pub ring_begins : Plan → List Noted → List ℕ → Option Stage
 ring_begins plan noted text =
-    from_some (passed (name_at (node_names plan) 0) text) (λ rest. only_if (bytes_eq rest (codes " live")) (Some (with_views plan noted [])))
+    from_some (behind_prefix (name_at (node_names plan) 0) text) (λ rest. only_if (bytes_eq rest (codes " live")) (Some (with_views plan noted [])))
 
 -- nodes that host no member have the Ringmaster
 abbrev pub ring_if : Plan → Option ℕ → List Noted → List ℕ → Option Stage
@@ -111,8 +111,8 @@ event_line_read plan own h line = option_map (λ next. Events next) (happened_af
 -- by a line behind the first one, and before those of a member or of views
 abbrev pub events_go_on : Plan → ℕ → Option Hosted → Happened → List ℕ → Option Stage
 events_go_on plan own hosted h line =
-    or_else (passed (codes "member ") line) (member_if plan own (noted_by h) hosted)
-    (or_else (passed (codes "ringmaster ") line) (ring_at plan own (noted_by h))
+    or_else (behind_prefix (codes "member ") line) (member_if plan own (noted_by h) hosted)
+    (or_else (behind_prefix (codes "ringmaster ") line) (ring_at plan own (noted_by h))
     (event_line_read plan own h line))
 
 abbrev pub runs_go_on : Plan → Option Hosted → List Noted → Performed → List ℕ → Option Stage

@@ -10,11 +10,11 @@ use Rattle.circus_model.specs.Lawful.{procedure_numbered, import_of}
 use Rattle.circus_model.specs.declared.signature.ErrorShape.{ErrorShape}
 use Rattle.circus_model.specs.declared.signature.Import.{Import}
 use Rattle.circus_model.specs.declared.signature.ProcedureShape.{ProcedureShape}
-use Rattle.circus_value_text.specs.Reading.{Read, and_then, seen_as, behind, between, passed, reading, one_more, comma, number_read}
+use Rattle.circus_value_text.specs.Reading.{Read, and_then, seen_as, behind, between, behind_prefix, reading, one_more, comma, number_read}
 
 -- a value behind a mark
 abbrev pub value_behind : List ℕ → Shape → List ℕ → Read ValueTree
-value_behind mark shape text = behind (passed mark text) (reading (tree_of shape))
+value_behind mark shape text = behind (behind_prefix mark text) (reading (tree_of shape))
 
 -- one value for each shape, the first of them behind this, and the others behind a comma
 abbrev pub shapes_read : List Shape → List ℕ → List ℕ → Read (List ValueTree)
@@ -30,7 +30,7 @@ values_read shapes text = between (codes "[") (codes "]") (shapes_read shapes []
 
 -- values behind a mark
 abbrev pub values_behind : List ℕ → List Shape → List ℕ → Read (List ValueTree)
-values_behind mark shapes text = behind (passed mark text) (values_read shapes)
+values_behind mark shapes text = behind (behind_prefix mark text) (values_read shapes)
 
 -- ---- outcomes
 
@@ -41,7 +41,7 @@ reported_read number text None = None
 
 -- where an error of the language stands without values, what stands behind it
 abbrev pub bare_error : ℕ → List ℕ → Option (List ℕ)
-bare_error number text = cond (is_language_error number) (passed (codes "[]") text) None
+bare_error number text = cond (is_language_error number) (behind_prefix (codes "[]") text) None
 
 abbrev pub error_numbered : List ErrorShape → ℕ → Option ErrorShape
 error_numbered errors number = find (λ e. e.number == number) errors
@@ -56,19 +56,19 @@ error_read errors number text = error_if errors number text (bare_error number t
 
 abbrev pub raised_read : List ErrorShape → List ℕ → Read Outcome
 raised_read errors text =
-    and_then (number_read 65535 text) (λ number rest. behind (passed (codes " ") rest) (error_read errors number))
+    and_then (number_read 65535 text) (λ number rest. behind (behind_prefix (codes " ") rest) (error_read errors number))
 
 abbrev pub outcome_if : ProcedureShape → List ℕ → Option (List ℕ) → Read Outcome
 outcome_if p text (Some inner) = seen_as (λ results. Returned results) (values_read p.results inner)
-outcome_if p text None = behind (passed (codes "raised ") text) (raised_read p.errors)
+outcome_if p text None = behind (behind_prefix (codes "raised ") text) (raised_read p.errors)
 
 -- how a procedure may end
 abbrev pub outcome_read : ProcedureShape → List ℕ → Read Outcome
-outcome_read p text = outcome_if p text (passed (codes "returned ") text)
+outcome_read p text = outcome_if p text (behind_prefix (codes "returned ") text)
 
 -- an outcome behind a blank
 abbrev pub outcome_behind : ProcedureShape → List ℕ → Read Outcome
-outcome_behind p text = behind (passed (codes " ") text) (outcome_read p)
+outcome_behind p text = behind (behind_prefix (codes " ") text) (outcome_read p)
 
 -- ---- procedures
 

@@ -4,7 +4,7 @@ use Rattle.circus_collate.specs.declared.view.Since.{Since}
 use Rattle.circus_collate.specs.declared.view.Since.TheVariants.{Joining, From}
 use Rattle.circus_collate.specs.declared.view.Entry.{Entry}
 use Rattle.circus_collate.specs.declared.view.View.{View}
-use Rattle.circus_value_text.specs.Reading.{Read, and_then, seen_as, behind, passed, number_read, is_empty}
+use Rattle.circus_value_text.specs.Reading.{Read, and_then, seen_as, behind, behind_prefix, number_read, is_empty}
 use Rattle.circus_audit.specs.Seen.Answers.{found, from_some}
 use Rattle.circus_audit.specs.Seen.Lines.{name_behind, long_behind}
 
@@ -13,10 +13,10 @@ since_if text (Some rest) = Some (Joining, rest)
 since_if text None = seen_as (λ first. From first) (number_read 4294967295 text)
 
 abbrev pub since_read : List ℕ → Read Since
-since_read text = since_if text (passed (codes "joining") text)
+since_read text = since_if text (behind_prefix (codes "joining") text)
 
 abbrev pub since_behind : List ℕ → Read Since
-since_behind text = behind (passed (codes "=") text) since_read
+since_behind text = behind (behind_prefix (codes "=") text) since_read
 
 abbrev pub entry_read : List (List ℕ) → List ℕ → Read Entry
 entry_read nodes text =
@@ -42,4 +42,4 @@ said_read nodes most troupe text =
 -- the view of the troupe with this number and name
 abbrev pub view_read : List (List ℕ) → ℕ → List ℕ → List ℕ → Option View
 view_read nodes troupe name line =
-    from_some (passed (codes "view ") line) (λ a. from_some (passed name a) (said_read nodes (length line) troupe))
+    from_some (behind_prefix (codes "view ") line) (λ a. from_some (behind_prefix name a) (said_read nodes (length line) troupe))

@@ -17,6 +17,6 @@ abbrev pub bytes_as : Bor (List ℕ) → List ℕ
 bytes_as bytes = bytes.now
 
 -- a number that the language has, or the error of one that it hasn't
-abbrev pub ranged : Option ℤ → Raising got.Got
-ranged None = Err Range
-ranged (Some z) = Ok (got.number z)
+abbrev pub number_in_range : Option ℤ → Raising got.Got
+number_in_range None = Err Range
+number_in_range (Some z) = Ok (got.number z)

@@ -35,7 +35,7 @@ use Rattle.circus_member_rules.specs.OpenAsks.{is_name, asking_of, with_ask, wit
 use Rattle.circus_member_rules.specs.Rules.{call_of_ask, call_for, call_again, after_stale, is_to, seen_by_ask, with_new_view, calls_for_view, calls_for_a_new_view, stays_open, incarnation_of, calls_of_ask}
 use Rattle.circus_member_rules.proofs.Named.{All-opened_at, All-changed_at}
 use Rattle.circus_talks.proofs.Worlds.{get_same}
-use Rattle.circus_timely.specs.Past.{Past, booted, followed, now, known, down, is_newer, Rises}
+use Rattle.circus_timely.specs.Past.{Past, booted, followed, now, views_known, nodes_declared_down, is_newer, Rises}
 use Rattle.circus_timely.specs.Asks.{is_new, as_made, asks_from, asks_of, knows, opened_one, first_calls, asks_behind, calls_behind, new_asks, waits_then, open_asks, calls_owed}
 use Rattle.circus_world_theory.proofs.Border.Makers.{IsIn, in_both, in_flat_map, contains}
 use Rattle.circus_headline_theory.specs.Datagrams.Due.{WasSo, IsOpenThen}
@@ -236,7 +236,7 @@ module _ (place : Place) (boot : List View) (begins : Joiner) (first : List Valu
     behind_all p at (comes.IsStale name server from incarnation) asks all =
         let k = knows place boot (followed p at (comes.IsStale name server from incarnation)) in
         changed_all name (after_stale k from incarnation) (λ a. (stale_same k from incarnation a).0) (λ a. (stale_same k from incarnation a).1) asks all
-    behind_all p at (comes.Told request table) asks all = by_test (is_newer (known boot p) table.view)
+    behind_all p at (comes.Told request table) asks all = by_test (is_newer (views_known boot p) table.view)
       where
         by_test : (b : Bool) → All (IsEntry step) (if b then with_new_view (knows place boot (followed p at (comes.Told request table))) table.view asks else asks)
         by_test true = seen_all (knows place boot (followed p at (comes.Told request table))) table.view asks all
@@ -269,7 +269,7 @@ module _ (place : Place) (boot : List View) (begins : Joiner) (first : List Valu
 
   -- a call of an ask that is open, to an entry of the known view of its server
   one_due : (q : Past) (name : AskName) (a : Asking) (view : View) (to : ℕ) (o : IsOf (now q) name a.header a.body) → IsOpenThen place boot begins first kept q name o.ask
-      → slice_get (known boot q) a.header.server ≡ Some view → has_node view to ≡ true → is_among (down q) to ≡ false → EffectNow q (call_of_ask (knows place boot q) name a (send_to view to))
+      → slice_get (views_known boot q) a.header.server ≡ Some view → has_node view to ≡ true → is_among (nodes_declared_down q) to ≡ false → EffectNow q (call_of_ask (knows place boot q) name a (send_to view to))
   one_due q name a view to o open_now there entry up =
       record {
         number = o.number;
@@ -305,14 +305,14 @@ module _ (place : Place) (boot : List View) (begins : Joiner) (first : List Valu
       (entry.0, passed.0, not-true (is_among k.down entry.0.node) (and_parts (not (is_among k.down entry.0.node)) _ passed.1).0, ap (call_of_ask k name a) entry.2 ∙ send.2)
 
   calls_due : (q : Past) (name : AskName) (a : Asking) (view : View) (asked : List Asked) (o : IsOf (now q) name a.header a.body) → IsOpenThen place boot begins first kept q name o.ask
-      → slice_get (known boot q) a.header.server ≡ Some view → (e : Effect) → IsIn (calls_of_ask (knows place boot q) name a (calls_for_a_view view (down q) asked)) e → EffectNow q e
+      → slice_get (views_known boot q) a.header.server ≡ Some view → (e : Effect) → IsIn (calls_of_ask (knows place boot q) name a (calls_for_a_view view (nodes_declared_down q) asked)) e → EffectNow q e
   calls_due q name a view asked o open_now there e at =
       let c = in_calls (knows place boot q) name a view asked e at in
       subst (EffectNow q) c.3 (one_due q name a view c.0.node o open_now there (has_entry view.entries c.0 c.1) c.2)
 
   -- those of an ask that is new
   first_due : (q : Past) (e : AskName × Asking) → IsIn (new_asks place boot kept q) e → (x : Effect) → IsIn (first_calls place boot (knows place boot q) e) x → EffectNow q x
-  first_due q e new x at = by_known (slice_get (known boot q) e.1.header.server) refl at
+  first_due q e new x at = by_known (slice_get (views_known boot q) e.1.header.server) refl at
     where
       n : IsNew (now q) e
       n = new_entry q e new
@@ -321,8 +321,8 @@ module _ (place : Place) (boot : List View) (begins : Joiner) (first : List Valu
       is_open booted asked is ask same = same ∙ is
       is_open (followed p step o) asked is ask same = inl (same ∙ is)
 
-      by_known : (o : Option View) → slice_get (known boot q) e.1.header.server ≡ o
-          → IsIn (option_map_or (λ view. calls_of_ask (knows place boot q) e.0 e.1 (calls_for_a_view view (down q) [])) o []) x → EffectNow q x
+      by_known : (o : Option View) → slice_get (views_known boot q) e.1.header.server ≡ o
+          → IsIn (option_map_or (λ view. calls_of_ask (knows place boot q) e.0 e.1 (calls_for_a_view view (nodes_declared_down q) [])) o []) x → EffectNow q x
       by_known None there at = absurd at
       by_known (Some view) there at = calls_due q e.0 e.1 view [] n.of (is_open q n.of.ask.asked n.asked_now n.of.ask refl) there x at
 
@@ -338,12 +338,12 @@ module _ (place : Place) (boot : List View) (begins : Joiner) (first : List Valu
       q : Past
       q = followed p step (comes.IsStale name server from incarnation)
 
-      by_view_known : (a : Asking) → IsOf step name a.header a.body → ((b : Asking) × Contains (open_asks place boot kept p) (name, b)) → (o : Option View) → slice_get (known boot q) a.header.server ≡ o
-          → IsIn (option_map_or (λ view. call_for (knows place boot q) name a (next view (down q) from incarnation)) o []) x → EffectNow q x
+      by_view_known : (a : Asking) → IsOf step name a.header a.body → ((b : Asking) × Contains (open_asks place boot kept p) (name, b)) → (o : Option View) → slice_get (views_known boot q) a.header.server ≡ o
+          → IsIn (option_map_or (λ view. call_for (knows place boot q) name a (next view (nodes_declared_down q) from incarnation)) o []) x → EffectNow q x
       by_view_known a is is_open None there at = absurd at
-      by_view_known a is is_open (Some view) there at = by_tests (nat_lt view.incarnation incarnation) (has_node view from) (is_among (down q) from) refl refl at
+      by_view_known a is is_open (Some view) there at = by_tests (nat_lt view.incarnation incarnation) (has_node view from) (is_among (nodes_declared_down q) from) refl refl at
         where
-          by_tests : (above has gone : Bool) → has_node view from ≡ has → is_among (down q) from ≡ gone
+          by_tests : (above has gone : Bool) → has_node view from ≡ has → is_among (nodes_declared_down q) from ≡ gone
               → IsIn (call_for (knows place boot q) name a (if above then N.Lookup incarnation else if has && not gone then N.Send (send_to view from) else N.Leave)) x → EffectNow q x
           by_tests true has gone has_is gone_is at = absurd at
           by_tests false true false has_is gone_is (inl same) = subst (EffectNow q) same (one_due q name a view from is (inr is_open) there has_is gone_is)
@@ -358,7 +358,7 @@ module _ (place : Place) (boot : List View) (begins : Joiner) (first : List Valu
           let own = old_entry p rises step later (comes.IsStale name server from incarnation) (t.own, a) t.there in
           by_view_known a (subst (λ (n : AskName). IsOf step n a.header a.body) (sym t.is) own)
           (a, subst (λ (n : AskName). Contains (open_asks place boot kept p) (n, a)) (sym t.is) (contains (open_asks place boot kept p) (t.own, a) t.there))
-          (slice_get (known boot q) a.header.server) refl at
+          (slice_get (views_known boot q) a.header.server) refl at
 
   view_there : (views : List View) (view : View) → is_newer views view ≡ true → slice_get (slice_set views view.troupe view) view.troupe ≡ Some view
   view_there views view newer = by_known (slice_get views view.troupe) refl newer
@@ -370,19 +370,19 @@ module _ (place : Place) (boot : List View) (begins : Joiner) (first : List Valu
 
   told_due : (p : Past) → Rises p → (step : ℕ) → now p < step → (request : Request) (table : Table) (x : Effect)
       → IsIn (calls_behind place boot (followed p step (comes.Told request table)) (open_asks place boot kept p)) x → EffectNow (followed p step (comes.Told request table)) x
-  told_due p rises step later request table x at = by_newer (is_newer (known boot p) table.view) refl at
+  told_due p rises step later request table x at = by_newer (is_newer (views_known boot p) table.view) refl at
     where
       q : Past
       q = followed p step (comes.Told request table)
 
-      by_newer : (b : Bool) → is_newer (known boot p) table.view ≡ b
+      by_newer : (b : Bool) → is_newer (views_known boot p) table.view ≡ b
           → IsIn (if b then calls_for_a_new_view (knows place boot q) table.view (open_asks place boot kept p) else []) x → EffectNow q x
       by_newer true newer at =
           let found = in_flat_map (calls_for_view (knows place boot q) table.view) (filter (is_to table.view.troupe) (open_asks place boot kept p)) x at in
           let passed = in_filter (is_to table.view.troupe) (open_asks place boot kept p) found.0 found.1 in
           let server : found.0.1.header.server ≡ table.view.troupe = eqb-true found.0.1.header.server table.view.troupe passed.1 in
-          let there : slice_get (known boot q) found.0.1.header.server ≡ Some table.view =
-          ap (slice_get (known boot q)) server ∙ ap (λ b. slice_get (if b then slice_set (known boot p) table.view.troupe table.view else known boot p) table.view.troupe) newer ∙ view_there (known boot p) table.view newer in
+          let there : slice_get (views_known boot q) found.0.1.header.server ≡ Some table.view =
+          ap (slice_get (views_known boot q)) server ∙ ap (λ b. slice_get (if b then slice_set (views_known boot p) table.view.troupe table.view else views_known boot p) table.view.troupe) newer ∙ view_there (views_known boot p) table.view newer in
           calls_due q found.0.0 found.0.1 table.view found.0.1.asked (old_entry p rises step later (comes.Told request table) found.0 passed.0)
           (inr (found.0.1, contains (open_asks place boot kept p) found.0 passed.0)) there x found.2
       by_newer false newer at = absurd at

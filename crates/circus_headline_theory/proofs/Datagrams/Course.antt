@@ -34,10 +34,10 @@ use Rattle.circus_member_rules.specs.declared.occurrence.Occurrence.TheVariants 
 use Rattle.circus_member_rules.specs.declared.occurrence.Purpose.{Purpose}
 use Rattle.circus_member_rules.specs.MemberState.{MemberState}
 use Rattle.circus_member_rules.specs.Step as member_step
-use Rattle.circus_node.specs.Accepting.{accepted}
+use Rattle.circus_node.specs.Accepting.{occurrence_of_heard}
 use Rattle.circus_node.specs.Booting.{beginning_in, home_in}
 use Rattle.circus_node.specs.NodeState.{Acting, member, ringmaster, NodeState}
-use Rattle.circus_node.specs.Making.{happens, refused, hears}
+use Rattle.circus_node.specs.Making.{happens, refuse, hears}
 use Rattle.circus_node.specs.Sending.{is_sendable}
 use Rattle.circus_node.specs.Step as node_step
 use Rattle.circus_node.specs.Step.{CanCome}
@@ -45,7 +45,7 @@ use Rattle.circus_node.specs.declared.event.Event.{Event}
 use Rattle.circus_node.specs.declared.event.Event.TheVariants as comes
 use Rattle.circus_node.specs.declared.event.Outputs.{Outputs}
 use Rattle.circus_talks.specs.Histories.{beginning_of}
-use Rattle.circus_talks.specs.NodeActs.{with_all, came_by, coming, handed_by, wire_behind, acts_in}
+use Rattle.circus_talks.specs.NodeActs.{with_all, came_by, acts_of_datagram, handed_by, wire_behind, acts_in}
 use Rattle.circus_node.specs.Trace.{effects_in}
 use Rattle.circus_talks.proofs.Given.{GivesSo, with_both}
 use Rattle.circus_talks.proofs.Steps.{IsRead, step_gives}
@@ -53,7 +53,7 @@ use Rattle.circus_world_theory.specs.Made.{act_of}
 use Rattle.circus_world_theory.proofs.Border.Makers.{IsIn, in_both, IsAmong, among_all, no_event, in_effects}
 use Rattle.circus_world_theory.proofs.Border.Telling.{IsTakenOf, accepted_is}
 use Rattle.circus_world_theory.proofs.Border.Members.{declared_among}
-use Rattle.circus_timely.specs.Past.{Past, followed, now, down}
+use Rattle.circus_timely.specs.Past.{Past, followed, now, nodes_declared_down}
 use Rattle.circus_headline_theory.specs.Owed.Living.{made_in, made_by}
 use Rattle.circus_member_theory.specs.Living.{after}
 use Rattle.circus_world_theory.specs.Happened.{happens_by, with_one}
@@ -106,7 +106,7 @@ stopped_came b y (comes.Datagram from bytes) acts = by_segment (reading bytes)
     by_node s true = refl
     by_node s false = refl
 
-    by_segment : (r : Result Piece SegmentFault) → is_stopped_after (acts_at (pair_of b) y (with_all acts (coming from r))) ≡ is_stopped_after (acts_at (pair_of b) y acts)
+    by_segment : (r : Result Piece SegmentFault) → is_stopped_after (acts_at (pair_of b) y (with_all acts (acts_of_datagram from r))) ≡ is_stopped_after (acts_at (pair_of b) y acts)
     by_segment (Ok s) = by_node s (eqb from y)
     by_segment (Err fault) = refl
 stopped_came b y comes.Tick acts = by_test (is_stopped_after (acts_at (pair_of b) y acts))
@@ -122,7 +122,7 @@ stopped_came b y (comes.Down other) acts = by_test (eqb other y)
 stopped_came b y comes.Join acts = refl
 
 -- what is accepted of a message declares nobody down
-not_declared : (d : Deployment) (h : Heard Purpose) (o : Occurrence) → IsTakenOf d h o → (p : Past) (step : ℕ) → down (followed p step o) ≡ down p
+not_declared : (d : Deployment) (h : Heard Purpose) (o : Occurrence) → IsTakenOf d h o → (p : Past) (step : ℕ) → nodes_declared_down (followed p step o) ≡ nodes_declared_down p
 not_declared d h (occurs.Declared other) taken p step =
     absurd (let clash : ◌≡◌ {A = List ℕ} (other ∷ []) [] = taken.knows (record { views = []; down = []; wants = [] }) in cc)
 not_declared d h (occurs.Asked header body sender) taken p step = refl
@@ -134,13 +134,13 @@ not_declared d h (occurs.Told request table) taken p step = refl
 not_declared d h (occurs.Restored state count) taken p step = refl
 not_declared d h occurs.Joins taken p step = refl
 
-among_down : (p : Past) (step other y : ℕ) → is_among (down (followed p step (occurs.Declared other))) y ≡ (eqb other y || is_among (down p) y)
-among_down p step other y = by_test (is_among (down p) other) refl
+among_down : (p : Past) (step other y : ℕ) → is_among (nodes_declared_down (followed p step (occurs.Declared other))) y ≡ (eqb other y || is_among (nodes_declared_down p) y)
+among_down p step other y = by_test (is_among (nodes_declared_down p) other) refl
   where
     k : Knowing
-    k = record { views = []; down = down p; wants = [] }
+    k = record { views = []; down = nodes_declared_down p; wants = [] }
 
-    by_test : (t : Bool) → is_among (down p) other ≡ t → is_among (if t then down p else down p ++ other ∷ []) y ≡ (eqb other y || is_among (down p) y)
+    by_test : (t : Bool) → is_among (nodes_declared_down p) other ≡ t → is_among (if t then nodes_declared_down p else nodes_declared_down p ++ other ∷ []) y ≡ (eqb other y || is_among (nodes_declared_down p) y)
     by_test true is = ap (λ (x : Bool). is_among (if x then k else record k { down = k.down ++ other ∷ [] }).down y) (sym is) ∙ declared_among k other y
     by_test false is = ap (λ (x : Bool). is_among (if x then k else record k { down = k.down ++ other ∷ [] }).down y) (sym is) ∙ declared_among k other y
 
@@ -168,24 +168,24 @@ module _ {M : Type 0} (declared : M → Signature) (turn : M → List ValueTree 
 
   -- what a member makes in a step is among what it has made then
   module _ (p : Past) (step : ℕ) where
-    happened_made : (m : MemberState M) → Lives declared turn first lawful d node number troupe own p m → (o : Occurrence) (e : Effect) → IsIn (member_step.stepped declared turn step o m).effects e
+    happened_made : (m : MemberState M) → Lives declared turn first lawful d node number troupe own p m → (o : Occurrence) (e : Effect) → IsIn (member_step.step_member declared turn step o m).effects e
         → IsIn (all_made (followed p step o)) (step, e)
     happened_made m l o e at =
-        let same = ap (λ (x : MemberState M). (member_step.stepped declared turn step o x).effects) l.is in
-        in_second (all_made p) (made_in step (member_step.stepped declared turn step o (after declared turn first place views beginning own p)).effects) (step, e)
+        let same = ap (λ (x : MemberState M). (member_step.step_member declared turn step o x).effects) l.is in
+        in_second (all_made p) (made_in step (member_step.step_member declared turn step o (after declared turn first place views beginning own p)).effects) (step, e)
         (mapped_in (λ (x : Effect). (step, x)) _ e (subst (λ l. IsIn l e) same at))
 
     maybe_made : (m : MemberState M) → Lives declared turn first lawful d node number troupe own p m → (o : Option Occurrence) (e : Effect)
-        → IsIn (option_map_or (happens declared turn step m) o (refused (member m))).came.effects e → IsIn (all_made (with_one p step o)) (step, e)
+        → IsIn (option_map_or (happens declared turn step m) o (refuse (member m))).came.effects e → IsIn (all_made (with_one p step o)) (step, e)
     maybe_made m l None e at = absurd at
     maybe_made m l (Some o) e at = happened_made m l o e at
 
     heard_made : (dep : Deployment) (from : ℕ) (m : MemberState M) → Lives declared turn first lawful d node number troupe own p m → (h : Heard Purpose) (e : Effect)
-        → IsIn (hears declared turn dep step from h (member m)).came.effects e → IsIn (all_made (with_one p step (accepted dep (declared m.performing.hosted) m from h))) (step, e)
+        → IsIn (hears declared turn dep step from h (member m)).came.effects e → IsIn (all_made (with_one p step (occurrence_of_heard dep (declared m.performing.hosted) m from h))) (step, e)
     heard_made dep from m l Dropped e at = absurd at
     heard_made dep from m l Taken e at = absurd at
-    heard_made dep from m l (Called sender message) e at = maybe_made m l (accepted dep (declared m.performing.hosted) m from (Called sender message)) e at
-    heard_made dep from m l (Returned call purpose message) e at = maybe_made m l (accepted dep (declared m.performing.hosted) m from (Returned call purpose message)) e at
+    heard_made dep from m l (Called sender message) e at = maybe_made m l (occurrence_of_heard dep (declared m.performing.hosted) m from (Called sender message)) e at
+    heard_made dep from m l (Returned call purpose message) e at = maybe_made m l (occurrence_of_heard dep (declared m.performing.hosted) m from (Returned call purpose message)) e at
 
     made_then : (event : Event) (n : NodeState M) → IsAlive p n.acting → (e : Effect) → IsIn (effects_in declared turn step event n) e
         → IsIn (all_made (with_one p step (happens_by declared event n))) (step, e)
@@ -207,11 +207,11 @@ module _ {M : Type 0} (declared : M → Signature) (turn : M → List ValueTree 
     pub stands : WireStands n.wire b acts
     pub made : (e : Effect) → IsAmong acts (act_of e) → (t : ℕ) × IsIn (all_made p) (t, e)
     pub numbers : Numbers n.wire p
-    pub downs : (y : ℕ) → is_stopped_after (acts_at (pair_of b) y acts) ≡ is_among (down p) y
+    pub downs : (y : ℕ) → is_stopped_after (acts_at (pair_of b) y acts) ≡ is_among (nodes_declared_down p) y
 
   -- it takes a step by what comes from another node
   module _ (p : Past) (acts : WireActs Purpose) (n : NodeState M) (step : ℕ) (event : Event) (ended : NodeState M × Outputs) (later : now p < step) (goes : Goes p acts n)
-      (other : IsOfOther d node event) (read : IsRead event) (may : MayHappen declared n.acting (happens_by declared event n)) (ends : node_step.stepped declared turn step event n ≡ Ok ended) where
+      (other : IsOfOther d node event) (read : IsRead event) (may : MayHappen declared n.acting (happens_by declared event n)) (ends : node_step.step_node declared turn step event n ≡ Ok ended) where
     abbrev pub next_acts : WireActs Purpose
     next_acts = with_all acts (acts_in declared turn step event n)
 
@@ -224,7 +224,7 @@ module _ {M : Type 0} (declared : M → Signature) (turn : M → List ValueTree 
         by_event : (ev : Event) → IsOfOther d node ev → CanCome n ev
         by_event (comes.Datagram from bytes) is = other_by b acts n.wire from goes.stands is
         by_event comes.Tick is = tt
-        by_event (comes.Down down) is = other_by b acts n.wire down goes.stands is
+        by_event (comes.Down nodes_declared_down) is = other_by b acts n.wire nodes_declared_down goes.stands is
         by_event comes.Join is = tt
 
     pub gives : GivesSo b (IsSent b good.format (is_tick event)) next_acts ended
@@ -246,16 +246,16 @@ module _ {M : Type 0} (declared : M → Signature) (turn : M → List ValueTree 
   -- ---- who is down
 
   downs_in : (p : Past) (n : NodeState M) (step : ℕ) (ev : Event) (a : Acting M) (y : ℕ) → n.deployment ≡ d → IsAlive p a
-      → is_among (down (with_one p step (happens_by declared ev (record n { acting = a })))) y ≡ (declares ev y || is_among (down p) y)
-  downs_in p n step (comes.Datagram from bytes) (member m) y same alive = by_accepted (accepted n.deployment (declared m.performing.hosted) m from h) refl
+      → is_among (nodes_declared_down (with_one p step (happens_by declared ev (record n { acting = a })))) y ≡ (declares ev y || is_among (nodes_declared_down p) y)
+  downs_in p n step (comes.Datagram from bytes) (member m) y same alive = by_accepted (occurrence_of_heard n.deployment (declared m.performing.hosted) m from h) refl
     where
       h : Heard Purpose
       h = heard_from n.wire from (reading bytes)
 
-      by_accepted : (o : Option Occurrence) → accepted n.deployment (declared m.performing.hosted) m from h ≡ o → is_among (down (with_one p step o)) y ≡ is_among (down p) y
+      by_accepted : (o : Option Occurrence) → occurrence_of_heard n.deployment (declared m.performing.hosted) m from h ≡ o → is_among (nodes_declared_down (with_one p step o)) y ≡ is_among (nodes_declared_down p) y
       by_accepted None is = refl
       by_accepted (Some o) is =
-          let taken = accepted_is d good (declared m.performing.hosted) m from h o (ap (λ (x : Deployment). accepted x (declared m.performing.hosted) m from h) (sym same) ∙ is) in
+          let taken = accepted_is d good (declared m.performing.hosted) m from h o (ap (λ (x : Deployment). occurrence_of_heard x (declared m.performing.hosted) m from h) (sym same) ∙ is) in
           ap (λ l. is_among l y) (not_declared d h o taken p step)
   downs_in p n step comes.Tick (member m) y same alive = refl
   downs_in p n step (comes.Down other) (member m) y same alive = among_down p step other y
@@ -263,7 +263,7 @@ module _ {M : Type 0} (declared : M → Signature) (turn : M → List ValueTree 
   downs_in p n step ev (ringmaster kept) y same alive = absurd alive
 
   pub downs_next : (p : Past) (acts : WireActs Purpose) (n : NodeState M) (step : ℕ) (event : Event) → Goes p acts n → (y : ℕ)
-      → is_stopped_after (acts_at (pair_of b) y (with_all acts (acts_in declared turn step event n))) ≡ is_among (down (with_one p step (happens_by declared event n))) y
+      → is_stopped_after (acts_at (pair_of b) y (with_all acts (acts_in declared turn step event n))) ≡ is_among (nodes_declared_down (with_one p step (happens_by declared event n))) y
   downs_next p acts n step event goes y =
       ap (λ a. is_stopped_after (acts_at (pair_of b) y a)) (with_both acts (came_by event) (flat_map (handed_by (wire_behind event n)) (effects_in declared turn step event n)))
       ∙ stopped_handed b y (wire_behind event n) (effects_in declared turn step event n) (with_all acts (came_by event))
@@ -275,7 +275,7 @@ module _ {M : Type 0} (declared : M → Signature) (turn : M → List ValueTree 
   -- ---- a step
 
   pub goes_on : (p : Past) (acts : WireActs Purpose) (n : NodeState M) (step : ℕ) (event : Event) (ended : NodeState M × Outputs) → now p < step → Goes p acts n → IsOfOther d node event → IsRead event
-      → MayHappen declared n.acting (happens_by declared event n) → node_step.stepped declared turn step event n ≡ Ok ended
+      → MayHappen declared n.acting (happens_by declared event n) → node_step.step_node declared turn step event n ≡ Ok ended
       → Goes (with_one p step (happens_by declared event n)) (with_all acts (acts_in declared turn step event n)) ended.0
   goes_on p acts n step event ended later goes other read may ends =
       let e = ends_by declared turn step event n ended ends in

@@ -26,7 +26,7 @@ use Rattle.circus_member_rules.specs.declared.occurrence.Occurrence.{Occurrence}
 use Rattle.circus_member_rules.specs.declared.occurrence.Occurrence.TheVariants as comes
 use Rattle.circus_member_rules.specs.Rules.{ringmaster, request_call, performs_any, may_give, givers, state_request, state_requests, lookup_call}
 use Rattle.circus_member_rules.specs.Step.{is_join}
-use Rattle.circus_timely.specs.Past.{Past, booted, followed, now, known, down, is_asking, is_done, taken_in, phase}
+use Rattle.circus_timely.specs.Past.{Past, booted, followed, now, views_known, nodes_declared_down, is_asking, is_done, taken_in, phase}
 use Rattle.circus_timely.specs.Requests.{to_ring, answers_lookup, gone_from, gone, for_what_came, wanted, is_due, due_from, due, is_unanswered, lookups, requests_owed}
 use Rattle.circus_world_theory.proofs.Border.Makers.{IsIn, in_both}
 use Rattle.circus_headline_theory.specs.Datagrams.Due.{WasSo, Causes, CallIsDue}
@@ -76,21 +76,21 @@ module _ (place : Place) (boot : List View) (begins : Joiner) (first : List Valu
       let q = followed p step o in
       let unanswered : ℕ → Bool = λ t. is_unanswered place boot begins kept p t && not (answers_lookup o t) in
       let found = in_map lookup_call (due place boot begins kept unanswered q) e at in
-      by_ring q unanswered found.0 (is_among (down q) ringmaster) refl found.1 found.2
+      by_ring q unanswered found.0 (is_among (nodes_declared_down q) ringmaster) refl found.1 found.2
     where
-      by_ring : (q : Past) (unanswered : ℕ → Bool) (troupe : ℕ) (b : Bool) → is_among (down q) ringmaster ≡ b
-          → IsIn (if b then [] else due_from place boot begins kept unanswered q 0 (known boot q)) troupe → lookup_call troupe ≡ e → EffectIsDue q e
+      by_ring : (q : Past) (unanswered : ℕ → Bool) (troupe : ℕ) (b : Bool) → is_among (nodes_declared_down q) ringmaster ≡ b
+          → IsIn (if b then [] else due_from place boot begins kept unanswered q 0 (views_known boot q)) troupe → lookup_call troupe ≡ e → EffectIsDue q e
       by_ring q unanswered troupe true gone_ at same = absurd at
       by_ring q unanswered troupe false up at same =
-          let f = in_due_from unanswered q 0 (known boot q) troupe at in
+          let f = in_due_from unanswered q 0 (views_known boot q) troupe at in
           let troupe_is : f.0 ≡ troupe = (let is = f.2 in omega (arith, is)) in
-          let there : slice_get (known boot q) troupe ≡ Some f.1 = ap (slice_get (known boot q)) (sym troupe_is) ∙ f.3 in
+          let there : slice_get (views_known boot q) troupe ≡ Some f.1 = ap (slice_get (views_known boot q)) (sym troupe_is) ∙ f.3 in
           subst (EffectIsDue q) same
           (refl, refl, up, subst (λ (v : Option View). IsSomeAnd v (λ view. view.incarnation < wanted place boot begins kept troupe q)) (sym there) f.4)
 
   -- ---- what comes
 
-  ring_due : (q : Past) (nodes : List ℕ) (request : Request) (e : Effect) → (is_among nodes ringmaster ≡ false → is_among (down q) ringmaster ≡ false) → Causes place boot begins first kept request q
+  ring_due : (q : Past) (nodes : List ℕ) (request : Request) (e : Effect) → (is_among nodes ringmaster ≡ false → is_among (nodes_declared_down q) ringmaster ≡ false) → Causes place boot begins first kept request q
       → IsIn (to_ring nodes request) e → EffectIsDue q e
   ring_due q nodes request e same_down cause at = by_test (is_among nodes ringmaster) refl at
     where
@@ -130,15 +130,15 @@ module _ (place : Place) (boot : List View) (begins : Joiner) (first : List Valu
 
   states_due : (p : Past) (step : ℕ) (request : Request) (table : Table) (e : Effect) → is_fetching (phase begins p) ≡ false
       → is_fetching (phase begins (followed p step (comes.Told request table))) ≡ true
-      → IsIn (state_requests place (down p) table.view) e → EffectIsDue (followed p step (comes.Told request table)) e
+      → IsIn (state_requests place (nodes_declared_down p) table.view) e → EffectIsDue (followed p step (comes.Told request table)) e
   states_due p step request table e before behind at =
       let q = followed p step (comes.Told request table) in
       let t = taken table (is_join request) (phase begins p) before behind in
-      let found = in_map (state_request place.troupe table.view.incarnation) (givers place.node (down p) table.view) e at in
-      let entry = in_map (λ (x : Entry). x.node) (filter (may_give place.node (down p)) table.view.entries) found.0 found.1 in
-      let passed = in_filter (may_give place.node (down p)) table.view.entries entry.0 entry.1 in
+      let found = in_map (state_request place.troupe table.view.incarnation) (givers place.node (nodes_declared_down p) table.view) e at in
+      let entry = in_map (λ (x : Entry). x.node) (filter (may_give place.node (nodes_declared_down p)) table.view.entries) found.0 found.1 in
+      let passed = in_filter (may_give place.node (nodes_declared_down p)) table.view.entries entry.0 entry.1 in
       let x = entry.0 in
-      let outer = and_parts (performs_any x.since && not (nat_eq x.node place.node)) (not (is_among (down p) x.node)) passed.1 in
+      let outer = and_parts (performs_any x.since && not (nat_eq x.node place.node)) (not (is_among (nodes_declared_down p) x.node)) passed.1 in
       let inner = and_parts (performs_any x.since) (not (nat_eq x.node place.node)) outer.0 in
       let there = in_entries table.view.entries x passed.0 in
       let from = since_from x.since inner.0 in
@@ -149,7 +149,7 @@ module _ (place : Place) (boot : List View) (begins : Joiner) (first : List Valu
         t.2,
         (there.0, x, from.0, there.1, entry.2, from.1),
         subst (λ n. n ≡ place.node → ⊥) entry.2 (eqb-false x.node place.node (not-true (nat_eq x.node place.node) inner.1)),
-        subst (λ n. is_among (down p) n ≡ false) entry.2 (not-true (is_among (down p) x.node) outer.1),
+        subst (λ n. is_among (nodes_declared_down p) n ≡ false) entry.2 (not-true (is_among (nodes_declared_down p) x.node) outer.1),
       )
 
   gone_due : (p : Past) (step node : ℕ) (e : Effect) → IsIn (gone place boot begins (followed p step (comes.Declared node)) node) e → EffectIsDue (followed p step (comes.Declared node)) e
@@ -158,42 +158,42 @@ module _ (place : Place) (boot : List View) (begins : Joiner) (first : List Valu
       q : Past
       q = followed p step (comes.Declared node)
 
-      by_view : (troupe : ℕ) → slice_get place.troupes node ≡ Some (Some troupe) → (o : Option View) → slice_get (known boot q) troupe ≡ o
-          → IsIn (option_map_or (λ (v : View). if has_node v node then to_ring (down q) (asks_for.Gone troupe node) else []) o []) e → EffectIsDue q e
+      by_view : (troupe : ℕ) → slice_get place.troupes node ≡ Some (Some troupe) → (o : Option View) → slice_get (views_known boot q) troupe ≡ o
+          → IsIn (option_map_or (λ (v : View). if has_node v node then to_ring (nodes_declared_down q) (asks_for.Gone troupe node) else []) o []) e → EffectIsDue q e
       by_view troupe hosts None there at = absurd at
       by_view troupe hosts (Some v) there at = by_entry (has_node v node) refl at
         where
-          by_entry : (b : Bool) → has_node v node ≡ b → IsIn (if b then to_ring (down q) (asks_for.Gone troupe node) else []) e → EffectIsDue q e
+          by_entry : (b : Bool) → has_node v node ≡ b → IsIn (if b then to_ring (nodes_declared_down q) (asks_for.Gone troupe node) else []) e → EffectIsDue q e
           by_entry true has at =
-              ring_due q (down q) (asks_for.Gone troupe node) e (λ up. up)
+              ring_due q (nodes_declared_down q) (asks_for.Gone troupe node) e (λ up. up)
               (refl, hosts, subst (λ (o : Option View). IsSomeAnd o (λ view. has_node view node ≡ true)) (sym there) has) at
           by_entry false has at = absurd at
 
       by_hosted : (o : Option ℕ) → slice_get place.troupes node ≡ Some o → IsIn (option_map_or (gone_from place boot begins q node) o []) e → EffectIsDue q e
       by_hosted None hosts at = absurd at
-      by_hosted (Some troupe) hosts at = by_view troupe hosts (slice_get (known boot q) troupe) refl at
+      by_hosted (Some troupe) hosts at = by_view troupe hosts (slice_get (views_known boot q) troupe) refl at
 
       by_host : (o : Option (Option ℕ)) → slice_get place.troupes node ≡ o → IsIn (option_map_or (λ hosted. option_map_or (gone_from place boot begins q node) hosted []) o []) e → EffectIsDue q e
       by_host None hosts at = absurd at
       by_host (Some hosted) hosts at = by_hosted hosted hosts at
 
   came_due : (p : Past) (step : ℕ) (o : Occurrence) (e : Effect) → IsIn (for_what_came place boot begins (followed p step o)) e → EffectIsDue (followed p step o) e
-  came_due p step comes.Joins e at = ring_due (followed p step comes.Joins) (down p) (asks_for.Join place.troupe place.node) e (λ up. up) (refl, refl) at
+  came_due p step comes.Joins e at = ring_due (followed p step comes.Joins) (nodes_declared_down p) (asks_for.Join place.troupe place.node) e (λ up. up) (refl, refl) at
   came_due p step (comes.Told request table) e at =
       by_test (is_fetching (phase begins p)) (is_fetching (phase begins (followed p step (comes.Told request table)))) refl refl at
     where
       by_test : (b c : Bool) → is_fetching (phase begins p) ≡ b → is_fetching (phase begins (followed p step (comes.Told request table))) ≡ c
-          → IsIn (if not b && c then state_requests place (down p) table.view else []) e → EffectIsDue (followed p step (comes.Told request table)) e
+          → IsIn (if not b && c then state_requests place (nodes_declared_down p) table.view else []) e → EffectIsDue (followed p step (comes.Told request table)) e
       by_test false true before behind at = states_due p step request table e before behind at
       by_test false false before behind at = absurd at
       by_test true c before behind at = absurd at
   came_due p step (comes.Restored state count) e at = by_test (is_fetching (phase begins p)) refl at
     where
-      by_test : (b : Bool) → is_fetching (phase begins p) ≡ b → IsIn (if b then to_ring (down p) (asks_for.Active place.troupe place.node count) else []) e
+      by_test : (b : Bool) → is_fetching (phase begins p) ≡ b → IsIn (if b then to_ring (nodes_declared_down p) (asks_for.Active place.troupe place.node count) else []) e
           → EffectIsDue (followed p step (comes.Restored state count)) e
       by_test true fetching at =
           let a = active_behind count (phase begins p) fetching in
-          ring_due (followed p step (comes.Restored state count)) (down p) (asks_for.Active place.troupe place.node count) e (λ up. up) (refl, refl, a.0, a.1) at
+          ring_due (followed p step (comes.Restored state count)) (nodes_declared_down p) (asks_for.Active place.troupe place.node count) e (λ up. up) (refl, refl, a.0, a.1) at
       by_test false fetching at = absurd at
   came_due p step (comes.Declared node) e at = gone_due p step node e at
   came_due p step (comes.Asked header body sender) e at = absurd at

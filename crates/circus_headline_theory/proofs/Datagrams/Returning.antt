@@ -22,7 +22,7 @@ use Rattle.circus_member_rules.specs.declared.occurrence.Effect.TheVariants as m
 use Rattle.circus_member_rules.specs.declared.occurrence.Occurrence.TheVariants as comes
 use Rattle.circus_member_rules.specs.Messages.{reply_message, stale_message, before_message}
 use Rattle.circus_member_rules.specs.Step.{reply_of_run}
-use Rattle.circus_timely.specs.Past.{Past, booted, followed, now, required, phase}
+use Rattle.circus_timely.specs.Past.{Past, booted, followed, now, required_incarnation, phase}
 use Rattle.circus_timely.specs.First.{at_end, or_else, first_given}
 use Rattle.circus_timely.specs.Made.{is_caller, returns_to, asks, requests, callers}
 use Rattle.circus_timely.specs.Owed.{IsReturned, IsGivenState, AreReturned}
@@ -166,12 +166,12 @@ module _ (place : Place) (boot : List View) (begins : Joiner) (first : List Valu
       by_tests (nat_lt (now q) step) (is_stale place.troupe begins kept step call q) (is_before place.troupe begins kept call q) refl refl refl is
     where
       by_tests : (early stale before : Bool) → nat_lt (now q) step ≡ early → is_stale place.troupe begins kept step call q ≡ stale → is_before place.troupe begins kept call q ≡ before
-          → (if early then None else if stale then Some (stale_message (required q)) else if before then Some (before_message (first_of (phase begins q))) else reply_by place.troupe begins kept call q) ≡ Some message
+          → (if early then None else if stale then Some (stale_message (required_incarnation q)) else if before then Some (before_message (first_of (phase begins q))) else reply_by place.troupe begins kept call q) ≡ Some message
           → (step ≤ now q) × Says q call message
       by_tests true stale before early_is stale_is before_is e = absurd (let clash : ◌≡◌ {A = Option (List ℕ)} None (Some message) = e in cc)
       by_tests false true before early_is stale_is before_is e =
-          let same : stale_message (required q) ≡ message = (let x : ◌≡◌ {A = Option (List ℕ)} (Some (stale_message (required q))) (Some message) = e in cc) in
-          (ltb-false (now q) step early_is, inl (sym same, ltb-true call.header.server_incarnation (required q) (and_parts (nat_lt call.header.server_incarnation (required q)) _ stale_is).0))
+          let same : stale_message (required_incarnation q) ≡ message = (let x : ◌≡◌ {A = Option (List ℕ)} (Some (stale_message (required_incarnation q))) (Some message) = e in cc) in
+          (ltb-false (now q) step early_is, inl (sym same, ltb-true call.header.server_incarnation (required_incarnation q) (and_parts (nat_lt call.header.server_incarnation (required_incarnation q)) _ stale_is).0))
       by_tests false false true early_is stale_is before_is e =
           let same : before_message (first_of (phase begins q)) ≡ message = (let x : ◌≡◌ {A = Option (List ℕ)} (Some (before_message (first_of (phase begins q)))) (Some message) = e in cc) in (
             ltb-false (now q) step early_is,

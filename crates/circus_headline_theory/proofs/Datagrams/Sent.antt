@@ -10,7 +10,7 @@ use Rattle.circus_exchange.specs.Exchange.{start, takes, message_out}
 use Rattle.circus_exchange.specs.Outbox.{probe}
 use Rattle.circus_pair.specs.Taken.{total_in, count_in, has_arrived, MayFollow}
 use Rattle.circus_pair.specs.Acts.{Act, Call, Return, Came, Tick, Stop, Acts, more, end_after, taken_by, count_by, acknowledged_by}
-use Rattle.circus_pair.specs.Handed.{made, call_at, return_at, reached_in}
+use Rattle.circus_pair.specs.Handed.{calls_made, call_at, return_at, reached_in}
 use Rattle.circus_pair.specs.Lawful.{AreLawful, is_stopped_after}
 use Rattle.circus_pair.specs.Window.{is_all, call_is_whole, return_is_whole, may_go}
 use Rattle.circus_pair.specs.Sending.{is_sent, takes_after, in_order, whole_call, let_go_by, call_again, return_again, again_after, outputs}
@@ -155,7 +155,7 @@ module _ (first format : ℕ) (known : (format ≡ 1) ⊎ (format ≡ 2)) (ticks
   all_again tick up =
       let kept = kept_after first format acts lawful in
       each_append IsFine _ _
-      (each_in_order IsFine _ (first + made acts) (λ call. again_call tick up call (call_at first acts call) refl (kept.calls_within call)))
+      (each_in_order IsFine _ (first + calls_made acts) (λ call. again_call tick up call (call_at first acts call) refl (kept.calls_within call)))
       (each_in_order IsFine _ (2 ^ 32) (λ call. again_return tick call (return_at acts call) refl (kept.returns_within call)))
 
 -- ---- later acts
@@ -300,7 +300,7 @@ acknowledged first format acts s lawful taken plain =
 pub sent_for : (first format : ℕ) (known : (format ≡ 1) ⊎ (format ≡ 2)) (acts : Acts) (act : Act) → AreLawful first format (more acts act)
     → Each (IsSentFor first format (is_tick act) (more acts act)) (outputs (start first format) acts act)
 unfolding outputs return_at
-sent_for first format known acts (Call message) lawful = let_go first format known acts (Call message) lawful refl (first + made (more acts (Call message)))
+sent_for first format known acts (Call message) lawful = let_go first format known acts (Call message) lawful refl (first + calls_made (more acts (Call message)))
 sent_for first format known acts (Return call message) lawful = all_of_return first format known false (more acts (Return call message)) lawful call message here refl
   where
     here : return_at (more acts (Return call message)) call ≡ Some message
@@ -311,7 +311,7 @@ sent_for first format known acts (Came s) lawful =
     (λ is. let parts = and_parts (takes_after (start first format) acts s) (not (is_acknowledgement s)) is in
     acknowledged first format acts s lawful (taken_is first format acts s lawful.0 lawful.1 ∙ parts.0) (not-true (is_acknowledgement s) parts.1))
     (λ no_. tt))
-    (let_go first format known acts (Came s) lawful refl (first + made acts))
+    (let_go first format known acts (Came s) lawful refl (first + calls_made acts))
 sent_for first format known acts Tick lawful =
     each_map _ _ (again_after (start first format) acts) (sent_on first format true acts Tick (own_tick first format acts lawful)) (all_again first format known true acts lawful.0 refl lawful.1)
 sent_for first format known acts Stop lawful = tt

@@ -47,7 +47,7 @@ use Rattle.circus_world_theory.specs.NodeLives.{Events, Comes}
 use Rattle.circus_world_theory.proofs.Timely.Lives.{acting_by}
 use Rattle.circus_world_theory.proofs.Timely.Nodes.{concludes, ends_by}
 use Rattle.circus_headline_theory.specs.Datagrams.Lives.{IsOfOther, is_tick, with_rest, with_events}
-use Rattle.circus_headline_theory.specs.Datagrams.Ring.{Requests, requested, requested_by, with_requests, IsTableFor, HasCause, IsJustified, boot_acts, IsNext, StepIsJustified}
+use Rattle.circus_headline_theory.specs.Datagrams.Ring.{Requests, request_of_heard, requested_by, with_requests, IsTableFor, HasCause, IsJustified, boot_acts, IsNext, StepIsJustified}
 use Rattle.circus_headline_theory.specs.Datagrams.Sendings.{IsSaidFor}
 use Rattle.circus_headline_theory.proofs.Datagrams.AtPairs.{other_by, IsSent, sent_carries, sent_brings}
 use Rattle.circus_headline_theory.proofs.Datagrams.Theorem.{is_read}
@@ -85,7 +85,7 @@ module _ {M : Type 0} where
   made_by_request kept sender (Some request) = record { acting = refl; makes = table_made kept sender request (table_by kept request) refl }
 
 module _ {M : Type 0} (declared : M → Signature) (turn : M → List ValueTree → ℕ → List ValueTree → List Outcome → NextTurn) where
-  made_by_heard : (d : Deployment) (step from : ℕ) (heard : Heard Purpose) (kept : Kept) → HasMade {M = M} (hears declared turn d step from heard (ringmaster kept)) kept (requested {M = M} (ringmaster kept) heard)
+  made_by_heard : (d : Deployment) (step from : ℕ) (heard : Heard Purpose) (kept : Kept) → HasMade {M = M} (hears declared turn d step from heard (ringmaster kept)) kept (request_of_heard {M = M} (ringmaster kept) heard)
   made_by_heard d step from Dropped kept = record { acting = refl; makes = λ e at. absurd at }
   made_by_heard d step from Taken kept = record { acting = refl; makes = λ e at. absurd at }
   made_by_heard d step from (Called sender message) kept = made_by_request kept sender (accepted_request kept message)
@@ -148,7 +148,7 @@ module _ {M : Type 0} (declared : M → Signature) (turn : M → List ValueTree 
     given : All (IsSent b good.format (is_tick event) (with_all acts (acts_in declared turn step event n))) ended.1.gives
 
   rings_on : (requests : Requests) (acts : WireActs Purpose) (step : ℕ) (event : Event) (n : NodeState M) (ended : NodeState M × Outputs) → Rings requests acts n → IsOfOther d node event → IsRead event
-      → node_step.stepped declared turn step event n ≡ Ok ended → RingsOn requests acts step event n ended
+      → node_step.step_node declared turn step event n ≡ Ok ended → RingsOn requests acts step event n ended
   rings_on requests acts step event n ended r other read is =
       let e = ends_by declared turn step event n ended is in
       let so = steps_so declared turn step event n (kept_after d.troupes (asked requests)) r.acting in
@@ -176,7 +176,7 @@ module _ {M : Type 0} (declared : M → Signature) (turn : M → List ValueTree 
 
   -- ---- boot
 
-  rings_at_boot : (begun_ : NodeState M) (outputs : Outputs) → node < length d.nodes → booting.booted declared turn first d None node ≡ Ok (begun_, outputs) → Rings [] (boot_acts declared turn first d node) begun_
+  rings_at_boot : (begun_ : NodeState M) (outputs : Outputs) → node < length d.nodes → booting.boot_node declared turn first d None node ≡ Ok (begun_, outputs) → Rings [] (boot_acts declared turn first d node) begun_
   rings_at_boot begun_ outputs within is =
       let m = made_at_boot declared turn first d (home_of d node) None in
       let c = concludes (record { deployment = d; wire = fresh_wire d node; acting = m.acting; dropped = 0 }) [] m (begun_, outputs) is in

@@ -75,7 +75,7 @@ module _ {M : Type 0} (declared : M → Signature) (turn : M → List ValueTree 
     pub given : All (IsSent (beginning_of d node) good.format false (boot_acts declared turn first d own node)) outputs.gives
 
   pub has_booted : (begun_ : NodeState M) (outputs : Outputs) → node < length d.nodes → troupe_at d node ≡ Some number → slice_get d.troupes number ≡ Some troupe
-      → IsHome (declared own) (home_in d node number troupe).place (boot_views d.troupes) → booting.booted declared turn first d (Some own) node ≡ Ok (begun_, outputs) → HasBooted begun_ outputs
+      → IsHome (declared own) (home_in d node number troupe).place (boot_views d.troupes) → booting.boot_node declared turn first d (Some own) node ≡ Ok (begun_, outputs) → HasBooted begun_ outputs
   has_booted begun_ outputs within hosts there home is =
       let h = has_begun declared turn first lawful d node number troupe own (begun_, outputs) hosts there home is in
       let g = boot_gives declared turn first d (Some own) node (IsSent (beginning_of d node) good.format false) (begun_, outputs) within (sent_carries (beginning_of d node) good.format) is in
@@ -111,7 +111,7 @@ module _ {M : Type 0} (declared : M → Signature) (turn : M → List ValueTree 
     before : now p ≤ at
 
   one_step : (p : Past) (acts : WireActs Purpose) (at step : ℕ) (event : Event) (n : NodeState M) (ended : NodeState M × Outputs) → GoesFar at p acts n → at < step → IsOfBytes event → IsOfOther d node event
-      → node_step.stepped declared turn step event n ≡ Ok ended → GoesFar step (with_one p step (happens_by declared event n)) (with_all acts (acts_in declared turn step event n)) ended.0
+      → node_step.step_node declared turn step event n ≡ Ok ended → GoesFar step (with_one p step (happens_by declared event n)) (with_all acts (acts_in declared turn step event n)) ended.0
   one_step p acts at step event n ended far later octets other is =
       let before = far.before in
       let after_ : now p < step = omega (arith, before, later) in

@@ -25,7 +25,7 @@ use Rattle.circus_schedule.specs.declared.line.Line.{Line}
 use Rattle.circus_schedule.specs.declared.line.Line.TheVariants.{Deliver, Tick, Crash, Down, Join}
 use Rattle.circus_world.specs.declared.sent.Sent.{Sent}
 use Rattle.circus_world.specs.WorldState.{WorldState, Standing, is_live}
-use Rattle.circus_world.specs.Course.{Stepped, noted, passed, told_to_join, comes_to, concluded}
+use Rattle.circus_world.specs.Course.{Stepped, noted, pass_step, told_to_join, comes_to, conclude_step}
 use Rattle.circus_world.specs.Lines.{Leads, Lead}
 use Rattle.circus_world.proofs.ComeLemmas.{datagram_may_come, delivered_at, down_differs}
 use Rattle.circus_world.proofs.SlotLemmas.{get_set, get_there, all_at}
@@ -74,7 +74,7 @@ module _ {M : Type 0} (declared : M → Signature) (turn : M → List ValueTree 
     by_slot ended t (inl slot) differs = absurd (differs (sym slot.0))
     by_slot ended t (inr there) differs = h.goes t there
 
-    step_goes : (ended : NodeState M × Outputs) → node_step.stepped declared turn (v.steps + 1) event s.node ≡ Ok ended → (next : WorldState M)
+    step_goes : (ended : NodeState M × Outputs) → node_step.step_node declared turn (v.steps + 1) event s.node ≡ Ok ended → (next : WorldState M)
         → next.nodes ≡ set v.nodes other (record s { node = ended.0 }) → next.steps ≡ v.steps + 1 → GoesIn q next_acts next
     step_goes ended ends next nodes steps = elim (eqb_tells other node) [
       | inl same ↦
@@ -108,13 +108,13 @@ module _ {M : Type 0} (declared : M → Signature) (turn : M → List ValueTree 
     ]
 
     comes_goes : (next : WorldState M) → comes_to declared turn other event v ≡ Ok next → GoesIn q next_acts next
-    comes_goes next is = by_end (node_step.stepped declared turn (v.steps + 1) event s.node) refl
+    comes_goes next is = by_end (node_step.step_node declared turn (v.steps + 1) event s.node) refl
       where
-        by_end : (e : node_step.Ended M) → node_step.stepped declared turn (v.steps + 1) event s.node ≡ e → GoesIn q next_acts next
+        by_end : (e : node_step.Ended M) → node_step.step_node declared turn (v.steps + 1) event s.node ≡ e → GoesIn q next_acts next
         by_end (Ok ended) ends =
-            let same = same_world _ next (sym (comes_is declared turn v other event s at ∙ ap (concluded other s v) ends) ∙ is) in
+            let same = same_world _ next (sym (comes_is declared turn v other event s at ∙ ap (conclude_step other s v) ends) ∙ is) in
             step_goes ended ends next (ap (λ (x : WorldState M). x.nodes) (sym same)) (ap (λ (x : WorldState M). x.steps) (sym same))
-        by_end (Err peer) ends = absurd (let clash : ◌≡◌ {A = Stepped M} (Err (other, peer)) (Ok next) = sym (comes_is declared turn v other event s at ∙ ap (concluded other s v) ends) ∙ is in cc)
+        by_end (Err peer) ends = absurd (let clash : ◌≡◌ {A = Stepped M} (Err (other, peer)) (Ok next) = sym (comes_is declared turn v other event s at ∙ ap (conclude_step other s v) ends) ∙ is in cc)
 
   -- ---- something is noted of a node
 
@@ -132,7 +132,7 @@ module _ {M : Type 0} (declared : M → Signature) (turn : M → List ValueTree 
         | inr there ↦ h.goes t there
       ]
 
-  passed_goes : (p : Past) (acts : WireActs Purpose) (w : WorldState M) → GoesIn p acts w → GoesIn p acts (passed w)
+  passed_goes : (p : Past) (acts : WireActs Purpose) (w : WorldState M) → GoesIn p acts w → GoesIn p acts (pass_step w)
   passed_goes p acts w h = record { goes = h.goes; before = (let before = h.before in omega (arith, before)) }
 
 module _ {M : Type 0} (declared : M → Signature) (turn : M → List ValueTree → ℕ → List ValueTree → List Outcome → NextTurn) (first : M → List ValueTree)

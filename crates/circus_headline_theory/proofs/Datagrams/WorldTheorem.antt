@@ -80,7 +80,7 @@ module _ {M : Type 0} (declared : M → Signature) (turn : M → List ValueTree 
               (of_troupe declared turn first d modules node number own world.troupes (world.hosts.each node (Some own) hosts_it) is_at) in
               let within : node < length d.nodes = subst (λ k. node < k) boot_stands.all (slice_get_within begun_.nodes node s found) in
               let h = has_booted declared turn first lawful d world.deployment node number troupe own s.node b.outputs within is_at there home
-              (subst (λ (o : Option M). booting.booted declared turn first d o node ≡ Ok (s.node, b.outputs)) same b.booted_is) in
+              (subst (λ (o : Option M). booting.boot_node declared turn first d o node ≡ Ok (s.node, b.outputs)) same b.booted_is) in
               subst (λ (o : Option (Option M)). Goes declared turn first lawful d world.deployment node number troupe own booted (with_all begun (acts_at_boot declared turn first d (option_and_then (λ (x : Option M). x) o) node)) s.node)
               (sym hosts_it) h.goes
 

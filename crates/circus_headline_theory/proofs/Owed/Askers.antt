@@ -29,7 +29,7 @@ use Rattle.circus_member_rules.specs.declared.occurrence.Occurrence.TheVariants 
 use Rattle.circus_member_rules.specs.Rules.{answer, answers, active_call, before_answers}
 use Rattle.circus_member_rules.specs.Happening.{IsHome}
 use Rattle.circus_member_rules.specs.MemberState.{MemberState, Doing}
-use Rattle.circus_member_rules.specs.Step.{is_idle, handled}
+use Rattle.circus_member_rules.specs.Step.{is_idle, handle}
 use Rattle.circus_member_rules.proofs.Writing.{one_is_performing}
 use Rattle.circus_timely.specs.Past.{Past, followed, now, phase}
 use Rattle.circus_timely.specs.First.{at_end, or_else}
@@ -79,7 +79,7 @@ each_now P at (comes.Declared node) all = All-nil P
 each_now P at comes.Joins all = All-nil P
 
 module _ {M : Type 0} (m : MemberState M) (at : ℕ) where
-  handled_requests : (o : Occurrence) → (handled at o m).member.requests ≡ m.requests ++ map (λ (x : ℕ × Caller). x.1) (came_by at o)
+  handled_requests : (o : Occurrence) → (handle at o m).member.requests ≡ m.requests ++ map (λ (x : ℕ × Caller). x.1) (came_by at o)
   handled_requests (comes.Asked header body sender) = sym (append-nil m.requests)
   handled_requests (comes.Fetched incarnation sender) = refl
   handled_requests (comes.Replied name from reply) = sym (append-nil m.requests)

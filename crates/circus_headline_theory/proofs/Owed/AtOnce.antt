@@ -15,7 +15,7 @@ use Rattle.circus_member_rules.specs.Messages.{stale_message, before_message}
 use Rattle.circus_member_rules.specs.Rules.{answers, answer_at_once, wanted_by_call, stale_answers, active_call, before_answers}
 use Rattle.circus_member_rules.specs.MemberState.{MemberState, Doing}
 use Rattle.circus_member_rules.specs.Step as step
-use Rattle.circus_member_rules.specs.Step.{handled}
+use Rattle.circus_member_rules.specs.Step.{handle}
 use Rattle.circus_headline_theory.proofs.Owed.Handling.{due, neither}
 
 pub all_stay : {X : Type 0} (xs : List X) → filter (λ x. true) xs ≡ xs
@@ -69,7 +69,7 @@ module _ {M : Type 0} (m : MemberState M) where
         replies = ap (λ (g : Gathered). g.replies) same;
       }
 
-  sorts_asked : (header : CallHeader) (body : List ℕ) (sender : Caller) → let o = comes.Asked header body sender in Sorts (step.asked m header body sender) (held_now o) (answered_now o) (at_once o)
+  sorts_asked : (header : CallHeader) (body : List ℕ) (sender : Caller) → let o = comes.Asked header body sender in Sorts (step.handle_call m header body sender) (held_now o) (answered_now o) (at_once o)
   sorts_asked header body sender = by_test (is_held added)
     where
       call : HeldCall
@@ -106,7 +106,7 @@ module _ {M : Type 0} (m : MemberState M) where
             replies = refl;
           }
 
-  sorts_fetched : (incarnation : ℕ) (sender : Caller) → Sorts (step.fetched m incarnation sender) [] [] (stale_answers m.gathered incarnation)
+  sorts_fetched : (incarnation : ℕ) (sender : Caller) → Sorts (step.handle_fetch m incarnation sender) [] [] (stale_answers m.gathered incarnation)
   sorts_fetched incarnation sender =
       let g = m.gathered in
       let required = max g.required incarnation in
@@ -120,7 +120,7 @@ module _ {M : Type 0} (m : MemberState M) where
         replies = refl;
       }
 
-  sorts_restored : (at : ℕ) (state : List ValueTree) (count : ℕ) → Sorts (step.restored at m state count) [] [] (at_once (comes.Restored state count))
+  sorts_restored : (at : ℕ) (state : List ValueTree) (count : ℕ) → Sorts (step.handle_state at m state count) [] [] (at_once (comes.Restored state count))
   sorts_restored at state count = by_test (is_fetching m.performing.kept.phase)
     where
       by_test : (b : Bool) → let d : Doing M = if b then record { member = record m { performing = made_active at state count m.performing; gathered = with_first m.gathered count }; effects = active_call m.place m.known count ++ before_answers m.gathered count } else record { member = m; effects = [] } in
@@ -138,13 +138,13 @@ module _ {M : Type 0} (m : MemberState M) where
             replies = refl;
           }
 
-  pub sorts : (at : ℕ) (o : Occurrence) → Sorts (handled at o m) (held_now o) (answered_now o) (at_once o)
+  pub sorts : (at : ℕ) (o : Occurrence) → Sorts (handle at o m) (held_now o) (answered_now o) (at_once o)
   sorts at (comes.Asked header body sender) = sorts_asked header body sender
   sorts at (comes.Fetched incarnation sender) = sorts_fetched incarnation sender
-  sorts at (comes.Replied name from reply) = sorts_none (step.replied m name from reply) refl
-  sorts at (comes.IsStale name server from incarnation) = sorts_none (step.stale m name server from incarnation) refl
+  sorts at (comes.Replied name from reply) = sorts_none (step.handle_reply m name from reply) refl
+  sorts at (comes.IsStale name server from incarnation) = sorts_none (step.handle_stale m name server from incarnation) refl
   sorts at (comes.IsBefore name from) = sorts_none (step.before m name from) refl
-  sorts at (comes.Told request table) = sorts_none (step.told m request table) refl
+  sorts at (comes.Told request table) = sorts_none (step.handle_table m request table) refl
   sorts at (comes.Restored state count) = sorts_restored at state count
   sorts at (comes.Declared node) = sorts_none (step.declared_down m node) refl
   sorts at comes.Joins = sorts_none (step.joins m) refl

@@ -45,12 +45,12 @@ use Rattle.circus_member_rules.specs.Rules.{ringmaster, answer, request_call, re
 use Rattle.circus_member_rules.specs.Happening.{IsHome}
 use Rattle.circus_member_rules.specs.MemberState.{MemberState, Doing}
 use Rattle.circus_member_rules.specs.Step as step
-use Rattle.circus_member_rules.specs.Step.{name_of_last, known_by_table, is_taken_in, kept_by_table, handled, waits}
+use Rattle.circus_member_rules.specs.Step.{name_of_last, known_by_table, is_taken_in, kept_by_table, handle, waits}
 use Rattle.circus_member_rules.proofs.Writing.{one_is_performing, none_is_idle}
 use Rattle.circus_member_theory.proofs.Resting.{at_boot}
 use Rattle.circus_world_theory.proofs.Border.Going.{begun}
 use Rattle.circus_timely.specs.Past as past
-use Rattle.circus_timely.specs.Past.{Past, booted, followed, now, known, down}
+use Rattle.circus_timely.specs.Past.{Past, booted, followed, now, views_known, nodes_declared_down}
 use Rattle.circus_timely.specs.Asks.{is_of_ask, is_new, is_waiting, as_made, asks_of, knows, opened_one, first_calls, asks_behind, calls_behind, new_asks, waits_then, open_asks, calls_owed}
 use Rattle.circus_headline_theory.specs.Owed.Living.{boots, made_in, made_by}
 use Rattle.circus_member_theory.specs.Living.{after, MayLive}
@@ -118,7 +118,7 @@ all_new : (k : Knowing) (view : View) (asks : List (AskName × Asking)) → of_a
 all_new k view asks =
     none_of_map (calls_for_view k view) (λ x. all_of_asks (call_of_ask k x.0 x.1) (λ s. refl) (calls_for_a_view view k.down x.1.asked)) (filter (is_to view.troupe) asks)
 
-told_calls : {M : Type 0} (m : MemberState M) (request : Request) (table : Table) → of_asks (step.told m request table).effects
+told_calls : {M : Type 0} (m : MemberState M) (request : Request) (table : Table) → of_asks (step.handle_table m request table).effects
     ≡ (if knowing.is_newer m.known table.view then calls_for_a_new_view (known_by_table m.known request table.view) table.view m.asks else [])
 told_calls m request table =
     let k = known_by_table m.known request table.view in
@@ -214,10 +214,10 @@ module _ (b : Behaviour) (state : List ValueTree) (g : Gathered) (kept : MemberR
 
 -- ---- what comes is handled
 
-module _ {M : Type 0} (place : Place) (views : List View) (p : Past) (at : ℕ) (m : MemberState M) (views_are : m.known.views ≡ known views p) (downs : m.known.down ≡ down p) where
+module _ {M : Type 0} (place : Place) (views : List View) (p : Past) (at : ℕ) (m : MemberState M) (views_are : m.known.views ≡ views_known views p) (downs : m.known.down ≡ nodes_declared_down p) where
   pub record IsBehind (o : Occurrence) : Type 0 where
-    pub asks_are : (handled at o m).member.asks ≡ asks_behind place views (followed p at o) m.asks
-    pub calls : of_asks (handled at o m).effects ≡ calls_behind place views (followed p at o) m.asks
+    pub asks_are : (handle at o m).member.asks ≡ asks_behind place views (followed p at o) m.asks
+    pub calls : of_asks (handle at o m).effects ≡ calls_behind place views (followed p at o) m.asks
 
   behind_restored : (state : List ValueTree) (count : ℕ) → IsBehind (comes.Restored state count)
   behind_restored state count = let t = by_test (is_fetching m.performing.kept.phase) in record { asks_are = t.0; calls = t.1 }
@@ -231,7 +231,7 @@ module _ {M : Type 0} (place : Place) (views : List View) (p : Past) (at : ℕ) 
       )
       by_test false = (refl, refl)
 
-  pub behind : (o : Occurrence) → (handled at o m).member.known.views ≡ known views (followed p at o) → (handled at o m).member.known.down ≡ down (followed p at o) → IsBehind o
+  pub behind : (o : Occurrence) → (handle at o m).member.known.views ≡ views_known views (followed p at o) → (handle at o m).member.known.down ≡ nodes_declared_down (followed p at o) → IsBehind o
   behind (comes.Asked header body sender) seen gone = record { asks_are = refl; calls = no_answer (message_at_once (answer_to m.gathered header)) sender }
   behind (comes.Fetched incarnation sender) seen gone = record { asks_are = refl; calls = none_of_asks (answer (stale_message (max m.gathered.required incarnation))) (λ x. refl) (stale_callers m.gathered incarnation) }
   behind (comes.Replied name from reply) seen gone = record { asks_are = refl; calls = refl }
@@ -250,7 +250,7 @@ module _ {M : Type 0} (place : Place) (views : List View) (p : Past) (at : ℕ) 
             ∙ (λ j. if past.is_newer (views_are j) table.view then calls_for_a_new_view (let k : Knowing = record { views = seen j; down = gone j; wants = wants } in k) table.view m.asks else []);
       }
   behind (comes.Restored state count) seen gone = behind_restored state count
-  behind (comes.Declared node) seen gone = record { asks_are = refl; calls = no_gone m.place (knowing.declared m.known node) node }
+  behind (comes.Declared node) seen gone = record { asks_are = refl; calls = no_gone m.place (knowing.note_down m.known node) node }
   behind comes.Joins seen gone = record { asks_are = refl; calls = no_ring m.known (Join m.place.troupe m.place.node) }
 
 -- ---- a step
@@ -302,10 +302,10 @@ module _ {M : Type 0} (declared : M → Signature) (turn : M → List ValueTree 
       last : Requests declared turn first lawful place views beginning hosted q
       last = asked_all declared turn first lawful place views beginning hosted home q may
 
-      d_views : d.member.known.views ≡ known views q
+      d_views : d.member.known.views ≡ views_known views q
       d_views = sym (ap (λ (x : Knowing). x.views) s.same.known) ∙ last.views_are
 
-      d_down : d.member.known.down ≡ down q
+      d_down : d.member.known.down ≡ nodes_declared_down q
       d_down = sym (ap (λ (x : Knowing). x.down) s.same.known) ∙ last.downs
 
       same_place : d.member.place ≡ place
@@ -367,10 +367,10 @@ module _ {M : Type 0} (declared : M → Signature) (turn : M → List ValueTree 
       pub asks_then : m.asks ≡ open_asks place views new_kept p
       asks_then = c.asks_are ∙ open_same place views m.performing.kept new_kept at made_same waiting_same p (rises declared turn first lawful place views beginning hosted p may.0) may.1
 
-      e_views : e.member.known.views ≡ known views q
+      e_views : e.member.known.views ≡ views_known views q
       e_views = last.views_are
 
-      e_down : e.member.known.down ≡ down q
+      e_down : e.member.known.down ≡ nodes_declared_down q
       e_down = last.downs
 
       waits_now : (name : AskName) → waits new_kept name ≡ waits_then place views new_kept q name
@@ -395,7 +395,7 @@ module _ {M : Type 0} (declared : M → Signature) (turn : M → List ValueTree 
           let e_asks : e.member.asks ≡ fold (opened_one place views (knows place views q)) behind_asks new =
           opened.asks_are
           ∙ (λ j. fold (opened_one place views (let x : Knowing = record { views = d_views j; down = d_down j; wants = wants } in x)) ((handled_so.asks_are ∙ ap (asks_behind place views q) asks_then) j) (asks_of (same_place j) (is_new q) new_kept.from new_kept.runs)) in
-          let effects = (step.stepped declared turn at o m).effects in
+          let effects = (step.step_member declared turn at o m).effects in
           let made : of_asks effects ≡ of_asks e.effects =
           filter-append is_of_ask e.effects (rules.lookups e.member.known)
           ∙ ap (λ l. of_asks e.effects ++ l) (none_of_asks lookup_call (λ t. refl) (knowing.lookups e.member.known ringmaster))

@@ -16,16 +16,16 @@ use Rattle.circus_model.specs.Behaviour.{Behaviour}
 use Rattle.circus_record.specs.declared.record.MemberRecord.{MemberRecord}
 use Rattle.circus_record.specs.declared.record.RunRecord.{RunRecord}
 use Rattle.circus_gather.specs.Gathering.{Gathered, answer_to, is_held, with_required, with_first}
-use Rattle.circus_performing.specs.Performing.{last_of, unanswered, is_fetching, made_active, taken_in, last_count}
+use Rattle.circus_performing.specs.Performing.{last_of, unless_replied, is_fetching, made_active, taken_in, last_count}
 use Rattle.circus_performing.proofs.Records.{fetching_is_inactive}
 use Rattle.circus_member_rules.specs.declared.occurrence.Occurrence.{Occurrence}
 use Rattle.circus_member_rules.specs.declared.occurrence.Occurrence.TheVariants as comes
 use Rattle.circus_member_rules.specs.Rules.{answer_at_once, wanted_by_call, active_call, before_answers}
 use Rattle.circus_member_rules.specs.MemberState.{MemberState, Doing}
-use Rattle.circus_member_rules.specs.Step.{is_join, kept_by_table, handled}
+use Rattle.circus_member_rules.specs.Step.{is_join, kept_by_table, handle}
 use Rattle.circus_member_rules.specs.Seen.Sound.{IsSound}
 use Rattle.circus_member_theory.specs.Ranges.{InRange}
-use Rattle.circus_timely.specs.Past.{Past, followed, required, is_asking, taken_in as way_in, phase, fetched}
+use Rattle.circus_timely.specs.Past.{Past, followed, required_incarnation, is_asking, taken_in as way_in, phase, snapshot_fetched}
 use Rattle.circus_member_theory.proofs.Timely.Phases.{once_told, once_tabled}
 use Rattle.circus_timely.specs.Returns.{first_of}
 use Rattle.circus_timely.specs.Snapshots.{began}
@@ -57,7 +57,7 @@ first_tabled table (Active first) = refl
 module _ {M : Type 0} (begins : Joiner) (state : List ValueTree) where
   -- what it requires and has become is that of its past, from this phase and state at boot on
   pub record Knows (p : Past) (m : MemberState M) : Type 0 where
-    pub requires : m.gathered.required ≡ required p
+    pub requires : m.gathered.required ≡ required_incarnation p
     pub phase_is : m.performing.kept.phase ≡ phase begins p
     pub from : m.gathered.from ≡ first_of m.performing.kept.phase
     pub start : m.performing.kept.from ≡ first_of m.performing.kept.phase
@@ -76,7 +76,7 @@ module _ {M : Type 0} (begins : Joiner) (state : List ValueTree) where
   module _ (p : Past) (m : MemberState M) (h : Knows p m) (at : ℕ) where
     -- where nothing of it changes
     abbrev pub Knew : Occurrence → Type 0
-    Knew o = Knows (followed p at o) (handled at o m).member
+    Knew o = Knows (followed p at o) (handle at o m).member
 
     knew_asked : (header : CallHeader) (body : List ℕ) (sender : Caller) → Knew (comes.Asked header body sender)
     knew_asked header body sender = by_test (is_held (answer_to m.gathered header))
@@ -114,7 +114,7 @@ module _ {M : Type 0} (begins : Joiner) (state : List ValueTree) where
               phase_is = sym (ap (λ b. if b then Active count else phase begins p) (fetches true is));
               from = refl;
               start = refl;
-              state_is = sym (ap (λ b. option_map_or (λ (s : List ValueTree × ℕ). s.0) (if b then Some (given, count) else fetched begins p) state) (fetches true is));
+              state_is = sym (ap (λ b. option_map_or (λ (s : List ValueTree × ℕ). s.0) (if b then Some (given, count) else snapshot_fetched begins p) state) (fetches true is));
             }
         by_test false is =
             record {
@@ -122,7 +122,7 @@ module _ {M : Type 0} (begins : Joiner) (state : List ValueTree) where
               phase_is = h.phase_is ∙ sym (ap (λ b. if b then Active count else phase begins p) (fetches false is));
               from = h.from;
               start = h.start;
-              state_is = h.state_is ∙ sym (ap (λ b. option_map_or (λ (s : List ValueTree × ℕ). s.0) (if b then Some (given, count) else fetched begins p) state) (fetches false is));
+              state_is = h.state_is ∙ sym (ap (λ b. option_map_or (λ (s : List ValueTree × ℕ). s.0) (if b then Some (given, count) else snapshot_fetched begins p) state) (fetches false is));
             }
 
     pub knew : (o : Occurrence) → Knew o
@@ -152,7 +152,7 @@ linked_with g h kept later open_run replies runs from (inl r) =
     let few = r.rests.few in
     let long = ap length runs in
     inl (record {
-      no_ask = ap (λ rs. option_and_then (λ (x : RunRecord). option_and_then unanswered (last_of x.asks)) (last_of rs)) runs ∙ r.no_ask;
+      no_ask = ap (λ rs. option_and_then (λ (x : RunRecord). option_and_then unless_replied (last_of x.asks)) (last_of rs)) runs ∙ r.no_ask;
       rests = record {
         start = omega (arith, start, from);
         few = omega (arith, few, from, long);
@@ -164,7 +164,7 @@ linked_with g h kept later open_run replies runs from (inr w) =
     let few = w.runs.few in
     inr (record {
       ask = w.ask;
-      asks = ap (λ rs. option_and_then (λ (x : RunRecord). option_and_then unanswered (last_of x.asks)) (last_of rs)) runs ∙ w.asks;
+      asks = ap (λ rs. option_and_then (λ (x : RunRecord). option_and_then unless_replied (last_of x.asks)) (last_of rs)) runs ∙ w.asks;
       runs = record {
         before = w.runs.before;
         run = w.runs.run;
@@ -204,7 +204,7 @@ module _ {M : Type 0} (b : Behaviour) (m : MemberState M) (at : ℕ) (sound : Is
             };
           })
 
-  pub carries : (o : Occurrence) → InRange o → Carries m (handled at o m)
+  pub carries : (o : Occurrence) → InRange o → Carries m (handle at o m)
   carries (comes.Asked header body sender) ranges = by_test (is_held (answer_to m.gathered header))
     where
       by_test : (t : Bool) → let d : Doing M = record {

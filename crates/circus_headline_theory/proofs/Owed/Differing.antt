@@ -30,7 +30,7 @@ use Rattle.circus_member_rules.specs.OpenAsks.{is_name, asking_of, with_ask, wit
 use Rattle.circus_member_rules.specs.Rules.{difference_of, difference_told, difference_by, after_stale, is_to, seen_by_ask, with_new_view, stays_open}
 use Rattle.circus_member_rules.specs.Seen.Sound.{AreNamed}
 use Rattle.circus_member_rules.proofs.Named.{names_decide, All-opened_at, named-opened, named-changed, named-filtered}
-use Rattle.circus_timely.specs.Past.{Past, booted, followed, now, Rises, is_newer, known, said}
+use Rattle.circus_timely.specs.Past.{Past, booted, followed, now, Rises, is_newer, views_known, replies_to}
 use Rattle.circus_member_theory.proofs.Timely.Replies.{said_none, names_turned}
 use Rattle.circus_timely.specs.Returns.{run_of}
 use Rattle.circus_timely.specs.Asks.{is_new, as_made, asks_from, asks_of, knows, opened_one, asks_behind, new_asks, waits_then, open_asks}
@@ -173,7 +173,7 @@ module _ (place : Place) (boot : List View) (kept : MemberRecord) where
     pub named : ask_named kept e.0 ≡ Some ask
     pub by_then : ask.asked ≤ last
     pub kind : e.1.kind ≡ place.replies
-    pub said_so : e.1.said ≡ said ask.asked e.0 p
+    pub said_so : e.1.said ≡ replies_to ask.asked e.0 p
 
   record AreSo (p : Past) : Type 0 where
     pub names : AreNamed (open_asks place boot kept p)
@@ -214,7 +214,7 @@ module _ (place : Place) (boot : List View) (kept : MemberRecord) where
   -- ---- what comes
 
   -- an ask to which nothing is said now
-  unsaid : (p q : Past) (last : ℕ) (e : AskName × Asking) (a : Asking) → a.kind ≡ e.1.kind → a.said ≡ e.1.said → ((asked : ℕ) → said asked e.0 q ≡ said asked e.0 p) → IsSo last p e → IsSo last q (e.0, a)
+  unsaid : (p q : Past) (last : ℕ) (e : AskName × Asking) (a : Asking) → a.kind ≡ e.1.kind → a.said ≡ e.1.said → ((asked : ℕ) → replies_to asked e.0 q ≡ replies_to asked e.0 p) → IsSo last p e → IsSo last q (e.0, a)
   unsaid p q last e a kind same none h =
       record {
         ask = h.ask;
@@ -229,12 +229,12 @@ module _ (place : Place) (boot : List View) (kept : MemberRecord) where
     abbrev After : Occurrence → AskName × Asking → Type 0
     After o e = IsSo step (followed p step o) e
 
-    is_later : (q : Past) → ((asked : ℕ) (name : AskName) → said asked name q ≡ said asked name p) → (e : AskName × Asking) → IsSo (now p) p e → IsSo step q e
+    is_later : (q : Past) → ((asked : ℕ) (name : AskName) → replies_to asked name q ≡ replies_to asked name p) → (e : AskName × Asking) → IsSo (now p) p e → IsSo step q e
     is_later q none e h =
         let by = h.by_then in
         record { ask = h.ask; named = h.named; by_then = omega (arith, by, later); kind = h.kind; said_so = h.said_so ∙ sym (none h.ask.asked e.0) }
 
-    all_later : (q : Past) → ((asked : ℕ) (name : AskName) → said asked name q ≡ said asked name p) → (asks : List (AskName × Asking)) → All (IsSo (now p) p) asks → All (IsSo step q) asks
+    all_later : (q : Past) → ((asked : ℕ) (name : AskName) → replies_to asked name q ≡ replies_to asked name p) → (asks : List (AskName × Asking)) → All (IsSo (now p) p) asks → All (IsSo step q) asks
     all_later q none asks all = All-weaker (IsSo (now p) p) (IsSo step q) (is_later q none) asks all
 
     -- a reply comes
@@ -264,7 +264,7 @@ module _ (place : Place) (boot : List View) (kept : MemberRecord) where
               named = h.named;
               by_then = omega (arith, by, later);
               kind = h.kind;
-              said_so = h.said_so ∙ sym (append-nil (said h.ask.asked n p)) ∙ (λ j. said h.ask.asked n p ++ (if none_then (nat_lt h.ask.asked step) (is_name n name) not_named j then record { node = from; value = reply } ∷ [] else []));
+              said_so = h.said_so ∙ sym (append-nil (replies_to h.ask.asked n p)) ∙ (λ j. replies_to h.ask.asked n p ++ (if none_then (nat_lt h.ask.asked step) (is_name n name) not_named j then record { node = from; value = reply } ∷ [] else []));
             }
           where
             none_then : (a b : Bool) → b ≡ false → false ≡ (a && b)
@@ -272,7 +272,7 @@ module _ (place : Place) (boot : List View) (kept : MemberRecord) where
             none_then false b is = refl
 
     -- an ask is changed to which nothing is said
-    changed : (q : Past) → ((asked : ℕ) (name : AskName) → said asked name q ≡ said asked name p) → (name : AskName) (change : Asking → Asking)
+    changed : (q : Past) → ((asked : ℕ) (name : AskName) → replies_to asked name q ≡ replies_to asked name p) → (name : AskName) (change : Asking → Asking)
         → ((a : Asking) → ((change a).kind ≡ a.kind) × ((change a).said ≡ a.said)) → (asks : List (AskName × Asking)) → AreNamed asks → All (IsSo (now p) p) asks
         → All (IsSo step q) (with_asking name change asks)
     changed q none name change keeps asks named all =
@@ -316,7 +316,7 @@ module _ (place : Place) (boot : List View) (kept : MemberRecord) where
         (changed q (λ asked other. refl) name change (keeps_stale (knows place boot q) from incarnation) asks named all, named-changed name change asks named)
     behind (comes.IsBefore name from) asks named all =
         (changed (followed p step (comes.IsBefore name from)) (λ asked other. refl) name (with_before from) (λ a. (refl, refl)) asks named all, named-changed name (with_before from) asks named)
-    behind (comes.Told request table) asks named all = by_test (is_newer (known boot p) table.view)
+    behind (comes.Told request table) asks named all = by_test (is_newer (views_known boot p) table.view)
       where
         q : Past
         q = followed p step (comes.Told request table)
@@ -371,7 +371,7 @@ module _ (place : Place) (boot : List View) (kept : MemberRecord) where
           let h = are_so p rises in
           let so = found_at (IsSo (now p) p) name (open_asks place boot kept p) a is h.each in
           let first_is : first_reply place boot kept p name ≡ slice_get a.said 0 =
-          ap (option_and_then (λ (ask : AskRecord). slice_get (said ask.asked name p) 0)) so.named ∙ ap (λ l. slice_get l 0) (sym so.said_so) in
+          ap (option_and_then (λ (ask : AskRecord). slice_get (replies_to ask.asked name p) 0)) so.named ∙ ap (λ l. slice_get l 0) (sym so.said_so) in
           let watch : watches place.replies ≡ is_watchdog a.kind = same_watch place.replies ∙ ap is_watchdog (sym so.kind) in
           (λ j. if watch j && true then option_map_or (difference_from name from reply) (first_is j) [] else [])
           ∙ told_by_said name from reply (is_watchdog a.kind) a.said

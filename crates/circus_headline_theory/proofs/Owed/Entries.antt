@@ -15,7 +15,7 @@ use Rattle.circus_record.specs.declared.record.MemberRecord.{MemberRecord}
 use Rattle.circus_record.specs.declared.record.RunRecord.{RunRecord}
 use Rattle.circus_fanout.specs.Asking.{Asking}
 use Rattle.circus_performing.specs.declared.start.RunStart.{RunStart}
-use Rattle.circus_performing.specs.Performing.{last_of, unanswered, clock_after, begun, made_ask, answered_ask, refusal, with_ask, with_refusal, turned, gone_on, replies_of, state_after, most_turns}
+use Rattle.circus_performing.specs.Performing.{last_of, unless_replied, clock_after, begin_run, made_ask, answered_ask, refusal, with_ask, with_refusal, turn_run, gone_on, replies_of, state_after, most_turns}
 use Rattle.circus_performing.specs.Record.{behaviour, start_of, turns}
 use Rattle.circus_performing.proofs.Ends.{last_more, latest_more}
 use Rattle.circus_performing.proofs.Records.{with_answer, answered_is}
@@ -38,7 +38,7 @@ and_false false = refl
 
 -- the run has no open ask
 abbrev pub HasNoAsk : RunRecord → Type 0
-HasNoAsk run = option_and_then unanswered (last_of run.asks) ≡ None
+HasNoAsk run = option_and_then unless_replied (last_of run.asks) ≡ None
 
 module _ (place : Place) (test : AskRecord → Bool) where
   -- ---- lists
@@ -94,7 +94,7 @@ module _ (place : Place) (test : AskRecord → Bool) where
   -- its open ask, as it was made
   abbrev pub open_part : ℕ → RunRecord → List (AskName × Asking)
   open_part index run =
-      option_map_or (λ ask. as_made place index run.root run.path (length run.asks - 1) (clock_after run.entry run.asks) ask ∷ []) (option_and_then unanswered (last_of run.asks)) []
+      option_map_or (λ ask. as_made place index run.root run.path (length run.asks - 1) (clock_after run.entry run.asks) ask ∷ []) (option_and_then unless_replied (last_of run.asks)) []
 
   module _ (step : ℕ) (b : Bool) (fresh : (clock : List ℕ) (callee procedure : ℕ) (arguments state : List ValueTree) → test (made_ask step clock callee procedure arguments state) ≡ b) where
     pub gone_asks : (turn : List Outcome → NextTurn) (left index : ℕ) (run : RunRecord) → HasNoAsk run
@@ -117,7 +117,7 @@ module _ (place : Place) (test : AskRecord → Bool) where
         no_part false = refl
 
         by_turn : ((r : RunRecord) → HasNoAsk r → asks_by index (gone_on step turn left r) ≡ asks_by index r ++ (if b then open_part index (gone_on step turn left r) else [])) → (next : NextTurn)
-            → let gone = turned step (gone_on step turn left) run next in asks_by index gone ≡ asks_by index run ++ (if b then open_part index gone else [])
+            → let gone = turn_run step (gone_on step turn left) run next in asks_by index gone ≡ asks_by index run ++ (if b then open_part index gone else [])
         by_turn rest (ends outcome state) =
             sym (append-nil (asks_by index run)) ∙ ap (λ l. asks_by index run ++ l) (no_part b)
             ∙ ap (λ o. asks_by index run ++ (if b then option_map_or (λ ask. as_made place index run.root run.path (length run.asks - 1) (clock_after run.entry run.asks) ask ∷ []) o [] else [])) (sym none)
@@ -138,14 +138,14 @@ module _ (place : Place) (test : AskRecord → Bool) where
                 ∙ (λ j. asks_by index run ++ ((if test refused && not (is j) then as_made place index run.root run.path (0 + length run.asks) (clock_after entry run.asks) refused ∷ [] else []) ++ []))
                 ∙ (λ j. asks_by index run ++ ((if and_false (test refused) j then as_made place index run.root run.path (0 + length run.asks) (clock_after entry run.asks) refused ∷ [] else []) ++ []))
                 ∙ append-nil (asks_by index run) in
-                rest r (ap (option_and_then unanswered) (last_more run.asks refused))
+                rest r (ap (option_and_then unless_replied) (last_more run.asks refused))
                 ∙ ap (λ l. l ++ (if b then open_part index (gone_on step turn left r) else [])) more
             by_spent false is =
                 let entry = run.entry in
                 let ask = made_ask step (clock_after entry run.asks) callee procedure arguments state in
                 let r = with_ask run ask in
                 let part : open_part index r ≡ as_made place index run.root run.path (0 + length run.asks) (clock_after entry run.asks) ask ∷ [] =
-                ap (λ o. option_map_or (λ a. as_made place index run.root run.path (length r.asks - 1) (clock_after entry r.asks) a ∷ []) (option_and_then unanswered o) []) (last_more run.asks ask)
+                ap (λ o. option_map_or (λ a. as_made place index run.root run.path (length r.asks - 1) (clock_after entry r.asks) a ∷ []) (option_and_then unless_replied o) []) (last_more run.asks ask)
                 ∙ (λ j. as_made place index run.root run.path (sym same j) (latest_more (λ (a : AskRecord). a.after) entry run.asks ask j) ask ∷ []) in
                 from-append index run.root run.path 0 entry run.asks (ask ∷ [])
                 ∙ (λ j. asks_by index run ++ ((if fresh (clock_after entry run.asks) callee procedure arguments state j && not (is j) then as_made place index run.root run.path (0 + length run.asks) (clock_after entry run.asks) ask ∷ [] else []) ++ []))
@@ -182,12 +182,12 @@ module _ {M : Type 0} (declared : M → Signature) (turn : M → List ValueTree 
     entered_more d start =
         let kept = d.member.performing.kept in
         let t = turn d.member.performing.hosted kept.state start.procedure start.arguments in
-        let gone = gone_on step t most_turns (begun step start) in
+        let gone = gone_on step t most_turns (begin_run step start) in
         record {
           before = kept.runs;
           run = gone;
           runs_are = refl;
-          is = of-append place test kept.from kept.runs gone ∙ ap (λ l. asks_in d ++ l) (gone_asks place test step b fresh t most_turns (kept.from + length kept.runs) (begun step start) refl);
+          is = of-append place test kept.from kept.runs gone ∙ ap (λ l. asks_in d ++ l) (gone_asks place test step b fresh t most_turns (kept.from + length kept.runs) (begin_run step start) refl);
         }
 
     pub answered_more : (d : Doing M) (reply : Reply) → IsSoundNow declared turn first lawful d.member → HasValue (behaves declared turn first lawful d) d.member reply
@@ -203,7 +203,7 @@ module _ {M : Type 0} (declared : M → Signature) (turn : M → List ValueTree 
         let gone = gone_on step t most_turns made in
         let index = kept.from + length p.before in
         let same = answered_is a law began kept p step reply.outcome reply.clock in
-        let none : HasNoAsk made = ap (option_and_then unanswered) (last_more p.waiting.before (answered_ask step reply.outcome reply.clock p.waiting.ask)) in
+        let none : HasNoAsk made = ap (option_and_then unless_replied) (last_more p.waiting.before (answered_ask step reply.outcome reply.clock p.waiting.ask)) in
         let from : (with_answered a law d.member step reply).performing.kept.from ≡ kept.from = ap (λ (x : MemberRecord). x.from) same in
         record {
           before = p.before;

@@ -15,12 +15,12 @@ use Rattle.circus_record.specs.declared.record.RunRecord.{RunRecord}
 use Rattle.circus_record.specs.declared.record.MemberRecord.{MemberRecord}
 use Rattle.circus_gather.specs.declared.held.HeldCall.{HeldCall}
 use Rattle.circus_performing.specs.declared.start.RunStart.{RunStart}
-use Rattle.circus_performing.specs.Performing.{open_ask, last_of, gone_on, begun, state_after, most_turns}
+use Rattle.circus_performing.specs.Performing.{open_ask, last_of, gone_on, begin_run, state_after, most_turns}
 use Rattle.circus_performing.specs.Record.{behaviour, start_of, turns}
 use Rattle.circus_performing.proofs.Ends.{last_more}
 use Rattle.circus_performing.proofs.Records.{with_answer, answered_is}
 use Rattle.circus_member_rules.specs.MemberState.{Doing}
-use Rattle.circus_member_rules.specs.Step.{name_of_last, asking_begun, opened_by_view, opened_ask, ended_run, after_turns, is_idle, value_of_open, next_start, given_states, start_of_call, answered_by, answered_open, entered, starting, executed}
+use Rattle.circus_member_rules.specs.Step.{name_of_last, asking_begun, opened_by_view, opened_ask, ended_run, after_turns, is_idle, value_of_open, next_start, given_states, start_of_call, answered_by, answered_open, enter_run_of, start_runs, execute}
 use Rattle.circus_member_rules.specs.Seen.Sound.{MayStart, IsRunOf}
 use Rattle.circus_member_rules.proofs.Enough.{given_performing, next_is_idle}
 use Rattle.circus_member_rules.proofs.Entering.{HasValue, has_value, with_entered, with_answered, turned_by_start, turned_by_reply}
@@ -85,13 +85,13 @@ module _ {M : Type 0} (declared : M → Signature) (turn : M → List ValueTree 
           by_ask None none = keeps.ends d run h at none holds
           by_ask (Some ask) is = by_view ask is (slice_get d.member.known.views ask.callee) refl
 
-      pub entered_keeps : (d : Doing M) (start : RunStart) → IsSoundNow declared turn first lawful d.member → MayStart (declared d.member.performing.hosted) d.member start → d.member.requests ≡ [] → I d → I (entered turn step d start)
+      pub entered_keeps : (d : Doing M) (start : RunStart) → IsSoundNow declared turn first lawful d.member → MayStart (declared d.member.performing.hosted) d.member start → d.member.requests ≡ [] → I d → I (enter_run_of turn step d start)
       entered_keeps d start h may none holds =
           let b = behaves d in
           let law = lawful d.member.performing.hosted in
           let kept = d.member.performing.kept in
           let e : Doing M = record d { member = with_entered b law d.member step start } in
-          let gone = gone_on step (b.turn kept.state start.procedure start.arguments) most_turns (begun step start) in
+          let gone = gone_on step (b.turn kept.state start.procedure start.arguments) most_turns (begin_run step start) in
           turns_keep e gone (turned_by_start b law d.member step start h may) (last_more kept.runs gone) (keeps.enters d start h may none holds)
 
       answered_keeps : (d : Doing M) → IsSoundNow declared turn first lawful d.member → I d → I (answered_open turn step d)
@@ -119,35 +119,35 @@ module _ {M : Type 0} (declared : M → Signature) (turn : M → List ValueTree 
           by_test false is = holds
           by_test true is = keeps.gives d h is holds
 
-      starting_keeps : (left : ℕ) (d : Doing M) → IsSoundNow declared turn first lawful d.member → I d → I (starting declared turn step left d)
-      unfolding starting
+      starting_keeps : (left : ℕ) (d : Doing M) → IsSoundNow declared turn first lawful d.member → I d → I (start_runs declared turn step left d)
+      unfolding start_runs
       starting_keeps zero d h holds = given_keeps d h holds
       starting_keeps (suc left) d h holds = by_next (starting_keeps left) (given_states d) (sound_given declared turn first lawful d h) (none_waits d) (given_keeps d h holds) (next_start (given_states d).member) refl
         where
-          by_next : ((f : Doing M) → IsSoundNow declared turn first lawful f.member → I f → I (starting declared turn step left f)) → (e : Doing M) → IsSoundNow declared turn first lawful e.member → (is_idle e.member.performing.kept ≡ true → e.member.requests ≡ []) → I e → (o : Option HeldCall) → next_start e.member ≡ o
-              → let f = option_map_or (λ call. starting declared turn step left (entered turn step e (start_of_call declared turn e.member call))) o e in I f
+          by_next : ((f : Doing M) → IsSoundNow declared turn first lawful f.member → I f → I (start_runs declared turn step left f)) → (e : Doing M) → IsSoundNow declared turn first lawful e.member → (is_idle e.member.performing.kept ≡ true → e.member.requests ≡ []) → I e → (o : Option HeldCall) → next_start e.member ≡ o
+              → let f = option_map_or (λ call. start_runs declared turn step left (enter_run_of turn step e (start_of_call declared turn e.member call))) o e in I f
           by_next rest e sound given kept None is = kept
           by_next rest e sound given kept (Some call) is =
               let b = behaves e in
               let may = may_start b e.member call (next_is_ready b e.member call sound is) in
               let start = start_of_call declared turn e.member call in
-              rest (entered turn step e start) (sound_entered declared turn first lawful step e start sound may) (entered_keeps e start sound may (given (next_is_idle e.member call is)) kept)
+              rest (enter_run_of turn step e start) (sound_entered declared turn first lawful step e start sound may) (entered_keeps e start sound may (given (next_is_idle e.member call is)) kept)
 
-      pub executed_keeps : (d : Doing M) → IsSoundNow declared turn first lawful d.member → I d → I (executed declared turn step d)
+      pub executed_keeps : (d : Doing M) → IsSoundNow declared turn first lawful d.member → I d → I (execute declared turn step d)
       executed_keeps d h holds =
           let e = answered_open turn step d in
           starting_keeps (length e.member.gathered.held) e (sound_answered declared turn first lawful step d h) (answered_keeps d h holds)
 
   -- a member that has gone on owes no state where it is idle
-  given_all : (step left : ℕ) (d : Doing M) → let e = starting declared turn step left d in is_idle e.member.performing.kept ≡ true → e.member.requests ≡ []
-  unfolding starting
+  given_all : (step left : ℕ) (d : Doing M) → let e = start_runs declared turn step left d in is_idle e.member.performing.kept ≡ true → e.member.requests ≡ []
+  unfolding start_runs
   given_all step zero d idle = none_waits d idle
   given_all step (suc left) d idle = by_next (given_all step left) (given_states d) (none_waits d) (next_start (given_states d).member) idle
     where
-      by_next : ((f : Doing M) → let e = starting declared turn step left f in is_idle e.member.performing.kept ≡ true → e.member.requests ≡ []) → (e : Doing M) → (is_idle e.member.performing.kept ≡ true → e.member.requests ≡ []) → (o : Option HeldCall)
-          → let f = option_map_or (λ call. starting declared turn step left (entered turn step e (start_of_call declared turn e.member call))) o e in is_idle f.member.performing.kept ≡ true → f.member.requests ≡ []
+      by_next : ((f : Doing M) → let e = start_runs declared turn step left f in is_idle e.member.performing.kept ≡ true → e.member.requests ≡ []) → (e : Doing M) → (is_idle e.member.performing.kept ≡ true → e.member.requests ≡ []) → (o : Option HeldCall)
+          → let f = option_map_or (λ call. start_runs declared turn step left (enter_run_of turn step e (start_of_call declared turn e.member call))) o e in is_idle f.member.performing.kept ≡ true → f.member.requests ≡ []
       by_next rest e given None still = given still
-      by_next rest e given (Some call) still = rest (entered turn step e (start_of_call declared turn e.member call)) still
+      by_next rest e given (Some call) still = rest (enter_run_of turn step e (start_of_call declared turn e.member call)) still
 
-  pub executed_given : (step : ℕ) (d : Doing M) → let e = executed declared turn step d in is_idle e.member.performing.kept ≡ true → e.member.requests ≡ []
+  pub executed_given : (step : ℕ) (d : Doing M) → let e = execute declared turn step d in is_idle e.member.performing.kept ≡ true → e.member.requests ≡ []
   executed_given step d = let e = answered_open turn step d in given_all step (length e.member.gathered.held) e

@@ -11,7 +11,7 @@ use Rattle.circus_model.specs.Behaviour.{IsModule}
 use Rattle.circus_record.specs.declared.record.MemberRecord.{MemberRecord}
 use Rattle.circus_record.specs.declared.record.RunRecord.{RunRecord}
 use Rattle.circus_performing.specs.declared.start.RunStart.{RunStart}
-use Rattle.circus_performing.specs.Performing.{gone_on, turned, begun, clock_after, replies_of, state_after, made_ask, with_ask, with_refusal, most_turns}
+use Rattle.circus_performing.specs.Performing.{gone_on, turn_run, begin_run, clock_after, replies_of, state_after, made_ask, with_ask, with_refusal, most_turns}
 use Rattle.circus_performing.specs.Record.{behaviour, start_of, turns}
 use Rattle.circus_performing.proofs.Records.{with_answer, answered_is}
 use Rattle.circus_member_rules.specs.MemberState.{Doing}
@@ -60,7 +60,7 @@ unfolding gone_on
 gone_started step turn zero run = refl
 gone_started step turn (suc left) run = by_turn (gone_started step turn left) (turn (replies_of run.asks))
   where
-    by_turn : ((r : RunRecord) → (gone_on step turn left r).started ≡ r.started) → (next : NextTurn) → (turned step (gone_on step turn left) run next).started ≡ run.started
+    by_turn : ((r : RunRecord) → (gone_on step turn left r).started ≡ r.started) → (next : NextTurn) → (turn_run step (gone_on step turn left) run next).started ≡ run.started
     by_turn rest (ends outcome state) = refl
     by_turn rest (asks callee procedure arguments state) = by_test (is_spent (clock_after run.entry run.asks))
       where
@@ -73,7 +73,7 @@ unfolding gone_on
 gone_ends step turn zero run is = inl is
 gone_ends step turn (suc left) run is = by_turn (gone_ends step turn left) (turn (replies_of run.asks))
   where
-    by_turn : ((r : RunRecord) → r.ended ≡ None → EndsAt step (gone_on step turn left r)) → (next : NextTurn) → EndsAt step (turned step (gone_on step turn left) run next)
+    by_turn : ((r : RunRecord) → r.ended ≡ None → EndsAt step (gone_on step turn left r)) → (next : NextTurn) → EndsAt step (turn_run step (gone_on step turn left) run next)
     by_turn rest (ends outcome state) = inr refl
     by_turn rest (asks callee procedure arguments state) = by_test (is_spent (clock_after run.entry run.asks))
       where
@@ -124,8 +124,8 @@ module _ {M : Type 0} (declared : M → Signature) (turn : M → List ValueTree 
   enters d start sound may h =
       let kept = d.member.performing.kept in
       let t = turn d.member.performing.hosted kept.state start.procedure start.arguments in
-      grown_more step old kept.runs (gone_on step t most_turns (begun step start))
-      (record { started = gone_started step t most_turns (begun step start); ends = gone_ends step t most_turns (begun step start) refl })
+      grown_more step old kept.runs (gone_on step t most_turns (begin_run step start))
+      (record { started = gone_started step t most_turns (begin_run step start); ends = gone_ends step t most_turns (begin_run step start) refl })
       h
 
   answers : (d : Doing M) (reply : Reply) → IsSoundNow declared turn first lawful d.member → HasValue (behaves declared turn first lawful d) d.member reply → IsGrown d
@@ -150,6 +150,6 @@ module _ {M : Type 0} (declared : M → Signature) (turn : M → List ValueTree 
         gives = λ d sound idle h. h;
         enters = λ d start sound may none h. enters d start sound may h;
         answers = answers;
-        opens = λ d run ask view turned at is there h. h;
-        ends = λ d run turned at none h. h;
+        opens = λ d run ask view turn_run at is there h. h;
+        ends = λ d run turn_run at none h. h;
       }

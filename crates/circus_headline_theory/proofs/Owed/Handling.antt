@@ -15,7 +15,7 @@ use Rattle.circus_collate.specs.Expecting.{has_node}
 use Rattle.circus_collate.specs.declared.table.Table.{Table}
 use Rattle.circus_collate.specs.declared.view.View.{View}
 use Rattle.circus_fanout.specs.Knowing as knowing
-use Rattle.circus_fanout.specs.Knowing.{Knowing, is_newer, declared as declared_of}
+use Rattle.circus_fanout.specs.Knowing.{Knowing, is_newer, note_down as declared_of}
 use Rattle.circus_gather.specs.Gathering.{Gathered, index_of, reply_of, answer_to, is_held, is_stale, is_before, with_first}
 use Rattle.circus_gather.specs.declared.added.Added.{Added}
 use Rattle.circus_gather.specs.declared.added.Added.TheVariants as added
@@ -34,7 +34,7 @@ use Rattle.circus_member_rules.specs.OpenAsks.{asking_of}
 use Rattle.circus_member_rules.specs.Rules.{ringmaster, answer, request_call, request_to_ring, message_at_once, answer_at_once, wanted_by_call, call_of_ask, call_for, call_again, is_to, calls_for_view, calls_for_a_new_view, givers, state_request, state_requests, gone_from, gone_call, lookup_call, lookups, active_call, before_answers}
 use Rattle.circus_member_rules.specs.MemberState.{MemberState, Doing}
 use Rattle.circus_member_rules.specs.Step as step
-use Rattle.circus_member_rules.specs.Step.{known_by_table, is_taken_in, handled}
+use Rattle.circus_member_rules.specs.Step.{known_by_table, is_taken_in, handle}
 use Rattle.circus_timely.specs.Made.{is_caller}
 use Rattle.circus_headline_theory.proofs.Owed.Callers.{returned, is_from, filter_no, filter_twice, returned-append, none_mapped, none_flat_mapped, returned_passed}
 use Rattle.circus_headline_theory.proofs.Owed.Waiting.{IsQuiet, Waits, HasReply}
@@ -91,7 +91,7 @@ module _ (c : Caller) where
       by_host None = refl
       by_host (Some hosted) = by_hosted hosted
 
-  no_told : {M : Type 0} (m : MemberState M) (request : Request) (table : Table) → returned c (step.told m request table).effects ≡ []
+  no_told : {M : Type 0} (m : MemberState M) (request : Request) (table : Table) → returned c (step.handle_table m request table).effects ≡ []
   no_told m request table =
       let view = table.view in
       let k = known_by_table m.known request view in
@@ -164,7 +164,7 @@ module _ {M : Type 0} (c : Caller) (m : MemberState M) where
       }
 
   -- a call of another comes
-  tells_asked : (header : CallHeader) (body : List ℕ) (sender : Caller) → is_caller c sender ≡ false → Tells c m (step.asked m header body sender)
+  tells_asked : (header : CallHeader) (body : List ℕ) (sender : Caller) → is_caller c sender ≡ false → Tells c m (step.handle_call m header body sender)
   tells_asked header body sender other = by_test (is_held added)
     where
       call : HeldCall
@@ -195,7 +195,7 @@ module _ {M : Type 0} (c : Caller) (m : MemberState M) where
             replies = refl;
           }
 
-  tells_fetched : (incarnation : ℕ) (sender : Caller) → is_caller c sender ≡ false → Tells c m (step.fetched m incarnation sender)
+  tells_fetched : (incarnation : ℕ) (sender : Caller) → is_caller c sender ≡ false → Tells c m (step.handle_fetch m incarnation sender)
   tells_fetched incarnation sender other =
       let g = m.gathered in
       let required = max g.required incarnation in
@@ -210,7 +210,7 @@ module _ {M : Type 0} (c : Caller) (m : MemberState M) where
         replies = refl;
       }
 
-  tells_restored : (at : ℕ) (state : List ValueTree) (count : ℕ) → Tells c m (step.restored at m state count)
+  tells_restored : (at : ℕ) (state : List ValueTree) (count : ℕ) → Tells c m (step.handle_state at m state count)
   tells_restored at state count = by_test (is_fetching m.performing.kept.phase)
     where
       by_test : (b : Bool) → let d : Doing M = if b then record { member = record m { performing = made_active at state count m.performing; gathered = with_first m.gathered count }; effects = active_call m.place m.known count ++ before_answers m.gathered count } else record { member = m; effects = [] } in Tells c m d
@@ -230,26 +230,26 @@ module _ {M : Type 0} (c : Caller) (m : MemberState M) where
             replies = refl;
           }
 
-  pub tells : (at : ℕ) (o : Occurrence) → is_by c o ≡ false → Tells c m (handled at o m)
+  pub tells : (at : ℕ) (o : Occurrence) → is_by c o ≡ false → Tells c m (handle at o m)
   tells at (comes.Asked header body sender) other = tells_asked header body sender other
   tells at (comes.Fetched incarnation sender) other = tells_fetched incarnation sender other
-  tells at (comes.Replied name from reply) other = tells_none (step.replied m name from reply) refl refl refl
-  tells at (comes.IsStale name server from incarnation) other = tells_none (step.stale m name server from incarnation) refl refl (no_call_again c m.known name from incarnation (asking_of m.asks name))
+  tells at (comes.Replied name from reply) other = tells_none (step.handle_reply m name from reply) refl refl refl
+  tells at (comes.IsStale name server from incarnation) other = tells_none (step.handle_stale m name server from incarnation) refl refl (no_call_again c m.known name from incarnation (asking_of m.asks name))
   tells at (comes.IsBefore name from) other = tells_none (step.before m name from) refl refl refl
-  tells at (comes.Told request table) other = tells_none (step.told m request table) refl refl (no_told c m request table)
+  tells at (comes.Told request table) other = tells_none (step.handle_table m request table) refl refl (no_told c m request table)
   tells at (comes.Restored state count) other = tells_restored at state count
   tells at (comes.Declared node) other = tells_none (step.declared_down m node) refl refl (no_gone c m.place (declared_of m.known node) node)
   tells at comes.Joins other = tells_none (step.joins m) refl refl (no_request c m.known (Join m.place.troupe m.place.node))
 
   -- a call that has no reply has none then
-  pub told_fresh : (at : ℕ) (o : Occurrence) (call : HeldCall) → is_by c o ≡ false → reply_of m.gathered (index_of m.gathered.module call.header) ≡ None → reply_of (handled at o m).member.gathered (index_of (handled at o m).member.gathered.module call.header) ≡ None
+  pub told_fresh : (at : ℕ) (o : Occurrence) (call : HeldCall) → is_by c o ≡ false → reply_of m.gathered (index_of m.gathered.module call.header) ≡ None → reply_of (handle at o m).member.gathered (index_of (handle at o m).member.gathered.module call.header) ≡ None
   told_fresh at o call other fresh =
       let t = tells at o other in
-      ap (λ rs. lookup (nat_eq (index_of (handled at o m).member.gathered.module call.header)) rs) t.replies ∙ ap (λ n. lookup (nat_eq (index_of n call.header)) m.gathered.replies) t.own ∙ fresh
+      ap (λ rs. lookup (nat_eq (index_of (handle at o m).member.gathered.module call.header)) rs) t.replies ∙ ap (λ n. lookup (nat_eq (index_of n call.header)) m.gathered.replies) t.own ∙ fresh
 
   -- ---- a caller with no calls, and one whose call waits
 
-  pub quiet_handled : (at : ℕ) (o : Occurrence) → is_by c o ≡ false → filter (is_from c) m.gathered.held ≡ [] → filter (is_caller c) m.requests ≡ [] → IsQuiet c [] (handled at o m)
+  pub quiet_handled : (at : ℕ) (o : Occurrence) → is_by c o ≡ false → filter (is_from c) m.gathered.held ≡ [] → filter (is_caller c) m.requests ≡ [] → IsQuiet c [] (handle at o m)
   quiet_handled at o other held requests =
       let t = tells at o other in
       record {
@@ -269,13 +269,13 @@ module _ {M : Type 0} (c : Caller) (m : MemberState M) where
     pub not_due : due d.member.gathered call ≡ None
 
   pub waits_handled : (at : ℕ) (o : Occurrence) (call : HeldCall) → is_by c o ≡ false → filter (is_from c) m.gathered.held ≡ call ∷ [] → filter (is_caller c) m.requests ≡ []
-      → reply_of m.gathered (index_of m.gathered.module call.header) ≡ None → due m.gathered call ≡ None → IsTold call (handled at o m) ⊎ WaitsOn call (handled at o m)
+      → reply_of m.gathered (index_of m.gathered.module call.header) ≡ None → due m.gathered call ≡ None → IsTold call (handle at o m) ⊎ WaitsOn call (handle at o m)
   waits_handled at o call other held requests fresh none = by_test (t.passes call) refl
     where
-      t : Tells c m (handled at o m)
+      t : Tells c m (handle at o m)
       t = tells at o other
 
-      by_test : (b : Bool) → t.passes call ≡ b → IsTold call (handled at o m) ⊎ WaitsOn call (handled at o m)
+      by_test : (b : Bool) → t.passes call ≡ b → IsTold call (handle at o m) ⊎ WaitsOn call (handle at o m)
       by_test true is =
           inl (record {
             message = t.message;
@@ -326,7 +326,7 @@ module _ {M : Type 0} (m : MemberState M) (call : HeldCall) where
     pub not_due : due_now m.gathered call ≡ None
 
   pub asked_handled : is_caller call.sender call.sender ≡ true → filter (is_from call.sender) m.gathered.held ≡ [] → filter (is_caller call.sender) m.requests ≡ []
-      → IsRefused (step.asked m call.header call.body call.sender) ⊎ IsTaken (step.asked m call.header call.body call.sender)
+      → IsRefused (step.handle_call m call.header call.body call.sender) ⊎ IsTaken (step.handle_call m call.header call.body call.sender)
   asked_handled own held requests = by_stale (nat_lt call.header.server_incarnation m.gathered.required) refl
     where
       at_once : (message : List ℕ) → returned call.sender (answer message call.sender ∷ []) ≡ message ∷ []

@@ -16,7 +16,7 @@ use Rattle.circus_record.specs.declared.record.RunRecord.{RunRecord}
 use Rattle.circus_record.specs.declared.record.MemberRecord.{MemberRecord}
 use Rattle.circus_gather.specs.Gathering.{Gathered, reply_of}
 use Rattle.circus_performing.specs.declared.start.RunStart.{RunStart}
-use Rattle.circus_performing.specs.Performing.{open_ask, last_of, front_of, gone_on, begun, state_after, most_turns, last_count}
+use Rattle.circus_performing.specs.Performing.{open_ask, last_of, front_of, gone_on, begin_run, state_after, most_turns, last_count}
 use Rattle.circus_performing.specs.Record.{behaviour, start_of, turns}
 use Rattle.circus_performing.proofs.Ends.{front_more}
 use Rattle.circus_performing.proofs.Records.{none_is_some, with_answer, answered_is}
@@ -126,7 +126,7 @@ module _ {M : Type 0} (declared : M → Signature) (turn : M → List ValueTree 
       let b = behaves declared turn first lawful d in
       let m = d.member in
       let kept = m.performing.kept in
-      let gone = gone_on step (b.turn kept.state start.procedure start.arguments) most_turns (begun step start) in
+      let gone = gone_on step (b.turn kept.state start.procedure start.arguments) most_turns (begin_run step start) in
       let count = (none_is_idle b m.performing.began kept sound.kept may.can.idle).count in
       let few = next_index m.gathered kept r.rests count may.fresh in
       let same : kept.count ≡ kept.from + length kept.runs = omega (arith, count, few) in

@@ -13,7 +13,7 @@ use Rattle.circus_member_rules.specs.declared.place.Beginning.TheVariants.{Found
 use Rattle.circus_member_rules.specs.declared.occurrence.Occurrence.{Occurrence}
 use Rattle.circus_member_rules.specs.Happening.{IsHome, CanHappen}
 use Rattle.circus_member_rules.specs.MemberState.{MemberState, Doing}
-use Rattle.circus_member_rules.specs.Step.{is_idle, handled, executed}
+use Rattle.circus_member_rules.specs.Step.{is_idle, handle, execute}
 use Rattle.circus_member_rules.proofs.Resting.{rested}
 use Rattle.circus_member_rules.proofs.Starting.{IsSoundNow, sound_executed}
 use Rattle.circus_member_theory.proofs.Resting.{sound_once_handled, at_boot}
@@ -56,10 +56,10 @@ module _ {M : Type 0} (declared : M → Signature) (turn : M → List ValueTree 
 
   -- what is done in a step, before and behind the execution
   abbrev pub handles : Past → ℕ → Occurrence → Doing M
-  handles p at o = handled at o (life p)
+  handles p at o = handle at o (life p)
 
   abbrev pub executes : Past → ℕ → Occurrence → Doing M
-  executes p at o = executed declared turn at (handles p at o)
+  executes p at o = execute declared turn at (handles p at o)
 
   -- what a step makes of a member
   pub record IsStepped (p : Past) (at : ℕ) (o : Occurrence) : Type 0 where

@@ -20,13 +20,13 @@ use Rattle.circus_member_rules.specs.declared.occurrence.Occurrence.{Occurrence}
 use Rattle.circus_member_rules.specs.declared.occurrence.Purpose.{Purpose}
 use Rattle.circus_member_rules.specs.MemberState.{MemberState}
 use Rattle.circus_member_rules.specs.Step as member_step
-use Rattle.circus_node.specs.Accepting.{accepted}
+use Rattle.circus_node.specs.Accepting.{occurrence_of_heard}
 use Rattle.circus_node.specs.declared.event.Event.{Event}
 use Rattle.circus_node.specs.declared.event.Event.TheVariants as comes
 use Rattle.circus_node.specs.declared.event.Give.{Give}
 use Rattle.circus_node.specs.declared.event.Outputs.{Outputs}
 use Rattle.circus_node.specs.Booting.{beginning_in, home_in}
-use Rattle.circus_node.specs.Making.{Made, happens, refused, hears, learns_down, is_told_to_join}
+use Rattle.circus_node.specs.Making.{Made, happens, refuse, hears, learns_down, is_told_to_join}
 use Rattle.circus_node.specs.NodeState.{Acting, member, ringmaster, NodeState}
 use Rattle.circus_node.specs.Sending.{Sending, sent, spent, gives_of, all_handed}
 use Rattle.circus_node.specs.Step as node_step
@@ -41,11 +41,11 @@ use Rattle.circus_headline_theory.specs.Owed.Makes.{differences_in}
 -- ---- what is told is given
 
 module _ {M : Type 0} where
-  concluded_tells : (n : NodeState M) (gives : List Give) (m : Made M) (ended : NodeState M × Outputs) → node_step.concluded n gives m.came ≡ Ok ended
+  concluded_tells : (n : NodeState M) (gives : List Give) (m : Made M) (ended : NodeState M × Outputs) → node_step.conclude_step n gives m.came ≡ Ok ended
       → ended.1.differences ≡ m.came.differences
   concluded_tells n gives m ended is = by_sending (all_handed (sent n.wire gives) m.came.effects) is
     where
-      by_sending : (s : Sending) → node_step.ended n m.came s ≡ Ok ended → ended.1.differences ≡ m.came.differences
+      by_sending : (s : Sending) → node_step.end_step n m.came s ≡ Ok ended → ended.1.differences ≡ m.came.differences
       by_sending (sent w given) ends = subst (λ (e : NodeState M × Outputs). e.1.differences ≡ m.came.differences) (same_ended _ ended ends) refl
       by_sending (spent peer) ends = absurd (let clash : ◌≡◌ {A = node_step.Ended M} (Err peer) (Ok ended) = ends in cc)
 
@@ -54,7 +54,7 @@ module _ {M : Type 0} (declared : M → Signature) (turn : M → List ValueTree 
 
   abbrev effects_of : ℕ → MemberState M → Option Occurrence → List Effect
   effects_of at m None = []
-  effects_of at m (Some o) = (member_step.stepped declared turn at o m).effects
+  effects_of at m (Some o) = (member_step.step_member declared turn at o m).effects
 
   abbrev differences_of : MemberState M → Option Occurrence → List Difference
   differences_of m None = []
@@ -64,16 +64,16 @@ module _ {M : Type 0} (declared : M → Signature) (turn : M → List ValueTree 
     pub makes : made.came.effects ≡ effects_of at m o
     pub tells : made.came.differences ≡ differences_of m o
 
-  happening : (at : ℕ) (m : MemberState M) (o : Option Occurrence) → Comes at m o (option_map_or (happens declared turn at m) o (refused (member m)))
+  happening : (at : ℕ) (m : MemberState M) (o : Option Occurrence) → Comes at m o (option_map_or (happens declared turn at m) o (refuse (member m)))
   happening at m None = record { makes = refl; tells = refl }
   happening at m (Some o) = record { makes = refl; tells = refl }
 
   hearing : (at : ℕ) (m : MemberState M) (d : Deployment) (from : ℕ) (h : Heard Purpose)
-      → Comes at m (accepted d (declared m.performing.hosted) m from h) (hears declared turn d at from h (member m))
+      → Comes at m (occurrence_of_heard d (declared m.performing.hosted) m from h) (hears declared turn d at from h (member m))
   hearing at m d from Dropped = record { makes = refl; tells = refl }
   hearing at m d from Taken = record { makes = refl; tells = refl }
-  hearing at m d from (Called sender message) = happening at m (accepted d (declared m.performing.hosted) m from (Called sender message))
-  hearing at m d from (Returned number purpose message) = happening at m (accepted d (declared m.performing.hosted) m from (Returned number purpose message))
+  hearing at m d from (Called sender message) = happening at m (occurrence_of_heard d (declared m.performing.hosted) m from (Called sender message))
+  hearing at m d from (Returned number purpose message) = happening at m (occurrence_of_heard d (declared m.performing.hosted) m from (Returned number purpose message))
 
   -- ---- a step
 
@@ -102,7 +102,7 @@ module _ {M : Type 0} (declared : M → Signature) (turn : M → List ValueTree 
       by_event comes.Join = refl
 
   -- a step gives the differences that come of its event
-  pub step_tells : (at : ℕ) (event : Event) (n : NodeState M) (ended : NodeState M × Outputs) → node_step.stepped declared turn at event n ≡ Ok ended
+  pub step_tells : (at : ℕ) (event : Event) (n : NodeState M) (ended : NodeState M × Outputs) → node_step.step_node declared turn at event n ≡ Ok ended
       → ended.1.differences ≡ differences_in declared turn at event n
   step_tells at (comes.Datagram from bytes) n ended ends =
       let made = hears declared turn n.deployment at from (heard_from n.wire from (reading bytes)) n.acting in
@@ -137,7 +137,7 @@ module _ {M : Type 0} (declared : M → Signature) (turn : M → List ValueTree 
       where
         more_made : (o : Option Occurrence) → made p ++ made_in at (effects_of at m o) ≡ made (with_one p at o)
         more_made None = append-nil (made p)
-        more_made (Some o) = ap (λ (x : MemberState M). made p ++ made_in at (member_step.stepped declared turn at o x).effects) lives.is
+        more_made (Some o) = ap (λ (x : MemberState M). made p ++ made_in at (member_step.step_member declared turn at o x).effects) lives.is
 
         more_told : (o : Option Occurrence) → told p ++ told_in at (differences_of m o) ≡ told (with_one p at o)
         more_told None = append-nil (told p)

@@ -20,7 +20,7 @@ use Rattle.circus_collate.specs.declared.view.View.{View}
 use Rattle.circus_fanout.specs.Asking.{Asking, calls_for_a_view}
 use Rattle.circus_member_rules.specs.declared.occurrence.AskName.{AskName}
 use Rattle.circus_performing.specs.declared.start.RunStart.{RunStart}
-use Rattle.circus_performing.specs.Performing.{is_active, open_ask, state_after, gone_on, begun, most_turns}
+use Rattle.circus_performing.specs.Performing.{is_active, open_ask, state_after, gone_on, begin_run, most_turns}
 use Rattle.circus_performing.specs.Record.{behaviour, count_after, start_of, turns}
 use Rattle.circus_performing.proofs.Records.{with_answer, answered_is}
 use Rattle.circus_member_rules.specs.MemberState.{MemberState, Doing}
@@ -177,8 +177,8 @@ module _ {M : Type 0} (c x : Caller) (declared : M → Signature) (turn : M → 
   enters d start sound may none (inr g) =
       let kept = d.member.performing.kept in
       let t = turn d.member.performing.hosted kept.state start.procedure start.arguments in
-      let gone = gone_on step t most_turns (begun step start) in
-      let started : gone.started ≡ step = gone_started step t most_turns (begun step start) in
+      let gone = gone_on step t most_turns (begin_run step start) in
+      let started : gone.started ≡ step = gone_started step t most_turns (begin_run step start) in
       let e : Doing M = record d { member = with_entered (behaves declared turn first lawful d) (lawful d.member.performing.hosted) d.member step start } in
       inr (given_with d e (early_with step kept.runs gone false (le-ltb gone.started step (omega (arith, started))) ∙ append-nil (early_in d))
       (λ old. (quiet_keeps c declared turn first lawful step old).enters d start sound may none) g)

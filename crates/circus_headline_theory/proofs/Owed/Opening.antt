@@ -20,7 +20,7 @@ use Rattle.circus_record.specs.declared.record.MemberRecord.{MemberRecord}
 use Rattle.circus_record.specs.declared.record.RunRecord.{RunRecord}
 use Rattle.circus_fanout.specs.Asking.{Asking, calls_for_a_view, with_view}
 use Rattle.circus_performing.specs.declared.start.RunStart.{RunStart}
-use Rattle.circus_performing.specs.Performing.{last_of, unanswered, open_ask, clock_after, begun, made_ask, answered_ask, refusal, with_ask as with_made, with_refusal, turned, gone_on, replies_of, state_after, most_turns}
+use Rattle.circus_performing.specs.Performing.{last_of, unless_replied, open_ask, clock_after, begin_run, made_ask, answered_ask, refusal, with_ask as with_made, with_refusal, turn_run, gone_on, replies_of, state_after, most_turns}
 use Rattle.circus_performing.specs.Record.{behaviour, start_of, turns}
 use Rattle.circus_performing.proofs.Ends.{last_more}
 use Rattle.circus_performing.proofs.Records.{with_answer, answered_is}
@@ -55,7 +55,7 @@ unfolding gone_on
 gone_by step turn zero run all = all
 gone_by step turn (suc left) run all = by_turn (gone_by step turn left) (turn (replies_of run.asks))
   where
-    by_turn : ((r : RunRecord) → All (IsBy step) r.asks → All (IsBy step) (gone_on step turn left r).asks) → (next : NextTurn) → All (IsBy step) (turned step (gone_on step turn left) run next).asks
+    by_turn : ((r : RunRecord) → All (IsBy step) r.asks → All (IsBy step) (gone_on step turn left r).asks) → (next : NextTurn) → All (IsBy step) (turn_run step (gone_on step turn left) run next).asks
     by_turn rest (ends outcome state) = all
     by_turn rest (asks callee procedure arguments state) = by_test (is_spent (clock_after run.entry run.asks))
       where
@@ -84,15 +84,15 @@ module _ {M : Type 0} (declared : M → Signature) (turn : M → List ValueTree 
         gives = λ d sound idle h. h;
         enters = λ d start sound may none h. enters d start h;
         answers = answered;
-        opens = λ d run ask view turned at is there h. h;
-        ends = λ d run turned at none h. h;
+        opens = λ d run ask view turn_run at is there h. h;
+        ends = λ d run turn_run at none h. h;
       }
     where
       enters : (d : Doing M) (start : RunStart) → AreByIn d → AreByIn (record d { member = with_entered (behaves declared turn first lawful d) (lawful d.member.performing.hosted) d.member step start })
       enters d start h =
           let kept = d.member.performing.kept in
           let t = turn d.member.performing.hosted kept.state start.procedure start.arguments in
-          All-push (λ (run : RunRecord). All (IsBy step) run.asks) kept.runs (gone_on step t most_turns (begun step start)) h (gone_by step t most_turns (begun step start) (All-nil (IsBy step)))
+          All-push (λ (run : RunRecord). All (IsBy step) run.asks) kept.runs (gone_on step t most_turns (begin_run step start)) h (gone_by step t most_turns (begin_run step start) (All-nil (IsBy step)))
 
       answered : (d : Doing M) (reply : Reply) → IsSoundNow declared turn first lawful d.member → HasValue (behaves declared turn first lawful d) d.member reply → AreByIn d
           → AreByIn (record d { member = with_answered (behaves declared turn first lawful d) (lawful d.member.performing.hosted) d.member step reply })
@@ -126,8 +126,8 @@ module _ {M : Type 0} (declared : M → Signature) (turn : M → List ValueTree 
           gives = λ d sound idle h. h;
           enters = λ d start sound may none h. (entered_more declared turn first lawful step place test false fresh still d start).is ∙ append-nil (asks_in declared turn first lawful step place test d) ∙ h;
           answers = λ d reply sound value h. (answered_more declared turn first lawful step place test false fresh still d reply sound value).is ∙ append-nil (asks_in declared turn first lawful step place test d) ∙ h;
-          opens = λ d run ask view turned at is there h. h;
-          ends = λ d run turned at none h. h;
+          opens = λ d run ask view turn_run at is there h. h;
+          ends = λ d run turn_run at none h. h;
         }
 
 -- ---- the calls of asks among effects
@@ -200,7 +200,7 @@ module _ {M : Type 0} (declared : M → Signature) (turn : M → List ValueTree 
       let other_long = ap length runs.runs_are ∙ length-append runs.before (runs.run ∷ []) in
       let long : length before ≡ length runs.before = omega (arith, first_long, other_long) in
       let index : kept.from + length before ≡ index_of_last kept = ap (λ n. kept.from + n) long ∙ sym (last_index d.member.gathered kept runs) in
-      let there : option_and_then unanswered (last_of run.asks) ≡ Some ask = sym (ap (option_and_then (λ (r : RunRecord). option_and_then unanswered (last_of r.asks))) at) ∙ is in
+      let there : option_and_then unless_replied (last_of run.asks) ≡ Some ask = sym (ap (option_and_then (λ (r : RunRecord). option_and_then unless_replied (last_of r.asks))) at) ∙ is in
       let number : length run.asks - 1 ≡ (name_of_last kept).ask = sym (ap (λ o. option_map_or (λ (r : RunRecord). length r.asks - 1) o 0) at) in
       ap (open_part m.place test (kept.from + length before)) same
       ∙ ap (λ n. open_part m.place test n run) index
@@ -251,13 +251,13 @@ module _ {M : Type 0} (declared : M → Signature) (turn : M → List ValueTree 
           stays.answers d reply sound value h.1,
           more_turned d _ refl refl (answered_more declared turn first lawful step m.place test true fresh still d reply sound value) h.2,
         );
-        opens = λ d run ask view turned at is there h. (links.opens d run ask view turned at is there h.0, stays.opens d run ask view turned at is there h.1, opens d run ask view at is there h);
-        ends = λ d run turned at none h. (links.ends d run turned at none h.0, stays.ends d run turned at none h.1, ended d run at none h.2);
+        opens = λ d run ask view turn_run at is there h. (links.opens d run ask view turn_run at is there h.0, stays.opens d run ask view turn_run at is there h.1, opens d run ask view at is there h);
+        ends = λ d run turn_run at none h. (links.ends d run turn_run at none h.0, stays.ends d run turn_run at none h.1, ended d run at none h.2);
       }
     where
       ended : (d : Doing M) (run : RunRecord) → last_of d.member.performing.kept.runs ≡ Some run → open_ask d.member.performing.kept ≡ None → HasTurned d → HasOpened (new_in d) (ended_run d run)
       ended d run at none t =
           let last : last_of d.member.performing.kept.runs ≡ Some t.run = ap last_of t.runs_are ∙ last_more t.before t.run in
-          let no_ask : option_and_then unanswered (last_of t.run.asks) ≡ None = sym (ap (option_and_then (λ (r : RunRecord). option_and_then unanswered (last_of r.asks))) last) ∙ none in
+          let no_ask : option_and_then unless_replied (last_of t.run.asks) ≡ None = sym (ap (option_and_then (λ (r : RunRecord). option_and_then unless_replied (last_of r.asks))) last) ∙ none in
           let same : new_in d ≡ t.new = t.is ∙ ap (λ o. t.new ++ option_map_or (λ ask. as_made m.place (d.member.performing.kept.from + length t.before) t.run.root t.run.path (length t.run.asks - 1) (clock_after t.run.entry t.run.asks) ask ∷ []) o []) no_ask ∙ append-nil t.new in
           subst (λ new. HasOpened new (ended_run d run)) (sym same) (record { asks_are = t.opened.asks_are; calls = more_answers d.effects _ _ ∙ t.opened.calls })

@@ -21,7 +21,7 @@ use Rattle.circus_record.specs.declared.record.RunRecord.{RunRecord}
 use Rattle.circus_gather.specs.Gathering.{index_of, is_of_index}
 use Rattle.circus_gather.specs.declared.held.HeldCall.{HeldCall}
 use Rattle.circus_performing.specs.declared.start.RunStart.{RunStart}
-use Rattle.circus_performing.specs.Performing.{unanswered, begun, made_ask, answered_ask, gone_on, state_after, most_turns}
+use Rattle.circus_performing.specs.Performing.{unless_replied, begin_run, made_ask, answered_ask, gone_on, state_after, most_turns}
 use Rattle.circus_performing.specs.Record.{behaviour, start_of, turns}
 use Rattle.circus_performing.proofs.Ends.{last_more}
 use Rattle.circus_performing.proofs.Records.{with_answer, answered_is}
@@ -35,7 +35,7 @@ use Rattle.circus_member_rules.proofs.Concerned.{all_of}
 use Rattle.circus_member_rules.proofs.Entering.{HasValue, with_entered, with_answered}
 use Rattle.circus_member_rules.proofs.Starting.{IsSoundNow}
 use Rattle.circus_member_rules.proofs.Writing.{one_is_performing}
-use Rattle.circus_timely.specs.Past.{Past, followed, now, Rises, required}
+use Rattle.circus_timely.specs.Past.{Past, followed, now, Rises, required_incarnation}
 use Rattle.circus_member_theory.specs.Living.{phase_at_boot, kept_after, MayLive}
 use Rattle.circus_member_theory.proofs.Timely.Firsts.{same_first}
 use Rattle.circus_timely.specs.Asks.{is_new, knows, first_calls}
@@ -115,7 +115,7 @@ module _ {M : Type 0} (declared : M → Signature) (turn : M → List ValueTree 
   enters d start h =
       let kept = d.member.performing.kept in
       let t = turn d.member.performing.hosted kept.state start.procedure start.arguments in
-      asked_more place test old kept.runs (gone_on step t most_turns (begun step start)) (λ i. gone_asks place test step false fresh t most_turns i (begun step start) refl) h
+      asked_more place test old kept.runs (gone_on step t most_turns (begin_run step start)) (λ i. gone_asks place test step false fresh t most_turns i (begin_run step start) refl) h
 
   answers : (d : Doing M) (reply : Reply) → IsSoundNow declared turn first lawful d.member → HasValue (behaves declared turn first lawful d) d.member reply → AreAsked d
       → AreAsked (record d { member = with_answered (behaves declared turn first lawful d) (lawful d.member.performing.hosted) d.member step reply })
@@ -128,7 +128,7 @@ module _ {M : Type 0} (declared : M → Signature) (turn : M → List ValueTree 
       let made = with_answer b law began kept p step reply.outcome reply.clock in
       let t = turns b (state_after began p.before) (start_of p.run) in
       let gone = gone_on step t most_turns made in
-      let none : HasNoAsk made = ap (option_and_then unanswered) (last_more p.waiting.before (answered_ask step reply.outcome reply.clock p.waiting.ask)) in
+      let none : HasNoAsk made = ap (option_and_then unless_replied) (last_more p.waiting.before (answered_ask step reply.outcome reply.clock p.waiting.ask)) in
       subst (λ (x : MemberRecord). AreAskedAs place test old x.runs) (sym (answered_is b law began kept p step reply.outcome reply.clock))
       (asked_on place test old p.before p.run gone
       (λ i. sym (gone_asks place test step false fresh t most_turns i made none ∙ append-nil (asks_by place test i made)
@@ -180,7 +180,7 @@ module _ (place : Place) (boot : List View) (begins : Joiner) (first : List Valu
   by_end_same x =
       let i = index_of place.troupe x.1.header in
       let starts = starts_same step old new grown start i (now r) (omega (arith, below)) in
-      (λ j. not (nat_lt x.1.header.server_incarnation (required r) && (nat_eq x.0 (now r) || not (starts j))) && not (is_before place.troupe begins old x.1 r) && ends_same i j)
+      (λ j. not (nat_lt x.1.header.server_incarnation (required_incarnation r) && (nat_eq x.0 (now r) || not (starts j))) && not (is_before place.troupe begins old x.1 r) && ends_same i j)
 
   returns_same : (test other : ℕ × HeldCall → Bool) → ((x : ℕ × HeldCall) → test x ≡ other x) → returns_now place boot begins first old r test ≡ returns_now place boot begins first new r other
   returns_same test other same =

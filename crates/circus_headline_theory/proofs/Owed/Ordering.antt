@@ -44,9 +44,9 @@ use Rattle.circus_gather.specs.Gathering.{index_of, is_of_index, reply_of, answe
 use Rattle.circus_performing.specs.Performing.{made_ask, answered_ask}
 use Rattle.circus_member_rules.specs.Messages.{reply_message, stale_message, before_message}
 use Rattle.circus_member_rules.specs.Rules.{ringmaster, answer, answers, request_call, request_to_ring, message_at_once, call_of_ask, call_for, call_again, calls_for_view, calls_for_a_new_view, is_to, givers, state_request, state_requests, gone_from, gone_call, lookup_call, active_call, before_answers, answers_of_run}
-use Rattle.circus_member_rules.specs.Step.{reply_of_run, known_by_table, is_taken_in, kept_by_table, handled}
+use Rattle.circus_member_rules.specs.Step.{reply_of_run, known_by_table, is_taken_in, kept_by_table, handle}
 use Rattle.circus_member_rules.proofs.Concerned.{all_of}
-use Rattle.circus_timely.specs.Past.{Past, booted, followed, now, known, down}
+use Rattle.circus_timely.specs.Past.{Past, booted, followed, now, views_known, nodes_declared_down}
 use Rattle.circus_member_theory.specs.Living.{phase_at_boot, after, kept_after, MayLive}
 use Rattle.circus_timely.specs.Asks.{is_of_ask, is_new, knows, first_calls}
 use Rattle.circus_timely.specs.Order.{calls_of_what_came, is_answered_by_end, returns_now, returns_at_once, made_by_run, made_by_runs, executed_then, IsInOrder}
@@ -214,7 +214,7 @@ calls_new k view (x ∷ asks) =
     (all_calls (call_of_ask k x.0 x.1) (λ s. refl) (calls_for_a_view view k.down x.1.asked)) (calls_new k view asks)
 
 module _ {M : Type 0} (step : ℕ) (m : MemberState M) where
-  handled_sorted : (o : Occurrence) → IsSorted (at_once m o) (handled step o m).effects
+  handled_sorted : (o : Occurrence) → IsSorted (at_once m o) (handle step o m).effects
   handled_sorted (comes.Asked header body sender) = by_message (message_at_once (answer_to m.gathered header))
     where
       by_message : (x : Option (List ℕ)) → let returns = option_map_or (λ message. answer message sender ∷ []) x [] in IsSorted returns returns
@@ -252,7 +252,7 @@ module _ {M : Type 0} (step : ℕ) (m : MemberState M) where
           (all_returns (before_message count) (gathering.before_answers m.gathered count)) refl
       by_test false = sorted_returns [] no_returns
   handled_sorted (comes.Declared node) =
-      sorted_requests (gone_call m.place (knowing.declared m.known node) node) (gone_requests m.place (knowing.declared m.known node) node)
+      sorted_requests (gone_call m.place (knowing.note_down m.known node) node) (gone_requests m.place (knowing.note_down m.known node) node)
   handled_sorted comes.Joins = sorted_requests (request_to_ring m.known (Join m.place.troupe m.place.node)) (ring_requests m.known (Join m.place.troupe m.place.node))
 
 -- ---- a step
@@ -370,8 +370,8 @@ module _ {M : Type 0} (declared : M → Signature) (turn : M → List ValueTree 
     knows_now x =
         let last = asked_all declared turn first lawful place views beginning hosted home q may in
         let wants = d.member.known.wants in
-        let seen : d.member.known.views ≡ known views q = sym (ap (λ (k : Knowing). k.views) s.same.known) ∙ last.views_are in
-        let gone : d.member.known.down ≡ down q = sym (ap (λ (k : Knowing). k.down) s.same.known) ∙ last.downs in
+        let seen : d.member.known.views ≡ views_known views q = sym (ap (λ (k : Knowing). k.views) s.same.known) ∙ last.views_are in
+        let gone : d.member.known.down ≡ nodes_declared_down q = sym (ap (λ (k : Knowing). k.down) s.same.known) ∙ last.downs in
         (λ j. first_calls (own_place j) views (let k : Knowing = record { views = seen j; down = gone j; wants = wants } in k) x)
 
     abbrev reply_now : HeldCall → Option (List ℕ)

@@ -24,7 +24,7 @@ use Rattle.circus_gather.specs.Gathering.{Gathered, index_of, is_of_index, reply
 use Rattle.circus_gather.specs.declared.held.HeldCall.{HeldCall}
 use Rattle.circus_fanout.specs.Asking.{Asking, calls_for_a_view}
 use Rattle.circus_performing.specs.declared.start.RunStart.{RunStart}
-use Rattle.circus_performing.specs.Performing.{is_active, last_of, unanswered, open_ask, clock_after, begun, made_ask, answered_ask, gone_on, state_after, most_turns}
+use Rattle.circus_performing.specs.Performing.{is_active, last_of, unless_replied, open_ask, clock_after, begin_run, made_ask, answered_ask, gone_on, state_after, most_turns}
 use Rattle.circus_performing.specs.Record.{behaviour, count_after, start_of, turns}
 use Rattle.circus_performing.proofs.Ends.{last_more}
 use Rattle.circus_performing.proofs.Records.{none_is_some, with_answer, answered_is}
@@ -324,7 +324,7 @@ module _ {M : Type 0} (declared : M → Signature) (turn : M → List ValueTree 
       let more = answers_of_run (answered_by_end g (index_of_last kept)) (reply_of_run run) in
       let same = same_last d t run at in
       let last = ap last_of t.runs_are ∙ last_more t.before t.run in
-      let no_ask : option_and_then unanswered (last_of t.run.asks) ≡ None = sym (ap (option_and_then (λ (r : RunRecord). option_and_then unanswered (last_of r.asks))) last) ∙ none in
+      let no_ask : option_and_then unless_replied (last_of t.run.asks) ≡ None = sym (ap (option_and_then (λ (r : RunRecord). option_and_then unless_replied (last_of r.asks))) last) ∙ none in
       let asks_then : asks_by m.place test index t.run ≡ t.done =
       t.asks_are ∙ ap (λ l. t.done ++ l) (no_part index t.run no_ask) ∙ append-nil t.done in
       let first_long = ap length t.runs_are ∙ length-append t.before (t.run ∷ []) in
@@ -338,7 +338,7 @@ module _ {M : Type 0} (declared : M → Signature) (turn : M → List ValueTree 
       goes_on d (ended_run d run) t more refl refl refl
       (λ j. calls_for (asks_then j) ++ (if ended j then answers_of_run (sym those j) (reply_of_run (same j)) else []))
     where
-      no_part : (i : ℕ) (r : RunRecord) → option_and_then unanswered (last_of r.asks) ≡ None → open_part m.place test i r ≡ []
+      no_part : (i : ℕ) (r : RunRecord) → option_and_then unless_replied (last_of r.asks) ≡ None → open_part m.place test i r ≡ []
       no_part i r is = ap (λ o. option_map_or (λ ask. open_one i r ask ∷ []) o []) is
         where
           open_one : ℕ → RunRecord → AskRecord → AskName × Asking
@@ -359,20 +359,20 @@ module _ {M : Type 0} (declared : M → Signature) (turn : M → List ValueTree 
   enters d start sound may none h =
       let kept = d.member.performing.kept in
       let t = turn d.member.performing.hosted kept.state start.procedure start.arguments in
-      let gone = gone_on step t most_turns (begun step start) in
-      let started : gone.started ≡ step = gone_started step t most_turns (begun step start) in
+      let gone = gone_on step t most_turns (begin_run step start) in
+      let started : gone.started ≡ step = gone_started step t most_turns (begin_run step start) in
       record {
         before = kept.runs;
         run = gone;
         done = [];
         runs_are = refl;
-        asks_are = gone_asks m.place test step true fresh t most_turns (origin + length kept.runs) (begun step start) refl;
-        ends = gone_ends step t most_turns (begun step start) refl;
+        asks_are = gone_asks m.place test step true fresh t most_turns (origin + length kept.runs) (begin_run step start) refl;
+        ends = gone_ends step t most_turns (begin_run step start) refl;
         fate = inr (by_fate (le-ltb gone.started step (omega (arith, started))) h);
       }
     where
       gone_run : RunRecord
-      gone_run = gone_on step (turn d.member.performing.hosted d.member.performing.kept.state start.procedure start.arguments) most_turns (begun step start)
+      gone_run = gone_on step (turn d.member.performing.hosted d.member.performing.kept.state start.procedure start.arguments) most_turns (begin_run step start)
 
       by_fate : is_early step gone_run ≡ false → Pends d ⊎ HasGiven d
           → TurnsThen d.member.performing.kept.runs gone_run [] (record d { member = with_entered (behaves declared turn first lawful d) (lawful d.member.performing.hosted) d.member step start })
@@ -414,7 +414,7 @@ module _ {M : Type 0} (declared : M → Signature) (turn : M → List ValueTree 
       let index = origin + length p.before in
       let done = asks_by m.place test index p.run in
       let e : Doing M = record d { member = with_answered b law d.member step reply } in
-      let none : HasNoAsk made = ap (option_and_then unanswered) (last_more p.waiting.before (answered_ask step reply.outcome reply.clock p.waiting.ask)) in
+      let none : HasNoAsk made = ap (option_and_then unless_replied) (last_more p.waiting.before (answered_ask step reply.outcome reply.clock p.waiting.ask)) in
       let started : gone.started ≡ p.run.started = gone_started step t most_turns made in
       let last_part : part index p.run ≡ calls_for done =
       (λ j. calls_for done ++ (if option_map_or (nat_eq step) (p.waiting.not_ended j) false then answers_of_run (answered_by_end m.gathered index) (reply_of_run p.run) else [])) ∙ append-nil (calls_for done) in

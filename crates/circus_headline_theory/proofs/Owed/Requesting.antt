@@ -45,12 +45,12 @@ use Rattle.circus_member_rules.specs.Rules as rules
 use Rattle.circus_member_rules.specs.Happening.{IsHome}
 use Rattle.circus_member_rules.specs.MemberState.{MemberState, Doing}
 use Rattle.circus_member_rules.specs.Step as step
-use Rattle.circus_member_rules.specs.Step.{is_lookup, is_join, known_by_table, answered_by_ring, is_taken_in, kept_by_table, handled, reply_of_run, name_of_last, asking_begun, opened_by_view, ended_run, is_idle}
+use Rattle.circus_member_rules.specs.Step.{is_lookup, is_join, known_by_table, answered_by_ring, is_taken_in, kept_by_table, handle, reply_of_run, name_of_last, asking_begun, opened_by_view, ended_run, is_idle}
 use Rattle.circus_member_rules.proofs.Homes.{told_down, ring_down, ring_views, called_views, declared_views}
 use Rattle.circus_member_theory.proofs.Resting.{at_boot}
 use Rattle.circus_world_theory.proofs.Border.Going.{begun}
 use Rattle.circus_timely.specs.Past as past
-use Rattle.circus_timely.specs.Past.{Past, booted, followed, now, known, down, required, phase}
+use Rattle.circus_timely.specs.Past.{Past, booted, followed, now, views_known, nodes_declared_down, required_incarnation, phase}
 use Rattle.circus_timely.specs.Requests.{is_request, to_ring, answers_lookup, for_what_came, is_held, wanted, is_due, due_from, due, is_unanswered, lookups, requests_owed}
 use Rattle.circus_timely.specs.Returns.{first_of, reply_by}
 use Rattle.circus_headline_theory.specs.Owed.Living.{boots, made_in, made_by}
@@ -154,7 +154,7 @@ module _ {M : Type 0} (m : MemberState M) where
       none_flat_mapped (calls_for_view k view) (λ x. none_mapped (call_of_ask k x.0 x.1) (λ s. refl) (calls_for_a_view view k.down x.1.asked)) (filter (is_to view.troupe) asks)
 
   told_asked : (request : Request) (table : Table) → let k = known_by_table m.known request table.view in
-      asked (step.told m request table).effects
+      asked (step.handle_table m request table).effects
       ≡ (if is_taken_in m.performing.kept.phase (kept_by_table m.performing.kept request table).phase then state_requests m.place k.down table.view else [])
   told_asked request table =
       let k = known_by_table m.known request table.view in
@@ -198,14 +198,14 @@ gone_asked views gone_nodes place node = by_host (slice_get place.troupes node)
 
 -- ---- what is known
 
-told_wants : (k : Knowing) (view : View) → (knowing.told k view).wants ≡ k.wants
+told_wants : (k : Knowing) (view : View) → (knowing.note_view k view).wants ≡ k.wants
 told_wants k view = by_test (knowing.is_newer k view)
   where
     by_test : (b : Bool) → let x : Knowing = if b then record k { views = slice_set k.views view.troupe view } else k in x.wants ≡ k.wants
     by_test true = refl
     by_test false = refl
 
-declared_wants : (k : Knowing) (node : ℕ) → (knowing.declared k node).wants ≡ k.wants
+declared_wants : (k : Knowing) (node : ℕ) → (knowing.note_down k node).wants ≡ k.wants
 declared_wants k node = by_test (is_among k.down node)
   where
     by_test : (b : Bool) → let x : Knowing = if b then k else record k { down = k.down ++ node ∷ [] } in x.wants ≡ k.wants
@@ -233,7 +233,7 @@ none_either f (Some a) = refl
 -- a call that is held makes its client's view wanted
 held_wants : (stale before : Bool) (reply : Option Reply) (needed from : ℕ) (header : CallHeader) (k : Knowing)
     → (wanted_by_call (if stale then added.Stale needed else if before then added.Before from else option_map_or added.Reply reply added.Held) header k).wants
-    ≡ (if not stale && not before && is_none reply then (knowing.wanted k header.client header.client_incarnation).wants else k.wants)
+    ≡ (if not stale && not before && is_none reply then (knowing.want_view k header.client header.client_incarnation).wants else k.wants)
 held_wants true before reply needed from header k = refl
 held_wants false true reply needed from header k = refl
 held_wants false false None needed from header k = refl
@@ -258,8 +258,8 @@ module _ {M : Type 0} (declared : M → Signature) (turn : M → List ValueTree 
 
   -- what a member knows, and what it has asked for
   pub record Requests (p : Past) : Type 0 where
-    pub views_are : (life p).known.views ≡ known views p
-    pub downs : (life p).known.down ≡ down p
+    pub views_are : (life p).known.views ≡ views_known views p
+    pub downs : (life p).known.down ≡ nodes_declared_down p
     pub wants : (life p).known.wants ≡ wants_of (want_at (kept_after p) p) 0 views
     pub made : asked_by (makes p) ≡ requests_owed place views start (kept_after p) p
 
@@ -280,10 +280,10 @@ module _ {M : Type 0} (declared : M → Signature) (turn : M → List ValueTree 
 
       -- as it is handled
       pub record Handles (o : Occurrence) : Type 0 where
-        pub views_are : (handled at o m).member.known.views ≡ known views (followed p at o)
-        pub downs : (handled at o m).member.known.down ≡ down (followed p at o)
-        pub wants : (handled at o m).member.known.wants ≡ wants_of (left_at o) 0 views
-        pub made : asked (handled at o m).effects ≡ for_what_came place views start (followed p at o)
+        pub views_are : (handle at o m).member.known.views ≡ views_known views (followed p at o)
+        pub downs : (handle at o m).member.known.down ≡ nodes_declared_down (followed p at o)
+        pub wants : (handle at o m).member.known.wants ≡ wants_of (left_at o) 0 views
+        pub made : asked (handle at o m).effects ≡ for_what_came place views start (followed p at o)
 
       module _ (was : m.known.wants ≡ wants_of (want_at new p) 0 views) (replies : (call : HeldCall) → reply_by place.troupe start new call p ≡ option_map reply_message (reply_of m.gathered (index_of place.troupe call.header))) where
         wants_stay : wants_of (want_at new p) 0 views ≡ wants_of (λ t. want (wanted place views start new t p) (is_unanswered place views start new p t && true)) 0 views
@@ -298,7 +298,7 @@ module _ {M : Type 0} (declared : M → Signature) (turn : M → List ValueTree 
               views_are = called_views (answer_to m.gathered header) header m.known ∙ r.views_are;
               downs = called_down (answer_to m.gathered header) header m.known ∙ r.downs;
               wants = held_wants (nat_lt header.server_incarnation m.gathered.required) (nat_lt (index_of m.gathered.module header) m.gathered.from) (reply_of m.gathered (index_of m.gathered.module header)) m.gathered.required m.gathered.from header m.known
-                  ∙ ap (λ b. if b then (knowing.wanted m.known header.client header.client_incarnation).wants else m.known.wants) held
+                  ∙ ap (λ b. if b then (knowing.want_view m.known header.client header.client_incarnation).wants else m.known.wants) held
                   ∙ by_test (is_held place views start new p call);
               made = no_answer m (message_at_once (answer_to m.gathered header)) sender;
             }
@@ -310,10 +310,10 @@ module _ {M : Type 0} (declared : M → Signature) (turn : M → List ValueTree 
             held =
                 let own : m.gathered.module ≡ place.troupe = h.sound.own ∙ ap (λ (x : Place). x.troupe) h.stands in
                 (λ j. not (nat_lt header.server_incarnation (h.knows.requires j)) && not (nat_lt (index_of (own j) header) ((h.knows.from ∙ ap first_of h.knows.phase_is) j)) && is_none (reply_of m.gathered (index_of (own j) header)))
-                ∙ ap (λ b. not (nat_lt header.server_incarnation (required p)) && not (nat_lt (index_of place.troupe header) (first_of (phase start p))) && b)
+                ∙ ap (λ b. not (nat_lt header.server_incarnation (required_incarnation p)) && not (nat_lt (index_of place.troupe header) (first_of (phase start p))) && b)
                 (sym (none_either reply_message (reply_of m.gathered (index_of place.troupe header))) ∙ sym (ap is_none (replies (record { header = header; body = body; sender = sender }))))
 
-            by_test : (b : Bool) → (if b then (knowing.wanted m.known header.client header.client_incarnation).wants else m.known.wants)
+            by_test : (b : Bool) → (if b then (knowing.want_view m.known header.client header.client_incarnation).wants else m.known.wants)
                 ≡ wants_of (λ t. want (if b && nat_eq t header.client then max (wanted place views start new t p) header.client_incarnation else wanted place views start new t p) (is_unanswered place views start new p t && true)) 0 views
             by_test false = was ∙ wants_stay
             by_test true =
@@ -347,7 +347,7 @@ module _ {M : Type 0} (declared : M → Signature) (turn : M → List ValueTree 
         handles_told : (request : Request) (table : Table) → Handles (comes.Told request table)
         handles_told request table =
             let k = answered_by_ring m.known request table.view.troupe in
-            let down_same : (knowing.told k table.view).down ≡ down p = told_down k table.view ∙ ring_down m.known request table.view.troupe ∙ r.downs in
+            let down_same : (knowing.note_view k table.view).down ≡ nodes_declared_down p = told_down k table.view ∙ ring_down m.known request table.view.troupe ∙ r.downs in
             record {
               views_are = told_views k table.view ∙ ap (λ vs. past.with_view vs table.view) (ring_views m.known request table.view.troupe ∙ r.views_are);
               downs = down_same;
@@ -355,7 +355,7 @@ module _ {M : Type 0} (declared : M → Signature) (turn : M → List ValueTree 
               made = told_asked m request table ∙ (λ j. if taken j then state_requests (h.stands j) (down_same j) table.view else []);
             }
           where
-            by_lookup : (b : Bool) → let k : Knowing = if b then knowing.answered m.known table.view.troupe else m.known in
+            by_lookup : (b : Bool) → let k : Knowing = if b then knowing.note_answer m.known table.view.troupe else m.known in
                 k.wants ≡ wants_of (λ t. want (wanted place views start new t p) (is_unanswered place views start new p t && not (b && nat_eq t table.view.troupe))) 0 views
             by_lookup false = was ∙ wants_stay
             by_lookup true =
@@ -392,7 +392,7 @@ module _ {M : Type 0} (declared : M → Signature) (turn : M → List ValueTree 
           where
             by_test : (b : Bool) → is_fetching m.performing.kept.phase ≡ b
                 → let d : Doing M = if b then record { member = record m { performing = made_active at state count m.performing; gathered = with_first m.gathered count }; effects = active_call m.place m.known count ++ before_answers m.gathered count } else record { member = m; effects = [] }
-                in (d.member.known ≡ m.known) × (asked d.effects ≡ (if is_fetching (phase start p) then to_ring (down p) (Active place.troupe place.node count) else []))
+                in (d.member.known ≡ m.known) × (asked d.effects ≡ (if is_fetching (phase start p) then to_ring (nodes_declared_down p) (Active place.troupe place.node count) else []))
             by_test true is = (
               refl,
               filter-append is_request (active_call m.place m.known count) (before_answers m.gathered count)
@@ -400,15 +400,15 @@ module _ {M : Type 0} (declared : M → Signature) (turn : M → List ValueTree 
                   ∙ append-nil (asked (active_call m.place m.known count))
                   ∙ ring_asked m.known.down (Active m.place.troupe m.place.node count)
                   ∙ (λ j. to_ring (r.downs j) (Active (h.stands j).troupe (h.stands j).node count))
-                  ∙ sym (ap (λ b. if b then to_ring (down p) (Active place.troupe place.node count) else []) (ap is_fetching (sym h.knows.phase_is) ∙ is)),
+                  ∙ sym (ap (λ b. if b then to_ring (nodes_declared_down p) (Active place.troupe place.node count) else []) (ap is_fetching (sym h.knows.phase_is) ∙ is)),
             )
-            by_test false is = (refl, sym (ap (λ b. if b then to_ring (down p) (Active place.troupe place.node count) else []) (ap is_fetching (sym h.knows.phase_is) ∙ is)))
+            by_test false is = (refl, sym (ap (λ b. if b then to_ring (nodes_declared_down p) (Active place.troupe place.node count) else []) (ap is_fetching (sym h.knows.phase_is) ∙ is)))
 
         handles_declared : (node : ℕ) → Handles (comes.Declared node)
         handles_declared node =
-            let k = knowing.declared m.known node in
-            let views_same : k.views ≡ known views p = declared_views m.known node ∙ r.views_are in
-            let downs_same : k.down ≡ down (followed p at (comes.Declared node)) = declared_down m.known node ∙ (λ j. if is_among (r.downs j) node then r.downs j else r.downs j ++ node ∷ []) in
+            let k = knowing.note_down m.known node in
+            let views_same : k.views ≡ views_known views p = declared_views m.known node ∙ r.views_are in
+            let downs_same : k.down ≡ nodes_declared_down (followed p at (comes.Declared node)) = declared_down m.known node ∙ (λ j. if is_among (r.downs j) node then r.downs j else r.downs j ++ node ∷ []) in
             record {
               views_are = views_same;
               downs = downs_same;
@@ -491,13 +491,13 @@ module _ {M : Type 0} (declared : M → Signature) (turn : M → List ValueTree 
       lookups_are =
           (λ j. knowing.lookups (s.same.known j) ringmaster)
           ∙ (λ j. if is_among (handled_so.downs j) ringmaster then [] else knowing.due_from 0 (handled_so.views_are j) (handled_so.wants j))
-          ∙ ap (λ l. if is_among (down q) ringmaster then [] else l) (due_is 0 (known views q) views (known_long views q))
+          ∙ ap (λ l. if is_among (nodes_declared_down q) ringmaster then [] else l) (due_is 0 (views_known views q) views (known_long views q))
 
       requests_then : Requests q
       requests_then =
           let troupes = due place views start now_kept (left p at may.0 r now_kept o) q in
           let made = executed_keeps declared turn first lawful at (AreAsked declared turn first lawful at (asked d.effects)) (AreAsked declared turn first lawful at (asked d.effects)) (asked_keeps declared turn first lawful at (asked d.effects)) d s.sound refl in
-          let effects : asked (step.stepped declared turn at o (life p)).effects ≡ for_what_came place views start q ++ lookups place views start now_kept q =
+          let effects : asked (step.step_member declared turn at o (life p)).effects ≡ for_what_came place views start q ++ lookups place views start now_kept q =
           filter-append is_request e.effects (rules.lookups e.member.known)
           ∙ (λ j. (made ∙ handled_so.made) j ++ asked (map lookup_call (lookups_are j)))
           ∙ ap (λ l. for_what_came place views start q ++ l) (all_mapped lookup_call (λ t. refl) troupes) in
@@ -506,9 +506,9 @@ module _ {M : Type 0} (declared : M → Signature) (turn : M → List ValueTree 
             downs = ap (λ (k : Knowing). k.down) s.same.known ∙ handled_so.downs;
             wants = (λ j. knowing.asked_all ((ap (λ (k : Knowing). k.wants) s.same.known ∙ handled_so.wants) j) (lookups_are j))
                 ∙ asked_all_of (left_at p at may.0 r now_kept o) troupes views;
-            made = filter-append (λ (x : ℕ × Effect). is_request x.1) (makes p) (made_in at (step.stepped declared turn at o (life p)).effects)
+            made = filter-append (λ (x : ℕ × Effect). is_request x.1) (makes p) (made_in at (step.step_member declared turn at o (life p)).effects)
                 ∙ (λ j. (r.made ∙ requests_same place views start (kept_after p) now_kept at replies_then p (rises declared turn first lawful place views beginning hosted p may.0) may.1) j
-                ++ (asked_in at (step.stepped declared turn at o (life p)).effects ∙ ap (made_in at) effects) j);
+                ++ (asked_in at (step.step_member declared turn at o (life p)).effects ∙ ap (made_in at) effects) j);
           }
 
     -- ---- over a past
@@ -517,7 +517,7 @@ module _ {M : Type 0} (declared : M → Signature) (turn : M → List ValueTree 
     asked_before Founder = refl
     asked_before Spare = refl
 
-    wants_before : (vs : List View) (n : ℕ) → map knowing.unwanted vs ≡ wants_of (λ t. want 0 false) n vs
+    wants_before : (vs : List View) (n : ℕ) → map knowing.no_want vs ≡ wants_of (λ t. want 0 false) n vs
     wants_before [] n = refl
     wants_before (v ∷ vs) n = ap (λ ws. want 0 false ∷ ws) (wants_before vs (n + 1))
 

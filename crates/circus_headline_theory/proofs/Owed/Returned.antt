@@ -27,8 +27,8 @@ use Rattle.circus_member_rules.specs.Messages.{reply_message, stale_message, bef
 use Rattle.circus_member_rules.specs.Rules.{lookups}
 use Rattle.circus_member_rules.specs.Happening.{IsHome}
 use Rattle.circus_member_rules.specs.MemberState.{MemberState, Doing}
-use Rattle.circus_member_rules.specs.Step.{stepped}
-use Rattle.circus_timely.specs.Past.{Past, booted, followed, now, required, phase}
+use Rattle.circus_member_rules.specs.Step.{step_member}
+use Rattle.circus_timely.specs.Past.{Past, booted, followed, now, required_incarnation, phase}
 use Rattle.circus_timely.specs.First.{at_end, or_else}
 use Rattle.circus_timely.specs.Made.{is_caller, returns_to, at_most_one, asks, AreDistinct}
 use Rattle.circus_timely.specs.Owed.{IsReturned}
@@ -68,9 +68,9 @@ and_false false = refl
 
 -- what is owed, by its tests
 abbrev shape : ℕ → ℕ → Bool → ℕ → Bool → Bool → ℕ → Option (List ℕ) → Option (List ℕ)
-shape incarnation index late required in_step started from reply =
+shape incarnation index late required_incarnation in_step started from reply =
     if late then None
-    else if nat_lt incarnation required && (in_step || not started) then Some (stale_message required)
+    else if nat_lt incarnation required_incarnation && (in_step || not started) then Some (stale_message required_incarnation)
     else if nat_lt index from then Some (before_message from)
     else reply
 
@@ -92,7 +92,7 @@ module _ {M : Type 0} (declared : M → Signature) (turn : M → List ValueTree 
       → returned c (executes declared turn first lawful place views beginning hosted p at o).effects ≡ new → returns_to c (makes (followed p at o)) ≡ old ++ map (λ (m : List ℕ). (at, m)) new
   made_more c p at o old new before in_step =
       let e = executes declared turn first lawful place views beginning hosted p at o in
-      let effects = (stepped declared turn at o (life p)).effects in
+      let effects = (step_member declared turn at o (life p)).effects in
       let all : returned c effects ≡ new = returned-append c e.effects (lookups e.member.known) ∙ ap (λ l. returned c e.effects ++ l) (no_lookup c e.member.known) ∙ append-nil (returned c e.effects) ∙ in_step in
       returns-append c (makes p) (made_in at effects)
       ∙ ap (λ l. l ++ returns_to c (made_in at effects)) before
@@ -160,7 +160,7 @@ module _ {M : Type 0} (declared : M → Signature) (turn : M → List ValueTree 
       reply_now troupe call =
           reply_is (behaviour declared turn first e.member.performing.hosted) e.member.performing.began e.member.gathered e.member.performing.kept k.sound.kept k.linked q k.within troupe start call
 
-      owed_by : (g : Gathered) (came : ℕ) (call : HeldCall) (in_step started : Bool) → place.troupe ≡ g.module → required q ≡ g.required → first_of (phase start q) ≡ g.from → came ≤ at
+      owed_by : (g : Gathered) (came : ℕ) (call : HeldCall) (in_step started : Bool) → place.troupe ≡ g.module → required_incarnation q ≡ g.required → first_of (phase start q) ≡ g.from → came ≤ at
           → nat_eq came at ≡ in_step → was_started (kept_after q) (index_of g.module call.header) at ≡ started
           → return_at place.troupe start (kept_after q) came call q
           ≡ shape call.header.server_incarnation (index_of g.module call.header) false g.required in_step started g.from (option_map reply_message (reply_of e.member.gathered (index_of g.module call.header)))
@@ -350,7 +350,7 @@ module _ {M : Type 0} (declared : M → Signature) (turn : M → List ValueTree 
         none_owed =
             let later = may.1 in
             none_first (return_at place.troupe start (kept_after (followed p at comes_now)) at call) (now p) p (rises declared turn first lawful place views beginning hosted p may.0) (omega arith)
-            (λ r below. ap (λ b. shape call.header.server_incarnation (index_of place.troupe call.header) b (required r) (nat_eq at (now r)) (was_started (kept_after (followed p at comes_now)) (index_of place.troupe call.header) (now r)) (first_of (phase start r)) (reply_by place.troupe start (kept_after (followed p at comes_now)) call r)) (lt-ltb (now r) at (omega (arith, below, later))))
+            (λ r below. ap (λ b. shape call.header.server_incarnation (index_of place.troupe call.header) b (required_incarnation r) (nat_eq at (now r)) (was_started (kept_after (followed p at comes_now)) (index_of place.troupe call.header) (now r)) (first_of (phase start r)) (reply_by place.troupe start (kept_after (followed p at comes_now)) call r)) (lt-ltb (now r) at (omega (arith, below, later))))
 
         pub owed_new : return_at place.troupe start (kept_after (followed p at comes_now)) at call (followed p at comes_now)
             ≡ or_that (due_now (life p).gathered call) (option_map reply_message (reply_of (e p at comes_now may).member.gathered (index_of (e p at comes_now may).member.gathered.module call.header)))

@@ -21,7 +21,7 @@ use Rattle.circus_performing.proofs.Records.{none_is_some}
 use Rattle.circus_member_rules.specs.Messages.{reply_message, stale_message, before_message}
 use Rattle.circus_member_rules.specs.Step.{reply_of_run}
 use Rattle.circus_member_rules.proofs.Writing.{one_is_performing, none_is_idle}
-use Rattle.circus_timely.specs.Past.{Past, now, required, phase}
+use Rattle.circus_timely.specs.Past.{Past, now, required_incarnation, phase}
 use Rattle.circus_timely.specs.Returns.{first_of, run_of, was_started, has_ended, is_stale, is_before, reply_by, return_at}
 use Rattle.circus_headline_theory.proofs.Owed.Grown.{EndsAt, Grown, AreGrown}
 use Rattle.circus_headline_theory.proofs.Owed.Links.{numbered, lookup_numbered, lookup_below, IsLinked}
@@ -193,8 +193,8 @@ module _ (step : ℕ) (old new : MemberRecord) (grown : AreGrown step old.runs n
   pub return_same : (troupe : ℕ) (begins : Joiner) (at : ℕ) (call : HeldCall) (q : Past) → now q < step → return_at troupe begins old at call q ≡ return_at troupe begins new at call q
   return_same troupe begins at call q before =
       let i = index_of troupe call.header in
-      ap (λ t. if nat_lt (now q) at then None else if nat_lt call.header.server_incarnation (required q) && (nat_eq at (now q) || not t) then Some (stale_message (required q)) else if is_before troupe begins old call q then Some (before_message (first_of (phase begins q))) else reply_by troupe begins old call q) (starts_same i (now q) (omega (arith, before)))
-      ∙ ap (λ o. if nat_lt (now q) at then None else if is_stale troupe begins new at call q then Some (stale_message (required q)) else if is_before troupe begins new call q then Some (before_message (first_of (phase begins q))) else o) (replies_same i q before)
+      ap (λ t. if nat_lt (now q) at then None else if nat_lt call.header.server_incarnation (required_incarnation q) && (nat_eq at (now q) || not t) then Some (stale_message (required_incarnation q)) else if is_before troupe begins old call q then Some (before_message (first_of (phase begins q))) else reply_by troupe begins old call q) (starts_same i (now q) (omega (arith, before)))
+      ∙ ap (λ o. if nat_lt (now q) at then None else if is_stale troupe begins new at call q then Some (stale_message (required_incarnation q)) else if is_before troupe begins new call q then Some (before_message (first_of (phase begins q))) else o) (replies_same i q before)
 
 -- a call that has no reply: its run was started before the step exactly where it is open
 module _ (step at : ℕ) (old new : MemberRecord) (grown : AreGrown step old.runs new.runs) (same : new.from ≡ old.from) (below : at < step) (within : AreWithin at old.runs) (g : Gathered) (h : IsLinked g old) where

@@ -32,7 +32,7 @@ use Rattle.circus_member_rules.specs.declared.occurrence.Purpose.TheVariants as 
 use Rattle.circus_member_rules.specs.Messages.{ask_message, request_message, fetch_message, reply_message, stale_message, before_message}
 use Rattle.circus_member_rules.specs.Rules.{ringmaster, incarnation_of}
 use Rattle.circus_member_rules.specs.Step.{is_join, reply_of_run}
-use Rattle.circus_timely.specs.Past.{Past, booted, followed, now, known, down, required, phase}
+use Rattle.circus_timely.specs.Past.{Past, booted, followed, now, views_known, nodes_declared_down, required_incarnation, phase}
 use Rattle.circus_timely.specs.Asks.{knows, open_asks}
 use Rattle.circus_timely.specs.Made.{asks, requests}
 use Rattle.circus_timely.specs.Requests.{wanted}
@@ -81,9 +81,9 @@ module _ (place : Place) (boot : List View) (begins : Joiner) (first : List Valu
     pub made_by_then : ask.asked ≤ now q
     pub is_open : IsOpenThen q name ask
     pub server_is : server ≡ ask.callee
-    pub known_is : slice_get (known boot q) server ≡ Some view
+    pub known_is : slice_get (views_known boot q) server ≡ Some view
     pub entry : has_node view to ≡ true
-    pub up : is_among (down q) to ≡ false
+    pub up : is_among (nodes_declared_down q) to ≡ false
     pub message_is : message ≡ ask_message (header_then q name run ask view) (spelling_of_all ask.arguments)
 
   -- ---- requests
@@ -91,12 +91,12 @@ module _ (place : Place) (boot : List View) (begins : Joiner) (first : List Valu
   -- what makes a request to the Ringmaster due. Lookup: a later view is wanted than is known. Join: the member was told to join.
   -- Active: it is active from that count on. Gone: the node was declared down, and the known view of its troupe has it
   abbrev pub Causes : Request → Past → Type 0
-  Causes (asks_for.Lookup troupe) q = IsSomeAnd (slice_get (known boot q) troupe) (λ view. view.incarnation < wanted place boot begins kept troupe q)
+  Causes (asks_for.Lookup troupe) q = IsSomeAnd (slice_get (views_known boot q) troupe) (λ view. view.incarnation < wanted place boot begins kept troupe q)
   Causes (asks_for.Join troupe node) (followed p step comes.Joins) = (troupe ≡ place.troupe) × (node ≡ place.node)
   Causes (asks_for.Active troupe node count) (followed p step (comes.Restored state behind)) =
       (troupe ≡ place.troupe) × (node ≡ place.node) × (is_active (phase begins p) ≡ false) × (phase begins (followed p step (comes.Restored state behind)) ≡ phases.Active count)
   Causes (asks_for.Gone troupe node) (followed p step (comes.Declared other)) =
-      (node ≡ other) × (slice_get place.troupes node ≡ Some (Some troupe)) × IsSomeAnd (slice_get (known boot p) troupe) (λ view. has_node view node ≡ true)
+      (node ≡ other) × (slice_get place.troupes node ≡ Some (Some troupe)) × IsSomeAnd (slice_get (views_known boot p) troupe) (λ view. has_node view node ≡ true)
   Causes request q = ⊥
 
   -- a node performs calls itself by a view
@@ -108,20 +108,20 @@ module _ (place : Place) (boot : List View) (begins : Joiner) (first : List Valu
   abbrev pub IsForState : Past → ℕ → List ℕ → Type 0
   IsForState (followed p step (comes.Told request table)) to message =
       (message ≡ fetch_message place.troupe table.view.incarnation) × (is_join request ≡ true) × (phase begins p ≡ phases.Asking) × (table.result ≡ Done)
-      × IsMember table.view to × (to ≢ place.node) × (is_among (down p) to ≡ false)
+      × IsMember table.view to × (to ≢ place.node) × (is_among (nodes_declared_down p) to ≡ false)
   IsForState q to message = ⊥
 
   -- a call for a purpose has its cause at the end of a past
   abbrev pub CallIsDue : Past → ℕ → List ℕ → Purpose → Type 0
   CallIsDue q to message (for.Ask name server) = IsForAsk q to message name server
-  CallIsDue q to message (for.Ring request) = (to ≡ ringmaster) × (message ≡ request_message request) × (is_among (down q) ringmaster ≡ false) × Causes request q
+  CallIsDue q to message (for.Ring request) = (to ≡ ringmaster) × (message ≡ request_message request) × (is_among (nodes_declared_down q) ringmaster ≡ false) × Causes request q
   CallIsDue q to message for.Fetch = IsForState q to message
 
   -- ---- returns; the last step of a past is that in which the return is made
 
   -- the call is of an older view than is required
   abbrev pub IsStale : Past → HeldCall → List ℕ → Type 0
-  IsStale q call message = (message ≡ stale_message (required q)) × (call.header.server_incarnation < required q)
+  IsStale q call message = (message ≡ stale_message (required_incarnation q)) × (call.header.server_incarnation < required_incarnation q)
 
   -- it is before the index from which the member is active
   abbrev pub IsBefore : Past → HeldCall → List ℕ → Type 0

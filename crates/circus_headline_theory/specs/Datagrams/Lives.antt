@@ -13,7 +13,7 @@ use Rattle.circus_member_rules.specs.declared.occurrence.Purpose.{Purpose}
 use Rattle.circus_node.specs.Accepting.{troupe_at}
 use Rattle.circus_node.specs.Booting.{beginning_in, home_in}
 use Rattle.circus_node.specs.NodeState.{NodeState, member_record}
-use Rattle.circus_node.specs.Step.{Ended, stepped}
+use Rattle.circus_node.specs.Step.{Ended, step_node}
 use Rattle.circus_node.specs.declared.event.Event.{Event}
 use Rattle.circus_node.specs.declared.event.Event.TheVariants as comes
 use Rattle.circus_node.specs.declared.event.Give.{Give}
@@ -55,7 +55,7 @@ module _ {M : Type 0} (declared : M → Signature) (turn : M → List ValueTree 
   abbrev pub with_events : WireActs Purpose → Events → NodeState M → WireActs Purpose
   with_events acts [] n = acts
   with_events acts (next ∷ events) n =
-      with_rest (with_events (with_all acts (acts_in declared turn next.0 next.1 n)) events) acts (stepped declared turn next.0 next.1 n)
+      with_rest (with_events (with_all acts (acts_in declared turn next.0 next.1 n)) events) acts (step_node declared turn next.0 next.1 n)
 
 module _ {M : Type 0} (declared : M → Signature) (turn : M → List ValueTree → ℕ → List ValueTree → List Outcome → NextTurn) (first : M → List ValueTree)
     (d : Deployment) (own : M) (node : ℕ) where
@@ -73,7 +73,7 @@ module _ {M : Type 0} (declared : M → Signature) (turn : M → List ValueTree 
     pub later : last_step 0 events < step
     pub octets : IsOfBytes event
     pub other : IsOfOther d node event
-    pub ends : stepped declared turn step event before ≡ Ok ended
+    pub ends : step_node declared turn step event before ≡ Ok ended
 
   -- ---- what its member sends is justified
 

@@ -24,7 +24,7 @@ use Rattle.circus_node.specs.Booting.{CanBoot}
 use Rattle.circus_node.specs.Booting as booting
 use Rattle.circus_node.specs.Making.{table_message}
 use Rattle.circus_node.specs.NodeState.{Acting, ringmaster, NodeState}
-use Rattle.circus_node.specs.Step.{stepped}
+use Rattle.circus_node.specs.Step.{step_node}
 use Rattle.circus_node.specs.declared.event.Event.{Event}
 use Rattle.circus_node.specs.declared.event.Event.TheVariants as comes
 use Rattle.circus_node.specs.declared.event.Give.{Give}
@@ -43,12 +43,12 @@ Requests = List (Caller × Request)
 
 module _ {M : Type 0} where
   -- the request that is heard, if one is accepted
-  abbrev pub requested : Acting M → Heard Purpose → Requests
-  requested (ringmaster kept) (Called sender message) = option_map_or (λ request. (sender, request) ∷ []) (accepted_request kept message) []
-  requested a heard = []
+  abbrev pub request_of_heard : Acting M → Heard Purpose → Requests
+  request_of_heard (ringmaster kept) (Called sender message) = option_map_or (λ request. (sender, request) ∷ []) (accepted_request kept message) []
+  request_of_heard a heard = []
 
   abbrev pub requested_by : Event → NodeState M → Requests
-  requested_by (comes.Datagram from bytes) n = requested n.acting (heard_from n.wire from (reading bytes))
+  requested_by (comes.Datagram from bytes) n = request_of_heard n.acting (heard_from n.wire from (reading bytes))
   requested_by event n = []
 
 module _ {M : Type 0} (declared : M → Signature) (turn : M → List ValueTree → ℕ → List ValueTree → List Outcome → NextTurn) where
@@ -56,7 +56,7 @@ module _ {M : Type 0} (declared : M → Signature) (turn : M → List ValueTree 
   abbrev pub with_requests : Requests → Events → NodeState M → Requests
   with_requests requests [] n = requests
   with_requests requests (next ∷ events) n =
-      with_rest (with_requests (requests ++ requested_by next.1 n) events) requests (stepped declared turn next.0 next.1 n)
+      with_rest (with_requests (requests ++ requested_by next.1 n) events) requests (step_node declared turn next.0 next.1 n)
 
 -- ---- what is sent
 
@@ -93,14 +93,14 @@ module _ {M : Type 0} (declared : M → Signature) (turn : M → List ValueTree 
   pub record IsNext (events : Events) (begun_ before : NodeState M) (step : ℕ) (event : Event) (ended : NodeState M × Outputs) : Type 0 where
     pub can : CanBoot d node None
     pub outputs : Outputs
-    pub boots : booting.booted declared turn first d None node ≡ Ok (begun_, outputs)
+    pub boots : booting.boot_node declared turn first d None node ≡ Ok (begun_, outputs)
     pub rising : Rising 0 events
     pub comes : Comes declared turn events begun_ before
     pub others : All (λ (e : ℕ × Event). IsOfOther d node e.1) events
     pub later : last_step 0 events < step
     pub octets : IsOfBytes event
     pub other : IsOfOther d node event
-    pub ends : stepped declared turn step event before ≡ Ok ended
+    pub ends : step_node declared turn step event before ≡ Ok ended
 
   -- what it gives in that step is justified
   abbrev pub StepIsJustified : Events → NodeState M → NodeState M → ℕ → Event → NodeState M × Outputs → Type 0

@@ -14,7 +14,7 @@ use Rattle.circus_wire.specs.WireStanding.{pair_of}
 use Rattle.circus_member_rules.specs.declared.place.Place.{Place}
 use Rattle.circus_member_rules.specs.declared.occurrence.Purpose.{Purpose}
 use Rattle.circus_node.specs.declared.event.Give.{Give}
-use Rattle.circus_timely.specs.Past.{Past, down}
+use Rattle.circus_timely.specs.Past.{Past, nodes_declared_down}
 use Rattle.circus_headline_theory.specs.Datagrams.Sendings.{IsSaidFor, IsSentFor}
 use Rattle.circus_headline_theory.specs.Datagrams.Due.{WasSo, CallIsDue, ReturnIsDue}
 
@@ -37,7 +37,7 @@ module _ (place : Place) (boot : List View) (begins : Joiner) (first : List Valu
 
   -- the node wasn't declared down by the end of the step
   abbrev pub IsUp : ℕ → Type 0
-  IsUp node = is_among (down p) node ≡ false
+  IsUp node = is_among (nodes_declared_down p) node ≡ false
 
   -- the message of which a segment is a piece had its cause; an acknowledgement and a probe have theirs at the pair. All but returns
   -- go to nodes that aren't down

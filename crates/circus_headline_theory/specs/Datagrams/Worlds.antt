@@ -35,7 +35,7 @@ module _ {M : Type 0} (declared : M → Signature) (turn : M → List ValueTree 
     pub comes : comes_by line w ≡ Some (node, event)
     pub was : slice_get w.nodes node ≡ Some before
     pub is : slice_get last.nodes node ≡ Some after
-    pub ends : node_step.stepped declared turn (w.steps + 1) event before.node ≡ Ok (after.node, outputs)
+    pub ends : node_step.step_node declared turn (w.steps + 1) event before.node ≡ Ok (after.node, outputs)
 
   -- what the member of that node, which hosts this, gives is true: justified, and where the member is active, its record stands in the
   -- history of the program

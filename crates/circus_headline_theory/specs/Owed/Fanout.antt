@@ -10,7 +10,7 @@ use Rattle.circus_collate.specs.declared.kind.Kind.{Kind}
 use Rattle.circus_collate.specs.declared.view.Entry.{Entry}
 use Rattle.circus_collate.specs.declared.view.View.{View}
 use Rattle.circus_collate.specs.Expecting.{has_node}
-use Rattle.circus_fanout.specs.Asking.{Asking, begun, calls_for_a_view, with_view, with_reply, with_before, with_stale, next, settled}
+use Rattle.circus_fanout.specs.Asking.{Asking, begin_asking, calls_for_a_view, with_view, with_reply, with_before, with_stale, next, settled}
 use Rattle.circus_fanout.specs.declared.send.Send.{Send}
 use Rattle.circus_fanout.specs.declared.send.Next.{Next}
 use Rattle.circus_fanout.specs.declared.send.Next.TheVariants as N
@@ -50,12 +50,12 @@ is_done done = true
 is_done (stale incarnation) = false
 
 -- what an act makes of it
-abbrev pub answered : ℕ → Act → Fate → Fate
-answered node (tells view) fate = fate
-answered node (falls other) fate = fate
-answered node (replies other reply) fate = if other == node then done else fate
-answered node (is_before other) fate = if other == node then done else fate
-answered node (is_stale other incarnation) fate = if other == node then stale incarnation else fate
+abbrev pub fate_after : ℕ → Act → Fate → Fate
+fate_after node (tells view) fate = fate
+fate_after node (falls other) fate = fate
+fate_after node (replies other reply) fate = if other == node then done else fate
+fate_after node (is_before other) fate = if other == node then done else fate
+fate_after node (is_stale other incarnation) fate = if other == node then stale incarnation else fate
 
 -- to whom calls go
 abbrev pub receivers : List Send → List ℕ
@@ -92,52 +92,52 @@ IsOwedBy (is_stale other incarnation) view node fate = (other ≡ node) × (inca
 
 -- a call that is made while this view is known and these nodes are down; what happened to it, the last first
 module _ (header : CallHeader) (body : List ℕ) (kind : Kind) (first : View) (gone : List ℕ) where
-  abbrev pub known : List Act → View
-  known [] = first
-  known (tells view ∷ before) = view
-  known (falls node ∷ before) = known before
-  known (replies node reply ∷ before) = known before
-  known (is_before node ∷ before) = known before
-  known (is_stale node incarnation ∷ before) = known before
+  abbrev pub known_view : List Act → View
+  known_view [] = first
+  known_view (tells view ∷ before) = view
+  known_view (falls node ∷ before) = known_view before
+  known_view (replies node reply ∷ before) = known_view before
+  known_view (is_before node ∷ before) = known_view before
+  known_view (is_stale node incarnation ∷ before) = known_view before
 
-  abbrev pub down : List Act → List ℕ
-  down [] = gone
-  down (falls node ∷ before) = node ∷ down before
-  down (tells view ∷ before) = down before
-  down (replies node reply ∷ before) = down before
-  down (is_before node ∷ before) = down before
-  down (is_stale node incarnation ∷ before) = down before
+  abbrev pub down_nodes : List Act → List ℕ
+  down_nodes [] = gone
+  down_nodes (falls node ∷ before) = node ∷ down_nodes before
+  down_nodes (tells view ∷ before) = down_nodes before
+  down_nodes (replies node reply ∷ before) = down_nodes before
+  down_nodes (is_before node ∷ before) = down_nodes before
+  down_nodes (is_stale node incarnation ∷ before) = down_nodes before
 
   -- the replies, in order of arrival
-  abbrev pub replied : List Act → List (Said Reply)
-  replied [] = []
-  replied (replies node reply ∷ before) = replied before ++ record { node = node; value = reply } ∷ []
-  replied (tells view ∷ before) = replied before
-  replied (falls node ∷ before) = replied before
-  replied (is_before node ∷ before) = replied before
-  replied (is_stale node incarnation ∷ before) = replied before
+  abbrev pub replies_by : List Act → List (Said Reply)
+  replies_by [] = []
+  replies_by (replies node reply ∷ before) = replies_by before ++ record { node = node; value = reply } ∷ []
+  replies_by (tells view ∷ before) = replies_by before
+  replies_by (falls node ∷ before) = replies_by before
+  replies_by (is_before node ∷ before) = replies_by before
+  replies_by (is_stale node incarnation ∷ before) = replies_by before
 
   -- what is kept of it
   abbrev pub after : List Act → Asking
-  after [] = with_view first gone (begun header body kind)
-  after (tells view ∷ before) = with_view view (down before) (after before)
+  after [] = with_view first gone (begin_asking header body kind)
+  after (tells view ∷ before) = with_view view (down_nodes before) (after before)
   after (falls node ∷ before) = after before
   after (replies node reply ∷ before) = with_reply node reply (after before)
   after (is_before node ∷ before) = with_before node (after before)
-  after (is_stale node incarnation ∷ before) = with_stale (known before) (down before) node incarnation (after before)
+  after (is_stale node incarnation ∷ before) = with_stale (known_view before) (down_nodes before) node incarnation (after before)
 
   -- whom the last of this makes it call
-  abbrev pub called : List Act → List ℕ
-  called [] = receivers (calls_for_a_view first gone [])
-  called (tells view ∷ before) = receivers (calls_for_a_view view (down before) (after before).asked)
-  called (falls node ∷ before) = []
-  called (replies node reply ∷ before) = []
-  called (is_before node ∷ before) = []
-  called (is_stale node incarnation ∷ before) = receivers_next (next (known before) (down before) node incarnation)
+  abbrev pub nodes_called : List Act → List ℕ
+  nodes_called [] = receivers (calls_for_a_view first gone [])
+  nodes_called (tells view ∷ before) = receivers (calls_for_a_view view (down_nodes before) (after before).asked)
+  nodes_called (falls node ∷ before) = []
+  nodes_called (replies node reply ∷ before) = []
+  nodes_called (is_before node ∷ before) = []
+  nodes_called (is_stale node incarnation ∷ before) = receivers_next (next (known_view before) (down_nodes before) node incarnation)
 
   abbrev pub fate : List Act → ℕ → Fate
-  fate [] node = if is_among (called []) node then waits else uncalled
-  fate (act ∷ before) node = if is_among (called (act ∷ before)) node then waits else answered node act (fate before node)
+  fate [] node = if is_among (nodes_called []) node then waits else uncalled
+  fate (act ∷ before) node = if is_among (nodes_called (act ∷ before)) node then waits else fate_after node act (fate before node)
 
   -- only who was called answers
   abbrev pub AreAnswers : List Act → Type 0
@@ -152,13 +152,13 @@ module _ (header : CallHeader) (body : List ℕ) (kind : Kind) (first : View) (g
 
   pub record CallsWhoIsOwed (acts : List Act) : Type 0 where
     -- nobody waits for a call: of each entry of the view that is known, and isn't down
-    pub served : (place : ℕ) (entry : Entry) → slice_get (known acts).entries place ≡ Some entry → is_among (down acts) entry.node ≡ false
-        → IsServed (known acts) (fate acts entry.node)
+    pub served : (place : ℕ) (entry : Entry) → slice_get (known_view acts).entries place ≡ Some entry → is_among (down_nodes acts) entry.node ≡ false
+        → IsServed (known_view acts) (fate acts entry.node)
     -- and nobody else is called: only an entry that isn't down, and is owed a call
-    pub only : (act : Act) (before : List Act) (node : ℕ) → acts ≡ act ∷ before → is_among (called acts) node ≡ true
-        → (has_node (known acts) node ≡ true) × (is_among (down before) node ≡ false) × IsOwedBy act (known acts) node (fate before node)
+    pub only : (act : Act) (before : List Act) (node : ℕ) → acts ≡ act ∷ before → is_among (nodes_called acts) node ≡ true
+        → (has_node (known_view acts) node ≡ true) × (is_among (down_nodes before) node ≡ false) × IsOwedBy act (known_view acts) node (fate before node)
     -- it is closed as each entry is down, or has answered with a reply or that the call is before its first one
-    pub closes : settled (known acts) (down acts) (after acts)
-        ≡ list_all (λ (entry : Entry). is_among (down acts) entry.node || is_done (fate acts entry.node)) (known acts).entries
+    pub closes : settled (known_view acts) (down_nodes acts) (after acts)
+        ≡ list_all (λ (entry : Entry). is_among (down_nodes acts) entry.node || is_done (fate acts entry.node)) (known_view acts).entries
     -- and what was said to it are the replies, in order
-    pub said : (after acts).said ≡ replied acts
+    pub said : (after acts).said ≡ replies_by acts

@@ -30,12 +30,12 @@ module _ {M : Type 0} (declared : M → Signature)
     (hosted : M) where
   -- what it does at boot
   abbrev pub boots : Doing M
-  boots = step.booted declared turn first place views beginning hosted
+  boots = step.boot_member declared turn first place views beginning hosted
 
   -- what it makes of what comes in a step behind a past
   abbrev pub makes_in : Past → ℕ → Occurrence → List Effect
   makes_in p at o =
-      (step.stepped declared turn at o
+      (step.step_member declared turn at o
       (after declared turn first place views beginning hosted p)).effects
 
   -- all that it has made by then, each with its step

@@ -17,7 +17,7 @@ use Rattle.circus_node.specs.declared.event.Event.{Event}
 use Rattle.circus_node.specs.declared.event.Event.TheVariants as comes
 use Rattle.circus_node.specs.Making.{hears, learns_down, is_told_to_join}
 use Rattle.circus_node.specs.NodeState.{NodeState}
-use Rattle.circus_node.specs.Step.{Ended, stepped}
+use Rattle.circus_node.specs.Step.{Ended, step_node}
 use Rattle.circus_schedule.specs.declared.line.Line.{Line}
 use Rattle.circus_world.specs.WorldState.{WorldState, Standing}
 use Rattle.circus_world.specs.Course.{Stepped}
@@ -59,14 +59,14 @@ module _ {M : Type 0} (declared : M → Signature)
   makes [] n = []
   makes (next ∷ events) n =
       then_on (made_in next.0 (effects_in declared turn next.0 next.1 n)) (makes events)
-      (stepped declared turn next.0 next.1 n)
+      (step_node declared turn next.0 next.1 n)
 
   -- and the differences that it gives
   abbrev pub tells : Events → NodeState M → List (ℕ × Difference)
   tells [] n = []
   tells (next ∷ events) n =
-      then_on (told_in next.0 (given_by (stepped declared turn next.0 next.1 n))) (tells events)
-      (stepped declared turn next.0 next.1 n)
+      then_on (told_in next.0 (given_by (step_node declared turn next.0 next.1 n))) (tells events)
+      (step_node declared turn next.0 next.1 n)
 
   module _ (first : M → List ValueTree) where
     -- all that a node has made which hosts this, from boot on
@@ -114,13 +114,13 @@ module _ {M : Type 0} (declared : M → Signature)
   makes_along [] w = []
   makes_along (line ∷ lines) w =
       then_along (by_line makes_then line w) (makes_along lines)
-      (course.stepped declared turn line w)
+      (course.step_line declared turn line w)
 
   abbrev pub tells_along : List Line → WorldState M → List (ℕ × Difference)
   tells_along [] w = []
   tells_along (line ∷ lines) w =
       then_along (by_line tells_then line w) (tells_along lines)
-      (course.stepped declared turn line w)
+      (course.step_line declared turn line w)
 
   -- the calls and returns that it hands to its pairs along lines
   abbrev pub hands_then : ℕ → Event → NodeState M → List (ℕ × WireAct Purpose)
@@ -132,7 +132,7 @@ module _ {M : Type 0} (declared : M → Signature)
   hands_along [] w = []
   hands_along (line ∷ lines) w =
       then_along (by_line hands_then line w) (hands_along lines)
-      (course.stepped declared turn line w)
+      (course.step_line declared turn line w)
 
   -- from boot on, where the nodes host these modules
   abbrev pub handed_of : (M → List ValueTree) → Deployment → List (Option M) → List Line

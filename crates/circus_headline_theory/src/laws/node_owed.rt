@@ -6,7 +6,7 @@ ghost use Rattle.circus_collate.specs.declared.deployment.Troupe.{Troupe};
 ghost use Rattle.circus_node.specs.declared.event.Event.{Event};
 ghost use Rattle.circus_node.specs.declared.event.Outputs.{Outputs};
 ghost use Rattle.circus_node.specs.NodeState.{NodeState};
-ghost use Rattle.circus_node.specs.Step.{stepped};
+ghost use Rattle.circus_node.specs.Step.{step_node};
 ghost use Rattle.circus_schedule.specs.declared.line.Line.{Line};
 ghost use Rattle.circus_world.specs.WorldState.{WorldState, Standing};
 ghost use Rattle.circus_timely.specs.Made.{AreDistinct};
@@ -68,6 +68,6 @@ pub fn worlds_hand_over_what_is_made<M: Module>()
 /// The differences that a step of a node gives are those that come of its event.
 pub fn steps_give_differences<M: Module>()
     ensures { (at : ℕ) (event : Event) (n next : NodeState M) (outputs : Outputs)
-        → stepped M.declared M.turn at event n ≡ Ok (next, outputs)
+        → step_node M.declared M.turn at event n ≡ Ok (next, outputs)
         → outputs.differences ≡ differences_in M.declared M.turn at event n }
 {}

@@ -7,8 +7,8 @@ use Rattle.circus_model.specs.declared.signature.Signature.{Signature}
 use Rattle.circus_machine.specs.declared.text.TextModule.{TextModule}
 use Rattle.circus_machine.specs.Modules.{turn_with}
 
-abbrev pub declared : TextModule → Signature
-declared m = m.parts.value.signature
+abbrev pub declared_signature : TextModule → Signature
+declared_signature m = m.parts.value.signature
 
 abbrev pub turn : TextModule → List ValueTree → ℕ → List ValueTree → List Outcome → NextTurn
 turn m = turn_with m.parts.value.signature m.parts.value.bodies

@@ -3,7 +3,7 @@ use Rattle.std.specs.Prelude.{◌≡◌, ℕ, ◌<◌, List, All, map, take, Res
 use Rattle.circus_value.specs.ValueTree.{ValueTree}
 use Rattle.circus_value.specs.ExternalSize.{external_size, size_of_values}
 use Rattle.circus_evaluate.specs.Got.{Got, Raising}
-use Rattle.circus_machine.specs.Storing.{stored_over, appended_over, kept}
+use Rattle.circus_machine.specs.Storing.{stored_over, appended_over, replace_variable}
 use Rattle.circus_evaluate.specs.declared.got.NoValue.{NoValue}
 use Rattle.circus_evaluate.specs.declared.got.NoValue.TheVariants.{Raises, NoMemory}
 use Rattle.circus_machine.specs.declared.store.Change.{Change}
@@ -27,9 +27,9 @@ pub record AreSized (v : Variables) : Type 0 where
 -- another value of a variable is kept, with the sizes that there are then, or it is too great
 abbrev pub Resized : ℕ → Variables → ℕ → ValueTree → Result Sizes LanguageError → Type 0
 Resized limit v index t (Ok sizes) =
-    (kept limit v.states v.values index t ≡ Ok (slice_set v.values index t))
+    (replace_variable limit v.states v.values index t ≡ Ok (slice_set v.values index t))
     × AreSized (record { values = slice_set v.values index t; states = v.states; sizes = slice_set v.sizes index sizes.variable; state_size = sizes.state })
-Resized limit v index t (Err error) = kept limit v.states v.values index t ≡ Err error
+Resized limit v index t (Err error) = replace_variable limit v.states v.values index t ≡ Err error
 
 -- the variables are those that are meant, or are as before where an error is raised
 abbrev pub Changed : Result (Unit {0}) NoValue → Raising (List ValueTree) → Variables → Variables → Type 0

@@ -8,7 +8,7 @@ use Rattle.circus_checked.specs.declared.expression.CheckedPlace.{CheckedPlace}
 use Rattle.circus_checked.specs.ExpressionTree.{ExpressionTree}
 use Rattle.circus_checked.specs.StatementTree.{StatementTree, StatementTrees, HandlerTrees, no_statements, more_statements, no_handlers, more_handlers}
 use Rattle.circus_checked.specs.StatementTree as statement
-use Rattle.circus_machine.specs.Meaning.{Going, Flow, goes_on, ends, asks, then_does, does, tested, called, filled, unhandled, catches}
+use Rattle.circus_machine.specs.Meaning.{Going, Flow, goes_on, ends, asks, then_does, does, test_condition, make_call, fill_places, raise_again, catches}
 
 -- what catches an error: the error, or none for every other one; where its values go; how far behind the ask it goes on
 pub record Catch : Type 0 where
@@ -59,25 +59,25 @@ abbrev mutual
 
 module _ (limit states : ℕ) where
   -- what catches an error that an ask at a place was answered with
-  abbrev pub caught : ℕ → List Catch → ℕ → List ValueTree → Going → Flow (ℕ × Going)
-  caught at [] error values c = unhandled error c.variables
-  caught at (h ∷ hs) error values c =
-      if catches h.error error then then_does (filled limit states h.places values c) (λ d. goes_on (suc at + h.offset, d)) else caught at hs error values c
+  abbrev pub catch_place : ℕ → List Catch → ℕ → List ValueTree → Going → Flow (ℕ × Going)
+  catch_place at [] error values c = raise_again error c.variables
+  catch_place at (h ∷ hs) error values c =
+      if catches h.error error then then_does (fill_places limit states h.places values c) (λ d. goes_on (suc at + h.offset, d)) else catch_place at hs error values c
 
   -- where the machine goes on behind an ask that got this reply
-  abbrev pub replied : ℕ → List CheckedPlace → List Catch → ℕ → Outcome → Going → Flow (ℕ × Going)
-  replied at places table skip (Returned results) c = then_does (filled limit states places results c) (λ d. goes_on (suc at + skip, d))
-  replied at places table skip (Raised error values) c = caught at table error values c
+  abbrev pub reply_place : ℕ → List CheckedPlace → List Catch → ℕ → Outcome → Going → Flow (ℕ × Going)
+  reply_place at places table skip (Returned results) c = then_does (fill_places limit states places results c) (λ d. goes_on (suc at + skip, d))
+  reply_place at places table skip (Raised error values) c = catch_place at table error values c
 
   -- where the machine goes on behind an instruction at a place
   abbrev pub act : Act → ℕ → Going → Flow (ℕ × Going)
   act (assign p e) at c = then_does (does limit states (statement.assign p e) c) (λ d. goes_on (suc at, d))
   act (append e p bound k) at c = then_does (does limit states (statement.append e p bound k) c) (λ d. goes_on (suc at, d))
-  act (unless e k) at c = then_does (tested limit states e c) (λ x. goes_on (if x.0 then suc at else suc at + k, x.1))
+  act (unless e k) at c = then_does (test_condition limit states e c) (λ x. goes_on (if x.0 then suc at else suc at + k, x.1))
   act (jump k) at c = goes_on (suc at + k, c)
-  act (again e k) at c = then_does (tested limit states e c) (λ x. goes_on (if x.0 then at - k else suc at, x.1))
+  act (again e k) at c = then_does (test_condition limit states e c) (λ x. goes_on (if x.0 then at - k else suc at, x.1))
   act (ask callee procedure es places table skip) at c =
-      then_does (called limit states callee procedure es c) (λ x. replied at places table skip x.0 x.1)
+      then_does (make_call limit states callee procedure es c) (λ x. reply_place at places table skip x.0 x.1)
   act (give es) at c = then_does (does limit states (statement.give es) c) (λ d. goes_on (suc at, d))
   act (raise error es) at c = then_does (does limit states (statement.raise error es) c) (λ d. goes_on (suc at, d))
 

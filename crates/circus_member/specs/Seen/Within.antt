@@ -6,7 +6,7 @@ use Rattle.circus_header.specs.declared.call.Request.{Request}
 use Rattle.circus_record.specs.declared.record.RunRecord.{RunRecord}
 use Rattle.circus_fanout.specs.Knowing as knowing
 use Rattle.circus_performing.specs.Performing.{last_of, open_ask}
-use Rattle.circus_member_rules.specs.MemberState.{Doing, adding}
+use Rattle.circus_member_rules.specs.MemberState.{Doing, add_effects}
 use Rattle.circus_member_rules.specs.Rules as rules
 use Rattle.circus_member_rules.specs.Step.{opened_ask, ended_run, known_by_table}
 
@@ -27,5 +27,5 @@ seen_by d request view =
     let m = d.member in
     let known = known_by_table m.known request view in
     let newer = knowing.is_newer m.known view in
-    adding (record d { member = record m { known = known; asks = if newer then rules.with_new_view known view m.asks else m.asks } })
+    add_effects (record d { member = record m { known = known; asks = if newer then rules.with_new_view known view m.asks else m.asks } })
     (if newer then rules.calls_for_a_new_view known view m.asks else [])

@@ -38,7 +38,7 @@ use Rattle.circus_member_rules.specs.MemberState.{MemberState}
 use Rattle.circus_node.specs.Bodies.{values_at, outcome_at, restored_in}
 use Rattle.circus_node.specs.Headers.{call_in, return_in}
 use Rattle.circus_node.specs.Seen.Can.{HasArguments}
-use Rattle.circus_node.specs.Accepting.{IsMemberOf, is_root, unpacks, called_by, imported, taken_call, accepted_call, taken_reply, taken_answer, accepted_answer, accepted}
+use Rattle.circus_node.specs.Accepting.{IsMemberOf, is_root, unpacks, called_by, imported_procedure, taken_call, accepted_call, taken_reply, taken_answer, accepted_answer, occurrence_of_heard}
 use Rattle.circus_member_theory.proofs.Accepting.Calls.{call_is_one}
 use Rattle.circus_member_theory.proofs.Accepting.Fitting.{are_at, found_fit, found_within, outcome_found_fits, state_found}
 use Rattle.circus_member_theory.proofs.Accepting.Options.{before_some, seen_some}
@@ -119,7 +119,7 @@ module _ {M : Type 0} (d : Deployment) (declared : Signature) (m : MemberState M
       by_open : (asking : Option Asking) → asking_of m.asks name ≡ asking → IfSome asking (IsReplyTo declared (length m.known.views) reply)
       by_open None none = tt
       by_open (Some a) some =
-          let p = before_some (λ (q : ProcedureShape). outcome_at q (limit_of d.format) at message) (option_and_then (imported declared) (called_by m name)) reply.outcome r.outcome_read in
+          let p = before_some (λ (q : ProcedureShape). outcome_at q (limit_of d.format) at message) (option_and_then (imported_procedure declared) (called_by m name)) reply.outcome r.outcome_read in
           let shape = sym (called_open declared m name a some) ∙ p.is in
           record {
             counts = ap length r.clock_is ∙ r.counts ∙ sym member.views;
@@ -142,7 +142,7 @@ module _ {M : Type 0} (d : Deployment) (declared : Signature) (m : MemberState M
       by_header (says.Snapshot count) at e = cc
       by_header says.Table at e = cc
 
-  pub accepted_can : (from : ℕ) (heard : Heard Purpose) (o : Occurrence) → AreHeardOctets heard → accepted d declared m from heard ≡ Some o → CanHappen declared m o
+  pub accepted_can : (from : ℕ) (heard : Heard Purpose) (o : Occurrence) → AreHeardOctets heard → occurrence_of_heard d declared m from heard ≡ Some o → CanHappen declared m o
   accepted_can from Dropped o octets is = cc
   accepted_can from Taken o octets is = cc
   accepted_can from (Called sender message) o octets is = call_can sender message o octets is

@@ -26,7 +26,7 @@ use Rattle.circus_member_rules.specs.declared.occurrence.Occurrence.{Occurrence}
 use Rattle.circus_member_rules.specs.declared.occurrence.Occurrence.TheVariants as comes
 use Rattle.circus_member_rules.specs.MemberState.{MemberState}
 use Rattle.circus_node.specs.Headers.{return_in, table_at}
-use Rattle.circus_node.specs.Accepting.{is_host_of, is_root, unpacks, is_in_order, may_ask, taken_ask, taken_fetch, recorded_ask, called_by, imported, outcome_of, taken_reply, may_tell, taken_table, accepted_table}
+use Rattle.circus_node.specs.Accepting.{is_host_of, is_root, unpacks, is_in_order, may_ask, taken_ask, taken_fetch, recorded_ask, called_by, imported_procedure, outcome_of, taken_reply, may_tell, taken_table, accepted_table}
 use Rattle.circus_member_theory.proofs.Accepting.Options.{before_some, seen_some}
 use Rattle.circus_member_theory.proofs.Accepting.Tables.{table_is_one}
 
@@ -117,10 +117,10 @@ imported_as declared callee procedure = option_and_then (λ (i : Import). proced
 
 -- what an open ask calls
 pub called_open : {M : Type 0} (declared : Signature) (m : MemberState M) (name : AskName) (a : Asking) → asking_of m.asks name ≡ Some a
-    → option_and_then (imported declared) (called_by m name) ≡ imported_as declared a.header.server a.header.procedure
+    → option_and_then (imported_procedure declared) (called_by m name) ≡ imported_as declared a.header.server a.header.procedure
 called_open declared m name a is =
     ap
-    (λ o. option_and_then (imported declared)
+    (λ o. option_and_then (imported_procedure declared)
     (option_map_or (λ (x : Asking). Some (record { troupe = x.header.server; procedure = x.header.procedure })) o (recorded_ask m.performing.kept name)))
     is
 

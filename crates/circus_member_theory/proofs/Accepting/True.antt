@@ -16,7 +16,7 @@ use Rattle.circus_member_rules.specs.declared.occurrence.Purpose.{Purpose}
 use Rattle.circus_member_rules.specs.MemberState.{MemberState}
 use Rattle.circus_truth.specs.Proper.{AreProper}
 use Rattle.circus_truth.specs.Truth.{IsTrueMember, IsTrueOccurrence, IsTrueCallFor, IsTrueReturn}
-use Rattle.circus_node.specs.Accepting.{accepted}
+use Rattle.circus_node.specs.Accepting.{occurrence_of_heard}
 use Rattle.circus_member_theory.proofs.Accepting.TrueCalls.{called_true}
 use Rattle.circus_member_theory.proofs.Accepting.TrueReturns.{returned_true}
 
@@ -26,7 +26,7 @@ module _ {M : Type 0} (declared : M → Signature) (turn : M → List ValueTree 
   pub call_is_true : (m : MemberState M) (from client : ℕ) (firsts : List ValueTree) (Other : Caller → List ℕ → Type 0)
       (sender : Caller) (message : List ℕ) (purpose : Purpose) (o : Occurrence)
       → m.place.troupe ≡ troupe → IsTrueCallFor (history_of program) client firsts Other purpose message → Called sender message
-      → accepted d (declared m.performing.hosted) m from (hears.Called sender message) ≡ Some o
+      → occurrence_of_heard d (declared m.performing.hosted) m from (hears.Called sender message) ≡ Some o
       → IsTrueOccurrence (history_of program) troupe (first m.performing.hosted) Called m o
   call_is_true m from client firsts Other sender message purpose o own true_call called is =
       called_true (history_of program) troupe (first m.performing.hosted) Called m d (declared m.performing.hosted) m.place.troupe own sender o
@@ -39,7 +39,7 @@ module _ {M : Type 0} (declared : M → Signature) (turn : M → List ValueTree 
       → IsTrueCallFor (history_of program) troupe (first m.performing.hosted) Called purpose call
       → IsTrueReturn (history_of program) server firsts (λ c l. l ≡ call) caller message
       → (server ≡ troupe → firsts ≡ first m.performing.hosted) → server < 32 → troupe < 32
-      → accepted d (declared m.performing.hosted) m from (hears.Returned number purpose message) ≡ Some o
+      → occurrence_of_heard d (declared m.performing.hosted) m from (hears.Returned number purpose message) ≡ Some o
       → IsTrueOccurrence (history_of program) troupe (first m.performing.hosted) Called m o
   return_is_true m from number server firsts caller purpose call message o at_own true_member true_call true_return own low own_low is =
       returned_true declared turn first program agree are proper d troupe Called m at_own server firsts caller call message from o

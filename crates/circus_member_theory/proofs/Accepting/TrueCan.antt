@@ -42,7 +42,7 @@ use Rattle.circus_truth.specs.Truth.{IsTrueCallFor, IsTrueReturn}
 use Rattle.circus_member_theory.proofs.Histories.{takes, answers}
 use Rattle.circus_node.specs.Bodies.{restored_in}
 use Rattle.circus_node.specs.Headers.{return_in}
-use Rattle.circus_node.specs.Accepting.{IsMemberOf, taken_answer, accepted}
+use Rattle.circus_node.specs.Accepting.{IsMemberOf, taken_answer, occurrence_of_heard}
 use Rattle.circus_member_theory.proofs.Accepting.Arguments.{values_octets}
 use Rattle.circus_member_theory.proofs.Accepting.Calls.{ask_no_fetch}
 use Rattle.circus_member_theory.proofs.Accepting.Can.{AreHeardOctets, accepted_can}
@@ -105,7 +105,7 @@ module _ {M : Type 0} (declared : M → Signature) (turn : M → List ValueTree 
   pub call_can : (m : MemberState M) (from client : ℕ) (b : Behaviour) (firsts : List ValueTree) (Other : Caller → List ℕ → Type 0)
       (sender : Caller) (message : List ℕ) (purpose : Purpose) (o : Occurrence)
       → IsMemberOf d m → IsAt program client b → IsTrueCallFor (history_of program) client firsts Other purpose message
-      → accepted d (declared m.performing.hosted) m from (hears.Called sender message) ≡ Some o → CanHappen (declared m.performing.hosted) m o
+      → occurrence_of_heard d (declared m.performing.hosted) m from (hears.Called sender message) ≡ Some o → CanHappen (declared m.performing.hosted) m o
   call_can m from client b firsts Other sender message purpose o member at true_call is =
       accepted_can d (declared m.performing.hosted) m member from (hears.Called sender message) o
       (true_call_octets program agree are client b firsts Other purpose message at true_call) is
@@ -116,15 +116,15 @@ module _ {M : Type 0} (declared : M → Signature) (turn : M → List ValueTree 
       → IsTrueCallFor (history_of program) troupe (first m.performing.hosted) Called purpose call
       → IsTrueReturn (history_of program) server firsts (λ c l. l ≡ call) caller message
       → (server ≡ troupe → firsts ≡ first m.performing.hosted) → server < 32 → troupe < 32
-      → accepted d (declared m.performing.hosted) m from (hears.Returned number purpose message) ≡ Some o → CanHappen (declared m.performing.hosted) m o
+      → occurrence_of_heard d (declared m.performing.hosted) m from (hears.Returned number purpose message) ≡ Some o → CanHappen (declared m.performing.hosted) m o
   return_can m from number server firsts caller purpose call message o member at_own true_call true_return own low own_low is = by_purpose purpose true_call is
     where
       by_octets : (p : Purpose) → AreHeardOctets (hears.Returned number p message)
-          → accepted d (declared m.performing.hosted) m from (hears.Returned number p message) ≡ Some o → CanHappen (declared m.performing.hosted) m o
+          → occurrence_of_heard d (declared m.performing.hosted) m from (hears.Returned number p message) ≡ Some o → CanHappen (declared m.performing.hosted) m o
       by_octets p octets e = accepted_can d (declared m.performing.hosted) m member from (hears.Returned number p message) o octets e
 
       by_purpose : (p : Purpose) → IsTrueCallFor (history_of program) troupe (first m.performing.hosted) Called p call
-          → accepted d (declared m.performing.hosted) m from (hears.Returned number p message) ≡ Some o → CanHappen (declared m.performing.hosted) m o
+          → occurrence_of_heard d (declared m.performing.hosted) m from (hears.Returned number p message) ≡ Some o → CanHappen (declared m.performing.hosted) m o
       by_purpose (for.Ask name to) a e = by_return true_return
         where
           by_return : IsTrueReturn (history_of program) server firsts (λ c l. l ≡ call) caller message → CanHappen (declared m.performing.hosted) m o

@@ -40,7 +40,7 @@ use Rattle.circus_truth.specs.Truth.{reply_to, Answers, IsNamed, IsTrueAsking, I
 use Rattle.circus_member_theory.proofs.Histories.{runs_are_few, state_is as state_of, answers, true_reply_is}
 use Rattle.circus_node.specs.Bodies.{outcome_at, restored_in}
 use Rattle.circus_node.specs.Headers.{return_in}
-use Rattle.circus_node.specs.Accepting.{imported, called_by, outcome_of, taken_reply, taken_answer, accepted_answer, accepted_table, accepted_state, accepted_return}
+use Rattle.circus_node.specs.Accepting.{imported_procedure, called_by, outcome_of, taken_reply, taken_answer, accepted_answer, accepted_table, accepted_state, accepted_return}
 use Rattle.circus_member_theory.proofs.Accepting.Calls.{ask_header, ask_no_fetch, fetch_troupe}
 use Rattle.circus_member_theory.proofs.Accepting.Entries.{ask_found}
 use Rattle.circus_member_theory.proofs.Accepting.Options.{before_some, seen_some}
@@ -90,7 +90,7 @@ module _ {M : Type 0} (declared : M → Signature) (turn : M → List ValueTree 
       let same_ask : named.ask ≡ ask = same_Some named.ask ask (sym named.there.ask_is ∙ ap (λ (r : Run). slice_get r.asks name.ask) same_run ∙ there.ask_is) in
       let server : a.header.server ≡ ask.callee = named.so.server ∙ ap (λ (x : Ask). x.callee) same_ask in
       let procedure : a.header.procedure ≡ ask.procedure = named.so.procedure ∙ ap (λ (x : Ask). x.procedure) same_ask in
-      let p = before_some (λ (q : ProcedureShape). outcome_at q (limit_of d.format) at message) (option_and_then (imported s) (called_by m name)) o read in
+      let p = before_some (λ (q : ProcedureShape). outcome_at q (limit_of d.format) at message) (option_and_then (imported_procedure s) (called_by m name)) o read in
       let shape : imported_as s ask.callee ask.procedure ≡ Some p.value =
       ap (imported_as s ask.callee) (sym procedure) ∙ ap (λ n. imported_as s n a.header.procedure) (sym server) ∙ sym (called_open s m name a is) ∙ p.is in
       let fit : outcome_fits p.value ask.reply ≡ true =

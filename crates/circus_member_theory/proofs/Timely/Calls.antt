@@ -15,7 +15,7 @@ use Rattle.circus_gather.specs.declared.added.Added.TheVariants as added
 use Rattle.circus_gather.specs.Gathering.{Gathered, index_of, is_of_index, reply_of, answer_to, is_held, with_call, with_start, is_known, is_counted, as_said, given_call, call_to_start, with_end, is_stale, with_required, is_before, with_first}
 use Rattle.circus_member_rules.specs.declared.place.Place.{Place}
 use Rattle.circus_member_rules.proofs.Named.{lookup-push}
-use Rattle.circus_timely.specs.Past.{Past, known, down, required, arrived}
+use Rattle.circus_timely.specs.Past.{Past, views_known, nodes_declared_down, required_incarnation, calls_arrived}
 use Rattle.circus_timely.specs.Timely.{collated_call}
 
 -- ---- lists that pass tests
@@ -58,38 +58,38 @@ module _ {X : Type 0} where
 
 -- a call of an index, not of an older view than required
 abbrev pub is_wanted : ℕ → ℕ → ℕ → HeldCall → Bool
-is_wanted own required index call = is_of_index own index call && nat_le required call.header.server_incarnation
+is_wanted own required_incarnation index call = is_of_index own index call && nat_le required_incarnation call.header.server_incarnation
 
 pub record IsLeft (g : Gathered) (calls : List HeldCall) : Type 0 where
-  pub same : (index required : ℕ) → g.from ≤ index → reply_of g index ≡ None → g.required ≤ required
-      → filter (is_wanted g.module required index) g.held ≡ filter (is_wanted g.module required index) calls
+  pub same : (index required_incarnation : ℕ) → g.from ≤ index → reply_of g index ≡ None → g.required ≤ required_incarnation
+      → filter (is_wanted g.module required_incarnation index) g.held ≡ filter (is_wanted g.module required_incarnation index) calls
 
-counted_wanted : (own required : ℕ) (views : List View) (index : ℕ) (calls : List HeldCall)
-    → filter (is_counted own required views index) calls ≡ filter (λ (c : HeldCall). is_known views c.header.client c.header.client_incarnation)
-    (filter (is_wanted own required index) calls)
+counted_wanted : (own required_incarnation : ℕ) (views : List View) (index : ℕ) (calls : List HeldCall)
+    → filter (is_counted own required_incarnation views index) calls ≡ filter (λ (c : HeldCall). is_known views c.header.client c.header.client_incarnation)
+    (filter (is_wanted own required_incarnation index) calls)
 unfolding is_counted
-counted_wanted own required views index calls =
-    filter_both (is_wanted own required index) (λ (c : HeldCall). is_known views c.header.client c.header.client_incarnation) calls
+counted_wanted own required_incarnation views index calls =
+    filter_both (is_wanted own required_incarnation index) (λ (c : HeldCall). is_known views c.header.client c.header.client_incarnation) calls
 
-wanted_index : (own required index : ℕ) (call : HeldCall) → is_wanted own required index call ≡ true → index_of own call.header ≡ index
-wanted_index own required index call is = eqb-true (index_of own call.header) index (and_left (is_of_index own index call) _ is)
+wanted_index : (own required_incarnation index : ℕ) (call : HeldCall) → is_wanted own required_incarnation index call ≡ true → index_of own call.header ≡ index
+wanted_index own required_incarnation index call is = eqb-true (index_of own call.header) index (and_left (is_of_index own index call) _ is)
 
-wanted_view : (own required index : ℕ) (call : HeldCall) → is_wanted own required index call ≡ true → required ≤ call.header.server_incarnation
-wanted_view own required index call is = leb-true required call.header.server_incarnation (and_right (is_of_index own index call) _ is)
+wanted_view : (own required_incarnation index : ℕ) (call : HeldCall) → is_wanted own required_incarnation index call ≡ true → required_incarnation ≤ call.header.server_incarnation
+wanted_view own required_incarnation index call is = leb-true required_incarnation call.header.server_incarnation (and_right (is_of_index own index call) _ is)
 
 -- a call that isn't held may not start
-module _ (g : Gathered) (call : HeldCall) (index required : ℕ) (from : g.from ≤ index) (fresh : reply_of g index ≡ None) (later : g.required ≤ required) where
-  other_index : (index_of g.module call.header ≡ index → ⊥) → is_wanted g.module required index call ≡ false
+module _ (g : Gathered) (call : HeldCall) (index required_incarnation : ℕ) (from : g.from ≤ index) (fresh : reply_of g index ≡ None) (later : g.required ≤ required_incarnation) where
+  other_index : (index_of g.module call.header ≡ index → ⊥) → is_wanted g.module required_incarnation index call ≡ false
   other_index other =
-      ap (λ b. b && nat_le required call.header.server_incarnation) (ne_eqb (index_of g.module call.header) index other)
+      ap (λ b. b && nat_le required_incarnation call.header.server_incarnation) (ne_eqb (index_of g.module call.header) index other)
 
   by_answer : (stale before : Bool) (reply : Option Reply) → nat_lt call.header.server_incarnation g.required ≡ stale → nat_lt (index_of g.module call.header) g.from ≡ before
       → reply_of g (index_of g.module call.header) ≡ reply
       → is_held (if stale then added.Stale g.required else if before then added.Before g.from else option_map_or added.Reply reply added.Held) ≡ false
-      → is_wanted g.module required index call ≡ false
+      → is_wanted g.module required_incarnation index call ≡ false
   by_answer true before reply old early replied out =
       let less = ltb-true call.header.server_incarnation g.required old in
-      ap (λ b. is_of_index g.module index call && b) (lt-leb required call.header.server_incarnation (omega (arith, less))) ∙ and_false (is_of_index g.module index call)
+      ap (λ b. is_of_index g.module index call && b) (lt-leb required_incarnation call.header.server_incarnation (omega (arith, less))) ∙ and_false (is_of_index g.module index call)
   by_answer false true reply old early replied out =
       let less = ltb-true (index_of g.module call.header) g.from early in
       other_index (λ same. omega (arith, less, same))
@@ -97,7 +97,7 @@ module _ (g : Gathered) (call : HeldCall) (index required : ℕ) (from : g.from 
   by_answer false false (Some reply) old early replied out =
       other_index (λ same. let some : reply_of g index ≡ Some reply = ap (λ i. reply_of g i) (sym same) ∙ replied in cc)
 
-  not_wanted : is_held (answer_to g call.header) ≡ false → is_wanted g.module required index call ≡ false
+  not_wanted : is_held (answer_to g call.header) ≡ false → is_wanted g.module required_incarnation index call ≡ false
   not_wanted out = by_answer (nat_lt call.header.server_incarnation g.required) (nat_lt (index_of g.module call.header) g.from)
       (reply_of g (index_of g.module call.header)) refl refl refl out
 
@@ -107,46 +107,46 @@ left_call g call calls h = by_test (is_held (answer_to g call.header)) refl
     by_test : (b : Bool) → is_held (answer_to g call.header) ≡ b → IsLeft (if b then record g { held = g.held ++ call ∷ [] } else g) (calls ++ call ∷ [])
     by_test true is =
         record {
-          same = λ index required from fresh later.
-              filter-append (is_wanted g.module required index) g.held (call ∷ [])
-              ∙ ap (λ xs. xs ++ filter (is_wanted g.module required index) (call ∷ [])) (h.same index required from fresh later)
-              ∙ sym (filter-append (is_wanted g.module required index) calls (call ∷ []));
+          same = λ index required_incarnation from fresh later.
+              filter-append (is_wanted g.module required_incarnation index) g.held (call ∷ [])
+              ∙ ap (λ xs. xs ++ filter (is_wanted g.module required_incarnation index) (call ∷ [])) (h.same index required_incarnation from fresh later)
+              ∙ sym (filter-append (is_wanted g.module required_incarnation index) calls (call ∷ []));
         }
     by_test false is =
         record {
-          same = λ index required from fresh later.
-              let out = not_wanted g call index required from fresh later is in
-              h.same index required from fresh later
-              ∙ sym (append-nil (filter (is_wanted g.module required index) calls))
-              ∙ ap (λ b. filter (is_wanted g.module required index) calls ++ cond b (call ∷ []) []) (sym out)
-              ∙ sym (filter-append (is_wanted g.module required index) calls (call ∷ []));
+          same = λ index required_incarnation from fresh later.
+              let out = not_wanted g call index required_incarnation from fresh later is in
+              h.same index required_incarnation from fresh later
+              ∙ sym (append-nil (filter (is_wanted g.module required_incarnation index) calls))
+              ∙ ap (λ b. filter (is_wanted g.module required_incarnation index) calls ++ cond b (call ∷ []) []) (sym out)
+              ∙ sym (filter-append (is_wanted g.module required_incarnation index) calls (call ∷ []));
         }
 
 pub left_required : (g : Gathered) (incarnation : ℕ) (calls : List HeldCall) → IsLeft g calls → IsLeft (with_required g incarnation) calls
 left_required g incarnation calls h =
     record {
-      same = λ index required from fresh later.
-          filter_kept (is_wanted g.module required index) (λ c. not (is_stale g (max g.required incarnation) c)) g.held (λ c is. stays c required index later is)
-          ∙ h.same index required from fresh (omega (arith, later));
+      same = λ index required_incarnation from fresh later.
+          filter_kept (is_wanted g.module required_incarnation index) (λ c. not (is_stale g (max g.required incarnation) c)) g.held (λ c is. stays c required_incarnation index later is)
+          ∙ h.same index required_incarnation from fresh (omega (arith, later));
     }
   where
-    stays : (c : HeldCall) (required index : ℕ) → max g.required incarnation ≤ required → is_wanted g.module required index c ≡ true
+    stays : (c : HeldCall) (required_incarnation index : ℕ) → max g.required incarnation ≤ required_incarnation → is_wanted g.module required_incarnation index c ≡ true
         → not (is_stale g (max g.required incarnation) c) ≡ true
-    stays c required index later is =
-        let view = wanted_view g.module required index c is in
+    stays c required_incarnation index later is =
+        let view = wanted_view g.module required_incarnation index c is in
         rw (le-ltb c.header.server_incarnation (max g.required incarnation) (omega (arith, view, later))) refl
 
 pub left_first : (g : Gathered) (first : ℕ) (calls : List HeldCall) → g.from ≡ 0 → IsLeft g calls → IsLeft (with_first g first) calls
 left_first g first calls none h =
     record {
-      same = λ index required from fresh later.
-          filter_kept (is_wanted g.module required index) (λ c. not (is_before g first c)) g.held (λ c is. stays c required index from is)
-          ∙ h.same index required (omega (arith, none)) fresh later;
+      same = λ index required_incarnation from fresh later.
+          filter_kept (is_wanted g.module required_incarnation index) (λ c. not (is_before g first c)) g.held (λ c is. stays c required_incarnation index from is)
+          ∙ h.same index required_incarnation (omega (arith, none)) fresh later;
     }
   where
-    stays : (c : HeldCall) (required index : ℕ) → first ≤ index → is_wanted g.module required index c ≡ true → not (is_before g first c) ≡ true
-    stays c required index from is =
-        let same = wanted_index g.module required index c is in
+    stays : (c : HeldCall) (required_incarnation index : ℕ) → first ≤ index → is_wanted g.module required_incarnation index c ≡ true → not (is_before g first c) ≡ true
+    stays c required_incarnation index from is =
+        let same = wanted_index g.module required_incarnation index c is in
         ap not (le-ltb (index_of g.module c.header) first (omega (arith, same, from)))
 
 pub left_start : (g : Gathered) (index : ℕ) (calls : List HeldCall) → IsLeft g calls → IsLeft (with_start g index) calls
@@ -155,10 +155,10 @@ left_start g index calls h = record { same = h.same }
 pub left_end : (g : Gathered) (index : ℕ) (reply : Reply) (calls : List HeldCall) → IsLeft g calls → IsLeft (with_end g index reply) calls
 left_end g ended reply calls h =
     record {
-      same = λ index required from fresh later.
+      same = λ index required_incarnation from fresh later.
           let two = by_reply index (lookup (nat_eq index) g.replies) (nat_eq index ended) (sym (lookup-push (nat_eq index) g.replies (ended, reply)) ∙ fresh) in
-          filter_kept (is_wanted g.module required index) (λ c. not (is_of_index g.module ended c)) g.held (λ c is. stays c required index two.1 is)
-          ∙ h.same index required from two.0 later;
+          filter_kept (is_wanted g.module required_incarnation index) (λ c. not (is_of_index g.module ended c)) g.held (λ c is. stays c required_incarnation index two.1 is)
+          ∙ h.same index required_incarnation from two.0 later;
     }
   where
     by_reply : (index : ℕ) (o : Option Reply) (same : Bool) → option_map_or Some o (cond same (Some reply) None) ≡ None → (o ≡ None) × (same ≡ false)
@@ -166,22 +166,22 @@ left_end g ended reply calls h =
     by_reply index None false is = (refl, refl)
     by_reply index (Some r) same is = absurd cc
 
-    stays : (c : HeldCall) (required index : ℕ) → nat_eq index ended ≡ false → is_wanted g.module required index c ≡ true → not (is_of_index g.module ended c) ≡ true
-    stays c required index other is =
-        let same = wanted_index g.module required index c is in
+    stays : (c : HeldCall) (required_incarnation index : ℕ) → nat_eq index ended ≡ false → is_wanted g.module required_incarnation index c ≡ true → not (is_of_index g.module ended c) ≡ true
+    stays c required_incarnation index other is =
+        let same = wanted_index g.module required_incarnation index c is in
         ap (λ i. not (nat_eq i ended)) same ∙ ap not other
 
 -- ---- so the call that starts is that of all that arrived
 
-pub call_is : (place : Place) (boot : List View) (begins : Joiner) (g : Gathered) (views : List View) (gone : List ℕ) (index : ℕ) (p : Past) → IsLeft g (arrived p)
+pub call_is : (place : Place) (boot : List View) (begins : Joiner) (g : Gathered) (views : List View) (gone : List ℕ) (index : ℕ) (p : Past) → IsLeft g (calls_arrived p)
     → g.module ≡ place.troupe
-    → g.required ≡ required p → views ≡ known boot p → gone ≡ down p → g.from ≤ index → reply_of g index ≡ None
+    → g.required ≡ required_incarnation p → views ≡ views_known boot p → gone ≡ nodes_declared_down p → g.from ≤ index → reply_of g index ≡ None
     → call_to_start g views gone place.calls index ≡ collated_call place boot begins index p
 call_is place boot begins g views gone index p left own least views_are down_are from fresh =
     let counts : ℕ → ℕ → List View → List HeldCall → List HeldCall = λ o r vs calls. filter (is_counted o r vs index) calls in
-    let over : counts g.module g.required views g.held ≡ counts g.module g.required views (arrived p) =
+    let over : counts g.module g.required views g.held ≡ counts g.module g.required views (calls_arrived p) =
     counted_wanted g.module g.required views index g.held
     ∙ ap (filter (λ (c : HeldCall). is_known views c.header.client c.header.client_incarnation)) (left.same index g.required from fresh (omega arith))
-    ∙ sym (counted_wanted g.module g.required views index (arrived p)) in
+    ∙ sym (counted_wanted g.module g.required views index (calls_arrived p)) in
     ap (λ calls. given_call views gone place.calls (map as_said calls)) over
-    ∙ (λ j. given_call (views_are j) (down_are j) place.calls (map as_said (filter (is_counted (own j) (least j) (views_are j) index) (arrived p))))
+    ∙ (λ j. given_call (views_are j) (down_are j) place.calls (map as_said (filter (is_counted (own j) (least j) (views_are j) index) (calls_arrived p))))

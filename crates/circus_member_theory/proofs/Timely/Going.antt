@@ -18,15 +18,15 @@ use Rattle.circus_record.specs.declared.record.MemberRecord.{MemberRecord}
 use Rattle.circus_gather.specs.declared.held.HeldCall.{HeldCall}
 use Rattle.circus_gather.specs.Gathering.{reply_of, call_to_start}
 use Rattle.circus_performing.specs.declared.start.RunStart.{RunStart}
-use Rattle.circus_performing.specs.Performing.{is_active, state_after, last_of, open_ask, begun, answered_ask, gone_on, with_run, most_turns, last_count, answered}
+use Rattle.circus_performing.specs.Performing.{is_active, state_after, last_of, open_ask, begin_run, answered_ask, gone_on, with_run, most_turns, last_count, answer_open_ask}
 use Rattle.circus_performing.specs.Record.{start_of, turns, behaviour, IsPerforming, IsRecord}
 use Rattle.circus_performing.proofs.Ends.{last_more}
 use Rattle.circus_performing.proofs.Records.{none_is_some, performing_has_one, with_answer, answered_is}
 use Rattle.circus_member_rules.specs.declared.place.Place.{Place}
 use Rattle.circus_member_rules.specs.OpenAsks.{asking_of}
 use Rattle.circus_member_rules.specs.Rules.{index_of_last, value_of_ask, snapshots_owed}
-use Rattle.circus_member_rules.specs.MemberState.{MemberState, Doing, adding}
-use Rattle.circus_member_rules.specs.Step.{name_of_last, is_idle, start_by_call, main_start, next_start, value_of_open, given_states, answered_by, answered_open, entered, starting, executed}
+use Rattle.circus_member_rules.specs.MemberState.{MemberState, Doing, add_effects}
+use Rattle.circus_member_rules.specs.Step.{name_of_last, is_idle, start_by_call, main_start, next_start, value_of_open, given_states, answered_by, answered_open, enter_run_of, start_runs, execute}
 use Rattle.circus_member_rules.specs.Seen.Sound.{MayStart}
 use Rattle.circus_member_rules.proofs.Writing.{one_is_performing, none_is_idle}
 use Rattle.circus_member_rules.proofs.Entering.{with_entered, turned_by_start, has_value, with_answered, turned_by_reply}
@@ -116,7 +116,7 @@ module _ {M : Type 0} (declared : M → Signature) (turn : M → List ValueTree 
       → (at_boot ≤ length d.member.performing.kept.runs
       → IsSomeAnd (first_given (may d.member.performing.kept.from d.member.performing.kept.runs (length d.member.performing.kept.runs)) p)
       (λ given. (now p ≡ given.0) × (start ≡ start_by_call place.troupe (declared hosted).procedures given.1)))
-      → d.member.performing.kept.from + length d.member.performing.kept.runs ≤ last_count → GoesNow (entered turn (now p) d start).member
+      → d.member.performing.kept.from + length d.member.performing.kept.runs ≤ last_count → GoesNow (enter_run_of turn (now p) d start).member
   goes_entered d start before sound may_so h runs_so enough main starts few =
       let m = d.member in
       let kept = m.performing.kept in
@@ -125,10 +125,10 @@ module _ {M : Type 0} (declared : M → Signature) (turn : M → List ValueTree 
       let e : Doing M = record d { member = with_entered b law m (now p) start } in
       let t = turned_by_start b law m (now p) start sound may_so in
       let on = b.turn kept.state start.procedure start.arguments in
-      let gone = gone_on (now p) on most_turns (begun (now p) start) in
+      let gone = gone_on (now p) on most_turns (begin_run (now p) start) in
       let none : AsksSo (InTime kept.from (length kept.runs)) start.clock [] = λ n ask there left. absurd (none_is_some there) in
       let asked : AsksSo AskedNow start.clock [] = λ n ask there left. absurd (none_is_some there) in
-      let g = gone_well b m.performing.began kept on (begun (now p) start) t.kept refl (record { boots = main; starts = starts; answers = none }) asked runs_so in
+      let g = gone_well b m.performing.began kept on (begin_run (now p) start) t.kept refl (record { boots = main; starts = starts; answers = none }) asked runs_so in
       let long : length (kept.runs ++ gone ∷ []) ≡ length kept.runs + 1 = length-append kept.runs (gone ∷ []) in
       let w = h.well in
       goes_after_turns declared turn first lawful place boot begins hosted at_boot p rises e t g.new
@@ -207,7 +207,7 @@ module _ {M : Type 0} (declared : M → Signature) (turn : M → List ValueTree 
       let run = with_answer b law began kept q (now p) reply.outcome reply.clock in
       let on = turns b (state_after began q.before) (start_of q.run) in
       let gone = gone_on (now p) on most_turns run in
-      let kept_is : answered b.turn began (now p) reply.outcome reply.clock kept ≡ with_run before gone = answered_is b law began kept q (now p) reply.outcome reply.clock in
+      let kept_is : answer_open_ask b.turn began (now p) reply.outcome reply.clock kept ≡ with_run before gone = answered_is b law began kept q (now p) reply.outcome reply.clock in
       let all : RunsSo place boot begins (declared hosted).procedures at_boot p from (q.before ++ q.run ∷ []) =
       subst (λ xs. RunsSo place boot begins (declared hosted).procedures at_boot p from xs) q.runs_are h.well.runs in
       let less = runs_less place boot begins (declared hosted).procedures at_boot p rises from q.before q.run all in
@@ -323,13 +323,13 @@ module _ {M : Type 0} (declared : M → Signature) (turn : M → List ValueTree 
   goes_given : (d : Doing M) → GoesNow d.member → GoesNow (given_states d).member
   goes_given d h = by_test (is_idle d.member.performing.kept)
     where
-      by_test : (t : Bool) → let e = if t then adding (record d { member = record d.member { requests = [] } }) (snapshots_owed d.member.performing.kept d.member.requests)
+      by_test : (t : Bool) → let e = if t then add_effects (record d { member = record d.member { requests = [] } }) (snapshots_owed d.member.performing.kept d.member.requests)
           else d in GoesNow e.member
       by_test true = h
       by_test false = h
 
   goes_started : (d : Doing M) (call : HeldCall) → IsSoundNow declared turn first lawful d.member → GoesNow d.member → next_start d.member ≡ Some call
-      → GoesNow (entered turn (now p) d (start_by declared turn first lawful (now p) d.member call)).member
+      → GoesNow (enter_run_of turn (now p) d (start_by declared turn first lawful (now p) d.member call)).member
   goes_started d call sound h next =
       let m = d.member in
       let b = behaviour declared turn first m.performing.hosted in
@@ -344,31 +344,31 @@ module _ {M : Type 0} (declared : M → Signature) (turn : M → List ValueTree 
       (λ _. subst (λ o. IsSomeAnd o (λ given. (now p ≡ given.0) × (start ≡ start_by_call place.troupe (declared hosted).procedures given.1))) (sym first_now_is) (refl, same))
       (few_now m call sound h next)
 
-  goes_starting : (left : ℕ) (d : Doing M) → IsSoundNow declared turn first lawful d.member → GoesNow d.member → GoesNow (starting declared turn (now p) left d).member
-  unfolding starting
+  goes_starting : (left : ℕ) (d : Doing M) → IsSoundNow declared turn first lawful d.member → GoesNow d.member → GoesNow (start_runs declared turn (now p) left d).member
+  unfolding start_runs
   goes_starting zero d sound h = goes_given d h
   goes_starting (suc left) d sound h = by_next (goes_starting left) (given_states d) (sound_given declared turn first lawful d sound) (goes_given d h)
     where
-      by_call : ((f : Doing M) → IsSoundNow declared turn first lawful f.member → GoesNow f.member → GoesNow (starting declared turn (now p) left f).member) → (e : Doing M)
+      by_call : ((f : Doing M) → IsSoundNow declared turn first lawful f.member → GoesNow f.member → GoesNow (start_runs declared turn (now p) left f).member) → (e : Doing M)
           → IsSoundNow declared turn first lawful e.member → GoesNow e.member → (o : Option HeldCall) → next_start e.member ≡ o
-          → let f = option_map_or (λ call. starting declared turn (now p) left (entered turn (now p) e
+          → let f = option_map_or (λ call. start_runs declared turn (now p) left (enter_run_of turn (now p) e
           (start_by_call e.member.place.troupe (declared e.member.performing.hosted).procedures call))) o e in GoesNow f.member
       by_call rest e sound goes None next = goes
       by_call rest e sound goes (Some call) next =
           let b = behaviour declared turn first e.member.performing.hosted in
           let start = start_by declared turn first lawful (now p) e.member call in
-          let f = entered turn (now p) e start in
+          let f = enter_run_of turn (now p) e start in
           rest f (sound_entered declared turn first lawful (now p) e start sound (may_start b e.member call (next_is_ready b e.member call sound next)))
           (goes_started e call sound goes next)
 
-      by_next : ((f : Doing M) → IsSoundNow declared turn first lawful f.member → GoesNow f.member → GoesNow (starting declared turn (now p) left f).member) → (e : Doing M)
+      by_next : ((f : Doing M) → IsSoundNow declared turn first lawful f.member → GoesNow f.member → GoesNow (start_runs declared turn (now p) left f).member) → (e : Doing M)
           → IsSoundNow declared turn first lawful e.member → GoesNow e.member
-          → let f = option_map_or (λ call. starting declared turn (now p) left (entered turn (now p) e
+          → let f = option_map_or (λ call. start_runs declared turn (now p) left (enter_run_of turn (now p) e
           (start_by_call e.member.place.troupe (declared e.member.performing.hosted).procedures call)))
           (next_start e.member) e in GoesNow f.member
       by_next rest e sound goes = by_call rest e sound goes (next_start e.member) refl
 
-  pub goes_executed : (d : Doing M) → IsSoundNow declared turn first lawful d.member → GoesNow d.member → GoesNow (executed declared turn (now p) d).member
+  pub goes_executed : (d : Doing M) → IsSoundNow declared turn first lawful d.member → GoesNow d.member → GoesNow (execute declared turn (now p) d).member
   goes_executed d sound h =
       let e = answered_open turn (now p) d in
       goes_starting (length e.member.gathered.held) e (sound_answered declared turn first lawful (now p) d sound) (goes_answered d sound h)

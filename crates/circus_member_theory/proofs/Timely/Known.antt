@@ -21,10 +21,10 @@ use Rattle.circus_member_rules.specs.declared.occurrence.Occurrence.{Occurrence}
 use Rattle.circus_member_rules.specs.declared.occurrence.Occurrence.TheVariants as comes
 use Rattle.circus_member_rules.specs.Rules.{wanted_by_call, active_call, before_answers}
 use Rattle.circus_member_rules.specs.MemberState.{MemberState, Doing}
-use Rattle.circus_member_rules.specs.Step.{is_join, answered_by_ring, handled}
+use Rattle.circus_member_rules.specs.Step.{is_join, answered_by_ring, handle}
 use Rattle.circus_member_rules.proofs.Homes.{ring_views, ring_down, called_views, declared_views, told_down}
 use Rattle.circus_member_theory.specs.Ranges.{InRange}
-use Rattle.circus_timely.specs.Past.{Past, booted, followed, is_newer, with_view, known, down, required, arrived, is_asking, taken_in as way_in, phase, fetched}
+use Rattle.circus_timely.specs.Past.{Past, booted, followed, is_newer, with_view, views_known, nodes_declared_down, required_incarnation, calls_arrived, is_asking, taken_in as way_in, phase, snapshot_fetched}
 use Rattle.circus_timely.specs.First.{first_given}
 use Rattle.circus_member_theory.proofs.Timely.Firsts.{first_now, none_yet, none_now, given_before}
 use Rattle.circus_member_theory.proofs.Timely.Phases.{once_told, once_tabled, once_restored, inactive_told, inactive_tabled, inactive_restored}
@@ -32,7 +32,7 @@ use Rattle.circus_member_theory.proofs.Timely.Calls.{IsLeft, left_call, left_req
 
 -- ---- views, and nodes that are down
 
-pub told_views : (k : Knowing) (view : View) → (knowing.told k view).views ≡ with_view k.views view
+pub told_views : (k : Knowing) (view : View) → (knowing.note_view k view).views ≡ with_view k.views view
 told_views k view = by_test (knowing.is_newer k view)
   where
     by_test : (b : Bool) → let t : Knowing = if b then record k { views = slice_set k.views view.troupe view } else k in t.views ≡
@@ -42,11 +42,11 @@ told_views k view = by_test (knowing.is_newer k view)
 
 pub called_down : (a : Added) (header : CallHeader) (k : Knowing) → (wanted_by_call a header k).down ≡ k.down
 called_down (added.Reply reply) header k = refl
-called_down (added.Stale required) header k = refl
+called_down (added.Stale required_incarnation) header k = refl
 called_down (added.Before first) header k = refl
 called_down added.Held header k = refl
 
-pub declared_down : (k : Knowing) (node : ℕ) → (knowing.declared k node).down ≡ (if is_among k.down node then k.down else k.down ++ node ∷ [])
+pub declared_down : (k : Knowing) (node : ℕ) → (knowing.note_down k node).down ≡ (if is_among k.down node then k.down else k.down ++ node ∷ [])
 declared_down k node = by_test (is_among k.down node)
   where
     by_test : (b : Bool) → let t : Knowing = if b then k else record k { down = k.down ++ node ∷ [] } in t.down ≡ (if b then k.down else k.down ++ node ∷ [])
@@ -60,9 +60,9 @@ with_view_long views view = by_test (is_newer views view)
     by_test true = length-set views view.troupe view
     by_test false = refl
 
-pub known_long : (boot : List View) (p : Past) → length (known boot p) ≡ length boot
+pub known_long : (boot : List View) (p : Past) → length (views_known boot p) ≡ length boot
 known_long boot booted = refl
-known_long boot (followed p at (comes.Told request table)) = with_view_long (known boot p) table.view ∙ known_long boot p
+known_long boot (followed p at (comes.Told request table)) = with_view_long (views_known boot p) table.view ∙ known_long boot p
 known_long boot (followed p at (comes.Asked header body sender)) = known_long boot p
 known_long boot (followed p at (comes.Fetched incarnation sender)) = known_long boot p
 known_long boot (followed p at (comes.Replied name from reply)) = known_long boot p
@@ -73,14 +73,14 @@ known_long boot (followed p at (comes.Declared node)) = known_long boot p
 known_long boot (followed p at comes.Joins) = known_long boot p
 
 pub record Knows (boot : List View) (q : Past) (k : Knowing) : Type 0 where
-  pub views : k.views ≡ known boot q
-  pub gone : k.down ≡ down q
+  pub views : k.views ≡ views_known boot q
+  pub gone : k.down ≡ nodes_declared_down q
 
 -- ---- calls
 
 pub record HoldsSo (q : Past) (g : Gathered) : Type 0 where
-  pub least : g.required ≡ required q
-  pub left : IsLeft g (arrived q)
+  pub least : g.required ≡ required_incarnation q
+  pub left : IsLeft g (calls_arrived q)
 
 called_rest : (g : Gathered) (call : HeldCall) → (with_call g call).required ≡ g.required
 called_rest g call = by_test (is_held (answer_to g call.header))
@@ -99,7 +99,7 @@ ActiveSo kept (Some given) = (is_active kept.phase ≡ true) × (kept.active_at 
 pub record IsOnItsWay (begins : Joiner) (q : Past) (kept : MemberRecord) : Type 0 where
   pub phase_is : kept.phase ≡ phase begins q
   pub outside : is_active kept.phase ≡ false → kept.from ≡ 0
-  pub active : ActiveSo kept (first_given (fetched begins) q)
+  pub active : ActiveSo kept (first_given (snapshot_fetched begins) q)
   pub few : kept.from ≤ last_count
 
 joined_is : (ph : Joiner) (count : ℕ) → is_fetching ph ≡ true → Active count ≡ after_state count ph
@@ -137,7 +137,7 @@ inactive_none begins gives none (followed p step o) is =
 -- ---- behind what happens
 
 module _ (boot : List View) (begins : Joiner) (p : Past) (step : ℕ) where
-  pub knows_handled : {M : Type 0} (o : Occurrence) (m : MemberState M) → Knows boot p m.known → Knows boot (followed p step o) (handled step o m).member.known
+  pub knows_handled : {M : Type 0} (o : Occurrence) (m : MemberState M) → Knows boot p m.known → Knows boot (followed p step o) (handle step o m).member.known
   knows_handled (comes.Asked header body sender) m h =
       record { views = called_views (answer_to m.gathered header) header m.known ∙ h.views; gone = called_down (answer_to m.gathered header) header m.known ∙ h.gone }
   knows_handled (comes.Fetched incarnation sender) m h = record { views = h.views; gone = h.gone }
@@ -167,12 +167,12 @@ module _ (boot : List View) (begins : Joiner) (p : Past) (step : ℕ) where
 
   pub holds_handled : {M : Type 0} (o : Occurrence) (m : MemberState M) → m.gathered.from ≡ m.performing.kept.from
       → (is_active m.performing.kept.phase ≡ false → m.performing.kept.from ≡ 0)
-      → HoldsSo p m.gathered → HoldsSo (followed p step o) (handled step o m).member.gathered
+      → HoldsSo p m.gathered → HoldsSo (followed p step o) (handle step o m).member.gathered
   holds_handled (comes.Asked header body sender) m from outside h =
       let call : HeldCall = record { header = header; body = body; sender = sender } in
-      record { least = called_rest m.gathered call ∙ h.least; left = left_call m.gathered call (arrived p) h.left }
+      record { least = called_rest m.gathered call ∙ h.least; left = left_call m.gathered call (calls_arrived p) h.left }
   holds_handled (comes.Fetched incarnation sender) m from outside h =
-      record { least = ap (λ n. max n incarnation) h.least; left = left_required m.gathered incarnation (arrived p) h.left }
+      record { least = ap (λ n. max n incarnation) h.least; left = left_required m.gathered incarnation (calls_arrived p) h.left }
   holds_handled (comes.Replied name from_node reply) m from outside h = record { least = h.least; left = h.left }
   holds_handled (comes.IsStale name server from_node incarnation) m from outside h = record { least = h.least; left = h.left }
   holds_handled (comes.IsBefore name from_node) m from outside h = record { least = h.least; left = h.left }
@@ -184,30 +184,30 @@ module _ (boot : List View) (begins : Joiner) (p : Past) (step : ℕ) where
         effects = active_call m.place m.known count ++ before_answers m.gathered count;
       } else record { member = m; effects = [] } in HoldsSo (followed p step (comes.Restored state count)) d.member.gathered
       by_test true is =
-          record { least = h.least; left = left_first m.gathered count (arrived p) (from ∙ outside (fetching_is_inactive m.performing.kept.phase is)) h.left }
+          record { least = h.least; left = left_first m.gathered count (calls_arrived p) (from ∙ outside (fetching_is_inactive m.performing.kept.phase is)) h.left }
       by_test false is = record { least = h.least; left = h.left }
   holds_handled (comes.Declared node) m from outside h = record { least = h.least; left = h.left }
   holds_handled comes.Joins m from outside h = record { least = h.least; left = h.left }
 
   -- no state comes
-  active_still : (o : Occurrence) (kept later : MemberRecord) → fetched begins (followed p step o) ≡ fetched begins p → later.active_at ≡ kept.active_at → later.from ≡ kept.from
-      → (is_active later.phase ≡ false → is_active kept.phase ≡ false) → ActiveSo kept (first_given (fetched begins) p)
-      → ActiveSo later (first_given (fetched begins) (followed p step o))
-  active_still o kept later same at from still h = by_given (first_given (fetched begins) p) refl h
+  active_still : (o : Occurrence) (kept later : MemberRecord) → snapshot_fetched begins (followed p step o) ≡ snapshot_fetched begins p → later.active_at ≡ kept.active_at → later.from ≡ kept.from
+      → (is_active later.phase ≡ false → is_active kept.phase ≡ false) → ActiveSo kept (first_given (snapshot_fetched begins) p)
+      → ActiveSo later (first_given (snapshot_fetched begins) (followed p step o))
+  active_still o kept later same at from still h = by_given (first_given (snapshot_fetched begins) p) refl h
     where
       by_phase : (b : Bool) → is_active later.phase ≡ b → is_active kept.phase ≡ true → b ≡ true
       by_phase true is was = refl
       by_phase false is was = absurd (true≢false (sym was ∙ still is))
 
-      by_given : (given : Option (ℕ × (List ValueTree × ℕ))) → first_given (fetched begins) p ≡ given → ActiveSo kept given
-          → ActiveSo later (first_given (fetched begins) (followed p step o))
+      by_given : (given : Option (ℕ × (List ValueTree × ℕ))) → first_given (snapshot_fetched begins) p ≡ given → ActiveSo kept given
+          → ActiveSo later (first_given (snapshot_fetched begins) (followed p step o))
       by_given None none a =
-          let nothing = none_yet (fetched begins) (followed p step o) none (same ∙ none_now (fetched begins) p none) in
+          let nothing = none_yet (snapshot_fetched begins) (followed p step o) none (same ∙ none_now (snapshot_fetched begins) p none) in
           subst (ActiveSo later) (sym nothing) tt
       by_given (Some given) some a =
-          subst (ActiveSo later) (sym (given_before (fetched begins) (followed p step o) given some)) (by_phase (is_active later.phase) refl a.0, at ∙ a.1, from ∙ a.2)
+          subst (ActiveSo later) (sym (given_before (snapshot_fetched begins) (followed p step o) given some)) (by_phase (is_active later.phase) refl a.0, at ∙ a.1, from ∙ a.2)
 
-  way_same : (o : Occurrence) (kept later : MemberRecord) → fetched begins (followed p step o) ≡ fetched begins p → later.active_at ≡ kept.active_at → later.from ≡ kept.from
+  way_same : (o : Occurrence) (kept later : MemberRecord) → snapshot_fetched begins (followed p step o) ≡ snapshot_fetched begins p → later.active_at ≡ kept.active_at → later.from ≡ kept.from
       → (is_active later.phase ≡ false → is_active kept.phase ≡ false) → later.phase ≡ phase begins (followed p step o) → IsOnItsWay begins p kept
       → IsOnItsWay begins (followed p step o) later
   way_same o kept later same at from still phase_is h =
@@ -219,7 +219,7 @@ module _ (boot : List View) (begins : Joiner) (p : Past) (step : ℕ) where
       }
 
   pub way_handled : {M : Type 0} (o : Occurrence) (m : MemberState M) → InRange o → IsOnItsWay begins p m.performing.kept
-      → IsOnItsWay begins (followed p step o) (handled step o m).member.performing.kept
+      → IsOnItsWay begins (followed p step o) (handle step o m).member.performing.kept
   way_handled (comes.Asked header body sender) m within h = way_same (comes.Asked header body sender) m.performing.kept m.performing.kept refl refl refl (λ is. is) h.phase_is h
   way_handled (comes.Fetched incarnation sender) m within h = way_same (comes.Fetched incarnation sender) m.performing.kept m.performing.kept refl refl refl (λ is. is) h.phase_is h
   way_handled (comes.Replied name from reply) m within h = way_same (comes.Replied name from reply) m.performing.kept m.performing.kept refl refl refl (λ is. is) h.phase_is h
@@ -240,11 +240,11 @@ module _ (boot : List View) (begins : Joiner) (p : Past) (step : ℕ) where
       o : Occurrence
       o = comes.Restored state count
 
-      by_given : is_fetching m.performing.kept.phase ≡ true → (given : Option (ℕ × (List ValueTree × ℕ))) → first_given (fetched begins) p ≡ given → ActiveSo m.performing.kept given
-          → first_given (fetched begins) (followed p step o) ≡ Some (step, (state, count))
+      by_given : is_fetching m.performing.kept.phase ≡ true → (given : Option (ℕ × (List ValueTree × ℕ))) → first_given (snapshot_fetched begins) p ≡ given → ActiveSo m.performing.kept given
+          → first_given (snapshot_fetched begins) (followed p step o) ≡ Some (step, (state, count))
       by_given is None none a =
           let now_is : is_fetching (phase begins p) ≡ true = ap is_fetching (sym h.phase_is) ∙ is in
-          first_now (fetched begins) (followed p step o) (state, count) none (rw now_is refl)
+          first_now (snapshot_fetched begins) (followed p step o) (state, count) none (rw now_is refl)
       by_given is (Some given) some a = absurd (true≢false (sym a.0 ∙ fetching_is_inactive m.performing.kept.phase is))
 
       by_test : (t : Bool) → is_fetching m.performing.kept.phase ≡ t → let d : Doing M = if t then record {
@@ -256,7 +256,7 @@ module _ (boot : List View) (begins : Joiner) (p : Past) (step : ℕ) where
           record {
             phase_is = joined_is m.performing.kept.phase count is ∙ ap (after_state count) h.phase_is ∙ once_restored count (phase begins p);
             outside = λ no_longer. absurd (true≢false no_longer);
-            active = subst (ActiveSo later) (sym (by_given is (first_given (fetched begins) p) refl h.active)) (refl, refl, refl);
+            active = subst (ActiveSo later) (sym (by_given is (first_given (snapshot_fetched begins) p) refl h.active)) (refl, refl, refl);
             few = within;
           }
       by_test false is =

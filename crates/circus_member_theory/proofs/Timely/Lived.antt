@@ -6,7 +6,7 @@ use Rattle.circus_value.specs.declared.outcome.Outcome.{Outcome}
 use Rattle.circus_header.specs.ReplyEquality.{reply_eq}
 use Rattle.circus_collate.specs.declared.view.View.{View}
 use Rattle.circus_collate.specs.Expecting.{expected_nodes}
-use Rattle.circus_collate.specs.Collating.{answer as collated_answer, dispute, collated}
+use Rattle.circus_collate.specs.Collating.{answer as collated_answer, dispute, collate}
 use Rattle.circus_transfer.specs.declared.joiner.Joiner.{Joiner}
 use Rattle.circus_model.specs.declared.signature.Signature.{Signature}
 use Rattle.circus_model.specs.NextTurn.{NextTurn}
@@ -25,13 +25,13 @@ use Rattle.circus_member_rules.specs.declared.place.Beginning.TheVariants.{Found
 use Rattle.circus_member_rules.specs.declared.occurrence.AskName.{AskName}
 use Rattle.circus_member_rules.specs.declared.occurrence.Occurrence.{Occurrence}
 use Rattle.circus_member_rules.specs.MemberState.{MemberState, Doing}
-use Rattle.circus_member_rules.specs.Step.{before_any, main_start, handled, entered, executed, stepped, starts_at_boot}
+use Rattle.circus_member_rules.specs.Step.{before_any, main_start, handle, enter_run_of, execute, step_member, starts_at_boot}
 use Rattle.circus_member_rules.specs.Happening.{IsHome, CanHappen}
 use Rattle.circus_member_rules.specs.Seen.Sound.{IsRested}
 use Rattle.circus_member_rules.proofs.Enough.{none_given}
 use Rattle.circus_member_theory.specs.Ranges.{InRange}
 use Rattle.circus_member_theory.proofs.Resting.{sound_once_handled, step_rests, boot_rests, at_boot, sound_at_boot, may_begin}
-use Rattle.circus_timely.specs.Past.{Past, booted, followed, now, Rises, fetched}
+use Rattle.circus_timely.specs.Past.{Past, booted, followed, now, Rises, snapshot_fetched}
 use Rattle.circus_timely.specs.Timely.{given_value, collated_call, collated_reply, is_free_for, may_answer, IsTimely}
 use Rattle.circus_member_theory.specs.Living.{phase_at_boot, runs_at_boot, after, MayLive}
 use Rattle.circus_member_theory.proofs.Timely.Firsts.{first_is}
@@ -62,7 +62,7 @@ module _ (place : Place) (boot : List View) (begins : Joiner) where
       by_answer None = refl
       by_answer (Some at) = refl
 
-      by_view : (o : Option View) → option_and_then (λ (view : View). given_value [] (collated reply_eq (expected_nodes view ask.index) [] [] place.replies)) o ≡ None
+      by_view : (o : Option View) → option_and_then (λ (view : View). given_value [] (collate reply_eq (expected_nodes view ask.index) [] [] place.replies)) o ≡ None
       by_view None = refl
       by_view (Some view) =
           let nodes = expected_nodes view ask.index in
@@ -105,7 +105,7 @@ module _ {M : Type 0} (declared : M → Signature) (turn : M → List ValueTree 
           way = record {
             phase_is = refl;
             outside = λ _. refl;
-            active = subst (ActiveSo (performing.before_any phase (first hosted))) (sym (first_is (fetched phase) booted)) tt;
+            active = subst (ActiveSo (performing.before_any phase (first hosted))) (sym (first_is (snapshot_fetched phase) booted)) tt;
             few = omega arith;
           };
           enough = none;
@@ -124,7 +124,7 @@ module _ {M : Type 0} (declared : M → Signature) (turn : M → List ValueTree 
 
   goes_main : (beginning : Beginning) → starts_at_boot declared turn beginning hosted ≡ true → let d : Doing M =
       record { member = at_boot declared turn first lawful place views hosted home beginning; effects = [] } in
-      let e = entered turn 0 d (main_start place.troupe views) in Begins beginning e.member
+      let e = enter_run_of turn 0 d (main_start place.troupe views) in Begins beginning e.member
   goes_main Founder is =
       let d : Doing M = record { member = at_boot declared turn first lawful place views hosted home Founder; effects = [] } in
       let many : runs_at_boot declared Founder hosted ≡ 1 = rw is refl in
@@ -139,7 +139,7 @@ module _ {M : Type 0} (declared : M → Signature) (turn : M → List ValueTree 
     where
       by_test : (t : Bool) → starts_at_boot declared turn beginning hosted ≡ t → let d : Doing M =
           record { member = at_boot declared turn first lawful place views hosted home beginning; effects = [] } in
-          let e = if t then entered turn 0 d (main_start place.troupe views) else d in Begins beginning e.member
+          let e = if t then enter_run_of turn 0 d (main_start place.troupe views) else d in Begins beginning e.member
       by_test false is = goes_before beginning is
       by_test true is = goes_main beginning is
 
@@ -160,7 +160,7 @@ module _ {M : Type 0} (declared : M → Signature) (turn : M → List ValueTree 
   -- ---- a step
 
   lived_step : (beginning : Beginning) (p : Past) (m : MemberState M) (at : ℕ) (o : Occurrence) → LivesSo beginning p m → now p < at → CanHappen (declared hosted) m o → InRange o
-      → LivesSo beginning (followed p at o) (stepped declared turn at o m).member
+      → LivesSo beginning (followed p at o) (step_member declared turn at o m).member
   lived_step beginning p m at o h later can within =
       let begins = phase_at_boot beginning in
       let many = runs_at_boot declared beginning hosted in
@@ -168,12 +168,12 @@ module _ {M : Type 0} (declared : M → Signature) (turn : M → List ValueTree 
       let q = followed p at o in
       let rises : Rises q = (h.rises, later) in
       let sound = h.rested.sound in
-      let n = (stepped declared turn at o m).member in
+      let n = (step_member declared turn at o m).member in
       let s = step_rests declared turn first lawful at o m h.rested may within in
-      let d = handled at o m in
+      let d = handle at o m in
       let goes = goes_handled declared turn first lawful place views begins hosted many p at o m rises sound h.rest within in
       let went = goes_executed declared turn first lawful place views begins hosted many q rises d (sound_once_handled declared turn first lawful at o m sound may within) goes in
-      let ended = goes_closed declared turn first lawful place views begins hosted many q (executed declared turn at d) went in
+      let ended = goes_closed declared turn first lawful place views begins hosted many q (execute declared turn at d) went in
       let rested : IsRested (now_of n.performing.hosted) n = subst (λ x. IsRested (now_of x) n) (sym s.hosted) s.rested in
       record { rises = rises; rested = rested; rest = rest_by_going declared turn first lawful place views begins hosted many q rises n rested.sound ended s.gone_on }
 

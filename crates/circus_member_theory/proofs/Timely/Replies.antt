@@ -17,7 +17,7 @@ use Rattle.circus_collate.specs.declared.kind.Kind.{Kind}
 use Rattle.circus_collate.specs.declared.collating.Collated.{Collated}
 use Rattle.circus_collate.specs.declared.collating.Collated.TheVariants.{Waiting, Answer, Differ}
 use Rattle.circus_collate.specs.Expecting.{expected_nodes}
-use Rattle.circus_collate.specs.Collating.{collated}
+use Rattle.circus_collate.specs.Collating.{collate}
 use Rattle.circus_transfer.specs.declared.joiner.Joiner.{Joiner}
 use Rattle.circus_record.specs.declared.record.AskRecord.{AskRecord}
 use Rattle.circus_fanout.specs.Knowing.{Knowing}
@@ -28,7 +28,7 @@ use Rattle.circus_member_rules.specs.declared.occurrence.Occurrence.TheVariants 
 use Rattle.circus_member_rules.specs.OpenAsks.{is_name, asking_of, with_ask, with_asking}
 use Rattle.circus_member_rules.specs.Rules.{answer_in, value_of_ask, after_stale, seen_by_ask, with_new_view}
 use Rattle.circus_member_rules.proofs.Named.{names_decide, names_are, lookup-kept, opened_there}
-use Rattle.circus_timely.specs.Past.{Past, booted, followed, now, Rises, known, down, reply_said, said}
+use Rattle.circus_timely.specs.Past.{Past, booted, followed, now, Rises, views_known, nodes_declared_down, reply_said, replies_to}
 use Rattle.circus_timely.specs.Timely.{given_value, collated_reply, may_answer}
 use Rattle.circus_member_theory.proofs.Timely.Firsts.{none_earlier}
 use Rattle.circus_member_theory.proofs.Timely.Runs.{IsNew, IsStillWaiting}
@@ -36,7 +36,7 @@ use Rattle.circus_member_theory.proofs.Timely.Runs.{IsNew, IsStillWaiting}
 -- ---- what was said so far
 
 -- nothing is said to an ask in the step in which it is made, nor before
-pub said_none : (asked : ℕ) (name : AskName) (p : Past) → Rises p → now p ≤ asked → said asked name p ≡ []
+pub said_none : (asked : ℕ) (name : AskName) (p : Past) → Rises p → now p ≤ asked → replies_to asked name p ≡ []
 said_none asked name booted rises below = refl
 said_none asked name (followed p step (comes.Asked header body sender)) rises below = said_none asked name p rises.0 (omega (arith, rises.1))
 said_none asked name (followed p step (comes.Fetched incarnation sender)) rises below = said_none asked name p rises.0 (omega (arith, rises.1))
@@ -99,7 +99,7 @@ module _ (place : Place) (boot : List View) (begins : Joiner) where
 
   -- this is asked, and this was said to it
   pub record IsAskingOf (p : Past) (name : AskName) (ask : AskRecord) (a : Asking) : Type 0 where
-    pub said_so : a.said ≡ said ask.asked name p
+    pub said_so : a.said ≡ replies_to ask.asked name p
     pub kind : a.kind ≡ place.replies
     pub server : a.header.server ≡ ask.callee
     pub index : index_of a.header ≡ ask.index
@@ -121,10 +121,10 @@ module _ (place : Place) (boot : List View) (begins : Joiner) where
   by_known None f = refl
   by_known (Some view) f = refl
 
-  pub value_is : (k : Knowing) (p : Past) (name : AskName) (ask : AskRecord) (a : Asking) → k.views ≡ known boot p → k.down ≡ down p → IsAskingOf p name ask a → ask.asked ≤ now p
+  pub value_is : (k : Knowing) (p : Past) (name : AskName) (ask : AskRecord) (a : Asking) → k.views ≡ views_known boot p → k.down ≡ nodes_declared_down p → IsAskingOf p name ask a → ask.asked ≤ now p
       → value_of_ask k a ≡ may_answer place boot begins name ask p
   value_is k p name ask a views gone h below =
-      let so : View → List (Said Reply) → Kind → ℕ → List ℕ → Collated = λ view xs kind index nodes. collated reply_eq (expected_nodes view index) nodes xs kind in
+      let so : View → List (Said Reply) → Kind → ℕ → List ℕ → Collated = λ view xs kind index nodes. collate reply_eq (expected_nodes view index) nodes xs kind in
       by_known (slice_get k.views a.header.server) (λ (view : View). answer_in a (so view a.said a.kind (index_of a.header) k.down))
       ∙ ap (λ (f : View → Option Reply). option_and_then f (slice_get k.views a.header.server)) (λ j view. value_said a (so view a.said a.kind (index_of a.header) k.down) j)
       ∙ (λ j. option_and_then (λ (view : View). given_value (h.said_so j) (so view (h.said_so j) (h.kind j) (h.index j) (gone j))) (slice_get (views j) (h.server j)))
@@ -147,7 +147,7 @@ module _ (place : Place) (boot : List View) (begins : Joiner) where
   -- ---- what happens to it
 
   -- nothing is said to it
-  pub asking_same : (p later : Past) (name : AskName) (ask : AskRecord) (a x : Asking) → said ask.asked name later ≡ said ask.asked name p → x.said ≡ a.said → x.kind ≡ a.kind
+  pub asking_same : (p later : Past) (name : AskName) (ask : AskRecord) (a x : Asking) → replies_to ask.asked name later ≡ replies_to ask.asked name p → x.said ≡ a.said → x.kind ≡ a.kind
       → x.header ≡ a.header
       → IsAskingOf p name ask a → IsAskingOf later name ask x
   asking_same p later name ask a x silent words kind header h =
@@ -158,7 +158,7 @@ module _ (place : Place) (boot : List View) (begins : Joiner) where
         index = ap (λ (c : CallHeader). index_of c) header ∙ h.index;
       }
 
-  pub waits_same : (p later : Past) (asks : List (AskName × Asking)) (name : AskName) (ask : AskRecord) → said ask.asked name later ≡ said ask.asked name p
+  pub waits_same : (p later : Past) (asks : List (AskName × Asking)) (name : AskName) (ask : AskRecord) → replies_to ask.asked name later ≡ replies_to ask.asked name p
       → IsWaitingBy p asks name ask
       → IsWaitingBy later asks name ask
   waits_same p later asks name ask silent w =
@@ -166,7 +166,7 @@ module _ (place : Place) (boot : List View) (begins : Joiner) where
 
   -- a change of an ask, but for what it asks and what was said
   changed_silent : (p later : Past) (asks : List (AskName × Asking)) (name other : AskName) (ask : AskRecord) (change : Asking → Asking)
-      → said ask.asked name later ≡ said ask.asked name p
+      → replies_to ask.asked name later ≡ replies_to ask.asked name p
       → ((a : Asking) → (change a).said ≡ a.said) → ((a : Asking) → (change a).kind ≡ a.kind) → ((a : Asking) → (change a).header ≡ a.header)
       → IsWaitingBy p asks name ask → IsWaitingBy later (with_asking other change asks) name ask
   changed_silent p later asks name other ask change silent words kind header w =
@@ -200,7 +200,7 @@ module _ (place : Place) (boot : List View) (begins : Joiner) where
           let came : nat_lt ask.asked step ≡ true = lt-ltb ask.asked step later in
           let so = w.so in
           record {
-            said_so = rw (came, here) (so.said_so ∙ sym (append-nil (said ask.asked name p)));
+            said_so = rw (came, here) (so.said_so ∙ sym (append-nil (replies_to ask.asked name p)));
             kind = so.kind;
             server = so.server;
             index = so.index;
@@ -247,7 +247,7 @@ module _ (place : Place) (boot : List View) (begins : Joiner) where
   seen_all k view (e ∷ es) = λ j. seen_entry k view e j ∷ seen_all k view es j
 
   pub waits_seen : (p later : Past) (k : Knowing) (view : View) (asks : List (AskName × Asking)) (name : AskName) (ask : AskRecord)
-      → said ask.asked name later ≡ said ask.asked name p
+      → replies_to ask.asked name later ≡ replies_to ask.asked name p
       → IsWaitingBy p asks name ask → IsWaitingBy later (with_new_view k view asks) name ask
   waits_seen p later k view asks name ask silent w =
       record {

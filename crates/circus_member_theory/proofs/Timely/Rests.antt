@@ -29,7 +29,7 @@ use Rattle.circus_member_rules.specs.declared.occurrence.Occurrence.TheVariants 
 use Rattle.circus_member_rules.specs.OpenAsks.{asking_of}
 use Rattle.circus_member_rules.specs.Rules.{index_of_last, value_of_ask, stays_open, with_new_view, active_call, before_answers}
 use Rattle.circus_member_rules.specs.MemberState.{MemberState, Doing}
-use Rattle.circus_member_rules.specs.Step.{name_of_last, is_join, known_by_table, start_by_call, value_of_open, handled, closed, looked_up, waits}
+use Rattle.circus_member_rules.specs.Step.{name_of_last, is_join, known_by_table, start_by_call, value_of_open, handle, keep_ask_open, look_up, waits}
 use Rattle.circus_member_rules.specs.GoneOn.{HasGoneOn}
 use Rattle.circus_member_rules.proofs.Held.{called_same}
 use Rattle.circus_member_rules.proofs.Resting.{waiting_stays}
@@ -124,12 +124,12 @@ module _ {M : Type 0} (declared : M → Signature) (turn : M → List ValueTree 
   -- ---- the end of a step
 
   -- asks are closed, and views looked up
-  pub goes_closed : (p : Past) (d : Doing M) → GoesBy p d.member → GoesBy p (looked_up (closed d)).member
+  pub goes_closed : (p : Past) (d : Doing M) → GoesBy p d.member → GoesBy p (look_up (keep_ask_open d)).member
   goes_closed p d h = record { well = h.well; replied = h.replied; waiting = by_ask (open_ask d.member.performing.kept) refl h.waiting }
     where
       by_ask : (o : Option AskRecord) → open_ask d.member.performing.kept ≡ o
           → IfSome o (IsWaiting declared turn first lawful place boot begins hosted at_boot p d.member.asks d.member.performing.kept)
-          → IfSome o (IsWaiting declared turn first lawful place boot begins hosted at_boot p (looked_up (closed d)).member.asks d.member.performing.kept)
+          → IfSome o (IsWaiting declared turn first lawful place boot begins hosted at_boot p (look_up (keep_ask_open d)).member.asks d.member.performing.kept)
       by_ask None is w = tt
       by_ask (Some ask) is w =
           let m = d.member in
@@ -222,7 +222,7 @@ module _ {M : Type 0} (declared : M → Signature) (turn : M → List ValueTree 
 
   so_handled : (q : Past) (step : ℕ) (o : Occurrence) (m : MemberState M) → InRange o → AreSo q m.performing.kept.from m.performing.kept.runs m.gathered.replies
       → ((count : ℕ) → count ≤ last_count → is_fetching m.performing.kept.phase ≡ true → AreSo q count m.performing.kept.runs m.gathered.replies)
-      → let n = (handled step o m).member in AreSo q n.performing.kept.from n.performing.kept.runs n.gathered.replies
+      → let n = (handle step o m).member in AreSo q n.performing.kept.from n.performing.kept.runs n.gathered.replies
   so_handled q step (comes.Asked header body sender) m within h active =
       let call : HeldCall = record { header = header; body = body; sender = sender } in
       subst (λ replies. AreSo q m.performing.kept.from m.performing.kept.runs replies) (sym (called_same m.gathered call).1) h
@@ -247,7 +247,7 @@ module _ {M : Type 0} (declared : M → Signature) (turn : M → List ValueTree 
   so_handled q step comes.Joins m within h active = h
 
   from_handled : (step : ℕ) (o : Occurrence) (m : MemberState M) → m.gathered.from ≡ m.performing.kept.from
-      → let n = (handled step o m).member in n.gathered.from ≡ n.performing.kept.from
+      → let n = (handle step o m).member in n.gathered.from ≡ n.performing.kept.from
   from_handled step (comes.Asked header body sender) m is = by_test (is_held (answer_to m.gathered header))
     where
       by_test : (t : Bool) → let g : Gathered = if t then record m.gathered { held = m.gathered.held ++ record { header = header; body = body; sender = sender } ∷ [] }
@@ -297,7 +297,7 @@ module _ {M : Type 0} (declared : M → Signature) (turn : M → List ValueTree 
 
     waiting_handled : (o : Occurrence) (m : MemberState M) → (is_active m.performing.kept.phase ≡ false → m.performing.kept.runs ≡ [])
         → IfSome (open_ask m.performing.kept) (Waiting p m.asks m.performing.kept)
-        → let n = (handled step o m).member in IfSome (open_ask n.performing.kept) (Waiting (followed p step o) n.asks n.performing.kept)
+        → let n = (handle step o m).member in IfSome (open_ask n.performing.kept) (Waiting (followed p step o) n.asks n.performing.kept)
     waiting_handled (comes.Asked header body sender) m none h =
         let o = comes.Asked header body sender in
         still_waits o m.asks m.asks m.performing.kept m.performing.kept refl refl (λ name ask asked w. waits_same place boot begins p (followed p step o) m.asks name ask refl w) h
@@ -306,15 +306,15 @@ module _ {M : Type 0} (declared : M → Signature) (turn : M → List ValueTree 
         still_waits o m.asks m.asks m.performing.kept m.performing.kept refl refl (λ name ask asked w. waits_same place boot begins p (followed p step o) m.asks name ask refl w) h
     waiting_handled (comes.Replied other from reply) m none h =
         let o = comes.Replied other from reply in
-        still_waits o m.asks (handled step o m).member.asks m.performing.kept m.performing.kept refl refl
+        still_waits o m.asks (handle step o m).member.asks m.performing.kept m.performing.kept refl refl
         (λ name ask asked w. waits_replied place boot begins p step m.asks name other ask from reply asked w) h
     waiting_handled (comes.IsStale other server from incarnation) m none h =
         let o = comes.IsStale other server from incarnation in
-        still_waits o m.asks (handled step o m).member.asks m.performing.kept m.performing.kept refl refl
+        still_waits o m.asks (handle step o m).member.asks m.performing.kept m.performing.kept refl refl
         (λ name ask asked w. waits_stale place boot begins p step m.known m.asks name other ask server from incarnation w) h
     waiting_handled (comes.IsBefore other from) m none h =
         let o = comes.IsBefore other from in
-        still_waits o m.asks (handled step o m).member.asks m.performing.kept m.performing.kept refl refl
+        still_waits o m.asks (handle step o m).member.asks m.performing.kept m.performing.kept refl refl
         (λ name ask asked w. waits_before place boot begins p step m.asks name other ask from w) h
     waiting_handled (comes.Told request table) m none h = by_join (is_join request)
       where
@@ -326,12 +326,12 @@ module _ {M : Type 0} (declared : M → Signature) (turn : M → List ValueTree 
         by_newer false name ask w = waits_same place boot begins p (followed p step (comes.Told request table)) m.asks name ask refl w
 
         by_join : (t : Bool) → let kept : MemberRecord = if t then taken_in table m.performing.kept else m.performing.kept in
-            IfSome (open_ask kept) (Waiting (followed p step (comes.Told request table)) (handled step (comes.Told request table) m).member.asks kept)
+            IfSome (open_ask kept) (Waiting (followed p step (comes.Told request table)) (handle step (comes.Told request table) m).member.asks kept)
         by_join true =
-            still_waits (comes.Told request table) m.asks (handled step (comes.Told request table) m).member.asks m.performing.kept (taken_in table m.performing.kept) refl refl
+            still_waits (comes.Told request table) m.asks (handle step (comes.Told request table) m).member.asks m.performing.kept (taken_in table m.performing.kept) refl refl
             (λ name ask asked w. by_newer (is_newer m.known table.view) name ask w) h
         by_join false =
-            still_waits (comes.Told request table) m.asks (handled step (comes.Told request table) m).member.asks m.performing.kept m.performing.kept refl refl
+            still_waits (comes.Told request table) m.asks (handle step (comes.Told request table) m).member.asks m.performing.kept m.performing.kept refl refl
             (λ name ask asked w. by_newer (is_newer m.known table.view) name ask w) h
     waiting_handled (comes.Restored state count) m none h = by_test (is_fetching m.performing.kept.phase) refl
       where
@@ -352,12 +352,12 @@ module _ {M : Type 0} (declared : M → Signature) (turn : M → List ValueTree 
         let o = comes.Declared node in
         still_waits o m.asks m.asks m.performing.kept m.performing.kept refl refl (λ name ask asked w. waits_same place boot begins p (followed p step o) m.asks name ask refl w) h
     waiting_handled comes.Joins m none h =
-        still_waits comes.Joins m.asks m.asks m.performing.kept (handled step comes.Joins m).member.performing.kept refl refl
+        still_waits comes.Joins m.asks m.asks m.performing.kept (handle step comes.Joins m).member.performing.kept refl refl
         (λ name ask asked w. waits_same place boot begins p (followed p step comes.Joins) m.asks name ask refl w) h
 
   -- what happens to a member at rest finds all in time
   pub goes_handled : (p : Past) (step : ℕ) (o : Occurrence) (m : MemberState M) → Rises (followed p step o) → IsSoundNow declared turn first lawful m → IsAtRest p m → InRange o
-      → GoesBy (followed p step o) (handled step o m).member
+      → GoesBy (followed p step o) (handle step o m).member
   goes_handled p step o m rises sound h within =
       let kept = m.performing.kept in
       let w = h.goes.well in

@@ -19,7 +19,7 @@ use Rattle.circus_record.specs.declared.record.AskRecord.{AskRecord}
 use Rattle.circus_record.specs.declared.record.RunRecord.{RunRecord}
 use Rattle.circus_record.specs.declared.record.MemberRecord.{MemberRecord}
 use Rattle.circus_gather.specs.declared.held.HeldCall.{HeldCall}
-use Rattle.circus_performing.specs.Performing.{is_active, clock_after, replies_of, made_ask, with_ask, with_refusal, answered_ask, refusal, turned, gone_on, last_count}
+use Rattle.circus_performing.specs.Performing.{is_active, clock_after, replies_of, made_ask, with_ask, with_refusal, answered_ask, refusal, turn_run, gone_on, last_count}
 use Rattle.circus_performing.specs.Record.{start_of}
 use Rattle.circus_member_rules.specs.declared.place.Place.{Place}
 use Rattle.circus_member_rules.specs.declared.occurrence.AskName.{AskName}
@@ -123,7 +123,7 @@ module _ (P : ℕ → AskRecord → Type 0) (step : ℕ) (new : (n : ℕ) (ask :
           }
 
       by_turn : ((r : RunRecord) → r.ended ≡ None → AsksSo P r.entry r.asks → IsGone P step r (gone_on step turn left r)) → (next : NextTurn)
-          → IsGone P step run (turned step (gone_on step turn left) run next)
+          → IsGone P step run (turn_run step (gone_on step turn left) run next)
       by_turn rest (ends outcome state) = record { start = refl; started = refl; ended = inr refl; asks_so = so }
       by_turn rest (asks callee procedure arguments state) = by_clock rest callee procedure arguments state (is_spent (clock_after run.entry run.asks)) refl
 

@@ -33,7 +33,7 @@ use Rattle.circus_member_rules.specs.Happening.{IsHome, IsCallTo}
 use Rattle.circus_member_rules.specs.Step.{start_by_call}
 use Rattle.circus_member_rules.proofs.Starting.{given_is_chosen}
 use Rattle.circus_timely.specs.First.{at_end, or_else, first_given}
-use Rattle.circus_timely.specs.Past.{Past, booted, followed, known, down, required, arrived, phase}
+use Rattle.circus_timely.specs.Past.{Past, booted, followed, views_known, nodes_declared_down, required_incarnation, calls_arrived, phase}
 use Rattle.circus_timely.specs.Starts.{IsUnpacked, IsCounted, IsStartOf, AreEnteredByCalls}
 use Rattle.circus_timely.specs.Timely.{collated_call, is_free_for, may_start}
 use Rattle.circus_member_theory.specs.Living.{phase_at_boot, runs_at_boot, after, kept_after, MayLive}
@@ -95,13 +95,13 @@ module _ {M : Type 0} (declared : M → Signature) (turn : M → List ValueTree 
   abbrev IsOne : HeldCall → Type 0
   IsOne call = IsCallTo (declared hosted) place.troupe (length views) call.header call.body
 
-  all_may : (p : Past) → May p → All IsOne (arrived p)
+  all_may : (p : Past) → May p → All IsOne (calls_arrived p)
   all_may booted may = All-nil IsOne
   all_may (followed p at (comes.Asked header body sender)) may =
       let call : HeldCall = record { header = header; body = body; sender = sender } in
       let w = (lived declared turn first lawful place views hosted home beginning p may.0).rest.goes.well in
       let long : length (after declared turn first place views beginning hosted p).known.views ≡ length views = ap (λ (vs : List View). length vs) w.views_are ∙ known_long views p in
-      All-push IsOne (arrived p) call (all_may p may.0)
+      All-push IsOne (calls_arrived p) call (all_may p may.0)
       (subst (λ n. IsCallTo (declared hosted) place.troupe n header body) long
       (subst (λ (x : Place). IsCallTo (declared hosted) x.troupe (length (after declared turn first place views beginning hosted p).known.views) header body) w.place_is may.2))
   all_may (followed p at (comes.Fetched incarnation sender)) may = all_may p may.0
@@ -123,7 +123,7 @@ module _ {M : Type 0} (declared : M → Signature) (turn : M → List ValueTree 
     where
       by_test : (b : Bool) → (if b then collated_call place views begins (kept.from + number) p else None) ≡ Some call → IsOne call
       by_test true e =
-          (given_is_chosen IsOne place.troupe (required p) (known views p) (down p) place.calls (kept.from + number) (arrived p) call (all_may p may) e).holds
+          (given_is_chosen IsOne place.troupe (required_incarnation p) (views_known views p) (nodes_declared_down p) place.calls (kept.from + number) (calls_arrived p) call (all_may p may) e).holds
       by_test false e = absurd (let clash : ◌≡◌ {A = Option HeldCall} None (Some call) = e in cc)
 
   -- so did the one that was given first

@@ -20,7 +20,7 @@ use Rattle.circus_record.specs.declared.record.RunRecord.{RunRecord}
 use Rattle.circus_record.specs.declared.record.MemberRecord.{MemberRecord}
 use Rattle.circus_gather.specs.Gathering.{Gathered, reply_of}
 use Rattle.circus_fanout.specs.Asking.{Asking, with_view}
-use Rattle.circus_performing.specs.Performing.{clock_after, last_of, unanswered, open_ask, with_run, last_count}
+use Rattle.circus_performing.specs.Performing.{clock_after, last_of, unless_replied, open_ask, with_run, last_count}
 use Rattle.circus_performing.specs.Record.{behaviour, IsRecord}
 use Rattle.circus_performing.proofs.Ends.{last_more, latest_more}
 use Rattle.circus_performing.proofs.Records.{none_is_some, performing_has_one}
@@ -34,7 +34,7 @@ use Rattle.circus_member_rules.proofs.Named.{lookup-push}
 use Rattle.circus_member_rules.proofs.Homes.{slice_get_none}
 use Rattle.circus_member_rules.proofs.Writing.{one_is_performing, last_is_performed, last_has_ended}
 use Rattle.circus_member_rules.proofs.Turned.{IsTurned, IsAsking, asking_now}
-use Rattle.circus_timely.specs.Past.{Past, now, Rises, known, down, arrived}
+use Rattle.circus_timely.specs.Past.{Past, now, Rises, views_known, nodes_declared_down, calls_arrived}
 use Rattle.circus_member_theory.proofs.Timely.Firsts.{earlier}
 use Rattle.circus_member_theory.proofs.Timely.Runs.{AsksSo, EndsNow, ended_by, may_by, RunsSo}
 use Rattle.circus_member_theory.proofs.Timely.Calls.{left_end}
@@ -86,8 +86,8 @@ module _ {M : Type 0} (declared : M → Signature) (turn : M → List ValueTree 
   pub record WellSoFar (at : Place) (host : M) (views : List View) (gone : List ℕ) (g : Gathered) (kept : MemberRecord) : Type 0 where
     pub place_is : at ≡ place
     pub hosted_is : host ≡ hosted
-    pub views_are : views ≡ known boot p
-    pub gone_are : gone ≡ down p
+    pub views_are : views ≡ views_known boot p
+    pub gone_are : gone ≡ nodes_declared_down p
     pub holds : HoldsSo p g
     pub from_is : g.from ≡ kept.from
     pub unreplied : (index : ℕ) → kept.from + length kept.runs ≤ index → reply_of g index ≡ None
@@ -131,7 +131,7 @@ module _ {M : Type 0} (declared : M → Signature) (turn : M → List ValueTree 
           hosted_is = h.hosted_is;
           views_are = h.views_are;
           gone_are = h.gone_are;
-          holds = record { least = h.holds.least; left = left_end m.gathered index reply (arrived p) h.holds.left };
+          holds = record { least = h.holds.least; left = left_end m.gathered index reply (calls_arrived p) h.holds.left };
           from_is = h.from_is;
           unreplied = λ i below.
               let other : nat_eq i index ≡ false = ne_eqb i index (λ same. omega (arith, same, below, some)) in
@@ -216,7 +216,7 @@ module _ {M : Type 0} (declared : M → Signature) (turn : M → List ValueTree 
         by_run : (o : Option RunRecord) → last_of d.member.performing.kept.runs ≡ o
             → let e = option_map_or (λ (run : RunRecord). option_map_or (opened_ask d run) (open_ask d.member.performing.kept) (ended_run d run)) o d in Goes e.member
         by_run None last =
-            let none : open_ask d.member.performing.kept ≡ None = ap (λ o. option_and_then (λ (r : RunRecord). option_and_then unanswered (last_of r.asks)) o) last in
+            let none : open_ask d.member.performing.kept ≡ None = ap (λ o. option_and_then (λ (r : RunRecord). option_and_then unless_replied (last_of r.asks)) o) last in
             record {
               well = h;
               replied = λ _ run at. absurd (none_is_some (sym last ∙ at));

@@ -8,7 +8,7 @@ use Rattle.circus_machine.specs.declared.body.Body.{Body}
 use Rattle.circus_idl.specs.declared.interface.Interface.{Interface}
 use Rattle.circus_check.specs.Meaning.{BodyMeant, ModuleMeant}
 use Rattle.circus_modules.specs.Zeros.{zeros}
-use Rattle.circus_modules.specs.Signatures.{offered, signature_of}
+use Rattle.circus_modules.specs.Signatures.{procedures_offered, signature_of}
 
 -- a body with the statements, and the zero values of the local variables
 pub record IsMade (b : BodyMeant) (made : Body) : Type 0 where
@@ -30,4 +30,4 @@ IsSmall b = size_of_values (zeros b.locals) < 4294967296
 pub record CanBeMade (limit : ℕ) (interfaces : List Interface) (numbers : List (Option ℕ)) (m : ModuleMeant) : Type 0 where
   pub first : IsState (signature_of limit interfaces numbers m) (zeros m.variables)
   pub small : AllByRecursion IsSmall m.bodies
-  pub bodies : (made : List Body) → AreMade m.bodies made → AreBodiesOf (signature_of limit interfaces numbers m) (offered interfaces m.interface) made
+  pub bodies : (made : List Body) → AreMade m.bodies made → AreBodiesOf (signature_of limit interfaces numbers m) (procedures_offered interfaces m.interface) made

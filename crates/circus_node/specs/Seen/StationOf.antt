@@ -16,7 +16,7 @@ use Rattle.circus_node.specs.declared.event.StepFault.{StepFault}
 use Rattle.circus_node.specs.declared.event.StepFault.TheVariants as fault
 use Rattle.circus_node.specs.NodeState.{Acting, NodeState}
 use Rattle.circus_node.specs.Sending.{sent, spent, gives_of, all_handed}
-use Rattle.circus_node.specs.Step.{counted}
+use Rattle.circus_node.specs.Step.{count_dropped}
 use Rattle.circus_node.specs.Booting.{fresh_wire}
 
 abbrev pub node_of : {M : Type 0} → Station → Acting M → NodeState M
@@ -49,7 +49,7 @@ pub record HasSent (s : Station) (gives : List Give) (came : Consequences) (conc
   pub deployment : concluded.0.deployment ≡ s.deployment
   pub node : concluded.0.node ≡ s.node
   pub remains : Remains s.wire concluded.0.wire
-  pub dropped : concluded.0.dropped ≡ counted came.dropped s.dropped
+  pub dropped : concluded.0.dropped ≡ count_dropped came.dropped s.dropped
   pub suspects : concluded.1.suspects ≡ []
   pub differences : concluded.1.differences ≡ came.differences
 

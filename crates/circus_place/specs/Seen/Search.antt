@@ -10,8 +10,8 @@ use Rattle.circus_place.specs.Seen.Table.{flag_at}
 use Rattle.circus_place.specs.Seen.Test.{passes, IsTestOf}
 
 -- how many of the machines have a flag
-abbrev pub flagged : List Bool → List ℕ → ℕ
-flagged present choice = count_by (flag_at present) choice
+abbrev pub flag_count : List Bool → List ℕ → ℕ
+flag_count present choice = count_by (flag_at present) choice
 
 -- more are kept than by the best so far
 abbrev pub improves : ℕ → Option Placement → Bool
@@ -19,10 +19,10 @@ improves kept None = true
 improves kept (Some best) = nat_lt best.kept kept
 
 -- the better of the best so far and a further choice
-abbrev pub offered : Test → List Bool → List ℕ → Option Placement → Option Placement
-offered test present choice best =
-    if passes test choice && improves (flagged present choice) best
-    then Some (record { members = choice; kept = flagged present choice })
+abbrev pub better_of : Test → List Bool → List ℕ → Option Placement → Option Placement
+better_of test present choice best =
+    if passes test choice && improves (flag_count present choice) best
+    then Some (record { members = choice; kept = flag_count present choice })
     else best
 
 -- what becomes of the best when each of the numbers below this one has its turn, the least first
@@ -37,7 +37,7 @@ AreApart (m ∷ ms) = (is_among ms m ≡ false) × AreApart ms
 
 -- the best after all choices that begin with these machines, with so many members more
 unfoldable pub best_from : Test → List Bool → ℕ → ℕ → List ℕ → Option Placement → Option Placement
-best_from test present machines zero ms best = offered test present ms best
+best_from test present machines zero ms best = better_of test present ms best
 best_from test present machines (suc left) ms best =
     in_turn (λ m b. if is_among ms m then b else best_from test present machines left (ms ++ m ∷ []) b) machines best
 
@@ -46,4 +46,4 @@ pub record IsReady (s : Search) : Type 0 where
   pub test : IsTestOf s.size s.test.now
   pub few_members : s.size ≤ 5
   pub few_machines : length s.present.now ≤ most_machines
-  pub most : (choice : List ℕ) → AreApart choice → flagged s.present.now choice ≤ s.most
+  pub most : (choice : List ℕ) → AreApart choice → flag_count s.present.now choice ≤ s.most

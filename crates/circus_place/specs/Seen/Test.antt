@@ -42,12 +42,12 @@ known_related r (Some first) (Some second) = Some (relates r first second)
 known_related r _ _ = None
 
 -- what is known of a test where the first members are at these machines
-abbrev pub known : Test → List ℕ → Option Bool
-known (Or' p l q r) ms = known_or (known l ms) (known r ms)
-known (And' p l q r) ms = known_and (known l ms) (known r ms)
-known (Not' p t) ms = option_map not (known t ms)
-known (Related first second r) ms = known_related r (slice_get ms first) (slice_get ms second)
-known (Differ members has same) ms =
+abbrev pub value_so_far : Test → List ℕ → Option Bool
+value_so_far (Or' p l q r) ms = known_or (value_so_far l ms) (value_so_far r ms)
+value_so_far (And' p l q r) ms = known_and (value_so_far l ms) (value_so_far r ms)
+value_so_far (Not' p t) ms = option_map not (value_so_far t ms)
+value_so_far (Related first second r) ms = known_related r (slice_get ms first) (slice_get ms second)
+value_so_far (Differ members has same) ms =
     if differs has same ms then (if nat_eq (length ms) members then Some true else None) else Some false
 
 abbrev pub is_known_false : Option Bool → Bool

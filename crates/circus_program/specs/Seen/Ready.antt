@@ -14,7 +14,7 @@ use Rattle.circus_simulated.specs.Seen.Simulated.{world_of, IsFresh}
 use Rattle.circus_program.specs.declared.shown.Shown.{Shown}
 use Rattle.circus_program.specs.declared.shown.Shown.TheVariants.{Report, Picture}
 use Rattle.circus_program.specs.declared.ready.Ready.{Ready}
-use Rattle.circus_program.specs.Replay.{replayed_whole, pictured}
+use Rattle.circus_program.specs.Replay.{replayed_whole, picture_lines}
 
 -- the procedures by which the lines are drawn, where a picture is shown
 abbrev pub procedures_shown : Shown → Plan → Option (List (List Procedure))
@@ -24,7 +24,7 @@ procedures_shown Picture plan = Some (procedures_in plan)
 -- the end that lines come to, by these procedures where they are drawn
 abbrev pub end_by : Option (List (List Procedure)) → Names → List Line → WorldState Behaviour → Ending
 end_by None names lines w = replayed_whole (λ (b : Behaviour). b.declared) (λ (b : Behaviour). b.turn) names lines w
-end_by (Some procedures) names lines w = pictured (λ (b : Behaviour). b.declared) (λ (b : Behaviour). b.turn) names procedures lines w
+end_by (Some procedures) names lines w = picture_lines (λ (b : Behaviour). b.declared) (λ (b : Behaviour). b.turn) names procedures lines w
 
 -- the end that its lines come to
 abbrev pub end_of_ready : Ready → Ending

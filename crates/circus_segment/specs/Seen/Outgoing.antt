@@ -2,5 +2,5 @@
 use Rattle.circus_segment.specs.Cut.{Outgoing}
 use Rattle.circus_segment.specs.declared.cut.Cut.{Cut}
 
-abbrev pub outgoing : Cut → Outgoing
-outgoing c = record { format = c.format; kind = c.kind; call = c.call; total = c.total; message = c.message.now }
+abbrev pub outgoing_of : Cut → Outgoing
+outgoing_of c = record { format = c.format; kind = c.kind; call = c.call; total = c.total; message = c.message.now }

@@ -3,5 +3,5 @@ use Rattle.std.specs.Prelude.{ℕ, Bool, List, bytes_eq}
 use Rattle.circus_collate.specs.declared.deployment.Host.{Host}
 use Rattle.circus_record.specs.Naming.{host_name}
 
-abbrev pub called : List ℕ → Host → Bool
-called name host = bytes_eq (host_name host) name
+abbrev pub is_host_named : List ℕ → Host → Bool
+is_host_named name host = bytes_eq (host_name host) name

@@ -6,11 +6,11 @@ use Rattle.circus_serve.specs.declared.fault.ServeFault.{ServeFault}
 use Rattle.circus_serve.specs.declared.fault.ServeFault.TheVariants as fault
 use Rattle.circus_serve.specs.Recorded.{Recorded}
 use Rattle.circus_ending.specs.Ending.{Ending}
-use Rattle.circus_ending.specs.Spent.{spent}
+use Rattle.circus_ending.specs.Spent.{end_of_spent}
 use Rattle.circus_served.specs.NodeEnds.{done_end, link_fault}
 
 abbrev pub EndsSo : {M : Type 0} → Names → Deployment → ℕ → Result (Recorded M) ServeFault → Ending → Type 0
 EndsSo names d node (Ok recorded) ending = ending ≡ done_end names d node recorded
 EndsSo names d node (Err fault.LinkFailed) ending = ending ≡ link_fault
-EndsSo names d node (Err (fault.Spent peer)) ending = ending ≡ spent names (node, peer)
+EndsSo names d node (Err (fault.Spent peer)) ending = ending ≡ end_of_spent names (node, peer)
 EndsSo names d node (Err fault.NoMemory) ending = ⊥

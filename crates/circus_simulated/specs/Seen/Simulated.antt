@@ -4,7 +4,7 @@ use Rattle.circus_model.specs.Behaviour.{Behaviour}
 use Rattle.circus_machine.specs.declared.text.TextModule.{TextModule}
 use Rattle.circus_record.specs.Naming.{host_name}
 use Rattle.circus_config.specs.declared.plan.Plan.{Plan}
-use Rattle.circus_load.specs.Seen.Behaving.{declared, turn, first}
+use Rattle.circus_load.specs.Seen.Behaving.{declared_signature, turn, first}
 use Rattle.circus_world.specs.WorldState.{WorldState}
 use Rattle.circus_world.specs.Alike.{world_as}
 use Rattle.circus_sample.specs.Sampled.{IsUntouched}
@@ -12,7 +12,7 @@ use Rattle.circus_simulated.specs.declared.simulated.Simulated.{Simulated}
 
 -- a world, by what its modules do
 abbrev pub world_of : WorldState TextModule → WorldState Behaviour
-world_of w = world_as declared turn first w
+world_of w = world_as declared_signature turn first w
 
 -- it has just booted; names are ASCII
 pub record IsFresh (s : Simulated) : Type 0 where

@@ -59,28 +59,28 @@ choice_measure m = measure (1 + m.parts) (1 + m.levels) (2 + m.zeros)
 
 abbrev mutual
   -- the size of a type, where this is the size of what each name stands for
-  pub measured : (TypeName → Measure) → TypeTree → Measure
-  measured known (boolean _) = measure 1 0 2
-  measured known (cardinal _) = measure 1 0 2
-  measured known (long_cardinal _) = measure 1 0 4
-  measured known (integer _) = measure 1 0 2
-  measured known (long_integer _) = measure 1 0 4
-  measured known (text _) = measure 1 0 2
-  measured known (enumeration _ labels) = measure (1 + length labels) 0 2
-  measured known (array _ n t) = items_measure (word_of n) (measured known t)
-  measured known (sequence _ _ t) = sequence_measure (measured known t)
-  measured known («record» _ groups) = record_measure (measured_groups known groups)
-  measured known (choice _ arms) = choice_measure (measured_arms known arms)
-  measured known (called _ t) = known t
+  pub measure_of_type : (TypeName → Measure) → TypeTree → Measure
+  measure_of_type known (boolean _) = measure 1 0 2
+  measure_of_type known (cardinal _) = measure 1 0 2
+  measure_of_type known (long_cardinal _) = measure 1 0 4
+  measure_of_type known (integer _) = measure 1 0 2
+  measure_of_type known (long_integer _) = measure 1 0 4
+  measure_of_type known (text _) = measure 1 0 2
+  measure_of_type known (enumeration _ labels) = measure (1 + length labels) 0 2
+  measure_of_type known (array _ n t) = items_measure (word_of n) (measure_of_type known t)
+  measure_of_type known (sequence _ _ t) = sequence_measure (measure_of_type known t)
+  measure_of_type known («record» _ groups) = record_measure (measured_groups known groups)
+  measure_of_type known (choice _ arms) = choice_measure (measured_arms known arms)
+  measure_of_type known (called _ t) = known t
 
   pub measured_groups : (TypeName → Measure) → GroupTrees → Measure
   measured_groups known no_groups = measure 0 0 0
   measured_groups known (more_groups names t groups) =
-      group_measure (length names) (measured known t) (measured_groups known groups)
+      group_measure (length names) (measure_of_type known t) (measured_groups known groups)
 
   pub measured_arms : (TypeName → Measure) → ArmTrees → Measure
   measured_arms known no_arms = measure 0 0 0
-  measured_arms known (more_arms _ _ t arms) = arm_measure (measured known t) (measured_arms known arms)
+  measured_arms known (more_arms _ _ t arms) = arm_measure (measure_of_type known t) (measured_arms known arms)
 
 -- the parts so far with those of so many more types of one size
 abbrev pub more_parts : ℕ → ℕ → Measure → ℕ
@@ -93,7 +93,7 @@ is_over so_far size = nat_lt most_zero_bytes size.zeros || nat_lt most_levels si
 -- sizes that stop above their limits
 abbrev pub cut_off : Scale Measure
 cut_off = record {
-  of_type = measured;
+  of_type = measure_of_type;
   of_none = measure_of shape.boolean;
   parts_with = more_parts;
   is_over = is_over;

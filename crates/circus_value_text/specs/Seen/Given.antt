@@ -6,7 +6,7 @@ use Rattle.circus_value.specs.ValueTree.{ValueTree}
 use Rattle.circus_value.specs.ShapeTree.{ArmTrees}
 use Rattle.circus_value_text.specs.declared.unread.Unread.{Unread}
 use Rattle.circus_value_text.specs.declared.unread.Unread.TheVariants as unread
-use Rattle.circus_value_text.specs.Reading.{Read, passed, behind, between, comma, items_read, items_within, arm_reading}
+use Rattle.circus_value_text.specs.Reading.{Read, behind_prefix, behind, between, comma, items_read, items_within, arm_reading}
 
 -- the code's answer is this one, or memory ran out
 abbrev pub Gives : {X Y : Type 0} → (Y → X) → List ℕ → Result (Y × ℕ) Unread → Read X → Type 0
@@ -58,11 +58,11 @@ count_mark (n ∷ ns) = codes ","
 
 -- a value behind these, and behind the mark that stands between
 abbrev pub next_read : List ValueTree → (List ℕ → Read ValueTree) → List ℕ → Read ValueTree
-next_read before item text = behind (passed (mark_behind before) text) item
+next_read before item text = behind (behind_prefix (mark_behind before) text) item
 
 -- whether the text begins with a mark
 abbrev pub stands : List ℕ → List ℕ → Bool
-stands mark text = is_some (passed mark text)
+stands mark text = is_some (behind_prefix mark text)
 
 -- the items of an array, those of a sequence, and what a choice has behind its number
 abbrev pub array_read : (List ℕ → Read ValueTree) → ℕ → List ℕ → Read (List ValueTree)

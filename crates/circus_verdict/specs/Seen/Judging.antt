@@ -38,7 +38,7 @@ module _ {M : Type 0} (declared : M → Signature) (turn : M → List ValueTree 
   pub record HasStopped (boot : GivenEvent) (later : List GivenEvent) (peer : ℕ) : Type 0 where
     pub hosted : Option M
     pub is_hosted : booting.IsHosted declared turn first d modules node hosted
-    pub ends : (booting.booted declared turn first d hosted node ≡ Err peer) ⊎ EndsAmong declared turn first d node hosted boot later peer
+    pub ends : (booting.boot_node declared turn first d hosted node ≡ Err peer) ⊎ EndsAmong declared turn first d node hosted boot later peer
 
 -- the events of a record as a node of the program gives them
 pub record AreEvents (d : Deployment) (program : List Behaviour) (given : Given) (lived : Trace) : Type 0 where

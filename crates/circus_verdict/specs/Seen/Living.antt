@@ -81,7 +81,7 @@ module _ {M : Type 0} (declared : M → Signature) (turn : M → List ValueTree 
     pub numbered : IsNumbered lived
     pub came : came_in lived ≡ None ∷ map (λ (e : GivenEvent). e.event) before
     pub comes : told.event ≡ Some event
-    pub spent : step.stepped declared turn (now lived + 1) event core ≡ Err peer
+    pub spent : step.step_node declared turn (now lived + 1) event core ≡ Err peer
 
   -- one of these events has no end
   pub record EndsAmong (hosted : Option M) (boot : GivenEvent) (later : List GivenEvent) (peer : ℕ) : Type 0 where

@@ -10,7 +10,7 @@ use Rattle.circus_node.specs.declared.event.Outputs.{Outputs}
 use Rattle.circus_node.specs.declared.event.StepFault.{StepFault}
 use Rattle.circus_node.specs.declared.event.StepFault.TheVariants as fault
 use Rattle.circus_node.specs.NodeState.{NodeState}
-use Rattle.circus_node.specs.Step.{CanCome, stepped}
+use Rattle.circus_node.specs.Step.{CanCome, step_node}
 use Rattle.circus_world.specs.declared.slot.Slot.{Slot}
 
 module _ {M P : Type 0} where
@@ -26,11 +26,11 @@ module _ {M P : Type 0} (declared : M → Signature) (turn : M → List ValueTre
     pub core : old.core ≡ Some before
     pub after : NodeState M
     pub outputs : Outputs
-    pub stepped_is : stepped declared turn at event before ≡ Ok (after, outputs)
+    pub stepped_is : step_node declared turn at event before ≡ Ok (after, outputs)
     pub new_is : new ≡ record old { core = Some after }
     pub gives_are : gives ≡ outputs.gives
 
   abbrev pub IsMade : ℕ → Event → Slot M P → Slot M P → Result (List Give) StepFault → Type 0
   IsMade at event old new (Ok gives) = HasMade at event old new gives
-  IsMade at event old new (Err (fault.Spent peer)) = (before : NodeState M) × (old.core ≡ Some before) × (stepped declared turn at event before ≡ Err peer)
+  IsMade at event old new (Err (fault.Spent peer)) = (before : NodeState M) × (old.core ≡ Some before) × (step_node declared turn at event before ≡ Err peer)
   IsMade at event old new (Err fault.NoMemory) = Unit {0}

@@ -9,8 +9,8 @@ use Rattle.circus_node.specs.declared.event.Event.{Event}
 use Rattle.circus_node.specs.declared.event.Give.{Give}
 use Rattle.circus_node.specs.declared.event.Outputs.{Outputs}
 use Rattle.circus_node.specs.NodeState.{NodeState}
-use Rattle.circus_node.specs.Step.{stepped}
-use Rattle.circus_node.specs.Booting.{booted, IsHosted}
+use Rattle.circus_node.specs.Step.{step_node}
+use Rattle.circus_node.specs.Booting.{boot_node, IsHosted}
 use Rattle.circus_world.specs.declared.sent.Sent.{Sent}
 use Rattle.circus_world.specs.declared.slot.Slot.{Slot}
 use Rattle.circus_world.specs.declared.world.BootFault.{BootFault}
@@ -39,7 +39,7 @@ module _ {M P : Type 0} (declared : M → Signature) (turn : M → List ValueTre
     pub there : slice_get old node ≡ Some slot
     pub before : NodeState M
     pub core : slot.core ≡ Some before
-    pub stepped_is : stepped declared turn at event before ≡ Err peer
+    pub stepped_is : step_node declared turn at event before ≡ Err peer
 
   abbrev pub IsMadeAt : ℕ → ℕ → Event → List (Slot M P) → List Sent → List (Slot M P) → List Sent → Result (Unit {0}) Loss → Type 0
   IsMadeAt at node event old before new after (Ok done) = HasMadeAt at node event old before new after
@@ -51,7 +51,7 @@ module _ {M : Type 0} (declared : M → Signature) (turn : M → List ValueTree 
   pub record IsSpentAtBoot (d : Deployment) (modules : List M) (node peer : ℕ) : Type 0 where
     pub own : Option M
     pub hosts : IsHosted declared turn first d modules node own
-    pub booted_is : booted declared turn first d own node ≡ Err peer
+    pub booted_is : boot_node declared turn first d own node ≡ Err peer
 
   -- when all nodes boot, one has no number left for another one
   pub record IsSpent (d : Deployment) (modules : List M) (node peer : ℕ) : Type 0 where
@@ -66,7 +66,7 @@ module _ {M P : Type 0} (declared : M → Signature) (turn : M → List ValueTre
     pub hosts : IsHosted declared turn first d modules node own
     pub core : NodeState M
     pub outputs : Outputs
-    pub booted_is : booted declared turn first d own node ≡ Ok (core, outputs)
+    pub booted_is : boot_node declared turn first d own node ≡ Ok (core, outputs)
     pub new_is : new ≡ old ++ record { core = Some core; crashed = None; joins = false } ∷ []
     pub after_is : after ≡ before ++ map (sent_by 0 node) outputs.gives
 

@@ -29,7 +29,7 @@ use Rattle.circus_node.specs.Accepting.{troupe_at}
 use Rattle.circus_node.specs.declared.event.Outputs.{Outputs}
 use Rattle.circus_node.specs.NodeState.{NodeState}
 use Rattle.circus_node.specs.Making.{Made}
-use Rattle.circus_node.specs.Booting.{home_in, home_of, IsOfTroupe, CanBoot, fresh_wire, member_at_boot, ring_at_boot, made_at_boot, booted}
+use Rattle.circus_node.specs.Booting.{home_in, home_of, IsOfTroupe, CanBoot, fresh_wire, member_at_boot, ring_at_boot, made_at_boot, boot_node}
 use Rattle.circus_node.proofs.BootLemmas.{is_home}
 use Rattle.circus_node.proofs.ViewLemmas.{booted_knows}
 use Rattle.circus_talks.specs.NodeActs.{with_all, handed_by, acts_at_boot}
@@ -69,7 +69,7 @@ module _ {M : Type 0} (declared : M → Signature) (turn : M → List ValueTree 
   member_made number troupe hosted hosts there of =
       let home = home_in d own number troupe in
       let views = boot_views d.troupes in
-      let e = member_step.booted declared turn first home.place views home.beginning hosted in
+      let e = member_step.boot_member declared turn first home.place views home.beginning hosted in
       let at : home_of d own ≡ Some home = ap (λ o. option_and_then (λ n. option_map (home_in d own n) (slice_get d.troupes n)) o) hosts ∙ ap (option_map (home_in d own number)) there in
       let stands_ : IsHome (declared hosted) home.place views = is_home d own home (declared hosted) is at of in
       let reaches = boot_reaches (Hosts d) (IsOtherOf d own) home.place
@@ -126,7 +126,7 @@ module _ {M : Type 0} (declared : M → Signature) (turn : M → List ValueTree 
       record { all = handing.all_handed fresh is.format (made_at_boot declared turn first d (home_of d own) hosted).came.effects h.up h.brief; returns = h.returns }
 
   -- and it is at its border then
-  pub boot_at_border : (hosted : Option M) (r : NodeState M × Outputs) → CanBoot d own (option_map declared hosted) → booted declared turn first d hosted own ≡ Ok r
+  pub boot_at_border : (hosted : Option M) (r : NodeState M × Outputs) → CanBoot d own (option_map declared hosted) → boot_node declared turn first d hosted own ≡ Ok r
       → IsAtBorder declared turn first lawful d is own (with_all none_yet (acts_at_boot declared turn first d hosted own)) r.0
   boot_at_border hosted r can ends =
       let m : Made M = made_at_boot declared turn first d (home_of d own) hosted in

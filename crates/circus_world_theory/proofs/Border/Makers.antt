@@ -15,7 +15,7 @@ use Rattle.circus_collate.specs.declared.deployment.Deployment.{Deployment}
 use Rattle.circus_model.specs.NextTurn.{NextTurn}
 use Rattle.circus_model.specs.declared.signature.Signature.{Signature}
 use Rattle.circus_pair.specs.Acts.{Act, Call, Return, Came, Tick, Stop, Acts, more}
-use Rattle.circus_pair.specs.Handed.{made, call_at, return_at}
+use Rattle.circus_pair.specs.Handed.{calls_made, call_at, return_at}
 use Rattle.circus_pair.specs.Lawful.{is_stopped_after}
 use Rattle.circus_pair.specs.TwoEnds.{with_act}
 use Rattle.circus_wire.specs.Wire.{WireState, Beginning, is_up}
@@ -32,7 +32,7 @@ use Rattle.circus_schedule.specs.declared.line.Line.{Line}
 use Rattle.circus_world.specs.WorldState.{WorldState, Standing}
 use Rattle.circus_world.specs.Lines.{Lead}
 use Rattle.circus_talks.specs.Histories.{beginning_of, comes_by, with_step, with_line, with_lines, with_others, acts_of, acts_between}
-use Rattle.circus_talks.specs.NodeActs.{with_all, coming, came_by, handed_by, wire_behind, acts_in, acts_at_boot}
+use Rattle.circus_talks.specs.NodeActs.{with_all, acts_of_datagram, came_by, handed_by, wire_behind, acts_in, acts_at_boot}
 use Rattle.circus_node.specs.Trace.{effects_in}
 use Rattle.circus_world_theory.specs.Made.{act_of}
 use Rattle.circus_world_theory.specs.Made.{WasMade, WasMadeAtAll, CallWasMade}
@@ -99,27 +99,27 @@ was_called b (followed_by acts (CallTo to m purpose)) other number message is = 
     here = acts_at (pair_of b) other acts
 
     by_number : (call_at b.first here number ≡ Some message → WasCalled b acts other number message) → eqb to other ≡ true → to ≡ other
-        → ((eqb number (b.first + made here) ≡ true) × (number ≡ b.first + made here)) ⊎ ((eqb number (b.first + made here) ≡ false) × (number ≢ b.first + made here))
-        → cond (eqb number (b.first + made here)) (Some m) (call_at b.first here number) ≡ Some message → WasCalled b (followed_by acts (CallTo to m purpose)) other number message
+        → ((eqb number (b.first + calls_made here) ≡ true) × (number ≡ b.first + calls_made here)) ⊎ ((eqb number (b.first + calls_made here) ≡ false) × (number ≢ b.first + calls_made here))
+        → cond (eqb number (b.first + calls_made here)) (Some m) (call_at b.first here number) ≡ Some message → WasCalled b (followed_by acts (CallTo to m purpose)) other number message
     by_number rest test same (inl one) is =
         let says : m ≡ message = same_Some m message (sym (ap (λ x. cond x (Some m) (call_at b.first here number)) one.0) ∙ is) in
         record {
           purpose = purpose;
           among = inr (λ i. CallTo (same i) (says i) purpose);
-          is_for = ap (λ x. cond (x && eqb number (b.first + made here)) (Some purpose) (purpose_of (pair_of b) other acts number)) test
+          is_for = ap (λ x. cond (x && eqb number (b.first + calls_made here)) (Some purpose) (purpose_of (pair_of b) other acts number)) test
               ∙ ap (λ x. cond x (Some purpose) (purpose_of (pair_of b) other acts number)) one.0;
         }
     by_number rest test same (inr differs) is =
         called_on b acts (CallTo to m purpose) other number message
-        (ap (λ x. cond (x && eqb number (b.first + made here)) (Some purpose) (purpose_of (pair_of b) other acts number)) test
+        (ap (λ x. cond (x && eqb number (b.first + calls_made here)) (Some purpose) (purpose_of (pair_of b) other acts number)) test
         ∙ ap (λ x. cond x (Some purpose) (purpose_of (pair_of b) other acts number)) differs.0)
         (rest (sym (ap (λ x. cond x (Some m) (call_at b.first here number)) differs.0) ∙ is))
 
     by_node : (call_at b.first here number ≡ Some message → WasCalled b acts other number message)
         → ((eqb to other ≡ true) × (to ≡ other)) ⊎ ((eqb to other ≡ false) × (to ≢ other)) → WasCalled b (followed_by acts (CallTo to m purpose)) other number message
-    by_node rest (inl same) = by_number rest same.0 same.1 (eqb_tells number (b.first + made here)) (sym (ap (λ x. call_at b.first (with_act here (cond x (Some (Call m)) None)) number) same.0) ∙ is)
+    by_node rest (inl same) = by_number rest same.0 same.1 (eqb_tells number (b.first + calls_made here)) (sym (ap (λ x. call_at b.first (with_act here (cond x (Some (Call m)) None)) number) same.0) ∙ is)
     by_node rest (inr differs) =
-        called_on b acts (CallTo to m purpose) other number message (ap (λ x. cond (x && eqb number (b.first + made here)) (Some purpose) (purpose_of (pair_of b) other acts number)) differs.0)
+        called_on b acts (CallTo to m purpose) other number message (ap (λ x. cond (x && eqb number (b.first + calls_made here)) (Some purpose) (purpose_of (pair_of b) other acts number)) differs.0)
         (rest (sym (ap (λ x. call_at b.first (with_act here (cond x (Some (Call m)) None)) number) differs.0) ∙ is))
 was_called b (followed_by acts (AnswerTo caller m)) other number message is =
     let here = acts_at (pair_of b) other acts in
@@ -202,7 +202,7 @@ handed_act w (makes.Answer caller message) act at = by_test (is_sendable w.forma
 pub no_event : (event : Event) (e : Effect) → IsIn (came_by event) (act_of e) → ⊥
 no_event (comes.Datagram from bytes) e at = by_segment (reading bytes) e at
   where
-    by_segment : (segment : Result Piece SegmentFault) (e : Effect) → IsIn (coming from segment) (act_of e) → ⊥
+    by_segment : (segment : Result Piece SegmentFault) (e : Effect) → IsIn (acts_of_datagram from segment) (act_of e) → ⊥
     by_segment (Ok s) (makes.Call to message purpose) (inl same) = (let clash : ◌≡◌ {A = WireAct Purpose} (CameFrom from s) (CallTo to message purpose) = same in cc)
     by_segment (Ok s) (makes.Answer caller message) (inl same) = (let clash : ◌≡◌ {A = WireAct Purpose} (CameFrom from s) (AnswerTo caller message) = same in cc)
     by_segment (Ok s) e (inr none) = none

@@ -17,7 +17,7 @@ use Rattle.circus_model.specs.Behaviour.{IsModule}
 use Rattle.circus_gather.specs.Gathering.{answer_to, with_first}
 use Rattle.circus_gather.specs.declared.added.Added.{Added}
 use Rattle.circus_gather.specs.declared.added.Added.TheVariants as added
-use Rattle.circus_fanout.specs.Knowing.{Knowing, is_newer, told, answered, declared as declared_of}
+use Rattle.circus_fanout.specs.Knowing.{Knowing, is_newer, note_view, note_answer, note_down as declared_of}
 use Rattle.circus_performing.specs.Performing.{is_fetching, made_active}
 use Rattle.circus_performing.specs.Record.{behaviour}
 use Rattle.circus_wire.specs.Wire.{WireState, is_up}
@@ -31,7 +31,7 @@ use Rattle.circus_member_rules.specs.declared.occurrence.Occurrence.TheVariants 
 use Rattle.circus_member_rules.specs.Rules.{wanted_by_call, active_call, before_answers}
 use Rattle.circus_member_rules.specs.Happening.{CanHappen}
 use Rattle.circus_member_rules.specs.MemberState.{MemberState, Doing}
-use Rattle.circus_member_rules.specs.Step.{is_lookup, handled, stepped, executed}
+use Rattle.circus_member_rules.specs.Step.{is_lookup, handle, step_member, execute}
 use Rattle.circus_member_rules.proofs.Resting.{rested}
 use Rattle.circus_member_rules.proofs.Starting.{IsSoundNow, sound_executed}
 use Rattle.circus_node.proofs.ViewLemmas.{executed_knows}
@@ -69,7 +69,7 @@ declared_among k down node = by_known (is_among k.down down) refl
     by_known false is = list_any-append (λ n. n == node) k.down (down ∷ []) ∙ or_same (eqb down node) (is_among k.down node)
 
 module _ {M : Type 0} where
-  handled_down : (at : ℕ) (o : Occurrence) (m : MemberState M) → (handled at o m).member.known.down ≡ down_by o m.known
+  handled_down : (at : ℕ) (o : Occurrence) (m : MemberState M) → (handle at o m).member.known.down ≡ down_by o m.known
   handled_down at (comes.Asked header body sender) m = by_added (answer_to m.gathered header)
     where
       by_added : (a : Added) → (wanted_by_call a header m.known).down ≡ m.known.down
@@ -83,11 +83,11 @@ module _ {M : Type 0} where
   handled_down at (comes.IsBefore name from) m = refl
   handled_down at (comes.Told request table) m = by_request (is_lookup request)
     where
-      by_newer : (k : Knowing) → (told k table.view).down ≡ k.down
+      by_newer : (k : Knowing) → (note_view k table.view).down ≡ k.down
       by_newer k = elim (is_newer k table.view) as (λ b. let t : Knowing = if b then record k { views = slice_set k.views table.view.troupe table.view } else k in t.down ≡ k.down) [ true ↦ refl | false ↦ refl ]
 
-      by_request : (b : Bool) → (told (if b then answered m.known table.view.troupe else m.known) table.view).down ≡ m.known.down
-      by_request true = by_newer (answered m.known table.view.troupe)
+      by_request : (b : Bool) → (note_view (if b then note_answer m.known table.view.troupe else m.known) table.view).down ≡ m.known.down
+      by_request true = by_newer (note_answer m.known table.view.troupe)
       by_request false = by_newer m.known
   handled_down at (comes.Restored state count) m = by_test (is_fetching m.performing.kept.phase)
     where
@@ -100,14 +100,14 @@ module _ {M : Type 0} where
 
 module _ {M : Type 0} (declared : M → Signature) (turn : M → List ValueTree → ℕ → List ValueTree → List Outcome → NextTurn) (first : M → List ValueTree)
     (lawful : (hosted : M) → IsModule (behaviour declared turn first hosted)) where
-  stepped_down : (at : ℕ) (o : Occurrence) (m : MemberState M) → (stepped declared turn at o m).member.known.down ≡ down_by o m.known
-  stepped_down at o m = ap (λ (k : Knowing). k.down) (executed_knows declared turn at (handled at o m)) ∙ handled_down at o m
+  stepped_down : (at : ℕ) (o : Occurrence) (m : MemberState M) → (step_member declared turn at o m).member.known.down ≡ down_by o m.known
+  stepped_down at o m = ap (λ (k : Knowing). k.down) (executed_knows declared turn at (handle at o m)) ∙ handled_down at o m
 
   stepped_sound : (at : ℕ) (o : Occurrence) (m : MemberState M) → CanHappen (declared m.performing.hosted) m o → InRange o → IsSoundNow declared turn first lawful m
-      → IsSoundNow declared turn first lawful (stepped declared turn at o m).member
+      → IsSoundNow declared turn first lawful (step_member declared turn at o m).member
   stepped_sound at o m can ranges sound =
-      let d = executed declared turn at (handled at o m) in
-      (rested (behaves declared turn first lawful d) d (sound_executed declared turn first lawful at (handled at o m) (sound_once_handled declared turn first lawful at o m sound can ranges))).sound
+      let d = execute declared turn at (handle at o m) in
+      (rested (behaves declared turn first lawful d) d (sound_executed declared turn first lawful at (handle at o m) (sound_once_handled declared turn first lawful at o m sound can ranges))).sound
 
   module _ (d : Deployment) (is : IsDeployment d) (own : ℕ) where
     -- the nodes that are up are those that the member doesn't know to be down
@@ -149,9 +149,9 @@ module _ {M : Type 0} (declared : M → Signature) (turn : M → List ValueTree 
     goes_up w down up (made.Answer caller message) reaches = tt
 
     pub happens_sent : (w v : WireState Purpose) (before acts : WireActs Purpose) (at : ℕ) (o : Occurrence) (m : MemberState M) → IsMemberAt v before m → MayStep w acts o m
-        → IsSent w acts (stepped declared turn at o m).member (stepped declared turn at o m).effects
+        → IsSent w acts (step_member declared turn at o m).member (step_member declared turn at o m).effects
     happens_sent w v before acts at o m h may =
-        let e = stepped declared turn at o m in
+        let e = step_member declared turn at o m in
         let b = beginning_of d own in
         let reaches = step_reaches (Hosts d) (IsOtherOf d own) h.place
         (may_be_called d is own h.place h.at_own h.own_hosts) declared turn first lawful at o m may.can may.ranges may.tells h.sound h.reaching in

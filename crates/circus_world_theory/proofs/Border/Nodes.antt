@@ -36,9 +36,9 @@ use Rattle.circus_member_rules.specs.declared.occurrence.Occurrence.TheVariants 
 use Rattle.circus_member_rules.specs.Rules.{answer}
 use Rattle.circus_member_rules.specs.Happening.{CanHappen}
 use Rattle.circus_member_rules.specs.MemberState.{MemberState}
-use Rattle.circus_node.specs.Accepting.{accepted, accepted_request}
+use Rattle.circus_node.specs.Accepting.{occurrence_of_heard, accepted_request}
 use Rattle.circus_node.specs.NodeState.{Acting, member, ringmaster}
-use Rattle.circus_node.specs.Making.{Made, hears, arrives_at_member, called_at_ring, performs, table_message, learns_down, is_told_to_join, happens, unchanged, refused, by_ring, consequences, a_drop}
+use Rattle.circus_node.specs.Making.{Made, hears, arrives_at_member, called_at_ring, performs, table_message, learns_down, is_told_to_join, happens, keep_acting, refuse, by_ring, consequences, a_drop}
 use Rattle.circus_node.specs.Seen.Kept.{IsRingOf}
 use Rattle.circus_node.proofs.RingLemmas.{is_table, still_ring}
 use Rattle.circus_talks.specs.NodeActs.{with_all}
@@ -99,13 +99,13 @@ module _ {M : Type 0} (declared : M → Signature) (turn : M → List ValueTree 
 
   -- what a member accepts can happen to it
   abbrev pub TakesRightly : ℕ → Heard Purpose → Acting M → Type 0
-  TakesRightly from heard (member m) = (o : Occurrence) → accepted d (declared m.performing.hosted) m from heard ≡ Some o → CanHappen (declared m.performing.hosted) m o × InRange o
+  TakesRightly from heard (member m) = (o : Occurrence) → occurrence_of_heard d (declared m.performing.hosted) m from heard ≡ Some o → CanHappen (declared m.performing.hosted) m o × InRange o
   TakesRightly from heard (ringmaster kept) = Unit {0}
 
-  nothing_made : (w : WireState Purpose) (acts : WireActs Purpose) (a : Acting M) → AtBorder w acts a → IsMadeAt w acts (refused a)
+  nothing_made : (w : WireState Purpose) (acts : WireActs Purpose) (a : Acting M) → AtBorder w acts a → IsMadeAt w acts (refuse a)
   nothing_made w acts a at = record { up = All-nil (GoesUp w); brief = All-nil (SaysBriefly (limit_of d.format)); returns = tt; acting = at }
 
-  nothing_new : (w : WireState Purpose) (acts : WireActs Purpose) (a : Acting M) → AtBorder w acts a → IsMadeAt w acts (unchanged a)
+  nothing_new : (w : WireState Purpose) (acts : WireActs Purpose) (a : Acting M) → AtBorder w acts a → IsMadeAt w acts (keep_acting a)
   nothing_new w acts a at = record { up = All-nil (GoesUp w); brief = All-nil (SaysBriefly (limit_of d.format)); returns = tt; acting = at }
 
   -- ---- the wire and the acts go on, and the node stays as it is
@@ -193,10 +193,10 @@ module _ {M : Type 0} (declared : M → Signature) (turn : M → List ValueTree 
     accepted_made : (at from : ℕ) (heard : Heard Purpose) (m : MemberState M) → IsMemberAt declared turn first lawful d is own v before m → TakesRightly from heard (member m)
         → Comes before acts still heard
         → IsMadeAt w acts (arrives_at_member declared turn d at from heard m)
-    accepted_made at from heard m h takes came = by_taken (accepted d (declared m.performing.hosted) m from heard) refl
+    accepted_made at from heard m h takes came = by_taken (occurrence_of_heard d (declared m.performing.hosted) m from heard) refl
       where
-        by_taken : (o : Option Occurrence) → accepted d (declared m.performing.hosted) m from heard ≡ o
-            → IsMadeAt w acts (option_map_or (happens declared turn at m) o (refused (member m)))
+        by_taken : (o : Option Occurrence) → occurrence_of_heard d (declared m.performing.hosted) m from heard ≡ o
+            → IsMadeAt w acts (option_map_or (happens declared turn at m) o (refuse (member m)))
         by_taken None none = nothing_made w acts (member m) (still_at v w before acts (member m) up still h)
         by_taken (Some o) some =
             let taken = accepted_is d is (declared m.performing.hosted) m from heard o some in

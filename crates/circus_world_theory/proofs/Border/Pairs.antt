@@ -25,7 +25,7 @@ use Rattle.circus_pair.proofs.Standing.{arrival_is}
 use Rattle.circus_value.specs.declared.caller.Caller.{Caller}
 use Rattle.circus_wire.specs.declared.delivery.Heard.{Heard}
 use Rattle.circus_wire.specs.declared.delivery.Heard.TheVariants.{Dropped, Called}
-use Rattle.circus_wire.specs.Wire.{PeerState, WireState, Beginning, IsOther, place_of, node_at, changed_at, changed, peer_at, of_peer, is_up, is_awaited, called_to, answered, peer_called, peer_answered, peer_heard, peer_ticked, peer_stopped, told, told_return, heard_by, heard_from, after_datagram, all_ticked, stopped_at}
+use Rattle.circus_wire.specs.Wire.{PeerState, WireState, Beginning, IsOther, place_of, node_at, changed_at, change_peer, peer_at, of_peer, is_up, is_awaited, called_to, answer_caller, peer_called, peer_answered, peer_heard, peer_ticked, peer_stopped, hear_arrival, told_return, heard_by, heard_from, after_datagram, all_ticked, stopped_at}
 use Rattle.circus_wire.specs.WireActs.{WireAct, WireActs, followed_by, CallTo, AnswerTo, CameFrom, TickAll, StopOf, act_at, acts_at, awaits_after}
 use Rattle.circus_wire.specs.WireStanding.{pair_of, PeerStands, WireStands}
 use Rattle.circus_wire.proofs.Changing.{peer_is}
@@ -54,7 +54,7 @@ module _ {P : Type 0} where
     up_there (p ∷ peers) (suc place) zero = refl
     up_there (p ∷ peers) (suc place) (suc other) = up_there peers place other
 
-    up_changed : (w : WireState P) (at node : ℕ) → is_up (changed change w at) node ≡ is_up w node
+    up_changed : (w : WireState P) (at node : ℕ) → is_up (change_peer change w at) node ≡ is_up w node
     unfolding peer_at
     up_changed w at node =
         up_either (eqb node w.own) (slice_get (changed_at change w.peers (place_of w.own at)) (place_of w.own node)) (slice_get w.peers (place_of w.own node))
@@ -68,10 +68,10 @@ module _ {P : Type 0} where
   pub up_called : (w : WireState P) (to node : ℕ) (message : List ℕ) (purpose : P) → is_up (called_to w to message purpose) node ≡ is_up w node
   up_called w to node message purpose = up_changed (λ p. peer_called p message purpose) (λ p. (lasts_called p.exchange message).stopped) w to node
 
-  pub up_answered : (w : WireState P) (caller : Caller) (message : List ℕ) (node : ℕ) → is_up (answered w caller message) node ≡ is_up w node
+  pub up_answered : (w : WireState P) (caller : Caller) (message : List ℕ) (node : ℕ) → is_up (answer_caller w caller message) node ≡ is_up w node
   up_answered w caller message node = by_test (is_awaited w caller)
     where
-      by_test : (b : Bool) → is_up (if b then changed (λ p. peer_answered p caller.number message) w caller.node else w) node ≡ is_up w node
+      by_test : (b : Bool) → is_up (if b then change_peer (λ p. peer_answered p caller.number message) w caller.node else w) node ≡ is_up w node
       by_test true = up_changed (λ p. peer_answered p caller.number message) (λ p. (lasts_returned p.exchange caller.number message).stopped) w caller.node node
       by_test false = refl
 
@@ -258,7 +258,7 @@ unarrived first format acts s call message lawful segment arrived =
     ] refl
 
 module _ {P : Type 0} where
-  called_return : (f : ℕ → Option P) (node : ℕ) (arrived : Arrived) (sender : Caller) (message : List ℕ) → ◌≡◌ {A = Heard P} (told f node arrived) (Called sender message)
+  called_return : (f : ℕ → Option P) (node : ℕ) (arrived : Arrived) (sender : Caller) (message : List ℕ) → ◌≡◌ {A = Heard P} (hear_arrival f node arrived) (Called sender message)
       → (arrived ≡ ArrivedCall sender.number message) × (sender.node ≡ node)
   called_return f node Nothing sender message is = absurd cc
   called_return f node (ArrivedCall number m) sender message is = called (record { node = node; number = number }) m is
@@ -299,7 +299,7 @@ module _ {P : Type 0} where
       ∙ awaited b.first b.format here s sender.number message lawful arrived in
       record { of = says.1; new = subst (λ (x : Caller). has_arrived (taken_by e (acts_at e x.node acts)) 0 x.number ≡ false) same new; before = subst (λ (x : Caller). awaits_in b acts x ≡ false) same before; now = subst (λ (x : Caller). awaits_in b (followed_by acts (CameFrom from s)) x ≡ true) same now }
     where
-      by_test : (p : PeerState P) (t : Bool) → ◌≡◌ {A = Heard P} (if t then told (get p.purposes) from (arrived_after p.exchange s) else Dropped) (Called sender message)
+      by_test : (p : PeerState P) (t : Bool) → ◌≡◌ {A = Heard P} (if t then hear_arrival (get p.purposes) from (arrived_after p.exchange s) else Dropped) (Called sender message)
           → (arrived_after p.exchange s ≡ ArrivedCall sender.number message) × (sender.node ≡ from)
       by_test p true is = called_return (get p.purposes) from (arrived_after p.exchange s) sender message is
       by_test p false is = absurd cc

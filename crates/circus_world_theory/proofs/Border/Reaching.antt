@@ -21,7 +21,7 @@ use Rattle.circus_model.specs.NextTurn.{NextTurn}
 use Rattle.circus_model.specs.Behaviour.{IsModule}
 use Rattle.circus_record.specs.declared.record.AskRecord.{AskRecord}
 use Rattle.circus_record.specs.declared.record.RunRecord.{RunRecord}
-use Rattle.circus_fanout.specs.Knowing.{Knowing, is_newer, told, declared as declared_of}
+use Rattle.circus_fanout.specs.Knowing.{Knowing, is_newer, note_view, note_down as declared_of}
 use Rattle.circus_gather.specs.Gathering.{answer_to, with_call, with_first}
 use Rattle.circus_gather.specs.Gathering as gathering
 use Rattle.circus_gather.specs.declared.added.Added.{Added}
@@ -47,7 +47,7 @@ use Rattle.circus_member_rules.specs.Happening.{IsHome, CanHappen}
 use Rattle.circus_member_rules.specs.Seen.Sound.{IsRunOf}
 use Rattle.circus_member_rules.specs.MemberState.{MemberState, Doing}
 use Rattle.circus_member_rules.specs.Step as step
-use Rattle.circus_member_rules.specs.Step.{name_of_last, asking_begun, known_by_table, booted, answered_by_ring, is_taken_in, closed, looked_up, executed, handled, stepped, opened_by_view}
+use Rattle.circus_member_rules.specs.Step.{name_of_last, asking_begun, known_by_table, boot_member, answered_by_ring, is_taken_in, keep_ask_open, look_up, execute, handle, step_member, opened_by_view}
 use Rattle.circus_member_rules.proofs.Named.{All-changed, All-opened, found_holds}
 use Rattle.circus_member_rules.proofs.Held.{All-passed}
 use Rattle.circus_member_rules.proofs.Homes.{ring_views, declared_views}
@@ -124,7 +124,7 @@ All-if P false xs ys one other = other
 
 -- ---- what is known
 
-told_of : (P : ℕ → ℕ → Type 0) (k : Knowing) (view : View) → All (λ (e : Entry). P view.troupe e.node) view.entries → AreOf P k.views → AreOf P (told k view).views
+told_of : (P : ℕ → ℕ → Type 0) (k : Knowing) (view : View) → All (λ (e : Entry). P view.troupe e.node) view.entries → AreOf P k.views → AreOf P (note_view k view).views
 told_of P k view new old = by_test (is_newer k view)
   where
     by_test : (b : Bool) → let t : Knowing = if b then record k { views = set k.views view.troupe view } else k in AreOf P t.views
@@ -287,7 +287,7 @@ module _ (P : ℕ → ℕ → Type 0) (Q : ℕ → Type 0) (place : Place) (may 
     changed_below name change asks same all =
         All-changed (λ (a : Asking). a.header.server < place.troupe) name change asks (λ a is low. subst (λ (x : CallHeader). x.server < place.troupe) (sym (same a)) low) all
 
-    asked_reaching : (m : MemberState M) (header : CallHeader) (body : List ℕ) (sender : Caller) → IsReaching (begun m) → IsReaching (step.asked m header body sender)
+    asked_reaching : (m : MemberState M) (header : CallHeader) (body : List ℕ) (sender : Caller) → IsReaching (begun m) → IsReaching (step.handle_call m header body sender)
     asked_reaching m header body sender h = by_added (answer_to m.gathered header)
       where
         by_added : (a : Added) → let d : Doing M =
@@ -307,7 +307,7 @@ module _ (P : ℕ → ℕ → Type 0) (Q : ℕ → Type 0) (place : Place) (may 
             record { at = h.at; views = h.views; asks = h.asks; effects = All-cons (Reaches m.known.down Q) (answer (before_message start) sender) [] tt (All-nil (Reaches m.known.down Q)) }
         by_added added.Held = record { at = h.at; views = h.views; asks = h.asks; effects = All-nil (Reaches m.known.down Q) }
 
-    stale_reaching : (m : MemberState M) (name : AskName) (server from incarnation : ℕ) → IsReaching (begun m) → IsReaching (step.stale m name server from incarnation)
+    stale_reaching : (m : MemberState M) (name : AskName) (server from incarnation : ℕ) → IsReaching (begun m) → IsReaching (step.handle_stale m name server from incarnation)
     stale_reaching m name server from incarnation h =
         record {
           at = h.at;
@@ -328,7 +328,7 @@ module _ (P : ℕ → ℕ → Type 0) (Q : ℕ → Type 0) (place : Place) (may 
         by_ask (Some a) some = again_reach m.known name from incarnation a h.views (found_holds (λ (x : Asking). x.header.server < place.troupe) m.asks name a h.asks some)
 
     told_reaching : (m : MemberState M) (request : Request) (table : Table) → All (λ (e : Entry). P table.view.troupe e.node) table.view.entries → IsReaching (begun m)
-        → IsReaching (step.told m request table)
+        → IsReaching (step.handle_table m request table)
     told_reaching m request table are h =
         let view = table.view in
         let k = known_by_table m.known request view in
@@ -360,7 +360,7 @@ module _ (P : ℕ → ℕ → Type 0) (Q : ℕ → Type 0) (place : Place) (may 
         by_newer true = seen_below m.asks h.asks
         by_newer false = h.asks
 
-    restored_reaching : (at : ℕ) (m : MemberState M) (state : List ValueTree) (count : ℕ) → IsReaching (begun m) → IsReaching (step.restored at m state count)
+    restored_reaching : (at : ℕ) (m : MemberState M) (state : List ValueTree) (count : ℕ) → IsReaching (begun m) → IsReaching (step.handle_state at m state count)
     restored_reaching at m state count h = by_test (is_fetching m.performing.kept.phase)
       where
         by_test : (t : Bool) → let d : Doing M =
@@ -384,7 +384,7 @@ module _ (P : ℕ → ℕ → Type 0) (Q : ℕ → Type 0) (place : Place) (may 
           effects = subst (λ p. AllReach (declared_of m.known node).down Q (gone_call p (declared_of m.known node) node)) (sym h.at) (gone_reaches (declared_of m.known node) node);
         }
 
-    handled_reaching : (at : ℕ) (o : Occurrence) (m : MemberState M) → TellsOf P o → IsReaching (begun m) → IsReaching (handled at o m)
+    handled_reaching : (at : ℕ) (o : Occurrence) (m : MemberState M) → TellsOf P o → IsReaching (begun m) → IsReaching (handle at o m)
     handled_reaching at (comes.Asked header body sender) m tells h = asked_reaching m header body sender h
     handled_reaching at (comes.Fetched incarnation sender) m tells h = record { at = h.at; views = h.views; asks = h.asks; effects = answers_reach m.known.down _ _ }
     handled_reaching at (comes.Replied name from reply) m tells h =
@@ -399,7 +399,7 @@ module _ (P : ℕ → ℕ → Type 0) (Q : ℕ → Type 0) (place : Place) (may 
 
     -- ---- a step
 
-    ended_reaching : (d : Doing M) → IsReaching d → IsReaching (looked_up (closed d))
+    ended_reaching : (d : Doing M) → IsReaching d → IsReaching (look_up (keep_ask_open d))
     ended_reaching d h =
         record {
           at = h.at;
@@ -411,15 +411,15 @@ module _ (P : ℕ → ℕ → Type 0) (Q : ℕ → Type 0) (place : Place) (may 
     -- what a member calls in a step isn't down behind it, and may be called
     pub step_reaches : (at : ℕ) (o : Occurrence) (m : MemberState M) → CanHappen (declared m.performing.hosted) m o → InRange o → TellsOf P o
         → IsSoundNow declared turn first lawful m
-        → IsReaching (begun m) → IsReaching (stepped declared turn at o m)
+        → IsReaching (begun m) → IsReaching (step_member declared turn at o m)
     step_reaches at o m can ranges tells sound h =
-        ended_reaching (executed declared turn at (handled at o m))
-        (executed_keeps declared turn first lawful at IsReaching (reaching_keeps at) (handled at o m) (sound_once_handled declared turn first lawful at o m sound can ranges)
+        ended_reaching (execute declared turn at (handle at o m))
+        (executed_keeps declared turn first lawful at IsReaching (reaching_keeps at) (handle at o m) (sound_once_handled declared turn first lawful at o m sound can ranges)
         (handled_reaching at o m tells h))
 
     -- and so at boot
     pub boot_reaches : (views : List View) (beginning : Beginning) (hosted : M) → IsHome (declared hosted) place views → AreOf P views
-        → IsReaching (booted declared turn first place views beginning hosted)
+        → IsReaching (boot_member declared turn first place views beginning hosted)
     boot_reaches views beginning hosted home are =
         booted_keeps declared turn first lawful place views hosted home IsReaching (reaching_keeps 0) beginning
         (record { at = refl; views = are; asks = All-nil (λ (e : AskName × Asking). e.1.header.server < place.troupe); effects = All-nil (Reaches [] Q) })

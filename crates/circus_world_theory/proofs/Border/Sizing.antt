@@ -24,7 +24,7 @@ use Rattle.circus_model.specs.Behaviour.{IsModule}
 use Rattle.circus_record.specs.declared.record.AskRecord.{AskRecord}
 use Rattle.circus_record.specs.declared.record.RunRecord.{RunRecord}
 use Rattle.circus_fanout.specs.Knowing as knowing
-use Rattle.circus_fanout.specs.Knowing.{Knowing, is_newer, declared as declared_of}
+use Rattle.circus_fanout.specs.Knowing.{Knowing, is_newer, note_down as declared_of}
 use Rattle.circus_gather.specs.Gathering.{index_of, reply_of, with_first}
 use Rattle.circus_gather.specs.Gathering as gathering
 use Rattle.circus_gather.specs.declared.added.Added.TheVariants as added
@@ -51,7 +51,7 @@ use Rattle.circus_member_rules.specs.Happening.{IsHome, CanHappen}
 use Rattle.circus_member_rules.specs.MemberState.{MemberState, Doing}
 use Rattle.circus_member_rules.specs.Seen.Sound.{IsRunOf}
 use Rattle.circus_member_rules.specs.Step as step
-use Rattle.circus_member_rules.specs.Step.{name_of_last, asking_begun, known_by_table, is_taken_in, is_idle, reply_of_run, closed, looked_up, executed, handled, stepped, opened_by_view, ended_run, booted}
+use Rattle.circus_member_rules.specs.Step.{name_of_last, asking_begun, known_by_table, is_taken_in, is_idle, reply_of_run, keep_ask_open, look_up, execute, handle, step_member, opened_by_view, ended_run, boot_member}
 use Rattle.circus_member_rules.proofs.Concerned.{all_of}
 use Rattle.circus_member_rules.proofs.Named.{All-changed, All-opened, found_holds}
 use Rattle.circus_member_rules.proofs.Held.{called_same}
@@ -233,7 +233,7 @@ module _ (most : ℕ) where
         → All (λ (e : AskName × Asking). IsSmallAsk most e.1) asks → All (λ (e : AskName × Asking). IsSmallAsk most e.1) (with_asking name change asks)
     changed_small name change asks keeps all = All-changed (IsSmallAsk most) name change asks (λ a is small. keeps a small) all
 
-    asked_sized : (m : MemberState M) (header : CallHeader) (body : List ℕ) (sender : Caller) → IsSized (begun m) → IsSized (step.asked m header body sender)
+    asked_sized : (m : MemberState M) (header : CallHeader) (body : List ℕ) (sender : Caller) → IsSized (begun m) → IsSized (step.handle_call m header body sender)
     asked_sized m header body sender h =
         record {
           limit = h.limit;
@@ -251,7 +251,7 @@ module _ (most : ℕ) where
         by_tests false false None small = All-nil (SaysBriefly most)
         by_tests false false (Some reply) small = one_brief (answer (reply_message reply) sender) (reply_brief most reply small)
 
-    stale_sized : (m : MemberState M) (name : AskName) (server from incarnation : ℕ) → IsSized (begun m) → IsSized (step.stale m name server from incarnation)
+    stale_sized : (m : MemberState M) (name : AskName) (server from incarnation : ℕ) → IsSized (begun m) → IsSized (step.handle_stale m name server from incarnation)
     stale_sized m name server from incarnation h =
         record {
           limit = h.limit;
@@ -271,7 +271,7 @@ module _ (most : ℕ) where
         by_ask None none = All-nil (SaysBriefly most)
         by_ask (Some a) some = again_brief m.known name from incarnation a (found_holds (IsSmallAsk most) m.asks name a h.asks some)
 
-    told_sized : (m : MemberState M) (request : Request) (table : Table) → IsSized (begun m) → IsSized (step.told m request table)
+    told_sized : (m : MemberState M) (request : Request) (table : Table) → IsSized (begun m) → IsSized (step.handle_table m request table)
     told_sized m request table h =
         let view = table.view in
         let k = known_by_table m.known request view in
@@ -295,7 +295,7 @@ module _ (most : ℕ) where
             by_to e small true = small
             by_to e small false = small
 
-    restored_sized : (at : ℕ) (m : MemberState M) (state : List ValueTree) (count : ℕ) → IsSized (begun m) → IsSized (step.restored at m state count)
+    restored_sized : (at : ℕ) (m : MemberState M) (state : List ValueTree) (count : ℕ) → IsSized (begun m) → IsSized (step.handle_state at m state count)
     restored_sized at m state count h = by_test (is_fetching m.performing.kept.phase)
       where
         by_test : (t : Bool) → let d : Doing M =
@@ -311,7 +311,7 @@ module _ (most : ℕ) where
             }
         by_test false = h
 
-    handled_sized : (at : ℕ) (o : Occurrence) (m : MemberState M) → IsSized (begun m) → IsSized (handled at o m)
+    handled_sized : (at : ℕ) (o : Occurrence) (m : MemberState M) → IsSized (begun m) → IsSized (handle at o m)
     handled_sized at (comes.Asked header body sender) m h = asked_sized m header body sender h
     handled_sized at (comes.Fetched incarnation sender) m h =
         record {
@@ -333,7 +333,7 @@ module _ (most : ℕ) where
 
     -- ---- a step
 
-    rested_sized : (d : Doing M) → IsSized d → IsSized (looked_up (closed d))
+    rested_sized : (d : Doing M) → IsSized d → IsSized (look_up (keep_ask_open d))
     rested_sized d h =
         record {
           limit = h.limit;
@@ -344,14 +344,14 @@ module _ (most : ℕ) where
 
     -- what a member says in a step has few bytes
     pub step_is_sized : (at : ℕ) (o : Occurrence) (m : MemberState M) → CanHappen (declared m.performing.hosted) m o → InRange o → IsSoundNow declared turn first lawful m
-        → IsSized (begun m) → IsSized (stepped declared turn at o m)
+        → IsSized (begun m) → IsSized (step_member declared turn at o m)
     step_is_sized at o m can ranges sound h =
-        rested_sized (executed declared turn at (handled at o m))
-        (executed_keeps declared turn first lawful at IsSized (sized_keeps at) (handled at o m) (sound_once_handled declared turn first lawful at o m sound can ranges) (handled_sized at o m h))
+        rested_sized (execute declared turn at (handle at o m))
+        (executed_keeps declared turn first lawful at IsSized (sized_keeps at) (handle at o m) (sound_once_handled declared turn first lawful at o m sound can ranges) (handled_sized at o m h))
 
     -- and so at boot
     pub boot_is_sized : (place : Place) (views : List View) (beginning : Beginning) (hosted : M) → IsHome (declared hosted) place views → (declared hosted).limit ≤ most
-        → IsSized (booted declared turn first place views beginning hosted)
+        → IsSized (boot_member declared turn first place views beginning hosted)
     boot_is_sized place views beginning hosted home limit =
         booted_keeps declared turn first lawful place views hosted home IsSized (sized_keeps 0) beginning (before beginning)
       where

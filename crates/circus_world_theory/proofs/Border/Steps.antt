@@ -17,7 +17,7 @@ use Rattle.circus_model.specs.Behaviour.{IsModule}
 use Rattle.circus_performing.specs.Record.{behaviour}
 use Rattle.circus_wire.specs.declared.delivery.Heard.{Heard}
 use Rattle.circus_wire.specs.declared.delivery.Heard.TheVariants.{Dropped, Taken, Called, Returned}
-use Rattle.circus_wire.specs.Wire.{WireState, Beginning, IsOther, is_up, next_number, heard_from, after_datagram, all_ticked, stopped_at, called_to, sent_by_call, answered, sent_by_answer}
+use Rattle.circus_wire.specs.Wire.{WireState, Beginning, IsOther, is_up, next_number, heard_from, after_datagram, all_ticked, stopped_at, called_to, sent_by_call, answer_caller, sent_by_answer}
 use Rattle.circus_wire.specs.WireActs.{WireAct, WireActs, followed_by, CameFrom, TickAll, StopOf}
 use Rattle.circus_wire.specs.WireStanding.{WireStands}
 use Rattle.circus_member_rules.specs.declared.occurrence.Purpose.{Purpose}
@@ -29,9 +29,9 @@ use Rattle.circus_node.specs.declared.event.Give.{Give}
 use Rattle.circus_node.specs.declared.event.Outputs.{Outputs}
 use Rattle.circus_node.specs.NodeState.{NodeState}
 use Rattle.circus_node.specs.Making.{Made, hears, learns_down, is_told_to_join}
-use Rattle.circus_node.specs.Sending.{Sending, sent, spent, gives_of, is_sendable, handed, all_handed}
-use Rattle.circus_node.specs.Step.{CanCome, ended, concluded, stepped}
-use Rattle.circus_talks.specs.NodeActs.{with_all, coming, came_by, wire_behind, acts_in, handed_by}
+use Rattle.circus_node.specs.Sending.{Sending, sent, spent, gives_of, is_sendable, hand_over, all_handed}
+use Rattle.circus_node.specs.Step.{CanCome, end_step, conclude_step, step_node}
+use Rattle.circus_talks.specs.NodeActs.{with_all, acts_of_datagram, came_by, wire_behind, acts_in, handed_by}
 use Rattle.circus_node.specs.Trace.{effects_in}
 use Rattle.circus_talks.specs.Histories.{beginning_of}
 use Rattle.circus_talks.proofs.Given.{with_both}
@@ -49,7 +49,7 @@ abbrev IsUpAs : WireState Purpose → Sending → Type 0
 IsUpAs w (sent v gives) = (node : ℕ) → is_up v node ≡ is_up w node
 IsUpAs w (spent node) = Unit {0}
 
-one_up : (w v : WireState Purpose) (gives : List Give) (e : Effect) → IsUpAs w (sent v gives) → IsUpAs w (handed v gives e)
+one_up : (w v : WireState Purpose) (gives : List Give) (e : Effect) → IsUpAs w (sent v gives) → IsUpAs w (hand_over v gives e)
 one_up w v gives (made.Call to message purpose) same = by_test (is_up v to && is_sendable v.format message)
   where
     by_number : (t : Bool) → IsUpAs w (if t then spent to else sent (called_to v to message purpose) (gives ++ gives_of (sent_by_call v to message)))
@@ -62,13 +62,13 @@ one_up w v gives (made.Call to message purpose) same = by_test (is_up v to && is
     by_test false = same
 one_up w v gives (made.Answer caller message) same = by_test (is_sendable v.format message)
   where
-    by_test : (t : Bool) → IsUpAs w (if t then sent (answered v caller message) (gives ++ gives_of (sent_by_answer v caller message)) else sent v gives)
+    by_test : (t : Bool) → IsUpAs w (if t then sent (answer_caller v caller message) (gives ++ gives_of (sent_by_answer v caller message)) else sent v gives)
     by_test true = λ node. up_answered v caller message node ∙ same node
     by_test false = same
 
 all_up : (w : WireState Purpose) (s : Sending) (effects : List Effect) → IsUpAs w s → IsUpAs w (all_handed s effects)
 all_up w s [] same = same
-all_up w (sent v gives) (e ∷ es) same = all_up w (handed v gives e) es (one_up w v gives e same)
+all_up w (sent v gives) (e ∷ es) same = all_up w (hand_over v gives e) es (one_up w v gives e same)
 all_up w (spent node) (e ∷ es) same = all_up w (spent node) es tt
 
 module _ {M : Type 0} where
@@ -81,11 +81,11 @@ module _ {M : Type 0} where
   same_end : (x y : NodeState M × Outputs) → ◌≡◌ {A = Result (NodeState M × Outputs) ℕ} (Ok x) (Ok y) → x ≡ y
   same_end x y is = cc
 
-  ended_is : (n : NodeState M) (m : Made M) (s : Sending) (r : NodeState M × Outputs) → IsUpAs n.wire s → ended n m.came s ≡ Ok r → IsConcluded n r
+  ended_is : (n : NodeState M) (m : Made M) (s : Sending) (r : NodeState M × Outputs) → IsUpAs n.wire s → end_step n m.came s ≡ Ok r → IsConcluded n r
   ended_is n m (sent w gives) r up is = subst (IsConcluded n) (same_end _ r is) (record { up = up; acting = refl; deployment = refl })
   ended_is n m (spent node) r up is = absurd (let clash : ◌≡◌ {A = Result (NodeState M × Outputs) ℕ} (Err node) (Ok r) = is in cc)
 
-  pub concluded_is : (n : NodeState M) (gives : List Give) (m : Made M) (r : NodeState M × Outputs) → concluded n gives m.came ≡ Ok r → IsConcluded n r
+  pub concluded_is : (n : NodeState M) (gives : List Give) (m : Made M) (r : NodeState M × Outputs) → conclude_step n gives m.came ≡ Ok r → IsConcluded n r
   concluded_is n gives m r is = ended_is n m (all_handed (sent n.wire gives) m.came.effects) r (all_up n.wire (sent n.wire gives) m.came.effects (λ node. refl)) is
 
   -- the wire is of the same format once something has come
@@ -151,7 +151,7 @@ module _ {M : Type 0} (declared : M → Signature) (turn : M → List ValueTree 
         ∙ ap (λ more. with_all (with_all acts (came_by event)) more) (sym whole.all)
         ∙ sym (with_both acts (came_by event) (flat_map (handed_by w) (effects_in declared turn at event n)))
 
-    step_from_made : (gives : List Give) → concluded (record n { wire = wire_behind event n; acting = m.acting }) gives m.came ≡ Ok r → StepsAtBorder acts at event n r
+    step_from_made : (gives : List Give) → conclude_step (record n { wire = wire_behind event n; acting = m.acting }) gives m.came ≡ Ok r → StepsAtBorder acts at event n r
     step_from_made gives ends =
         let w = wire_behind event n in
         let now : NodeState M = record n { wire = w; acting = m.acting } in
@@ -172,12 +172,12 @@ module _ {M : Type 0} (declared : M → Signature) (turn : M → List ValueTree 
 
   module _ (acts : WireActs Purpose) (n : NodeState M) (from : ℕ) (stands : WireStands n.wire begins acts) (other : IsOther n.wire from) where
     segment_still : (segment : Result Piece SegmentFault) → ((s : Piece) → segment ≡ Ok s → IsSegment s) → (c : Caller) → awaits_in begins acts c ≡ true
-        → awaits_in begins (with_all acts (coming from segment)) c ≡ true
+        → awaits_in begins (with_all acts (acts_of_datagram from segment)) c ≡ true
     segment_still (Ok s) read c awaits = awaits_behind begins acts n.wire from s c other (read s refl) stands awaits
     segment_still (Err fault) read c awaits = awaits
 
     came_at : (segment : Result Piece SegmentFault) (read : (s : Piece) → segment ≡ Ok s → IsSegment s) (heard : Heard Purpose) → heard_from n.wire from segment ≡ heard
-        → Comes declared turn first lawful d is own acts (with_all acts (coming from segment)) (segment_still segment read) heard
+        → Comes declared turn first lawful d is own acts (with_all acts (acts_of_datagram from segment)) (segment_still segment read) heard
     came_at segment read Dropped heard_is = tt
     came_at segment read Taken heard_is = tt
     came_at (Ok s) read (Called sender message) heard_is =
@@ -191,10 +191,10 @@ module _ {M : Type 0} (declared : M → Signature) (turn : M → List ValueTree 
   made_by_datagram : (acts : WireActs Purpose) (at from : ℕ) (segment : Result Piece SegmentFault) (n : NodeState M) → WireStands n.wire begins acts → IsOther n.wire from
       → ((s : Piece) → segment ≡ Ok s → IsSegment s)
       → TakesRightly declared turn first lawful d is own from (heard_from n.wire from segment) n.acting → IsAtBorder acts n
-      → IsMadeAt declared turn first lawful d is own (after_datagram n.wire from segment) (with_all acts (coming from segment)) (hears declared turn n.deployment at from (heard_from n.wire from segment) n.acting)
+      → IsMadeAt declared turn first lawful d is own (after_datagram n.wire from segment) (with_all acts (acts_of_datagram from segment)) (hears declared turn n.deployment at from (heard_from n.wire from segment) n.acting)
   made_by_datagram acts at from segment n stands other read takes h =
       let w = after_datagram n.wire from segment in
-      let now = with_all acts (coming from segment) in
+      let now = with_all acts (acts_of_datagram from segment) in
       let heard = heard_from n.wire from segment in
       subst (λ x. IsMadeAt declared turn first lawful d is own w now (hears declared turn x at from heard n.acting)) (sym h.deployment)
       (hears_made declared turn first lawful d is own n.wire w acts now (λ node other_. up_heard n.wire from node segment) (segment_still acts n from stands other segment read)
@@ -204,7 +204,7 @@ module _ {M : Type 0} (declared : M → Signature) (turn : M → List ValueTree 
 
   pub step_at_border : (acts : WireActs Purpose) (at : ℕ) (event : Event) (n : NodeState M) (r : NodeState M × Outputs) → WireStands n.wire begins acts → CanCome n event
       → IsRead event → MayTake event n
-      → IsAtBorder acts n → stepped declared turn at event n ≡ Ok r → StepsAtBorder acts at event n r
+      → IsAtBorder acts n → step_node declared turn at event n ≡ Ok r → StepsAtBorder acts at event n r
   step_at_border acts at (Datagram from bytes) n r stands can read takes h ends =
       let heard = heard_from n.wire from (reading bytes) in
       step_from_made acts at (Datagram from bytes) n r (hears declared turn n.deployment at from heard n.acting) refl stands h.deployment

@@ -15,7 +15,7 @@ use Rattle.circus_collate.specs.Deployment.{IsDeployment}
 use Rattle.circus_collate.specs.declared.deployment.Deployment.{Deployment}
 use Rattle.circus_collate.specs.declared.table.Table.{Table}
 use Rattle.circus_collate.specs.declared.view.Entry.{Entry}
-use Rattle.circus_fanout.specs.Knowing.{Knowing, declared as declared_of}
+use Rattle.circus_fanout.specs.Knowing.{Knowing, note_down as declared_of}
 use Rattle.circus_model.specs.declared.signature.Signature.{Signature}
 use Rattle.circus_wire.specs.declared.delivery.Heard.{Heard}
 use Rattle.circus_wire.specs.declared.delivery.Heard.TheVariants.{Dropped, Taken, Called, Returned}
@@ -27,7 +27,7 @@ use Rattle.circus_member_rules.specs.declared.occurrence.Occurrence.TheVariants 
 use Rattle.circus_member_rules.specs.MemberState.{MemberState}
 use Rattle.circus_node.specs.Headers.{call_in, return_in, table_at}
 use Rattle.circus_node.specs.Bodies.{restored_in}
-use Rattle.circus_node.specs.Accepting.{may_belong, may_ask, may_tell, are_distinct, taken_call, taken_reply, taken_answer, taken_table, accepted}
+use Rattle.circus_node.specs.Accepting.{may_belong, may_ask, may_tell, are_distinct, taken_call, taken_reply, taken_answer, taken_table, occurrence_of_heard}
 use Rattle.circus_ring.specs.RingTable.{troupe_of}
 use Rattle.circus_world_theory.proofs.Border.Hosting.{Hosts, belongs_hosts}
 use Rattle.circus_world_theory.proofs.Border.Reaching.{TellsOf}
@@ -125,7 +125,7 @@ module _ (d : Deployment) (is : IsDeployment d) where
     table_taken number purpose message request (says.Before start) at = gives_none (IsTakenOf d (Returned number purpose message))
     table_taken number purpose message request (says.Snapshot count) at = gives_none (IsTakenOf d (Returned number purpose message))
 
-    pub accepted_is : (heard : Heard Purpose) (o : Occurrence) → accepted d declared m from heard ≡ Some o → IsTakenOf d heard o
+    pub accepted_is : (heard : Heard Purpose) (o : Occurrence) → occurrence_of_heard d declared m from heard ≡ Some o → IsTakenOf d heard o
     accepted_is Dropped = gives_none (IsTakenOf d Dropped)
     accepted_is Taken = gives_none (IsTakenOf d Taken)
     accepted_is (Called sender message) =

@@ -20,7 +20,7 @@ use Rattle.circus_model.specs.Behaviour.{IsModule}
 use Rattle.circus_record.specs.declared.record.AskRecord.{AskRecord}
 use Rattle.circus_record.specs.declared.record.RunRecord.{RunRecord}
 use Rattle.circus_fanout.specs.Knowing as knowing
-use Rattle.circus_fanout.specs.Knowing.{Knowing, is_newer, declared as declared_of}
+use Rattle.circus_fanout.specs.Knowing.{Knowing, is_newer, note_down as declared_of}
 use Rattle.circus_gather.specs.Gathering.{Gathered, callers, answer_to, is_held, is_of_index, is_stale, is_before, with_first}
 use Rattle.circus_gather.specs.Gathering as gathering
 use Rattle.circus_gather.specs.declared.held.HeldCall.{HeldCall}
@@ -46,7 +46,7 @@ use Rattle.circus_member_rules.specs.Rules.{ringmaster, answers, request_call, r
 use Rattle.circus_member_rules.specs.Happening.{IsHome, CanHappen}
 use Rattle.circus_member_rules.specs.MemberState.{MemberState, Doing}
 use Rattle.circus_member_rules.specs.Step as step
-use Rattle.circus_member_rules.specs.Step.{name_of_last, asking_begun, known_by_table, is_taken_in, is_idle, reply_of_run, closed, executed, handled, stepped, opened_by_view, ended_run, booted}
+use Rattle.circus_member_rules.specs.Step.{name_of_last, asking_begun, known_by_table, is_taken_in, is_idle, reply_of_run, keep_ask_open, execute, handle, step_member, opened_by_view, ended_run, boot_member}
 use Rattle.circus_member_rules.proofs.Concerned.{all_of}
 use Rattle.circus_member_rules.proofs.Starting.{IsSoundNow}
 use Rattle.circus_member_rules.proofs.Turned.{IsTurned}
@@ -235,7 +235,7 @@ module _ (c : Caller) where
   times-push (x ∷ xs) call = let rest = times-push xs call in omega arith
 
   module _ {M : Type 0} (m : MemberState M) where
-    asked_known : (header : CallHeader) (body : List ℕ) (sender : Caller) → known_in c (step.asked m header body sender) ≡ waiting_at c m + one_if (is_caller c sender)
+    asked_known : (header : CallHeader) (body : List ℕ) (sender : Caller) → known_in c (step.handle_call m header body sender) ≡ waiting_at c m + one_if (is_caller c sender)
     asked_known header body sender = by_added (answer_to m.gathered header)
       where
         call : HeldCall
@@ -249,7 +249,7 @@ module _ (c : Caller) where
         by_added (added.Before start) = omega arith
         by_added added.Held = let push = times-push m.gathered.held call in omega arith
 
-    fetched_known : (incarnation : ℕ) (sender : Caller) → known_in c (step.fetched m incarnation sender) ≡ waiting_at c m + one_if (is_caller c sender)
+    fetched_known : (incarnation : ℕ) (sender : Caller) → known_in c (step.handle_fetch m incarnation sender) ≡ waiting_at c m + one_if (is_caller c sender)
     fetched_known incarnation sender =
         let left = parted (is_stale m.gathered (max m.gathered.required incarnation)) m.gathered.held in
         let told = answered_all (stale_message (gathering.with_required m.gathered incarnation).required) (gathering.stale_answers m.gathered incarnation) in
@@ -260,7 +260,7 @@ module _ (c : Caller) where
     calls_known : (effects : List Effect) → All IsACall effects → answered_in c effects + waiting_at c m ≡ waiting_at c m + 0
     calls_known effects calls = let none = none_answered effects calls in omega arith
 
-    restored_known : (at : ℕ) (state : List ValueTree) (count : ℕ) → known_in c (step.restored at m state count) ≡ waiting_at c m + 0
+    restored_known : (at : ℕ) (state : List ValueTree) (count : ℕ) → known_in c (step.handle_state at m state count) ≡ waiting_at c m + 0
     restored_known at state count = by_test (is_fetching m.performing.kept.phase)
       where
         by_test : (t : Bool) → let d : Doing M =
@@ -273,23 +273,23 @@ module _ (c : Caller) where
             omega (arith, left, both, none, told)
         by_test false = omega arith
 
-    told_known : (request : Request) (table : Table) → known_in c (step.told m request table) ≡ waiting_at c m + 0
+    told_known : (request : Request) (table : Table) → known_in c (step.handle_table m request table) ≡ waiting_at c m + 0
     told_known request table =
         let view = table.view in
         let k = known_by_table m.known request view in
-        calls_known (step.told m request table).effects
+        calls_known (step.handle_table m request table).effects
         (All-append IsACall _ _
         (All-if IsACall (is_newer m.known view) (calls_for_a_new_view k view m.asks) [] (calls_new k view m.asks) (All-nil IsACall))
         (All-if IsACall (is_taken_in m.performing.kept.phase _) (state_requests m.place k.down view) [] (calls_states m.place k.down view) (All-nil IsACall)))
 
-    stale_known : (name : AskName) (server from incarnation : ℕ) → known_in c (step.stale m name server from incarnation) ≡ waiting_at c m + 0
-    stale_known name server from incarnation = calls_known (step.stale m name server from incarnation).effects (by_ask (asking_of m.asks name))
+    stale_known : (name : AskName) (server from incarnation : ℕ) → known_in c (step.handle_stale m name server from incarnation) ≡ waiting_at c m + 0
+    stale_known name server from incarnation = calls_known (step.handle_stale m name server from incarnation).effects (by_ask (asking_of m.asks name))
       where
         by_ask : (o : Option Asking) → All IsACall (option_map_or (call_again m.known name from incarnation) o [])
         by_ask None = All-nil IsACall
         by_ask (Some a) = calls_again m.known name from incarnation a
 
-    handled_known : (at : ℕ) (o : Occurrence) → known_in c (handled at o m) ≡ waiting_at c m + calls_in c o
+    handled_known : (at : ℕ) (o : Occurrence) → known_in c (handle at o m) ≡ waiting_at c m + calls_in c o
     handled_known at (comes.Asked header body sender) = asked_known header body sender
     handled_known at (comes.Fetched incarnation sender) = fetched_known incarnation sender
     handled_known at (comes.Replied name from reply) = omega arith
@@ -304,17 +304,17 @@ module _ (c : Caller) where
       (lawful : (hosted : M) → IsModule (behaviour declared turn first hosted)) where
     -- the calls of a caller that a step answers, and those that wait behind it, are those that waited before it, and the one that comes
     pub step_answers : (at : ℕ) (o : Occurrence) (m : MemberState M) → CanHappen (declared m.performing.hosted) m o → InRange o → IsSoundNow declared turn first lawful m
-        → known_in c (stepped declared turn at o m) ≡ waiting_at c m + calls_in c o
+        → known_in c (step_member declared turn at o m) ≡ waiting_at c m + calls_in c o
     step_answers at o m can ranges sound =
-        let d = executed declared turn at (handled at o m) in
-        let n = known_in c (handled at o m) in
-        ap (λ n. n + waiting_at c d.member) (more_calls declared turn first lawful n (closed d) (lookups d.member.known) (calls_lookups d.member.known))
-        ∙ executed_keeps declared turn first lawful at (IsKnown declared turn first lawful n) (known_keeps declared turn first lawful n at) (handled at o m)
+        let d = execute declared turn at (handle at o m) in
+        let n = known_in c (handle at o m) in
+        ap (λ n. n + waiting_at c d.member) (more_calls declared turn first lawful n (keep_ask_open d) (lookups d.member.known) (calls_lookups d.member.known))
+        ∙ executed_keeps declared turn first lawful at (IsKnown declared turn first lawful n) (known_keeps declared turn first lawful n at) (handle at o m)
         (sound_once_handled declared turn first lawful at o m sound can ranges) refl
         ∙ handled_known m at o
 
     -- at boot none waits, and none is answered
     pub boot_answers : (place : Place) (views : List View) (beginning : Beginning) (hosted : M) → IsHome (declared hosted) place views
-        → known_in c (booted declared turn first place views beginning hosted) ≡ 0
+        → known_in c (boot_member declared turn first place views beginning hosted) ≡ 0
     boot_answers place views beginning hosted home =
         booted_keeps declared turn first lawful place views hosted home (IsKnown declared turn first lawful 0) (known_keeps declared turn first lawful 0 0) beginning refl

@@ -25,7 +25,7 @@ use Rattle.circus_schedule.specs.declared.line.Line.TheVariants.{Deliver, Tick, 
 use Rattle.circus_world.specs.declared.sent.Sent.{Sent}
 use Rattle.circus_world.specs.WorldState.{WorldState, Standing, is_live}
 use Rattle.circus_world.specs.Course as course
-use Rattle.circus_world.specs.Course.{Stepped, noted, passed, crashed, told_to_join, concluded, comes_to, stepped}
+use Rattle.circus_world.specs.Course.{Stepped, noted, pass_step, crash_node, told_to_join, conclude_step, comes_to, step_line}
 use Rattle.circus_world.specs.Lines.{Leads, Lead}
 use Rattle.circus_world.proofs.ComeLemmas.{datagram_may_come, delivered_at, down_differs}
 use Rattle.circus_world.proofs.SlotLemmas.{get_set, get_there, all_at}
@@ -62,9 +62,9 @@ module _ {M : Type 0} (declared : M → Signature) (turn : M → List ValueTree 
     comes_at_border : (new : ℕ → WireActs Purpose) → new node ≡ with_all (acts node) (acts_in declared turn (w.steps + 1) event s.node)
         → ((other : ℕ) → other ≢ node → new other ≡ acts other)
         → IsHandedWhole declared turn first lawful d is node (acts node) (w.steps + 1) event s.node × AreAtBorder new next
-    comes_at_border new here elsewhere = by_end (node_step.stepped declared turn (w.steps + 1) event s.node) refl
+    comes_at_border new here elsewhere = by_end (node_step.step_node declared turn (w.steps + 1) event s.node) refl
       where
-        by_end : (e : node_step.Ended M) → node_step.stepped declared turn (w.steps + 1) event s.node ≡ e
+        by_end : (e : node_step.Ended M) → node_step.step_node declared turn (w.steps + 1) event s.node ≡ e
             → IsHandedWhole declared turn first lawful d is node (acts node) (w.steps + 1) event s.node × AreAtBorder new next
         by_end (Ok ended) ends =
             let steps = step_at_border declared turn first lawful d is node (acts node) (w.steps + 1) event s.node ended stands can read takes (borders node s at) ends in
@@ -73,7 +73,7 @@ module _ {M : Type 0} (declared : M → Signature) (turn : M → List ValueTree 
               sent = w.sent ++ map (course.sent_by (w.steps + 1) node) ended.1.gives;
               steps = w.steps + 1;
             } in
-            let same : after ≡ next = same_world after next (sym (comes_is declared turn w node event s at ∙ ap (concluded node s w) ends) ∙ goes) in
+            let same : after ≡ next = same_world after next (sym (comes_is declared turn w node event s at ∙ ap (conclude_step node s w) ends) ∙ goes) in
             (steps.handed, subst (AreAtBorder new) same (λ x t found. by_node ended steps.behind x t found (eqb_tells x node)))
           where
             by_node : (ended : NodeState M × Outputs)
@@ -89,7 +89,7 @@ module _ {M : Type 0} (declared : M → Signature) (turn : M → List ValueTree 
             by_node ended behind x t found (inr differs) =
                 subst (λ a. IsAtBorder declared turn first lawful d is x a t.node) (sym (elsewhere x differs.1))
                 (borders x t (elim (get_set w.nodes node x (record s { node = ended.0 }) t found) [ inl same ↦ absurd (differs.1 same.0) | inr there ↦ there ]))
-        by_end (Err peer) ends = absurd (let clash : ◌≡◌ {A = Stepped M} (Err (node, peer)) (Ok next) = sym (comes_is declared turn w node event s at ∙ ap (concluded node s w) ends) ∙ goes in cc)
+        by_end (Err peer) ends = absurd (let clash : ◌≡◌ {A = Stepped M} (Err (node, peer)) (Ok next) = sym (comes_is declared turn w node event s at ∙ ap (conclude_step node s w) ends) ∙ goes in cc)
 
   -- ---- something is noted of a node
 
@@ -171,7 +171,7 @@ module _ {M : Type 0} (declared : M → Signature) (turn : M → List ValueTree 
     still_border v same border = subst (AreAtBorder acts) (same_world v next same) border
 
     delivered_border : (number : ℕ) (sent : Sent) (live : Bool) → slice_get w.sent number ≡ Some sent → is_live w sent.to ≡ live → TakesLine (Deliver number) w
-        → stepped declared turn (Deliver number) w ≡ Ok next → LineAtBorder acts (Deliver number) w next
+        → step_line declared turn (Deliver number) w ≡ Ok next → LineAtBorder acts (Deliver number) w next
     delivered_border number sent true there live takes goes =
         let s = live_there (slice_get w.nodes sent.to) live in
         let may = datagram_may_come w number sent so_far.sound there in
@@ -181,7 +181,7 @@ module _ {M : Type 0} (declared : M → Signature) (turn : M → List ValueTree 
         (sym (delivered_at declared turn w number sent true there live) ∙ goes)
     delivered_border number sent false there live takes goes =
         unmoved (Deliver number) (ap (option_and_then (delivery w)) there ∙ ap (λ b. if b then Some (sent.to, comes.Datagram sent.from sent.bytes) else None) live)
-        (still_border (passed w) (sym (delivered_at declared turn w number sent false there live) ∙ goes) borders)
+        (still_border (pass_step w) (sym (delivered_at declared turn w number sent false there live) ∙ goes) borders)
 
     pub line_at_border : (line : Line) → TakesLine line w → Leads declared turn line w next → LineAtBorder acts line w next
     line_at_border (Deliver number) takes leads =
@@ -192,7 +192,7 @@ module _ {M : Type 0} (declared : M → Signature) (turn : M → List ValueTree 
         let s = get_there w.nodes node leads.named in
         moved (Tick node) node comes.Tick refl s.0 s.1 tt takes leads.stepped_is
     line_at_border (Crash node) takes leads =
-        unmoved (Crash node) refl (still_border (crashed node w) leads.stepped_is (noted_border acts (λ s. record s { crashed = Some (w.steps + 1) }) node w (λ s. refl) borders))
+        unmoved (Crash node) refl (still_border (crash_node node w) leads.stepped_is (noted_border acts (λ s. record s { crashed = Some (w.steps + 1) }) node w (λ s. refl) borders))
     line_at_border (Down node told) takes leads =
         let s = get_there w.nodes told leads.named.1 in
         moved (Down node told) told (comes.Down node) refl s.0 s.1 (in_deployment node leads.named.0, down_differs w node told leads.legal) takes leads.stepped_is
@@ -210,13 +210,13 @@ module _ {M : Type 0} (declared : M → Signature) (turn : M → List ValueTree 
   -- what comes by each of the lines may be taken
   abbrev pub TakesLines : List Line → WorldState M → Type 0
   TakesLines [] w = Unit {0}
-  TakesLines (line ∷ lines) w = TakesLine line w × ((next : WorldState M) → stepped declared turn line w ≡ Ok next → TakesLines lines next)
+  TakesLines (line ∷ lines) w = TakesLine line w × ((next : WorldState M) → step_line declared turn line w ≡ Ok next → TakesLines lines next)
 
   -- nothing that a node makes by any of them is dropped
   abbrev pub HandsLines : (ℕ → WireActs Purpose) → List Line → WorldState M → Type 0
   HandsLines acts [] w = Unit {0}
   HandsLines acts (line ∷ lines) w =
-      HandsLine acts line w × ((next : WorldState M) → stepped declared turn line w ≡ Ok next → HandsLines (λ node. with_line declared turn node (acts node) line w) lines next)
+      HandsLine acts line w × ((next : WorldState M) → step_line declared turn line w ≡ Ok next → HandsLines (λ node. with_line declared turn node (acts node) line w) lines next)
 
   pub record LinesAtBorder (acts : ℕ → WireActs Purpose) (lines : List Line) (w last : WorldState M) : Type 0 where
     pub hands : HandsLines acts lines w

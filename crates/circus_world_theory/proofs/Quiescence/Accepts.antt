@@ -51,7 +51,7 @@ use Rattle.circus_truth.specs.Proper.{IsProperProcedure, AreProper}
 use Rattle.circus_truth.specs.Truth.{reply_to, IsNamed, IsAskMessage}
 use Rattle.circus_node.specs.Bodies.{found_whole, values_at, raised_values, outcome_by, outcome_at}
 use Rattle.circus_node.specs.Headers.{call_in, return_in}
-use Rattle.circus_node.specs.Accepting.{troupe_at, is_root, is_in_order, unpacks, imported, called_by, outcome_of, taken_ask, taken_call, taken_answer, accepted_call, accepted_answer}
+use Rattle.circus_node.specs.Accepting.{troupe_at, is_root, is_in_order, unpacks, imported_procedure, called_by, outcome_of, taken_ask, taken_call, taken_answer, accepted_call, accepted_answer}
 use Rattle.circus_member_theory.proofs.Accepting.Arguments.{values_read}
 use Rattle.circus_member_theory.proofs.Accepting.Calls.{ask_length, ask_read, ask_body}
 use Rattle.circus_member_theory.proofs.Accepting.Options.{passes_some}
@@ -197,7 +197,7 @@ module _ (program : List Behaviour) (agree : Agree program) (are : AreModules pr
         let here : drop at message ≡ outcome_spelling ask.reply = reply_outcome reply ∙ ap outcome_spelling outcome in
         let found : outcome_at o.p (limit_of d.format) at message ≡ Some reply.outcome =
         outcome_found o.p (limit_of d.format) at message ask.reply (imported_proper program agree proper own b ask.callee ask.procedure o.p at_own o.shape) o.fit here o.few ∙ ap Some (sym outcome) in
-        let which : option_and_then (imported b.declared) (called_by m name) ≡ Some o.p =
+        let which : option_and_then (imported_procedure b.declared) (called_by m name) ≡ Some o.p =
         called_open b.declared m name a open_ ∙ ap (imported_as b.declared a.header.server) procedure ∙ ap (λ k. imported_as b.declared k ask.procedure) server ∙ o.shape in
         ap (option_and_then (λ (r : ReturnHeader × ℕ). taken_answer d b.declared m name to from r.0 r.1 message)) read
         ∙ ap (λ x. option_map (λ r. comes.Replied name from r) (if x then option_map (λ outcome_. record { clock = reply.clock; outcome = outcome_ }) (outcome_of d b.declared m name at message) else None)) (eq-eqb (length reply.clock) (length d.troupes) clock)

@@ -12,12 +12,12 @@ use Rattle.circus_exchange.specs.declared.taken.Arrived.{Arrived}
 use Rattle.circus_exchange.specs.declared.taken.Arrived.TheVariants.{Nothing, ArrivedCall, ArrivedReturn}
 use Rattle.circus_pair.specs.Taken.{has_arrived, message_in}
 use Rattle.circus_pair.specs.Acts.{Act, Call, Return, Came, Tick, Stop, Acts, more, taken_by, arrival_by}
-use Rattle.circus_pair.specs.Handed.{made as made_, return_at}
+use Rattle.circus_pair.specs.Handed.{calls_made as made_, return_at}
 use Rattle.circus_pair.specs.Lawful.{AreLawful}
 use Rattle.circus_pair.specs.Sending.{takes_after}
 use Rattle.circus_pair.specs.TwoEnds.{with_act}
 use Rattle.circus_wire.specs.declared.delivery.Heard.TheVariants as heard
-use Rattle.circus_wire.specs.Wire.{WireState, Beginning, IsOther, told, told_return, heard_from}
+use Rattle.circus_wire.specs.Wire.{WireState, Beginning, IsOther, hear_arrival, told_return, heard_from}
 use Rattle.circus_wire.specs.WireActs.{WireAct, WireActs, followed_by, CallTo, AnswerTo, CameFrom, act_at, acts_at, awaits_after, made_to, purpose_of}
 use Rattle.circus_wire.specs.WireStanding.{WireStands, pair_of}
 use Rattle.circus_wire.proofs.Histories.{purpose_at, purpose_stays, return_finds}
@@ -189,11 +189,11 @@ module _ {format own nodes : ℕ} (w : WireState Purpose) (acts : WireActs Purpo
   came_elsewhere s node differs = ap (λ x. with_act (here node acts) (cond x (Some (Came s)) None)) (ne_eqb from node (λ same. differs (sym same)))
 
   told_so : (s : Piece) (a : Arrived) → IsSegment s → takes_after (start 0 format) (here from acts) s ≡ true → arrival_by (taken_by (start 0 format) (here from acts)) s ≡ a
-      → heard_from w from (Ok s) ≡ told (purpose_of (start 0 format) from acts) from a
+      → heard_from w from (Ok s) ≡ hear_arrival (purpose_of (start 0 format) from acts) from a
   told_so s a segment taken arrival =
       came_tells b acts w from s s other stands refl segment
-      ∙ ap (λ t. if t then told (purpose_of (start 0 format) from acts) from (if t then arrival_by (taken_by (start 0 format) (here from acts)) s else Nothing) else heard.Dropped) taken
-      ∙ ap (told (purpose_of (start 0 format) from acts) from) arrival
+      ∙ ap (λ t. if t then hear_arrival (purpose_of (start 0 format) from acts) from (if t then arrival_by (taken_by (start 0 format) (here from acts)) s else Nothing) else heard.Dropped) taken
+      ∙ ap (hear_arrival (purpose_of (start 0 format) from acts) from) arrival
 
   -- a call that had not arrived is heard
   pub call_heard : (s : Piece) (n : ℕ) → IsSegment s → arrived from (followed_by acts (CameFrom from s)) 0 n ≡ true → arrived from acts 0 n ≡ false

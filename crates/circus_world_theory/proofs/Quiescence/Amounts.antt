@@ -7,7 +7,7 @@ use Rattle.circus_segment.specs.Segment.{Piece, spelling, header, is_acknowledge
 use Rattle.circus_segment.specs.Cut.{Outgoing, segment_count, segment_of, first_datagrams}
 use Rattle.circus_exchange.specs.Exchange.{start, message_out}
 use Rattle.circus_pair.specs.Acts.{Act, Call, Return, Came, Tick, Stop, Acts, none_yet, more, end_after, taken_by, acknowledged_by}
-use Rattle.circus_pair.specs.Handed.{made, call_at, return_at}
+use Rattle.circus_pair.specs.Handed.{calls_made, call_at, return_at}
 use Rattle.circus_pair.specs.Lawful.{is_stopped_after, AreLawful}
 use Rattle.circus_pair.specs.Sending.{is_sent, takes_after, in_order, whole_call, let_go_by, outputs}
 use Rattle.circus_pair.specs.TwoEnds.{sent_by, datagrams_by}
@@ -131,33 +131,33 @@ order_part f (suc n) =
 
 -- of all calls that it has sent, and of its returns to the calls below a number
 abbrev given_part : ℕ → ℕ → Acts → ℕ
-given_part format n acts = total (0 + made acts) (sent_part format acts) + total n (λ call. segments_in (return_at acts call))
+given_part format n acts = total (0 + calls_made acts) (sent_part format acts) + total n (λ call. segments_in (return_at acts call))
 
 -- the returns are to calls below it
 abbrev pub ReturnsBelow : ℕ → Acts → Type 0
 ReturnsBelow n acts = (call : ℕ) (message : List ℕ) → return_at acts call ≡ Some message → call < n
 
 -- what is let go by an act is sent behind it
-goes_part : (format count : ℕ) (acts : Acts) (act : Act) → AreLawful 0 format (more acts act) → made acts ≤ count
-    → datas (in_order (let_go_by (start 0 format) acts act) (0 + count)) + total (0 + made acts) (sent_part format acts) ≤ total (0 + count) (sent_part format (more acts act))
+goes_part : (format count : ℕ) (acts : Acts) (act : Act) → AreLawful 0 format (more acts act) → calls_made acts ≤ count
+    → datas (in_order (let_go_by (start 0 format) acts act) (0 + count)) + total (0 + calls_made acts) (sent_part format acts) ≤ total (0 + count) (sent_part format (more acts act))
 goes_part format count acts act lawful le =
     let order = order_part (let_go_by (start 0 format) acts act) (0 + count) in
     let each = total_le (0 + count) (λ k. datas (let_go_by (start 0 format) acts act k) + sent_part format acts k) (sent_part format (more acts act)) (λ k below. let_go_part format acts act k lawful) in
     let both = total_plus (0 + count) (λ k. datas (let_go_by (start 0 format) acts act k)) (sent_part format acts) in
-    let longer = total_longer (0 + made acts) (0 + count) (sent_part format acts) (omega (arith, le)) in
+    let longer = total_longer (0 + calls_made acts) (0 + count) (sent_part format acts) (omega (arith, le)) in
     omega (arith, order, each, both, longer)
 
 few_by : (format n : ℕ) (acts : Acts) (act : Act) → AreLawful 0 format (more acts act) → IsUndisturbed (more acts act) → ReturnsBelow n (more acts act)
     → datas (datagrams_by (end_after (start 0 format) acts) act) + given_part format n acts ≤ given_part format n (more acts act)
-unfolding outputs made return_at
+unfolding outputs calls_made return_at
 few_by format n acts (Call message) lawful quiet below =
     let sends = ap datas (call_sends 0 format acts message lawful) in
-    let go = goes_part format (made acts + 1) acts (Call message) lawful (omega arith) in
+    let go = goes_part format (calls_made acts + 1) acts (Call message) lawful (omega arith) in
     omega (arith, sends, go)
 few_by format n acts (Return call message) lawful quiet below =
     let sends = ap datas (return_sends 0 format acts call message) in
     let whole_ = first_datas (message_out (start 0 format) 1 call message) (segment_count message) in
-    let calls = total_le (0 + made acts) (sent_part format acts) (sent_part format (more acts (Return call message)))
+    let calls = total_le (0 + calls_made acts) (sent_part format acts) (sent_part format (more acts (Return call message)))
     (λ k k_below. (let part = let_go_part format acts (Return call message) k lawful in omega (arith, part))) in
     let none : segments_in (return_at acts call) ≡ 0 = ap segments_in lawful.1.2 in
     let here : segments_in (return_at (more acts (Return call message)) call) ≡ segment_count message = ap (λ b. segments_in (if b then Some message else return_at acts call)) (eq-eqb call call refl) in
@@ -176,9 +176,9 @@ few_by format n acts (Return call message) lawful quiet below =
 few_by format n acts (Came s) lawful quiet below =
     let e = start 0 format in
     let sends = ap datas (came_sends 0 format acts s lawful) in
-    let both = datas-append (if takes_after e acts s && not (is_acknowledgement s) then acknowledged_by (is_stopped_after acts) (taken_by e acts) s else []) (in_order (let_go_by e acts (Came s)) (0 + made acts)) in
+    let both = datas-append (if takes_after e acts s && not (is_acknowledgement s) then acknowledged_by (is_stopped_after acts) (taken_by e acts) s else []) (in_order (let_go_by e acts (Came s)) (0 + calls_made acts)) in
     let none : datas (if takes_after e acts s && not (is_acknowledgement s) then acknowledged_by (is_stopped_after acts) (taken_by e acts) s else []) ≡ 0 = by_test (takes_after e acts s && not (is_acknowledgement s)) in
-    let go = goes_part format (made acts) acts (Came s) lawful (omega arith) in
+    let go = goes_part format (calls_made acts) acts (Came s) lawful (omega arith) in
     omega (arith, sends, both, none, go)
   where
     by_test : (b : Bool) → datas (if b then acknowledged_by (is_stopped_after acts) (taken_by (start 0 format) acts) s else []) ≡ 0
@@ -195,7 +195,7 @@ before_quiet acts Tick quiet = absurd quiet
 before_quiet acts Stop quiet = absurd quiet
 
 few_given : (format n : ℕ) (acts : Acts) → AreLawful 0 format acts → IsUndisturbed acts → ReturnsBelow n acts → datas (sent_by (start 0 format) acts) ≤ given_part format n acts
-unfolding made
+unfolding calls_made
 few_given format n none_yet lawful quiet below = omega arith
 few_given format n (more acts act) lawful quiet below =
     let rest = few_given format n acts lawful.0 (before_quiet acts act quiet) (λ call message is. below call message (return_stays 0 format acts act call message lawful is)) in
@@ -205,12 +205,12 @@ few_given format n (more acts act) lawful quiet below =
 
 -- where nothing is sent again, an end has sent no more datagrams with data than its calls and its returns have segments
 pub few_datas : (format n : ℕ) (acts : Acts) → AreLawful 0 format acts → IsUndisturbed acts → ReturnsBelow n acts
-    → datas (sent_by (start 0 format) acts) ≤ total (made acts) (λ call. segments_in (call_at 0 acts call)) + total n (λ call. segments_in (return_at acts call))
+    → datas (sent_by (start 0 format) acts) ≤ total (calls_made acts) (λ call. segments_in (call_at 0 acts call)) + total n (λ call. segments_in (return_at acts call))
 few_datas format n acts lawful quiet below =
     let given = few_given format n acts lawful quiet below in
-    let long : 0 + made acts ≡ made acts = omega arith in
+    let long : 0 + calls_made acts ≡ calls_made acts = omega arith in
     let same = ap (λ k. total k (sent_part format acts)) long in
-    let calls = total_le (made acts) (sent_part format acts) (λ call. segments_in (call_at 0 acts call)) (λ k k_below. at_most (is_sent (start 0 format) acts k) (segments_in (call_at 0 acts k))) in
+    let calls = total_le (calls_made acts) (sent_part format acts) (λ call. segments_in (call_at 0 acts call)) (λ k k_below. at_most (is_sent (start 0 format) acts k) (segments_in (call_at 0 acts k))) in
     omega (arith, given, same, calls)
   where
     at_most : (b : Bool) (x : ℕ) → (if b then x else 0) ≤ x

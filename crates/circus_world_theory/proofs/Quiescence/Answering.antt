@@ -8,11 +8,11 @@ use Rattle.circus_segment.specs.Segment.{Piece, spelling, is_acknowledgement, is
 use Rattle.circus_segment.specs.declared.fault.SegmentFault.{SegmentFault}
 use Rattle.circus_segment.specs.Cut.{Outgoing, whole}
 use Rattle.circus_exchange.specs.declared.exchange.Exchange.{Exchange}
-use Rattle.circus_exchange.specs.Inbox.{acknowledged, completes, count_with}
+use Rattle.circus_exchange.specs.Inbox.{acknowledgement_for, completes, count_with}
 use Rattle.circus_exchange.specs.Outbox.{whole_of, outgoing_at}
 use Rattle.circus_exchange.specs.Exchange.{message_out, takes, sends_at_once, lets_go, in_flight_after, total_of, datagrams_of_call, datagrams_of_return, datagrams_let_go, datagrams_of_taken, datagrams_after}
 use Rattle.circus_wire.specs.declared.delivery.Batch.{Batch}
-use Rattle.circus_wire.specs.Wire.{PeerState, WireState, of_peer, peer_at, is_up, is_awaited, next_number, called_to, answered, sent_by_call, sent_by_answer, after_datagram, heard_from, sent_by_datagram}
+use Rattle.circus_wire.specs.Wire.{PeerState, WireState, of_peer, peer_at, is_up, is_awaited, next_number, called_to, answer_caller, sent_by_call, sent_by_answer, after_datagram, heard_from, sent_by_datagram}
 use Rattle.circus_exchange.specs.Limits.{never_used}
 use Rattle.circus_collate.specs.declared.deployment.Deployment.{Deployment}
 use Rattle.circus_model.specs.NextTurn.{NextTurn}
@@ -23,11 +23,11 @@ use Rattle.circus_member_rules.specs.declared.occurrence.Effect.TheVariants as m
 use Rattle.circus_node.specs.declared.event.Event.TheVariants.{Datagram}
 use Rattle.circus_node.specs.declared.event.Give.{Give}
 use Rattle.circus_node.specs.declared.event.Outputs.{Outputs}
-use Rattle.circus_node.specs.Booting.{booted, fresh_wire, home_of, made_at_boot}
+use Rattle.circus_node.specs.Booting.{boot_node, fresh_wire, home_of, made_at_boot}
 use Rattle.circus_node.specs.NodeState.{NodeState}
 use Rattle.circus_node.specs.Making.{Made, hears}
-use Rattle.circus_node.specs.Sending.{Sending, sent, spent, give_to, gives_of, is_sendable, handed, all_handed}
-use Rattle.circus_node.specs.Step.{ended, concluded, stepped}
+use Rattle.circus_node.specs.Sending.{Sending, sent, spent, give_to, gives_of, is_sendable, hand_over, all_handed}
+use Rattle.circus_node.specs.Step.{end_step, conclude_step, step_node}
 use Rattle.circus_talks.proofs.Given.{same_end}
 use Rattle.circus_world_theory.proofs.Quiescence.Amounts.{is_data, datas, datas-append, first_long, first_datas}
 use Rattle.circus_world_theory.proofs.Quiescence.Sums.{one, weigh, weigh-append}
@@ -82,8 +82,8 @@ let_go_but e in_flight = by_test (lets_go e in_flight)
     by_test true = by_message (outgoing_at e.calls e.format 0 e.sent)
     by_test false = none_but 0
 
-acknowledged_but : (stopped : Bool) (s : Piece) (complete : Bool) (count : ℕ) → FewBut 1 (acknowledged stopped s complete count)
-unfolding acknowledged
+acknowledged_but : (stopped : Bool) (s : Piece) (complete : Bool) (count : ℕ) → FewBut 1 (acknowledgement_for stopped s complete count)
+unfolding acknowledgement_for
 acknowledged_but stopped s complete count = by_test _
   where
     by_test : (b : Bool) → FewBut 1 (if b then spelling (record { format = s.format; kind = s.kind; control = 1; total = s.total; number = count; call = s.call; part = [] }) ∷ [] else [])
@@ -98,14 +98,14 @@ taken_but e s = by_control (is_acknowledgement s)
     by_call true = let_go_but e (in_flight_after e s.call s.number)
     by_call false = none_but 0
 
-    by_kind : (b : Bool) → FewBut 1 (if b then acknowledged e.stopped s (completes e.arriving_calls s) (count_with e.arriving_calls s)
-        else acknowledged e.stopped s (completes e.arriving_returns s) (count_with e.arriving_returns s) ++ datagrams_let_go e (in_flight_after e s.call (total_of e s.call)))
+    by_kind : (b : Bool) → FewBut 1 (if b then acknowledgement_for e.stopped s (completes e.arriving_calls s) (count_with e.arriving_calls s)
+        else acknowledgement_for e.stopped s (completes e.arriving_returns s) (count_with e.arriving_returns s) ++ datagrams_let_go e (in_flight_after e s.call (total_of e s.call)))
     by_kind true = acknowledged_but e.stopped s (completes e.arriving_calls s) (count_with e.arriving_calls s)
     by_kind false = both_but 1 0 _ _ (acknowledged_but e.stopped s (completes e.arriving_returns s) (count_with e.arriving_returns s)) (let_go_but e (in_flight_after e s.call (total_of e s.call)))
 
     by_control : (b : Bool) → FewBut (one (not b)) (if b then (if s.kind == 0 then datagrams_let_go e (in_flight_after e s.call s.number) else [])
-        else (if s.kind == 0 then acknowledged e.stopped s (completes e.arriving_calls s) (count_with e.arriving_calls s)
-        else acknowledged e.stopped s (completes e.arriving_returns s) (count_with e.arriving_returns s) ++ datagrams_let_go e (in_flight_after e s.call (total_of e s.call))))
+        else (if s.kind == 0 then acknowledgement_for e.stopped s (completes e.arriving_calls s) (count_with e.arriving_calls s)
+        else acknowledgement_for e.stopped s (completes e.arriving_returns s) (count_with e.arriving_returns s) ++ datagrams_let_go e (in_flight_after e s.call (total_of e s.call))))
     by_control true = by_call (s.kind == 0)
     by_control false = by_kind (s.kind == 0)
 
@@ -169,7 +169,7 @@ module _ (most : ℕ) where
   quiet_batch : (gives : List Give) (batch : Batch) → GivesBut most gives → FewBut 0 batch.datagrams → GivesBut most (gives ++ gives_of batch)
   quiet_batch gives batch few here = (let both = batch_but most 0 gives batch few here in omega (arith, both))
 
-  handed_but : (w : WireState Purpose) (gives : List Give) (e : Effect) → GivesBut most gives → SendingBut most (handed w gives e)
+  handed_but : (w : WireState Purpose) (gives : List Give) (e : Effect) → GivesBut most gives → SendingBut most (hand_over w gives e)
   handed_but w gives (made.Call to message purpose) few = by_test (is_up w to && is_sendable w.format message) (next_number w to == never_used)
     where
       by_peer : (o : Option (PeerState Purpose)) → FewBut 0 (of_peer [] (λ p. datagrams_of_call p.exchange message) o)
@@ -190,7 +190,7 @@ module _ (most : ℕ) where
       by_awaited true = by_peer (peer_at w caller.node)
       by_awaited false = none_but 0
 
-      by_test : (b : Bool) → SendingBut most (if b then sent (answered w caller message) (gives ++ gives_of (sent_by_answer w caller message)) else sent w gives)
+      by_test : (b : Bool) → SendingBut most (if b then sent (answer_caller w caller message) (gives ++ gives_of (sent_by_answer w caller message)) else sent w gives)
       by_test true = quiet_batch gives (sent_by_answer w caller message) few (by_awaited (is_awaited w caller))
       by_test false = few
 
@@ -200,20 +200,20 @@ module _ (most : ℕ) where
 
   all_but : (s : Sending) (effects : List Effect) → SendingBut most s → SendingBut most (all_handed s effects)
   all_but s [] few = few
-  all_but (sent w gives) (e ∷ effects) few = all_but (handed w gives e) effects (handed_but w gives e few)
+  all_but (sent w gives) (e ∷ effects) few = all_but (hand_over w gives e) effects (handed_but w gives e few)
   all_but (spent node) (e ∷ effects) few = spent_but node effects
 
   module _ {M : Type 0} where
-    concluded_but : (n : NodeState M) (gives : List Give) (m : Made M) (r : NodeState M × Outputs) → GivesBut most gives → concluded n gives m.came ≡ Ok r → GivesBut most r.1.gives
+    concluded_but : (n : NodeState M) (gives : List Give) (m : Made M) (r : NodeState M × Outputs) → GivesBut most gives → conclude_step n gives m.came ≡ Ok r → GivesBut most r.1.gives
     concluded_but n gives m r few is = by_sending (all_handed (sent n.wire gives) m.came.effects) (all_but (sent n.wire gives) m.came.effects few) is
       where
-        by_sending : (s : Sending) → SendingBut most s → ended n m.came s ≡ Ok r → GivesBut most r.1.gives
+        by_sending : (s : Sending) → SendingBut most s → end_step n m.came s ≡ Ok r → GivesBut most r.1.gives
         by_sending (sent w gives_) few_ is_ = subst (λ (x : NodeState M × Outputs). GivesBut most x.1.gives) (same_end _ r is_) few_
         by_sending (spent node) few_ is_ = absurd (let clash : ◌≡◌ {A = Result (NodeState M × Outputs) ℕ} (Err node) (Ok r) = is_ in cc)
 
 module _ {M : Type 0} (declared : M → Signature) (turn : M → List ValueTree → ℕ → List ValueTree → List Outcome → NextTurn) where
   -- a datagram comes to a node
-  pub came_but : (at from : ℕ) (bytes : List ℕ) (n : NodeState M) (r : NodeState M × Outputs) → stepped declared turn at (Datagram from bytes) n ≡ Ok r
+  pub came_but : (at from : ℕ) (bytes : List ℕ) (n : NodeState M) (r : NodeState M × Outputs) → step_node declared turn at (Datagram from bytes) n ≡ Ok r
       → length r.1.gives ≤ data_in r.1.gives + one (is_data bytes)
   came_but at from bytes n r is =
       let m = hears declared turn n.deployment at from (heard_from n.wire from (reading bytes)) n.acting in
@@ -221,7 +221,7 @@ module _ {M : Type 0} (declared : M → Signature) (turn : M → List ValueTree 
       concluded_but (one (is_data bytes)) (record n { wire = after_datagram n.wire from (reading bytes); acting = m.acting }) (gives_of (sent_by_datagram n.wire from (reading bytes))) m r (omega (arith, begun)) is
 
   -- a node boots
-  pub boot_but : (first : M → List ValueTree) (d : Deployment) (hosted : Option M) (node : ℕ) (r : NodeState M × Outputs) → booted declared turn first d hosted node ≡ Ok r
+  pub boot_but : (first : M → List ValueTree) (d : Deployment) (hosted : Option M) (node : ℕ) (r : NodeState M × Outputs) → boot_node declared turn first d hosted node ≡ Ok r
       → length r.1.gives ≤ data_in r.1.gives
   boot_but first d hosted node r is =
       let m = made_at_boot declared turn first d (home_of d node) hosted in

@@ -22,7 +22,7 @@ use Rattle.circus_model.specs.declared.signature.Signature.{Signature}
 use Rattle.circus_record.specs.declared.record.MemberRecord.{MemberRecord}
 use Rattle.circus_record.specs.declared.record.RunRecord.{RunRecord}
 use Rattle.circus_fanout.specs.Knowing as knowing
-use Rattle.circus_fanout.specs.Knowing.{Knowing, unwanted}
+use Rattle.circus_fanout.specs.Knowing.{Knowing, no_want}
 use Rattle.circus_fanout.specs.declared.known.Want.{Want}
 use Rattle.circus_gather.specs.declared.held.HeldCall.{HeldCall}
 use Rattle.circus_performing.specs.Performing.{Performing, is_active, last_count, last_of, open_ask}
@@ -38,7 +38,7 @@ use Rattle.circus_member_rules.specs.declared.place.Beginning.TheVariants.{Found
 use Rattle.circus_member_rules.specs.declared.place.Place.{Place}
 use Rattle.circus_member_rules.specs.Happening.{IsHome}
 use Rattle.circus_member_rules.specs.MemberState.{MemberState, Doing}
-use Rattle.circus_member_rules.specs.Step.{main_start, before_any, performer_at_boot, starts_at_boot, entered, booted, after_turns, opened_ask, ended_run, opened_by_view, name_of_last, asking_begun}
+use Rattle.circus_member_rules.specs.Step.{main_start, before_any, performer_at_boot, starts_at_boot, enter_run_of, boot_member, after_turns, opened_ask, ended_run, opened_by_view, name_of_last, asking_begun}
 use Rattle.circus_member_theory.proofs.Resting.{at_boot, sound_at_boot, may_begin}
 use Rattle.circus_node.proofs.ViewLemmas.{booted_knows}
 use Rattle.circus_truth.specs.Stands.{Stands, IsIdle, IsBusy}
@@ -75,9 +75,9 @@ few_runs program agree are place first kept inactive active = by_phase (is_activ
 no_item : {X : Type 0} (k : ℕ) (x : X) → slice_get [] k ≡ Some x → ⊥
 no_item k x h = cc
 
-none_wanted : (views : List View) → AreLow (map unwanted views)
+none_wanted : (views : List View) → AreLow (map no_want views)
 none_wanted [] = All-nil (λ (w : Want). w.incarnation ≤ 1)
-none_wanted (v ∷ views) = All-cons (λ (w : Want). w.incarnation ≤ 1) (unwanted v) (map unwanted views) (omega arith) (none_wanted views)
+none_wanted (v ∷ views) = All-cons (λ (w : Want). w.incarnation ≤ 1) (no_want v) (map no_want views) (omega arith) (none_wanted views)
 
 module _ {M : Type 0} (declared : M → Signature) (turn : M → List ValueTree → ℕ → List ValueTree → List Outcome → NextTurn) (first : M → List ValueTree)
     (lawful : (hosted : M) → IsModule (behaviour declared turn first hosted)) (P : Caller → CallHeader → List ℕ → Type 0)
@@ -145,7 +145,7 @@ module _ {M : Type 0} (declared : M → Signature) (turn : M → List ValueTree 
     }
 
     abbrev e : Doing M
-    e = entered turn 0 (record { member = m; effects = [] }) (main_start place.troupe views)
+    e = enter_run_of turn 0 (record { member = m; effects = [] }) (main_start place.troupe views)
 
     entered_body : length e.member.performing.kept.runs ≤ last_count → Behind e
     entered_body few =
@@ -173,7 +173,7 @@ module _ {M : Type 0} (declared : M → Signature) (turn : M → List ValueTree 
     entered_some =
         let f : Doing M = record { member = with_entered (behaviour declared turn first hosted) (lawful hosted) m 0 (main_start place.troupe views); effects = [] } in
         let one : length f.member.performing.kept.runs ≡ length m.performing.kept.runs + 1 = length-append m.performing.kept.runs
-        (performing.gone_on 0 (turn hosted m.performing.kept.state 0 []) performing.most_turns (performing.begun 0 (main_start place.troupe views)) ∷ []) in
+        (performing.gone_on 0 (turn hosted m.performing.kept.state 0 []) performing.most_turns (performing.begin_run 0 (main_start place.troupe views)) ∷ []) in
         let same : length e.member.performing.kept.runs ≡ length f.member.performing.kept.runs = ap (λ (p : Performing M). length p.kept.runs) (turns_perform f) in
         omega (arith, one, same)
 
@@ -197,15 +197,15 @@ module _ {M : Type 0} (declared : M → Signature) (turn : M → List ValueTree 
     begun = λ starts. absurd (none starts);
   }
 
-  pub boots_quietly : (beginning : Beginning) → length (booted declared turn first place views beginning hosted).member.performing.kept.runs ≤ last_count → BootsQuietly beginning (booted declared turn first place views beginning hosted)
+  pub boots_quietly : (beginning : Beginning) → length (boot_member declared turn first place views beginning hosted).member.performing.kept.runs ≤ last_count → BootsQuietly beginning (boot_member declared turn first place views beginning hosted)
   boots_quietly Spare few = nothing_yet Spare (λ starts. absurd (let clash : false ≡ true = starts in cc))
   boots_quietly Founder few = by_test (starts_at_boot declared turn Founder hosted) refl few (booted_knows declared turn first place views Founder hosted)
     where
       by_test : (t : Bool) → starts_at_boot declared turn Founder hosted ≡ t
           → let d : Doing M = record { member = before_any declared turn place views (performer_at_boot first Founder hosted); effects = [] } in
-          length (if t then entered turn 0 d (main_start place.troupe views) else d).member.performing.kept.runs ≤ last_count
-          → (if t then entered turn 0 d (main_start place.troupe views) else d).member.known ≡ knowing.at_boot views
-          → BootsQuietly Founder (if t then entered turn 0 d (main_start place.troupe views) else d)
+          length (if t then enter_run_of turn 0 d (main_start place.troupe views) else d).member.performing.kept.runs ≤ last_count
+          → (if t then enter_run_of turn 0 d (main_start place.troupe views) else d).member.known ≡ knowing.at_boot views
+          → BootsQuietly Founder (if t then enter_run_of turn 0 d (main_start place.troupe views) else d)
       by_test false is few_ knows = nothing_yet Founder (λ starts. absurd (let clash : false ≡ true = sym is ∙ starts in cc))
       by_test true is few_ knows =
           let body = entered_body is few_ in

@@ -31,7 +31,7 @@ use Rattle.circus_model.specs.declared.history.Ask.{Ask as AskMade}
 use Rattle.circus_model.specs.declared.history.Run.{Run}
 use Rattle.circus_model.specs.declared.signature.Signature.{Signature}
 use Rattle.circus_pair.specs.Acts.{Acts}
-use Rattle.circus_pair.specs.Handed.{made, call_at, return_at}
+use Rattle.circus_pair.specs.Handed.{calls_made, call_at, return_at}
 use Rattle.circus_pair.specs.Lawful.{AreLawful}
 use Rattle.circus_pair.proofs.Flowing.{call_made, made_call}
 use Rattle.circus_wire.specs.WireActs.{WireActs, purpose_of}
@@ -249,7 +249,7 @@ module _ {M : Type 0} (declared : M → Signature) (turn : M → List ValueTree 
   abbrev return_part : ℕ → ℕ → ℕ → ℕ
   return_part node other k = segments_in (return_at (here node other) k)
 
-  returns_below : (node other : ℕ) → ReturnsBelow (made (here other node)) (here node other)
+  returns_below : (node other : ℕ) → ReturnsBelow (calls_made (here other node)) (here node other)
   returns_below node other call message is =
       let r = returns_are_replies declared turn first lawful d modules hosted lines booted last world alone node other call message is in
       let within = (made_call 0 (here other node) call (ap is_some r.3)).1 in
@@ -263,7 +263,7 @@ module _ {M : Type 0} (declared : M → Signature) (turn : M → List ValueTree 
     lawful_here = lawful_at d node other s.0.node.wire (happened node) (stands.stands node s.0 s.1) other_below differs
 
     abbrev count : ℕ
-    count = made (here node other)
+    count = calls_made (here node other)
 
     abbrev Called : Caller → List ℕ → Type 0
     Called = CalledAt d happened node
@@ -447,9 +447,9 @@ module _ {M : Type 0} (declared : M → Signature) (turn : M → List ValueTree 
             member_bound place hosts m acting (subst (λ a. ActsTrue declared turn first program d Called (Some place) a) acting (subst (λ o. ActsTrue declared turn first program d Called o s.0.node.acting) hosts truth))
 
     -- what it has sent to the other one
-    data_bound : datas (sent_in (beginning_of d node) other (happened node)) ≤ total count (call_part node other) + total (made (here other node)) (return_part node other)
+    data_bound : datas (sent_in (beginning_of d node) other (happened node)) ≤ total count (call_part node other) + total (calls_made (here other node)) (return_part node other)
     data_bound =
-        let few = few_datas d.format (made (here other node)) (here node other) lawful_here
+        let few = few_datas d.format (calls_made (here other node)) (here node other) lawful_here
         (quiet_on declared turn d first hosted lines booted last alone began_so live world.leads node (start 0 d.format) other) (returns_below node other) in
         let same = ap datas (sent_is (beginning_of d node) (happened node) other lawful_here) in
         omega (arith, few, same)
@@ -457,10 +457,10 @@ module _ {M : Type 0} (declared : M → Signature) (turn : M → List ValueTree 
   -- ---- all pairs
 
   abbrev calls_to : ℕ → ℕ → ℕ
-  calls_to node other = if other == node then 0 else total (made (here node other)) (call_part node other)
+  calls_to node other = if other == node then 0 else total (calls_made (here node other)) (call_part node other)
 
   abbrev returns_to : ℕ → ℕ → ℕ
-  returns_to node other = if other == node then 0 else total (made (here other node)) (return_part node other)
+  returns_to node other = if other == node then 0 else total (calls_made (here other node)) (return_part node other)
 
   pair_data : (node other : ℕ) → node < length d.nodes → other < length d.nodes → data_to (beginning_of d node) (happened node) other ≤ calls_to node other + returns_to node other
   pair_data node other node_below other_below = elim (eqb_tells other node) [
@@ -468,22 +468,22 @@ module _ {M : Type 0} (declared : M → Signature) (turn : M → List ValueTree 
     | inr differ ↦
         let bound = data_bound node other node_below other_below differ.1 in
         let sent : data_to (beginning_of d node) (happened node) other ≡ datas (sent_in (beginning_of d node) other (happened node)) = ap (λ b. if b then 0 else datas (sent_in (beginning_of d node) other (happened node))) differ.0 in
-        let calls : calls_to node other ≡ total (made (here node other)) (call_part node other) = ap (λ b. if b then 0 else total (made (here node other)) (call_part node other)) differ.0 in
-        let returns : returns_to node other ≡ total (made (here other node)) (return_part node other) = ap (λ b. if b then 0 else total (made (here other node)) (return_part node other)) differ.0 in
+        let calls : calls_to node other ≡ total (calls_made (here node other)) (call_part node other) = ap (λ b. if b then 0 else total (calls_made (here node other)) (call_part node other)) differ.0 in
+        let returns : returns_to node other ≡ total (calls_made (here other node)) (return_part node other) = ap (λ b. if b then 0 else total (calls_made (here other node)) (return_part node other)) differ.0 in
         omega (arith, bound, sent, calls, returns)
   ]
 
   pair_bound : (node other : ℕ) → node < length d.nodes → other < length d.nodes → calls_to node other + returns_to other node ≤ between d (history_of program) node other
   pair_bound node other node_below other_below = elim (eqb_tells other node) [
     | inl same ↦
-        let calls : calls_to node other ≡ 0 = ap (λ b. if b then 0 else total (made (here node other)) (call_part node other)) same.0 in
-        let returns : returns_to other node ≡ 0 = ap (λ b. if b then 0 else total (made (here node other)) (return_part other node)) (eq-eqb node other (sym same.1)) in
+        let calls : calls_to node other ≡ 0 = ap (λ b. if b then 0 else total (calls_made (here node other)) (call_part node other)) same.0 in
+        let returns : returns_to other node ≡ 0 = ap (λ b. if b then 0 else total (calls_made (here node other)) (return_part other node)) (eq-eqb node other (sym same.1)) in
         omega (arith, calls, returns)
     | inr differ ↦
         let bound = calls_bound node other node_below other_below differ.1 in
-        let calls : calls_to node other ≡ total (made (here node other)) (call_part node other) = ap (λ b. if b then 0 else total (made (here node other)) (call_part node other)) differ.0 in
-        let returns = none_or (node == other) (total (made (here node other)) (return_part other node)) in
-        let both = total_plus (made (here node other)) (call_part node other) (return_part other node) in
+        let calls : calls_to node other ≡ total (calls_made (here node other)) (call_part node other) = ap (λ b. if b then 0 else total (calls_made (here node other)) (call_part node other)) differ.0 in
+        let returns = none_or (node == other) (total (calls_made (here node other)) (return_part other node)) in
+        let both = total_plus (calls_made (here node other)) (call_part node other) (return_part other node) in
         omega (arith, bound, calls, returns, both)
   ]
     where
@@ -517,14 +517,14 @@ module _ {M : Type 0} (declared : M → Signature) (turn : M → List ValueTree 
   counted_at_boot : DataCounted declared turn d (at_boot declared turn first d hosted) booted
   counted_at_boot =
       let counts = (boot_counts declared turn first d hosted modules booted world.boots).0 in
-      let long = ap (λ n. total n (λ node. data_of_end (node_booting.booted declared turn first d (own_of declared turn first d hosted node) node))) began_so.all in
-      let each = total_le nodes (λ node. data_of_end (node_booting.booted declared turn first d (own_of declared turn first d hosted node) node)) (λ node. data_sent (beginning_of d node) (at_boot declared turn first d hosted node)) (λ node below. of_node node below) in
+      let long = ap (λ n. total n (λ node. data_of_end (node_booting.boot_node declared turn first d (own_of declared turn first d hosted node) node))) began_so.all in
+      let each = total_le nodes (λ node. data_of_end (node_booting.boot_node declared turn first d (own_of declared turn first d hosted node) node)) (λ node. data_sent (beginning_of d node) (at_boot declared turn first d hosted node)) (λ node below. of_node node below) in
       omega (arith, counts, long, each)
     where
-      of_node : (node : ℕ) → node < length d.nodes → data_of_end (node_booting.booted declared turn first d (own_of declared turn first d hosted node) node) ≤ data_sent (beginning_of d node) (at_boot declared turn first d hosted node)
-      of_node node below = by_end (node_booting.booted declared turn first d (own_of declared turn first d hosted node) node) refl
+      of_node : (node : ℕ) → node < length d.nodes → data_of_end (node_booting.boot_node declared turn first d (own_of declared turn first d hosted node) node) ≤ data_sent (beginning_of d node) (at_boot declared turn first d hosted node)
+      of_node node below = by_end (node_booting.boot_node declared turn first d (own_of declared turn first d hosted node) node) refl
         where
-          by_end : (e : node_step.Ended M) → node_booting.booted declared turn first d (own_of declared turn first d hosted node) node ≡ e → data_of_end e ≤ data_sent (beginning_of d node) (at_boot declared turn first d hosted node)
+          by_end : (e : node_step.Ended M) → node_booting.boot_node declared turn first d (own_of declared turn first d hosted node) node ≡ e → data_of_end e ≤ data_sent (beginning_of d node) (at_boot declared turn first d hosted node)
           by_end (Ok ended) ends = (let counted = (boot_gives declared turn first d (own_of declared turn first d hosted node) node ended below ends).counted in omega (arith, counted))
           by_end (Err peer) ends = omega arith
 

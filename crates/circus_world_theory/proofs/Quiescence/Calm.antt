@@ -41,7 +41,7 @@ use Rattle.circus_member_rules.specs.GoneOn.{HasGoneOn}
 use Rattle.circus_member_rules.specs.Happening.{CanHappen}
 use Rattle.circus_member_rules.specs.MemberState.{MemberState}
 use Rattle.circus_member_rules.specs.Seen.Sound.{IsRested}
-use Rattle.circus_member_rules.specs.Step.{handled, stepped}
+use Rattle.circus_member_rules.specs.Step.{handle, step_member}
 use Rattle.circus_member_theory.proofs.Resting.{step_rests}
 use Rattle.circus_member_theory.specs.Ranges.{InRange}
 use Rattle.circus_talks.specs.NodeActs.{with_all}
@@ -171,19 +171,19 @@ module _ (b : Beginning) (bv : List View) (IsPeer : ℕ → Type 0) (own : ℕ) 
 
   -- where something happens
   module _ (at : ℕ) (x : Occurrence) (can : CanHappen (declared m.performing.hosted) m x) (quiet_x : IsQuietOccurrence bv own phase P x)
-      (few_before : length m.performing.kept.runs ≤ last_count) (few : length (stepped declared turn at x m).member.performing.kept.runs ≤ last_count)
-      (after : IsRested (behaviour declared turn first (stepped declared turn at x m).member.performing.hosted) (stepped declared turn at x m).member)
-      (br : Brings (Some x)) (returns : AreReturns b now (stepped declared turn at x m).effects) (others : (t : ℕ) (view : View) → slice_get bv t ≡ Some view → AreOthers view) where
+      (few_before : length m.performing.kept.runs ≤ last_count) (few : length (step_member declared turn at x m).member.performing.kept.runs ≤ last_count)
+      (after : IsRested (behaviour declared turn first (step_member declared turn at x m).member.performing.hosted) (step_member declared turn at x m).member)
+      (br : Brings (Some x)) (returns : AreReturns b now (step_member declared turn at x m).effects) (others : (t : ℕ) (view : View) → slice_get bv t ≡ Some view → AreOthers view) where
     abbrev Old : ℕ → ℕ → ℕ → ℕ → Type 0
     Old index number callee node = (k : ℕ) × Purposed b a node k (for.Ask (record { run = index; ask = number }) callee)
 
     abbrev effects : List Effect
-    effects = (stepped declared turn at x m).effects
+    effects = (step_member declared turn at x m).effects
 
     abbrev n : MemberState M
-    n = (stepped declared turn at x m).member
+    n = (step_member declared turn at x m).member
 
-    pub steps : StepsQuiet bv own phase P declared turn first lawful firsts Old at x m (stepped declared turn at x m)
+    pub steps : StepsQuiet bv own phase P declared turn first lawful firsts Old at x m (step_member declared turn at x m)
     steps = step_quiet bv own phase P declared turn first lawful firsts Old at m rested.sound q (λ index number callee r view node there entry. calm.made index number callee r view node there entry) x can quiet_x few
 
     in_range : InRange x
@@ -251,7 +251,7 @@ module _ (b : Beginning) (bv : List View) (IsPeer : ℕ → Type 0) (own : ℕ) 
     -- ---- the returns that came
 
     -- what was said stays said
-    said_kept : (y : Occurrence) → IsQuietOccurrence bv own phase P y → (name : AskName) (node : ℕ) (before then_ : Asking) → asking_of m.asks name ≡ Some before → asking_of (handled at y m).member.asks name ≡ Some then_
+    said_kept : (y : Occurrence) → IsQuietOccurrence bv own phase P y → (name : AskName) (node : ℕ) (before then_ : Asking) → asking_of m.asks name ≡ Some before → asking_of (handle at y m).member.asks name ≡ Some then_
         → list_any (is_from node) before.said ≡ true → list_any (is_from node) then_.said ≡ true
     said_kept (comes.Asked header body sender) quiet_ name node before then_ was is there =
         subst (λ (y : Asking). list_any (is_from node) y.said ≡ true) (same_Some before then_ (sym was ∙ is)) there
@@ -272,11 +272,11 @@ module _ (b : Beginning) (bv : List View) (IsPeer : ℕ → Type 0) (own : ℕ) 
     said_kept comes.Joins quiet_ name node before then_ was is there = absurd quiet_
 
     -- and what is said now is
-    said_new : (name : AskName) (node : ℕ) (reply : Reply) (before then_ : Asking) → x ≡ comes.Replied name node reply → asking_of m.asks name ≡ Some before → asking_of (handled at x m).member.asks name ≡ Some then_
+    said_new : (name : AskName) (node : ℕ) (reply : Reply) (before then_ : Asking) → x ≡ comes.Replied name node reply → asking_of m.asks name ≡ Some before → asking_of (handle at x m).member.asks name ≡ Some then_
         → list_any (is_from node) then_.said ≡ true
     said_new name node reply before then_ is was now_ =
-        let here : asking_of (handled at (comes.Replied name node reply) m).member.asks name ≡ Some (with_reply node reply before) = changed_here m.asks name (with_reply node reply) before was in
-        let same : with_reply node reply before ≡ then_ = same_Some (with_reply node reply before) then_ (sym here ∙ subst (λ y. asking_of (handled at y m).member.asks name ≡ Some then_) is now_) in
+        let here : asking_of (handle at (comes.Replied name node reply) m).member.asks name ≡ Some (with_reply node reply before) = changed_here m.asks name (with_reply node reply) before was in
+        let same : with_reply node reply before ≡ then_ = same_Some (with_reply node reply before) then_ (sym here ∙ subst (λ y. asking_of (handle at y m).member.asks name ≡ Some then_) is now_) in
         subst (λ (y : Asking). list_any (is_from node) y.said ≡ true) same
         (list_any-append (is_from node) before.said (record { node = node; value = reply } ∷ [])
         ∙ other_true (list_any (is_from node) before.said) (list_any (is_from node) (record { node = node; value = reply } ∷ [])) (either_true (eqb node node) false (eq-eqb node node refl)))
@@ -312,7 +312,7 @@ module _ (b : Beginning) (bv : List View) (IsPeer : ℕ → Type 0) (own : ℕ) 
             reopened (behaviour declared turn first m.performing.hosted) (behaviour declared turn first n.performing.hosted) m.performing.began n.performing.began m.performing.kept n.performing.kept rested.sound.kept after.sound.kept
             q.from steps.quiet.from few_before few steps.longer steps.counts steps.named index number callee was o
 
-        by_said : (new : Asking) → ((asking_ : Asking) × (asking_of (handled at x m).member.asks name ≡ Some asking_) × (new.said ≡ asking_.said)) ⊎ ((Named m.performing.kept index number → ⊥) × (new.said ≡ [])) → list_any (is_from node) new.said ≡ true
+        by_said : (new : Asking) → ((asking_ : Asking) × (asking_of (handle at x m).member.asks name ≡ Some asking_) × (new.said ≡ asking_.said)) ⊎ ((Named m.performing.kept index number → ⊥) × (new.said ≡ [])) → list_any (is_from node) new.said ≡ true
         by_said new (inr fresh) = absurd (fresh.0 was)
         by_said new (inl old) =
             let h = q.opened index number open_before.0 open_before.1 in

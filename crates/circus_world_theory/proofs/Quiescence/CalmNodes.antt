@@ -46,14 +46,14 @@ use Rattle.circus_member_rules.specs.declared.occurrence.Occurrence.TheVariants 
 use Rattle.circus_member_rules.specs.declared.occurrence.Purpose.{Purpose}
 use Rattle.circus_member_rules.specs.declared.occurrence.Purpose.TheVariants as for
 use Rattle.circus_member_rules.specs.MemberState.{MemberState}
-use Rattle.circus_node.specs.Accepting.{troupe_at, accepted, accepted_answer}
+use Rattle.circus_node.specs.Accepting.{troupe_at, occurrence_of_heard, accepted_answer}
 use Rattle.circus_member_theory.proofs.Accepting.Calls.{ask_no_fetch}
 use Rattle.circus_member_theory.proofs.Accepting.TrueReturns.{answers_ask}
 use Rattle.circus_node.specs.Booting.{IsOfTroupe}
 use Rattle.circus_truth.specs.Proper.{AreProper}
 use Rattle.circus_truth.specs.Truth.{reply_to, IsNamed, IsTrueCallFor, IsTrueReturn, IsTrueAsking, IsAskMessage}
 use Rattle.circus_talks.specs.Histories.{beginning_of}
-use Rattle.circus_talks.specs.NodeActs.{with_all, coming}
+use Rattle.circus_talks.specs.NodeActs.{with_all, acts_of_datagram}
 use Rattle.circus_talks.proofs.Worlds.{is_other, lawful_at}
 use Rattle.circus_world.specs.WorldState.{WorldState}
 use Rattle.circus_world.proofs.SlotLemmas.{all_at}
@@ -120,7 +120,7 @@ module _ {M : Type 0} (declared : M → Signature) (turn : M → List ValueTree 
     record TakesCall (c : Caller) (message : List ℕ) : Type 0 where
       header : CallHeader
       body : List ℕ
-      is : accepted d (declared m.performing.hosted) m from (heard.Called c message) ≡ Some (comes.Asked header body c)
+      is : occurrence_of_heard d (declared m.performing.hosted) m from (heard.Called c message) ≡ Some (comes.Asked header body c)
 
     takes_call : (c : Caller) (message : List ℕ) → HeardAt d acts node from (heard.Called c message) → TakesCall c message
     takes_call c message at = by_client (troupe_at d from) refl (has_module program d from good all) c_said.so
@@ -159,7 +159,7 @@ module _ {M : Type 0} (declared : M → Signature) (turn : M → List ValueTree 
 
     record TakesReturn (k : ℕ) (purpose : Purpose) (message : List ℕ) (name : AskName) : Type 0 where
       reply : Reply
-      is : accepted d (declared m.performing.hosted) m from (heard.Returned k purpose message) ≡ Some (comes.Replied name from reply)
+      is : occurrence_of_heard d (declared m.performing.hosted) m from (heard.Returned k purpose message) ≡ Some (comes.Replied name from reply)
 
     takes_return : (k : ℕ) (name : AskName) (to : ℕ) (message : List ℕ) (asking : Asking) → asking_of m.asks name ≡ Some asking → HeardAt d acts node from (heard.Returned k (for.Ask name to) message) → TakesReturn k (for.Ask name to) message name
     takes_return k name to message asking open_ at =
@@ -220,7 +220,7 @@ module _ {M : Type 0} (declared : M → Signature) (turn : M → List ValueTree 
       a = acts node
 
       abbrev came : WireActs Purpose
-      came = with_all a (coming from segment)
+      came = with_all a (acts_of_datagram from segment)
 
       other : IsOther wire from
       other = is_other d node from wire a stands from_below differs
@@ -228,15 +228,15 @@ module _ {M : Type 0} (declared : M → Signature) (turn : M → List ValueTree 
       lawful_from : AreLawful 0 d.format (acts_at (start 0 d.format) from a)
       lawful_from = lawful_at d node from wire a stands from_below differs
 
-      purposes_same : (seg : Result Piece SegmentFault) (x k : ℕ) (p : Purpose) → Purposed (beginning_of d node) (with_all a (coming from seg)) x k p → Purposed (beginning_of d node) a x k p
+      purposes_same : (seg : Result Piece SegmentFault) (x k : ℕ) (p : Purpose) → Purposed (beginning_of d node) (with_all a (acts_of_datagram from seg)) x k p → Purposed (beginning_of d node) a x k p
       purposes_same (Ok s) x k p is = is
       purposes_same (Err fault) x k p is = is
 
-      said_came : (seg : Result Piece SegmentFault) → AllSaid QuietCall QuietReturn (with_all a (coming from seg))
+      said_came : (seg : Result Piece SegmentFault) → AllSaid QuietCall QuietReturn (with_all a (acts_of_datagram from seg))
       said_came (Ok s) = (quiet.said node, tt)
       said_came (Err fault) = quiet.said node
 
-      lawful_came : (seg : Result Piece SegmentFault) → ((s : Piece) → seg ≡ Ok s → IsSegment s) → (x : ℕ) → Peer x → AreLawful 0 d.format (acts_at (start 0 d.format) x (with_all a (coming from seg)))
+      lawful_came : (seg : Result Piece SegmentFault) → ((s : Piece) → seg ≡ Ok s → IsSegment s) → (x : ℕ) → Peer x → AreLawful 0 d.format (acts_at (start 0 d.format) x (with_all a (acts_of_datagram from seg)))
       lawful_came (Err fault) reads x peer = lawful_at d node x wire a stands peer.0 peer.1
       lawful_came (Ok s) reads x peer = elim (eqb_tells from x) [
         | inl same ↦ subst (λ o. AreLawful 0 d.format (with_act (acts_at (start 0 d.format) x a) o)) (sym (ap (λ y. cond y (Some (Came s)) None) same.0)) (lawful_at d node x wire a stands peer.0 peer.1, reads s refl)
@@ -251,9 +251,9 @@ module _ {M : Type 0} (declared : M → Signature) (turn : M → List ValueTree 
           by_call None is = absurd (let clash : false ≡ true = sym (unmade_unreturned 0 d.format (acts_at (start 0 d.format) x came) k (lawful_came segment read x peer) is) ∙ arrived in cc)
 
       abbrev o : Option Occurrence
-      o = accepted d (declared m.performing.hosted) m from (heard_from wire from segment)
+      o = occurrence_of_heard d (declared m.performing.hosted) m from (heard_from wire from segment)
 
-      calls_by : (seg : Result Piece SegmentFault) → segment ≡ seg → (c : Caller) → Arrived (beginning_of d node) (with_all a (coming from seg)) c.node 0 c.number
+      calls_by : (seg : Result Piece SegmentFault) → segment ≡ seg → (c : Caller) → Arrived (beginning_of d node) (with_all a (acts_of_datagram from seg)) c.node 0 c.number
           → Arrived (beginning_of d node) a c.node 0 c.number ⊎ ((header : CallHeader) × (body : List ℕ) × (o ≡ Some (comes.Asked header body c)))
       calls_by (Err fault) is c arrived = inl arrived
       calls_by (Ok s) is c arrived = elim (eqb_tells c.node from) [
@@ -269,9 +269,9 @@ module _ {M : Type 0} (declared : M → Signature) (turn : M → List ValueTree 
               let one : ◌≡◌ {A = Caller} (record { node = from; number = c.number }) c = λ i. record { node = sym same i; number = c.number } in
               let heard_is : heard_from wire from segment ≡ heard.Called c h.0 = ap (heard_from wire from) is ∙ h.1 ∙ ap (λ (y : Caller). let z : Heard Purpose = heard.Called y h.0 in z) one in
               let t = takes_call c h.0 (subst (λ y. HeardAt d acts node from y) heard_is truly_heard) in
-              inr (t.header, t.body, ap (accepted d (declared m.performing.hosted) m from) heard_is ∙ t.is)
+              inr (t.header, t.body, ap (occurrence_of_heard d (declared m.performing.hosted) m from) heard_is ∙ t.is)
 
-      returns_by : (seg : Result Piece SegmentFault) → segment ≡ seg → (x k : ℕ) (name : AskName) (asked : ℕ) (asking : Asking) → Arrived (beginning_of d node) (with_all a (coming from seg)) x 1 k
+      returns_by : (seg : Result Piece SegmentFault) → segment ≡ seg → (x k : ℕ) (name : AskName) (asked : ℕ) (asking : Asking) → Arrived (beginning_of d node) (with_all a (acts_of_datagram from seg)) x 1 k
           → Purposed (beginning_of d node) a x k (for.Ask name asked) → asking_of m.asks name ≡ Some asking
           → Arrived (beginning_of d node) a x 1 k ⊎ ((reply : Reply) × (o ≡ Some (comes.Replied name x reply)))
       returns_by (Err fault) is x k name asked asking arrived p open_ = inl arrived
@@ -291,12 +291,12 @@ module _ {M : Type 0} (declared : M → Signature) (turn : M → List ValueTree 
               let t = takes_return k name asked h.0 asking open_ (subst (λ y. HeardAt d acts node from (heard.Returned k y h.0)) purpose there) in
               inr (
                 t.reply,
-                ap (accepted d (declared m.performing.hosted) m from) (heard_is ∙ ap (λ y. let z : Heard Purpose = heard.Returned k y h.0 in z) purpose) ∙ t.is
+                ap (occurrence_of_heard d (declared m.performing.hosted) m from) (heard_is ∙ ap (λ y. let z : Heard Purpose = heard.Returned k y h.0 in z) purpose) ∙ t.is
                     ∙ ap (λ y. Some (comes.Replied name y t.reply)) (sym same),
               )
 
       pub brings_so : (bv : List View) (own : ℕ) (phase : Joiner) (P : Caller → CallHeader → List ℕ → Type 0) (firsts : AreFirst bv) (rested : IsRested now m) (q : IsQuiet bv own phase P m) (calm : IsCalm (beginning_of d node) bv Peer a m)
-          → Brings (beginning_of d node) bv Peer own phase P declared turn first lawful firsts a (coming from segment) m rested q calm o
+          → Brings (beginning_of d node) bv Peer own phase P declared turn first lawful firsts a (acts_of_datagram from segment) m rested q calm o
       brings_so bv own phase P firsts rested q calm = record {
         purposes = λ x k p is. purposes_same segment x k p is;
         before = before;

@@ -39,20 +39,20 @@ use Rattle.circus_member_theory.proofs.Resting.{step_rests}
 use Rattle.circus_member_rules.specs.declared.occurrence.Purpose.{Purpose}
 use Rattle.circus_member_rules.specs.declared.occurrence.Purpose.TheVariants as for
 use Rattle.circus_member_rules.specs.MemberState.{MemberState}
-use Rattle.circus_member_rules.specs.Step.{stepped}
-use Rattle.circus_node.specs.Accepting.{troupe_at, is_root, accepted}
+use Rattle.circus_member_rules.specs.Step.{step_member}
+use Rattle.circus_node.specs.Accepting.{troupe_at, is_root, occurrence_of_heard}
 use Rattle.circus_node.specs.Booting.{IsOfTroupe}
 use Rattle.circus_node.specs.declared.event.Event.{Event}
 use Rattle.circus_node.specs.declared.event.Event.TheVariants as comes
 use Rattle.circus_node.specs.NodeState.{Acting, member, ringmaster}
-use Rattle.circus_node.specs.Making.{Made, happens, refused, hears}
+use Rattle.circus_node.specs.Making.{Made, happens, refuse, hears}
 use Rattle.circus_schedule.specs.declared.line.Line.{Line}
 use Rattle.circus_schedule.specs.declared.line.Line.TheVariants.{Deliver, Tick, Crash, Down, Join}
 use Rattle.circus_world.specs.WorldState.{WorldState, Standing}
 use Rattle.circus_world.specs.Lines.{Lead}
 use Rattle.circus_world.proofs.SlotLemmas.{get_set, get_there, all_at}
 use Rattle.circus_talks.specs.Histories.{beginning_of, with_line, with_lines, with_others}
-use Rattle.circus_talks.specs.NodeActs.{with_all, coming, came_by, wire_behind}
+use Rattle.circus_talks.specs.NodeActs.{with_all, acts_of_datagram, came_by, wire_behind}
 use Rattle.circus_node.specs.Trace.{effects_in}
 use Rattle.circus_talks.proofs.Given.{with_both}
 use Rattle.circus_talks.proofs.Worlds.{Stands, IsGiven, get_same, came_sent}
@@ -135,7 +135,7 @@ module _ {M : Type 0} (declared : M → Signature) (turn : M → List ValueTree 
     Called = CalledAt d acts node
 
     abbrev came : WireActs Purpose
-    came = with_all (acts node) (coming from segment)
+    came = with_all (acts node) (acts_of_datagram from segment)
 
     abbrev P : Caller → CallHeader → List ℕ → Type 0
     P = HasCame declared turn first lawful program agree are proper d Called
@@ -151,48 +151,48 @@ module _ {M : Type 0} (declared : M → Signature) (turn : M → List ValueTree 
       pub placed_ : member_.place ≡ m.place
 
     module _ (truly_heard : HeardAt d acts node from (heard_from wire from segment)) where
-      brings : Brings (beginning_of d node) (boot_views d.troupes) (λ other. IsOtherOf d node other) troupe (phase_at d node) P declared turn first lawful (first_views 0 d.troupes) (acts node) (coming from segment) m truly.rested still calm
-          (accepted d (declared m.performing.hosted) m from (heard_from wire from segment))
+      brings : Brings (beginning_of d node) (boot_views d.troupes) (λ other. IsOtherOf d node other) troupe (phase_at d node) P declared turn first lawful (first_views 0 d.troupes) (acts node) (acts_of_datagram from segment) m truly.rested still calm
+          (occurrence_of_heard d (declared m.performing.hosted) m from (heard_from wire from segment))
       brings = brings_so declared turn first lawful program agree are proper d good all fits acts w so_far quiet node from right troupe m hosts truly wire stands from_below differs segment read truly_heard
           (boot_views d.troupes) troupe (phase_at d node) P (first_views 0 d.troupes) truly.rested still calm
 
-      stays : Brings (beginning_of d node) (boot_views d.troupes) (λ other. IsOtherOf d node other) troupe (phase_at d node) P declared turn first lawful (first_views 0 d.troupes) (acts node) (coming from segment) m truly.rested still calm None
+      stays : Brings (beginning_of d node) (boot_views d.troupes) (λ other. IsOtherOf d node other) troupe (phase_at d node) P declared turn first lawful (first_views 0 d.troupes) (acts node) (acts_of_datagram from segment) m truly.rested still calm None
           → (x : Made M) → x.acting ≡ member m → x.came.effects ≡ [] → MemberSteps x
       stays br x same none = record {
         member_ = m;
         acting = same;
         calm_ = subst (λ es. CalmAt node (with_all came (map act_of es)) m) (sym none)
-            (calm_still (beginning_of d node) (boot_views d.troupes) (λ other. IsOtherOf d node other) troupe (phase_at d node) P declared turn first lawful (first_views 0 d.troupes) (acts node) (coming from segment) m truly.rested still calm br);
+            (calm_still (beginning_of d node) (boot_views d.troupes) (λ other. IsOtherOf d node other) troupe (phase_at d node) P declared turn first lawful (first_views 0 d.troupes) (acts node) (acts_of_datagram from segment) m truly.rested still calm br);
         early_ = subst (λ es. All (IsMade AnyCall (EarlyReturn Called troupe m.performing.kept.count)) es) (sym none) (All-nil (IsMade AnyCall (EarlyReturn Called troupe m.performing.kept.count)));
         counts = omega arith;
         longer = omega arith;
         placed_ = refl;
       }
 
-      by_accepted : (at : ℕ) (h : Heard Purpose) → heard_from wire from segment ≡ h → (o : Option Occurrence) → accepted d (declared m.performing.hosted) m from h ≡ o
-          → ActsTrue declared turn first program d Called (Some troupe) (option_map_or (happens declared turn at m) o (refused (member m))).acting
-          → AreReturns (beginning_of d node) came (option_map_or (happens declared turn at m) o (refused (member m))).came.effects
-          → MemberSteps (option_map_or (happens declared turn at m) o (refused (member m)))
+      by_accepted : (at : ℕ) (h : Heard Purpose) → heard_from wire from segment ≡ h → (o : Option Occurrence) → occurrence_of_heard d (declared m.performing.hosted) m from h ≡ o
+          → ActsTrue declared turn first program d Called (Some troupe) (option_map_or (happens declared turn at m) o (refuse (member m))).acting
+          → AreReturns (beginning_of d node) came (option_map_or (happens declared turn at m) o (refuse (member m))).came.effects
+          → MemberSteps (option_map_or (happens declared turn at m) o (refuse (member m)))
       by_accepted at h h_is None o_is truth returns =
-          stays (subst (λ y. Brings (beginning_of d node) (boot_views d.troupes) (λ other. IsOtherOf d node other) troupe (phase_at d node) P declared turn first lawful (first_views 0 d.troupes) (acts node) (coming from segment) m truly.rested still calm y)
-          (ap (accepted d (declared m.performing.hosted) m from) h_is ∙ o_is) brings) (refused (member m)) refl refl
+          stays (subst (λ y. Brings (beginning_of d node) (boot_views d.troupes) (λ other. IsOtherOf d node other) troupe (phase_at d node) P declared turn first lawful (first_views 0 d.troupes) (acts node) (acts_of_datagram from segment) m truly.rested still calm y)
+          (ap (occurrence_of_heard d (declared m.performing.hosted) m from) h_is ∙ o_is) brings) (refuse (member m)) refl refl
       by_accepted at h h_is (Some x) o_is truth returns =
-          let is : accepted d (declared m.performing.hosted) m from (heard_from wire from segment) ≡ Some x = ap (accepted d (declared m.performing.hosted) m from) h_is ∙ o_is in
+          let is : occurrence_of_heard d (declared m.performing.hosted) m from (heard_from wire from segment) ≡ Some x = ap (occurrence_of_heard d (declared m.performing.hosted) m from) h_is ∙ o_is in
           let so : HappensQuietly declared turn first lawful program agree are proper d Called (phase_at d node) troupe m truly still x =
           happens_so declared turn first lawful program agree are proper d good all acts w so_far quiet node from troupe m hosts truly still (heard_from wire from segment) truly_heard x is in
-          let n = (stepped declared turn at x m).member in
+          let n = (step_member declared turn at x m).member in
           let few_before = few_runs program agree are troupe (first m.performing.hosted) m.performing.kept truly.rested.sound.kept.inactive truly.is.stands in
           let few = few_of declared turn first lawful program agree are proper d good all acts w so_far quiet node from troupe m hosts truly still at (Some x) truth x refl in
-          let br = subst (λ y. Brings (beginning_of d node) (boot_views d.troupes) (λ other. IsOtherOf d node other) troupe (phase_at d node) P declared turn first lawful (first_views 0 d.troupes) (acts node) (coming from segment) m truly.rested still calm y) is brings in
-          let s = steps (beginning_of d node) (boot_views d.troupes) (λ other. IsOtherOf d node other) troupe (phase_at d node) P declared turn first lawful (first_views 0 d.troupes) (acts node) (coming from segment) m truly.rested still calm
+          let br = subst (λ y. Brings (beginning_of d node) (boot_views d.troupes) (λ other. IsOtherOf d node other) troupe (phase_at d node) P declared turn first lawful (first_views 0 d.troupes) (acts node) (acts_of_datagram from segment) m truly.rested still calm y) is brings in
+          let s = steps (beginning_of d node) (boot_views d.troupes) (λ other. IsOtherOf d node other) troupe (phase_at d node) P declared turn first lawful (first_views 0 d.troupes) (acts node) (acts_of_datagram from segment) m truly.rested still calm
           at x so.0 so.1 few_before few truth.rested br returns (boot_others d good) in
           record {
             member_ = n;
             acting = refl;
-            calm_ = calm_now (beginning_of d node) (boot_views d.troupes) (λ other. IsOtherOf d node other) troupe (phase_at d node) P declared turn first lawful (first_views 0 d.troupes) (acts node) (coming from segment) m truly.rested still calm
+            calm_ = calm_now (beginning_of d node) (boot_views d.troupes) (λ other. IsOtherOf d node other) troupe (phase_at d node) P declared turn first lawful (first_views 0 d.troupes) (acts node) (acts_of_datagram from segment) m truly.rested still calm
                 at x so.0 so.1 few_before few truth.rested br returns (boot_others d good);
             early_ = All-weaker (EffectSo (boot_views d.troupes) troupe P n.performing.kept) (IsMade AnyCall (EarlyReturn Called troupe n.performing.kept.count)) (made_early (boot_views d.troupes) Called troupe n.performing.kept)
-                (stepped declared turn at x m).effects s.effects;
+                (step_member declared turn at x m).effects s.effects;
             counts = s.counts;
             longer = s.longer;
             placed_ = (step_rests declared turn first lawful at x m truly.rested so.0 (quiet_in_range (boot_views d.troupes) troupe (phase_at d node) P x so.1)).place;
@@ -201,15 +201,15 @@ module _ {M : Type 0} (declared : M → Signature) (turn : M → List ValueTree 
       pub member_steps : (at : ℕ) (h : Heard Purpose) → heard_from wire from segment ≡ h → ActsTrue declared turn first program d Called (Some troupe) (hears declared turn d at from h (member m)).acting
           → AreReturns (beginning_of d node) came (hears declared turn d at from h (member m)).came.effects → MemberSteps (hears declared turn d at from h (member m))
       member_steps at heard.Dropped h_is truth returns =
-          stays (subst (λ y. Brings (beginning_of d node) (boot_views d.troupes) (λ other. IsOtherOf d node other) troupe (phase_at d node) P declared turn first lawful (first_views 0 d.troupes) (acts node) (coming from segment) m truly.rested still calm y)
-          (ap (accepted d (declared m.performing.hosted) m from) h_is) brings) _ refl refl
+          stays (subst (λ y. Brings (beginning_of d node) (boot_views d.troupes) (λ other. IsOtherOf d node other) troupe (phase_at d node) P declared turn first lawful (first_views 0 d.troupes) (acts node) (acts_of_datagram from segment) m truly.rested still calm y)
+          (ap (occurrence_of_heard d (declared m.performing.hosted) m from) h_is) brings) _ refl refl
       member_steps at heard.Taken h_is truth returns =
-          stays (subst (λ y. Brings (beginning_of d node) (boot_views d.troupes) (λ other. IsOtherOf d node other) troupe (phase_at d node) P declared turn first lawful (first_views 0 d.troupes) (acts node) (coming from segment) m truly.rested still calm y)
-          (ap (accepted d (declared m.performing.hosted) m from) h_is) brings) _ refl refl
+          stays (subst (λ y. Brings (beginning_of d node) (boot_views d.troupes) (λ other. IsOtherOf d node other) troupe (phase_at d node) P declared turn first lawful (first_views 0 d.troupes) (acts node) (acts_of_datagram from segment) m truly.rested still calm y)
+          (ap (occurrence_of_heard d (declared m.performing.hosted) m from) h_is) brings) _ refl refl
       member_steps at (heard.Called sender message) h_is truth returns =
-          by_accepted at (heard.Called sender message) h_is (accepted d (declared m.performing.hosted) m from (heard.Called sender message)) refl truth returns
+          by_accepted at (heard.Called sender message) h_is (occurrence_of_heard d (declared m.performing.hosted) m from (heard.Called sender message)) refl truth returns
       member_steps at (heard.Returned number purpose message) h_is truth returns =
-          by_accepted at (heard.Returned number purpose message) h_is (accepted d (declared m.performing.hosted) m from (heard.Returned number purpose message)) refl truth returns
+          by_accepted at (heard.Returned number purpose message) h_is (occurrence_of_heard d (declared m.performing.hosted) m from (heard.Returned number purpose message)) refl truth returns
 
   -- ---- a delivery
 

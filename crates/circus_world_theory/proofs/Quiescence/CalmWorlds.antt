@@ -21,7 +21,7 @@ use Rattle.circus_performing.specs.Performing.{last_count}
 use Rattle.circus_performing.specs.Record.{behaviour}
 use Rattle.circus_pair.specs.Taken.{total_in, has_arrived}
 use Rattle.circus_pair.specs.Acts.{none_yet}
-use Rattle.circus_pair.specs.Handed.{made as made_}
+use Rattle.circus_pair.specs.Handed.{calls_made as made_}
 use Rattle.circus_wire.specs.WireActs.{WireActs, begun, purpose_of}
 use Rattle.circus_wire.specs.WireStanding.{pair_of}
 use Rattle.circus_member_rules.specs.declared.occurrence.Effect.{Effect}
@@ -159,7 +159,7 @@ module _ {M : Type 0} (declared : M → Signature) (turn : M → List ValueTree 
     as_ = boots_as node own m acts_so
 
     abbrev boot_doing : Doing M
-    boot_doing = member_step.booted declared turn first (home_in d node as_.number as_.one).place (boot_views d.troupes) (home_in d node as_.number as_.one).beginning as_.module_
+    boot_doing = member_step.boot_member declared turn first (home_in d node as_.number as_.one).place (boot_views d.troupes) (home_in d node as_.number as_.one).beginning as_.module_
 
     same_member : (x y : MemberState M) → ◌≡◌ {A = Acting M} (member x) (member y) → x ≡ y
     same_member x y is = cc

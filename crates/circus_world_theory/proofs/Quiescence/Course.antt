@@ -20,7 +20,7 @@ use Rattle.circus_node.specs.declared.event.Give.{Give}
 use Rattle.circus_node.specs.declared.event.Outputs.{Outputs}
 use Rattle.circus_node.specs.Sending.{give_to}
 use Rattle.circus_node.specs.NodeState.{NodeState}
-use Rattle.circus_node.specs.Booting.{AreOfTroupes, booted}
+use Rattle.circus_node.specs.Booting.{AreOfTroupes, boot_node}
 use Rattle.circus_node.specs.Step as node_step
 use Rattle.circus_schedule.specs.declared.line.Line.{Line}
 use Rattle.circus_schedule.specs.declared.line.Line.TheVariants.{Deliver, Tick, Crash, Down, Join}
@@ -29,7 +29,7 @@ use Rattle.circus_world.specs.declared.cause.LineCause.{LineCause}
 use Rattle.circus_world.specs.declared.cause.LineCause.TheVariants.{NoDatagram}
 use Rattle.circus_world.specs.WorldState.{WorldState, Standing, is_live}
 use Rattle.circus_world.specs.Course as course
-use Rattle.circus_world.specs.Course.{Stepped, concluded, stepped}
+use Rattle.circus_world.specs.Course.{Stepped, conclude_step, step_line}
 use Rattle.circus_world.specs.Boot.{before_any, joined_by, then_others, all_booted, AreHosted}
 use Rattle.circus_world.specs.Lines.{Leads, Lead}
 use Rattle.circus_world.proofs.ComeLemmas.{datagram_may_come, goes_there, delivered_at}
@@ -82,7 +82,7 @@ module _ {M : Type 0} (declared : M → Signature) (turn : M → List ValueTree 
     pub node : Standing M
     pub at : slice_get w.nodes sent.to ≡ Some node
     pub ended : NodeState M × Outputs
-    pub ends : node_step.stepped declared turn (w.steps + 1) (comes.Datagram sent.from sent.bytes) node.node ≡ Ok ended
+    pub ends : node_step.step_node declared turn (w.steps + 1) (comes.Datagram sent.from sent.bytes) node.node ≡ Ok ended
     pub next_is : next ≡ after_step w sent.to node ended
     pub comes_it : comes_by (Deliver number) w ≡ Some (sent.to, comes.Datagram sent.from sent.bytes)
     pub here : new sent.to ≡ with_all (acts sent.to) (acts_in declared turn (w.steps + 1) (comes.Datagram sent.from sent.bytes) node.node)
@@ -93,7 +93,7 @@ module _ {M : Type 0} (declared : M → Signature) (turn : M → List ValueTree 
     in_deployment node below = subst (λ k. node < k) so_far.all below
 
     pub line_delivers : (number : ℕ) → Leads declared turn (Deliver number) w next → Delivers number acts (λ node. with_line declared turn node (acts node) (Deliver number) w) w next
-    line_delivers number leads = by_end (node_step.stepped declared turn (w.steps + 1) event s.node) refl
+    line_delivers number leads = by_end (node_step.step_node declared turn (w.steps + 1) event s.node) refl
       where
         below : number < length w.sent
         below = ltb-true number (length w.sent) (below_sent (nat_lt number (length w.sent)) number (length w.sent) leads.legal)
@@ -138,13 +138,13 @@ module _ {M : Type 0} (declared : M → Signature) (turn : M → List ValueTree 
             ∙ ap (λ b. if b then option_map_or (λ (t : Standing M). with_all (acts other) (acts_in declared turn (w.steps + 1) event t.node)) (slice_get w.nodes other) (acts other) else acts other)
             (ne_eqb sent.to other (λ same. differs (sym same)))
 
-        comes_is : stepped declared turn (Deliver number) w ≡ concluded sent.to s w (node_step.stepped declared turn (w.steps + 1) event s.node)
+        comes_is : step_line declared turn (Deliver number) w ≡ conclude_step sent.to s w (node_step.step_node declared turn (w.steps + 1) event s.node)
         comes_is =
             delivered_at declared turn w number sent true there is_up
-            ∙ ap (λ (o : Option (Standing M)). option_map_or (λ (t : Standing M). concluded sent.to t w (node_step.stepped declared turn (w.steps + 1) event t.node)) o (Ok w)) at
+            ∙ ap (λ (o : Option (Standing M)). option_map_or (λ (t : Standing M). conclude_step sent.to t w (node_step.step_node declared turn (w.steps + 1) event t.node)) o (Ok w)) at
 
-        by_end : (e : node_step.Ended M) → node_step.stepped declared turn (w.steps + 1) event s.node ≡ e → Delivers number acts (λ node. with_line declared turn node (acts node) (Deliver number) w) w next
-        by_end (Err peer) ends = absurd (no_world (sent.to, peer) next (sym (comes_is ∙ ap (concluded sent.to s w) ends) ∙ leads.stepped_is))
+        by_end : (e : node_step.Ended M) → node_step.step_node declared turn (w.steps + 1) event s.node ≡ e → Delivers number acts (λ node. with_line declared turn node (acts node) (Deliver number) w) w next
+        by_end (Err peer) ends = absurd (no_world (sent.to, peer) next (sym (comes_is ∙ ap (conclude_step sent.to s w) ends) ∙ leads.stepped_is))
         by_end (Ok ended) ends = record {
           sent = sent;
           there = there;
@@ -155,7 +155,7 @@ module _ {M : Type 0} (declared : M → Signature) (turn : M → List ValueTree 
           at = at;
           ended = ended;
           ends = ends;
-          next_is = same_world next (after_step w sent.to s ended) (sym leads.stepped_is ∙ comes_is ∙ ap (concluded sent.to s w) ends);
+          next_is = same_world next (after_step w sent.to s ended) (sym leads.stepped_is ∙ comes_is ∙ ap (conclude_step sent.to s w) ends);
           comes_it = comes_it;
           here = here;
           elsewhere = elsewhere;
@@ -311,17 +311,17 @@ module _ {M : Type 0} (declared : M → Signature) (turn : M → List ValueTree 
   -- a node has booted so, and what it gave was sent
   pub record BootsAt (w : WorldState M) (node : ℕ) (s : Standing M) : Type 0 where
     pub ended : NodeState M × Outputs
-    pub ends : booted declared turn first d (own_of node) node ≡ Ok ended
+    pub ends : boot_node declared turn first d (own_of node) node ≡ Ok ended
     pub is : s ≡ record { node = ended.0; crashed = None; joins = false }
     pub posted : (to : ℕ) (bytes : List ℕ) → IsGive ended.1.gives to bytes → Posted w node to bytes
 
   record SoFar (w : WorldState M) : Type 0 where
     deployment : w.deployment ≡ d
     boots : (node : ℕ) (s : Standing M) → slice_get w.nodes node ≡ Some s → BootsAt w node s
-    counted : sent_data w.sent ≡ total (length w.nodes) (λ node. data_of_end (booted declared turn first d (own_of node) node))
+    counted : sent_data w.sent ≡ total (length w.nodes) (λ node. data_of_end (boot_node declared turn first d (own_of node) node))
     few : length w.sent ≤ sent_data w.sent
 
-  one_more : (w : WorldState M) (own : Option M) (ended : NodeState M × Outputs) → SoFar w → slice_get hosted (length w.nodes) ≡ Some own → booted declared turn first w.deployment own (length w.nodes) ≡ Ok ended
+  one_more : (w : WorldState M) (own : Option M) (ended : NodeState M × Outputs) → SoFar w → slice_get hosted (length w.nodes) ≡ Some own → boot_node declared turn first w.deployment own (length w.nodes) ≡ Ok ended
       → SoFar (record w {
         nodes = w.nodes ++ record { node = ended.0; crashed = None; joins = false } ∷ [];
         sent = w.sent ++ map (course.sent_by 0 (length w.nodes)) ended.1.gives;
@@ -332,9 +332,9 @@ module _ {M : Type 0} (declared : M → Signature) (turn : M → List ValueTree 
     counted =
         let more = (sent_more w.sent 0 (length w.nodes) ended.1.gives).0 in
         let longer : length (w.nodes ++ record { node = ended.0; crashed = None; joins = false } ∷ []) ≡ suc (length w.nodes) = (let long = length-append w.nodes (record { node = ended.0; crashed = None; joins = false } ∷ []) in omega (arith, long)) in
-        let here : data_of_end (booted declared turn first d (own_of (length w.nodes)) (length w.nodes)) ≡ data_in ended.1.gives = ap data_of_end now.ends in
+        let here : data_of_end (boot_node declared turn first d (own_of (length w.nodes)) (length w.nodes)) ≡ data_in ended.1.gives = ap data_of_end now.ends in
         let before = so_far.counted in
-        let whole = ap (λ n. total n (λ node. data_of_end (booted declared turn first d (own_of node) node))) longer in
+        let whole = ap (λ n. total n (λ node. data_of_end (boot_node declared turn first d (own_of node) node))) longer in
         omega (arith, more, here, before, whole);
     few =
         let more = sent_more w.sent 0 (length w.nodes) ended.1.gives in
@@ -354,7 +354,7 @@ module _ {M : Type 0} (declared : M → Signature) (turn : M → List ValueTree 
       now : BootsAt next (length w.nodes) (record { node = ended.0; crashed = None; joins = false })
       now = record {
         ended = ended;
-        ends = ap (λ (o : Option (Option M)). booted declared turn first d (option_and_then (λ (x : Option M). x) o) (length w.nodes)) at ∙ ap (λ x. booted declared turn first x own (length w.nodes)) (sym so_far.deployment) ∙ ends;
+        ends = ap (λ (o : Option (Option M)). boot_node declared turn first d (option_and_then (λ (x : Option M). x) o) (length w.nodes)) at ∙ ap (λ x. boot_node declared turn first x own (length w.nodes)) (sym so_far.deployment) ∙ ends;
         is = refl;
         posted = λ to bytes give. given_posted next w.sent 0 (length w.nodes) to ended.1.gives bytes refl give;
       }
@@ -372,9 +372,9 @@ module _ {M : Type 0} (declared : M → Signature) (turn : M → List ValueTree 
       → all_booted declared turn first others w ≡ Ok last → SoFar last
 
   next_so_far : (own : Option M) (others : List (Option M)) → LeaveSoFar others → LeaveSoFar (own ∷ others)
-  next_so_far own others leave w last so_far hosts is = by_end (booted declared turn first w.deployment own (length w.nodes)) refl is
+  next_so_far own others leave w last so_far hosts is = by_end (boot_node declared turn first w.deployment own (length w.nodes)) refl is
     where
-      by_end : (e : node_step.Ended M) → booted declared turn first w.deployment own (length w.nodes) ≡ e → then_others (all_booted declared turn first others) (joined_by w e) ≡ Ok last → SoFar last
+      by_end : (e : node_step.Ended M) → boot_node declared turn first w.deployment own (length w.nodes) ≡ e → then_others (all_booted declared turn first others) (joined_by w e) ≡ Ok last → SoFar last
       by_end (Err peer) ends is = absurd (no_world (length w.nodes, peer) last is)
       by_end (Ok ended) ends is =
           let s : Standing M = record { node = ended.0; crashed = None; joins = false } in
@@ -395,7 +395,7 @@ module _ {M : Type 0} (declared : M → Signature) (turn : M → List ValueTree 
       (all_so_far hosted (before_any d modules) w (record { deployment = refl; boots = λ node s at. absurd (none-some s at); counted = refl; few = omega arith }) (λ place own found. ap (slice_get hosted) (zero-add place) ∙ found) is).boots
 
   pub boot_counts : (modules : List M) (w : WorldState M) → all_booted declared turn first hosted (before_any d modules) ≡ Ok w
-      → (sent_data w.sent ≡ total (length w.nodes) (λ node. data_of_end (booted declared turn first d (own_of node) node))) × (length w.sent ≤ sent_data w.sent)
+      → (sent_data w.sent ≡ total (length w.nodes) (λ node. data_of_end (boot_node declared turn first d (own_of node) node))) × (length w.sent ≤ sent_data w.sent)
   boot_counts modules w is =
       let so_far = all_so_far hosted (before_any d modules) w (record { deployment = refl; boots = λ node s at. absurd (none-some s at); counted = refl; few = omega arith }) (λ place own found. ap (slice_get hosted) (zero-add place) ∙ found) is in
       (so_far.counted, so_far.few)

@@ -14,7 +14,7 @@ use Rattle.circus_record.specs.declared.record.AskRecord.{AskRecord}
 use Rattle.circus_record.specs.declared.record.RunRecord.{RunRecord}
 use Rattle.circus_record.specs.declared.record.MemberRecord.{MemberRecord}
 use Rattle.circus_performing.specs.declared.start.RunStart.{RunStart}
-use Rattle.circus_performing.specs.Performing.{clock_after, open_ask, last_of, unanswered, begun, made_ask, answered_ask, with_refusal, turned, gone_on, with_run, most_turns, answered, state_after}
+use Rattle.circus_performing.specs.Performing.{clock_after, open_ask, last_of, unless_replied, begin_run, made_ask, answered_ask, with_refusal, turn_run, gone_on, with_run, most_turns, answer_open_ask, state_after}
 use Rattle.circus_performing.specs.Record.{start_of, turns, IsPerforming}
 use Rattle.circus_performing.proofs.Ends.{last_more}
 use Rattle.circus_performing.proofs.Records.{with_answer, answered_is}
@@ -62,7 +62,7 @@ unfolding gone_on
 goes_on step turn zero run = none_more run run refl refl
 goes_on step turn (suc left) run = by_turn (goes_on step turn left) (turn _)
   where
-    by_turn : ((r : RunRecord) → GoneOn r (gone_on step turn left r)) → (next : NextTurn) → GoneOn run (turned step (gone_on step turn left) run next)
+    by_turn : ((r : RunRecord) → GoneOn r (gone_on step turn left r)) → (next : NextTurn) → GoneOn run (turn_run step (gone_on step turn left) run next)
     by_turn rest (ends outcome state) = none_more run _ refl refl
     by_turn rest (asks callee procedure arguments state) = by_clock (is_spent (clock_after run.entry run.asks)) refl
       where
@@ -89,18 +89,18 @@ pub record Grows (old new : MemberRecord) : Type 0 where
 -- the open ask is the last one of the last run
 open_last : (kept : MemberRecord) (before : List RunRecord) (run : RunRecord) (asks_before : List AskRecord) (ask : AskRecord) → kept.runs ≡ before ++ run ∷ [] → run.asks ≡ asks_before ++ ask ∷ [] → ask.reply ≡ None → open_ask kept ≡ Some ask
 open_last kept before run asks_before ask runs_are asks_are none =
-    ap (λ o. option_and_then (λ (r : RunRecord). option_and_then unanswered (last_of r.asks)) o) (ap last_of runs_are ∙ last_more before run)
-    ∙ ap (λ o. option_and_then unanswered o) (ap last_of asks_are ∙ last_more asks_before ask)
+    ap (λ o. option_and_then (λ (r : RunRecord). option_and_then unless_replied (last_of r.asks)) o) (ap last_of runs_are ∙ last_more before run)
+    ∙ ap (λ o. option_and_then unless_replied o) (ap last_of asks_are ∙ last_more asks_before ask)
     ∙ ap (λ (o : Option Outcome). cond (is_none o) (Some ask) None) none
 
 open_is_last : (kept : MemberRecord) (run : RunRecord) (ask : AskRecord) → last_of kept.runs ≡ Some run → open_ask kept ≡ Some ask → (slice_get run.asks (length run.asks - 1) ≡ Some ask) × (ask.reply ≡ None)
-open_is_last kept run ask last is = by_ask (last_of run.asks) refl (sym (ap (λ o. option_and_then (λ (r : RunRecord). option_and_then unanswered (last_of r.asks)) o) last) ∙ is)
+open_is_last kept run ask last is = by_ask (last_of run.asks) refl (sym (ap (λ o. option_and_then (λ (r : RunRecord). option_and_then unless_replied (last_of r.asks)) o) last) ∙ is)
   where
     by_reply : (a : AskRecord) (o : Option Outcome) → a.reply ≡ o → cond (is_none o) (Some a) None ≡ Some ask → (a ≡ ask) × (a.reply ≡ None)
     by_reply a None none some = (same_Some a ask some, none)
     by_reply a (Some r) none some = absurd (let clash : ◌≡◌ {A = Option AskRecord} None (Some ask) = some in cc)
 
-    by_ask : (o : Option AskRecord) → last_of run.asks ≡ o → option_and_then unanswered o ≡ Some ask → (last_of run.asks ≡ Some ask) × (ask.reply ≡ None)
+    by_ask : (o : Option AskRecord) → last_of run.asks ≡ o → option_and_then unless_replied o ≡ Some ask → (last_of run.asks ≡ Some ask) × (ask.reply ≡ None)
     by_ask None at some = absurd (let clash : ◌≡◌ {A = Option AskRecord} None (Some ask) = some in cc)
     by_ask (Some a) at some = (let r = by_reply a a.reply refl some in (at ∙ ap (λ (x : AskRecord). Some x) r.0, ap (λ (x : AskRecord). x.reply) (sym r.0) ∙ r.1))
 
@@ -185,7 +185,7 @@ module _ (kept : MemberRecord) (run gone : RunRecord) (on : GoneOn run gone) whe
 
 module _ (kept : MemberRecord) (step : ℕ) (turn : List Outcome → NextTurn) (start : RunStart) where
   abbrev first_run : RunRecord
-  first_run = begun step start
+  first_run = begin_run step start
 
   abbrev run_gone : RunRecord
   run_gone = gone_on step turn most_turns first_run
@@ -339,5 +339,5 @@ module _ (b : Behaviour) (lawful : IsModule b) (began : List ValueTree) (kept : 
             ])
       ]
 
-  pub answered_grows : Grows kept (answered b.turn began step reply clock kept)
+  pub answered_grows : Grows kept (answer_open_ask b.turn began step reply clock kept)
   answered_grows = subst (Grows kept) (sym (answered_is b lawful began kept p step reply clock)) then_grows

@@ -37,7 +37,7 @@ use Rattle.circus_model.specs.declared.signature.Signature.{Signature}
 use Rattle.circus_record.specs.declared.record.AskRecord.{AskRecord}
 use Rattle.circus_record.specs.declared.record.MemberRecord.{MemberRecord}
 use Rattle.circus_record.specs.declared.record.RunRecord.{RunRecord}
-use Rattle.circus_performing.specs.Performing.{is_active, unanswered, last_of, open_ask, last_count}
+use Rattle.circus_performing.specs.Performing.{is_active, unless_replied, last_of, open_ask, last_count}
 use Rattle.circus_performing.specs.Record.{behaviour, IsRecord}
 use Rattle.circus_performing.proofs.Ends.{last_more}
 use Rattle.circus_member_theory.proofs.Standing.{IsOpenOf, open_is}
@@ -127,9 +127,9 @@ pub record BusyAt (kept : MemberRecord) (index number : ℕ) : Type 0 where
 
 -- the open ask is among the asks of the last run
 some_asks : (kept : MemberRecord) (asked : AskRecord) (last : RunRecord) → open_ask kept ≡ Some asked → last_of kept.runs ≡ Some last → 0 < length last.asks
-some_asks kept asked last is at = go last.asks (sym (ap (option_and_then (λ (r : RunRecord). option_and_then unanswered (last_of r.asks))) at) ∙ is)
+some_asks kept asked last is at = go last.asks (sym (ap (option_and_then (λ (r : RunRecord). option_and_then unless_replied (last_of r.asks))) at) ∙ is)
   where
-    go : (asks : List AskRecord) → option_and_then unanswered (last_of asks) ≡ Some asked → 0 < length asks
+    go : (asks : List AskRecord) → option_and_then unless_replied (last_of asks) ≡ Some asked → 0 < length asks
     go [] some = absurd (none-some asked some)
     go (a ∷ asks) some = omega arith
 

@@ -11,7 +11,7 @@ use Rattle.circus_pair.proofs.Following as following
 use Rattle.circus_pair.proofs.Lasting.{lasts_called, lasts_returned}
 use Rattle.circus_value.specs.declared.caller.Caller.{Caller}
 use Rattle.circus_wire.specs.declared.delivery.Batch.{Batch}
-use Rattle.circus_wire.specs.Wire.{PeerState, WireState, Beginning, place_of, changed_at, changed, peer_at, of_peer, sent_to, is_up, next_number, is_awaited, peer_called, peer_answered, called_to, sent_by_call, answered, sent_by_answer}
+use Rattle.circus_wire.specs.Wire.{PeerState, WireState, Beginning, place_of, changed_at, change_peer, peer_at, of_peer, sent_to, is_up, next_number, is_awaited, peer_called, peer_answered, called_to, sent_by_call, answer_caller, sent_by_answer}
 use Rattle.circus_wire.specs.WireActs.{WireAct, WireActs, followed_by, CallTo, AnswerTo, acts_at}
 use Rattle.circus_wire.specs.WireStanding.{WireStands, pair_of, owed_to, sent_in}
 use Rattle.circus_wire.proofs.Changing.{found_by, peer_is}
@@ -29,11 +29,11 @@ use Rattle.circus_collate.specs.declared.deployment.Deployment.{Deployment}
 use Rattle.circus_model.specs.NextTurn.{NextTurn}
 use Rattle.circus_model.specs.declared.signature.Signature.{Signature}
 use Rattle.circus_node.specs.Making.{hears}
-use Rattle.circus_node.specs.Booting.{booted, fresh_wire, home_of, made_at_boot}
+use Rattle.circus_node.specs.Booting.{boot_node, fresh_wire, home_of, made_at_boot}
 use Rattle.circus_node.specs.declared.event.Event.TheVariants.{Datagram}
-use Rattle.circus_node.specs.Step.{stepped}
+use Rattle.circus_node.specs.Step.{step_node}
 use Rattle.circus_talks.specs.Histories.{beginning_of}
-use Rattle.circus_talks.specs.NodeActs.{coming, acts_in, acts_at_boot}
+use Rattle.circus_talks.specs.NodeActs.{acts_of_datagram, acts_in, acts_at_boot}
 use Rattle.circus_member_rules.specs.declared.occurrence.Purpose.{Purpose}
 use Rattle.circus_member_rules.specs.declared.occurrence.Effect.{Effect}
 use Rattle.circus_member_rules.specs.declared.occurrence.Effect.TheVariants as made
@@ -41,8 +41,8 @@ use Rattle.circus_node.specs.declared.event.Give.{Give}
 use Rattle.circus_node.specs.declared.event.Outputs.{Outputs}
 use Rattle.circus_node.specs.NodeState.{NodeState}
 use Rattle.circus_node.specs.Making.{Made}
-use Rattle.circus_node.specs.Sending.{Sending, sent, spent, give_to, gives_of, is_sendable, handed, all_handed}
-use Rattle.circus_node.specs.Step.{ended, concluded}
+use Rattle.circus_node.specs.Sending.{Sending, sent, spent, give_to, gives_of, is_sendable, hand_over, all_handed}
+use Rattle.circus_node.specs.Step.{end_step, conclude_step}
 use Rattle.circus_talks.specs.NodeActs.{with_all, handed_by}
 use Rattle.circus_talks.proofs.Spelled.{few_made}
 use Rattle.circus_talks.proofs.Given.{WasGiven, with_both, same_end}
@@ -181,7 +181,7 @@ module _ (change : PeerState Purpose → PeerState Purpose) (same : (p : PeerSta
   up_either true o q is = refl
   up_either false o q is = is
 
-  up_changed : (w : WireState Purpose) (at node : ℕ) → is_up (changed change w at) node ≡ is_up w node
+  up_changed : (w : WireState Purpose) (at node : ℕ) → is_up (change_peer change w at) node ≡ is_up w node
   unfolding peer_at
   up_changed w at node =
       up_either (eqb node w.own) (slice_get (changed_at change w.peers (place_of w.own at)) (place_of w.own node)) (slice_get w.peers (place_of w.own node))
@@ -190,7 +190,7 @@ module _ (change : PeerState Purpose → PeerState Purpose) (same : (p : PeerSta
 up_called : (w : WireState Purpose) (to node : ℕ) (message : List ℕ) (purpose : Purpose) → is_up (called_to w to message purpose) node ≡ is_up w node
 up_called w to node message purpose = up_changed (λ p. peer_called p message purpose) (λ p. (lasts_called p.exchange message).stopped) w to node
 
-up_answered : (w : WireState Purpose) (caller : Caller) (message : List ℕ) (node : ℕ) → is_up (changed (λ p. peer_answered p caller.number message) w caller.node) node ≡ is_up w node
+up_answered : (w : WireState Purpose) (caller : Caller) (message : List ℕ) (node : ℕ) → is_up (change_peer (λ p. peer_answered p caller.number message) w caller.node) node ≡ is_up w node
 up_answered w caller message node =
     up_changed (λ p. peer_answered p caller.number message) (λ p. (lasts_returned p.exchange caller.number message).stopped) w caller.node node
 
@@ -225,7 +225,7 @@ module _ (b : Beginning) (low : b.first ≤ never_used) (before acts : WireActs 
       let other : next_number w to ≢ never_used = eqb-false (next_number w to) never_used differs in
       omega (arith, next, most, other)
 
-  call_on : (to : ℕ) (message : List ℕ) (purpose : Purpose) → IsHanded b before (with_all acts (handed_by w (made.Call to message purpose))) old (handed w gives (made.Call to message purpose))
+  call_on : (to : ℕ) (message : List ℕ) (purpose : Purpose) → IsHanded b before (with_all acts (handed_by w (made.Call to message purpose))) old (hand_over w gives (made.Call to message purpose))
   call_on to message purpose = by_test (is_up w to && is_sendable w.format message) refl
     where
       next : WireState Purpose
@@ -255,11 +255,11 @@ module _ (b : Beginning) (low : b.first ≤ never_used) (before acts : WireActs 
       by_test true is = (let parts = and_parts (is_up w to) (is_sendable w.format message) is in by_number parts.0 parts.1 (next_number w to == never_used) refl)
       by_test false is = so_far
 
-  answer_on : (caller : Caller) (message : List ℕ) → IsHanded b before (with_all acts (handed_by w (made.Answer caller message))) old (handed w gives (made.Answer caller message))
+  answer_on : (caller : Caller) (message : List ℕ) → IsHanded b before (with_all acts (handed_by w (made.Answer caller message))) old (hand_over w gives (made.Answer caller message))
   answer_on caller message = by_test (is_sendable w.format message) refl
     where
       next : WireState Purpose
-      next = changed (λ p. peer_answered p caller.number message) w caller.node
+      next = change_peer (λ p. peer_answered p caller.number message) w caller.node
 
       sends : Batch
       sends = sent_to (λ p. datagrams_of_return p.exchange caller.number message) w caller.node
@@ -303,7 +303,7 @@ module _ (b : Beginning) (low : b.first ≤ never_used) (before acts : WireActs 
 
       by_test : (test : Bool) → is_sendable w.format message ≡ test
           → IsHanded b before (with_all acts (if test then AnswerTo caller message ∷ [] else [])) old
-          (if test then sent (answered w caller message) (gives ++ gives_of (sent_by_answer w caller message)) else sent w gives)
+          (if test then sent (answer_caller w caller message) (gives ++ gives_of (sent_by_answer w caller message)) else sent w gives)
       by_test true is = by_call (can_send w.format message is) (is_awaited w caller) refl
       by_test false is = so_far
 
@@ -316,12 +316,12 @@ handed_alike b before acts old w gives (made.Answer caller message) so_far =
     λ i. if is_sendable (so_far.format i) message then AnswerTo caller message ∷ [] else []
 
 one_on : (b : Beginning) → b.first ≤ never_used → (before acts : WireActs Purpose) (old w : WireState Purpose) (gives : List Give) (e : Effect) → Handed b before acts old w gives
-    → IsHanded b before (with_all acts (handed_by old e)) old (handed w gives e)
+    → IsHanded b before (with_all acts (handed_by old e)) old (hand_over w gives e)
 one_on b low before acts old w gives (made.Call to message purpose) so_far =
-    subst (λ l. IsHanded b before (with_all acts l) old (handed w gives (made.Call to message purpose))) (handed_alike b before acts old w gives (made.Call to message purpose) so_far)
+    subst (λ l. IsHanded b before (with_all acts l) old (hand_over w gives (made.Call to message purpose))) (handed_alike b before acts old w gives (made.Call to message purpose) so_far)
     (call_on b low before acts old w gives so_far to message purpose)
 one_on b low before acts old w gives (made.Answer caller message) so_far =
-    subst (λ l. IsHanded b before (with_all acts l) old (handed w gives (made.Answer caller message))) (handed_alike b before acts old w gives (made.Answer caller message) so_far)
+    subst (λ l. IsHanded b before (with_all acts l) old (hand_over w gives (made.Answer caller message))) (handed_alike b before acts old w gives (made.Answer caller message) so_far)
     (answer_on b low before acts old w gives so_far caller message)
 
 spent_on : (b : Beginning) (before acts : WireActs Purpose) (old : WireState Purpose) (node : ℕ) (effects : List Effect) → IsHanded b before acts old (all_handed (spent node) effects)
@@ -333,8 +333,8 @@ all_on : (b : Beginning) → b.first ≤ never_used → (before acts : WireActs 
 all_on b low before acts old s [] so_far = so_far
 all_on b low before acts old (spent node) (e ∷ effects) so_far = spent_on b before (with_all acts (flat_map (handed_by old) (e ∷ effects))) old node effects
 all_on b low before acts old (sent w gives) (e ∷ effects) so_far =
-    subst (λ x. IsHanded b before x old (all_handed (handed w gives e) effects)) (sym (with_both acts (handed_by old e) (flat_map (handed_by old) effects)))
-    (all_on b low before (with_all acts (handed_by old e)) old (handed w gives e) effects (one_on b low before acts old w gives e so_far))
+    subst (λ x. IsHanded b before x old (all_handed (hand_over w gives e) effects)) (sym (with_both acts (handed_by old e) (flat_map (handed_by old) effects)))
+    (all_on b low before (with_all acts (handed_by old e)) old (hand_over w gives e) effects (one_on b low before acts old w gives e so_far))
 
 -- ---- a step
 
@@ -346,12 +346,12 @@ pub record Gives {M : Type 0} (b : Beginning) (before acts : WireActs Purpose) (
 
 module _ {M : Type 0} where
   ended_gives : (b : Beginning) (before acts : WireActs Purpose) (old : WireState Purpose) (n : NodeState M) (m : Made M) (s : Sending) (r : NodeState M × Outputs)
-      → IsHanded b before acts old s → ended n m.came s ≡ Ok r → Gives b before acts r
+      → IsHanded b before acts old s → end_step n m.came s ≡ Ok r → Gives b before acts r
   ended_gives b before acts old n m (sent w gives) r on is = subst (Gives b before acts) (same_end _ r is) (record { stands = on.stands; all = on.all; counted = on.counted })
   ended_gives b before acts old n m (spent node) r on is = absurd (let clash : ◌≡◌ {A = Result (NodeState M × Outputs) ℕ} (Err node) (Ok r) = is in cc)
 
   concluded_gives : (b : Beginning) → b.first ≤ never_used → (before acts : WireActs Purpose) (n : NodeState M) (gives : List Give) (m : Made M) (r : NodeState M × Outputs)
-      → WireStands n.wire b acts → AllGiven b before acts gives → AllCounted b before acts gives → concluded n gives m.came ≡ Ok r → Gives b before (with_all acts (flat_map (handed_by n.wire) m.came.effects)) r
+      → WireStands n.wire b acts → AllGiven b before acts gives → AllCounted b before acts gives → conclude_step n gives m.came ≡ Ok r → Gives b before (with_all acts (flat_map (handed_by n.wire) m.came.effects)) r
   concluded_gives b low before acts n gives m r stands all counted is =
       ended_gives b before (with_all acts (flat_map (handed_by n.wire) m.came.effects)) n.wire n m (all_handed (sent n.wire gives) m.came.effects) r
       (all_on b low before acts n.wire (sent n.wire gives) m.came.effects (record { stands = stands; all = all; counted = counted; up = λ node. refl; format = refl }))
@@ -365,18 +365,18 @@ none_yet_counted : (b : Beginning) (acts : WireActs Purpose) → AllCounted b ac
 none_yet_counted b acts = omega arith
 
 module _ (b : Beginning) (acts : WireActs Purpose) (w : WireState Purpose) (from : ℕ) (other : IsOther w from) (stands : WireStands w b acts) where
-  datagram_stands : (segment : Result Piece SegmentFault) → ((s : Piece) → segment ≡ Ok s → IsSegment s) → WireStands (after_datagram w from segment) b (with_all acts (coming from segment))
+  datagram_stands : (segment : Result Piece SegmentFault) → ((s : Piece) → segment ≡ Ok s → IsSegment s) → WireStands (after_datagram w from segment) b (with_all acts (acts_of_datagram from segment))
   datagram_stands (Ok s) is = came_stands b acts w from s s other stands refl (is s refl) (after_datagram w from (Ok s)) refl
   datagram_stands (Err fault) is = stands
 
-  datagram_all : (segment : Result Piece SegmentFault) → ((s : Piece) → segment ≡ Ok s → IsSegment s) → AllGiven b acts (with_all acts (coming from segment)) (gives_of (sent_by_datagram w from segment))
+  datagram_all : (segment : Result Piece SegmentFault) → ((s : Piece) → segment ≡ Ok s → IsSegment s) → AllGiven b acts (with_all acts (acts_of_datagram from segment)) (gives_of (sent_by_datagram w from segment))
   datagram_all (Ok s) is =
       more_all b acts acts (CameFrom from s) [] (sent_by_datagram w from (Ok s)) (same_all b acts)
       (ap (λ (x : Batch). x.datagrams) (came_owes b acts w from s s other stands refl (is s refl)))
       (λ node differs. segment_elsewhere b acts from node s differs)
   datagram_all (Err fault) is = same_all b acts
 
-  datagram_counted : (segment : Result Piece SegmentFault) → ((s : Piece) → segment ≡ Ok s → IsSegment s) → AllCounted b acts (with_all acts (coming from segment)) (gives_of (sent_by_datagram w from segment))
+  datagram_counted : (segment : Result Piece SegmentFault) → ((s : Piece) → segment ≡ Ok s → IsSegment s) → AllCounted b acts (with_all acts (acts_of_datagram from segment)) (gives_of (sent_by_datagram w from segment))
   datagram_counted (Ok s) is =
       let own = stands.own in
       let some = stands.one in
@@ -390,17 +390,17 @@ module _ (b : Beginning) (acts : WireActs Purpose) (w : WireState Purpose) (from
 module _ {M : Type 0} (declared : M → Signature) (turn : M → List ValueTree → ℕ → List ValueTree → List Outcome → NextTurn) where
   -- a datagram comes to a node
   pub came_gives : (b : Beginning) → b.first ≤ never_used → (acts : WireActs Purpose) (at from : ℕ) (bytes : List ℕ) (n : NodeState M) (r : NodeState M × Outputs)
-      → WireStands n.wire b acts → IsOther n.wire from → ((s : Piece) → reading bytes ≡ Ok s → IsSegment s) → stepped declared turn at (Datagram from bytes) n ≡ Ok r
+      → WireStands n.wire b acts → IsOther n.wire from → ((s : Piece) → reading bytes ≡ Ok s → IsSegment s) → step_node declared turn at (Datagram from bytes) n ≡ Ok r
       → Gives b acts (with_all acts (acts_in declared turn at (Datagram from bytes) n)) r
   came_gives b low acts at from bytes n r stands other read is =
       let m = hears declared turn n.deployment at from (heard_from n.wire from (reading bytes)) n.acting in
       let wire = after_datagram n.wire from (reading bytes) in
-      subst (λ x. Gives b acts x r) (sym (with_both acts (coming from (reading bytes)) _))
-      (concluded_gives b low acts (with_all acts (coming from (reading bytes))) (record n { wire = wire; acting = m.acting }) (gives_of (sent_by_datagram n.wire from (reading bytes))) m r
+      subst (λ x. Gives b acts x r) (sym (with_both acts (acts_of_datagram from (reading bytes)) _))
+      (concluded_gives b low acts (with_all acts (acts_of_datagram from (reading bytes))) (record n { wire = wire; acting = m.acting }) (gives_of (sent_by_datagram n.wire from (reading bytes))) m r
       (datagram_stands b acts n.wire from other stands (reading bytes) read) (datagram_all b acts n.wire from other stands (reading bytes) read) (datagram_counted b acts n.wire from other stands (reading bytes) read) is)
 
   -- a node boots
-  pub boot_gives : (first : M → List ValueTree) (d : Deployment) (hosted : Option M) (node : ℕ) (r : NodeState M × Outputs) → node < length d.nodes → booted declared turn first d hosted node ≡ Ok r
+  pub boot_gives : (first : M → List ValueTree) (d : Deployment) (hosted : Option M) (node : ℕ) (r : NodeState M × Outputs) → node < length d.nodes → boot_node declared turn first d hosted node ≡ Ok r
       → Gives (beginning_of d node) begun (with_all begun (acts_at_boot declared turn first d hosted node)) r
   boot_gives first d hosted node r within is =
       let m = made_at_boot declared turn first d (home_of d node) hosted in

@@ -39,7 +39,7 @@ use Rattle.circus_world.specs.Boot.{before_any, all_booted, AreHosted}
 use Rattle.circus_world.specs.Lines.{Lead}
 use Rattle.circus_world.proofs.SlotLemmas.{get_there, all_at}
 use Rattle.circus_talks.specs.Histories.{beginning_of, acts_of}
-use Rattle.circus_talks.specs.NodeActs.{with_all, coming, handed_by, wire_behind, acts_in, acts_at_boot}
+use Rattle.circus_talks.specs.NodeActs.{with_all, acts_of_datagram, handed_by, wire_behind, acts_in, acts_at_boot}
 use Rattle.circus_node.specs.Trace.{effects_in}
 use Rattle.circus_talks.proofs.Given.{WasGiven}
 use Rattle.circus_talks.proofs.Worlds.{Stands, IsGiven, at_pair, is_other, lawful_at, came_sent}
@@ -109,7 +109,7 @@ handed_quiet : (w : WireState Purpose) (effects : List Effect) → AllQuiet (fla
 handed_quiet w [] = tt
 handed_quiet w (e ∷ effects) = both_quiet (handed_by w e) (flat_map (handed_by w) effects) (one_quiet w e) (handed_quiet w effects)
 
-coming_quiet : (from : ℕ) (segment : Result Piece SegmentFault) → AllQuiet (coming from segment)
+coming_quiet : (from : ℕ) (segment : Result Piece SegmentFault) → AllQuiet (acts_of_datagram from segment)
 coming_quiet from (Ok s) = (tt, tt)
 coming_quiet from (Err fault) = tt
 
@@ -134,7 +134,7 @@ come_on bytes e other acts [] come = come
 come_on bytes e other acts (act ∷ later) come = come_on bytes e other (followed_by acts act) later (come_with bytes (acts_at e other acts) (act_at e other (acts_at e other acts) act) come)
 
 come_now : (bytes : List ℕ) (s : Piece) (e : Exchange) (from : ℕ) (acts : WireActs Purpose) (segment : Result Piece SegmentFault) (later : List (WireAct Purpose)) → reading bytes ≡ Ok s → segment ≡ Ok s
-    → HasCome bytes (acts_at e from (with_all acts (coming from segment ++ later)))
+    → HasCome bytes (acts_at e from (with_all acts (acts_of_datagram from segment ++ later)))
 come_now bytes s e from acts (Err fault) later read is = absurd (let clash : ◌≡◌ {A = Result Piece SegmentFault} (Err fault) (Ok s) = is in cc)
 come_now bytes s e from acts (Ok t) later read is =
     let same : t ≡ s = same_piece t s is in
@@ -199,7 +199,7 @@ module _ {M : Type 0} (declared : M → Signature) (turn : M → List ValueTree 
           subst (λ k. QuietPairs (new k)) (sym same.1)
           (subst (λ a. QuietPairs a) (sym delivers.here)
           (quiet_all (acts delivers.sent.to) later (quiet delivers.sent.to)
-          (both_quiet (coming delivers.sent.from (reading delivers.sent.bytes)) handed_over (coming_quiet delivers.sent.from (reading delivers.sent.bytes))
+          (both_quiet (acts_of_datagram delivers.sent.from (reading delivers.sent.bytes)) handed_over (coming_quiet delivers.sent.from (reading delivers.sent.bytes))
           (handed_quiet (wire_behind event delivers.node.node) (effects_in declared turn (w.steps + 1) event delivers.node.node)))))
       | inr apart ↦ subst (λ a. QuietPairs a) (sym (delivers.elsewhere node apart.1)) (quiet node)
     ]

@@ -30,7 +30,7 @@ use Rattle.circus_member_rules.specs.declared.occurrence.Effect.TheVariants as m
 use Rattle.circus_member_rules.specs.Messages.{reply_message}
 use Rattle.circus_member_rules.specs.Rules.{calls_of_ask, index_of_last, answers, snapshots_owed}
 use Rattle.circus_member_rules.specs.MemberState.{Doing}
-use Rattle.circus_member_rules.specs.Step.{name_of_last, asking_begun, is_idle, reply_of_run, with_record, opened_by_view, opened_ask, ended_run, after_turns, value_of_open, given_states, next_start, answered_by, answered_open, entered, start_of_call, starting, executed}
+use Rattle.circus_member_rules.specs.Step.{name_of_last, asking_begun, is_idle, reply_of_run, with_record, opened_by_view, opened_ask, ended_run, after_turns, value_of_open, given_states, next_start, answered_by, answered_open, enter_run_of, start_of_call, start_runs, execute}
 
 -- ---- lists of numbers
 
@@ -169,16 +169,16 @@ module _ (views : List View) (others : (t : ℕ) (view : View) → slice_get vie
         by_value None = calls_none d same none
         by_value (Some reply) =
             let p = d.member.performing in
-            turns_once (with_record d (performing.answered (turn p.hosted) p.began step reply.outcome reply.clock p.kept)) same none
+            turns_once (with_record d (performing.answer_open_ask (turn p.hosted) p.began step reply.outcome reply.clock p.kept)) same none
 
-    pub entered_once : (step : ℕ) (d : Doing M) (start : RunStart) → d.member.known.views ≡ views → targets d.effects ≡ [] → CallsOnce (entered turn step d start)
+    pub entered_once : (step : ℕ) (d : Doing M) (start : RunStart) → d.member.known.views ≡ views → targets d.effects ≡ [] → CallsOnce (enter_run_of turn step d start)
     entered_once step d start same none =
         let p = d.member.performing in
-        turns_once (with_record (record d { member = record d.member { gathered = gathering.with_start d.member.gathered p.kept.count } }) (performing.entered (turn p.hosted) step start p.kept)) same none
+        turns_once (with_record (record d { member = record d.member { gathered = gathering.with_start d.member.gathered p.kept.count } }) (performing.enter_run (turn p.hosted) step start p.kept)) same none
 
     module _ (declared : M → Signature) where
-      starting_once : (step left : ℕ) (d : Doing M) → CallsOnce d → CallsOnce (starting declared turn step left d)
-      unfolding starting
+      starting_once : (step left : ℕ) (d : Doing M) → CallsOnce d → CallsOnce (start_runs declared turn step left d)
+      unfolding start_runs
       starting_once step zero d is = given_once d is
       starting_once step (suc left) d is = by_start (λ e so_far. starting_once step left e so_far) (given_once d is) (next_start (given_states d).member) refl
         where
@@ -191,14 +191,14 @@ module _ (views : List View) (others : (t : ℕ) (view : View) → slice_get vie
           starts_idle call true o so = refl
           starts_idle call false o so = absurd (none_some call so)
 
-          by_start : ((e : Doing M) → CallsOnce e → CallsOnce (starting declared turn step left e)) → CallsOnce (given_states d) → (o : Option HeldCall) → next_start (given_states d).member ≡ o
-              → CallsOnce (option_map_or (λ call. starting declared turn step left (entered turn step (given_states d) (start_of_call declared turn (given_states d).member call))) o (given_states d))
+          by_start : ((e : Doing M) → CallsOnce e → CallsOnce (start_runs declared turn step left e)) → CallsOnce (given_states d) → (o : Option HeldCall) → next_start (given_states d).member ≡ o
+              → CallsOnce (option_map_or (λ call. start_runs declared turn step left (enter_run_of turn step (given_states d) (start_of_call declared turn (given_states d).member call))) o (given_states d))
           by_start rest known None so = known
           by_start rest known (Some call) so =
               let kept = (given_states d).member.performing.kept in
               let idle : is_idle kept ≡ true = starts_idle call (is_idle kept) (call_to_start (given_states d).member.gathered (given_states d).member.known.views (given_states d).member.known.down (given_states d).member.place.calls kept.count) so in
-              rest (entered turn step (given_states d) (start_of_call declared turn (given_states d).member call))
+              rest (enter_run_of turn step (given_states d) (start_of_call declared turn (given_states d).member call))
               (entered_once step (given_states d) (start_of_call declared turn (given_states d).member call) known.views_are (known.none (idle_so (is_active kept.phase) (open_ask kept) idle)))
 
-      pub executed_once : (step : ℕ) (d : Doing M) → d.member.known.views ≡ views → targets d.effects ≡ [] → CallsOnce (executed declared turn step d)
+      pub executed_once : (step : ℕ) (d : Doing M) → d.member.known.views ≡ views → targets d.effects ≡ [] → CallsOnce (execute declared turn step d)
       executed_once step d same none = starting_once step (length (answered_open turn step d).member.gathered.held) (answered_open turn step d) (answered_once step d same none)

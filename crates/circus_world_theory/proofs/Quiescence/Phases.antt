@@ -17,8 +17,8 @@ use Rattle.circus_performing.specs.declared.start.RunStart.{RunStart}
 use Rattle.circus_performing.specs.Performing.{open_ask, last_of}
 use Rattle.circus_performing.specs.Record.{behaviour}
 use Rattle.circus_member_rules.specs.Rules.{snapshots_owed}
-use Rattle.circus_member_rules.specs.MemberState.{Doing, adding}
-use Rattle.circus_member_rules.specs.Step.{name_of_last, asking_begun, opened_by_view, opened_ask, ended_run, after_turns, is_idle, value_of_open, next_start, given_states, start_of_call, answered_by, answered_open, entered, starting, executed}
+use Rattle.circus_member_rules.specs.MemberState.{Doing, add_effects}
+use Rattle.circus_member_rules.specs.Step.{name_of_last, asking_begun, opened_by_view, opened_ask, ended_run, after_turns, is_idle, value_of_open, next_start, given_states, start_of_call, answered_by, answered_open, enter_run_of, start_runs, execute}
 use Rattle.circus_member_rules.specs.Seen.Sound.{MayStart}
 use Rattle.circus_member_rules.proofs.Entering.{HasValue, has_value, with_entered, with_answered, turned_by_start, turned_by_reply}
 use Rattle.circus_member_rules.proofs.Starting.{IsSoundNow, next_is_ready, may_start, sound_given, sound_entered, sound_answered}
@@ -28,7 +28,7 @@ use Rattle.circus_member_rules.specs.Seen.Sound.{IsRunOf}
 
 -- states are given to those that wait
 abbrev pub with_given : {M : Type 0} → Doing M → Doing M
-with_given d = let m = d.member in adding (record d { member = record m { requests = [] } }) (snapshots_owed m.performing.kept m.requests)
+with_given d = let m = d.member in add_effects (record d { member = record m { requests = [] } }) (snapshots_owed m.performing.kept m.requests)
 
 module _ {M : Type 0} (declared : M → Signature) (turn : M → List ValueTree → ℕ → List ValueTree → List Outcome → NextTurn) (first : M → List ValueTree)
     (lawful : (hosted : M) → IsModule (behaviour declared turn first hosted)) where
@@ -78,7 +78,7 @@ module _ {M : Type 0} (declared : M → Signature) (turn : M → List ValueTree 
           by_run (Some run) at = by_ask run at (open_ask d.member.performing.kept) refl
 
       pub entered_keeps : (d : Doing M) (start : RunStart) → IsSoundNow declared turn first lawful d.member → MayStart (declared d.member.performing.hosted) d.member start → I d
-          → I (entered turn step d start)
+          → I (enter_run_of turn step d start)
       entered_keeps d start h may holds =
           let law = lawful d.member.performing.hosted in
           let e : Doing M = record d { member = with_entered (behaves d) law d.member step start } in
@@ -102,27 +102,27 @@ module _ {M : Type 0} (declared : M → Signature) (turn : M → List ValueTree 
           by_test false is = holds
           by_test true is = keeps.gives d h is holds
 
-      starting_keeps : (left : ℕ) (d : Doing M) → IsSoundNow declared turn first lawful d.member → I d → I (starting declared turn step left d)
-      unfolding starting
+      starting_keeps : (left : ℕ) (d : Doing M) → IsSoundNow declared turn first lawful d.member → I d → I (start_runs declared turn step left d)
+      unfolding start_runs
       starting_keeps zero d h holds = given_keeps d h holds
       starting_keeps (suc left) d h holds = by_call (starting_keeps left) (given_states d) (sound_given declared turn first lawful d h) (given_keeps d h holds)
         where
-          by_next : ((f : Doing M) → IsSoundNow declared turn first lawful f.member → I f → I (starting declared turn step left f)) → (e : Doing M)
+          by_next : ((f : Doing M) → IsSoundNow declared turn first lawful f.member → I f → I (start_runs declared turn step left f)) → (e : Doing M)
               → IsSoundNow declared turn first lawful e.member → I e → (o : Option HeldCall) → next_start e.member ≡ o
-              → let f = option_map_or (λ call. starting declared turn step left (entered turn step e (start_of_call declared turn e.member call))) o e in I f
+              → let f = option_map_or (λ call. start_runs declared turn step left (enter_run_of turn step e (start_of_call declared turn e.member call))) o e in I f
           by_next rest e sound kept None is = kept
           by_next rest e sound kept (Some call) is =
               let b = behaves e in
               let may = may_start b e.member call (next_is_ready b e.member call sound is) in
               let start = start_of_call declared turn e.member call in
-              rest (entered turn step e start) (sound_entered declared turn first lawful step e start sound may) (entered_keeps e start sound may kept)
+              rest (enter_run_of turn step e start) (sound_entered declared turn first lawful step e start sound may) (entered_keeps e start sound may kept)
 
-          by_call : ((f : Doing M) → IsSoundNow declared turn first lawful f.member → I f → I (starting declared turn step left f)) → (e : Doing M)
+          by_call : ((f : Doing M) → IsSoundNow declared turn first lawful f.member → I f → I (start_runs declared turn step left f)) → (e : Doing M)
               → IsSoundNow declared turn first lawful e.member → I e
-              → let f = option_map_or (λ call. starting declared turn step left (entered turn step e (start_of_call declared turn e.member call))) (next_start e.member) e in I f
+              → let f = option_map_or (λ call. start_runs declared turn step left (enter_run_of turn step e (start_of_call declared turn e.member call))) (next_start e.member) e in I f
           by_call rest e sound kept = by_next rest e sound kept (next_start e.member) refl
 
-      pub executed_keeps : (d : Doing M) → IsSoundNow declared turn first lawful d.member → I d → I (executed declared turn step d)
+      pub executed_keeps : (d : Doing M) → IsSoundNow declared turn first lawful d.member → I d → I (execute declared turn step d)
       executed_keeps d h holds =
           let e = answered_open turn step d in
           starting_keeps (length e.member.gathered.held) e (sound_answered declared turn first lawful step d h) (answered_keeps d h holds)

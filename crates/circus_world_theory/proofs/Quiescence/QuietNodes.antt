@@ -35,19 +35,19 @@ use Rattle.circus_member_rules.specs.declared.occurrence.Occurrence.{Occurrence}
 use Rattle.circus_member_rules.specs.declared.occurrence.Purpose.{Purpose}
 use Rattle.circus_member_rules.specs.declared.occurrence.Purpose.TheVariants as for
 use Rattle.circus_member_rules.specs.MemberState.{MemberState}
-use Rattle.circus_member_rules.specs.Step.{stepped}
+use Rattle.circus_member_rules.specs.Step.{step_member}
 use Rattle.circus_node.specs.Headers.{call_in}
-use Rattle.circus_node.specs.Accepting.{troupe_at, accepted, accepted_request, taken_request}
+use Rattle.circus_node.specs.Accepting.{troupe_at, occurrence_of_heard, accepted_request, taken_request}
 use Rattle.circus_member_theory.proofs.Accepting.Calls.{ask_read}
 use Rattle.circus_node.specs.declared.event.Event.{Event}
 use Rattle.circus_node.specs.declared.event.Event.TheVariants as comes
 use Rattle.circus_node.specs.declared.event.Outputs.{Outputs}
 use Rattle.circus_node.specs.NodeState.{NodeState, Acting, member, ringmaster}
-use Rattle.circus_node.specs.Making.{Made, happens, refused, by_ring, hears, performs, a_drop}
+use Rattle.circus_node.specs.Making.{Made, happens, refuse, by_ring, hears, performs, a_drop}
 use Rattle.circus_node.specs.Sending.{Sending, sent, spent, gives_of, all_handed}
 use Rattle.circus_node.specs.Step as node_step
 use Rattle.circus_world.specs.WorldState.{WorldState, Standing}
-use Rattle.circus_world.specs.Course.{Stepped, comes_to, concluded}
+use Rattle.circus_world.specs.Course.{Stepped, comes_to, conclude_step}
 use Rattle.circus_world.proofs.SlotLemmas.{get_set}
 use Rattle.circus_talks.specs.Histories.{beginning_of}
 use Rattle.circus_talks.specs.NodeActs.{wire_behind, acts_in}
@@ -133,7 +133,7 @@ module _ {M : Type 0} (declared : M → Signature) (turn : M → List ValueTree 
       same_first = ap (λ (o : Option Behaviour). option_map_or (λ (b : Behaviour). b.first) o []) (sym truly.at)
 
       called_so : (sender : Caller) (message : List ℕ) → HeardAt d acts node from (heard.Called sender message) → (x : Occurrence)
-          → accepted d (declared m.performing.hosted) m from (heard.Called sender message) ≡ Some x → Quietly x
+          → occurrence_of_heard d (declared m.performing.hosted) m from (heard.Called sender message) ≡ Some x → Quietly x
       called_so sender message at x is = (let c = came_low sender message at in by_client c (troupe_at d from) (has_module program d from good all) c.so)
         where
           by_client : CameLow sender message → (o : Option ℕ) → MayHaveModule program o → (CallSo program Theirs o (came_low sender message at).purpose message) → Quietly x
@@ -143,7 +143,7 @@ module _ {M : Type 0} (declared : M → Signature) (turn : M → List ValueTree 
               (came_low sender message at).purpose has.there so c.called c.low x is
 
       returned_so : (number : ℕ) (purpose : Purpose) (message : List ℕ) → HeardAt d acts node from (heard.Returned number purpose message) → (x : Occurrence)
-          → accepted d (declared m.performing.hosted) m from (heard.Returned number purpose message) ≡ Some x → Quietly x
+          → occurrence_of_heard d (declared m.performing.hosted) m from (heard.Returned number purpose message) ≡ Some x → Quietly x
       returned_so number purpose message at x is = by_purpose c.purpose purposes own_so (subst (λ p. QuietCall p q.message) also q.so) (troupe_at d from) (has_module program d from good all) r
         where
           c : IsSaidCall OwnCall OwnReturn (beginning_of d node) (acts node) from number
@@ -180,28 +180,28 @@ module _ {M : Type 0} (declared : M → Signature) (turn : M → List ValueTree 
               replied_so declared turn first lawful program agree are proper d Called (phase_at d node) troupe m truly still from server number (first_at program server) caller name to c.message message own_few has.few
               (λ one. ap (first_at program) one ∙ sym same_first)
               (subst (λ f. IsTrueCallFor (history_of program) troupe f Called (for.Ask name to) c.message) (sym same_first) so) back given x
-              (ap (λ p. accepted d (declared m.performing.hosted) m from (heard.Returned number p message)) same ∙ is)
+              (ap (λ p. occurrence_of_heard d (declared m.performing.hosted) m from (heard.Returned number p message)) same ∙ is)
           by_purpose (for.Ask name to) same so low None has back =
               replied_so declared turn first lawful program agree are proper d Called (phase_at d node) troupe m truly still from troupe number (first m.performing.hosted) caller name to c.message message own_few own_few
               (λ one. refl)
               (subst (λ f. IsTrueCallFor (history_of program) troupe f Called (for.Ask name to) c.message) (sym same_first) so) (inr (inr back)) given x
-              (ap (λ p. accepted d (declared m.performing.hosted) m from (heard.Returned number p message)) same ∙ is)
+              (ap (λ p. occurrence_of_heard d (declared m.performing.hosted) m from (heard.Returned number p message)) same ∙ is)
           by_purpose (for.Ring request) same so low o has back = absurd low
           by_purpose for.Fetch same so low o has back = absurd low
 
       -- ---- a member
 
-      pub happens_so : (h : Heard Purpose) → HeardAt d acts node from h → (x : Occurrence) → accepted d (declared m.performing.hosted) m from h ≡ Some x → Quietly x
+      pub happens_so : (h : Heard Purpose) → HeardAt d acts node from h → (x : Occurrence) → occurrence_of_heard d (declared m.performing.hosted) m from h ≡ Some x → Quietly x
       happens_so heard.Dropped at x is = absurd (none-some x is)
       happens_so heard.Taken at x is = absurd (none-some x is)
       happens_so (heard.Called sender message) at x is = called_so sender message at x is
       happens_so (heard.Returned number purpose message) at x is = returned_so number purpose message at x is
 
-      pub few_of : (at : ℕ) (o : Option Occurrence) → NodeTrue Called (Some troupe) (option_map_or (happens declared turn at m) o (refused (member m))).acting → (x : Occurrence) → o ≡ Some x
-          → length (stepped declared turn at x m).member.performing.kept.runs ≤ last_count
+      pub few_of : (at : ℕ) (o : Option Occurrence) → NodeTrue Called (Some troupe) (option_map_or (happens declared turn at m) o (refuse (member m))).acting → (x : Occurrence) → o ≡ Some x
+          → length (step_member declared turn at x m).member.performing.kept.runs ≤ last_count
       few_of at o truth x is =
-          let n = (stepped declared turn at x m).member in
-          let t : IsTrueAt declared turn first program d Called troupe n = subst (λ (y : Option Occurrence). NodeTrue Called (Some troupe) (option_map_or (happens declared turn at m) y (refused (member m))).acting) is truth in
+          let n = (step_member declared turn at x m).member in
+          let t : IsTrueAt declared turn first program d Called troupe n = subst (λ (y : Option Occurrence). NodeTrue Called (Some troupe) (option_map_or (happens declared turn at m) y (refuse (member m))).acting) is truth in
           few_runs program agree are troupe (first n.performing.hosted) n.performing.kept t.rested.sound.kept.inactive t.is.stands
 
       abbrev MemberMakes : Made M → Type 0
@@ -211,11 +211,11 @@ module _ {M : Type 0} (declared : M → Signature) (turn : M → List ValueTree 
       member_hears at heard.Dropped here truth = record { acting = still; effects = All-nil (IsMade QuietCall QuietReturn) }
       member_hears at heard.Taken here truth = record { acting = still; effects = All-nil (IsMade QuietCall QuietReturn) }
       member_hears at (heard.Called sender message) here truth =
-          by_accepted declared turn first lawful program agree are proper d Called (phase_at d node) troupe m truly still at (accepted d (declared m.performing.hosted) m from (heard.Called sender message))
-          (called_so sender message here) (few_of at (accepted d (declared m.performing.hosted) m from (heard.Called sender message)) truth)
+          by_accepted declared turn first lawful program agree are proper d Called (phase_at d node) troupe m truly still at (occurrence_of_heard d (declared m.performing.hosted) m from (heard.Called sender message))
+          (called_so sender message here) (few_of at (occurrence_of_heard d (declared m.performing.hosted) m from (heard.Called sender message)) truth)
       member_hears at (heard.Returned number purpose message) here truth =
-          by_accepted declared turn first lawful program agree are proper d Called (phase_at d node) troupe m truly still at (accepted d (declared m.performing.hosted) m from (heard.Returned number purpose message))
-          (returned_so number purpose message here) (few_of at (accepted d (declared m.performing.hosted) m from (heard.Returned number purpose message)) truth)
+          by_accepted declared turn first lawful program agree are proper d Called (phase_at d node) troupe m truly still at (occurrence_of_heard d (declared m.performing.hosted) m from (heard.Returned number purpose message))
+          (returned_so number purpose message here) (few_of at (occurrence_of_heard d (declared m.performing.hosted) m from (heard.Returned number purpose message)) truth)
 
     -- ---- either
 
@@ -247,7 +247,7 @@ module _ {M : Type 0} (declared : M → Signature) (turn : M → List ValueTree 
 
   -- ---- what a node has become
 
-  pub acting_sent : (n : NodeState M) (x : Made M) (s : Sending) (ended : NodeState M × Outputs) → node_step.ended n x.came s ≡ Ok ended → ended.0.acting ≡ n.acting
+  pub acting_sent : (n : NodeState M) (x : Made M) (s : Sending) (ended : NodeState M × Outputs) → node_step.end_step n x.came s ≡ Ok ended → ended.0.acting ≡ n.acting
   acting_sent n x (sent wire gives) ended is = sym (ap (λ (e : NodeState M × Outputs). e.0.acting) (same_ended _ ended is))
     where
       same_ended : (a b : NodeState M × Outputs) → ◌≡◌ {A = node_step.Ended M} (Ok a) (Ok b) → a ≡ b
@@ -305,8 +305,8 @@ module _ {M : Type 0} (declared : M → Signature) (turn : M → List ValueTree 
 
     comes_is : comes_to declared turn at_node event w ≡ Ok next
     comes_is =
-        ap (λ (o : Option (Standing M)). option_map_or (λ (t : Standing M). concluded at_node t w (node_step.stepped declared turn (w.steps + 1) event t.node)) o (Ok w)) delivers.at
-        ∙ ap (concluded at_node s w) delivers.ends
+        ap (λ (o : Option (Standing M)). option_map_or (λ (t : Standing M). conclude_step at_node t w (node_step.step_node declared turn (w.steps + 1) event t.node)) o (Ok w)) delivers.at
+        ∙ ap (conclude_step at_node s w) delivers.ends
         ∙ ap (λ (v : WorldState M). let x : Stepped M = Ok v in x) (sym delivers.next_is)
 
     -- it is true still

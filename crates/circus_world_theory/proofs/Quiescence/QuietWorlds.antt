@@ -97,7 +97,7 @@ module _ {M : Type 0} (declared : M → Signature) (turn : M → List ValueTree 
         let home_is : home_of d node ≡ Some (home_in d node number one) =
         ap (option_and_then (λ n. option_map (home_in d node n) (slice_get d.troupes n))) hosts ∙ ap (option_map (home_in d node number)) there in
         let stands : IsHome (declared own) (home_in d node number one).place (boot_views d.troupes) = is_home d node (home_in d node number one) (declared own) world.deployment home_is (can.fits number (declared own) hosts refl) in
-        let n = (member_step.booted declared turn first (home_in d node number one).place (boot_views d.troupes) (home_in d node number one).beginning own) in
+        let n = (member_step.boot_member declared turn first (home_in d node number one).place (boot_views d.troupes) (home_in d node number one).beginning own) in
         let few : length n.member.performing.kept.runs ≤ last_count =
         few_runs program world.agree (are_modules declared turn first modules lawful) number (first n.member.performing.hosted) n.member.performing.kept truth.rested.sound.kept.inactive truth.is.stands in
         let b = boots_quietly declared turn first lawful (HasCame declared turn first lawful program world.agree (are_modules declared turn first modules lawful) world.proper d Called)

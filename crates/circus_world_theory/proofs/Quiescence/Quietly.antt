@@ -38,16 +38,16 @@ use Rattle.circus_member_rules.specs.declared.occurrence.Occurrence.{Occurrence}
 use Rattle.circus_member_rules.specs.declared.occurrence.Occurrence.TheVariants as comes
 use Rattle.circus_member_rules.specs.Happening.{CanHappen}
 use Rattle.circus_member_rules.specs.MemberState.{MemberState}
-use Rattle.circus_member_rules.specs.Step.{stepped}
+use Rattle.circus_member_rules.specs.Step.{step_member}
 use Rattle.circus_node.specs.Headers.{call_in, return_in}
-use Rattle.circus_node.specs.Accepting.{accepted, taken_ask, taken_call, taken_answer, taken_reply}
+use Rattle.circus_node.specs.Accepting.{occurrence_of_heard, taken_ask, taken_call, taken_answer, taken_reply}
 use Rattle.circus_member_theory.proofs.Accepting.Calls.{ask_length, ask_read, ask_body, ask_no_fetch}
 use Rattle.circus_member_theory.proofs.Accepting.Options.{seen_some}
 use Rattle.circus_member_theory.proofs.Accepting.Returns.{reply_length, reply_read}
 use Rattle.circus_member_theory.proofs.Accepting.Taken.{ask_taken}
 use Rattle.circus_member_theory.proofs.Accepting.TrueCan.{call_can, return_can}
 use Rattle.circus_node.specs.NodeState.{Acting, member, ringmaster}
-use Rattle.circus_node.specs.Making.{Made, happens, refused}
+use Rattle.circus_node.specs.Making.{Made, happens, refuse}
 use Rattle.circus_truth.specs.Proper.{AreProper}
 use Rattle.circus_truth.specs.Truth.{IsTrueCallFor, IsTrueReturn, IsReplyMessage}
 use Rattle.circus_world_theory.proofs.Handing.{IsMade}
@@ -148,22 +148,22 @@ module _ {M : Type 0} (declared : M → Signature) (turn : M → List ValueTree 
       HappensQuietly x = CanHappen (declared m.performing.hosted) m x × IsQuietOccurrence (boot_views d.troupes) troupe phase (HasCame Called) x
 
       pub by_accepted : (at : ℕ) (o : Option Occurrence) → ((x : Occurrence) → o ≡ Some x → HappensQuietly x)
-          → ((x : Occurrence) → o ≡ Some x → length (stepped declared turn at x m).member.performing.kept.runs ≤ last_count)
-          → MakesQuiet (Some troupe) (option_map_or (happens declared turn at m) o (refused (member m)))
+          → ((x : Occurrence) → o ≡ Some x → length (step_member declared turn at x m).member.performing.kept.runs ≤ last_count)
+          → MakesQuiet (Some troupe) (option_map_or (happens declared turn at m) o (refuse (member m)))
       by_accepted at None so few = record { acting = quiet; effects = All-nil (IsMade QuietCall QuietReturn) }
       by_accepted at (Some x) so few =
           let s = step_quiet (boot_views d.troupes) troupe phase (HasCame Called) declared turn first lawful (first_views 0 d.troupes) Old at m truly.rested.sound quiet (λ index number callee r view node there entry. tt)
           x (so x refl).0 (so x refl).1 (few x refl) in
           record {
             acting = s.quiet;
-            effects = All-weaker (EffectSo (boot_views d.troupes) troupe (HasCame Called) (stepped declared turn at x m).member.performing.kept) (IsMade QuietCall QuietReturn) (made_quietly (boot_views d.troupes) troupe (HasCame Called) (stepped declared turn at x m).member.performing.kept)
-                (stepped declared turn at x m).effects s.effects;
+            effects = All-weaker (EffectSo (boot_views d.troupes) troupe (HasCame Called) (step_member declared turn at x m).member.performing.kept) (IsMade QuietCall QuietReturn) (made_quietly (boot_views d.troupes) troupe (HasCame Called) (step_member declared turn at x m).member.performing.kept)
+                (step_member declared turn at x m).effects s.effects;
           }
 
       -- an ask of the first views
       pub asked_so : (from client : ℕ) (b : Behaviour) (firsts : List ValueTree) (Other : Caller → List ℕ → Type 0) (sender : Caller) (message : List ℕ) (purpose : Purpose) → IsAt program client b
           → IsTrueCallFor (history_of program) client firsts Other purpose message → Called sender message → IsLowAsk message
-          → (x : Occurrence) → accepted d (declared m.performing.hosted) m from (heard.Called sender message) ≡ Some x → HappensQuietly x
+          → (x : Occurrence) → occurrence_of_heard d (declared m.performing.hosted) m from (heard.Called sender message) ≡ Some x → HappensQuietly x
       asked_so from client b firsts Other sender message purpose at so called a x is =
           let h = a.header in
           let own = m.place.troupe in
@@ -180,7 +180,7 @@ module _ {M : Type 0} (declared : M → Signature) (turn : M → List ValueTree 
       pub replied_so : (from server number : ℕ) (firsts : List ValueTree) (caller : Caller) (name : AskName) (to : ℕ) (call message : List ℕ) → troupe < 32 → server < 32
           → (server ≡ troupe → firsts ≡ first m.performing.hosted)
           → IsTrueCallFor (history_of program) troupe (first m.performing.hosted) Called (for.Ask name to) call → IsTrueReturn (history_of program) server firsts (λ _ other. other ≡ call) caller message → QuietReturn caller message
-          → (x : Occurrence) → accepted d (declared m.performing.hosted) m from (heard.Returned number (for.Ask name to) message) ≡ Some x → HappensQuietly x
+          → (x : Occurrence) → occurrence_of_heard d (declared m.performing.hosted) m from (heard.Returned number (for.Ask name to) message) ≡ Some x → HappensQuietly x
       replied_so from server number firsts caller name to call message own few same own_call so quiet_ x is =
           let r = true_reply program (λ _ other. other ≡ call) server firsts caller message (λ n f. ask_no_fetch own_call.header own_call.body server n own_call.header_is (sym own_call.message_is ∙ sym f)) so quiet_ in
           let s = declared m.performing.hosted in

@@ -7,7 +7,7 @@ use Rattle.circus_segment.specs.Segment.{is_acknowledgement, spelling}
 use Rattle.circus_segment.specs.Cut.{Outgoing, segment_count, segment_of, first_datagrams, whole}
 use Rattle.circus_exchange.specs.Exchange.{start, message_out}
 use Rattle.circus_pair.specs.Acts.{Act, Call, Return, Came, Tick, Stop, Acts, none_yet, more, end_after, taken_by, acknowledged_by}
-use Rattle.circus_pair.specs.Handed.{made, call_at, return_at}
+use Rattle.circus_pair.specs.Handed.{calls_made, call_at, return_at}
 use Rattle.circus_pair.specs.Lawful.{is_stopped_after, AreLawful}
 use Rattle.circus_pair.specs.Window.{is_open, call_is_whole}
 use Rattle.circus_pair.specs.Sending.{is_sent, takes_after, in_order, whole_call, let_go_by, outputs}
@@ -116,7 +116,7 @@ sent_as format acts act call m lawful before is =
 -- each segment of a call that was sent is among what was sent
 pub call_among : (format : ℕ) (acts : Acts) (call : ℕ) (m : List ℕ) (k : ℕ) → AreLawful 0 format acts → IsUndisturbed acts → is_sent (start 0 format) acts call ≡ true → call_at 0 acts call ≡ Some m
     → 0 < k → k ≤ segment_count m → Among (spelling (segment_of (message_out (start 0 format) 0 call m) 0 k)) (sent_by (start 0 format) acts)
-unfolding is_sent outputs made
+unfolding is_sent outputs calls_made
 call_among format none_yet call m k lawful quiet sent is some le = absurd cc
 call_among format (more acts (Call message)) call m k lawful quiet sent is some le =
     by_sent _ (is_sent (start 0 format) acts call)

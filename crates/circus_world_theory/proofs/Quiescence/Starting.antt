@@ -10,7 +10,7 @@ use Rattle.circus_header.specs.declared.answer.Reply.{Reply}
 use Rattle.circus_header.specs.ReplyEquality.{reply_eq, reply_eq_equiv}
 use Rattle.circus_collate.specs.Expecting.{expected_nodes, performs}
 use Rattle.circus_collate.specs.Giving.{is_from, given}
-use Rattle.circus_collate.specs.Collating.{answer, collated}
+use Rattle.circus_collate.specs.Collating.{answer, collate}
 use Rattle.circus_fanout.specs.Asking.{Asking, index_of}
 use Rattle.circus_fanout.specs.Knowing.{Knowing}
 use Rattle.circus_member_rules.specs.Rules.{answer_in, value_of_ask}
@@ -132,8 +132,8 @@ value_so k a n t view some within each reply same =
     } in
     let index = index_of a.header in
     let given_ = all_given reply_eq reply_eq_equiv t.founders a.said all a.kind k.down within in
-    subst (λ (o : Option View). IsSome (option_map_or (λ v. answer_in a (collated reply_eq (expected_nodes v index) k.down a.said a.kind)) o None)) (sym view)
-    (subst (λ nodes. IsSome (answer_in a (collated reply_eq nodes k.down a.said a.kind))) (sym (expected_founders n index t))
+    subst (λ (o : Option View). IsSome (option_map_or (λ v. answer_in a (collate reply_eq (expected_nodes v index) k.down a.said a.kind)) o None)) (sym view)
+    (subst (λ nodes. IsSome (answer_in a (collate reply_eq nodes k.down a.said a.kind))) (sym (expected_founders n index t))
     (by_given t.founders (given reply_eq (λ _. t.founders) a.said a.kind k.down) given_ (λ place is. given_said reply_eq (λ _. t.founders) a.said a.kind k.down place is) _))
   where
     by_given : (founders : List ℕ) (o : Option ℕ) → IsSome o → ((place : ℕ) → o ≡ Some place → place < length a.said) → (other : Option ℕ) → IsSome (answer_in a (answer o other))

@@ -29,7 +29,7 @@ use Rattle.circus_gather.specs.declared.held.HeldCall.{HeldCall}
 use Rattle.circus_fanout.specs.Asking.{Asking, with_view, calls_for_a_view, send_to, is_due}
 use Rattle.circus_fanout.specs.declared.send.Send.{Send}
 use Rattle.circus_performing.specs.declared.start.RunStart.{RunStart}
-use Rattle.circus_performing.specs.Performing.{open_ask, unanswered, last_of, last_count, begun, gone_on, most_turns}
+use Rattle.circus_performing.specs.Performing.{open_ask, unless_replied, last_of, last_count, begin_run, gone_on, most_turns}
 use Rattle.circus_performing.specs.Record.{behaviour, IsRecord}
 use Rattle.circus_performing.proofs.Records.{answered_is}
 use Rattle.circus_member_rules.specs.declared.occurrence.AskName.{AskName}
@@ -41,7 +41,7 @@ use Rattle.circus_member_rules.specs.OpenAsks.{asking_of, with_ask}
 use Rattle.circus_member_rules.specs.Messages.{ask_message, reply_message}
 use Rattle.circus_member_rules.specs.Rules.{answers_of_run, calls_of_ask, call_of_ask, header_now, index_of_last, snapshots_owed}
 use Rattle.circus_member_rules.specs.MemberState.{MemberState, Doing}
-use Rattle.circus_member_rules.specs.Step.{name_of_last, asking_begun, is_idle, reply_of_run, opened_by_view, ended_run, executed}
+use Rattle.circus_member_rules.specs.Step.{name_of_last, asking_begun, is_idle, reply_of_run, opened_by_view, ended_run, execute}
 use Rattle.circus_member_rules.specs.Seen.Sound.{IsRunOf, MayStart}
 use Rattle.circus_member_rules.proofs.Entering.{HasValue, with_entered, with_answered, turned_by_start, turned_by_reply}
 use Rattle.circus_member_rules.proofs.Held.{All-passed}
@@ -328,7 +328,7 @@ module _ (z : Beginning) (ones : (t : ℕ) (v : View) → slice_get z.views t �
         let e : Doing M = record d { member = with_entered b law d.member step start } in
         let turned = turned_by_start b law d.member step start sound may in
         let grows = entered_grows kept step (b.turn kept.state start.procedure start.arguments) start in
-        let gone = gone_on step (b.turn kept.state start.procedure start.arguments) most_turns (begun step start) in
+        let gone = gone_on step (b.turn kept.state start.procedure start.arguments) most_turns (begin_run step start) in
         let long : length e.member.performing.kept.runs ≡ length kept.runs + 1 = length-append kept.runs (gone ∷ []) in
         let few_before : IsFew d = omega (arith, few, long) in
         let was = body few_before in
@@ -375,13 +375,13 @@ module _ (z : Beginning) (ones : (t : ℕ) (v : View) → slice_get z.views t �
     named_last kept run ask from few last is = record {
       run = run;
       run_is = ap (slice_get kept.runs) at ∙ last;
-      within = asked run.asks (sym (ap (option_and_then (λ (r : RunRecord). option_and_then unanswered (last_of r.asks))) last) ∙ is);
+      within = asked run.asks (sym (ap (option_and_then (λ (r : RunRecord). option_and_then unless_replied (last_of r.asks))) last) ∙ is);
     }
       where
         at : index_of_last kept ≡ length kept.runs - 1
         at = omega (arith, from, few)
 
-        asked : (asks : List AskRecord) → option_and_then unanswered (last_of asks) ≡ Some ask → length asks - 1 < length asks
+        asked : (asks : List AskRecord) → option_and_then unless_replied (last_of asks) ≡ Some ask → length asks - 1 < length asks
         asked [] some = absurd (let clash : ◌≡◌ {A = Option AskRecord} None (Some ask) = some in cc)
         asked (a ∷ asks) some = omega arith
 
@@ -437,7 +437,7 @@ module _ (z : Beginning) (ones : (t : ℕ) (v : View) → slice_get z.views t �
         let named : Named kept name.run name.ask =
         subst (Named kept (index_of_last kept)) (sym (ap (λ o. option_map_or (λ (r : RunRecord). length r.asks - 1) o 0) last)) (named_last kept run ask s.from few last open_) in
         let some = t.some in
-        let asks = has_asks run.asks (sym (ap (option_and_then (λ (r : RunRecord). option_and_then unanswered (last_of r.asks))) last) ∙ open_) in
+        let asks = has_asks run.asks (sym (ap (option_and_then (λ (r : RunRecord). option_and_then unless_replied (last_of r.asks))) last) ∙ open_) in
         let at_last : IsOpenAt kept (length kept.runs - 1) (length run.asks - 1) ask.callee =
         record { run = run; ask = ask; last = last; is_open = open_; callee_is = refl; index_is = omega (arith, some); number_is = omega (arith, asks) } in
         let is_new : Named z.kept name.run name.ask → ⊥ =
@@ -488,7 +488,7 @@ module _ (z : Beginning) (ones : (t : ℕ) (v : View) → slice_get z.views t �
         none_some : (x : AskRecord) → ◌≡◌ {A = Option AskRecord} None (Some x) → ⊥
         none_some x is = cc
 
-        has_asks : (asks : List AskRecord) → option_and_then unanswered (last_of asks) ≡ Some ask → 0 < length asks
+        has_asks : (asks : List AskRecord) → option_and_then unless_replied (last_of asks) ≡ Some ask → 0 < length asks
         has_asks [] is = absurd (none_some ask is)
         has_asks (x ∷ asks) is = omega arith
 
@@ -635,5 +635,5 @@ module _ (z : Beginning) (ones : (t : ℕ) (v : View) → slice_get z.views t �
     }
 
     -- the execution keeps it
-    pub body_executed : (step : ℕ) (d : Doing M) → IsSoundNow declared turn first lawful d.member → I d → I (executed declared turn step d)
+    pub body_executed : (step : ℕ) (d : Doing M) → IsSoundNow declared turn first lawful d.member → I d → I (execute declared turn step d)
     body_executed step d sound body = executed_keeps declared turn first lawful step (λ e. I e) (λ e. J e) (keeps step) d sound body

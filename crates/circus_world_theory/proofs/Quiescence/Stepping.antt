@@ -41,7 +41,7 @@ use Rattle.circus_member_rules.specs.Rules as rules
 use Rattle.circus_member_rules.specs.Rules.{ringmaster, answer_at_once, wanted_by_call, lookups, lookup_call, stays_open}
 use Rattle.circus_member_rules.specs.Happening.{CanHappen}
 use Rattle.circus_member_rules.specs.MemberState.{MemberState, Doing}
-use Rattle.circus_member_rules.specs.Step.{waits, executed, handled, stepped}
+use Rattle.circus_member_rules.specs.Step.{waits, execute, handle, step_member}
 use Rattle.circus_member_rules.proofs.Handled.{sound_asked, sound_replied}
 use Rattle.circus_member_rules.proofs.Named.{lookup-kept}
 use Rattle.circus_member_rules.proofs.Resting.{waiting_stays}
@@ -94,7 +94,7 @@ changed_here asks name change a is =
 abbrev pub AreLow : List Want → Type 0
 AreLow wants = All (λ (w : Want). w.incarnation ≤ 1) wants
 
-low_wanted : (k : Knowing) (troupe incarnation : ℕ) → incarnation ≤ 1 → AreLow k.wants → AreLow (knowing.wanted k troupe incarnation).wants
+low_wanted : (k : Knowing) (troupe incarnation : ℕ) → incarnation ≤ 1 → AreLow k.wants → AreLow (knowing.want_view k troupe incarnation).wants
 low_wanted k troupe incarnation low are = by_want (slice_get k.wants troupe) refl
   where
     by_want : (o : Option Want) → slice_get k.wants troupe ≡ o → AreLow (option_map_or (λ (w : Want). set k.wants troupe (record { incarnation = max w.incarnation incarnation; asked = w.asked })) o k.wants)
@@ -171,7 +171,7 @@ module _ (bv : List View) (own : ℕ) (phase : Joiner) (P : Caller → CallHeade
 
     -- what was said of an ask once this has happened
     abbrev pub OldSaid : ℕ → ℕ → List (Said Reply) → Type 0
-    OldSaid index number said = (asking : Asking) × (asking_of (handled at o m).member.asks (record { run = index; ask = number }) ≡ Some asking) × (said ≡ asking.said)
+    OldSaid index number said = (asking : Asking) × (asking_of (handle at o m).member.asks (record { run = index; ask = number }) ≡ Some asking) × (said ≡ asking.said)
 
     pub ones : (t : ℕ) (v : View) → slice_get bv t ≡ Some v → v.incarnation ≤ 1
     ones = ones_of bv firsts
@@ -224,7 +224,7 @@ module _ (bv : List View) (own : ℕ) (phase : Joiner) (P : Caller → CallHeade
           kept_same : (Q : MemberRecord → Type 0) → Q m.performing.kept → Q d.member.performing.kept
           kept_same Q h = subst (λ (p : Performing M). Q p.kept) (sym same) h
 
-      still_open : (index number callee : ℕ) → IsOpenAt m.performing.kept index number callee → (d : Doing M) → d.member.place ≡ m.place → d.member.asks ≡ m.asks → (handled at o m).member.asks ≡ m.asks → IsOpened z ones P Old OldSaid d.member index number callee
+      still_open : (index number callee : ℕ) → IsOpenAt m.performing.kept index number callee → (d : Doing M) → d.member.place ≡ m.place → d.member.asks ≡ m.asks → (handle at o m).member.asks ≡ m.asks → IsOpened z ones P Old OldSaid d.member index number callee
       still_open index number callee o_ d placed asks handled_asks =
           let h = q.opened index number callee o_ in
           let name : AskName = record { run = index; ask = number } in
@@ -327,15 +327,15 @@ module _ (bv : List View) (own : ℕ) (phase : Joiner) (P : Caller → CallHeade
       low_wanted m.known header.client header.client_incarnation low q.wants,
     )
 
-    asked_body : BodyOf o (handled at o m)
+    asked_body : BodyOf o (handle at o m)
     asked_body = by_added (answer_to m.gathered header) refl
 
   -- ---- a reply comes
 
   module _ (name : AskName) (from : ℕ) (reply : Reply) (can : CanHappen (declared m.performing.hosted) m (comes.Replied name from reply)) where
-    replied_body : BodyOf (comes.Replied name from reply) (handled at (comes.Replied name from reply) m)
+    replied_body : BodyOf (comes.Replied name from reply) (handle at (comes.Replied name from reply) m)
     replied_body = (
-      start_body bv own phase P declared turn first lawful firsts Old at (comes.Replied name from reply) m sound can tt q old (handled at (comes.Replied name from reply) m) q.views q.down q.requests q.required q.first q.own_is refl refl q.held
+      start_body bv own phase P declared turn first lawful firsts Old at (comes.Replied name from reply) m sound can tt q old (handle at (comes.Replied name from reply) m) q.views q.down q.requests q.required q.first q.own_is refl refl q.held
           (All-nil (EffectSo bv own P m.performing.kept)) (All-nil (NewCall m.performing.kept))
           (λ index number callee o_. (
           let h = q.opened index number callee o_ in
@@ -354,7 +354,7 @@ module _ (bv : List View) (own : ℕ) (phase : Joiner) (P : Caller → CallHeade
   -- ---- the step
 
   module _ (o : Occurrence) (can : CanHappen (declared m.performing.hosted) m o) (quiet_o : IsQuietOccurrence bv own phase P o) where
-    handled_body : (x : Occurrence) → CanHappen (declared m.performing.hosted) m x → IsQuietOccurrence bv own phase P x → BodyOf x (handled at x m)
+    handled_body : (x : Occurrence) → CanHappen (declared m.performing.hosted) m x → IsQuietOccurrence bv own phase P x → BodyOf x (handle at x m)
     handled_body (comes.Asked header body sender) can_ quiet_ = asked_body header body sender can_ quiet_.0 quiet_.1
     handled_body (comes.Replied name from reply) can_ quiet_ = replied_body name from reply can_
     handled_body (comes.Fetched incarnation sender) can_ quiet_ = absurd quiet_
@@ -365,7 +365,7 @@ module _ (bv : List View) (own : ℕ) (phase : Joiner) (P : Caller → CallHeade
     handled_body (comes.Declared node) can_ quiet_ = absurd quiet_
     handled_body comes.Joins can_ quiet_ = absurd quiet_
 
-    handled_sound : (x : Occurrence) → CanHappen (declared m.performing.hosted) m x → IsQuietOccurrence bv own phase P x → IsSoundNow declared turn first lawful (handled at x m).member
+    handled_sound : (x : Occurrence) → CanHappen (declared m.performing.hosted) m x → IsQuietOccurrence bv own phase P x → IsSoundNow declared turn first lawful (handle at x m).member
     handled_sound (comes.Asked header body sender) can_ quiet_ = sound_asked (behaviour declared turn first m.performing.hosted) m header body sender can_ sound
     handled_sound (comes.Replied name from reply) can_ quiet_ = sound_replied (behaviour declared turn first m.performing.hosted) m name from reply can_ sound
     handled_sound (comes.Fetched incarnation sender) can_ quiet_ = absurd quiet_
@@ -383,7 +383,7 @@ module _ (bv : List View) (own : ℕ) (phase : Joiner) (P : Caller → CallHeade
     asked_silent header sender (A.Before n) = (q.views, refl)
     asked_silent header sender A.Held = (q.views, refl)
 
-    handled_silent : (x : Occurrence) → IsQuietOccurrence bv own phase P x → ((handled at x m).member.known.views ≡ bv) × (targets (handled at x m).effects ≡ [])
+    handled_silent : (x : Occurrence) → IsQuietOccurrence bv own phase P x → ((handle at x m).member.known.views ≡ bv) × (targets (handle at x m).effects ≡ [])
     handled_silent (comes.Asked header body sender) quiet_ = asked_silent header sender (answer_to m.gathered header)
     handled_silent (comes.Replied name from reply) quiet_ = (q.views, refl)
     handled_silent (comes.Fetched incarnation sender) quiet_ = absurd quiet_
@@ -394,14 +394,14 @@ module _ (bv : List View) (own : ℕ) (phase : Joiner) (P : Caller → CallHeade
     handled_silent (comes.Declared node) quiet_ = absurd quiet_
     handled_silent comes.Joins quiet_ = absurd quiet_
 
-    pub step_quiet : length (stepped declared turn at o m).member.performing.kept.runs ≤ last_count → StepsQuiet bv own phase P declared turn first lawful firsts Old at o m (stepped declared turn at o m)
+    pub step_quiet : length (step_member declared turn at o m).member.performing.kept.runs ≤ last_count → StepsQuiet bv own phase P declared turn first lawful firsts Old at o m (step_member declared turn at o m)
     step_quiet few =
         let begun_ = handled_body o can quiet_o in
-        let d = executed declared turn at (handled at o m) in
+        let d = execute declared turn at (handle at o m) in
         let body = body_executed (record { views = bv; own = own; phase = phase; kept = m.performing.kept }) (OnesOf o) P Old (OldSaid bv own phase P declared turn first lawful firsts Old at o m) declared turn first lawful at
-        (handled at o m) (handled_sound o can quiet_o) (λ few_. begun_.0) few in
+        (handle at o m) (handled_sound o can quiet_o) (λ few_. begun_.0) few in
         let s = body.stays in
-        let knows = executed_knows declared turn at (handled at o m) in
+        let knows = executed_knows declared turn at (handle at o m) in
         let low : AreLow d.member.known.wants = subst (λ (k : Knowing). AreLow k.wants) (sym knows) begun_.1 in
         let none : knowing.lookups d.member.known ringmaster ≡ [] = no_lookups d.member.known (subst (λ l. AreFirst l) (sym s.views) firsts) s.down low in
         let effects : d.effects ++ lookups d.member.known ≡ d.effects = ap (λ l. d.effects ++ map lookup_call l) none ∙ append-nil d.effects in
@@ -430,7 +430,7 @@ module _ (bv : List View) (own : ℕ) (phase : Joiner) (P : Caller → CallHeade
           };
           effects = subst (All (EffectSo bv own P kept)) (sym effects) s.effects;
           news = subst (All (NewCall m.performing.kept)) (sym effects) s.news;
-          once = λ others. subst (λ l. AreApart (targets l)) (sym effects) (executed_once bv others turn declared at (handled at o m) (handled_silent o quiet_o).0 (handled_silent o quiet_o).1).once;
+          once = λ others. subst (λ l. AreApart (targets l)) (sym effects) (executed_once bv others turn declared at (handle at o m) (handled_silent o quiet_o).0 (handled_silent o quiet_o).1).once;
           recorded = λ index number callee r view node there entry. elim (body.recorded index number callee r view node there entry) [
             | inl before ↦ inl before
             | inr new ↦ inr (subst (λ l. IsCallIn l index number callee node) (sym effects) new)

@@ -21,7 +21,7 @@ use Rattle.circus_header.specs.declared.call.Request.{Request}
 use Rattle.circus_model.specs.declared.signature.Signature.{Signature}
 use Rattle.circus_wire.specs.declared.delivery.Heard.{Heard}
 use Rattle.circus_wire.specs.declared.delivery.Heard.TheVariants.{Dropped, Taken, Called, Returned}
-use Rattle.circus_wire.specs.Wire.{WireState, PeerState, peer_called, peer_answered, peer_heard, peer_ticked, peer_stopped, told, told_return, heard_by, place_of, changed_at, of_peer, peer_at, changed, is_up, is_awaited, next_number, called_to, sent_by_call, sent_by_answer, after_datagram, heard_from, all_ticked, stopped_at}
+use Rattle.circus_wire.specs.Wire.{WireState, PeerState, peer_called, peer_answered, peer_heard, peer_ticked, peer_stopped, hear_arrival, told_return, heard_by, place_of, changed_at, of_peer, peer_at, change_peer, is_up, is_awaited, next_number, called_to, sent_by_call, sent_by_answer, after_datagram, heard_from, all_ticked, stopped_at}
 use Rattle.circus_wire.proofs.Places.{get_changed}
 use Rattle.circus_member_rules.specs.declared.occurrence.AskName.{AskName}
 use Rattle.circus_member_rules.specs.declared.occurrence.Occurrence.{Occurrence}
@@ -33,9 +33,9 @@ use Rattle.circus_member_rules.specs.declared.occurrence.Effect.TheVariants as m
 use Rattle.circus_member_rules.specs.MemberState.{MemberState}
 use Rattle.circus_node.specs.Bodies.{restored_in}
 use Rattle.circus_node.specs.Headers.{call_in, return_in, table_at}
-use Rattle.circus_node.specs.Accepting.{may_ask, taken_call, accepted_call, taken_reply, taken_answer, accepted_answer, may_tell, taken_table, accepted_table, accepted}
+use Rattle.circus_node.specs.Accepting.{may_ask, taken_call, accepted_call, taken_reply, taken_answer, accepted_answer, may_tell, taken_table, accepted_table, occurrence_of_heard}
 use Rattle.circus_node.specs.declared.event.Give.{Give}
-use Rattle.circus_node.specs.Sending.{Sending, sent, spent, gives_of, is_sendable, handed, next_handed, all_handed}
+use Rattle.circus_node.specs.Sending.{Sending, sent, spent, gives_of, is_sendable, hand_over, next_handed, all_handed}
 use Rattle.circus_timely.specs.Past.{Past, booted, followed}
 use Rattle.circus_timely.specs.Made.{is_caller, callers, AreDistinct}
 use Rattle.circus_world_theory.proofs.Timely.Once.{reading_within, has_call, called_has, returned_has, ticked_has, after_has, arrives_first}
@@ -60,7 +60,7 @@ module _ (f : PeerState Purpose → PeerState Purpose) (keeps : (p : PeerState P
   at_place (x ∷ xs) (suc i) zero n is = is
   at_place (x ∷ xs) (suc i) (suc j) n is = at_place xs i j n is
 
-  changed_keeps : (w : WireState Purpose) (node : ℕ) → Keeps w (changed f w node)
+  changed_keeps : (w : WireState Purpose) (node : ℕ) → Keeps w (change_peer f w node)
   unfolding peer_at
   changed_keeps w node c is = by_own (c.node == w.own) is
     where
@@ -109,7 +109,7 @@ abbrev SendingKeeps : WireState Purpose → Sending → Type 0
 SendingKeeps w (sent v gives) = Keeps w v
 SendingKeeps w (spent node) = Unit {0}
 
-handed_keeps : (w : WireState Purpose) (gives : List Give) (e : Effect) → SendingKeeps w (handed w gives e)
+handed_keeps : (w : WireState Purpose) (gives : List Give) (e : Effect) → SendingKeeps w (hand_over w gives e)
 handed_keeps w gives (made.Call to message purpose) = by_tests (is_up w to && is_sendable w.format message) (next_number w to == never_used)
   where
     by_tests : (goes none : Bool) → SendingKeeps w (
@@ -123,7 +123,7 @@ handed_keeps w gives (made.Answer caller message) = by_test (is_sendable w.forma
   where
     by_test : (goes awaited : Bool) → SendingKeeps w (
         if goes
-        then sent (if awaited then changed (λ p. peer_answered p caller.number message) w caller.node else w) (gives ++ gives_of (sent_by_answer w caller message))
+        then sent (if awaited then change_peer (λ p. peer_answered p caller.number message) w caller.node else w) (gives ++ gives_of (sent_by_answer w caller message))
         else sent w gives)
     by_test true true = changed_keeps (λ p. peer_answered p caller.number message) (λ p n is. returned_has p.exchange caller.number message n is) w caller.node
     by_test true false = λ c is. is
@@ -137,7 +137,7 @@ pub all_handed_keeps : (w : WireState Purpose) (gives : List Give) (effects : Li
 all_handed_keeps w gives effects v given is = subst (SendingKeeps w) is (all w (sent w gives) effects (λ c has. has))
   where
     next : (x : WireState Purpose) (s : Sending) (e : Effect) → SendingKeeps x s → SendingKeeps x (next_handed s e)
-    next x (sent y more) e keeps = then_keeps x y (handed y more e) keeps (handed_keeps y more e)
+    next x (sent y more) e keeps = then_keeps x y (hand_over y more e) keeps (handed_keeps y more e)
     next x (spent node) e keeps = tt
 
     all : (x : WireState Purpose) (s : Sending) (es : List Effect) → SendingKeeps x s → SendingKeeps x (all_handed s es)
@@ -152,7 +152,7 @@ record HasJustCome (w : WireState Purpose) (from : ℕ) (s : Piece) (c : Caller)
   pub now : has_come (after_datagram w from (Ok s)) c ≡ true
 
 module _ (w : WireState Purpose) (from : ℕ) (s : Piece) (bytes : List ℕ) (is_read : reading bytes ≡ Ok s) where
-  peer_then : (p : PeerState Purpose) → peer_at w from ≡ Some p → peer_at (changed (λ q. peer_heard q s) w from) from ≡ Some (peer_heard p s)
+  peer_then : (p : PeerState Purpose) → peer_at w from ≡ Some p → peer_at (change_peer (λ q. peer_heard q s) w from) from ≡ Some (peer_heard p s)
   unfolding peer_at
   peer_then p at = by_own (from == w.own) at
     where
@@ -177,14 +177,14 @@ module _ (w : WireState Purpose) (from : ℕ) (s : Piece) (bytes : List ℕ) (is
       by_return n m None e = absurd (let clash : ◌≡◌ {A = Heard Purpose} Taken (Called c message) = e in cc)
       by_return n m (Some purpose) e = absurd (let clash : ◌≡◌ {A = Heard Purpose} (Returned n purpose m) (Called c message) = e in cc)
 
-      by_arrived : (p : PeerState Purpose) → peer_at w from ≡ Some p → (a : Arrived) → arrived_after p.exchange s ≡ a → told (get p.purposes) from a ≡ Called c message → HasJustCome w from s c
+      by_arrived : (p : PeerState Purpose) → peer_at w from ≡ Some p → (a : Arrived) → arrived_after p.exchange s ≡ a → hear_arrival (get p.purposes) from a ≡ Called c message → HasJustCome w from s c
       by_arrived p at Nothing arrives e = absurd (let clash : ◌≡◌ {A = Heard Purpose} Taken (Called c message) = e in cc)
       by_arrived p at (ArrivedCall n m) arrives e =
           let same : ◌≡◌ {A = Caller} (record { node = from; number = n }) c = cc in
           subst (HasJustCome w from s) same (called p at n m arrives)
       by_arrived p at (ArrivedReturn n m) arrives e = by_return n m (get p.purposes n) e
 
-      by_taken : (p : PeerState Purpose) → peer_at w from ≡ Some p → (b : Bool) → (if b then told (get p.purposes) from (arrived_after p.exchange s) else Dropped) ≡ Called c message → HasJustCome w from s c
+      by_taken : (p : PeerState Purpose) → peer_at w from ≡ Some p → (b : Bool) → (if b then hear_arrival (get p.purposes) from (arrived_after p.exchange s) else Dropped) ≡ Called c message → HasJustCome w from s c
       by_taken p at true e = by_arrived p at (arrived_after p.exchange s) refl e
       by_taken p at false e = absurd (let clash : ◌≡◌ {A = Heard Purpose} Dropped (Called c message) = e in cc)
 
@@ -261,13 +261,13 @@ module _ {M : Type 0} (d : Deployment) (declared : Signature) (m : MemberState M
       by_header says.Table at = and_then_of None _ (table_at at message) (λ table. if_of None (may_tell d request table) (occurs.Told request table) refl)
 
   -- the call of a caller is accepted where that is heard
-  pub heard_of : (c : Caller) (o : Occurrence) (h : Heard Purpose) → accepted d declared m from h ≡ Some o → caller_of o ≡ Some c → (message : List ℕ) × (h ≡ Called c message)
+  pub heard_of : (c : Caller) (o : Occurrence) (h : Heard Purpose) → occurrence_of_heard d declared m from h ≡ Some o → caller_of o ≡ Some c → (message : List ℕ) × (h ≡ Called c message)
   heard_of c o h is by = by_heard h is
     where
       none_is : {X : Type 0} → caller_of o ≡ None → X
       none_is none = absurd (let clash : ◌≡◌ {A = Option Caller} None (Some c) = sym none ∙ by in cc)
 
-      by_heard : (x : Heard Purpose) → accepted d declared m from x ≡ Some o → (message : List ℕ) × (x ≡ Called c message)
+      by_heard : (x : Heard Purpose) → occurrence_of_heard d declared m from x ≡ Some o → (message : List ℕ) × (x ≡ Called c message)
       by_heard Dropped e = absurd (let clash : ◌≡◌ {A = Option Occurrence} None (Some o) = e in cc)
       by_heard Taken e = absurd (let clash : ◌≡◌ {A = Option Occurrence} None (Some o) = e in cc)
       by_heard (Called sender message) e =

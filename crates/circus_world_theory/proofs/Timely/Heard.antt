@@ -16,7 +16,7 @@ use Rattle.circus_wire.specs.WireActs.{WireActs}
 use Rattle.circus_member_rules.specs.declared.occurrence.Occurrence.{Occurrence}
 use Rattle.circus_member_rules.specs.declared.occurrence.Purpose.{Purpose}
 use Rattle.circus_member_rules.specs.MemberState.{MemberState}
-use Rattle.circus_node.specs.Accepting.{accepted, troupe_at}
+use Rattle.circus_node.specs.Accepting.{occurrence_of_heard, troupe_at}
 use Rattle.circus_node.specs.declared.event.Event.{Event}
 use Rattle.circus_node.specs.declared.event.Event.TheVariants as comes
 use Rattle.circus_node.specs.NodeState.{Acting, member, ringmaster, NodeState}
@@ -40,10 +40,10 @@ module _ {M : Type 0} (declared : M → Signature) (turn : M → List ValueTree 
       let happens = so o refl in (happens.0, in_range program agree are troupe (first m.performing.hosted) Called m o happens.1)
 
   heard_may : (troupe : ℕ) (m : MemberState M) → IsTrueAt declared turn first program d Called troupe m → troupe_at d node ≡ Some troupe → (from : ℕ) (h : Heard Purpose)
-      → HeardAt d acts node from h → MayHappenTo declared m (accepted d (declared m.performing.hosted) m from h)
+      → HeardAt d acts node from h → MayHappenTo declared m (occurrence_of_heard d (declared m.performing.hosted) m from h)
   heard_may troupe m so_far hosts from h at =
       let has : HasModule program troupe = subst (λ o. MayHaveModule program o) hosts (has_module program d node good all) in
-      by_accepted troupe m (accepted d (declared m.performing.hosted) m from h)
+      by_accepted troupe m (occurrence_of_heard d (declared m.performing.hosted) m from h)
       (heard_accepts declared turn first program d Called troupe m so_far agree are proper from (troupe_at d from) (CalledAt d acts from) h has.few
       (has_module program d from good all)
       (subst (λ o. HeardSo program Called (CalledAt d acts from) o (troupe_at d from) h) hosts (heard_so program d acts said node from h at)))
@@ -58,7 +58,7 @@ module _ {M : Type 0} (declared : M → Signature) (turn : M → List ValueTree 
       by_acting : (e : Event) (own : Option ℕ) (a : Acting M) → troupe_at d node ≡ own → ComesTruly d acts node e n → ActsTrue declared turn first program d Called own a
           → MayHappen declared a (happens_by declared e (record n { acting = a }))
       by_acting (comes.Datagram from bytes) (Some troupe) (member m) hosts comes_so so =
-          subst (λ (x : Deployment). MayHappenTo declared m (accepted x (declared m.performing.hosted) m from (heard_from n.wire from (reading bytes)))) (sym deployed)
+          subst (λ (x : Deployment). MayHappenTo declared m (occurrence_of_heard x (declared m.performing.hosted) m from (heard_from n.wire from (reading bytes)))) (sym deployed)
           (heard_may troupe m so hosts from (heard_from n.wire from (reading bytes)) comes_so)
       by_acting comes.Tick (Some troupe) (member m) hosts comes_so so = tt
       by_acting (comes.Down other) (Some troupe) (member m) hosts comes_so so = (tt, tt)

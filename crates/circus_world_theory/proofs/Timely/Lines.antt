@@ -28,7 +28,7 @@ use Rattle.circus_schedule.specs.declared.line.Line.{Line}
 use Rattle.circus_schedule.specs.declared.line.Line.TheVariants.{Deliver, Tick, Crash, Down, Join}
 use Rattle.circus_world.specs.declared.sent.Sent.{Sent}
 use Rattle.circus_world.specs.WorldState.{WorldState, Standing, is_live}
-use Rattle.circus_world.specs.Course.{Stepped, noted, passed, told_to_join, comes_to, concluded, stepped}
+use Rattle.circus_world.specs.Course.{Stepped, noted, pass_step, told_to_join, comes_to, conclude_step, step_line}
 use Rattle.circus_world.specs.Lines.{Leads, Lead}
 use Rattle.circus_world.proofs.ComeLemmas.{delivered_at}
 use Rattle.circus_world.proofs.SlotLemmas.{get_set, get_there}
@@ -88,7 +88,7 @@ module _ {M : Type 0} (declared : M → Signature) (turn : M → List ValueTree 
   module _ (p q : Past) (v : WorldState M) (other : ℕ) (event : Event) (s : Standing M) (at : slice_get v.nodes other ≡ Some s)
       (may : MayHappen declared s.node.acting (happens_by declared event s.node))
       (here : other ≡ node → q ≡ with_one p (v.steps + 1) (happens_by declared event s.node)) (elsewhere : other ≢ node → q ≡ p) (h : LivesIn p v) where
-    step_lives : (ended : NodeState M × Outputs) → node_step.stepped declared turn (v.steps + 1) event s.node ≡ Ok ended → (next : WorldState M)
+    step_lives : (ended : NodeState M × Outputs) → node_step.step_node declared turn (v.steps + 1) event s.node ≡ Ok ended → (next : WorldState M)
         → next.nodes ≡ set v.nodes other (record s { node = ended.0 }) → next.steps ≡ v.steps + 1 → LivesIn q next
     step_lives ended ends next nodes steps = elim (eqb_tells other node) [
       | inl same ↦
@@ -135,13 +135,13 @@ module _ {M : Type 0} (declared : M → Signature) (turn : M → List ValueTree 
             ]
 
     comes_lives : (next : WorldState M) → comes_to declared turn other event v ≡ Ok next → LivesIn q next
-    comes_lives next is = by_end (node_step.stepped declared turn (v.steps + 1) event s.node) refl
+    comes_lives next is = by_end (node_step.step_node declared turn (v.steps + 1) event s.node) refl
       where
-        by_end : (e : node_step.Ended M) → node_step.stepped declared turn (v.steps + 1) event s.node ≡ e → LivesIn q next
+        by_end : (e : node_step.Ended M) → node_step.step_node declared turn (v.steps + 1) event s.node ≡ e → LivesIn q next
         by_end (Ok ended) ends =
-            let same = same_world _ next (sym (comes_is declared turn v other event s at ∙ ap (concluded other s v) ends) ∙ is) in
+            let same = same_world _ next (sym (comes_is declared turn v other event s at ∙ ap (conclude_step other s v) ends) ∙ is) in
             step_lives ended ends next (ap (λ (x : WorldState M). x.nodes) (sym same)) (ap (λ (x : WorldState M). x.steps) (sym same))
-        by_end (Err peer) ends = absurd (let clash : ◌≡◌ {A = Stepped M} (Err (other, peer)) (Ok next) = sym (comes_is declared turn v other event s at ∙ ap (concluded other s v) ends) ∙ is in cc)
+        by_end (Err peer) ends = absurd (let clash : ◌≡◌ {A = Stepped M} (Err (other, peer)) (Ok next) = sym (comes_is declared turn v other event s at ∙ ap (conclude_step other s v) ends) ∙ is in cc)
 
   -- ---- something is noted of a node
 
@@ -164,7 +164,7 @@ module _ {M : Type 0} (declared : M → Signature) (turn : M → List ValueTree 
         | inr there ↦ holds t there
       ]
 
-  passed_lives : (p : Past) (w : WorldState M) → LivesIn p w → LivesIn p (passed w)
+  passed_lives : (p : Past) (w : WorldState M) → LivesIn p w → LivesIn p (pass_step w)
   passed_lives p w h = record { lives = h.lives; numbers = h.numbers; before = (let before = h.before in omega (arith, before)) }
 
 module _ {M : Type 0} (declared : M → Signature) (turn : M → List ValueTree → ℕ → List ValueTree → List Outcome → NextTurn) (first : M → List ValueTree)
@@ -197,7 +197,7 @@ module _ {M : Type 0} (declared : M → Signature) (turn : M → List ValueTree 
         (here_by declared node p line w other event comes_it s at) (elsewhere_by declared node p line w other event comes_it) h next is
 
     delivered_lives : (place : ℕ) (sent : Sent) (live : Bool) → slice_get w.sent place ≡ Some sent → is_live w sent.to ≡ live
-        → stepped declared turn (Deliver place) w ≡ Ok next → Lives (behind (Deliver place)) next
+        → step_line declared turn (Deliver place) w ≡ Ok next → Lives (behind (Deliver place)) next
     delivered_lives place sent true there live is =
         let s = live_there (slice_get w.nodes sent.to) live in
         moved (Deliver place) sent.to (comes.Datagram sent.from sent.bytes) s.0

@@ -26,12 +26,12 @@ use Rattle.circus_member_rules.specs.MemberState.{MemberState}
 use Rattle.circus_member_rules.specs.Step as member_step
 use Rattle.circus_member_rules.specs.Happening.{IsHome, CanHappen}
 use Rattle.circus_member_rules.specs.Seen.Sound.{IsRested}
-use Rattle.circus_node.specs.Accepting.{IsMemberOf, accepted}
+use Rattle.circus_node.specs.Accepting.{IsMemberOf, occurrence_of_heard}
 use Rattle.circus_node.specs.declared.event.Event.{Event}
 use Rattle.circus_node.specs.declared.event.Event.TheVariants as comes
 use Rattle.circus_node.specs.Booting.{home_in, beginning_in}
 use Rattle.circus_node.specs.NodeState.{Acting, member, ringmaster, NodeState, member_record}
-use Rattle.circus_node.specs.Making.{happens, refused, hears, learns_down, is_told_to_join}
+use Rattle.circus_node.specs.Making.{happens, refuse, hears, learns_down, is_told_to_join}
 use Rattle.circus_member_theory.specs.Ranges.{InRange}
 use Rattle.circus_member_theory.proofs.Resting.{step_rests, boot_rests}
 use Rattle.circus_timely.specs.Past.{Past, booted, followed, now}
@@ -83,14 +83,14 @@ module _ {M : Type 0} (declared : M → Signature) (turn : M → List ValueTree 
 
   -- ---- boot
 
-  pub lives_at_boot : IsHome (declared own) place views → Lives booted (member_step.booted declared turn first place views beginning own).member
+  pub lives_at_boot : IsHome (declared own) place views → Lives booted (member_step.boot_member declared turn first place views beginning own).member
   lives_at_boot home =
       let b = boot_rests declared turn first lawful place views beginning own home in
       record {
         is = refl;
         may = tt;
         hosts = b.hosted;
-        rested = subst (λ (h : M). IsRested (behaviour declared turn first h) (member_step.booted declared turn first place views beginning own).member) (sym b.hosted) b.rested;
+        rested = subst (λ (h : M). IsRested (behaviour declared turn first h) (member_step.boot_member declared turn first place views beginning own).member) (sym b.hosted) b.rested;
         of = record { views = ap (λ (vs : List View). length vs) b.views ∙ length_boot d.troupes };
       }
 
@@ -98,12 +98,12 @@ module _ {M : Type 0} (declared : M → Signature) (turn : M → List ValueTree 
 
   module _ (p : Past) (step : ℕ) (later : now p < step) where
     lives_on : (o : Occurrence) (m : MemberState M) → Lives p m → CanHappen (declared m.performing.hosted) m o → InRange o
-        → Lives (followed p step o) (member_step.stepped declared turn step o m).member
+        → Lives (followed p step o) (member_step.step_member declared turn step o m).member
     lives_on o m h can within =
         let s = step_rests declared turn first lawful step o m h.rested can within in
-        let n = (member_step.stepped declared turn step o m).member in
+        let n = (member_step.step_member declared turn step o m).member in
         record {
-          is = ap (λ (x : MemberState M). (member_step.stepped declared turn step o x).member) h.is;
+          is = ap (λ (x : MemberState M). (member_step.step_member declared turn step o x).member) h.is;
           may = (
             h.may,
             later,
@@ -116,16 +116,16 @@ module _ {M : Type 0} (declared : M → Signature) (turn : M → List ValueTree 
         }
 
     happened : (m : MemberState M) → Lives p m → (o : Option Occurrence) → MayHappenTo declared m o
-        → NodeLives (with_one p step o) (option_map_or (happens declared turn step m) o (refused (member m))).acting
+        → NodeLives (with_one p step o) (option_map_or (happens declared turn step m) o (refuse (member m))).acting
     happened m h None may = h
     happened m h (Some o) may = lives_on o m h may.0 may.1
 
-    heard : (from : ℕ) (dep : Deployment) (m : MemberState M) → Lives p m → (x : Heard Purpose) → MayHappenTo declared m (accepted dep (declared m.performing.hosted) m from x)
-        → NodeLives (with_one p step (accepted dep (declared m.performing.hosted) m from x)) (hears declared turn dep step from x (member m)).acting
+    heard : (from : ℕ) (dep : Deployment) (m : MemberState M) → Lives p m → (x : Heard Purpose) → MayHappenTo declared m (occurrence_of_heard dep (declared m.performing.hosted) m from x)
+        → NodeLives (with_one p step (occurrence_of_heard dep (declared m.performing.hosted) m from x)) (hears declared turn dep step from x (member m)).acting
     heard from dep m h Dropped may = h
     heard from dep m h Taken may = h
-    heard from dep m h (Called sender message) may = happened m h (accepted dep (declared m.performing.hosted) m from (Called sender message)) may
-    heard from dep m h (Returned call purpose message) may = happened m h (accepted dep (declared m.performing.hosted) m from (Returned call purpose message)) may
+    heard from dep m h (Called sender message) may = happened m h (occurrence_of_heard dep (declared m.performing.hosted) m from (Called sender message)) may
+    heard from dep m h (Returned call purpose message) may = happened m h (occurrence_of_heard dep (declared m.performing.hosted) m from (Returned call purpose message)) may
 
     pub node_lives_on : (event : Event) (n : NodeState M) → NodeLives p n.acting → MayHappen declared n.acting (happens_by declared event n)
         → NodeLives (with_one p step (happens_by declared event n)) (acting_by declared turn step event n)

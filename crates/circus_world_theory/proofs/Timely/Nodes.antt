@@ -19,7 +19,7 @@ use Rattle.circus_member_rules.specs.declared.occurrence.Occurrence.{Occurrence}
 use Rattle.circus_member_rules.specs.declared.occurrence.Occurrence.TheVariants as occurs
 use Rattle.circus_member_rules.specs.Happening.{IsHome}
 use Rattle.circus_member_rules.specs.MemberState.{MemberState}
-use Rattle.circus_node.specs.Accepting.{accepted, troupe_at}
+use Rattle.circus_node.specs.Accepting.{occurrence_of_heard, troupe_at}
 use Rattle.circus_node.specs.declared.event.Event.{Event}
 use Rattle.circus_node.specs.declared.event.Event.TheVariants as comes
 use Rattle.circus_node.specs.declared.event.Give.{Give}
@@ -54,10 +54,10 @@ module _ {M : Type 0} where
     pub gathers : AllGather n.wire → AllGather ended.0.wire
     pub keeps : Keeps n.wire ended.0.wire
 
-  pub concludes : (n : NodeState M) (gives : List Give) (m : Made M) (ended : NodeState M × Outputs) → node_step.concluded n gives m.came ≡ Ok ended → Concludes n ended
+  pub concludes : (n : NodeState M) (gives : List Give) (m : Made M) (ended : NodeState M × Outputs) → node_step.conclude_step n gives m.came ≡ Ok ended → Concludes n ended
   concludes n gives m ended is = by_sending (all_handed (sent n.wire gives) m.came.effects) refl is
     where
-      by_sending : (s : Sending) → all_handed (sent n.wire gives) m.came.effects ≡ s → node_step.ended n m.came s ≡ Ok ended → Concludes n ended
+      by_sending : (s : Sending) → all_handed (sent n.wire gives) m.came.effects ≡ s → node_step.end_step n m.came s ≡ Ok ended → Concludes n ended
       by_sending (sent w given) all ends =
           subst (λ (e : NodeState M × Outputs). Concludes n e) (same_ended _ ended ends)
           (record {
@@ -76,7 +76,7 @@ module _ {M : Type 0} (declared : M → Signature) (turn : M → List ValueTree 
     pub gathers : IsOfBytes event → AllGather n.wire → AllGather ended.0.wire
     pub keeps : Keeps (wire_behind event n) ended.0.wire
 
-  pub ends_by : (step : ℕ) (event : Event) (n : NodeState M) (ended : NodeState M × Outputs) → node_step.stepped declared turn step event n ≡ Ok ended → EndsBy step event n ended
+  pub ends_by : (step : ℕ) (event : Event) (n : NodeState M) (ended : NodeState M × Outputs) → node_step.step_node declared turn step event n ≡ Ok ended → EndsBy step event n ended
   ends_by step (comes.Datagram from bytes) n ended is =
       let m = hears declared turn n.deployment step from (heard_from n.wire from (reading bytes)) n.acting in
       let c = concludes (record n { wire = after_datagram n.wire from (reading bytes); acting = m.acting })
@@ -166,7 +166,7 @@ module _ {M : Type 0} (declared : M → Signature) (turn : M → List ValueTree 
     pub lives : IsAlive booted ended.0.acting
 
   pub has_begun : (ended : NodeState M × Outputs) → troupe_at d node ≡ Some number → slice_get d.troupes number ≡ Some troupe
-      → IsHome (declared own) (home_in d node number troupe).place (boot_views d.troupes) → booting.booted declared turn first d (Some own) node ≡ Ok ended → HasBegun ended
+      → IsHome (declared own) (home_in d node number troupe).place (boot_views d.troupes) → booting.boot_node declared turn first d (Some own) node ≡ Ok ended → HasBegun ended
   has_begun ended hosts there home is =
       let home_is = ap (option_and_then (λ n. option_map (home_in d node n) (slice_get d.troupes n))) hosts ∙ ap (option_map (home_in d node number)) there in
       let m = made_at_boot declared turn first d (home_of d node) (Some own) in
@@ -188,13 +188,13 @@ module _ {M : Type 0} (declared : M → Signature) (turn : M → List ValueTree 
 
   may_accept : (p : Past) (from : ℕ) (bytes : List ℕ) (n : NodeState M) (m : MemberState M) → AreOctets bytes → n.deployment ≡ d → AllGather n.wire
       → Lives declared turn first lawful d node number troupe own p m
-      → MayHappenTo declared m (accepted n.deployment (declared m.performing.hosted) m from (heard_from n.wire from (reading bytes)))
+      → MayHappenTo declared m (occurrence_of_heard n.deployment (declared m.performing.hosted) m from (heard_from n.wire from (reading bytes)))
   may_accept p from bytes n m octets same gathers l =
       let h = heard_from n.wire from (reading bytes) in
-      subst (λ (x : Deployment). MayHappenTo declared m (accepted x (declared m.performing.hosted) m from h)) (sym same)
-      (by_accepted (accepted d (declared m.performing.hosted) m from h) refl)
+      subst (λ (x : Deployment). MayHappenTo declared m (occurrence_of_heard x (declared m.performing.hosted) m from h)) (sym same)
+      (by_accepted (occurrence_of_heard d (declared m.performing.hosted) m from h) refl)
     where
-      by_accepted : (o : Option Occurrence) → accepted d (declared m.performing.hosted) m from (heard_from n.wire from (reading bytes)) ≡ o → MayHappenTo declared m o
+      by_accepted : (o : Option Occurrence) → occurrence_of_heard d (declared m.performing.hosted) m from (heard_from n.wire from (reading bytes)) ≡ o → MayHappenTo declared m o
       by_accepted None is = tt
       by_accepted (Some o) is =
           let h = heard_from n.wire from (reading bytes) in
@@ -212,7 +212,7 @@ module _ {M : Type 0} (declared : M → Signature) (turn : M → List ValueTree 
       by_acting e (ringmaster kept) o l = absurd l
 
   pub goes_on : (p : Past) (step : ℕ) (event : Event) (n : NodeState M) (ended : NodeState M × Outputs) → now p < step → IsOfBytes event → Goes p n
-      → node_step.stepped declared turn step event n ≡ Ok ended → Goes (with_one p step (happens_by declared event n)) ended.0
+      → node_step.step_node declared turn step event n ≡ Ok ended → Goes (with_one p step (happens_by declared event n)) ended.0
   goes_on p step event n ended later octets h is =
       let e = ends_by declared turn step event n ended is in
       record {

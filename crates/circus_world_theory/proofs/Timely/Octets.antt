@@ -12,8 +12,8 @@ use Rattle.circus_segment.specs.declared.fault.SegmentFault.{SegmentFault}
 use Rattle.circus_exchange.specs.declared.exchange.Exchange.{Exchange}
 use Rattle.circus_exchange.specs.declared.taken.Arrived.{Arrived}
 use Rattle.circus_exchange.specs.declared.taken.Arrived.TheVariants.{Nothing, ArrivedCall, ArrivedReturn}
-use Rattle.circus_exchange.specs.Inbox.{Arriving, part_of, is_new, count_with, completes, data_with, joined, with_part, parts_with, added}
-use Rattle.circus_exchange.specs.Exchange.{start, called, returned, takes, call_reached, return_reached, ended, return_added, after_taken, after, arrived_of_taken, arrived_after, ticked}
+use Rattle.circus_exchange.specs.Inbox.{Arriving, part_of, is_new, count_with, completes, data_with, data_up_to, with_part, parts_with, add_segment}
+use Rattle.circus_exchange.specs.Exchange.{start, send_call, send_return, takes, call_reached, return_reached, end_call, return_added, after_taken, after, arrived_of_taken, arrived_after, ticked}
 use Rattle.circus_pair.proofs.Taking.{by_segment, call_acknowledged_leaves, return_acknowledged_leaves, call_segment_leaves, return_segment_leaves}
 
 -- ---- messages that arrive in parts
@@ -58,8 +58,8 @@ less_parts parts call has q n found is = by_key (eq_by_cmp nat_cmp q call) (sym 
     by_key false e = has q n found e
 
 module _ (box : Arriving) (s : Piece) (octets : AreOctets s.part) (has : HasOctets box.parts) where
-  added_octets : HasOctets (added box s).parts
-  unfolding added parts_with
+  added_octets : HasOctets (add_segment box s).parts
+  unfolding add_segment parts_with
   added_octets = by_tests (is_new box s) (eqb (count_with box s) s.total)
     where
       by_tests : (new whole : Bool) → HasOctets (if new then (if whole then remove box.parts s.call else with_part box.parts s.call s.number s.part) else box.parts)
@@ -79,9 +79,9 @@ module _ (box : Arriving) (s : Piece) (octets : AreOctets s.part) (has : HasOcte
       by_test true = octets
       by_test false = by_part (part_of (get box.parts s.call) number) refl
 
-  joined_octets : (m : ℕ) → AreOctets (joined (data_with box s) m)
+  joined_octets : (m : ℕ) → AreOctets (data_up_to (data_with box s) m)
   joined_octets zero = none_octets
-  joined_octets (suc m) = both_octets (joined (data_with box s) m) (data_with box s (suc m)) (joined_octets m) (data_octets (suc m))
+  joined_octets (suc m) = both_octets (data_up_to (data_with box s) m) (data_with box s (suc m)) (joined_octets m) (data_octets (suc m))
 
 -- ---- a pair
 
@@ -98,12 +98,12 @@ same_gathers e f calls returns h = record {
 pub gathers_none : (number format : ℕ) → Gathers (start number format)
 gathers_none number format = record { calls = no_parts; returns = no_parts }
 
-pub gathers_called : (e : Exchange) (message : List ℕ) → Gathers e → Gathers (called e message)
-unfolding called
+pub gathers_called : (e : Exchange) (message : List ℕ) → Gathers e → Gathers (send_call e message)
+unfolding send_call
 gathers_called e message h = record { calls = h.calls; returns = h.returns }
 
-pub gathers_returned : (e : Exchange) (call : ℕ) (message : List ℕ) → Gathers e → Gathers (returned e call message)
-unfolding returned
+pub gathers_returned : (e : Exchange) (call : ℕ) (message : List ℕ) → Gathers e → Gathers (send_return e call message)
+unfolding send_return
 gathers_returned e call message h = record { calls = h.calls; returns = h.returns }
 
 pub gathers_ticked : (e : Exchange) → Gathers e → Gathers (ticked e)
@@ -118,16 +118,16 @@ ArrivedOctets (ArrivedReturn number message) = AreOctets message
 
 module _ (e : Exchange) (s : Piece) (octets : AreOctets s.part) (h : Gathers e) where
   gathers_taken : Gathers (after_taken e s)
-  unfolding call_reached return_reached return_added ended
+  unfolding call_reached return_reached return_added end_call
   gathers_taken =
       by_segment s _
       (λ ack call. let same = call_acknowledged_leaves e s ack call in same_gathers e _ same.arriving_calls same.arriving_returns h)
       (λ ack return_. let same = return_acknowledged_leaves e s ack return_ in same_gathers e _ same.arriving_calls same.arriving_returns h)
       (λ plain call. let same = call_segment_leaves e s plain call in
-      same_gathers (record e { arriving_calls = added e.arriving_calls s }) _ same.arriving_calls same.arriving_returns
+      same_gathers (record e { arriving_calls = add_segment e.arriving_calls s }) _ same.arriving_calls same.arriving_returns
       (record { calls = added_octets e.arriving_calls s octets h.calls; returns = h.returns }))
       (λ plain return_. let same = return_segment_leaves e s plain return_ in
-      same_gathers (record e { arriving_returns = added e.arriving_returns s }) _ same.arriving_calls same.arriving_returns
+      same_gathers (record e { arriving_returns = add_segment e.arriving_returns s }) _ same.arriving_calls same.arriving_returns
       (record { calls = h.calls; returns = added_octets e.arriving_returns s octets h.returns }))
 
   pub gathers_after : Gathers (after e s)
@@ -139,8 +139,8 @@ module _ (e : Exchange) (s : Piece) (octets : AreOctets s.part) (h : Gathers e) 
     where
       by_tests : (call one other : Bool) → ArrivedOctets (
           if call
-          then (if one then ArrivedCall s.call (joined (data_with e.arriving_calls s) s.total) else Nothing)
-          else (if other then ArrivedReturn s.call (joined (data_with e.arriving_returns s) s.total) else Nothing))
+          then (if one then ArrivedCall s.call (data_up_to (data_with e.arriving_calls s) s.total) else Nothing)
+          else (if other then ArrivedReturn s.call (data_up_to (data_with e.arriving_returns s) s.total) else Nothing))
       by_tests true true other = joined_octets e.arriving_calls s octets h.calls s.total
       by_tests true false other = tt
       by_tests false one true = joined_octets e.arriving_returns s octets h.returns s.total

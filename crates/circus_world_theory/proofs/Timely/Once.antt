@@ -11,8 +11,8 @@ use Rattle.circus_segment.specs.declared.fault.SegmentFault.TheVariants.{BadNumb
 use Rattle.circus_exchange.specs.declared.exchange.Exchange.{Exchange}
 use Rattle.circus_exchange.specs.declared.progress.Progress.{Progress}
 use Rattle.circus_exchange.specs.declared.taken.Arrived.TheVariants.{Nothing, ArrivedCall, ArrivedReturn}
-use Rattle.circus_exchange.specs.Inbox.{Arriving, front, known, fits, part_of, is_there, has, has_with, is_new, count_with, completes, data_with, joined, added}
-use Rattle.circus_exchange.specs.Exchange.{is_whole, called, returned, takes, call_reached, return_reached, ended, return_added, after_taken, after, arrived_of_taken, arrived_after, ticked}
+use Rattle.circus_exchange.specs.Inbox.{Arriving, front, progress_so_far, fits, part_of, is_there, has, has_with, is_new, count_with, completes, data_with, data_up_to, add_segment}
+use Rattle.circus_exchange.specs.Exchange.{is_whole, send_call, send_return, takes, call_reached, return_reached, end_call, return_added, after_taken, after, arrived_of_taken, arrived_after, ticked}
 use Rattle.circus_exchange.proofs.Ties.{equal, nat_ties}
 use Rattle.circus_pair.proofs.Taking.{by_segment, takes_call_segment, call_acknowledged_leaves, return_acknowledged_leaves, call_segment_leaves, return_segment_leaves}
 
@@ -51,17 +51,17 @@ and_false false = refl
 module _ (box : Arriving) (s : Piece) (within : s.number ≤ s.total) (fit : fits box s ≡ true) where
   record IsOld : Type 0 where
     pub not_new : is_new box s ≡ false
-    pub count : (known box s).count ≡ s.total
+    pub count : (progress_so_far box s).count ≡ s.total
 
   -- a message that is whole lacks nothing
   whole_is_old : is_whole (get box.progress s.call) ≡ true → IsOld
-  unfolding is_new has known fits
+  unfolding is_new has progress_so_far fits
   whole_is_old whole = by_known (get box.progress s.call) refl whole
     where
       by_known : (o : Option Progress) → get box.progress s.call ≡ o → is_whole o ≡ true → IsOld
       by_known None at is = absurd (false≢true is)
       by_known (Some p) at is =
-          let known_is : known box s ≡ p = ap (λ o. unwrap_or o (record { total = s.total; count = 0 })) at in
+          let known_is : progress_so_far box s ≡ p = ap (λ o. unwrap_or o (record { total = s.total; count = 0 })) at in
           let all : p.count ≡ p.total = eqb-true p.count p.total is in
           let total : p.total ≡ s.total = eqb-true p.total s.total (sym (ap (λ (q : Progress). eqb q.total s.total) known_is) ∙ fit) in
           let there : has box s s.number ≡ true =
@@ -82,29 +82,29 @@ module _ (box : Arriving) (s : Piece) (within : s.number ≤ s.total) (fit : fit
       by_test true is = absurd (false≢true (sym (ap (λ b. b && eqb (count_with box s) s.total) (whole_is_old is).not_new) ∙ done))
 
   -- what is behind a segment at the number of its call
-  here : (n : ℕ) → n ≡ s.call → is_whole (get (added box s).progress n) ≡ eqb (count_with box s) s.total
-  unfolding added
+  here : (n : ℕ) → n ≡ s.call → is_whole (get (add_segment box s).progress n) ≡ eqb (count_with box s) s.total
+  unfolding add_segment
   here n same =
       ap is_whole (get-insert nat_cmp_total box.progress s.call (record { total = s.total; count = count_with box s }) n)
       ∙ ap (λ b. is_whole (cond b (Some (record { total = s.total; count = count_with box s })) (get box.progress n))) (nat_ties n s.call ∙ ap (λ k. eqb k s.call) same ∙ equal s.call)
 
-  elsewhere : (n : ℕ) → eqb n s.call ≡ false → is_whole (get (added box s).progress n) ≡ is_whole (get box.progress n)
-  unfolding added
+  elsewhere : (n : ℕ) → eqb n s.call ≡ false → is_whole (get (add_segment box s).progress n) ≡ is_whole (get box.progress n)
+  unfolding add_segment
   elsewhere n other =
       ap is_whole (get-insert nat_cmp_total box.progress s.call (record { total = s.total; count = count_with box s }) n)
       ∙ ap (λ b. is_whole (cond b (Some (record { total = s.total; count = count_with box s })) (get box.progress n))) (nat_ties n s.call ∙ other)
 
-  is_whole_now : completes box s ≡ true → is_whole (get (added box s).progress s.call) ≡ true
+  is_whole_now : completes box s ≡ true → is_whole (get (add_segment box s).progress s.call) ≡ true
   unfolding completes
   is_whole_now done = here s.call refl ∙ (and_parts (is_new box s) (eqb (count_with box s) s.total) done).1
 
   -- what is whole stays so
-  added_whole : (n : ℕ) → is_whole (get box.progress n) ≡ true → is_whole (get (added box s).progress n) ≡ true
+  added_whole : (n : ℕ) → is_whole (get box.progress n) ≡ true → is_whole (get (add_segment box s).progress n) ≡ true
   unfolding count_with
   added_whole n whole = elim (eqb_tells n s.call) [
     | inl same ↦
         let old = whole_is_old (subst (λ k. is_whole (get box.progress k) ≡ true) same.1 whole) in
-        here n same.1 ∙ ap (λ b. eqb (if b then front (has_with box s) s.total else (known box s).count) s.total) old.not_new ∙ ap (λ k. eqb k s.total) old.count ∙ equal s.total
+        here n same.1 ∙ ap (λ b. eqb (if b then front (has_with box s) s.total else (progress_so_far box s).count) s.total) old.not_new ∙ ap (λ k. eqb k s.total) old.count ∙ equal s.total
     | inr other ↦ elsewhere n other.0 ∙ whole
   ]
 
@@ -114,12 +114,12 @@ module _ (box : Arriving) (s : Piece) (within : s.number ≤ s.total) (fit : fit
 abbrev pub has_call : Exchange → ℕ → Bool
 has_call e number = is_whole (get e.arriving_calls.progress number)
 
-pub called_has : (e : Exchange) (message : List ℕ) (n : ℕ) → has_call e n ≡ true → has_call (called e message) n ≡ true
-unfolding called
+pub called_has : (e : Exchange) (message : List ℕ) (n : ℕ) → has_call e n ≡ true → has_call (send_call e message) n ≡ true
+unfolding send_call
 called_has e message n is = is
 
-pub returned_has : (e : Exchange) (call : ℕ) (message : List ℕ) (n : ℕ) → has_call e n ≡ true → has_call (returned e call message) n ≡ true
-unfolding returned
+pub returned_has : (e : Exchange) (call : ℕ) (message : List ℕ) (n : ℕ) → has_call e n ≡ true → has_call (send_return e call message) n ≡ true
+unfolding send_return
 returned_has e call message n is = is
 
 pub ticked_has : (e : Exchange) (n : ℕ) → has_call e n ≡ true → has_call (ticked e) n ≡ true
@@ -128,7 +128,7 @@ ticked_has e n is = is
 
 module _ (e : Exchange) (s : Piece) (within : s.number ≤ s.total) where
   taken_has : takes e s ≡ true → (n : ℕ) → has_call e n ≡ true → has_call (after_taken e s) n ≡ true
-  unfolding call_reached return_reached return_added ended
+  unfolding call_reached return_reached return_added end_call
   taken_has takes_it n is =
       by_segment s _
       (λ ack call. let same = call_acknowledged_leaves e s ack call in ap (λ (box : Arriving). is_whole (get box.progress n)) same.arriving_calls ∙ is)
@@ -166,12 +166,12 @@ module _ (e : Exchange) (s : Piece) (within : s.number ≤ s.total) where
 
       by_kind : (call one other : Bool) → takes e s ≡ true → is_acknowledgement s ≡ false → eqb s.kind 0 ≡ call → completes e.arriving_calls s ≡ one
           → (if call
-          then (if one then ArrivedCall s.call (joined (data_with e.arriving_calls s) s.total) else Nothing)
-          else (if other then ArrivedReturn s.call (joined (data_with e.arriving_returns s) s.total) else Nothing)) ≡ ArrivedCall n message → IsFirst n
+          then (if one then ArrivedCall s.call (data_up_to (data_with e.arriving_calls s) s.total) else Nothing)
+          else (if other then ArrivedReturn s.call (data_up_to (data_with e.arriving_returns s) s.total) else Nothing)) ≡ ArrivedCall n message → IsFirst n
       by_kind true true other takes_it plain kind done a =
           let same : s.call ≡ n = cc in subst IsFirst same (call_arrives takes_it plain kind done)
       by_kind true false other takes_it plain kind done a = absurd (let clash : Nothing ≡ ArrivedCall n message = a in cc)
-      by_kind false one true takes_it plain kind done a = absurd (let clash : ArrivedReturn s.call (joined (data_with e.arriving_returns s) s.total) ≡ ArrivedCall n message = a in cc)
+      by_kind false one true takes_it plain kind done a = absurd (let clash : ArrivedReturn s.call (data_up_to (data_with e.arriving_returns s) s.total) ≡ ArrivedCall n message = a in cc)
       by_kind false one false takes_it plain kind done a = absurd (let clash : Nothing ≡ ArrivedCall n message = a in cc)
 
       by_taken : (t a : Bool) → takes e s ≡ t → is_acknowledgement s ≡ a → (if t && not a then arrived_of_taken e s else Nothing) ≡ ArrivedCall n message → IsFirst n

@@ -16,7 +16,7 @@ use Rattle.circus_schedule.specs.declared.line.Line.{Line}
 use Rattle.circus_alike.specs.Alike.{declared_of, turn_of, acting_as, node_as}
 use Rattle.circus_world.specs.WorldState.{WorldState, Standing}
 use Rattle.circus_world.specs.Alike.{standing_as, world_as, step_as}
-use Rattle.circus_world.specs.Course.{Stepped, stepped}
+use Rattle.circus_world.specs.Course.{Stepped, step_line}
 use Rattle.circus_world.proofs.WorldsAlike.{world_stepped_as}
 use Rattle.circus_talks.specs.Histories.{comes_by}
 use Rattle.circus_timely.specs.Past.{Past}
@@ -68,9 +68,9 @@ module _ {M : Type 0} (declared : M → Signature) (turn : M → List ValueTree 
     pub pasts_as : (p : Past) (lines : List Line) (w : WorldState M) → with_lines declared_of turn_of node p lines (seen w) ≡ with_lines declared turn node p lines w
     pasts_as p [] w = refl
     pasts_as p (line ∷ lines) w =
-        ap (λ q. with_others (with_lines declared_of turn_of node q lines) p (stepped declared_of turn_of line (seen w))) (line_as p line w)
+        ap (λ q. with_others (with_lines declared_of turn_of node q lines) p (step_line declared_of turn_of line (seen w))) (line_as p line w)
         ∙ ap (with_others (with_lines declared_of turn_of node (with_line declared node p line w) lines) p) (sym (world_stepped_as declared turn first line w))
-        ∙ of_step (λ next. pasts_as (with_line declared node p line w) lines next) (stepped declared turn line w)
+        ∙ of_step (λ next. pasts_as (with_line declared node p line w) lines next) (step_line declared turn line w)
       where
         of_step : ((next : WorldState M) → with_lines declared_of turn_of node (with_line declared node p line w) lines (seen next)
             ≡ with_lines declared turn node (with_line declared node p line w) lines next)

@@ -29,7 +29,7 @@ use Rattle.circus_member_rules.specs.declared.occurrence.Occurrence.TheVariants 
 use Rattle.circus_member_rules.specs.declared.occurrence.Purpose.TheVariants as for
 use Rattle.circus_member_rules.specs.declared.occurrence.Purpose.{Purpose}
 use Rattle.circus_member_rules.specs.MemberState.{MemberState}
-use Rattle.circus_node.specs.Accepting.{taken_call, accepted_call, taken_reply, taken_answer, accepted_answer, accepted}
+use Rattle.circus_node.specs.Accepting.{taken_call, accepted_call, taken_reply, taken_answer, accepted_answer, occurrence_of_heard}
 use Rattle.circus_node.specs.Bodies.{found_whole, counted_state, restored_in}
 use Rattle.circus_node.specs.Headers.{call_in, return_in}
 use Rattle.circus_member_theory.specs.Ranges.{InRange}
@@ -89,7 +89,7 @@ module _ {M : Type 0} (d : Deployment) (declared : Signature) (m : MemberState M
       by_header (says.Snapshot count) at e = cc
       by_header says.Table at e = cc
 
-  pub accepted_range : (from : ℕ) (heard : Heard Purpose) (o : Occurrence) → AreHeardOctets heard → accepted d declared m from heard ≡ Some o → InRange o
+  pub accepted_range : (from : ℕ) (heard : Heard Purpose) (o : Occurrence) → AreHeardOctets heard → occurrence_of_heard d declared m from heard ≡ Some o → InRange o
   accepted_range from Dropped o octets is = cc
   accepted_range from Taken o octets is = cc
   accepted_range from (Called sender message) o octets is = call_range sender message o is

@@ -12,14 +12,14 @@ use Rattle.circus_exchange.specs.Exchange.{takes, arrived_after, ticked}
 use Rattle.circus_exchange.specs.declared.taken.Arrived.{Arrived}
 use Rattle.circus_exchange.specs.declared.taken.Arrived.TheVariants.{Nothing, ArrivedCall, ArrivedReturn}
 use Rattle.circus_wire.specs.declared.delivery.Heard.TheVariants.{Dropped}
-use Rattle.circus_wire.specs.Wire.{WireState, PeerState, fresh_peer, peer_called, peer_answered, peer_heard, peer_ticked, peer_stopped, told, told_return, heard_by, place_of, changed_at, of_peer, peer_at, changed, is_up, is_awaited, next_number, called_to, sent_by_call, sent_by_answer, after_datagram, heard_from, all_ticked, stopped_at}
+use Rattle.circus_wire.specs.Wire.{WireState, PeerState, fresh_peer, peer_called, peer_answered, peer_heard, peer_ticked, peer_stopped, hear_arrival, told_return, heard_by, place_of, changed_at, of_peer, peer_at, change_peer, is_up, is_awaited, next_number, called_to, sent_by_call, sent_by_answer, after_datagram, heard_from, all_ticked, stopped_at}
 use Rattle.circus_member_rules.specs.declared.occurrence.Purpose.{Purpose}
 use Rattle.circus_member_rules.specs.declared.occurrence.Purpose.TheVariants as for
 use Rattle.circus_member_rules.specs.declared.occurrence.Effect.{Effect}
 use Rattle.circus_member_rules.specs.declared.occurrence.Effect.TheVariants as made
 use Rattle.circus_node.specs.declared.event.Give.{Give}
 use Rattle.circus_node.specs.Booting.{fresh_wire}
-use Rattle.circus_node.specs.Sending.{Sending, sent, spent, gives_of, is_sendable, handed, next_handed, all_handed}
+use Rattle.circus_node.specs.Sending.{Sending, sent, spent, gives_of, is_sendable, hand_over, next_handed, all_handed}
 use Rattle.circus_member_theory.proofs.Accepting.Can.{AreHeardOctets}
 use Rattle.circus_world_theory.proofs.Timely.Octets.{Gathers, gathers_none, gathers_called, gathers_returned, gathers_ticked, gathers_after, ArrivedOctets, arrived_octets, reading_octets}
 
@@ -57,7 +57,7 @@ pub fresh_gathers : (d : Deployment) (node : ℕ) → AllGather (fresh_wire d no
 fresh_gathers d node = all_same PeerGathers _ (fresh_peer 0 d.format) (gathers_none 0 d.format)
 
 changed_gathers : (f : PeerState Purpose → PeerState Purpose) → ((p : PeerState Purpose) → PeerGathers p → PeerGathers (f p)) → (w : WireState Purpose) (node : ℕ) → AllGather w
-    → AllGather (changed f w node)
+    → AllGather (change_peer f w node)
 changed_gathers f keeps w node all = all_changed PeerGathers f keeps w.peers (place_of w.own node) all
 
 ticked_peer : (p : PeerState Purpose) → PeerGathers p → PeerGathers (peer_ticked p)
@@ -86,7 +86,7 @@ abbrev pub SendingGathers : Sending → Type 0
 SendingGathers (sent w gives) = AllGather w
 SendingGathers (spent node) = Unit {0}
 
-handed_gathers : (w : WireState Purpose) (gives : List Give) (e : Effect) → AllGather w → SendingGathers (handed w gives e)
+handed_gathers : (w : WireState Purpose) (gives : List Give) (e : Effect) → AllGather w → SendingGathers (hand_over w gives e)
 handed_gathers w gives (made.Call to message purpose) all = by_tests (is_up w to && is_sendable w.format message) (next_number w to == never_used)
   where
     by_tests : (goes none : Bool) → SendingGathers (
@@ -100,7 +100,7 @@ handed_gathers w gives (made.Answer caller message) all = by_test (is_sendable w
   where
     by_test : (goes awaited : Bool) → SendingGathers (
         if goes
-        then sent (if awaited then changed (λ p. peer_answered p caller.number message) w caller.node else w) (gives ++ gives_of (sent_by_answer w caller message))
+        then sent (if awaited then change_peer (λ p. peer_answered p caller.number message) w caller.node else w) (gives ++ gives_of (sent_by_answer w caller message))
         else sent w gives)
     by_test true true = changed_gathers (λ p. peer_answered p caller.number message) (λ p g. gathers_returned p.exchange caller.number message g) w caller.node all
     by_test true false = all
@@ -122,7 +122,7 @@ return_heard number message (Some (for.Ask name server)) octets = octets
 return_heard number message (Some (for.Ring request)) octets = tt
 return_heard number message (Some for.Fetch) octets = octets
 
-told_octets : (purposes : ℕ → Option Purpose) (from : ℕ) (a : Arrived) → ArrivedOctets a → AreHeardOctets (told purposes from a)
+told_octets : (purposes : ℕ → Option Purpose) (from : ℕ) (a : Arrived) → ArrivedOctets a → AreHeardOctets (hear_arrival purposes from a)
 told_octets purposes from Nothing is = tt
 told_octets purposes from (ArrivedCall number message) is = is
 told_octets purposes from (ArrivedReturn number message) is = return_heard number message (purposes number) is
@@ -139,7 +139,7 @@ pub heard_octets : (w : WireState Purpose) (from : ℕ) (bytes : List ℕ) → A
 heard_octets w from bytes octets all = by_segment (reading bytes) refl
   where
     by_taken : (s : Piece) (p : PeerState Purpose) → AreOctets s.part → PeerGathers p → (b : Bool)
-        → AreHeardOctets (if b then told (get p.purposes) from (arrived_after p.exchange s) else Dropped)
+        → AreHeardOctets (if b then hear_arrival (get p.purposes) from (arrived_after p.exchange s) else Dropped)
     by_taken s p part is true = told_octets (get p.purposes) from (arrived_after p.exchange s) (arrived_octets p.exchange s part is)
     by_taken s p part is false = tt
 

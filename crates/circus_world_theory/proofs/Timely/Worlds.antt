@@ -74,7 +74,7 @@ module _ {M : Type 0} (declared : M → Signature) (turn : M → List ValueTree 
               let home = at_home declared turn first lawful d node number troupe own is_at there world.deployment
               (of_troupe d modules node number own world.troupes (world.hosts.each node (Some own) hosts_it) is_at) in
               (has_begun declared turn first lawful d node number troupe own (s.node, b.outputs) is_at there home
-              (subst (λ (o : Option M). booting.booted declared turn first d o node ≡ Ok (s.node, b.outputs)) same b.booted_is)).lives
+              (subst (λ (o : Option M). booting.boot_node declared turn first d o node ≡ Ok (s.node, b.outputs)) same b.booted_is)).lives
 
       pub lives_so : Lives last
       lives_so =

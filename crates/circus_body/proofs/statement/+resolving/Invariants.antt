@@ -28,8 +28,8 @@ invariant-handlers_of-loop-place l =
 abbrev pub decreases-resolve_statements : goal.decreases-resolve_statements
 decreases-resolve_statements l = 8 * list_weight (statement_trees l.statements.now)
 
-abbrev pub decreases-resolved : goal.decreases-resolved
-decreases-resolved l = 8 * weight (tree_of l.statement.now)
+abbrev pub decreases-resolve_statement : goal.decreases-resolve_statement
+decreases-resolve_statement l = 8 * weight (tree_of l.statement.now)
 
 abbrev pub decreases-only_then : goal.decreases-only_then
 decreases-only_then l = 8 * list_weight (statement_trees l.statements.now) + 3
@@ -37,14 +37,14 @@ decreases-only_then l = 8 * list_weight (statement_trees l.statements.now) + 3
 abbrev pub decreases-then_else : goal.decreases-then_else
 decreases-then_else l = 8 * list_weight (statement_trees l.statements.now) + 8 * list_weight (statement_trees l.others.now) + 3
 
-abbrev pub decreases-repeated : goal.decreases-repeated
-decreases-repeated l = 8 * list_weight (statement_trees l.statements.now) + 3
+abbrev pub decreases-resolve_while : goal.decreases-resolve_while
+decreases-resolve_while l = 8 * list_weight (statement_trees l.statements.now) + 3
 
-abbrev pub decreases-asked : goal.decreases-asked
-decreases-asked l = 8 * handlers_weight (handler_trees l.call.now.handlers) + 3
+abbrev pub decreases-resolve_call : goal.decreases-resolve_call
+decreases-resolve_call l = 8 * handlers_weight (handler_trees l.call.now.handlers) + 3
 
 abbrev pub decreases-handlers_of : goal.decreases-handlers_of
 decreases-handlers_of l = 8 * handlers_weight (handler_trees l.handlers.now)
 
-abbrev pub decreases-handled : goal.decreases-handled
-decreases-handled l = 8 * list_weight (statement_trees l.handler.now.statements) + 3
+abbrev pub decreases-resolve_handler : goal.decreases-resolve_handler
+decreases-resolve_handler l = 8 * list_weight (statement_trees l.handler.now.statements) + 3

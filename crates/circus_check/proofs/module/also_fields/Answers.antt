@@ -11,5 +11,5 @@ loop-field-preserved c =
     let fs = c.as_slice-field-items.result.now in
     let old = c.loop-field in
     let left = drop_more fs old.field-index c.field-item.result c.loop-field-test.true c.field-item.is in
-    ap (also_fields (field_trees (map field_of (drop (old.field-index + 1) fs)))) c.in_ok-also.ensures
+    ap (also_fields (field_trees (map field_of (drop (old.field-index + 1) fs)))) c.in_ok-add_name.ensures
     ∙ ap (λ gs. also_fields (field_trees (map field_of gs)) (holds_name old.names)) (sym left) ∙ old.invariant

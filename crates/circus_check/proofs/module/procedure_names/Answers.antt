@@ -14,6 +14,6 @@ loop-procedure-preserved c = λ name.
     let p = c.procedure-item.result in
     let rest = has_procedure (map procedure_of (drop (old.procedure-index + 1) ps)) name in
     let left = drop_more ps old.procedure-index p c.loop-procedure-test.true c.procedure-item.is in
-    ap (λ (f : List ℕ → Bool). f name || rest) c.in_ok-also.ensures
+    ap (λ (f : List ℕ → Bool). f name || rest) c.in_ok-add_name.ensures
     ∙ or_swap (bytes_eq p.name.name name) (holds_name old.names name) rest
     ∙ ap (λ qs. holds_name old.names name || has_procedure (map procedure_of qs) name) (sym left) ∙ old.invariant name

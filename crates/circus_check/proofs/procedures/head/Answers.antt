@@ -16,7 +16,7 @@ use Rattle.circus_body.specs.declared.context.Offered.{Offered as Procedure}
 use Rattle.circus_body.specs.Context.{Offered}
 use Rattle.circus_body.specs.Seen.Named.{known_offer}
 use Rattle.circus_lang.specs.ModuleTree.{module_of, procedure_of, variable_of}
-use Rattle.circus_check.specs.Faults.{variables_faults, variables_parts, also_fields, also_variables, arguments_of, offered, unknown, forms}
+use Rattle.circus_check.specs.Faults.{variables_faults, variables_parts, also_fields, also_variables, arguments_of, offer_of, unknown_place, forms}
 use Rattle.circus_check.specs.Scope.{offered_here, implemented_by}
 use Rattle.circus_check.specs.Seen.Programs.{modules_in, interfaces_in}
 use Rattle.circus_check.specs.Seen.Scoped.{unknown_in, form_in, size_in}
@@ -39,8 +39,8 @@ returns-clause-found c = λ before full.
     let p = procedure_of c.args.procedure.now in
     let name = p.name in
     let best = c.args.best.now.fault in
-    let off = offered interfaces modules own.number m p in
-    let offers : known_offer c.offered-offers.result ≡ off = c.offered-offers.ensures ∙ ap (offered_here (implemented_by interfaces own.text.now.interface)) c.as_slice.ensures in
+    let off = offer_of interfaces modules own.number m p in
+    let offers : known_offer c.offer_named-offers.result ≡ off = c.offer_named-offers.ensures ∙ ap (offered_here (implemented_by interfaces own.text.now.interface)) c.as_slice.ensures in
     let outer = also_variables (map variable_of own.text.now.variables) no_name in
     let arguments = arguments_of off in
     let names : either (holds_name c.args.so_far.now.state) (holds_name c.in_ok-names.names) ≡ also_fields arguments outer =
@@ -51,7 +51,7 @@ returns-clause-found c = λ before full.
     let none = faults_if (is_none off) name.at Unknown in
     let repeated = repeated_name of_type (holds_name c.args.so_far.now.procedures) name in
     let unfinished = faults_if (not (all_end (statement_trees c.args.procedure.now.statements))) name.at Unfinished in
-    let list = variables_faults written_out (unknown interfaces modules own.number m) (forms interfaces modules own.number m) before earlier vs in
+    let list = variables_faults written_out (unknown_place interfaces modules own.number m) (forms interfaces modules own.number m) before earlier vs in
     let is_list : variables_faults cut_off (unknown_in own.types) (size_in own.types) c.args.parts.now (either (holds_name c.args.so_far.now.state) (holds_name c.in_ok-names.names)) (map variable_of c.as_slice-list.result.now) ≡ list =
     (λ i. variables_faults cut_off (unknown_in own.types) (sizes_are program own c.requires.own i) (full i) (names i) (map variable_of (c.as_slice-list.ensures i)))
     ∙ variables_cut (unknown_in own.types) (form_in own.types) before earlier vs
@@ -59,7 +59,7 @@ returns-clause-found c = λ before full.
     least_then rank best c.note-2.new.self.fault c.variables.new.best.fault (none ++ repeated ++ unfinished) list
     (least_then rank best c.meet_name.new.best.fault c.note-2.new.self.fault (none ++ repeated) unfinished
     (least_then rank best c.note.new.self.fault c.meet_name.new.best.fault none repeated
-    (c.note.ensures ∙ ap (λ b. least_from rank best (faults_if b name.at Unknown)) (none_result c.is_none.result c.offered-offers.result c.is_none.ensures ∙ none_offer c.offered-offers.result off offers)) c.in_ok-meet_name.ensures.found)
+    (c.note.ensures ∙ ap (λ b. least_from rank best (faults_if b name.at Unknown)) (none_result c.is_none.result c.offer_named-offers.result c.is_none.ensures ∙ none_offer c.offer_named-offers.result off offers)) c.in_ok-meet_name.ensures.found)
     (c.note-2.ensures ∙ ap (λ b. least_from rank c.meet_name.new.best.fault (faults_if (not b) name.at Unfinished)) c.all_end.ensures))
     (c.in_ok-variables.ensures.found ∙ ap (least_from rank c.note-2.new.self.fault) is_list)
 

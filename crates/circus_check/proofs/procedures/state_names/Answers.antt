@@ -11,7 +11,7 @@ loop-variable-preserved c =
     let vs = c.args.state.now in
     let old = c.loop-variable in
     let left = drop_more vs old.variable-index c.variable-item.result c.loop-variable-test.true c.variable-item.is in
-    ap (also_variables (map variable_of (drop (old.variable-index + 1) vs))) c.in_ok-also.ensures
+    ap (also_variables (map variable_of (drop (old.variable-index + 1) vs))) c.in_ok-add_name.ensures
     ∙ ap (λ ws. also_variables (map variable_of ws) (holds_name old.names)) (sym left) ∙ old.invariant
 
 pub loop-variable-init : goal.loop-variable-init

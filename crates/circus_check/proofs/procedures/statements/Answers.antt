@@ -12,9 +12,9 @@ use Rattle.circus_check.proofs.procedures.statements.Goals as goal
 pub returns-clause-found : goal.returns-clause-found
 returns-clause-found c =
     let same = context_are c.in_ok-scope.scope c.args.around.now c.args.own.now (field_trees c.args.locals.now) c.in_ok-scope.ensures.variables c.in_ok-scope.ensures.outer in
-    on_ok_weaker c.resolved.result (λ found. found ∙ ap (λ names. least_from rank c.args.best.now.fault (all_faults names (statement_trees c.args.procedure.now.statements))) same) c.resolved.ensures.found
+    on_ok_weaker c.resolve_procedure.result (λ found. found ∙ ap (λ names. least_from rank c.args.best.now.fault (all_faults names (statement_trees c.args.procedure.now.statements))) same) c.resolve_procedure.ensures.found
 
 pub returns-clause-meant : goal.returns-clause-meant
 returns-clause-meant c =
     let same = context_are c.in_ok-scope.scope c.args.around.now c.args.own.now (field_trees c.args.locals.now) c.in_ok-scope.ensures.variables c.in_ok-scope.ensures.outer in
-    IfOk-weaker c.resolved.result _ _ (λ made is. is ∙ ap (λ names. all_do names (statement_trees c.args.procedure.now.statements)) same) c.resolved.ensures.meant
+    IfOk-weaker c.resolve_procedure.result _ _ (λ made is. is ∙ ap (λ names. all_do names (statement_trees c.args.procedure.now.statements)) same) c.resolve_procedure.ensures.meant

@@ -26,8 +26,8 @@ loop-variable-preserved c =
     let left = drop_more c.args.list.now old.variable-index v c.loop-variable-test.true c.variable-item.is in
     let unknown = unknown_in c.args.scope.now in
     let outer = holds_name c.args.outer.now in
-    plain_step unknown outer (holds_name old.names) (holds_name c.meet.new.names) (variable_of v) rest old.own.fault c.meet.new.best.fault c.inside.new.best.fault _
-    c.in_ok-meet.ensures.found c.in_ok-meet.ensures.added c.in_ok-inside.ensures
+    plain_step unknown outer (holds_name old.names) (holds_name c.meet.new.names) (variable_of v) rest old.own.fault c.meet.new.best.fault c.check_inside.new.best.fault _
+    c.in_ok-meet.ensures.found c.in_ok-meet.ensures.added c.in_ok-check_inside.ensures
     (ap (λ vs. least_from rank old.own.fault (plain_faults unknown (either outer (holds_name old.names)) (map variable_of vs))) (sym left) ∙ old.invariant)
 
 -- no variable is left

@@ -33,8 +33,8 @@ returns-in-Ok-clause-err c =
     let d = c.args.text.deployment in
     let fault = c.in-Err-deployed.fault in
     let answers = subst (λ l. DeploymentAnswers c.args.interfaces (map module_of l) end d c.args.bytes.now fault) c.as_slice-2.ensures c.in-Err-deployed.ensures.err in
-    inr (second_given c.args.interfaces (map module_of c.args.text.modules) end d c.args.bytes.now fault (fault_of c.in_ok-of_deployment-in-Err-deployed.field-0) c.refused.result
-    c.in_ok-of_deployment-in-Err-deployed.ensures c.in-Ok.ensures.faultless answers c.refused.ensures)
+    inr (second_given c.args.interfaces (map module_of c.args.text.modules) end d c.args.bytes.now fault (fault_of c.in_ok-of_deployment-in-Err-deployed.field-0) c.refusal_of.result
+    c.in_ok-of_deployment-in-Err-deployed.ensures c.in-Ok.ensures.faultless answers c.refusal_of.ensures)
 
 pub returns-in-Ok-deployed-2-clause-err : goal.returns-in-Ok-deployed-2-clause-err
 returns-in-Ok-deployed-2-clause-err c =
@@ -45,7 +45,7 @@ returns-in-Ok-deployed-2-clause-err c =
     let names = c.in_ok-names.ensures ∙ ap (λ l. module_names (map module_of l)) c.as_slice.ensures in
     let told = subst (λ ns. modules_answer ns fault ≡ Some found) names c.in_ok-found-in-Err.ensures in
     let clean = subst (λ l. deployment_faults (map module_of l) end d ≡ []) c.as_slice-2.ensures c.in-Ok-deployed-2.ensures.faultless in
-    inr (first_given c.args.interfaces (map module_of c.args.text.modules) end d c.args.bytes.now fault found c.refused-in-Ok-deployed-2.result told c.in-Err.ensures.err clean c.refused-in-Ok-deployed-2.ensures)
+    inr (first_given c.args.interfaces (map module_of c.args.text.modules) end d c.args.bytes.now fault found c.refusal_of-in-Ok-deployed-2.result told c.in-Err.ensures.err clean c.refusal_of-in-Ok-deployed-2.ensures)
 
 pub returns-clause-err : goal.returns-clause-err
 returns-clause-err c =
@@ -58,5 +58,5 @@ returns-clause-err c =
     let names = c.in_ok-names.ensures ∙ ap (λ l. module_names (map module_of l)) c.as_slice.ensures in
     let told = subst (λ ns. modules_answer ns fault ≡ Some found) names c.in_ok-found-in-Err.ensures in
     let answers = subst (λ l. DeploymentAnswers c.args.interfaces (map module_of l) end d c.args.bytes.now other) c.as_slice-2.ensures c.in-Err-deployed-2.ensures.err in
-    inr (both_given c.args.interfaces (map module_of c.args.text.modules) end d c.args.bytes.now fault other found also (fault_of c.lesser.result) c.refused-in-Err-deployed-2.result
-    told c.in-Err.ensures.err c.in_ok-of_deployment-in-Err-deployed-2.ensures answers c.lesser.ensures c.refused-in-Err-deployed-2.ensures)
+    inr (both_given c.args.interfaces (map module_of c.args.text.modules) end d c.args.bytes.now fault other found also (fault_of c.lesser_of.result) c.refusal_of-in-Err-deployed-2.result
+    told c.in-Err.ensures.err c.in_ok-of_deployment-in-Err-deployed-2.ensures answers c.lesser_of.ensures c.refusal_of-in-Err-deployed-2.ensures)

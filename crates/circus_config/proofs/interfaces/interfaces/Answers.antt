@@ -4,7 +4,7 @@ use Rattle.std.proofs.lemmas.List.{drop_more, take_more, map-append}
 use Rattle.circus_syntax.specs.InterfaceTree.{interface_of}
 use Rattle.circus_fault.specs.Least.{least_from}
 use Rattle.circus_fault.specs.Stopping.{stop_faults}
-use Rattle.circus_fault.specs.Known.{also, nobody}
+use Rattle.circus_fault.specs.Known.{add_name, nobody}
 use Rattle.circus_fault.specs.Seen.Tables.{known_of}
 use Rattle.circus_fault.proofs.LeastMore.{least_step, least_then, least_more}
 use Rattle.circus_idl.specs.Faults.{cut_of, interface_faults}
@@ -13,7 +13,7 @@ use Rattle.circus_config.specs.Rank.{rank_of}
 use Rattle.circus_config.specs.Told.{interface_told}
 use Rattle.circus_config.specs.Reading.{name_faults, interfaces_faults}
 use Rattle.circus_config.specs.Program.{EachMeans}
-use Rattle.circus_config.specs.Seen.{kept}
+use Rattle.circus_config.specs.Seen.{least_fault}
 use Rattle.circus_config.proofs.Stopped.{stop_stays, stop_found}
 use Rattle.circus_config.proofs.Rules.{rules_found, made_more}
 use Rattle.circus_config.proofs.interfaces.interfaces.Goals as goal
@@ -30,7 +30,7 @@ loop-number-init c =
     let first = c.of_stop-least.result in
     record {
       found =
-          ap (λ k. least_from rank_of (kept first) (interfaces_faults (cut_of stop) k 0 trees)) c.new-names.ensures
+          ap (λ k. least_from rank_of (least_fault first) (interfaces_faults (cut_of stop) k 0 trees)) c.new-names.ensures
           ∙ ap (λ b. least_from rank_of b (interfaces_faults (cut_of stop) nobody 0 trees)) c.of_stop-least.ensures
           ∙ sym (least_more rank_of None (stop_faults Syntax Deep stop) (interfaces_faults (cut_of stop) nobody 0 trees));
       stopped = ap (λ b. least_from rank_of b (stop_faults Syntax Deep stop)) c.of_stop-least.ensures ∙ stop_found rank_of Syntax Deep stop ∙ sym c.of_stop-least.ensures;
@@ -44,9 +44,9 @@ loop-number-preserved c =
     let tree = interface_of t in
     let stop = c.args.stop.now in
     let known = known_of c.loop-number.names in
-    let old = kept c.loop-number.least in
-    let mid = kept c.name.new.least in
-    let new = kept c.rules.new.least in
+    let old = least_fault c.loop-number.least in
+    let mid = least_fault c.name.new.least in
+    let new = least_fault c.rules.new.least in
     let names = name_faults known n tree in
     let rules = map interface_told (interface_faults (cut_of stop) tree) in
     let texts = c.args.texts.now in
@@ -58,7 +58,7 @@ loop-number-preserved c =
     record {
       found =
           ap (λ k. least_from rank_of new (interfaces_faults (cut_of stop) k (n + 1) later)) c.in_ok-name.ensures.added
-          ∙ least_step rank_of new old _ (names ++ rules) (interfaces_faults (cut_of stop) (also t.name.name n known) (n + 1) later) (least_then rank_of old mid new names rules c.in_ok-name.ensures.found new_is)
+          ∙ least_step rank_of new old _ (names ++ rules) (interfaces_faults (cut_of stop) (add_name t.name.name n known) (n + 1) later) (least_then rank_of old mid new names rules c.in_ok-name.ensures.found new_is)
           (ap (λ ts. least_from rank_of old (interfaces_faults (cut_of stop) known n (map interface_of ts))) (sym left) ∙ c.loop-number.invariant.found);
       stopped = ap (λ b. least_from rank_of b (stop_faults Syntax Deep stop)) new_is ∙ stop_stays rank_of Syntax Deep stop mid rules mid_stopped ∙ sym new_is;
       means =

@@ -6,13 +6,13 @@ use Rattle.circus_expression.specs.Standing.{shown}
 use Rattle.circus_file.specs.ProgramTree.{program_of, program_stands_for}
 use Rattle.circus_file.specs.ProgramReading.{program}
 use Rattle.circus_config.specs.Reading.{read_faults}
-use Rattle.circus_config.specs.Program.{placed}
+use Rattle.circus_config.specs.Program.{placed_tokens}
 use Rattle.circus_config.specs.Seen.{fault_of}
 use Rattle.circus_config.proofs.ReadIs.{IsClean, IsGood, clean_read, least_read, misread, answered, good, ok_program, err_program}
 use Rattle.circus_config.proofs.read.read_tokens.Goals as goal
 
 -- the reader has gone over the text, and no fault is kept
-is_read : (c : goal.In-None) → shown program_stands_for (program most_levels (open_at (placed c.args.bytes.now c.args.found.now) (length c.args.bytes.now))) ≡ (program_of c.in_ok-text.text, c.program.new.reader)
+is_read : (c : goal.In-None) → shown program_stands_for (program most_levels (open_at (placed_tokens c.args.bytes.now c.args.found.now) (length c.args.bytes.now))) ≡ (program_of c.in_ok-text.text, c.program.new.reader)
 is_read c = ap (λ r. shown program_stands_for (program most_levels r)) (sym c.new-reader.ensures) ∙ c.in_ok-text.ensures
 
 is_clean : (c : goal.In-None) → IsClean c.program.new.reader.stop (program_of c.in_ok-text.text) c.in_ok-least.made
@@ -41,8 +41,8 @@ returns-in-Some-clause-err c =
     let s = c.program.new.reader in
     let is = ap (λ r. shown program_stands_for (program most_levels r)) (sym c.new-reader.ensures) ∙ c.in_ok-text.ensures in
     let least = least_read s.stop c.stop.result tree (map interface_of c.as_slice.result.now) c.in_ok-least.least c.in-Some.fault c.stop.ensures (ap (map interface_of) c.as_slice.ensures) c.in-Some.is c.in_ok-least.ensures.found in
-    inr (misread c.args.bytes.now c.args.found.now tree s c.requires.each is c.refused.result c.requires.short c.requires.tokens
-    (answered c.args.bytes.now (read_faults s.stop tree.interfaces) (fault_of c.in-Some.fault) c.refused.result least c.refused.ensures))
+    inr (misread c.args.bytes.now c.args.found.now tree s c.requires.each is c.refusal_of.result c.requires.short c.requires.tokens
+    (answered c.args.bytes.now (read_faults s.stop tree.interfaces) (fault_of c.in-Some.fault) c.refusal_of.result least c.refusal_of.ensures))
 
 pub returns-in-None-clause-ok : goal.returns-in-None-clause-ok
 returns-in-None-clause-ok c =

@@ -1,7 +1,7 @@
 use Rattle.std.proofs.Common.{◌≡◌, ◌+◌, ◌∷◌, drop, sym, ◌∙◌, ap}
 use Rattle.std.proofs.lemmas.List.{drop_more}
 use Rattle.circus_fault.specs.Least.{least_from}
-use Rattle.circus_fault.specs.Known.{also, numbers_behind}
+use Rattle.circus_fault.specs.Known.{add_name, numbers_behind}
 use Rattle.circus_fault.specs.Seen.Tables.{known_of}
 use Rattle.circus_fault.proofs.LeastMore.{least_step}
 use Rattle.circus_troupe.specs.declared.deployment_text.TroupeText.{TroupeText}
@@ -23,7 +23,7 @@ loop-number-preserved c =
     record {
       found =
           ap (λ k. least_from rank_of new (troupes_faults modules k (n + 1) rest)) c.in_ok-troupe.ensures.added
-          ∙ least_step rank_of new best _ (troupe_faults modules known t) (troupes_faults modules (also t.name.name n known) (n + 1) rest) c.in_ok-troupe.ensures.found
+          ∙ least_step rank_of new best _ (troupe_faults modules known t) (troupes_faults modules (add_name t.name.name n known) (n + 1) rest) c.in_ok-troupe.ensures.found
           (ap (λ ts. least_from rank_of best (troupes_faults modules known n ts)) (sym left) ∙ c.loop-number.invariant.found);
       numbered =
           ap (λ k. numbers_behind (λ (x : TroupeText). x.name.name) k (n + 1) rest) c.in_ok-troupe.ensures.added

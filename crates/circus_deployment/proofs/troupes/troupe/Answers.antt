@@ -17,9 +17,9 @@ returns-clause-found c =
     none_told c.get.result c.is_none.result c.is_none.ensures ∙ ap is_none (c.get.ensures ∙ ap (known_of c.args.modules.now) c.as_slice-name.ensures) in
     let again : c.is_some.result ≡ is_some (known_of c.args.troupes.now t.name.name) =
     c.is_some.ensures ∙ ap is_some (c.in_ok-earlier.ensures.earlier ∙ ap (known_of c.args.troupes.now) c.as_slice-name.ensures) in
-    least_five c.args.best.now.fault c.note.new.self.fault c.note-2.new.self.fault c.needed.new.best.fault c.needed-2.new.best.fault c.crowd.new.best.fault
+    least_five c.args.best.now.fault c.note.new.self.fault c.note-2.new.self.fault c.check_least.new.best.fault c.check_least-2.new.best.fault c.crowd.new.best.fault
     (faults_if (is_none (known_of c.args.modules.now t.name.name)) t.name.at Unknown) (faults_if (is_some (known_of c.args.troupes.now t.name.name)) t.name.at Repeated)
     (needed_faults t.calls.kind) (needed_faults t.replies.kind) (crowd_faults (slice_get t.members most_members))
     (c.note.ensures ∙ ap (λ b. least_from rank_of c.args.best.now.fault (faults_if b t.name.at Unknown)) unknown)
     (c.note-2.ensures ∙ ap (λ b. least_from rank_of c.note.new.self.fault (faults_if b t.name.at Repeated)) again)
-    c.needed.ensures c.needed-2.ensures (c.crowd.ensures ∙ ap (λ o. least_from rank_of c.needed-2.new.best.fault (crowd_faults o)) c.get-2.ensures)
+    c.check_least.ensures c.check_least-2.ensures (c.crowd.ensures ∙ ap (λ o. least_from rank_of c.check_least-2.new.best.fault (crowd_faults o)) c.get-2.ensures)

@@ -42,26 +42,26 @@ decreases-value_in l = light (tree_of l.expression.now) + 2
 abbrev pub decreases-append_text : goal.decreases-append_text
 decreases-append_text l = light (tree_of l.expression.now) + 1
 
-abbrev pub decreases-decided : goal.decreases-decided
-decreases-decided l = light l.left.now + light l.right.now + 3
+abbrev pub decreases-decide : goal.decreases-decide
+decreases-decide l = light l.left.now + light l.right.now + 3
 
-abbrev pub decreases-denied : goal.decreases-denied
-decreases-denied l = light l.operand.now + 3
+abbrev pub decreases-deny : goal.decreases-deny
+decreases-deny l = light l.operand.now + 3
 
 abbrev pub decreases-compared_whole : goal.decreases-compared_whole
 decreases-compared_whole l = light l.left.now + light l.right.now + 3
 
-abbrev pub decreases-compared : goal.decreases-compared
-decreases-compared l = light l.left.now + light l.right.now + 3
+abbrev pub decreases-compare_operands : goal.decreases-compare_operands
+decreases-compare_operands l = light l.left.now + light l.right.now + 3
 
-abbrev pub decreases-calculated : goal.decreases-calculated
-decreases-calculated l = light l.left.now + light l.right.now + 3
+abbrev pub decreases-calculate_operands : goal.decreases-calculate_operands
+decreases-calculate_operands l = light l.left.now + light l.right.now + 3
 
 abbrev pub decreases-minus : goal.decreases-minus
 decreases-minus l = light l.operand.now + 3
 
-abbrev pub decreases-joined : goal.decreases-joined
-decreases-joined l = light l.left.now + light l.right.now + 3
+abbrev pub decreases-join_lists : goal.decreases-join_lists
+decreases-join_lists l = light l.left.now + light l.right.now + 3
 
 abbrev pub decreases-stands : goal.decreases-stands
 decreases-stands l = light l.operand.now + 3
@@ -69,11 +69,11 @@ decreases-stands l = light l.operand.now + 3
 abbrev pub decreases-length : goal.decreases-length
 decreases-length l = light l.operand.now + 3
 
-abbrev pub decreases-chosen : goal.decreases-chosen
-decreases-chosen l = light l.operand.now + 3
+abbrev pub decreases-choice_at : goal.decreases-choice_at
+decreases-choice_at l = light l.operand.now + 3
 
-abbrev pub decreases-converted : goal.decreases-converted
-decreases-converted l = light l.operand.now + 3
+abbrev pub decreases-convert_number : goal.decreases-convert_number
+decreases-convert_number l = light l.operand.now + 3
 
 abbrev pub decreases-evaluate_all : goal.decreases-evaluate_all
 decreases-evaluate_all l = 8 * list_weight (expression_trees l.expressions.now)

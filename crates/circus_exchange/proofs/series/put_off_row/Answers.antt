@@ -1,6 +1,6 @@
 use Rattle.std.proofs.Common.{◌≡◌, ◌+◌, length, ap, ◌∙◌}
 use Rattle.std.proofs.lemmas.Result.{on_ok_weaker}
-use Rattle.circus_exchange.specs.Seen.Numbered.{seen}
+use Rattle.circus_exchange.specs.Seen.Numbered.{map_of_row}
 use Rattle.circus_exchange.proofs.Numbering.{seen_put, seen_pushed, unseen, known_is_put}
 use Rattle.circus_exchange.proofs.series.put_off_row.Goals as goal
 
@@ -19,5 +19,5 @@ returns-clause-ok g c =
     let row = c.args.row.now.items in
     let at : c.args.number ≡ c.args.first + length row = c.follows.ensures.row c.if-not-follows.false ∙ ap (λ xs. c.args.first + length xs) c.deref.ensures.value in
     c.gather.ensures
-    ∙ ap (λ xs. seen c.args.first xs c.args.others.now.entries) c.in_ok-push.ensures.items
+    ∙ ap (λ xs. map_of_row c.args.first xs c.args.others.now.entries) c.in_ok-push.ensures.items
     ∙ seen_pushed c.args.first row c.args.others.now.entries c.args.number c.args.value at

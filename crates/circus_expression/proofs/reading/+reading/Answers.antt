@@ -6,34 +6,34 @@ use Rattle.circus_expression.specs.ExpressionTree.{expression, suffix_trees}
 use Rattle.circus_expression.specs.ExpressionTree as tree
 use Rattle.circus_expression.specs.ExpressionOf.{tree_of, kind_tree}
 use Rattle.circus_expression.specs.ExpressionReading.{operand}
-use Rattle.circus_expression.specs.Standing.{shown, stands_for, leaning, type_place}
+use Rattle.circus_expression.specs.Standing.{shown, stands_for, lean_left, type_place}
 use Rattle.circus_expression.proofs.Stands.{stopped_here, on_ok, chain_alone, chain_linked, links_end, links_go_on, further_links_deep, further_links_more, operand_expression, operand_conjunct, operand_sum, operand_term, negated_missed, negated_deep, negated_is, factor_missed, factor_deep, factor_is, relation_is, related_named, related_compared, related_alone, compared_is, primary_number, primary_text, primary_true, primary_false, primary_parenthesis, primary_length, primary_named, length_deep, length_is, required_seen, required_missed, argument_deep, argument_is, subscript_deep, subscript_is, named_is, behind_hash, behind_dot, behind_neither, dotted_hash, dotted_more, built_items, built_label, built_arm, any_none, any_some, suffixes_subscript, suffixes_field, further_none, further_deep, further_more, list_deep, list_is, items_none, items_some, items_step, items_shorter, items_end}
 use Rattle.circus_expression.proofs.reading.+reading.Goals as goal
 
 pub chain-returns-in-Some : goal.chain-returns-in-Some
 chain-returns-in-Some t c =
-    if_ok c.linked.result _ _ (λ read is. chain_linked c.args.levels c.args.of c.args.reader.now c.operand.new.reader _ (tree_of c.in_ok-left.left) _ c.operator.result _ c.in_ok-left.ensures c.operator.ensures c.in-Some.is is) c.linked.ensures
+    if_ok c.link.result _ _ (λ read is. chain_linked c.args.levels c.args.of c.args.reader.now c.operand.new.reader _ (tree_of c.in_ok-left.left) _ c.operator.result _ c.in_ok-left.ensures c.operator.ensures c.in-Some.is is) c.link.ensures
 
 pub chain-returns-in-None : goal.chain-returns-in-None
 chain-returns-in-None t c = chain_alone c.args.levels c.args.of c.args.reader.now c.operand.new.reader (tree_of c.in_ok-left.left) c.operator.result c.in_ok-left.ensures c.operator.ensures c.in-None.is
 
-pub linked-returns-in-None : goal.linked-returns-in-None
-linked-returns-in-None t c =
+pub link-returns-in-None : goal.link-returns-in-None
+link-returns-in-None t c =
     links_end c.args.levels c.args.of c.args.reader.now c.skip.new.self c.operand.new.reader (tree_of c.args.left) (tree_of c.in_ok-right.right) (tree_of c.in_ok-both.both) c.args.joint c.operator.result
     c.requires c.skip.ensures c.in_ok-right.ensures (c.in_ok-both.ensures ∙ ap (λ l. expression c.args.left.at (tree.binary c.args.joint l (tree_of c.in_ok-right.right))) c.in_ok-left.ensures) c.operator.ensures c.in-None.is
 
-pub linked-returns-in-Some : goal.linked-returns-in-Some
-linked-returns-in-Some t c =
-    if_ok c.further_linked.result _ _ (λ read is. links_go_on c.args.levels c.args.of c.args.reader.now c.skip.new.self c.operand.new.reader _ (tree_of c.args.left) (tree_of c.in_ok-right.right) (tree_of c.in_ok-both.both) _ c.args.joint _ c.operator.result
-    c.requires c.skip.ensures c.in_ok-right.ensures (c.in_ok-both.ensures ∙ ap (λ l. expression c.args.left.at (tree.binary c.args.joint l (tree_of c.in_ok-right.right))) c.in_ok-left.ensures) c.operator.ensures c.in-Some.is is) c.further_linked.ensures
+pub link-returns-in-Some : goal.link-returns-in-Some
+link-returns-in-Some t c =
+    if_ok c.further_link.result _ _ (λ read is. links_go_on c.args.levels c.args.of c.args.reader.now c.skip.new.self c.operand.new.reader _ (tree_of c.args.left) (tree_of c.in_ok-right.right) (tree_of c.in_ok-both.both) _ c.args.joint _ c.operator.result
+    c.requires c.skip.ensures c.in_ok-right.ensures (c.in_ok-both.ensures ∙ ap (λ l. expression c.args.left.at (tree.binary c.args.joint l (tree_of c.in_ok-right.right))) c.in_ok-left.ensures) c.operator.ensures c.in-Some.is is) c.further_link.ensures
 
-pub further_linked-returns-then-levels-eq0 : goal.further_linked-returns-then-levels-eq0
-further_linked-returns-then-levels-eq0 t c =
-    if_ok c.stop_linked.result _ _ (λ read is. ap (shown (leaning (tree_of c.args.left))) (further_links_deep c.args.levels c.args.of c.args.reader.now c.if-levels-eq0.true) ∙ is) c.stop_linked.ensures
+pub further_link-returns-then-levels-eq0 : goal.further_link-returns-then-levels-eq0
+further_link-returns-then-levels-eq0 t c =
+    if_ok c.stop_linked.result _ _ (λ read is. ap (shown (lean_left (tree_of c.args.left))) (further_links_deep c.args.levels c.args.of c.args.reader.now c.if-levels-eq0.true) ∙ is) c.stop_linked.ensures
 
-pub further_linked-returns : goal.further_linked-returns
-further_linked-returns t c =
-    if_ok c.linked.result _ _ (λ read is. ap (shown (leaning (tree_of c.args.left))) (further_links_more c.args.levels (c.args.levels - 1) c.args.of c.args.reader.now (suc_before c.args.levels c.if-levels-eq0.false)) ∙ is) c.linked.ensures
+pub further_link-returns : goal.further_link-returns
+further_link-returns t c =
+    if_ok c.link.result _ _ (λ read is. ap (shown (lean_left (tree_of c.args.left))) (further_links_more c.args.levels (c.args.levels - 1) c.args.of c.args.reader.now (suc_before c.args.levels c.if-levels-eq0.false)) ∙ is) c.link.ensures
 
 pub operand-returns-in-Expression : goal.operand-returns-in-Expression
 operand-returns-in-Expression t c =
@@ -41,7 +41,7 @@ operand-returns-in-Expression t c =
 
 pub operand-returns-in-Conjunct : goal.operand-returns-in-Conjunct
 operand-returns-in-Conjunct t c =
-    if_ok c.negated.result _ _ (λ read is. ap (λ k. shown stands_for (operand c.args.levels k c.args.reader.now)) c.in-Conjunct.is ∙ ap (shown stands_for) (operand_conjunct c.args.levels c.args.reader.now) ∙ is) c.negated.ensures
+    if_ok c.minus_operand.result _ _ (λ read is. ap (λ k. shown stands_for (operand c.args.levels k c.args.reader.now)) c.in-Conjunct.is ∙ ap (shown stands_for) (operand_conjunct c.args.levels c.args.reader.now) ∙ is) c.minus_operand.ensures
 
 pub operand-returns-in-Sum : goal.operand-returns-in-Sum
 operand-returns-in-Sum t c =
@@ -51,18 +51,18 @@ pub operand-returns-in-Term : goal.operand-returns-in-Term
 operand-returns-in-Term t c =
     if_ok c.factor.result _ _ (λ read is. ap (λ k. shown stands_for (operand c.args.levels k c.args.reader.now)) c.in-Term.is ∙ ap (shown stands_for) (operand_term c.args.levels c.args.reader.now) ∙ is) c.factor.ensures
 
-pub negated-returns-then-not-sees_word : goal.negated-returns-then-not-sees_word
-negated-returns-then-not-sees_word t c =
+pub minus_operand-returns-then-not-sees_word : goal.minus_operand-returns-then-not-sees_word
+minus_operand-returns-then-not-sees_word t c =
     if_ok c.relation.result _ _ (λ read is. ap (shown stands_for) (negated_missed c.args.levels c.args.reader.now c.sees_word.result c.sees_word.ensures c.if-not-sees_word.true) ∙ is) c.relation.ensures
 
-pub negated-returns-then-levels-eq0 : goal.negated-returns-then-levels-eq0
-negated-returns-then-levels-eq0 t c =
+pub minus_operand-returns-then-levels-eq0 : goal.minus_operand-returns-then-levels-eq0
+minus_operand-returns-then-levels-eq0 t c =
     if_ok c.stop.result _ _ (λ read is. ap (shown stands_for) (negated_deep c.args.levels c.args.reader.now c.sees_word.result c.if-levels-eq0.true c.sees_word.ensures c.if-not-sees_word.false) ∙ is) c.stop.ensures
 
-pub negated-returns : goal.negated-returns
-negated-returns t c =
-    negated_is c.args.levels (c.args.levels - 1) c.args.reader.now c.word.new.self c.negated.new.reader (tree_of c.in_ok-inner.inner) c.sees_word.result (suc_before c.args.levels c.if-levels-eq0.false) c.sees_word.ensures c.if-not-sees_word.false c.word.ensures c.in_ok-inner.ensures
-    ∙ (λ i. (expression (sym c.place-at.ensures i) (tree.negation (sym c.in_ok-operand.ensures i)), c.negated.new.reader))
+pub minus_operand-returns : goal.minus_operand-returns
+minus_operand-returns t c =
+    negated_is c.args.levels (c.args.levels - 1) c.args.reader.now c.word.new.self c.minus_operand.new.reader (tree_of c.in_ok-inner.inner) c.sees_word.result (suc_before c.args.levels c.if-levels-eq0.false) c.sees_word.ensures c.if-not-sees_word.false c.word.ensures c.in_ok-inner.ensures
+    ∙ (λ i. (expression (sym c.place-at.ensures i) (tree.negation (sym c.in_ok-operand.ensures i)), c.minus_operand.new.reader))
 
 pub factor-returns-then-not-sees_sign : goal.factor-returns-then-not-sees_sign
 factor-returns-then-not-sees_sign t c =
@@ -79,21 +79,21 @@ factor-returns t c =
 
 pub relation-returns : goal.relation-returns
 relation-returns t c =
-    if_ok c.related.result _ _ (λ read is. relation_is c.args.levels c.args.reader.now c.chain.new.reader _ (tree_of c.in_ok-left.left) _ c.in_ok-left.ensures is) c.related.ensures
+    if_ok c.rest_of_relation.result _ _ (λ read is. relation_is c.args.levels c.args.reader.now c.chain.new.reader _ (tree_of c.in_ok-left.left) _ c.in_ok-left.ensures is) c.rest_of_relation.ensures
 
-pub related-returns-then-sees_word : goal.related-returns-then-sees_word
-related-returns-then-sees_word t c =
+pub rest_of_relation-returns-then-sees_word : goal.rest_of_relation-returns-then-sees_word
+rest_of_relation-returns-then-sees_word t c =
     if_ok c.arm_test.result _ _ (λ read is. related_named c.args.levels c.args.reader.now _ (tree_of c.args.left) _ c.sees_word.result c.sees_word.ensures c.if-sees_word.true is) c.arm_test.ensures
 
-pub related-returns-in-Some : goal.related-returns-in-Some
-related-returns-in-Some t c =
-    if_ok c.compared.result _ _ (λ read is. related_compared c.args.levels c.args.reader.now _ (tree_of c.args.left) _ c.sees_word.result c.comparison.result _ c.sees_word.ensures c.if-sees_word.false c.comparison.ensures c.in-Some.is is) c.compared.ensures
+pub rest_of_relation-returns-in-Some : goal.rest_of_relation-returns-in-Some
+rest_of_relation-returns-in-Some t c =
+    if_ok c.rest_of_comparison.result _ _ (λ read is. related_compared c.args.levels c.args.reader.now _ (tree_of c.args.left) _ c.sees_word.result c.comparison.result _ c.sees_word.ensures c.if-sees_word.false c.comparison.ensures c.in-Some.is is) c.rest_of_comparison.ensures
 
-pub related-returns-in-None : goal.related-returns-in-None
-related-returns-in-None t c = related_alone c.args.levels c.args.reader.now (tree_of c.args.left) c.sees_word.result c.comparison.result c.sees_word.ensures c.if-sees_word.false c.comparison.ensures c.in-None.is
+pub rest_of_relation-returns-in-None : goal.rest_of_relation-returns-in-None
+rest_of_relation-returns-in-None t c = related_alone c.args.levels c.args.reader.now (tree_of c.args.left) c.sees_word.result c.comparison.result c.sees_word.ensures c.if-sees_word.false c.comparison.ensures c.in-None.is
 
-pub compared-returns : goal.compared-returns
-compared-returns t c =
+pub rest_of_comparison-returns : goal.rest_of_comparison-returns
+rest_of_comparison-returns t c =
     if_ok c.join.result _ _ (λ read is. compared_is c.args.levels c.args.reader.now c.skip.new.self c.chain.new.reader (tree_of c.args.left) c.in_ok-left.left (tree_of c.in_ok-right.right) (tree_of read) c.args.joint c.skip.ensures c.in_ok-right.ensures c.in_ok-left.ensures is) c.join.ensures
 
 pub primary_kind-returns-in-Number : goal.primary_kind-returns-in-Number
@@ -108,9 +108,9 @@ primary_kind-returns-in-True t c = primary_true c.args.levels c.args.reader.now 
 pub primary_kind-returns-in-False : goal.primary_kind-returns-in-False
 primary_kind-returns-in-False t c = primary_false c.args.levels c.args.reader.now c.word-in-False.new.self c.primary_start.result c.primary_start.ensures c.in-False.is c.word-in-False.ensures
 
-pub primary_kind-returns-in_ok-enclosed-in-Parenthesis : goal.primary_kind-returns-in_ok-enclosed-in-Parenthesis
-primary_kind-returns-in_ok-enclosed-in-Parenthesis t c =
-    primary_parenthesis c.args.levels c.args.reader.now c.enclosed.new.reader (tree_of c.in_ok-enclosed-in-Parenthesis.field-0) c.primary_start.result c.primary_start.ensures c.in-Parenthesis.is c.in_ok-enclosed-in-Parenthesis.ensures
+pub primary_kind-returns-in_ok-group_in_parentheses-in-Parenthesis : goal.primary_kind-returns-in_ok-group_in_parentheses-in-Parenthesis
+primary_kind-returns-in_ok-group_in_parentheses-in-Parenthesis t c =
+    primary_parenthesis c.args.levels c.args.reader.now c.group_in_parentheses.new.reader (tree_of c.in_ok-group_in_parentheses-in-Parenthesis.field-0) c.primary_start.result c.primary_start.ensures c.in-Parenthesis.is c.in_ok-group_in_parentheses-in-Parenthesis.ensures
 
 pub primary_kind-returns-in-Length : goal.primary_kind-returns-in-Length
 primary_kind-returns-in-Length t c =
@@ -118,7 +118,7 @@ primary_kind-returns-in-Length t c =
 
 pub primary_kind-returns-in-Name : goal.primary_kind-returns-in-Name
 primary_kind-returns-in-Name t c =
-    if_ok c.named.result _ _ (λ read is. ap (shown stands_for) (primary_named c.args.levels c.args.reader.now c.primary_start.result c.primary_start.ensures c.in-Name.is) ∙ is) c.named.ensures
+    if_ok c.kind_by_name.result _ _ (λ read is. ap (shown stands_for) (primary_named c.args.levels c.args.reader.now c.primary_start.result c.primary_start.ensures c.in-Name.is) ∙ is) c.kind_by_name.ensures
 
 pub length-returns-then-levels-eq0 : goal.length-returns-then-levels-eq0
 length-returns-then-levels-eq0 t c =
@@ -127,23 +127,23 @@ length-returns-then-levels-eq0 t c =
 
 pub length-returns : goal.length-returns
 length-returns t c =
-    length_is c.args.levels (c.args.levels - 1) c.args.reader.now c.word.new.self c.measured.new.reader (tree_of c.in_ok-inner.inner) (suc_before c.args.levels c.if-levels-eq0.false) c.word.ensures c.in_ok-inner.ensures
-    ∙ ap (λ e. (expression (place c.args.reader.now) (tree.length_of e), c.measured.new.reader)) (sym c.in_ok-new.ensures)
+    length_is c.args.levels (c.args.levels - 1) c.args.reader.now c.word.new.self c.length_argument.new.reader (tree_of c.in_ok-inner.inner) (suc_before c.args.levels c.if-levels-eq0.false) c.word.ensures c.in_ok-inner.ensures
+    ∙ ap (λ e. (expression (place c.args.reader.now) (tree.length_of e), c.length_argument.new.reader)) (sym c.in_ok-new.ensures)
 
-pub measured-returns-then-sees_sign : goal.measured-returns-then-sees_sign
-measured-returns-then-sees_sign t c =
-    if_ok c.enclosed.result _ _ (λ read is. ap (shown stands_for) (required_seen c.args.levels c.args.reader.now c.sees_sign.result c.sees_sign.ensures c.if-sees_sign.true) ∙ is) c.enclosed.ensures
+pub length_argument-returns-then-sees_sign : goal.length_argument-returns-then-sees_sign
+length_argument-returns-then-sees_sign t c =
+    if_ok c.group_in_parentheses.result _ _ (λ read is. ap (shown stands_for) (required_seen c.args.levels c.args.reader.now c.sees_sign.result c.sees_sign.ensures c.if-sees_sign.true) ∙ is) c.group_in_parentheses.ensures
 
-pub measured-returns-else-sees_sign : goal.measured-returns-else-sees_sign
-measured-returns-else-sees_sign t c =
+pub length_argument-returns-else-sees_sign : goal.length_argument-returns-else-sees_sign
+length_argument-returns-else-sees_sign t c =
     if_ok c.stop.result _ _ (λ read is. ap (shown stands_for) (required_missed c.args.levels c.args.reader.now c.sees_sign.result c.sees_sign.ensures c.if-sees_sign.false) ∙ is) c.stop.ensures
 
-pub enclosed-returns-then-levels-eq0 : goal.enclosed-returns-then-levels-eq0
-enclosed-returns-then-levels-eq0 t c =
+pub group_in_parentheses-returns-then-levels-eq0 : goal.group_in_parentheses-returns-then-levels-eq0
+group_in_parentheses-returns-then-levels-eq0 t c =
     if_ok c.stop.result _ _ (λ read is. ap (shown stands_for) (argument_deep c.args.levels c.args.reader.now c.if-levels-eq0.true) ∙ is) c.stop.ensures
 
-pub enclosed-returns : goal.enclosed-returns
-enclosed-returns t c = argument_is c.args.levels (c.args.levels - 1) c.args.reader.now c.sign.new.self c.chain.new.reader c.sign-2.new.self (tree_of c.in_ok-inner.inner) (suc_before c.args.levels c.if-levels-eq0.false) c.sign.ensures c.in_ok-inner.ensures c.sign-2.ensures
+pub group_in_parentheses-returns : goal.group_in_parentheses-returns
+group_in_parentheses-returns t c = argument_is c.args.levels (c.args.levels - 1) c.args.reader.now c.sign.new.self c.chain.new.reader c.sign-2.new.self (tree_of c.in_ok-inner.inner) (suc_before c.args.levels c.if-levels-eq0.false) c.sign.ensures c.in_ok-inner.ensures c.sign-2.ensures
 
 pub subscript-returns-then-levels-eq0 : goal.subscript-returns-then-levels-eq0
 subscript-returns-then-levels-eq0 t c =
@@ -152,44 +152,44 @@ subscript-returns-then-levels-eq0 t c =
 pub subscript-returns : goal.subscript-returns
 subscript-returns t c = subscript_is c.args.levels (c.args.levels - 1) c.args.reader.now c.sign.new.self c.chain.new.reader c.sign-2.new.self (tree_of c.in_ok-inner.inner) (suc_before c.args.levels c.if-levels-eq0.false) c.sign.ensures c.in_ok-inner.ensures c.sign-2.ensures
 
-pub named-returns-then-sees_sign : goal.named-returns-then-sees_sign
-named-returns-then-sees_sign t c =
-    if_ok c.built.result _ _ (λ kind is. named_is c.args.levels c.args.reader.now c.name.new.self _ c.in_ok-name.name (kind_tree kind) c.in_ok-name.ensures
-    (behind_hash c.args.levels c.in_ok-name.name c.name.new.self _ _ c.sees_sign.result c.sees_sign.ensures c.if-sees_sign.true is)) c.built.ensures
+pub kind_by_name-returns-then-sees_sign : goal.kind_by_name-returns-then-sees_sign
+kind_by_name-returns-then-sees_sign t c =
+    if_ok c.kind_of_type.result _ _ (λ kind is. named_is c.args.levels c.args.reader.now c.name.new.self _ c.in_ok-name.name (kind_tree kind) c.in_ok-name.ensures
+    (behind_hash c.args.levels c.in_ok-name.name c.name.new.self _ _ c.sees_sign.result c.sees_sign.ensures c.if-sees_sign.true is)) c.kind_of_type.ensures
 
-pub named-returns-then-sees_sign-2 : goal.named-returns-then-sees_sign-2
-named-returns-then-sees_sign-2 t c =
-    if_ok c.dotted.result _ _ (λ kind is. named_is c.args.levels c.args.reader.now c.name.new.self _ c.in_ok-name.name (kind_tree kind) c.in_ok-name.ensures
-    (behind_dot c.args.levels c.in_ok-name.name c.name.new.self _ _ c.sees_sign.result c.sees_sign-2.result c.sees_sign.ensures c.if-sees_sign.false c.sees_sign-2.ensures c.if-sees_sign-2.true is)) c.dotted.ensures
+pub kind_by_name-returns-then-sees_sign-2 : goal.kind_by_name-returns-then-sees_sign-2
+kind_by_name-returns-then-sees_sign-2 t c =
+    if_ok c.kind_behind_dot.result _ _ (λ kind is. named_is c.args.levels c.args.reader.now c.name.new.self _ c.in_ok-name.name (kind_tree kind) c.in_ok-name.ensures
+    (behind_dot c.args.levels c.in_ok-name.name c.name.new.self _ _ c.sees_sign.result c.sees_sign-2.result c.sees_sign.ensures c.if-sees_sign.false c.sees_sign-2.ensures c.if-sees_sign-2.true is)) c.kind_behind_dot.ensures
 
-pub named-returns : goal.named-returns
-named-returns t c =
+pub kind_by_name-returns : goal.kind_by_name-returns
+kind_by_name-returns t c =
     named_is c.args.levels c.args.reader.now c.name.new.self c.any_suffixes.new.reader c.in_ok-name.name (tree.read c.in_ok-name.name (suffix_trees c.in_ok-suffixes.suffixes)) c.in_ok-name.ensures
     (behind_neither c.args.levels c.in_ok-name.name c.name.new.self c.any_suffixes.new.reader c.in_ok-suffixes.suffixes c.sees_sign.result c.sees_sign-2.result c.sees_sign.ensures c.if-sees_sign.false c.sees_sign-2.ensures c.if-sees_sign-2.false c.in_ok-suffixes.ensures)
 
-pub dotted-returns-then-sees_sign : goal.dotted-returns-then-sees_sign
-dotted-returns-then-sees_sign t c =
-    if_ok c.built.result _ _ (λ kind is. dotted_hash c.args.levels c.args.name c.in_ok-second.second c.args.reader.now c.sign.new.self c.name.new.self _ _ c.sees_sign.result c.sign.ensures c.in_ok-second.ensures c.sees_sign.ensures c.if-sees_sign.true is) c.built.ensures
+pub kind_behind_dot-returns-then-sees_sign : goal.kind_behind_dot-returns-then-sees_sign
+kind_behind_dot-returns-then-sees_sign t c =
+    if_ok c.kind_of_type.result _ _ (λ kind is. dotted_hash c.args.levels c.args.name c.in_ok-second.second c.args.reader.now c.sign.new.self c.name.new.self _ _ c.sees_sign.result c.sign.ensures c.in_ok-second.ensures c.sees_sign.ensures c.if-sees_sign.true is) c.kind_of_type.ensures
 
-pub dotted-returns : goal.dotted-returns
-dotted-returns t c =
+pub kind_behind_dot-returns : goal.kind_behind_dot-returns
+kind_behind_dot-returns t c =
     dotted_more c.args.levels c.args.name c.in_ok-second.second c.args.reader.now c.sign.new.self c.name.new.self c.further_suffixes.new.reader c.push.new.self c.further_suffixes.new.into c.sees_sign.result
     c.sign.ensures c.in_ok-second.ensures c.sees_sign.ensures c.if-sees_sign.false (c.in_ok-push.ensures.ok ∙ ap (λ l. l ++ tree.field c.in_ok-second.second ∷ []) c.new-suffixes.ensures) c.in_ok-further_suffixes.ensures
 
-pub built-returns-then-sees_sign : goal.built-returns-then-sees_sign
-built-returns-then-sees_sign t c =
+pub kind_of_type-returns-then-sees_sign : goal.kind_of_type-returns-then-sees_sign
+kind_of_type-returns-then-sees_sign t c =
     built_items c.args.levels c.args.of c.args.reader.now c.sign.new.self c.list_text.new.reader c.in_ok-list_text.field-0 c.sees_sign.result c.sign.ensures c.sees_sign.ensures c.if-sees_sign.true c.in_ok-list_text.ensures
 
-pub built-returns-then-not-sees_sign : goal.built-returns-then-not-sees_sign
-built-returns-then-not-sees_sign t c =
+pub kind_of_type-returns-then-not-sees_sign : goal.kind_of_type-returns-then-not-sees_sign
+kind_of_type-returns-then-not-sees_sign t c =
     built_label c.args.levels c.args.of c.args.reader.now c.sign.new.self c.name.new.self c.in_ok-name.name c.sees_sign.result c.sees_sign-2.result
     c.sign.ensures c.sees_sign.ensures c.if-sees_sign.false c.in_ok-name.ensures c.sees_sign-2.ensures c.if-not-sees_sign.true
 
-pub built-returns : goal.built-returns
-built-returns t c =
-    built_arm c.args.levels c.args.of c.args.reader.now c.sign.new.self c.name.new.self c.enclosed.new.reader c.in_ok-name.name (tree_of c.in_ok-value.value) c.sees_sign.result c.sees_sign-2.result
+pub kind_of_type-returns : goal.kind_of_type-returns
+kind_of_type-returns t c =
+    built_arm c.args.levels c.args.of c.args.reader.now c.sign.new.self c.name.new.self c.group_in_parentheses.new.reader c.in_ok-name.name (tree_of c.in_ok-value.value) c.sees_sign.result c.sees_sign-2.result
     c.sign.ensures c.sees_sign.ensures c.if-sees_sign.false c.in_ok-name.ensures c.sees_sign-2.ensures c.if-not-sees_sign.false c.in_ok-value.ensures
-    ∙ ap (λ e. (expression (type_place c.args.of) (tree.arm c.args.of c.in_ok-name.name e), c.enclosed.new.reader)) (sym c.in_ok-operand.ensures)
+    ∙ ap (λ e. (expression (type_place c.args.of) (tree.arm c.args.of c.in_ok-name.name e), c.group_in_parentheses.new.reader)) (sym c.in_ok-operand.ensures)
 
 pub any_suffixes-returns-then-not-sees_suffix : goal.any_suffixes-returns-then-not-sees_suffix
 any_suffixes-returns-then-not-sees_suffix t c = any_none c.args.levels c.args.reader.now c.new-suffixes.result c.sees_suffix.result c.sees_suffix.ensures c.if-not-sees_suffix.true c.new-suffixes.ensures

@@ -6,7 +6,7 @@ use Rattle.circus_fault.proofs.LeastMore.{least_step}
 use Rattle.circus_idl.specs.Rank.{rank_of}
 use Rattle.circus_idl.specs.Seen.Known.{type_form}
 use Rattle.circus_idl.specs.Seen.Scoped.{before_of, cut_in}
-use Rattle.circus_idl.specs.Seen.Drafted.{drafted}
+use Rattle.circus_idl.specs.Seen.Drafted.{draft_meaning}
 use Rattle.circus_idl.specs.Faults.{behind, declared_faults, declarations_faults}
 use Rattle.circus_idl.specs.Means.{and_then, declared_meant, declarations_meant, forms_behind}
 use Rattle.circus_type.specs.Seen.Measured.{cut_off}
@@ -20,7 +20,7 @@ loop-item-preserved c =
     let new = c.add.new.self in
     let d = declared_of c.item-item.result in
     let ds = map declared_of (drop (c.loop-item.item-index + 1) c.args.declared.now) in
-    let whole = and_then (drafted c.args.draft.now) (declarations_meant (type_form c.args.draft.now.scope.types) (known_of c.args.draft.now.scope.errors) (map declared_of c.args.declared.now)) in
+    let whole = and_then (draft_meaning c.args.draft.now) (declarations_meant (type_form c.args.draft.now.scope.types) (known_of c.args.draft.now.scope.errors) (map declared_of c.args.declared.now)) in
     let left = ap (map declared_of) (drop_more c.args.declared.now c.loop-item.item-index c.item-item.result c.loop-item-test.true c.item-item.is) in
     let cut = cut_in old.scope in
     let before = before_of old.scope in
@@ -37,8 +37,8 @@ loop-item-preserved c =
       meant = by_none new.scope.best.fault _ (λ none.
           let none_old = none_before old.scope.best.fault this (sym found ∙ none) in
           let formed = holds_of_none new.scope.best.fault (type_form new.scope.types ≡ forms_behind form d) none c.in_ok-add.ensures.formed in
-          let one = holds_of_none new.scope.best.fault (drafted new ≡ and_then (drafted old) (declared_meant form before.errors d)) none c.in_ok-add.ensures.meant in
-          let all = holds_of_none old.scope.best.fault (and_then (drafted old) (declarations_meant form before.errors (map declared_of (drop c.loop-item.item-index c.args.declared.now))) ≡ whole) none_old c.loop-item.invariant.meant in
-          meant_step form (type_form new.scope.types) before (before_of new.scope) d ds (drafted old) (drafted new) whole formed c.in_ok-add.ensures.behind one
-          (ap (λ xs. and_then (drafted old) (declarations_meant form before.errors xs)) (sym left) ∙ all));
+          let one = holds_of_none new.scope.best.fault (draft_meaning new ≡ and_then (draft_meaning old) (declared_meant form before.errors d)) none c.in_ok-add.ensures.meant in
+          let all = holds_of_none old.scope.best.fault (and_then (draft_meaning old) (declarations_meant form before.errors (map declared_of (drop c.loop-item.item-index c.args.declared.now))) ≡ whole) none_old c.loop-item.invariant.meant in
+          meant_step form (type_form new.scope.types) before (before_of new.scope) d ds (draft_meaning old) (draft_meaning new) whole formed c.in_ok-add.ensures.behind one
+          (ap (λ xs. and_then (draft_meaning old) (declarations_meant form before.errors xs)) (sym left) ∙ all));
     }

@@ -6,7 +6,7 @@ use Rattle.circus_fault.specs.Seen.Tables.{known_of}
 use Rattle.circus_idl.specs.Rank.{rank_of}
 use Rattle.circus_idl.specs.Seen.Known.{type_form}
 use Rattle.circus_idl.specs.Seen.Scoped.{before_of, cut_in}
-use Rattle.circus_idl.specs.Seen.Drafted.{drafted}
+use Rattle.circus_idl.specs.Seen.Drafted.{draft_meaning}
 use Rattle.circus_idl.specs.Faults.{declarations_faults}
 use Rattle.circus_idl.specs.Means.{and_then, declarations_meant}
 use Rattle.circus_type.specs.Seen.Measured.{cut_off}
@@ -19,6 +19,6 @@ invariant-loop-item l = record {
       least_from rank_of l.draft.scope.best.fault (declarations_faults cut_off (cut_in l.draft.scope) (before_of l.draft.scope) (map declared_of (drop l.item-index l.declared)))
       ≡ least_from rank_of l.fn.draft.scope.best.fault (declarations_faults cut_off (cut_in l.fn.draft.scope) (before_of l.fn.draft.scope) (map declared_of l.declared));
   meant : IfNone l.draft.scope.best.fault
-      (and_then (drafted l.draft) (declarations_meant (type_form l.draft.scope.types) (known_of l.draft.scope.errors) (map declared_of (drop l.item-index l.declared)))
-      ≡ and_then (drafted l.fn.draft) (declarations_meant (type_form l.fn.draft.scope.types) (known_of l.fn.draft.scope.errors) (map declared_of l.declared)));
+      (and_then (draft_meaning l.draft) (declarations_meant (type_form l.draft.scope.types) (known_of l.draft.scope.errors) (map declared_of (drop l.item-index l.declared)))
+      ≡ and_then (draft_meaning l.fn.draft) (declarations_meant (type_form l.fn.draft.scope.types) (known_of l.fn.draft.scope.errors) (map declared_of l.declared)));
 }

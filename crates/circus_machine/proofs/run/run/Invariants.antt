@@ -4,7 +4,7 @@ use Rattle.circus_machine.specs.Meaning.{Going, Flow}
 use Rattle.circus_machine.specs.Seen.Changing.{AreSized}
 use Rattle.circus_machine.specs.Seen.Code.{Comes}
 use Rattle.circus_machine.specs.Seen.Instructions.{acts_of}
-use Rattle.circus_machine.specs.Seen.Running.{going}
+use Rattle.circus_machine.specs.Seen.Running.{going_of}
 use Rattle.circus_machine.proofs.run.run.Given as goal
 
 -- whatever the execution would come to from the start, it comes to from here, whatever replies are left
@@ -12,8 +12,8 @@ abbrev pub invariant-loop-instruction : goal.invariant-loop-instruction
 invariant-loop-instruction l = record {
   states : l.execution.variables.states ≡ l.fn.execution.variables.states;
   sized : AreSized l.execution.variables;
-  comes : (flow : List Outcome → Flow Going) → ((replies : List Outcome) → Comes l.limit l.fn.execution.variables.states (acts_of l.code) (flow replies) l.fn.place (going l.fn.execution replies))
-      → (replies : List Outcome) → Comes l.limit l.fn.execution.variables.states (acts_of l.code) (flow replies) l.place (going l.execution replies);
+  comes : (flow : List Outcome → Flow Going) → ((replies : List Outcome) → Comes l.limit l.fn.execution.variables.states (acts_of l.code) (flow replies) l.fn.place (going_of l.fn.execution replies))
+      → (replies : List Outcome) → Comes l.limit l.fn.execution.variables.states (acts_of l.code) (flow replies) l.place (going_of l.execution replies);
 }
 
 -- the steps that are left, and the way ahead

@@ -2,7 +2,7 @@ use Rattle.std.proofs.Common.{◌≡◌, ◌+◌, [], length, List, Vec, Global,
 use Rattle.std.specs.Prelude.{fold}
 use Rattle.std.proofs.lemmas.List.{length-map, with_items_is}
 use Rattle.circus_model.specs.Behaviour.{behaviours}
-use Rattle.circus_model.specs.Execution.{Thread, joined, thread_of, roots_from}
+use Rattle.circus_model.specs.Execution.{Thread, join_runs, thread_of, roots_from}
 use Rattle.circus_model.specs.declared.history.Run.{Run}
 use Rattle.circus_model.specs.declared.signature.Signature.{Signature}
 use Rattle.circus_model.proofs.Histories.{log_of_thread, length-joined}
@@ -52,10 +52,10 @@ loop-place-preserved g c =
           let log = log_of_thread program c.requires.agree lawful c.loop-place.place b there is_root in
           let sizes : length so_far ≡ length (thread_of program c.loop-place.place).runs =
           length-map c.loop-place.history.items (λ runs. runs.items) ∙ c.loop-place.invariant.room ∙ sym (log.all ∙ length-map c.args.modules.now (behaviour g.M.Module.declared g.M.Module.turn g.M.Module.first)) in
-          let put : map (λ runs. runs.items) w.join.new.history ≡ joined so_far (thread_of program c.loop-place.place).runs =
+          let put : map (λ runs. runs.items) w.join.new.history ≡ join_runs so_far (thread_of program c.loop-place.place).runs =
           w.in_ok-join.ensures
-          ∙ ap (λ (xs : List (Vec Run Global)). joined (map (λ runs. runs.items) xs) (map (λ runs. runs.items) w.in_ok-runs_of_root.field-0.items)) w.deref_mut.ensures.value
-          ∙ ap (joined so_far) w.in_ok-runs_of_root.ensures in
+          ∙ ap (λ (xs : List (Vec Run Global)). join_runs (map (λ runs. runs.items) xs) (map (λ runs. runs.items) w.in_ok-runs_of_root.field-0.items)) w.deref_mut.ensures.value
+          ∙ ap (join_runs so_far) w.in_ok-runs_of_root.ensures in
           let many : length w.join.new.history ≡ length c.loop-place.history.items =
           sym (length-map w.join.new.history (λ runs. runs.items)) ∙ ap length put ∙ length-joined so_far (thread_of program c.loop-place.place).runs sizes ∙ length-map c.loop-place.history.items (λ runs. runs.items) in
           let written : c.if-signature.history.items ≡ w.join.new.history =

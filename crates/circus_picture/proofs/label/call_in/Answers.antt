@@ -3,5 +3,5 @@ use Rattle.circus_picture.proofs.label.call_in.Goals as goal
 
 pub returns : goal.returns
 returns c =
-    found_is c.found.result c.read_call.result _ c.found.ensures.found c.found.ensures.made
+    found_is c.unless_refused.result c.read_call.result _ c.unless_refused.ensures.found c.unless_refused.ensures.made
     (call_in_is c.args.message.now c.read_call.result c.read_call.ensures)

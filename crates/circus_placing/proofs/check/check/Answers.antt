@@ -24,7 +24,7 @@ returns-clause-found c =
     let p = c.args.text.now in
     let start = c.of_stop-best.result.fault in
     let slice = c.as_slice.ensures in
-    least_four start c.machines.new.best.fault c.note_out_of.new.self.fault c.condition.new.best.fault c.present.new.best.fault
+    least_four start c.machines.new.best.fault c.note_out_of.new.self.fault c.condition.new.best.fault c.check_present.new.best.fault
     (machines_faults nobody 0 p.machines) (out_of OutOfRange most_members p.members) (condition_faults p.members.value (written_of p.condition)) (present_faults (numbers_of p.machines) p.present) (stop_faults Syntax Deep c.args.stop.now)
     c.of_stop-best.ensures (c.in_ok-names.ensures.found ∙ ap (λ ms. least_from rank_of start (machines_faults nobody 0 ms)) slice) c.note_out_of.ensures c.condition.ensures
-    (c.in_ok-present.ensures ∙ ap (λ k. least_from rank_of c.condition.new.best.fault (present_faults k p.present)) (c.in_ok-names.ensures.numbered ∙ ap numbers_of slice))
+    (c.in_ok-check_present.ensures ∙ ap (λ k. least_from rank_of c.condition.new.best.fault (present_faults k p.present)) (c.in_ok-names.ensures.numbered ∙ ap numbers_of slice))

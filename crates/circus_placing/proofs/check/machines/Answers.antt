@@ -1,7 +1,7 @@
 use Rattle.std.proofs.Common.{◌≡◌, ◌+◌, ◌∷◌, drop, sym, ◌∙◌, ap}
 use Rattle.std.proofs.lemmas.List.{drop_more}
 use Rattle.circus_fault.specs.Least.{least_from}
-use Rattle.circus_fault.specs.Known.{also, numbers_behind}
+use Rattle.circus_fault.specs.Known.{add_name, numbers_behind}
 use Rattle.circus_fault.specs.Seen.Tables.{known_of}
 use Rattle.circus_fault.proofs.LeastMore.{least_step}
 use Rattle.circus_placing.specs.Rank.{rank_of}
@@ -22,7 +22,7 @@ loop-number-preserved c =
     record {
       found =
           ap (λ k. least_from rank_of new (machines_faults k (n + 1) rest)) c.in_ok-machine.ensures.added
-          ∙ least_step rank_of new best _ (machine_faults known n m) (machines_faults (also m.name.name n known) (n + 1) rest) c.in_ok-machine.ensures.found
+          ∙ least_step rank_of new best _ (machine_faults known n m) (machines_faults (add_name m.name.name n known) (n + 1) rest) c.in_ok-machine.ensures.found
           (ap (λ ms. least_from rank_of best (machines_faults known n ms)) (sym left) ∙ c.loop-number.invariant.found);
       numbered =
           ap (λ k. numbers_behind (λ (m : MachineText). m.name.name) k (n + 1) rest) c.in_ok-machine.ensures.added

@@ -19,13 +19,13 @@ condition-returns t c =
 
 pub conjunct-returns-then-not-sees_word : goal.conjunct-returns-then-not-sees_word
 conjunct-returns-then-not-sees_word t c =
-    conjunct_one c.args.levels c.args.reader.now c.negated.new.reader (written_of c.in_ok-first.first) c.sees_word.result c.in_ok-first.ensures c.sees_word.ensures c.if-not-sees_word.true
+    conjunct_one c.args.levels c.args.reader.now c.negation.new.reader (written_of c.in_ok-first.first) c.sees_word.result c.in_ok-first.ensures c.sees_word.ensures c.if-not-sees_word.true
 
 pub conjunct-returns : goal.conjunct-returns
 conjunct-returns t c =
     if_ok c.further_and.result _ _
-    (λ read is. conjunct_more c.args.levels c.args.reader.now c.negated.new.reader c.word.new.self c.negated-2.new.reader (written_of c.in_ok-first.first) (written_of c.in_ok-second.second) c.sees_word.result _
-    c.in_ok-first.ensures c.sees_word.ensures c.if-not-sees_word.false c.word.ensures c.in_ok-second.ensures (ap (λ w. with_further_and c.args.levels w c.negated-2.new.reader) (sym c.in_ok-both.ensures) ∙ is))
+    (λ read is. conjunct_more c.args.levels c.args.reader.now c.negation.new.reader c.word.new.self c.negation-2.new.reader (written_of c.in_ok-first.first) (written_of c.in_ok-second.second) c.sees_word.result _
+    c.in_ok-first.ensures c.sees_word.ensures c.if-not-sees_word.false c.word.ensures c.in_ok-second.ensures (ap (λ w. with_further_and c.args.levels w c.negation-2.new.reader) (sym c.in_ok-both.ensures) ∙ is))
     c.further_and.ensures
 
 pub further_and-returns-then-not-sees_word : goal.further_and-returns-then-not-sees_word
@@ -39,8 +39,8 @@ further_and-returns-then-levels-eq0 t c =
 pub further_and-returns : goal.further_and-returns
 further_and-returns t c =
     if_ok c.further_and.result _ _
-    (λ read is. further_and_more c.args.levels (c.args.levels - 1) c.args.reader.now c.word.new.self c.negated.new.reader (written_of c.args.left) (written_of c.in_ok-right.right) c.sees_word.result _
-    (suc_before c.args.levels c.if-levels-eq0.false) c.sees_word.ensures c.if-not-sees_word.false c.word.ensures c.in_ok-right.ensures (ap (λ w. with_further_and (c.args.levels - 1) w c.negated.new.reader) (sym c.in_ok-both.ensures) ∙ is))
+    (λ read is. further_and_more c.args.levels (c.args.levels - 1) c.args.reader.now c.word.new.self c.negation.new.reader (written_of c.args.left) (written_of c.in_ok-right.right) c.sees_word.result _
+    (suc_before c.args.levels c.if-levels-eq0.false) c.sees_word.ensures c.if-not-sees_word.false c.word.ensures c.in_ok-right.ensures (ap (λ w. with_further_and (c.args.levels - 1) w c.negation.new.reader) (sym c.in_ok-both.ensures) ∙ is))
     c.further_and.ensures
 
 pub further_or-returns-then-not-sees_word : goal.further_or-returns-then-not-sees_word
@@ -58,18 +58,18 @@ further_or-returns t c =
     (suc_before c.args.levels c.if-levels-eq0.false) c.sees_word.ensures c.if-not-sees_word.false c.word.ensures c.in_ok-right.ensures (ap (λ w. with_further_or (c.args.levels - 1) w c.conjunct.new.reader) (sym c.in_ok-either.ensures) ∙ is))
     c.further_or.ensures
 
-pub negated-returns-in-Not : goal.negated-returns-in-Not
-negated-returns-in-Not t c =
-    if_ok c.denied.result _ _ (λ read is. negated_is c.args.levels c.args.reader.now c.alone_start.result begins.Not c.alone_start.ensures c.in-Not.is ∙ is) c.denied.ensures
+pub negation-returns-in-Not : goal.negation-returns-in-Not
+negation-returns-in-Not t c =
+    if_ok c.group_behind_not.result _ _ (λ read is. negated_is c.args.levels c.args.reader.now c.alone_start.result begins.Not c.alone_start.ensures c.in-Not.is ∙ is) c.group_behind_not.ensures
 
-pub negated-returns-in-Group : goal.negated-returns-in-Group
-negated-returns-in-Group t c =
+pub negation-returns-in-Group : goal.negation-returns-in-Group
+negation-returns-in-Group t c =
     if_ok c.group.result _ _ (λ read is. negated_is c.args.levels c.args.reader.now c.alone_start.result begins.Group c.alone_start.ensures c.in-Group.is ∙ is) c.group.ensures
 
-pub negated-returns-in-Differ : goal.negated-returns-in-Differ
-negated-returns-in-Differ t c =
-    if_ok c.differing.result _ _ (λ read is. negated_is c.args.levels c.args.reader.now c.alone_start.result begins.Differ c.alone_start.ensures c.in-Differ.is ∙ is) c.differing.ensures
+pub negation-returns-in-Differ : goal.negation-returns-in-Differ
+negation-returns-in-Differ t c =
+    if_ok c.differ_test.result _ _ (λ read is. negated_is c.args.levels c.args.reader.now c.alone_start.result begins.Differ c.alone_start.ensures c.in-Differ.is ∙ is) c.differ_test.ensures
 
-pub negated-returns-in-Relation : goal.negated-returns-in-Relation
-negated-returns-in-Relation t c =
+pub negation-returns-in-Relation : goal.negation-returns-in-Relation
+negation-returns-in-Relation t c =
     if_ok c.relation.result _ _ (λ read is. negated_is c.args.levels c.args.reader.now c.alone_start.result begins.Relation c.alone_start.ensures c.in-Relation.is ∙ is) c.relation.ensures

@@ -7,11 +7,11 @@ decreases-condition l = 4 * l.levels + 3
 abbrev pub decreases-conjunct : goal.decreases-conjunct
 decreases-conjunct l = 4 * l.levels + 2
 
-abbrev pub decreases-negated : goal.decreases-negated
-decreases-negated l = 4 * l.levels + 1
+abbrev pub decreases-negation : goal.decreases-negation
+decreases-negation l = 4 * l.levels + 1
 
-abbrev pub decreases-denied : goal.decreases-denied
-decreases-denied l = 4 * l.levels
+abbrev pub decreases-group_behind_not : goal.decreases-group_behind_not
+decreases-group_behind_not l = 4 * l.levels
 
 abbrev pub decreases-group : goal.decreases-group
 decreases-group l = 4 * l.levels

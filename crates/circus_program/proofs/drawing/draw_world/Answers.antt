@@ -38,6 +38,6 @@ returns-in-Err g c =
     let procedures = c.args.procedures.now in
     let lines = c.args.lines.now in
     let old = g.K.Sink.written c.args.sink.now in
-    let new = g.K.Sink.written c.ended.new.sink in
+    let new = g.K.Sink.written c.end_of_lines.new.sink in
     put-cut g.M.Module.declared g.M.Module.turn c.args.hosts.now names (λ w. record { status = Done; text = picture_text (names_of c.args.hosts.now names) procedures lines w })
-    lines c.args.world c.in-Err.cut.number c.in-Err.cut.fault old new (g.K.Sink.faults c.args.sink.now) (g.K.Sink.faults c.ended.new.sink) c.ended.result c.in-Err.ensures.followed c.ended.ensures
+    lines c.args.world c.in-Err.cut.number c.in-Err.cut.fault old new (g.K.Sink.faults c.args.sink.now) (g.K.Sink.faults c.end_of_lines.new.sink) c.end_of_lines.result c.in-Err.ensures.followed c.end_of_lines.ensures

@@ -14,5 +14,5 @@ returns-in-Err g c =
     let text = picture_text (names_of world.deployment.nodes c.args.names.now) c.args.procedures.now c.args.lines.now world in
     let old = g.K.Sink.written c.args.sink.now in
     let new = g.K.Sink.written c.put_picture.new.sink in
-    put-stopped text (record { status = Done; text = text }) old old new (g.K.Sink.faults c.args.sink.now) (g.K.Sink.faults c.put_picture.new.sink) c.in-Err.fault c.stopped.result
-    c.stopped.ensures.sink c.stopped.ensures.memory c.in-Err.ensures.put c.in-Err.ensures.rose (λ part. part)
+    put-stopped text (record { status = Done; text = text }) old old new (g.K.Sink.faults c.args.sink.now) (g.K.Sink.faults c.put_picture.new.sink) c.in-Err.fault c.end_of_stop.result
+    c.end_of_stop.ensures.sink c.end_of_stop.ensures.memory c.in-Err.ensures.put c.in-Err.ensures.rose (λ part. part)

@@ -5,7 +5,7 @@ use Rattle.circus_schedule.specs.Meaning.{NamesBelow}
 use Rattle.circus_simulated.proofs.Stepping.{stepped_keeps}
 use Rattle.circus_program.proofs.Following.{lines_from}
 use Rattle.circus_program.proofs.Stepping.{IsLeft, left-next, left-cut}
-use Rattle.circus_program.specs.Replay.{followed}
+use Rattle.circus_program.specs.Replay.{follow_lines}
 use Rattle.circus_program.proofs.drawing.step_all.Goals as goal
 
 pub loop-place-init : goal.loop-place-init
@@ -53,7 +53,7 @@ returns-clause-followed g c =
     let w = c.loop-place.world in
     λ names end.
     c.loop-place.invariant.left names end
-    ∙ ap (λ (l : List Line). followed declared turn names end (place + 1) l w) (drop_of_length-le c.args.lines.now c.loop-place-test.false)
+    ∙ ap (λ (l : List Line). follow_lines declared turn names end (place + 1) l w) (drop_of_length-le c.args.lines.now c.loop-place-test.false)
 
 pub returns-clause-deployed : goal.returns-clause-deployed
 returns-clause-deployed g c = c.loop-place.invariant.deployed

@@ -1,6 +1,6 @@
 use Rattle.std.proofs.Common.{◌≡◌, All, Ok, IfOk, length, ap, sym, subst}
 use Rattle.circus_schedule.specs.Meaning.{NamesBelow}
-use Rattle.circus_simulated.specs.Booted.{booted}
+use Rattle.circus_simulated.specs.Booted.{boot_world}
 use Rattle.circus_simulated.specs.Seen.Simulated.{world_of, IsOfPlan}
 use Rattle.circus_program.proofs.ReadyLemmas.{ready_shows}
 use Rattle.circus_program.proofs.ready.boot.Goals as goal
@@ -17,5 +17,5 @@ returns-in-Ok-clause-ready c =
 pub returns-in-Ok-clause-end : goal.returns-in-Ok-clause-end
 returns-in-Ok-clause-end c =
     let of = subst (λ r. IfOk r (IsOfPlan c.args.plan)) c.in-Ok.is c.in_ok-simulated.ensures.plan in
-    let is = subst (λ r. IfOk r (λ simulated. booted c.args.plan ≡ Ok (world_of simulated.world))) c.in-Ok.is c.in_ok-simulated.ensures.world in
+    let is = subst (λ r. IfOk r (λ simulated. boot_world c.args.plan ≡ Ok (world_of simulated.world))) c.in-Ok.is c.in_ok-simulated.ensures.world in
     ready_shows c.args.shown c.args.plan (record { simulated = c.in-Ok.simulated; lines = c.args.lines; procedures = c.in_ok-procedures.procedures }) of is c.in_ok-procedures.ensures

@@ -22,4 +22,4 @@ returns-in-Ok-clause-ended c =
 
 pub returns-clause-ended : goal.returns-clause-ended
 returns-clause-ended c =
-    end-of_fault c.args.shown c.args.plan c.args.schedule.now c.in-Err.fault (ending_of c.in_ok-refused-in-Err.field-0) c.in-Err.ensures.answer (c.in_ok-refused-in-Err.ensures.ending c.args.shown c.args.plan)
+    end-of_fault c.args.shown c.args.plan c.args.schedule.now c.in-Err.fault (ending_of c.in_ok-end_of_schedule-in-Err.field-0) c.in-Err.ensures.answer (c.in_ok-end_of_schedule-in-Err.ensures.ending c.args.shown c.args.plan)

@@ -10,7 +10,7 @@ use Rattle.circus_report.specs.Report.{rest_text}
 use Rattle.circus_report.specs.Run.{IsPut}
 use Rattle.circus_report.specs.Writing.{Writes}
 use Rattle.circus_ending.specs.declared.status.Status.TheVariants.{Done}
-use Rattle.circus_program.specs.Replay.{replayed}
+use Rattle.circus_program.specs.Replay.{replay_lines}
 use Rattle.circus_program.specs.Seen.Put.{IsPutEnd}
 use Rattle.circus_simulated.proofs.Stepping.{stepped_keeps}
 use Rattle.circus_program.proofs.Pieces.{begun-none, begun-as, part-left}
@@ -45,17 +45,17 @@ returns-in-Err g c =
     let place = c.loop-place.place in
     let line = get_or lines place (Deliver 0) in
     let w = c.loop-place.running in
-    let whole = replayed declared turn names 1 lines c.args.running in
+    let whole = replay_lines declared turn names 1 lines c.args.running in
     let old = g.K.Sink.written c.args.sink.now in
     let now = g.K.Sink.written c.loop-place.sink in
-    let new = g.K.Sink.written c.ended.new.sink in
-    let after = g.K.Sink.faults c.ended.new.sink in
-    let begun = begun-as whole old _ (replayed declared turn names (place + 1) (line ∷ drop (place + 1) lines) w) now
-    (ap (λ (l : List Line). replayed declared turn names (place + 1) l w) (lines_from lines place (Deliver 0) c.loop-place-test.true)) c.loop-place.invariant.begun in
-    subst (λ (before : ℕ). IsPutEnd whole old new before after c.ended.result) c.loop-place.invariant.count
+    let new = g.K.Sink.written c.end_of_lines.new.sink in
+    let after = g.K.Sink.faults c.end_of_lines.new.sink in
+    let begun = begun-as whole old _ (replay_lines declared turn names (place + 1) (line ∷ drop (place + 1) lines) w) now
+    (ap (λ (l : List Line). replay_lines declared turn names (place + 1) l w) (lines_from lines place (Deliver 0) c.loop-place-test.true)) c.loop-place.invariant.begun in
+    subst (λ (before : ℕ). IsPutEnd whole old new before after c.end_of_lines.result) c.loop-place.invariant.count
     (put-ended declared turn whole old hosts c.args.names.now (place + 1) line (drop (place + 1) lines) w now (g.K.Sink.written c.line.new.sink) new
-    (g.K.Sink.faults c.loop-place.sink) (g.K.Sink.faults c.line.new.sink) after c.in-Err.fault c.ended.result
-    begun c.in-Err.ensures.run c.in-Err.ensures.rose c.in-Err.ensures.count c.ended.ensures)
+    (g.K.Sink.faults c.loop-place.sink) (g.K.Sink.faults c.line.new.sink) after c.in-Err.fault c.end_of_lines.result
+    begun c.in-Err.ensures.run c.in-Err.ensures.rose c.in-Err.ensures.count c.end_of_lines.ensures)
 
 pub loop-place-preserved : goal.loop-place-preserved
 loop-place-preserved g c =
@@ -67,11 +67,11 @@ loop-place-preserved g c =
     let line = get_or lines place (Deliver 0) in
     let w = c.loop-place.running in
     let next = c.in-Ok.running in
-    let whole = replayed declared turn names 1 lines c.args.running in
+    let whole = replay_lines declared turn names 1 lines c.args.running in
     let old = g.K.Sink.written c.args.sink.now in
     let now = g.K.Sink.written c.loop-place.sink in
-    let begun = begun-as whole old _ (replayed declared turn names (place + 1) (line ∷ drop (place + 1) lines) w) now
-    (ap (λ (l : List Line). replayed declared turn names (place + 1) l w) (lines_from lines place (Deliver 0) c.loop-place-test.true)) c.loop-place.invariant.begun in
+    let begun = begun-as whole old _ (replay_lines declared turn names (place + 1) (line ∷ drop (place + 1) lines) w) now
+    (ap (λ (l : List Line). replay_lines declared turn names (place + 1) l w) (lines_from lines place (Deliver 0) c.loop-place-test.true)) c.loop-place.invariant.begun in
     let keeps = stepped_keeps declared turn line w next c.in-Ok.ensures.run.1 in
     record {
       hosts = c.loop-place.invariant.hosts ∙ sym (ap (λ (d : Deployment). d.nodes) keeps.deployment);
@@ -93,13 +93,13 @@ returns-in-Ok-finish g c =
     let lines = c.args.lines.now in
     let place = c.loop-place.place in
     let w = c.loop-place.running in
-    let whole = replayed declared turn names 1 lines c.args.running in
+    let whole = replay_lines declared turn names 1 lines c.args.running in
     let old = g.K.Sink.written c.args.sink.now in
     let now = g.K.Sink.written c.loop-place.sink in
     let new = g.K.Sink.written c.finish.new.sink in
     let after = g.K.Sink.faults c.finish.new.sink in
-    let begun = begun-as whole old _ (replayed declared turn names (place + 1) [] w) now
-    (ap (λ (l : List Line). replayed declared turn names (place + 1) l w) (drop_of_length-le lines c.loop-place-test.false)) c.loop-place.invariant.begun in
+    let begun = begun-as whole old _ (replay_lines declared turn names (place + 1) [] w) now
+    (ap (λ (l : List Line). replay_lines declared turn names (place + 1) l w) (drop_of_length-le lines c.loop-place-test.false)) c.loop-place.invariant.begun in
     let written : Writes now new (rest_text names w) =
     subst (λ (hosts : List Host). Writes now new (rest_text (names_of hosts modules) w)) (sym c.loop-place.invariant.hosts) c.in-Ok-finish.ensures.put in
     subst (λ (before : ℕ). IsPutEnd whole old new before after Done) c.loop-place.invariant.count
@@ -114,14 +114,14 @@ returns-in-Err-finish g c =
     let lines = c.args.lines.now in
     let place = c.loop-place.place in
     let w = c.loop-place.running in
-    let whole = replayed declared turn names 1 lines c.args.running in
+    let whole = replay_lines declared turn names 1 lines c.args.running in
     let old = g.K.Sink.written c.args.sink.now in
     let now = g.K.Sink.written c.loop-place.sink in
     let new = g.K.Sink.written c.finish.new.sink in
     let after = g.K.Sink.faults c.finish.new.sink in
-    let begun = begun-as whole old _ (replayed declared turn names (place + 1) [] w) now
-    (ap (λ (l : List Line). replayed declared turn names (place + 1) l w) (drop_of_length-le lines c.loop-place-test.false)) c.loop-place.invariant.begun in
+    let begun = begun-as whole old _ (replay_lines declared turn names (place + 1) [] w) now
+    (ap (λ (l : List Line). replay_lines declared turn names (place + 1) l w) (drop_of_length-le lines c.loop-place-test.false)) c.loop-place.invariant.begun in
     let put = subst (λ (hosts : List Host). IsPut {A = Unit {0}} (rest_text (names_of hosts modules) w) now new (Err c.in-Err-finish.fault)) (sym c.loop-place.invariant.hosts) c.in-Err-finish.ensures.put in
-    subst (λ (before : ℕ). IsPutEnd whole old new before after c.stopped.result) c.loop-place.invariant.count
-    (put-stopped (rest_text names w) whole old now new (g.K.Sink.faults c.loop-place.sink) after c.in-Err-finish.fault c.stopped.result
-    c.stopped.ensures.sink c.stopped.ensures.memory put c.in-Err-finish.ensures.rose (λ part. part-left whole old (replayed declared turn names (place + 1) [] w) now new begun part))
+    subst (λ (before : ℕ). IsPutEnd whole old new before after c.end_of_stop.result) c.loop-place.invariant.count
+    (put-stopped (rest_text names w) whole old now new (g.K.Sink.faults c.loop-place.sink) after c.in-Err-finish.fault c.end_of_stop.result
+    c.end_of_stop.ensures.sink c.end_of_stop.ensures.memory put c.in-Err-finish.ensures.rose (λ part. part-left whole old (replay_lines declared turn names (place + 1) [] w) now new begun part))

@@ -6,12 +6,12 @@ use Rattle.circus_config.specs.declared.plan.Plan.{Plan}
 use Rattle.circus_ending.specs.declared.status.Status.TheVariants.{BadSchedule}
 use Rattle.circus_ending.specs.Ending.{Ending}
 use Rattle.circus_program.specs.declared.shown.Shown.{Shown}
-use Rattle.circus_program.specs.Replay.{refused, IsReplayOf}
+use Rattle.circus_program.specs.Replay.{refuse_line, IsReplayOf}
 use Rattle.circus_program.proofs.schedule_refused.fault_text.Goals as goal
 
 -- the text is that of the line
 said : {E : Type 0} (r : Result (List ℕ) E) (number : ℕ) (cause : List ℕ) → IfOk r (λ text. text ≡ line (codes "schedule line " ++ decimal number ++ codes ": " ++ cause))
-    → IfOk r (λ text. ◌≡◌ {A = Ending} (record { status = BadSchedule; text = text }) (refused number cause))
+    → IfOk r (λ text. ◌≡◌ {A = Ending} (record { status = BadSchedule; text = text }) (refuse_line number cause))
 said (Ok text) number cause is = let end : List ℕ → Ending = λ t. record { status = BadSchedule; text = t } in ap end is
 said (Err e) number cause is = tt
 

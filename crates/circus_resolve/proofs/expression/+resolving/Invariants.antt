@@ -2,7 +2,7 @@ use Rattle.std.proofs.Common.{◌≡◌, ◌+◌, ◌*◌, ℕ, [], ◌∷◌, �
 use Rattle.circus_expression.specs.ExpressionTree.{ExpressionTree, expression_trees, suffix_trees}
 use Rattle.circus_expression.specs.ExpressionOf.{tree_of, suffix_of}
 use Rattle.circus_expression.specs.Seen.ExpressionWeight.{weight, list_weight, suffix_weights}
-use Rattle.circus_resolve.specs.Faults.{each_faults, suffix_faults, led}
+use Rattle.circus_resolve.specs.Faults.{each_faults, suffix_faults, shape_led_to}
 use Rattle.circus_resolve.specs.Meaning.{each_meant, suffixes_meant}
 use Rattle.circus_resolve.specs.Seen.Found.{with_faults}
 use Rattle.circus_resolve.specs.Seen.Scoped.{scope_as, shape_as}
@@ -22,7 +22,7 @@ abbrev pub invariant-suffixes_of-loop-suffix : goal.invariant-suffixes_of-loop-s
 invariant-suffixes_of-loop-suffix l =
     (with_faults l.found (suffix_faults (scope_as l.scope) l.first (shape_as l.led.shape) (suffix_trees (map suffix_of (drop l.suffix-index l.suffix-items))))
     ≡ with_faults l.fn.found (suffix_faults (scope_as l.scope) l.first (shape_as l.shape) (suffix_trees l.suffixes)))
-    × ((led (shape_as l.led.shape) (suffix_trees (map suffix_of (drop l.suffix-index l.suffix-items))) ≡ led (shape_as l.shape) (suffix_trees l.suffixes))
+    × ((shape_led_to (shape_as l.led.shape) (suffix_trees (map suffix_of (drop l.suffix-index l.suffix-items))) ≡ shape_led_to (shape_as l.shape) (suffix_trees l.suffixes))
     × (l.led.suffixes ++ suffixes_meant (scope_as l.scope) (shape_as l.led.shape) (suffix_trees (map suffix_of (drop l.suffix-index l.suffix-items)))
     ≡ suffixes_meant (scope_as l.scope) (shape_as l.shape) (suffix_trees l.suffixes)))
 
@@ -36,11 +36,11 @@ decreases-resolve l = light (tree_of l.expression.now)
 abbrev pub decreases-binary : goal.decreases-binary
 decreases-binary l = light l.left.now + light l.right.now + 3
 
-abbrev pub decreases-denied : goal.decreases-denied
-decreases-denied l = light l.operand.now + 3
+abbrev pub decreases-resolve_not : goal.decreases-resolve_not
+decreases-resolve_not l = light l.operand.now + 3
 
-abbrev pub decreases-negative : goal.decreases-negative
-decreases-negative l = light l.operand.now + 3
+abbrev pub decreases-resolve_minus : goal.decreases-resolve_minus
+decreases-resolve_minus l = light l.operand.now + 3
 
 abbrev pub decreases-length : goal.decreases-length
 decreases-length l = light l.operand.now + 3

@@ -2,7 +2,7 @@ use Rattle.std.proofs.Common.{◌+◌, ◌-◌, ◌++◌, suc, List, [], ◌∷�
 use Rattle.std.proofs.lemmas.List.{append-nil}
 use Rattle.std.proofs.lemmas.Result.{err_from_is_err_and}
 use Rattle.circus_schedule.specs.declared.line.Line.{Line}
-use Rattle.circus_sample.specs.Sampled.{sampled, lines_drawn}
+use Rattle.circus_sample.specs.Sampled.{sample_lines, lines_drawn}
 use Rattle.circus_sample.specs.Answers.{IsSampled}
 use Rattle.circus_sample.proofs.Possible.{named, legal}
 use Rattle.circus_sample.proofs.Drawing.{next_is, kept, left_behind, goes_on, lines_go_on, ends}
@@ -14,7 +14,7 @@ loop-init g c =
       live = c.requires.live;
       spares = c.requires.spares;
       few = c.requires.few;
-      same = λ left all. ap (λ k. sampled g.M.Module.declared g.M.Module.turn k c.args.seed c.args.world) (sym (zero-add left) ∙ all);
+      same = λ left all. ap (λ k. sample_lines g.M.Module.declared g.M.Module.turn k c.args.seed c.args.world) (sym (zero-add left) ∙ all);
       noted = (
         [],
         c.requires.begun,
@@ -63,7 +63,7 @@ loop-preserved g c =
       spares = left_behind line c.loop.spares.now c.left_by-spares.result.now c.loop.world next c.loop.invariant.spares c.left_by-spares.ensures keeps;
       few = omega (arith, keeps.steps, c.loop.invariant.few);
       same = λ left all.
-          goes_on declared turn left c.loop.word c.next_word-word.result c.loop.world next line (sampled declared turn c.args.steps c.args.seed c.args.world)
+          goes_on declared turn left c.loop.word c.next_word-word.result c.loop.world next line (sample_lines declared turn c.args.steps c.args.seed c.args.world)
           is c.next_word-word.ensures c.in_ok-world.ensures (c.loop.invariant.same (suc left) (omega (arith, all)));
       noted = (
         noted.0 ++ line ∷ [],

@@ -1,13 +1,13 @@
 use Rattle.std.proofs.Common.{◌≡◌, ℕ, ◌+◌, ◌≤◌, ◌++◌, List}
 use Rattle.circus_schedule.specs.declared.line.Line.{Line}
-use Rattle.circus_sample.specs.Sampled.{spares_from, sampled, lines_drawn}
+use Rattle.circus_sample.specs.Sampled.{spares_from, sample_lines, lines_drawn}
 use Rattle.circus_sample.specs.Seen.Stepping.{NoneCrashed}
 use Rattle.circus_sample.proofs.sampling.draw.Given as goal
 
 -- the lines that are left come to what all come to, and those before them were noted
 abbrev pub invariant-loop : goal.invariant-loop
 invariant-loop g l =
-    let sampled_by = sampled g.M.Module.declared g.M.Module.turn in
+    let sampled_by = sample_lines g.M.Module.declared g.M.Module.turn in
     let drawn_by = lines_drawn g.M.Module.declared g.M.Module.turn in
     record {
       live : NoneCrashed l.world;

@@ -9,4 +9,4 @@ no_number (Some n) text beginning rest whole none = tt
 no_number None text beginning rest whole none = λ n small same. none n (omega arith) (append_cancel_left beginning rest (decimal n) (sym whole ∙ same))
 
 pub returns-clause-none : goal.returns-clause-none
-returns-clause-none c = no_number c.decimal_at_most.result c.args.text.now c.args.beginning.now c.in_ok-behind.field-0.now c.in_ok-behind.ensures c.decimal_at_most.ensures.none
+returns-clause-none c = no_number c.decimal_at_most.result c.args.text.now c.args.beginning.now c.in_ok-text_behind.field-0.now c.in_ok-text_behind.ensures c.decimal_at_most.ensures.none

@@ -1,6 +1,6 @@
 use Rattle.std.proofs.Common.{◌≡◌, ◌+◌, ◌-◌, ◌<◌, ◌≤◌, suc, length, Ok, Err, sym, ap, subst, ◌∙◌, arith, zero-add}
 use Rattle.std.proofs.lemmas.Result.{err_from_is_err_and}
-use Rattle.circus_settle.specs.Settled.{settled}
+use Rattle.circus_settle.specs.Settled.{settle_world}
 use Rattle.circus_settle.specs.Answers.{IsSettled}
 use Rattle.circus_settle.proofs.Delivering.{may_be, kept, goes_on, ends, stops}
 use Rattle.circus_settle.proofs.settling.deliver.Goals as goal
@@ -10,7 +10,7 @@ loop-number-init g c =
     record {
       sent = omega arith;
       few = c.requires;
-      same = λ left all. ap (λ k. settled g.M.Module.declared g.M.Module.turn k 0 c.args.world) (sym (zero-add left) ∙ all);
+      same = λ left all. ap (λ k. settle_world g.M.Module.declared g.M.Module.turn k 0 c.args.world) (sym (zero-add left) ∙ all);
     }
 
 pub returns-then-number-len : goal.returns-then-number-len
@@ -50,7 +50,7 @@ loop-number-preserved g c =
       sent = omega (arith, below, keeps.sent);
       few = omega (arith, keeps.steps, c.loop-number.invariant.few);
       same = λ left all.
-          goes_on declared turn left c.loop-number.number w next (settled declared turn c.args.deliveries 0 c.args.world) below c.in_ok-world.ensures
+          goes_on declared turn left c.loop-number.number w next (settle_world declared turn c.args.deliveries 0 c.args.world) below c.in_ok-world.ensures
           (c.loop-number.invariant.same (suc left) (omega (arith, all)));
     }
 

@@ -3,7 +3,7 @@ use Rattle.std.specs.Prelude.{IfErr}
 use Rattle.circus_schedule.specs.ScheduleText.{IsShort}
 use Rattle.circus_ending.specs.declared.status.Status.TheVariants.{Done, Spent}
 use Rattle.circus_ending.specs.Seen.Ending.{ending_of}
-use Rattle.circus_simulated.specs.Booted.{booted}
+use Rattle.circus_simulated.specs.Booted.{boot_world}
 use Rattle.circus_simulated.specs.Seen.Simulated.{world_of, IsOfPlan}
 use Rattle.circus_simulated.proofs.Drawing.{schedule_booted, lines_booted}
 use Rattle.circus_simulated.proofs.drawn.draw_plan.Goals as goal
@@ -12,13 +12,13 @@ pub returns-in-Ok-clause-ending : goal.returns-in-Ok-clause-ending
 returns-in-Ok-clause-ending c =
     let plan = c.args.plan in
     let of = subst (λ r. IfOk r (IsOfPlan plan)) c.in-Ok.is c.in_ok-simulated.ensures.plan in
-    let is = subst (λ r. IfOk r (λ simulated. booted plan ≡ Ok (world_of simulated.world))) c.in-Ok.is c.in_ok-simulated.ensures.world in
+    let is = subst (λ r. IfOk r (λ simulated. boot_world plan ≡ Ok (world_of simulated.world))) c.in-Ok.is c.in_ok-simulated.ensures.world in
     subst (λ e. IfOk c.draw_world.result (λ ending. ending_of ending ≡ e)) (schedule_booted plan c.in-Ok.simulated c.args.seed c.args.steps of is) c.draw_world.ensures.ending
 
 pub returns-in-Ok-clause-short : goal.returns-in-Ok-clause-short
 returns-in-Ok-clause-short c =
     let plan = c.args.plan in
-    let is = subst (λ r. IfOk r (λ simulated. booted plan ≡ Ok (world_of simulated.world))) c.in-Ok.is c.in_ok-simulated.ensures.world in
+    let is = subst (λ r. IfOk r (λ simulated. boot_world plan ≡ Ok (world_of simulated.world))) c.in-Ok.is c.in_ok-simulated.ensures.world in
     subst (λ lines. IfOk c.draw_world.result (λ ending. ending.status ≡ Done → All IsShort lines)) (lines_booted plan c.in-Ok.simulated c.args.seed c.args.steps is)
     c.draw_world.ensures.short
 

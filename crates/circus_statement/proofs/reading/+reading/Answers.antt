@@ -15,28 +15,28 @@ use Rattle.circus_statement.proofs.reading.+reading.Goals as goal
 
 pub statements_text-returns-then-sees_word : goal.statements_text-returns-then-sees_word
 statements_text-returns-then-sees_word t c =
-    if_ok c.opened.result _ _ (λ read is. ap (shown (map stands_for)) (block_seen c.args.levels c.args.lead.now c.args.reader.now c.sees_word.result c.sees_word.ensures c.if-sees_word.true) ∙ is) c.opened.ensures
+    if_ok c.block_behind.result _ _ (λ read is. ap (shown (map stands_for)) (block_seen c.args.levels c.args.lead.now c.args.reader.now c.sees_word.result c.sees_word.ensures c.if-sees_word.true) ∙ is) c.block_behind.ensures
 
 pub statements_text-returns : goal.statements_text-returns
 statements_text-returns t c = block_missed c.args.levels c.args.lead.now c.args.reader.now c.stop_here.new.self c.new.result c.sees_word.result c.sees_word.ensures c.if-sees_word.false c.stop_here.ensures c.new.ensures
 
-pub opened-returns-then-levels-eq0 : goal.opened-returns-then-levels-eq0
-opened-returns-then-levels-eq0 t c = opened_deep c.args.levels c.args.lead.now c.args.reader.now c.stop_here.new.self c.new-statements.result c.if-levels-eq0.true c.stop_here.ensures c.new-statements.ensures
+pub block_behind-returns-then-levels-eq0 : goal.block_behind-returns-then-levels-eq0
+block_behind-returns-then-levels-eq0 t c = opened_deep c.args.levels c.args.lead.now c.args.reader.now c.stop_here.new.self c.new-statements.result c.if-levels-eq0.true c.stop_here.ensures c.new-statements.ensures
 
-pub opened-loop-statements-init : goal.opened-loop-statements-init
-opened-loop-statements-init t c = opened_begin c.args.levels (c.args.levels - 1) c.args.lead.now c.args.reader.now c.word.new.self c.new-statements.result (suc_before c.args.levels c.if-levels-eq0.false) c.word.ensures c.new-statements.ensures
+pub block_behind-loop-statements-init : goal.block_behind-loop-statements-init
+block_behind-loop-statements-init t c = opened_begin c.args.levels (c.args.levels - 1) c.args.lead.now c.args.reader.now c.word.new.self c.new-statements.result (suc_before c.args.levels c.if-levels-eq0.false) c.word.ensures c.new-statements.ensures
 
-pub opened-loop-statements-smaller : goal.opened-loop-statements-smaller
-opened-loop-statements-smaller t c =
+pub block_behind-loop-statements-smaller : goal.block_behind-loop-statements-smaller
+block_behind-loop-statements-smaller t c =
     go_shorter stands_for begins_statement (statement (c.args.levels - 1)) (shrinks_statement (c.args.levels - 1)) c.loop-statements.reader c.statement.new.reader (tree_of c.in_ok-statement.field-0) (sym c.sees_statement.ensures ∙ c.loop-statements-test.true) c.in_ok-statement.ensures
 
-pub opened-loop-statements-preserved : goal.opened-loop-statements-preserved
-opened-loop-statements-preserved t c =
+pub block_behind-loop-statements-preserved : goal.block_behind-loop-statements-preserved
+block_behind-loop-statements-preserved t c =
     go_step stands_for begins_statement (statement (c.args.levels - 1)) (shrinks_statement (c.args.levels - 1)) _ c.loop-statements.statements c.push.new.self c.loop-statements.reader c.statement.new.reader (tree_of c.in_ok-statement.field-0)
     c.loop-statements.invariant (sym c.sees_statement.ensures ∙ c.loop-statements-test.true) c.in_ok-statement.ensures c.in_ok-push.ensures.ok
 
-pub opened-returns : goal.opened-returns
-opened-returns t c = go_end stands_for begins_statement (statement (c.args.levels - 1)) _ c.loop-statements.statements c.loop-statements.reader c.loop-statements.invariant (sym c.sees_statement.ensures ∙ c.loop-statements-test.false)
+pub block_behind-returns : goal.block_behind-returns
+block_behind-returns t c = go_end stands_for begins_statement (statement (c.args.levels - 1)) _ c.loop-statements.statements c.loop-statements.reader c.loop-statements.invariant (sym c.sees_statement.ensures ∙ c.loop-statements-test.false)
 
 pub statement_kind-returns-in-Assign : goal.statement_kind-returns-in-Assign
 statement_kind-returns-in-Assign t c =
@@ -68,18 +68,18 @@ statement_kind-returns-in-Raise t c =
 
 pub choice-returns : goal.choice-returns
 choice-returns t c =
-    choice_is c.args.levels c.args.reader.now c.word.new.self c.expression_text.new.reader c.statements_text.new.reader c.otherwise.new.reader c.ended.new.reader (expression.tree_of c.in_ok-condition.condition) c.in_ok-chosen.chosen c.in_ok-other.other
-    c.word.ensures c.in_ok-condition.ensures c.in_ok-chosen.ensures c.in_ok-other.ensures c.ended.ensures
+    choice_is c.args.levels c.args.reader.now c.word.new.self c.expression_text.new.reader c.statements_text.new.reader c.else_part.new.reader c.list_end.new.reader (expression.tree_of c.in_ok-condition.condition) c.in_ok-chosen.chosen c.in_ok-other.other
+    c.word.ensures c.in_ok-condition.ensures c.in_ok-chosen.ensures c.in_ok-other.ensures c.list_end.ensures
 
-pub otherwise-returns-in_ok-statements_text : goal.otherwise-returns-in_ok-statements_text
-otherwise-returns-in_ok-statements_text t c = else_some c.args.levels c.args.reader.now c.statements_text.new.reader c.in_ok-statements_text.field-0 c.sees_word.result c.sees_word.ensures c.if-sees_word.true c.in_ok-statements_text.ensures
+pub else_part-returns-in_ok-statements_text : goal.else_part-returns-in_ok-statements_text
+else_part-returns-in_ok-statements_text t c = else_some c.args.levels c.args.reader.now c.statements_text.new.reader c.in_ok-statements_text.field-0 c.sees_word.result c.sees_word.ensures c.if-sees_word.true c.in_ok-statements_text.ensures
 
-pub otherwise-returns-else-sees_word : goal.otherwise-returns-else-sees_word
-otherwise-returns-else-sees_word t c = else_none c.args.levels c.args.reader.now c.sees_word.result c.sees_word.ensures c.if-sees_word.false
+pub else_part-returns-else-sees_word : goal.else_part-returns-else-sees_word
+else_part-returns-else-sees_word t c = else_none c.args.levels c.args.reader.now c.sees_word.result c.sees_word.ensures c.if-sees_word.false
 
 pub repetition-returns : goal.repetition-returns
 repetition-returns t c =
-    repetition_is c.args.levels c.args.reader.now c.word.new.self c.expression_text.new.reader c.statements_text.new.reader c.ended.new.reader (expression.tree_of c.in_ok-condition.condition) c.in_ok-repeated.repeated c.word.ensures c.in_ok-condition.ensures c.in_ok-repeated.ensures c.ended.ensures
+    repetition_is c.args.levels c.args.reader.now c.word.new.self c.expression_text.new.reader c.statements_text.new.reader c.list_end.new.reader (expression.tree_of c.in_ok-condition.condition) c.in_ok-repeated.repeated c.word.ensures c.in_ok-condition.ensures c.in_ok-repeated.ensures c.list_end.ensures
 
 pub call-returns : goal.call-returns
 call-returns t c =
@@ -104,5 +104,5 @@ handlers-returns t c = go_end handler_stands_for (is_word (codes "ON")) (handler
 
 pub handler-returns : goal.handler-returns
 handler-returns t c =
-    handler_is c.args.levels c.args.reader.now c.word.new.self c.handled.new.reader c.statements_text.new.reader c.word-2.new.self c.place-at.result c.in_ok-error.error (option_map (map place_of) c.in_ok-error.places) c.in_ok-statements.statements
+    handler_is c.args.levels c.args.reader.now c.word.new.self c.handler_head.new.reader c.statements_text.new.reader c.word-2.new.self c.place-at.result c.in_ok-error.error (option_map (map place_of) c.in_ok-error.places) c.in_ok-statements.statements
     c.word.ensures c.place-at.ensures c.in_ok-error.ensures c.in_ok-statements.ensures c.word-2.ensures

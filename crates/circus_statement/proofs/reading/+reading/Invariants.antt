@@ -6,14 +6,14 @@ use Rattle.circus_statement.specs.StatementStanding.{stands_for, handler_stands_
 use Rattle.circus_statement.proofs.Steps.{go_on}
 use Rattle.circus_statement.proofs.reading.+reading.Given as goal
 
-abbrev pub decreases-opened : goal.decreases-opened
-decreases-opened l = 8 * l.levels
+abbrev pub decreases-block_behind : goal.decreases-block_behind
+decreases-block_behind l = 8 * l.levels
 
 abbrev pub decreases-statements_text : goal.decreases-statements_text
 decreases-statements_text l = 8 * l.levels + 1
 
-abbrev pub decreases-otherwise : goal.decreases-otherwise
-decreases-otherwise l = 8 * l.levels + 2
+abbrev pub decreases-else_part : goal.decreases-else_part
+decreases-else_part l = 8 * l.levels + 2
 
 abbrev pub decreases-handler : goal.decreases-handler
 decreases-handler l = 8 * l.levels + 2
@@ -37,11 +37,11 @@ abbrev pub decreases-statement : goal.decreases-statement
 decreases-statement l = 8 * l.levels + 6
 
 -- the statements so far and those that follow are the statements
-abbrev pub invariant-opened-loop-statements : goal.invariant-opened-loop-statements
-invariant-opened-loop-statements l = shown (map stands_for) (opened_block l.levels l.lead l.fn.reader) ≡ go_on stands_for begins_statement (statement (l.levels - 1)) l.statements l.reader
+abbrev pub invariant-block_behind-loop-statements : goal.invariant-block_behind-loop-statements
+invariant-block_behind-loop-statements l = shown (map stands_for) (opened_block l.levels l.lead l.fn.reader) ≡ go_on stands_for begins_statement (statement (l.levels - 1)) l.statements l.reader
 
-abbrev pub decreases-opened-loop-statements : goal.decreases-opened-loop-statements
-decreases-opened-loop-statements l = length l.reader.rest
+abbrev pub decreases-block_behind-loop-statements : goal.decreases-block_behind-loop-statements
+decreases-block_behind-loop-statements l = length l.reader.rest
 
 -- the handlers so far and those that follow are the handlers
 abbrev pub invariant-handlers-loop-handlers : goal.invariant-handlers-loop-handlers

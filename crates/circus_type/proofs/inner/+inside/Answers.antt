@@ -12,14 +12,14 @@ use Rattle.circus_type.proofs.Dropped.{drop_more}
 use Rattle.circus_type.proofs.LeastMore.{onward_least, bare_is}
 use Rattle.circus_type.proofs.TypeItems.{group_falls, arm_falls}
 use Rattle.circus_type.proofs.inner.+inside.Goals as goal
-use Rattle.circus_type.proofs.inner.+inside.Goals.{inside_arms-then-not-is_empty_record+in_ok-inside, inside_arms-else-not-is_empty_record}
+use Rattle.circus_type.proofs.inner.+inside.Goals.{inside_arms-then-not-is_empty_record+in_ok-check_inside, inside_arms-else-not-is_empty_record}
 
-pub inside_arms-inside-requires : goal.inside_arms-inside-requires
-inside_arms-inside-requires g t c κs within =
+pub inside_arms-check_inside-requires : goal.inside_arms-check_inside-requires
+inside_arms-check_inside-requires g t c κs within =
     (omega (arith, c.decreases, arm_falls c.args.arms.now c.loop-arm.arm-index c.arm-item.result c.loop-arm-test.true c.arm-item.is), within)
 
-pub inside_groups-inside-requires : goal.inside_groups-inside-requires
-inside_groups-inside-requires g t c κs within =
+pub inside_groups-check_inside-requires : goal.inside_groups-check_inside-requires
+inside_groups-check_inside-requires g t c κs within =
     (omega (arith, c.decreases, group_falls c.args.groups.now c.loop-group.group-index c.group-item.result c.loop-group-test.true c.group-item.is), within)
 
 pub inside_groups-loop-group-preserved : goal.inside_groups-loop-group-preserved
@@ -29,11 +29,11 @@ inside_groups-loop-group-preserved g t c =
     let one = c.group-item.result in
     let left = drop_more c.args.groups.now c.loop-group.group-index one c.loop-group-test.true c.group-item.is in
     let rest = faults.inside_groups emb known (group_trees (map group_of (drop (c.loop-group.group-index + 1) c.args.groups.now))) in
-    least_step g.C.Cause.rank c.inside.new.best.fault c.loop-group.best.fault _ (faults.inside emb known (tree_of one.shape)) rest c.in_ok-inside.ensures
+    least_step g.C.Cause.rank c.check_inside.new.best.fault c.loop-group.best.fault _ (faults.inside emb known (tree_of one.shape)) rest c.in_ok-check_inside.ensures
     (ap (λ gs. least_from g.C.Cause.rank c.loop-group.best.fault (faults.inside_groups emb known (group_trees (map group_of gs)))) (sym left) ∙ c.loop-group.invariant)
 
-pub inside-returns-in_ok-field_names-in-Record : goal.inside-returns-in_ok-field_names-in-Record
-inside-returns-in_ok-field_names-in-Record g t c =
+pub check_inside-returns-in_ok-field_names-in-Record : goal.check_inside-returns-in_ok-field_names-in-Record
+check_inside-returns-in_ok-field_names-in-Record g t c =
     let emb = g.C.WithTypeCauses.embed in
     let known = g.N.TypeNames.unknown c.args.names.now in
     let best = c.args.best.now.fault in
@@ -51,8 +51,8 @@ inside-returns-in_ok-field_names-in-Record g t c =
     subst (λ k. OnOk c.inside_groups.result (c.inside_groups.new.best.fault ≡ least_from g.C.Cause.rank best (faults.inside emb known (tree_at at k)))) (sym c.in-Record.is)
     (onward_least g.C.Cause.rank c.inside_groups.result c.inside_groups.new.best.fault c.field_names.new.best.fault best (bare ++ names) (faults.inside_groups emb known (group_trees gs)) second third)
 
-pub inside-returns-in_ok-arm_labels-in-Choice : goal.inside-returns-in_ok-arm_labels-in-Choice
-inside-returns-in_ok-arm_labels-in-Choice g t c =
+pub check_inside-returns-in_ok-arm_labels-in-Choice : goal.check_inside-returns-in_ok-arm_labels-in-Choice
+check_inside-returns-in_ok-arm_labels-in-Choice g t c =
     let emb = g.C.WithTypeCauses.embed in
     let known = g.N.TypeNames.unknown c.args.names.now in
     let best = c.args.best.now.fault in
@@ -77,7 +77,7 @@ inside_arms-loop-arm-preserved g t c =
     let this = cond (faults.is_empty_record (tree_of a.shape)) [] (faults.inside emb known (tree_of a.shape)) in
     let before = ap (λ ts. least_from g.C.Cause.rank best (faults.inside_arms emb known (arm_trees (map arm_of ts)))) (sym left) ∙ c.loop-arm.invariant in
     let found : c.if-not-is_empty_record.best.fault ≡ least_from g.C.Cause.rank best this = elim c.if-not-is_empty_record.branch [
-      | inside_arms-then-not-is_empty_record+in_ok-inside w ↦ ap (λ (b : Best g.row.C.Denot). b.fault) w.best-is ∙ w.in_ok-inside.ensures ∙ ap (λ b. least_from g.C.Cause.rank best (cond b [] (faults.inside emb known (tree_of a.shape)))) (sym (sym c.is_empty_record.ensures ∙ w.if-not-is_empty_record.true))
+      | inside_arms-then-not-is_empty_record+in_ok-check_inside w ↦ ap (λ (b : Best g.row.C.Denot). b.fault) w.best-is ∙ w.in_ok-check_inside.ensures ∙ ap (λ b. least_from g.C.Cause.rank best (cond b [] (faults.inside emb known (tree_of a.shape)))) (sym (sym c.is_empty_record.ensures ∙ w.if-not-is_empty_record.true))
       | inside_arms-else-not-is_empty_record w ↦ ap (λ (b : Best g.row.C.Denot). b.fault) w.best-is ∙ ap (λ b. least_from g.C.Cause.rank best (cond b [] (faults.inside emb known (tree_of a.shape)))) (sym (sym c.is_empty_record.ensures ∙ w.if-not-is_empty_record.false))
     ] in
     least_step g.C.Cause.rank c.if-not-is_empty_record.best.fault best _ this rest found before

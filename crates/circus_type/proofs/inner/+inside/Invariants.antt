@@ -18,8 +18,8 @@ invariant-inside_arms-loop-arm g l =
     least_from g.C.Cause.rank l.best.fault (faults.inside_arms g.C.WithTypeCauses.embed (g.N.TypeNames.unknown l.names) (arm_trees (map arm_of (drop l.arm-index l.arms))))
     ≡ least_from g.C.Cause.rank l.fn.best.fault (faults.inside_arms g.C.WithTypeCauses.embed (g.N.TypeNames.unknown l.names) (arm_trees (map arm_of l.arms)))
 
-abbrev pub decreases-inside : goal.decreases-inside
-decreases-inside g l = weight (tree_of l.shape.now)
+abbrev pub decreases-check_inside : goal.decreases-check_inside
+decreases-check_inside g l = weight (tree_of l.shape.now)
 
 abbrev pub decreases-inside_groups : goal.decreases-inside_groups
 decreases-inside_groups g l = group_weights (group_trees (map group_of l.groups.now))

@@ -25,8 +25,8 @@ decreases-measured_groups-loop-place g l = l.place
 abbrev pub decreases-measured_arms-loop-place : goal.decreases-measured_arms-loop-place
 decreases-measured_arms-loop-place g l = l.place
 
-abbrev pub decreases-measured : goal.decreases-measured
-decreases-measured g l = weight (tree_of l.shape.now)
+abbrev pub decreases-measure_of_type : goal.decreases-measure_of_type
+decreases-measure_of_type g l = weight (tree_of l.shape.now)
 
 abbrev pub decreases-measured_groups : goal.decreases-measured_groups
 decreases-measured_groups g l = group_weights (group_trees (map group_of l.groups.now))

@@ -17,8 +17,8 @@ invariant-written_arms-loop-arm g l =
     l.list ++ meant.written_arms (g.N.TypeNames.forms l.names) (arm_trees (map arm_of (drop l.arm-index l.arms)))
     ≡ meant.written_arms (g.N.TypeNames.forms l.names) (arm_trees (map arm_of l.arms))
 
-abbrev pub decreases-written : goal.decreases-written
-decreases-written g l = weight (tree_of l.shape.now)
+abbrev pub decreases-shape_of_type : goal.decreases-shape_of_type
+decreases-shape_of_type g l = weight (tree_of l.shape.now)
 
 abbrev pub decreases-written_groups : goal.decreases-written_groups
 decreases-written_groups g l = group_weights (group_trees (map group_of l.groups.now))

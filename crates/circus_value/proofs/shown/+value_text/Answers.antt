@@ -1,6 +1,6 @@
 use Rattle.std.proofs.Common.{arith, ap, rules, sym, ◌∙◌, ◌++◌, ◌∷◌, take}
 use Rattle.std.proofs.Output.{has_written_append, has_written_of_eq}
-use Rattle.circus_value.specs.Shown.{shown}
+use Rattle.circus_value.specs.Shown.{text_of_value}
 use Rattle.circus_value.specs.ValueOf.{tree_of}
 use Rattle.circus_value.proofs.ShownMore.{others_text, others_text_more}
 use Rattle.circus_value.proofs.ItemFalls.{later_falls}
@@ -14,7 +14,7 @@ write_items-loop-item-preserved g t c = λ plain.
     let others = c.in-Some.others.now in
     let place = c.loop-item.item-index in
     has_written_of_eq _ _ _ _ _
-    (ap (λ v. others_text (take place others) ++ (44 ∷ 32 ∷ shown (tree_of v))) c.item-item.is ∙ sym (others_text_more others place c.item-item.result c.loop-item-test.true))
+    (ap (λ v. others_text (take place others) ++ (44 ∷ 32 ∷ text_of_value (tree_of v))) c.item-item.is ∙ sym (others_text_more others place c.item-item.result c.loop-item-test.true))
     (has_written_append _ _ _ _ _ _ so_far (has_written_append _ _ _ _ _ _ comma item))
 
 pub write_items-fmt-requires-in-loop-item : goal.write_items-fmt-requires-in-loop-item

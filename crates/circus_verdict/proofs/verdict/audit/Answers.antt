@@ -1,7 +1,7 @@
 use Rattle.std.proofs.Common.{◌<◌, ◌∙◌, List, All, IfOk, length, map, ap, sym, subst}
 use Rattle.circus_collate.specs.Deployment.{IsDeployment}
 use Rattle.circus_collate.specs.declared.deployment.Deployment.{Deployment}
-use Rattle.circus_load.specs.Seen.Behaving.{declared, turn, first}
+use Rattle.circus_load.specs.Seen.Behaving.{declared_signature, turn, first}
 use Rattle.circus_machine.specs.declared.text.TextModule.{TextModule}
 use Rattle.circus_model.specs.Agree.{Agree}
 use Rattle.circus_model.specs.Behaviour.{Behaviour, behaviours}
@@ -19,10 +19,10 @@ audit_node-requires-clause-deployment c = subst IsDeployment (sym c.in_ok-deploy
 
 pub audit_node-requires-clause-modules : goal.audit_node-requires-clause-modules
 audit_node-requires-clause-modules c =
-    subst (λ (modules : List TextModule). AreOfTroupes c.in_ok-deployment.field-0.deployment (map declared modules)) (sym c.as_slice.ensures.value) c.in_ok-deployment.ensures.fit
+    subst (λ (modules : List TextModule). AreOfTroupes c.in_ok-deployment.field-0.deployment (map declared_signature modules)) (sym c.as_slice.ensures.value) c.in_ok-deployment.ensures.fit
 
 pub audit_node-requires-clause-agree : goal.audit_node-requires-clause-agree
-audit_node-requires-clause-agree c = subst (λ (modules : List TextModule). Agree (behaviours declared turn first modules)) (sym c.as_slice.ensures.value) c.in_ok-deployment.ensures.agree
+audit_node-requires-clause-agree c = subst (λ (modules : List TextModule). Agree (behaviours declared_signature turn first modules)) (sym c.as_slice.ensures.value) c.in_ok-deployment.ensures.agree
 
 pub audit_node-requires-clause-within : goal.audit_node-requires-clause-within
 audit_node-requires-clause-within c = subst (λ (d : Deployment). c.args.given.now.node < length d.nodes) (sym c.in_ok-deployment.ensures.deployment) c.requires.possible.node
@@ -38,6 +38,6 @@ audit_node-requires-clause-few c = few_runs c.args.plan c.args.given.now c.requi
 pub returns : goal.returns
 returns c =
     let loaded = c.in_ok-deployment.ensures in
-    let behave = ap (behaviours declared turn first) c.as_slice.ensures.value ∙ loaded.behave in
+    let behave = ap (behaviours declared_signature turn first) c.as_slice.ensures.value ∙ loaded.behave in
     subst (λ (p : List Behaviour). IfOk c.audit_node.result (IsVerdict c.args.plan.deployment p c.args.given.now)) behave
-    (subst (λ (d : Deployment). IfOk c.audit_node.result (IsVerdict d (behaviours declared turn first c.as_slice.result.now) c.args.given.now)) loaded.deployment c.audit_node.ensures)
+    (subst (λ (d : Deployment). IfOk c.audit_node.result (IsVerdict d (behaviours declared_signature turn first c.as_slice.result.now) c.args.given.now)) loaded.deployment c.audit_node.ensures)

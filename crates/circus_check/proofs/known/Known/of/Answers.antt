@@ -87,6 +87,6 @@ returns c = record {
   order_is = c.loop-procedure.invariant.order;
 }
 
-pub offered-requires : goal.offered-requires
-offered-requires c =
+pub offer_of-requires : goal.offer_of-requires
+offer_of-requires c =
     subst TellApart (sym (c.in_ok-errors.ensures ∙ c.as_slice.ensures)) (tell_apart c.args.interface.now c.requires)

@@ -17,5 +17,5 @@ loop-name-preserved c =
     let m = c.loop-name.imported in
     let m' = c.insert.new.self in
     let P : List ℕ → Option Import → Option (Option (Bor Known)) → Type 0 = λ name e v. IsImported interfaces modules e v in
-    let puts : Puts n.name m m' c.imported.result = subst (λ b. Puts b m m' c.imported.result) c.as_slice.ensures c.in_ok-insert.ensures.updates in
-    imports_put P modules c.args.importing (take i ns) (take (i + 1) ns) n m m' c.imported.result (take_next ns i n c.loop-name-test.true c.name-item.is) puts c.imported.ensures c.loop-name.invariant
+    let puts : Puts n.name m m' c.imported_interface.result = subst (λ b. Puts b m m' c.imported_interface.result) c.as_slice.ensures c.in_ok-insert.ensures.updates in
+    imports_put P modules c.args.importing (take i ns) (take (i + 1) ns) n m m' c.imported_interface.result (take_next ns i n c.loop-name-test.true c.name-item.is) puts c.imported_interface.ensures c.loop-name.invariant

@@ -5,7 +5,7 @@ use Rattle.std.specs.Ordering.{nat_cmp}
 use Rattle.std.specs.FinMap as map
 use Rattle.circus_segment.specs.Seen.Pieces.{piece}
 use Rattle.circus_exchange.specs.declared.progress.Progress.{Progress}
-use Rattle.circus_exchange.specs.Inbox.{Arriving, with_part, is_new, count_with, added}
+use Rattle.circus_exchange.specs.Inbox.{Arriving, with_part, is_new, count_with, add_segment}
 use Rattle.circus_exchange.specs.Seen.Known.{AreKnown}
 use Rattle.circus_exchange.proofs.Endings.{well_ended, ill_ended, none_stood}
 use Rattle.circus_exchange.proofs.Knowing.{known_more, known_put, known_less, known_noted}
@@ -37,7 +37,7 @@ returns-then-not-advance-clause-ok c =
     let now = sym c.self.view_is in
     let count = c.requires.count ∙ ap (λ (b : Arriving). count_with b s) now in
     let old = sym (c.requires.is_new ∙ ap (λ (b : Arriving). is_new b s) now) ∙ unless c.args.advance.is_new c.if-not-advance.true in
-    on_ok_weaker c.insert.result (λ e. added_is _ s c.args.advance.count _ _ count e (sym (parts_old _ s old)) ∙ ap (λ (b : Arriving). added b s) c.self.view_is) c.insert.ensures.ok
+    on_ok_weaker c.insert.result (λ e. added_is _ s c.args.advance.count _ _ count e (sym (parts_old _ s old)) ∙ ap (λ (b : Arriving). add_segment b s) c.self.view_is) c.insert.ensures.ok
 
 pub invariant_of-self-then-completes : goal.invariant_of-self-then-completes
 invariant_of-self-then-completes c =
@@ -55,7 +55,7 @@ returns-then-completes-clause-ok c =
     let new = sym (c.requires.is_new ∙ ap (λ (b : Arriving). is_new b s) now) ∙ if_not c.args.advance.is_new c.if-not-advance.false in
     let whole : c.args.advance.count ≡ s.total = eqb-true _ _ (second c.args.advance.is_new _ (sym c.completes.ensures ∙ c.if-completes.true)) in
     added_is _ s c.args.advance.count _ _ count c.in_ok-insert.ensures.ok (c.forget.ensures ∙ sym (parts_whole _ s new (sym count ∙ whole)))
-    ∙ ap (λ (b : Arriving). added b s) c.self.view_is
+    ∙ ap (λ (b : Arriving). add_segment b s) c.self.view_is
 
 -- where a part was given up again, since its message could not be noted
 given_up : (c : goal.After-forget-then-is_err) → c.forget-then-is_err.new.self ≡ c.self.inside.parts
@@ -98,4 +98,4 @@ returns-else-is_err-clause-ok c =
     let part = c.of.ensures ∙ c.requires.part in
     on_ok_weaker c.insert-noted.result (λ e.
     added_is _ s c.args.advance.count _ _ count e (c.in_ok-add.ensures.ok ∙ ap (with_part c.self.inside.parts s.call s.number) part ∙ sym (parts_part _ s new (λ same. open_ (count ∙ same))))
-    ∙ ap (λ (b : Arriving). added b s) c.self.view_is) c.insert-noted.ensures.ok
+    ∙ ap (λ (b : Arriving). add_segment b s) c.self.view_is) c.insert-noted.ensures.ok

@@ -6,7 +6,7 @@ use Rattle.std.specs.Ordering.{nat_cmp}
 use Rattle.std.specs.FinMap as map
 use Rattle.std.specs.FinMap.{nat_cmp-IsAntisymmetric}
 use Rattle.circus_exchange.specs.declared.progress.Progress.{Progress}
-use Rattle.circus_exchange.specs.Outbox.{HandedOver, handed}
+use Rattle.circus_exchange.specs.Outbox.{HandedOver, hand_over}
 use Rattle.circus_exchange.specs.Seen.Known.{AreKnown}
 use Rattle.circus_exchange.proofs.Endings.{well_ended, ill_ended}
 use Rattle.circus_exchange.proofs.Finite.{put_back}
@@ -40,9 +40,9 @@ returns-then-is_err-clause-err c =
     ∙ c.self.view_is) c.insert-noted.ensures.err
 
 pub returns-else-is_err-clause-ok : goal.returns-else-is_err-clause-ok
-unfolding handed
+unfolding hand_over
 returns-else-is_err-clause-ok c =
     on_ok_weaker c.insert-noted.result (λ e.
     ap (λ (m : map.FinMap nat_cmp Progress). record { progress = m; messages = c.insert.new.self }) e
     ∙ ap (λ (m : map.FinMap nat_cmp (List ℕ)). record { progress = map.insert c.self.inside.progress c.args.call (record { total = c.args.total; count = 0 }); messages = m }) c.in_ok-insert.ensures.ok
-    ∙ ap (λ (b : HandedOver). handed b c.args.call c.args.total c.args.message) c.self.view_is) c.insert-noted.ensures.ok
+    ∙ ap (λ (b : HandedOver). hand_over b c.args.call c.args.total c.args.message) c.self.view_is) c.insert-noted.ensures.ok

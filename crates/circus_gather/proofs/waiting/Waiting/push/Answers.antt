@@ -1,7 +1,7 @@
 use Rattle.std.proofs.Common.{◌≡◌, ◌+◌, nat_eq, [], ◌∷◌, ◌++◌, length, Some, if◌then◌else◌, sym, ap, ◌∙◌, arith}
 use Rattle.circus_gather.specs.Gathering.{is_of_index}
 use Rattle.circus_gather.specs.Seen.Groups.{Waits}
-use Rattle.circus_gather.specs.Seen.Slots.{kept, places_from}
+use Rattle.circus_gather.specs.Seen.Slots.{items_in, places_from}
 use Rattle.circus_gather.proofs.Standing.{places-append, kept-append}
 use Rattle.circus_gather.proofs.waiting.Waiting.push.Goals as goal
 
@@ -20,5 +20,5 @@ pub returns-clause-ok : goal.returns-clause-ok
 returns-clause-ok c =
     let slots = c.self.inside.slots.items in
     let pushed = c.push_reserved.ensures.items ∙ ap (λ s. s ++ Some c.args.call ∷ []) c.reserve.ensures.items in
-    ap (λ cs. record { «module» = c.self.inside.module; calls = cs }) (ap kept pushed ∙ kept-append slots c.args.call)
+    ap (λ cs. record { «module» = c.self.inside.module; calls = cs }) (ap items_in pushed ∙ kept-append slots c.args.call)
     ∙ ap (λ (w : Waits). record w { calls = w.calls ++ c.args.call ∷ [] }) c.self.view_is

@@ -28,13 +28,13 @@ returns-clause-found c =
     let found : Scope → List (Fault Cause) = λ t. fields_faults cut_off (cut_in t) (is_known t.types) (type_measure t.types) t.parts p.arguments in
     let found_results : Scope → List (Fault Cause) = λ t. fields_faults cut_off (cut_in t) (is_known t.types) (type_measure t.types) t.parts p.results in
     let kept = c.in_ok-fields.ensures.others
-    ∙ ap (λ (t : Scope). record t { best = c.fields.new.self.best; parts = fields_parts cut_off (type_measure t.types) t.parts p.arguments }) c.in_ok-together.ensures.others in
+    ∙ ap (λ (t : Scope). record t { best = c.fields.new.self.best; parts = fields_parts cut_off (type_measure t.types) t.parts p.arguments }) c.in_ok-arguments_together.ensures.others in
     let errors = ap (λ (t : Scope). known_of t.errors) c.in_ok-fields-2.ensures.others ∙ ap (λ (t : Scope). known_of t.errors) kept in
     let numbers = ap (λ (t : Scope). holds_number t.procedure_numbers) c.reports.ensures.others
     ∙ ap (λ (t : Scope). holds_number t.procedure_numbers) c.in_ok-fields-2.ensures.others
     ∙ ap (λ (t : Scope). holds_number t.procedure_numbers) kept in
     let b1 = c.meet_name.new.best.fault in
-    let b2 = c.together.new.self.best.fault in
+    let b2 = c.arguments_together.new.self.best.fault in
     let b3 = c.fields.new.self.best.fault in
     let b4 = c.fields-2.new.self.best.fault in
     let b5 = c.reports.new.self.best.fault in
@@ -44,8 +44,8 @@ returns-clause-found c =
     (least_then rank_of best b4 b5 (name ++ together ++ arguments ++ results) reports
     (least_then rank_of best b3 b4 (name ++ together ++ arguments) results
     (least_then rank_of best b2 b3 (name ++ together) arguments
-    (least_then rank_of best b1 b2 name together c.in_ok-meet_name.ensures.found c.in_ok-together.ensures.found)
-    (c.in_ok-fields.ensures.found ∙ ap (λ t. least_from rank_of b2 (found t)) c.in_ok-together.ensures.others))
+    (least_then rank_of best b1 b2 name together c.in_ok-meet_name.ensures.found c.in_ok-arguments_together.ensures.found)
+    (c.in_ok-fields.ensures.found ∙ ap (λ t. least_from rank_of b2 (found t)) c.in_ok-arguments_together.ensures.others))
     (c.in_ok-fields-2.ensures.found ∙ ap (λ t. least_from rank_of b3 (found_results t)) kept))
     (c.reports.ensures.found ∙ ap (λ e. least_from rank_of b4 (reports_faults e p.reports)) errors))
     (c.in_ok-meet_number.ensures.found ∙ ap (λ n. least_from rank_of b5 (repeated_number n p.number)) numbers))

@@ -2,21 +2,21 @@ use Rattle.std.proofs.Common.{◌≡◌, ◌+◌, ◌*◌, ◌++◌, drop, map}
 use Rattle.circus_value.specs.ShapeOf.{tree_of, field_of, arm_of}
 use Rattle.circus_value.specs.ShapeTree.{field_trees, arm_trees}
 use Rattle.circus_value.specs.Seen.ShapeWeight.{weight, field_weights, arm_weights}
-use Rattle.circus_idl.specs.Lexemes.{led}
+use Rattle.circus_idl.specs.Lexemes.{lexemes_behind_spaces}
 use Rattle.circus_idl.proofs.ShownFrom.{fields_from, arms_from}
 use Rattle.circus_idl.proofs.writer.Writer.+writing.Given as goal
 
 -- the fields that are left follow what is written
 abbrev pub invariant-fields_inside-loop-place : goal.invariant-fields_inside-loop-place
 invariant-fields_inside-loop-place l =
-    l.self ++ led (fields_from l.place (field_trees (map field_of (drop l.place l.fields))))
-    ≡ l.initial.self ++ led (fields_from 0 (field_trees (map field_of l.fields)))
+    l.self ++ lexemes_behind_spaces (fields_from l.place (field_trees (map field_of (drop l.place l.fields))))
+    ≡ l.initial.self ++ lexemes_behind_spaces (fields_from 0 (field_trees (map field_of l.fields)))
 
 -- the arms that are left follow what is written
 abbrev pub invariant-arms_inside-loop-place : goal.invariant-arms_inside-loop-place
 invariant-arms_inside-loop-place l =
-    l.self ++ led (arms_from l.place (arm_trees (map arm_of (drop l.place l.arms))))
-    ≡ l.initial.self ++ led (arms_from 0 (arm_trees (map arm_of l.arms)))
+    l.self ++ lexemes_behind_spaces (arms_from l.place (arm_trees (map arm_of (drop l.place l.arms))))
+    ≡ l.initial.self ++ lexemes_behind_spaces (arms_from 0 (arm_trees (map arm_of l.arms)))
 
 abbrev pub decreases-shape : goal.decreases-shape
 decreases-shape l = 3 * weight (tree_of l.shape.now)

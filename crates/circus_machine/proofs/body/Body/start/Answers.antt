@@ -6,7 +6,7 @@ use Rattle.circus_machine.specs.Meaning.{Going, Flow, most_steps, beginning, tur
 use Rattle.circus_machine.specs.Bodies.{flow_of, next_turn}
 use Rattle.circus_machine.specs.Seen.Code.{Comes, codes_of}
 use Rattle.circus_machine.specs.Seen.Instructions.{acts_of}
-use Rattle.circus_machine.specs.Seen.Running.{going, Awaits}
+use Rattle.circus_machine.specs.Seen.Running.{going_of, Awaits}
 use Rattle.circus_machine.specs.declared.execution.Execution.{Execution}
 use Rattle.circus_machine.proofs.Compiling.{body_comes}
 use Rattle.circus_machine.proofs.Turning.{result_pauses}
@@ -22,10 +22,10 @@ returns-clause-turn c =
     let v = c.in_ok-variables.variables in
     let execution : Execution = record { variables = v; steps = 1000000; asks = 0 } in
     let flow : List Outcome → Flow Going = flow_of limit self.statements self.locals state c.args.arguments.now in
-    let comes : (replies : List Outcome) → Comes limit v.states (acts_of self.code) (flow replies) 0 (going execution replies) =
+    let comes : (replies : List Outcome) → Comes limit v.states (acts_of self.code) (flow replies) 0 (going_of execution replies) =
     λ replies.
-    subst (λ n. Comes limit n (acts_of self.code) (flow replies) 0 (going execution replies)) (sym c.in_ok-variables.ensures.states)
-    (subst (λ xs. Comes limit (length state) xs (flow replies) 0 (going execution replies)) (sym self.compiled)
+    subst (λ n. Comes limit n (acts_of self.code) (flow replies) 0 (going_of execution replies)) (sym c.in_ok-variables.ensures.states)
+    (subst (λ xs. Comes limit (length state) xs (flow replies) 0 (going_of execution replies)) (sym self.compiled)
     (subst (λ vs. Comes limit (length state) (codes_of trees) (flow replies) 0 (record { variables = vs; steps = most_steps; replies = replies; asks = 0 })) (sym c.in_ok-variables.ensures.values)
     (body_comes limit (length state) trees (beginning limit (length state) state others replies)))) in
     subst (λ n. IfOk c.run.result (Gives (Awaits limit n (codes_of trees) flow) (turn_by limit n (flow [])))) c.in_ok-variables.ensures.states

@@ -1,8 +1,8 @@
 use Rattle.std.proofs.Common.{[], ◌∷◌, map, refl, sym, ap, ◌∙◌}
 use Rattle.circus_machine.specs.Meaning.{then_does}
-use Rattle.circus_machine.specs.Seen.Code.{act, replied}
+use Rattle.circus_machine.specs.Seen.Code.{act, reply_place}
 use Rattle.circus_machine.specs.Seen.Instructions.{act_of, catch_of}
-use Rattle.circus_machine.specs.Seen.Running.{going}
+use Rattle.circus_machine.specs.Seen.Running.{going_of}
 use Rattle.circus_machine.proofs.execution.Execution.step.Goals as goal
 
 pub returns-in_ok-arguments-in-Ask-clause-moves : goal.returns-in_ok-arguments-in-Ask-clause-moves
@@ -22,11 +22,11 @@ returns-in_ok-arguments-in-Ask-clause-moves c =
         skip = asking.skip;
         is = is;
         before = record { variables = new.variables.values; steps = new.steps; replies = []; asks = before };
-        asks = ap (λ a. act limit states a c.args.at (going c.args.self.now [])) is ∙ ap (λ f. then_does f (λ x. replied limit states c.args.at asking.into table asking.skip x.0 x.1)) (takes asking.callee asking.procedure []);
+        asks = ap (λ a. act limit states a c.args.at (going_of c.args.self.now [])) is ∙ ap (λ f. then_does f (λ x. reply_place limit states c.args.at asking.into table asking.skip x.0 x.1)) (takes asking.callee asking.procedure []);
         shows = refl;
         goes = λ reply replies.
-            ap (λ a. act limit states a c.args.at (going c.args.self.now (reply ∷ replies))) is
-            ∙ ap (λ f. then_does f (λ x. replied limit states c.args.at asking.into table asking.skip x.0 x.1)) (takes asking.callee asking.procedure (reply ∷ replies))
-            ∙ ap (λ n. replied limit states c.args.at asking.into table asking.skip reply (record { variables = new.variables.values; steps = new.steps; replies = replies; asks = n })) (sym more);
+            ap (λ a. act limit states a c.args.at (going_of c.args.self.now (reply ∷ replies))) is
+            ∙ ap (λ f. then_does f (λ x. reply_place limit states c.args.at asking.into table asking.skip x.0 x.1)) (takes asking.callee asking.procedure (reply ∷ replies))
+            ∙ ap (λ n. reply_place limit states c.args.at asking.into table asking.skip reply (record { variables = new.variables.values; steps = new.steps; replies = replies; asks = n })) (sym more);
       },
     )

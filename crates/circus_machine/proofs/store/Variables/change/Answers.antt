@@ -16,13 +16,13 @@ use Rattle.circus_machine.proofs.store.Variables.change.Goals as goal
 part_is : (value old : Value) (steps seen : List declared.Step) → seen ≡ steps → part_at (map step_as seen) (tree_of value) ≡ Ok (tree_of old) → part_at (map step_as steps) (tree_of value) ≡ Ok (tree_of old)
 part_is value old steps seen same is = subst (λ ss. part_at (map step_as ss) (tree_of value) ≡ Ok (tree_of old)) same is
 
-pub resized-requires-clause-part : goal.resized-requires-clause-part
-resized-requires-clause-part c =
+pub sizes_after-requires-clause-part : goal.sizes_after-requires-clause-part
+sizes_after-requires-clause-part c =
     shrinks_within c.args.limit 18446744073709551615 c.args.self.now c.from-index.result (changed_over c.args.change (given_as c.args.given)) (map step_as c.in_ok-steps.steps) (tree_of c.in_ok-variable.field-0.now) (tree_of c.in_ok-old.old.now) c.in_ok-put.put c.requires
     c.in_ok-variable.ensures (part_is c.in_ok-variable.field-0.now c.in_ok-old.old.now c.in_ok-steps.steps c.as_slice.result.now c.as_slice.ensures c.in_ok-old.ensures) c.in_ok-put.ensures.meant c.in_ok-put.ensures.sized (omega arith) c.shrinks_by.result c.shrinks_by.ensures
 
-pub resized-requires-clause-there : goal.resized-requires-clause-there
-resized-requires-clause-there c =
+pub sizes_after-requires-clause-there : goal.sizes_after-requires-clause-there
+sizes_after-requires-clause-there c =
     variable_within c.args.limit 18446744073709551615 c.args.self.now c.from-index.result (changed_over c.args.change (given_as c.args.given)) (map step_as c.in_ok-steps.steps) (tree_of c.in_ok-variable.field-0.now) (tree_of c.in_ok-old.old.now) c.in_ok-put.put c.requires
     c.in_ok-variable.ensures (part_is c.in_ok-variable.field-0.now c.in_ok-old.old.now c.in_ok-steps.steps c.as_slice.result.now c.as_slice.ensures c.in_ok-old.ensures) c.in_ok-put.ensures.meant c.in_ok-put.ensures.sized (omega arith)
 

@@ -5,7 +5,7 @@ use Rattle.circus_gather.specs.Gathering.{with_start}
 use Rattle.circus_performing.specs.Performing as performing
 use Rattle.circus_performing.specs.Acts.{CanEnter}
 use Rattle.circus_performing.specs.Record.{behaviour}
-use Rattle.circus_member_rules.specs.Step.{after_turns, entered}
+use Rattle.circus_member_rules.specs.Step.{after_turns, enter_run_of}
 use Rattle.circus_member_rules.specs.Seen.Sound.{IsSound, HasTurned, MayStart}
 use Rattle.circus_member.specs.Seen.Parts.{member_of}
 use Rattle.circus_member.proofs.Parts.{doing_of, all_goes_on}
@@ -37,8 +37,8 @@ returns g c =
     let started = c.started.ensures ∙ ap (λ k. with_start i.member.gather k.count) c.record.ensures.value in
     let same =
     ap (λ m. after_turns (doing_of m i.effects)) c.in_ok-self-inside.ensures
-    ∙ ap (λ x. after_turns (doing_of (record i.member { gather = x; performer = record i.member.performer { kept = performing.entered (g.M.Module.turn i.member.performer.hosted) c.args.at c.args.start i.member.performer.kept } }) i.effects)) started
-    ∙ ap (λ x. entered g.M.Module.turn c.args.at x c.args.start) c.self.view_is
+    ∙ ap (λ x. after_turns (doing_of (record i.member { gather = x; performer = record i.member.performer { kept = performing.enter_run (g.M.Module.turn i.member.performer.hosted) c.args.at c.args.start i.member.performer.kept } }) i.effects)) started
+    ∙ ap (λ x. enter_run_of g.M.Module.turn c.args.at x c.args.start) c.self.view_is
     in
     subst (λ x. IfOk c.unless_spent.result (λ d. d ≡ x)) same
     (all_goes_on _ _ c.unless_spent.result c.after_turns-turned.result c.unless_spent.ensures.goes c.unless_spent.ensures.done c.after_turns-turned.ensures)

@@ -2,7 +2,7 @@ use Rattle.std.proofs.Common.{sym, subst, ap, ◌∙◌}
 use Rattle.circus_model.specs.Behaviour.{IsModule}
 use Rattle.circus_performing.specs.Record.{behaviour}
 use Rattle.circus_member_rules.specs.MemberState.{Doing}
-use Rattle.circus_member_rules.specs.Step.{starting}
+use Rattle.circus_member_rules.specs.Step.{start_runs}
 use Rattle.circus_member_rules.specs.Seen.Sound.{IsSound}
 use Rattle.circus_member_rules.proofs.Starting.{sound_answered}
 use Rattle.circus_member_rules.proofs.Enough.{held_by}
@@ -15,7 +15,7 @@ starts-init g c =
     let lawful : (hosted : g.row.M.Denot) → IsModule (behaviour M.declared M.turn M.first hosted) = λ hosted. record { first_is_state = g.met.M.Module.first_is_state hosted; turns_are_lawful = g.met.M.Module.turns_are_lawful hosted } in
     record {
       sound = subst (λ (d : Doing g.row.M.Denot). IsSound (behaviour M.declared M.turn M.first d.member.performing.hosted) d.member) (sym c.in_ok-doing.ensures) (sound_answered M.declared M.turn M.first lawful c.args.at c.args.self c.requires);
-      same = ap (λ (d : Doing g.row.M.Denot). starting M.declared M.turn c.args.at (held_by d) d) c.in_ok-doing.ensures;
+      same = ap (λ (d : Doing g.row.M.Denot). start_runs M.declared M.turn c.args.at (held_by d) d) c.in_ok-doing.ensures;
     }
 
 pub enter-requires-clause-sound : goal.enter-requires-clause-sound

@@ -1,6 +1,6 @@
 use Rattle.std.proofs.Common.{◌≡◌}
 use Rattle.circus_performing.specs.Record.{behaviour}
-use Rattle.circus_member_rules.specs.Step.{starting, executed}
+use Rattle.circus_member_rules.specs.Step.{start_runs, execute}
 use Rattle.circus_member_rules.specs.Seen.Sound.{IsSound}
 use Rattle.circus_member_rules.proofs.Enough.{held_by}
 use Rattle.circus_member.proofs.Going.{starts_left}
@@ -10,7 +10,7 @@ use Rattle.circus_member.proofs.doing.Doing.execute.Given as goal
 abbrev pub invariant-starts : goal.invariant-starts
 invariant-starts g l = record {
   sound : IsSound (behaviour g.M.Module.declared g.M.Module.turn g.M.Module.first l.doing.member.performing.hosted) l.doing.member;
-  same : starting g.M.Module.declared g.M.Module.turn l.at (held_by l.doing) l.doing ≡ executed g.M.Module.declared g.M.Module.turn l.at l.fn.self;
+  same : start_runs g.M.Module.declared g.M.Module.turn l.at (held_by l.doing) l.doing ≡ execute g.M.Module.declared g.M.Module.turn l.at l.fn.self;
 }
 
 abbrev pub decreases-starts : goal.decreases-starts

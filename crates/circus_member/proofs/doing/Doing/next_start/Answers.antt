@@ -21,7 +21,7 @@ returns-in-None g c =
     let i = c.self.inside in
     let m = member_of i.member in
     let start = start_by_call i.member.place.troupe (g.M.Module.declared i.member.performer.hosted).procedures in
-    ap (option_map start) (next_given m c.views.result.now c.down.result.now c.record.result.now None c.if-not-is_idle.ensures c.views.ensures c.down.ensures c.record.ensures.value (sym (ap option_copied c.in-None.is) ∙ c.in_ok-ready.ensures))
+    ap (option_map start) (next_given m c.views.result.now c.down_nodes.result.now c.record.result.now None c.if-not-is_idle.ensures c.views.ensures c.down_nodes.ensures c.record.ensures.value (sym (ap option_copied c.in-None.is) ∙ c.in_ok-ready.ensures))
     ∙ ap (λ (d : Doing g.row.M.Denot). option_map (start_by_call d.member.place.troupe (g.M.Module.declared d.member.performing.hosted).procedures) (next_start d.member)) c.self.view_is
 
 pub returns-in_ok-start-in-Some : goal.returns-in_ok-start-in-Some
@@ -30,5 +30,5 @@ returns-in_ok-start-in-Some g c =
     let m = member_of i.member in
     let start = start_by_call i.member.place.troupe (g.M.Module.declared i.member.performer.hosted).procedures in
     ap Some (c.in_ok-start-in-Some.ensures ∙ ap (λ (s : Signature). start_by_call i.member.place.troupe s.procedures c.in-Some.call.now) c.signature.ensures)
-    ∙ ap (option_map start) (next_given m c.views.result.now c.down.result.now c.record.result.now (Some c.in-Some.call.now) c.if-not-is_idle.ensures c.views.ensures c.down.ensures c.record.ensures.value (sym (ap option_copied c.in-Some.is) ∙ c.in_ok-ready.ensures))
+    ∙ ap (option_map start) (next_given m c.views.result.now c.down_nodes.result.now c.record.result.now (Some c.in-Some.call.now) c.if-not-is_idle.ensures c.views.ensures c.down_nodes.ensures c.record.ensures.value (sym (ap option_copied c.in-Some.is) ∙ c.in_ok-ready.ensures))
     ∙ ap (λ (d : Doing g.row.M.Denot). option_map (start_by_call d.member.place.troupe (g.M.Module.declared d.member.performing.hosted).procedures) (next_start d.member)) c.self.view_is

@@ -4,7 +4,7 @@ use Rattle.std.proofs.lemmas.List.Elements.{All-same}
 use Rattle.circus_header.specs.CallFields.{IsIncarnation}
 use Rattle.circus_model.specs.Behaviour.{IsModule}
 use Rattle.circus_fanout.specs.declared.send.Send.{Send}
-use Rattle.circus_fanout.specs.Asking.{begun, with_view, calls_for_a_view}
+use Rattle.circus_fanout.specs.Asking.{begin_asking, with_view, calls_for_a_view}
 use Rattle.circus_performing.specs.Record.{behaviour}
 use Rattle.circus_member_rules.specs.Step.{name_of_last, header_of_ask}
 use Rattle.circus_member.specs.Seen.Within.{opened_last}
@@ -74,9 +74,9 @@ calls_of_ask-requires-clause-may g c =
     let view = c.in-Some-view.view.now in
     let header = c.in_ok-header.ensures ∙ ap (λ k. header_of_ask i.member.place.troupe k last ask) c.record-record.ensures.value in
     let fanout = c.in_ok-fanout.ensures.fanout
-    ∙ ap (λ n. with_view view n (begun c.in_ok-header.header c.in_ok-body.body i.member.place.replies)) c.down.ensures
-    ∙ ap (λ h. with_view view i.member.known.down (begun h c.in_ok-body.body i.member.place.replies)) header
-    ∙ ap (λ x. with_view view i.member.known.down (begun (header_of_ask i.member.place.troupe i.member.performer.kept last ask) x i.member.place.replies)) c.in_ok-body.ensures in
+    ∙ ap (λ n. with_view view n (begin_asking c.in_ok-header.header c.in_ok-body.body i.member.place.replies)) c.down_nodes.ensures
+    ∙ ap (λ h. with_view view i.member.known.down (begin_asking h c.in_ok-body.body i.member.place.replies)) header
+    ∙ ap (λ x. with_view view i.member.known.down (begin_asking (header_of_ask i.member.place.troupe i.member.performer.kept last ask) x i.member.place.replies)) c.in_ok-body.ensures in
     subst (MayCall i.member.known) (sym fanout) (may_call_asked b lawful d.member turned c.record-record.ensures.kept last ask view at is)
 
 pub calls_of_ask-requires-clause-views : goal.calls_of_ask-requires-clause-views
@@ -85,7 +85,7 @@ calls_of_ask-requires-clause-views g c =
     let turned = subst (λ x. HasTurned (behaviour g.M.Module.declared g.M.Module.turn g.M.Module.first x.member.performing.hosted) x.member) (sym c.self.view_is) c.requires in
     let view = c.in-Some-view.view.now in
     let incarnation = are_views i.member.known turned.home.incarnations c.in-Some-open_ask.ask.now.callee view (sym c.in-Some-view.ensures) in
-    All-same (λ (s : Send). IsIncarnation s.incarnation) _ _ (c.as_slice.ensures ∙ c.in_ok-fanout.ensures.sends) (by_the_view view c.down.result.now [] incarnation)
+    All-same (λ (s : Send). IsIncarnation s.incarnation) _ _ (c.as_slice.ensures ∙ c.in_ok-fanout.ensures.sends) (by_the_view view c.down_nodes.result.now [] incarnation)
 
 pub returns : goal.returns
 returns g c =
@@ -98,11 +98,11 @@ returns g c =
     let view = c.in-Some-view.view.now in
     let header = c.in_ok-header.ensures ∙ ap (λ k. header_of_ask i.member.place.troupe k last ask) c.record-record.ensures.value in
     let fanout = c.in_ok-fanout.ensures.fanout
-    ∙ ap (λ n. with_view view n (begun c.in_ok-header.header c.in_ok-body.body i.member.place.replies)) c.down.ensures
-    ∙ ap (λ h. with_view view i.member.known.down (begun h c.in_ok-body.body i.member.place.replies)) header
-    ∙ ap (λ x. with_view view i.member.known.down (begun (header_of_ask i.member.place.troupe i.member.performer.kept last ask) x i.member.place.replies)) c.in_ok-body.ensures in
+    ∙ ap (λ n. with_view view n (begin_asking c.in_ok-header.header c.in_ok-body.body i.member.place.replies)) c.down_nodes.ensures
+    ∙ ap (λ h. with_view view i.member.known.down (begin_asking h c.in_ok-body.body i.member.place.replies)) header
+    ∙ ap (λ x. with_view view i.member.known.down (begin_asking (header_of_ask i.member.place.troupe i.member.performer.kept last ask) x i.member.place.replies)) c.in_ok-body.ensures in
     let name = c.name_of_last-name.ensures ∙ ap name_of_last c.record-record.ensures.value in
-    let sends = c.as_slice.ensures ∙ c.in_ok-fanout.ensures.sends ∙ ap (λ n. calls_for_a_view view n []) c.down.ensures in
+    let sends = c.as_slice.ensures ∙ c.in_ok-fanout.ensures.sends ∙ ap (λ n. calls_for_a_view view n []) c.down_nodes.ensures in
     on_ok_weaker c.open.result
     (λ kept.
     opened_so d last ask view c.name_of_last-name.result c.in_ok-fanout.fanout c.as_slice.result.now c.open.new.self c.calls_of_ask.new.effects

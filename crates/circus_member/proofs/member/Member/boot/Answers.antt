@@ -2,7 +2,7 @@ use Rattle.std.proofs.Common.{◌≡◌, [], sym, subst, ap, ◌∙◌}
 use Rattle.circus_model.specs.Behaviour.{IsModule}
 use Rattle.circus_performing.specs.Record.{behaviour}
 use Rattle.circus_member_rules.specs.MemberState.{Doing}
-use Rattle.circus_member_rules.specs.Step.{entered, main_start}
+use Rattle.circus_member_rules.specs.Step.{enter_run_of, main_start}
 use Rattle.circus_member_rules.specs.GoneOn.{HasGoneOn}
 use Rattle.circus_member_rules.specs.Seen.Sound.{IsSound, MayStart, IsRested}
 use Rattle.circus_member.proofs.Boot.{at_boot, sound_at_boot, may_begin, rested_before, rested_entered, gone_before, gone_entered}
@@ -27,8 +27,8 @@ of-requires g c =
     let M = g.M.Module in
     let lawful : (hosted : g.row.M.Denot) → IsModule (behaviour M.declared M.turn M.first hosted) = λ hosted. record { first_is_state = g.met.M.Module.first_is_state hosted; turns_are_lawful = g.met.M.Module.turns_are_lawful hosted } in
     let begun : Doing g.row.M.Denot = record { member = at_boot M.declared M.turn M.first lawful c.args.place c.args.views c.args.hosted c.requires c.args.beginning; effects = [] } in
-    let is : c.in_ok-enter.field-0 ≡ entered M.turn 0 begun (main_start c.args.place.troupe c.args.views) =
-    c.in_ok-enter.ensures ∙ ap (λ d. entered M.turn 0 d c.in_ok-start.start) c.in_ok-doing.ensures ∙ ap (entered M.turn 0 begun) (c.in_ok-start.ensures ∙ ap (main_start c.args.place.troupe) c.as_slice.ensures) in
+    let is : c.in_ok-enter.field-0 ≡ enter_run_of M.turn 0 begun (main_start c.args.place.troupe c.args.views) =
+    c.in_ok-enter.ensures ∙ ap (λ d. enter_run_of M.turn 0 d c.in_ok-start.start) c.in_ok-doing.ensures ∙ ap (enter_run_of M.turn 0 begun) (c.in_ok-start.ensures ∙ ap (main_start c.args.place.troupe) c.as_slice.ensures) in
     subst (λ (d : Doing g.row.M.Denot). IsRested (behaviour M.declared M.turn M.first d.member.performing.hosted) d.member) (sym is)
     (rested_entered M.declared M.turn M.first lawful c.args.place c.args.views c.args.hosted c.requires c.args.beginning (sym c.if-starts.ensures))
 
@@ -44,8 +44,8 @@ returns-in_ok-enter-clause-rest g c =
     let M = g.M.Module in
     let lawful : (hosted : g.row.M.Denot) → IsModule (behaviour M.declared M.turn M.first hosted) = λ hosted. record { first_is_state = g.met.M.Module.first_is_state hosted; turns_are_lawful = g.met.M.Module.turns_are_lawful hosted } in
     let begun : Doing g.row.M.Denot = record { member = at_boot M.declared M.turn M.first lawful c.args.place c.args.views c.args.hosted c.requires c.args.beginning; effects = [] } in
-    let is : c.in_ok-enter.field-0 ≡ entered M.turn 0 begun (main_start c.args.place.troupe c.args.views) =
-    c.in_ok-enter.ensures ∙ ap (λ d. entered M.turn 0 d c.in_ok-start.start) c.in_ok-doing.ensures ∙ ap (entered M.turn 0 begun) (c.in_ok-start.ensures ∙ ap (main_start c.args.place.troupe) c.as_slice.ensures) in
+    let is : c.in_ok-enter.field-0 ≡ enter_run_of M.turn 0 begun (main_start c.args.place.troupe c.args.views) =
+    c.in_ok-enter.ensures ∙ ap (λ d. enter_run_of M.turn 0 d c.in_ok-start.start) c.in_ok-doing.ensures ∙ ap (enter_run_of M.turn 0 begun) (c.in_ok-start.ensures ∙ ap (main_start c.args.place.troupe) c.as_slice.ensures) in
     subst HasGoneOn (sym (c.of.ensures.member ∙ ap (λ (d : Doing g.row.M.Denot). d.member) is))
     (gone_entered M.declared M.turn M.first lawful c.args.place c.args.views c.args.hosted c.requires c.args.beginning (sym c.if-starts.ensures))
 

@@ -25,7 +25,7 @@ module _ {M : Type 0} (declared : M → Signature) (turn : M → List ValueTree 
   -- a member boots with these views
   abbrev made_with : List View → Home → M → Made M
   made_with views home hosted =
-      let booted = member_step.booted declared turn first home.place views home.beginning hosted in
+      let booted = member_step.boot_member declared turn first home.place views home.beginning hosted in
       record { acting = member booted.member; came = consequences booted.effects [] }
 
   made_here : (d : Deployment) (home : Option Home) (hosted : Option M) (h : Home) (m : M) (views : List View)
@@ -35,14 +35,14 @@ module _ {M : Type 0} (declared : M → Signature) (turn : M → List ValueTree 
       ∙ sym (ap (λ (o : Option Home). made_at_boot declared turn first d o hosted) home_is ∙ ap (λ (o : Option M). made_at_boot declared turn first d (Some h) o) hosted_is)
 
   acting_here : (d : Deployment) (home : Option Home) (hosted : Option M) (h : Home) (m : M) (views : List View) (n : MemberState M) (a : Acting M)
-      → home ≡ Some h → hosted ≡ Some m → views ≡ boot_views d.troupes → a ≡ member n → n ≡ (member_step.booted declared turn first h.place views h.beginning m).member
+      → home ≡ Some h → hosted ≡ Some m → views ≡ boot_views d.troupes → a ≡ member n → n ≡ (member_step.boot_member declared turn first h.place views h.beginning m).member
       → a ≡ (made_at_boot declared turn first d home hosted).acting
   acting_here d home hosted h m views n a home_is hosted_is same is booted =
       is ∙ ap (λ (x : MemberState M). member x) booted ∙ ap (λ (made : Made M). made.acting) (made_here d home hosted h m views home_is hosted_is same)
 
   came_here : (d : Deployment) (home : Option Home) (hosted : Option M) (h : Home) (m : M) (views : List View) (es : List Effect) (came : Consequences)
       → home ≡ Some h → hosted ≡ Some m → views ≡ boot_views d.troupes → came ≡ consequences es []
-      → es ≡ (member_step.booted declared turn first h.place views h.beginning m).effects → came ≡ (made_at_boot declared turn first d home hosted).came
+      → es ≡ (member_step.boot_member declared turn first h.place views h.beginning m).effects → came ≡ (made_at_boot declared turn first d home hosted).came
   came_here d home hosted h m views es came home_is hosted_is same is booted =
       is ∙ ap (λ (x : List Effect). consequences x []) booted ∙ ap (λ (made : Made M). made.came) (made_here d home hosted h m views home_is hosted_is same)
 

@@ -13,18 +13,18 @@ use Rattle.circus_member_rules.specs.MemberState.{MemberState}
 use Rattle.circus_member_rules.specs.Happening.{CanHappen}
 use Rattle.circus_node.specs.declared.acting.Consequences.{Consequences}
 use Rattle.circus_node.specs.NodeState.{Acting, member, ringmaster}
-use Rattle.circus_node.specs.Accepting.{accepted, IsMemberOf}
-use Rattle.circus_node.specs.Making.{Made, refused, happens, arrives}
+use Rattle.circus_node.specs.Accepting.{occurrence_of_heard, IsMemberOf}
+use Rattle.circus_node.specs.Making.{Made, refuse, happens, arrives}
 use Rattle.circus_node.specs.Seen.ActingOf.{acting_of}
 use Rattle.circus_node.specs.Seen.Kept.{IsActing}
 use Rattle.circus_node.proofs.acting.Acting.take.Goals as goal
 
 -- what a member makes of a message, by what it accepts
 made_by : {M : Type 0} (declared : M → Signature) (turn : M → List ValueTree → ℕ → List ValueTree → List Outcome → NextTurn) (d : Deployment) (at from : ℕ) (heard : Heard Purpose)
-    → (m : MemberState M) (self : Acting M) (o p : Option Occurrence) → member m ≡ self → o ≡ accepted d (declared m.performing.hosted) m from heard → o ≡ p
-    → option_map_or (happens declared turn at m) p (refused (member m)) ≡ arrives declared turn d at from heard self
+    → (m : MemberState M) (self : Acting M) (o p : Option Occurrence) → member m ≡ self → o ≡ occurrence_of_heard d (declared m.performing.hosted) m from heard → o ≡ p
+    → option_map_or (happens declared turn at m) p (refuse (member m)) ≡ arrives declared turn d at from heard self
 made_by declared turn d at from heard m self o p own is so =
-    ap (λ (x : Option Occurrence). option_map_or (happens declared turn at m) x (refused (member m))) (sym so ∙ is)
+    ap (λ (x : Option Occurrence). option_map_or (happens declared turn at m) x (refuse (member m))) (sym so ∙ is)
     ∙ ap (arrives declared turn d at from heard) own
 
 pub accept-requires : goal.accept-requires
@@ -38,7 +38,7 @@ returns-in-Some-clause-acting g c =
     let M = g.M.Module in
     let own = sym (ap acting_of c.in-Member.is) ∙ c.self.view_is in
     subst (λ (made : Made g.row.M.Denot). IfOk c.happen.result (λ (r : Acting g.row.M.Denot × Consequences). r.0 ≡ made.acting))
-    (made_by M.declared M.turn c.args.deployment.now c.args.at c.args.from c.args.heard _ c.args.self _ _ own (c.in_ok-occurrence-in-Member.ensures.accepted ∙ ap (λ (m : MemberState g.row.M.Denot). accepted c.args.deployment.now (M.declared m.performing.hosted) m c.args.from c.args.heard) c.deref.ensures) c.in-Some.is)
+    (made_by M.declared M.turn c.args.deployment.now c.args.at c.args.from c.args.heard _ c.args.self _ _ own (c.in_ok-occurrence-in-Member.ensures.accepted ∙ ap (λ (m : MemberState g.row.M.Denot). occurrence_of_heard c.args.deployment.now (M.declared m.performing.hosted) m c.args.from c.args.heard) c.deref.ensures) c.in-Some.is)
     c.happen.ensures.acting
 
 pub returns-in-Some-clause-came : goal.returns-in-Some-clause-came
@@ -46,7 +46,7 @@ returns-in-Some-clause-came g c =
     let M = g.M.Module in
     let own = sym (ap acting_of c.in-Member.is) ∙ c.self.view_is in
     subst (λ (made : Made g.row.M.Denot). IfOk c.happen.result (λ (r : Acting g.row.M.Denot × Consequences). r.1 ≡ made.came))
-    (made_by M.declared M.turn c.args.deployment.now c.args.at c.args.from c.args.heard _ c.args.self _ _ own (c.in_ok-occurrence-in-Member.ensures.accepted ∙ ap (λ (m : MemberState g.row.M.Denot). accepted c.args.deployment.now (M.declared m.performing.hosted) m c.args.from c.args.heard) c.deref.ensures) c.in-Some.is)
+    (made_by M.declared M.turn c.args.deployment.now c.args.at c.args.from c.args.heard _ c.args.self _ _ own (c.in_ok-occurrence-in-Member.ensures.accepted ∙ ap (λ (m : MemberState g.row.M.Denot). occurrence_of_heard c.args.deployment.now (M.declared m.performing.hosted) m c.args.from c.args.heard) c.deref.ensures) c.in-Some.is)
     c.happen.ensures.came
 
 pub returns-in-Some-clause-kept : goal.returns-in-Some-clause-kept
@@ -60,7 +60,7 @@ returns-in-None-clause-acting g c =
     let own = sym (ap acting_of c.in-Member.is) ∙ c.self.view_is in
     c.member.ensures
     ∙ ap (λ (made : Made g.row.M.Denot). made.acting)
-    (made_by M.declared M.turn c.args.deployment.now c.args.at c.args.from c.args.heard _ c.args.self _ _ own (c.in_ok-occurrence-in-Member.ensures.accepted ∙ ap (λ (m : MemberState g.row.M.Denot). accepted c.args.deployment.now (M.declared m.performing.hosted) m c.args.from c.args.heard) c.deref.ensures) c.in-None.is)
+    (made_by M.declared M.turn c.args.deployment.now c.args.at c.args.from c.args.heard _ c.args.self _ _ own (c.in_ok-occurrence-in-Member.ensures.accepted ∙ ap (λ (m : MemberState g.row.M.Denot). occurrence_of_heard c.args.deployment.now (M.declared m.performing.hosted) m c.args.from c.args.heard) c.deref.ensures) c.in-None.is)
 
 pub returns-in-None-clause-came : goal.returns-in-None-clause-came
 returns-in-None-clause-came g c =
@@ -68,7 +68,7 @@ returns-in-None-clause-came g c =
     let own = sym (ap acting_of c.in-Member.is) ∙ c.self.view_is in
     c.a_drop.ensures
     ∙ ap (λ (made : Made g.row.M.Denot). made.came)
-    (made_by M.declared M.turn c.args.deployment.now c.args.at c.args.from c.args.heard _ c.args.self _ _ own (c.in_ok-occurrence-in-Member.ensures.accepted ∙ ap (λ (m : MemberState g.row.M.Denot). accepted c.args.deployment.now (M.declared m.performing.hosted) m c.args.from c.args.heard) c.deref.ensures) c.in-None.is)
+    (made_by M.declared M.turn c.args.deployment.now c.args.at c.args.from c.args.heard _ c.args.self _ _ own (c.in_ok-occurrence-in-Member.ensures.accepted ∙ ap (λ (m : MemberState g.row.M.Denot). occurrence_of_heard c.args.deployment.now (M.declared m.performing.hosted) m c.args.from c.args.heard) c.deref.ensures) c.in-None.is)
 
 pub returns-in-None-clause-kept : goal.returns-in-None-clause-kept
 returns-in-None-clause-kept g c =

@@ -3,7 +3,7 @@ use Rattle.std.proofs.lemmas.Result.{err_from_is_err_and}
 use Rattle.circus_node.specs.declared.station.Station.{Station}
 use Rattle.circus_node.specs.Making.{Made}
 use Rattle.circus_node.specs.Seen.Kept.{IsActing}
-use Rattle.circus_node.specs.Booting.{home_of, made_at_boot, booted, fresh_wire}
+use Rattle.circus_node.specs.Booting.{home_of, made_at_boot, boot_node, fresh_wire}
 use Rattle.circus_node.proofs.BootLemmas.{may_stand}
 use Rattle.circus_node.proofs.OtherLemmas.{fresh_stands}
 use Rattle.circus_node.proofs.SendLemmas.{lost_memory, concluded_as, node_is}
@@ -12,7 +12,7 @@ use Rattle.circus_node.proofs.node_core.NodeCore.begin.Goals as goal
 pub returns-in_err-home-clause-ended : goal.returns-in_err-home-clause-ended
 returns-in_err-home-clause-ended g c =
     let p = err_from_is_err_and c.from_residual.result c.from_residual.ensures.1 in
-    lost_memory c.from_residual.result (booted g.M.Module.declared g.M.Module.turn g.M.Module.first c.args.deployment.now c.args.module c.args.node) p.0 p.1 p.2
+    lost_memory c.from_residual.result (boot_node g.M.Module.declared g.M.Module.turn g.M.Module.first c.args.deployment.now c.args.module c.args.node) p.0 p.1 p.2
 
 pub boot-requires : goal.boot-requires
 boot-requires g c = may_stand g.M.Module.declared c.args.deployment.now c.args.node c.in_ok-home.home c.args.module c.requires c.in_ok-home.ensures
@@ -20,7 +20,7 @@ boot-requires g c = may_stand g.M.Module.declared c.args.deployment.now c.args.n
 pub returns-in_err-acting-clause-ended : goal.returns-in_err-acting-clause-ended
 returns-in_err-acting-clause-ended g c =
     let p = err_from_is_err_and c.from_residual-in_err-acting.result c.from_residual-in_err-acting.ensures.1 in
-    lost_memory c.from_residual-in_err-acting.result (booted g.M.Module.declared g.M.Module.turn g.M.Module.first c.args.deployment.now c.args.module c.args.node) p.0 p.1 p.2
+    lost_memory c.from_residual-in_err-acting.result (boot_node g.M.Module.declared g.M.Module.turn g.M.Module.first c.args.deployment.now c.args.module c.args.node) p.0 p.1 p.2
 
 pub new-requires-clause-deployment : goal.new-requires-clause-deployment
 new-requires-clause-deployment g c = c.requires.deployment
@@ -31,7 +31,7 @@ new-requires-clause-node g c = c.requires.within
 pub returns-in_err-station-clause-ended : goal.returns-in_err-station-clause-ended
 returns-in_err-station-clause-ended g c =
     let p = err_from_is_err_and c.from_residual-in_err-station.result c.from_residual-in_err-station.ensures.1 in
-    lost_memory c.from_residual-in_err-station.result (booted g.M.Module.declared g.M.Module.turn g.M.Module.first c.args.deployment.now c.args.module c.args.node) p.0 p.1 p.2
+    lost_memory c.from_residual-in_err-station.result (boot_node g.M.Module.declared g.M.Module.turn g.M.Module.first c.args.deployment.now c.args.module c.args.node) p.0 p.1 p.2
 
 pub conclude-requires-clause-station : goal.conclude-requires-clause-station
 conclude-requires-clause-station g c = fresh_stands c.args.deployment.now c.args.node c.in_ok-station.station c.requires.deployment c.in_ok-station.ensures

@@ -1,6 +1,6 @@
 use Rattle.std.proofs.Common.{sym, subst, Err}
 use Rattle.std.proofs.lemmas.Result.{err_from_is_err_and}
-use Rattle.circus_node.specs.Step.{IsEnded, concluded}
+use Rattle.circus_node.specs.Step.{IsEnded, conclude_step}
 use Rattle.circus_node.specs.Seen.StationOf.{node_of}
 use Rattle.circus_node.specs.Seen.Kept.{IsActing}
 use Rattle.circus_node.proofs.OtherLemmas.{still_stands}
@@ -14,8 +14,8 @@ conclude-requires g c = c.requires.station
 pub returns-in_err-station-clause-ended : goal.returns-in_err-station-clause-ended
 returns-in_err-station-clause-ended g c =
     let p = err_from_is_err_and c.from_residual.result c.from_residual.ensures.1 in
-    subst (λ r. IsEnded r (concluded (node_of c.args.station c.args.acting) c.args.gives c.args.came)) (sym p.1)
-    (subst (λ f. IsEnded (Err f) (concluded (node_of c.args.station c.args.acting) c.args.gives c.args.came)) (sym p.2)
+    subst (λ r. IsEnded r (conclude_step (node_of c.args.station c.args.acting) c.args.gives c.args.came)) (sym p.1)
+    (subst (λ f. IsEnded (Err f) (conclude_step (node_of c.args.station c.args.acting) c.args.gives c.args.came)) (sym p.2)
     (concluded_fault c.args.station c.args.acting c.args.gives c.args.came c.in_err-station.field-0.0 c.in_err-station.ensures))
 
 pub invariant_of-result : goal.invariant_of-result

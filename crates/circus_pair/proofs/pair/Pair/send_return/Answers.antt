@@ -1,6 +1,6 @@
 use Rattle.std.proofs.Common.{ap, ◌∙◌}
 use Rattle.std.proofs.lemmas.Result.{on_ok_weaker, IfOk-weaker}
-use Rattle.circus_exchange.specs.Exchange.{awaits_return, returned, datagrams_of_return}
+use Rattle.circus_exchange.specs.Exchange.{awaits_return, send_return, datagrams_of_return}
 use Rattle.circus_exchange.specs.declared.exchange.Exchange.{Exchange}
 use Rattle.circus_pair.proofs.Following.{stands_returned, returned_owes}
 use Rattle.circus_pair.proofs.Lasting.{lasts_returned, lasts_either}
@@ -21,7 +21,7 @@ send_return-requires-clause-fresh c = return_free c.self.inside.exchange c.args.
 
 pub returns-clause-stands : goal.returns-clause-stands
 returns-clause-stands c first format acts stands =
-    on_ok_weaker c.send_return.result (λ e. stands_returned c.args.self.now first format acts stands _ c.args.call c.args.message c.requires.sendable c.requires.awaited (e ∙ ap (λ (x : Exchange). returned x c.args.call c.args.message) c.self.view_is)) c.send_return.ensures.state
+    on_ok_weaker c.send_return.result (λ e. stands_returned c.args.self.now first format acts stands _ c.args.call c.args.message c.requires.sendable c.requires.awaited (e ∙ ap (λ (x : Exchange). send_return x c.args.call c.args.message) c.self.view_is)) c.send_return.ensures.state
 
 pub returns-clause-owed : goal.returns-clause-owed
 returns-clause-owed c first format acts stands =

@@ -1,7 +1,7 @@
 use Rattle.std.proofs.Common.{true≢false, ap, sym, subst, ◌∙◌, ◌++◌}
 use Rattle.std.specs.Prelude.{is_some, option_to_list, IsSome}
 use Rattle.circus_model.specs.Behaviour.{IsModule}
-use Rattle.circus_performing.specs.Performing.{answered}
+use Rattle.circus_performing.specs.Performing.{answer_open_ask}
 use Rattle.circus_performing.specs.Acts.{CanAnswer}
 use Rattle.circus_performing.specs.Record.{behaviour}
 use Rattle.circus_performing.specs.Seen.UnderWay.{IsMember}
@@ -50,8 +50,8 @@ resume-requires g c =
     let a = answering S b i.began lawful i.kept c.in-Some.paused c.args.reply (subst (λ q. IsMember S b i.began i.kept q) (sym c.take.ensures.value ∙ c.in-Some.is) was) can in
     resumes S b i.began lawful i.kept c.in-Some.paused c.args.reply a
 
-pub on-requires-clause-next : goal.on-requires-clause-next
-on-requires-clause-next g c =
+pub go_on-requires-clause-next : goal.go_on-requires-clause-next
+go_on-requires-clause-next g c =
     let i = c.deref_mut-inside.result.now in
     let was = subst (λ h. IsMember (g.M.Module.stands h.hosted) (behaviour g.M.Module.declared g.M.Module.turn g.M.Module.first h.hosted) h.began h.kept h.paused) (sym c.deref_mut-inside.ensures.value) c.self.invariant in
     let own = ap (λ h. performer_of h) c.deref_mut-inside.ensures.value ∙ c.self.view_is in
@@ -64,8 +64,8 @@ on-requires-clause-next g c =
     let run = c.in_ok-replied_run.field-0 in
     answers_next S b i.began lawful i.kept c.in-Some.paused c.args.reply a c.args.step c.args.clock c.pop.new.self c.in-Some-pop.run' run runs_are c.in_ok-replied_run.ensures
 
-pub on-requires-clause-gives : goal.on-requires-clause-gives
-on-requires-clause-gives g c =
+pub go_on-requires-clause-gives : goal.go_on-requires-clause-gives
+go_on-requires-clause-gives g c =
     let i = c.deref_mut-inside.result.now in
     let was = subst (λ h. IsMember (g.M.Module.stands h.hosted) (behaviour g.M.Module.declared g.M.Module.turn g.M.Module.first h.hosted) h.began h.kept h.paused) (sym c.deref_mut-inside.ensures.value) c.self.invariant in
     let own = ap (λ h. performer_of h) c.deref_mut-inside.ensures.value ∙ c.self.view_is in
@@ -90,5 +90,5 @@ returns g c =
     let a = answering S b i.began lawful i.kept c.in-Some.paused c.args.reply (subst (λ q. IsMember S b i.began i.kept q) (sym c.take.ensures.value ∙ c.in-Some.is) was) can in
     let runs_are = c.pop.ensures.taken ∙ ap (λ o. c.pop.new.self ++ option_to_list o) c.in-Some-pop.is in
     let run = c.in_ok-replied_run.field-0 in
-    result_for (λ p. answered (g.M.Module.turn p.hosted) p.began c.args.step c.args.reply c.args.clock p.kept) c.on.result _ c.args.self _ own
-    (answers_kept S b i.began lawful i.kept c.in-Some.paused c.args.reply a c.args.step c.args.clock c.pop.new.self c.in-Some-pop.run' run runs_are c.in_ok-replied_run.ensures) c.on.ensures
+    result_for (λ p. answer_open_ask (g.M.Module.turn p.hosted) p.began c.args.step c.args.reply c.args.clock p.kept) c.go_on.result _ c.args.self _ own
+    (answers_kept S b i.began lawful i.kept c.in-Some.paused c.args.reply a c.args.step c.args.clock c.pop.new.self c.in-Some-pop.run' run runs_are c.in_ok-replied_run.ensures) c.go_on.ensures

@@ -2,8 +2,8 @@ use Rattle.std.proofs.Common.{◌≡◌, ◌+◌, ◌-◌, ℕ, Bool, cond, [], 
 use mir.Val.{bool_byte}
 use Rattle.circus_place.specs.declared.choice.Placement.{Placement}
 use Rattle.circus_value.specs.Among.{is_among}
-use Rattle.circus_place.specs.Seen.Search.{flagged, improves, in_turn, AreApart, best_from}
-use Rattle.circus_place.specs.Seen.Test.{known, is_known_false}
+use Rattle.circus_place.specs.Seen.Search.{flag_count, improves, in_turn, AreApart, best_from}
+use Rattle.circus_place.specs.Seen.Test.{value_so_far, is_known_false}
 use Rattle.circus_place.proofs.Skipped.{refuted, bounded, taken, turns, one_flagged, apart_push}
 use Rattle.circus_place.proofs.search.Search.+searching.Goals as goal
 use Rattle.circus_place.proofs.search.Search.+searching.Goals.{extend-then-not-can_improve-via-then-not-can_improve, extend-then-not-can_improve-via-else-not-can_improve+then-fails}
@@ -23,10 +23,10 @@ extend-returns-then-not-can_improve-clause-best t c =
     elim c.then-not-can_improve.branch [
       | extend-then-not-can_improve-via-then-not-can_improve w ↦
           sym (bounded s.test.now s.present.now (length s.present.now) (s.size - vec_len c.args.members.now) s.most ms c.args.best.now c.requires.distinct c.requires.ready.most
-          (counted_is s.most c.args.kept (flagged s.present.now ms) s.size c.len.result (vec_len c.args.members.now) c.args.best.now c.can_improve.result c.requires.counted c.len.ensures c.can_improve.ensures ∙ w.if-not-can_improve.true))
+          (counted_is s.most c.args.kept (flag_count s.present.now ms) s.size c.len.result (vec_len c.args.members.now) c.args.best.now c.can_improve.result c.requires.counted c.len.ensures c.can_improve.ensures ∙ w.if-not-can_improve.true))
       | extend-then-not-can_improve-via-else-not-can_improve+then-fails w ↦
           sym (refuted s.test.now s.present.now (length s.present.now) (s.size - vec_len c.args.members.now) s.size ms c.args.best.now c.requires.ready.test (omega (arith, c.args.members.now.ok.0, c.requires.fits)) c.requires.distinct
-          (ap (λ l. is_known_false (known s.test.now l)) (sym w.deref.ensures.value) ∙ sym w.fails.ensures ∙ w.if-fails.true))
+          (ap (λ l. is_known_false (value_so_far s.test.now l)) (sym w.deref.ensures.value) ∙ sym w.fails.ensures ∙ w.if-fails.true))
     ]
 
 pub extend-returns-then-len-self-clause-best : goal.extend-returns-then-len-self-clause-best
@@ -34,11 +34,11 @@ extend-returns-then-len-self-clause-best t c =
     let s = c.args.self.now in
     let ms = c.args.members.now.items in
     let len : length ms ≡ s.size = omega (arith, c.args.members.now.ok.0, c.len-2.ensures, c.if-len-self.true) in
-    let chosen : c.in_ok-chosen.field-0 ≡ record { members = ms; kept = flagged s.present.now ms } = c.in_ok-chosen.ensures ∙ (λ i. record { members = c.deref-then-len-self.ensures.value i; kept = c.requires.counted i }) in
+    let chosen : c.in_ok-placement_of.field-0 ≡ record { members = ms; kept = flag_count s.present.now ms } = c.in_ok-placement_of.ensures ∙ (λ i. record { members = c.deref-then-len-self.ensures.value i; kept = c.requires.counted i }) in
     ap (λ (x : Placement). Some x) chosen
     ∙ sym (taken s.test.now s.present.now (length s.present.now) (s.size - vec_len c.args.members.now) s.size s.most ms c.args.best.now c.requires.ready.test len (omega (arith, c.len-2.ensures, c.if-len-self.true))
-    (ap (λ l. is_known_false (known s.test.now l)) (sym c.deref.ensures.value) ∙ sym c.fails.ensures ∙ c.if-fails.false)
-    (counted_is s.most c.args.kept (flagged s.present.now ms) s.size c.len.result (vec_len c.args.members.now) c.args.best.now c.can_improve.result c.requires.counted c.len.ensures c.can_improve.ensures ∙ c.if-not-can_improve.false))
+    (ap (λ l. is_known_false (value_so_far s.test.now l)) (sym c.deref.ensures.value) ∙ sym c.fails.ensures ∙ c.if-fails.false)
+    (counted_is s.most c.args.kept (flag_count s.present.now ms) s.size c.len.result (vec_len c.args.members.now) c.args.best.now c.can_improve.result c.requires.counted c.len.ensures c.can_improve.ensures ∙ c.if-not-can_improve.false))
 
 pub extend-returns-clause-best : goal.extend-returns-clause-best
 extend-returns-clause-best t c =

@@ -2,7 +2,7 @@ use Rattle.std.proofs.Common.{◌≡◌, ◌∙◌, [], true, false, ap, sym, su
 use Rattle.std.proofs.lemmas.Result.{err_from_is_err_and}
 use Rattle.circus_node.specs.declared.event.Event.TheVariants.{Join}
 use Rattle.circus_serve.specs.Outside.{Tells, tells_of}
-use Rattle.circus_serve.specs.Serving.{Served, Progress, on, comes, begun}
+use Rattle.circus_serve.specs.Serving.{Served, Progress, on, comes, begin_serving}
 use Rattle.circus_serve.specs.Seen.Counting.{ServeCounts}
 use Rattle.circus_serve.specs.Seen.Faults.{of_link}
 use Rattle.circus_serve.proofs.SpareLemmas.{begun_so}
@@ -25,7 +25,7 @@ returns-in_err-log g c =
     let is : r ≡ Err (of_link f) = p.1 ∙ ap Err p.2 in
     record {
       node = if_fault r (of_link f) _ is;
-      gone = subst (λ x. HasGone served_of d old new [] (begun M.declared M.turn c.args.core c.args.gives) x) (sym is)
+      gone = subst (λ x. HasGone served_of d old new [] (begin_serving M.declared M.turn c.args.core c.args.gives) x) (sym is)
           (boot_lacking served_of d M.declared M.turn c.args.core c.args.gives old new f c.in_err-log.ensures.given);
       counts = subst (λ x. ServeCounts x (L.faults c.args.link.now) (L.faults c.begin.new.link)) (sym is)
           (count_at_fault (Serving g.row.M.Denot g.row.M-Paused.Denot) f (L.faults c.args.link.now) (L.faults c.begin.new.link) c.in_err-log.ensures.counts);

@@ -4,7 +4,7 @@ use Rattle.circus_wire.specs.Wire.{IsOther}
 use Rattle.circus_node.specs.Node.{IsNodeOf}
 use Rattle.circus_node.specs.NodeState.{NodeState}
 use Rattle.circus_serve.specs.Outside.{Tells, tells_of}
-use Rattle.circus_serve.specs.Serving.{Served, event_comes, suspected, all_declared, comes}
+use Rattle.circus_serve.specs.Serving.{Served, event_comes, suspects_by, all_declared, comes}
 use Rattle.circus_serve.specs.Seen.Counting.{ServeCounts}
 use Rattle.circus_serve.specs.declared.serving.Serving.{Serving}
 use Rattle.circus_serve.specs.Seen.Going.{served_of, HasGone}
@@ -36,8 +36,8 @@ returns-in_err-serving g c =
     record {
       node = if_fault r f _ is;
       gone = subst (λ x. HasGone served_of d old new s.happened (comes M.declared M.turn c.args.event s) x) (sym is)
-          (gone_fault state served_of d old new s.happened (event_comes M.declared M.turn c.args.event s) (all_declared M.declared M.turn (suspected M.declared M.turn c.args.event s)) f
-          (declared_extends M.declared M.turn (suspected M.declared M.turn c.args.event s)) c.in_err-serving.ensures.gone);
+          (gone_fault state served_of d old new s.happened (event_comes M.declared M.turn c.args.event s) (all_declared M.declared M.turn (suspects_by M.declared M.turn c.args.event s)) f
+          (declared_extends M.declared M.turn (suspects_by M.declared M.turn c.args.event s)) c.in_err-serving.ensures.gone);
       counts = subst (λ x. ServeCounts x (L.faults c.args.link.now) (L.faults c.step.new.link)) (sym is)
           (fault_counts (Serving g.row.M.Denot g.row.M-Paused.Denot × List ℕ) (Serving g.row.M.Denot g.row.M-Paused.Denot) f (L.faults c.args.link.now) (L.faults c.step.new.link)
           c.in_err-serving.ensures.counts);
@@ -72,7 +72,7 @@ returns g c =
     record {
       node = IfOk-weaker c.declare_all.result _ _ (λ t node. subst (λ k. IsNodeOf d k t.core) c.in_ok-serving.ensures.node.own node) c.declare_all.ensures.node;
       gone = gone_then state served_of d old mid new s.happened (event_comes M.declared M.turn c.args.event s) (serving, suspects)
-          (all_declared M.declared M.turn (suspected M.declared M.turn c.args.event s)) c.declare_all.result c.in_ok-serving.ensures.gone
+          (all_declared M.declared M.turn (suspects_by M.declared M.turn c.args.event s)) c.declare_all.result c.in_ok-serving.ensures.gone
           (subst (λ nodes. HasGone served_of d mid new serving.log.happened (all_declared M.declared M.turn nodes (served_of serving)) c.declare_all.result) same c.declare_all.ensures.gone);
       counts = then_counts c.declare_all.result (L.faults c.args.link.now) (L.faults c.step.new.link) (L.faults c.declare_all.new.link) c.in_ok-serving.ensures.counts c.declare_all.ensures.counts;
     }

@@ -6,7 +6,7 @@ use Rattle.circus_node.specs.declared.event.Event.TheVariants.{Datagram}
 use Rattle.circus_node.specs.Node.{IsNodeOf}
 use Rattle.circus_serve.specs.declared.fault.ServeFault.TheVariants as fault
 use Rattle.circus_serve.specs.Outside.{Tells, tells_of}
-use Rattle.circus_serve.specs.Serving.{Served, Progress, on, comes, took, with_foreign}
+use Rattle.circus_serve.specs.Serving.{Served, Progress, on, comes, take_comes, with_foreign}
 use Rattle.circus_serve.specs.Seen.Counting.{ServeCounts}
 use Rattle.circus_serve.specs.declared.serving.Serving.{Serving}
 use Rattle.circus_serve.specs.Seen.Going.{served_of, HasGone}
@@ -28,7 +28,7 @@ returns-in_err-add_foreign g c =
     let r = c.from_residual.result in
     let p = err_from_is_err_and r c.from_residual.ensures.1 in
     let is : r ≡ Err fault.NoMemory = p.1 ∙ ap Err p.2 in
-    let progress = took M.declared M.turn d c.args.node (From c.args.port c.args.bytes) s in
+    let progress = take_comes M.declared M.turn d c.args.node (From c.args.port c.args.bytes) s in
     record {
       node = if_fault r fault.NoMemory _ is;
       gone = subst (λ x. HasGone served_of d old old s.happened progress x) (sym is)
@@ -65,7 +65,7 @@ returns-in_err-bytes g c =
     let r = c.from_residual-in_err-bytes.result in
     let p = err_from_is_err_and r c.from_residual-in_err-bytes.ensures.1 in
     let is : r ≡ Err fault.NoMemory = p.1 ∙ ap Err p.2 in
-    let progress = took M.declared M.turn d c.args.node (From c.args.port c.args.bytes) s in
+    let progress = take_comes M.declared M.turn d c.args.node (From c.args.port c.args.bytes) s in
     record {
       node = if_fault r fault.NoMemory _ is;
       gone = subst (λ x. HasGone served_of d old old s.happened progress x) (sym is)

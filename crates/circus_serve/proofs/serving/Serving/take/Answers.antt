@@ -3,7 +3,7 @@ use Rattle.std.proofs.lemmas.Result.{IfOk-weaker}
 use Rattle.circus_outside.specs.declared.link.TakenFrom.{TakenFrom}
 use Rattle.circus_node.specs.Node.{IsNodeOf}
 use Rattle.circus_serve.specs.Outside.{Tells, tells_of}
-use Rattle.circus_serve.specs.Serving.{Served, took}
+use Rattle.circus_serve.specs.Serving.{Served, take_comes}
 use Rattle.circus_serve.specs.Seen.Going.{served_of, HasGone}
 use Rattle.circus_serve.proofs.SuspectLemmas.{own_node}
 use Rattle.circus_serve.proofs.serving.Serving.take.Goals as goal
@@ -24,7 +24,7 @@ returns-in-From g c =
     let new : Tells = tells_of (L.bound c.hear.new.link) (L.taken c.hear.new.link) (L.given c.hear.new.link) in
     record {
       node = c.hear.ensures.node;
-      gone = subst (λ (taken : TakenFrom). HasGone served_of d old new s.happened (took M.declared M.turn d c.args.node taken s) c.hear.result) (sym c.in-From.is) c.hear.ensures.gone;
+      gone = subst (λ (taken : TakenFrom). HasGone served_of d old new s.happened (take_comes M.declared M.turn d c.args.node taken s) c.hear.result) (sym c.in-From.is) c.hear.ensures.gone;
       counts = c.hear.ensures.counts;
     }
 
@@ -41,6 +41,6 @@ returns-in-Nothing g c =
     let new : Tells = tells_of (L.bound c.come.new.link) (L.taken c.come.new.link) (L.given c.come.new.link) in
     record {
       node = IfOk-weaker c.come.result _ _ (λ t node. subst (λ k. IsNodeOf d k t.core) c.requires.node.own node) c.come.ensures.node;
-      gone = subst (λ (taken : TakenFrom). HasGone served_of d old new s.happened (took M.declared M.turn d c.args.node taken s) c.come.result) (sym c.in-Nothing.is) c.come.ensures.gone;
+      gone = subst (λ (taken : TakenFrom). HasGone served_of d old new s.happened (take_comes M.declared M.turn d c.args.node taken s) c.come.result) (sym c.in-Nothing.is) c.come.ensures.gone;
       counts = c.come.ensures.counts;
     }

@@ -35,8 +35,8 @@ array_kind-returns t c =
 
 pub sequence_kind-returns : goal.sequence_kind-returns
 sequence_kind-returns t c =
-    sequence_is c.args.levels _ _ _ _ _ c.bound-bound.result (tree_of c.in_ok-element.element) c.word.ensures c.bound-bound.ensures c.word-2.ensures c.in_ok-element.ensures
-    ∙ ap (λ e. (sequence (place c.args.self.now) c.bound-bound.result e, c.type_text.new.self)) (sym c.in_ok-new.ensures)
+    sequence_is c.args.levels _ _ _ _ _ c.upper_bound-bound.result (tree_of c.in_ok-element.element) c.word.ensures c.upper_bound-bound.ensures c.word-2.ensures c.in_ok-element.ensures
+    ∙ ap (λ e. (sequence (place c.args.self.now) c.upper_bound-bound.result e, c.type_text.new.self)) (sym c.in_ok-new.ensures)
 
 pub record_kind-returns : goal.record_kind-returns
 record_kind-returns t c = record_is c.args.levels _ _ _ _ _ c.in_ok-groups.groups c.word.ensures c.sign.ensures c.in_ok-groups.ensures c.sign-2.ensures

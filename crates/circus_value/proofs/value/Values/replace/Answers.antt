@@ -14,7 +14,7 @@ invariant_of-self-2 c =
     let old = c.in_ok-old.old in
     let new = c.args.item in
     let s = external_size (tree_of old) in
-    c.resized-self-inside.ensures (size_of_values (map tree_of vs)) s (external_size (tree_of new)) c.self.invariant c.external_size.ensures c.external_size-grows.ensures (size_within vs i old c.in_ok-old.ensures.old)
+    c.size_after-self-inside.ensures (size_of_values (map tree_of vs)) s (external_size (tree_of new)) c.self.invariant c.external_size.ensures c.external_size-grows.ensures (size_within vs i old c.in_ok-old.ensures.old)
     (ap (λ us. size_of_values (map tree_of us) + s) c.in_ok-old.ensures.new ∙ size_changed vs i old new c.in_ok-old.ensures.old)
 
 pub returns-clause-new : goal.returns-clause-new

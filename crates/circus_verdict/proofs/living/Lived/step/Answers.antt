@@ -16,8 +16,8 @@ returns-clause-lived g c = λ hosted boot before at h.
     let event : Event = c.in-Some.event in
     let came : c.args.told.now.event ≡ Some event = c.in-Some.is in
     let comes : ComesSo d c.args.node event = subst (λ (o : Option Event). IsSomeAnd o (ComesSo d c.args.node)) came c.requires.come in
-    let ended = subst (λ (e : Event). step.stepped M.declared M.turn c.args.at e c.args.self.core ≡ Ok (c.in_ok-core.core, c.in_ok-core.outputs)) c.in_ok-copy_of.ensures c.in_ok-core.ensures.stepped in
-    let stepped = subst (λ (n : ℕ). step.stepped M.declared M.turn n event c.args.self.core ≡ Ok (c.in_ok-core.core, c.in_ok-core.outputs)) at ended in
+    let ended = subst (λ (e : Event). step.step_node M.declared M.turn c.args.at e c.args.self.core ≡ Ok (c.in_ok-core.core, c.in_ok-core.outputs)) c.in_ok-copy_of.ensures c.in_ok-core.ensures.stepped in
+    let stepped = subst (λ (n : ℕ). step.step_node M.declared M.turn n event c.args.self.core ≡ Ok (c.in_ok-core.core, c.in_ok-core.outputs)) at ended in
     let decides : Decides c.if-is_told.is_told ((boot ∷ before ≡ events_in h.lived) × IsSaid c.args.told.now c.in_ok-core.outputs) =
     elim c.if-is_told.branch [
       | then-is_told w ↦ told_then c.args.self.is_told c.if-is_told.is_told w.is_said-is_told.result h.told w.if-is_told.true w.is_told-is w.is_said-is_told.ensures

@@ -3,7 +3,7 @@ use Rattle.std.proofs.lemmas.Result.{on_ok_weaker, IfOk-weaker}
 use Rattle.circus_exchange.specs.Exchange.{IsSendable, awaits_return, datagrams_of_return}
 use Rattle.circus_pair.proofs.Lasting.{lasts_returned}
 use Rattle.circus_wire.specs.declared.delivery.Batch.{Batch}
-use Rattle.circus_wire.specs.Wire.{PeerState, WireState, changed, peer_answered, of_peer, sent_to}
+use Rattle.circus_wire.specs.Wire.{PeerState, WireState, change_peer, peer_answered, of_peer, sent_to}
 use Rattle.circus_wire.proofs.Changing.{found_by, found_within, found_at, read_found, state_is, peer_is, set_remains}
 use Rattle.circus_wire.proofs.Kept.{all_kept, same_format}
 use Rattle.circus_wire.proofs.wire.Wire.hand_return.Goals as goal
@@ -53,7 +53,7 @@ returns-clause-state g c =
     let change = λ (p : PeerState g.row.P.Denot). peer_answered p c.args.caller.number c.args.message in
     on_ok_weaker c.answer.result (λ e.
     state_is _ _ _ c.args.caller.node _ _ _ _ change c.self.view_is c.place_of-place.ensures (found_at _ _ c.args.caller.node _ _ _ c.place_of-place.ensures found.there same) e
-    ∙ sym (ap (λ b. cond b (changed change c.args.self.now c.args.caller.node) c.args.self.now) c.requires.awaited)) c.answer.ensures.state
+    ∙ sym (ap (λ b. cond b (change_peer change c.args.self.now c.args.caller.node) c.args.self.now) c.requires.awaited)) c.answer.ensures.state
 
 pub returns-clause-remains : goal.returns-clause-remains
 returns-clause-remains g c = set_remains _ _ _ c.place_of-place.result _ _ c.self.view_is

@@ -1,6 +1,6 @@
 use Rattle.std.proofs.Common.{◌+◌, Some, refl, sym, ap, subst, ◌∙◌, arith}
 use Rattle.circus_world.specs.WorldState.{WorldState, Standing}
-use Rattle.circus_world.specs.Course.{passed, crashed}
+use Rattle.circus_world.specs.Course.{pass_step, crash_node}
 use Rattle.circus_world.specs.declared.slot.Slot.{Slot}
 use Rattle.circus_world.specs.Seen.Sound.{IsSound}
 use Rattle.circus_world.proofs.SoundLemmas.{passed_sound, noted_sound}
@@ -30,6 +30,6 @@ returns g c =
     let next : Slot g.row.M.Denot g.row.M-Paused.Denot = record slot { crashed = Some (i.steps + 1) } in
     let there = slot_in i.deployment i.modules.items i.slots.items i.sent i.steps c.args.self c.args.node c.from.result slot c.self.view_is c.self.invariant.0 c.requires.node c.from.ensures c.index_mut.ensures.value in
     let is = noted_is i.deployment i.modules.items i.slots.items i.sent i.steps c.from.result slot next note c.self.invariant.0 there refl (λ n. refl) in
-    ap passed is
-    ∙ ap (λ w. crashed c.from.result w) c.self.view_is
-    ∙ ap (λ k. crashed k c.args.self) c.from.ensures
+    ap pass_step is
+    ∙ ap (λ w. crash_node c.from.result w) c.self.view_is
+    ∙ ap (λ k. crash_node k c.args.self) c.from.ensures

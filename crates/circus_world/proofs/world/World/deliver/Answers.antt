@@ -4,7 +4,7 @@ use Rattle.circus_node.specs.declared.event.Event.TheVariants as comes
 use Rattle.circus_schedule.specs.declared.line.Line.TheVariants.{Deliver}
 use Rattle.circus_world.specs.declared.sent.Sent.{Sent}
 use Rattle.circus_world.specs.WorldState.{WorldState, is_live}
-use Rattle.circus_world.specs.Course.{Stepped, comes_to, stepped}
+use Rattle.circus_world.specs.Course.{Stepped, comes_to, step_line}
 use Rattle.circus_world.specs.Seen.Followed.{IsFollowed}
 use Rattle.circus_world.specs.Seen.Sound.{IsSound}
 use Rattle.circus_world.proofs.ComeLemmas.{goes_there, datagram_may_come, delivered_at}
@@ -50,7 +50,7 @@ returns g c =
     let sent : Sent = c.in-Some.sent.now in
     let live : is_live w sent.to ≡ true =
     live_so w sent.to c.crashed.result (goes_there w c.args.number sent sound there) c.crashed.ensures (sym c.is_some.ensures ∙ c.if-is_some.false) in
-    let is : stepped M.declared M.turn (Deliver c.args.number) w ≡ comes_to M.declared M.turn sent.to (comes.Datagram sent.from c.in_ok-bytes.bytes) w =
+    let is : step_line M.declared M.turn (Deliver c.args.number) w ≡ comes_to M.declared M.turn sent.to (comes.Datagram sent.from c.in_ok-bytes.bytes) w =
     delivered_at M.declared M.turn w c.args.number sent true there live
     ∙ ap (λ bytes. comes_to M.declared M.turn sent.to (comes.Datagram sent.from bytes) w) (sym c.in_ok-bytes.ensures) in
     subst (λ (end : Stepped g.row.M.Denot). IsFollowed c.comes_to.result end) (sym is) c.comes_to.ensures

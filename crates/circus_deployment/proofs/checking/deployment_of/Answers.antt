@@ -1,0 +1,12 @@
+use Rattle.std.proofs.Common.{◌+◌, ◌≤◌, length, sym, ◌∙◌, ap, subst, arith}
+use Rattle.std.specs.List.{AllByRecursion}
+use Rattle.circus_deployment.specs.declared.meaning.NumberedTroupe.{NumberedTroupe}
+use Rattle.circus_limits.specs.Limits.{most_nodes}
+use Rattle.circus_deployment.specs.Nodes.{hosts_of, number_troupes}
+use Rattle.circus_deployment.proofs.NumberedMore.{few_numbered}
+use Rattle.circus_deployment.proofs.checking.deployment_of.Goals as goal
+
+pub troupes-requires : goal.troupes-requires
+troupes-requires c =
+    subst (AllByRecursion (λ (n : NumberedTroupe). n.first + length (hosts_of n.troupe.now) ≤ most_nodes)) (sym c.as_slice-2.ensures.value)
+    (few_numbered c.in_ok-number_troupes.numbered.items c.args.text.now.troupes (c.in_ok-number_troupes.ensures ∙ ap number_troupes c.as_slice.ensures) (omega (arith, c.requires.few)))

@@ -1,6 +1,0 @@
-use Rattle.std.proofs.Common.{sym, subst}
-use Rattle.circus_member_rules.specs.Callable.{AreReplies}
-use Rattle.circus_member.proofs.doing.Doing.asked.Goals as goal
-
-pub take_call-requires : goal.take_call-requires
-take_call-requires g c = subst (λ d. AreReplies d.member.gathered.replies) (sym c.self.view_is) c.requires
