@@ -16,7 +16,7 @@ use Rattle.circus_record.specs.declared.record.RunRecord.{RunRecord}
 use Rattle.circus_record.specs.declared.record.MemberRecord.{MemberRecord}
 use Rattle.circus_member_rules.specs.declared.occurrence.Difference.{Difference}
 use Rattle.circus_node.specs.Accepting.{troupe_at}
-use Rattle.circus_node_text.specs.NodeText.{event_line, give_line, reply_text, differ_line}
+use Rattle.circus_serve.specs.NodeText.{event_line, give_line, reply_text, differ_line}
 use Rattle.circus_config.specs.declared.plan.Plan.{Plan}
 use Rattle.circus_audit.specs.Possible.{declared_by, CanDiffer, CanHappen, IsNamed}
 use Rattle.circus_audit.specs.RecordText.{what_came, stray_line, IsStray, noted_lines, all_noted_lines}

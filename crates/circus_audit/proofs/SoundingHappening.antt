@@ -8,7 +8,7 @@ use Rattle.hex.specs.Hex.{encode_lower}
 use Rattle.circus_record.specs.Line.{line}
 use Rattle.circus_record.specs.Naming.{Names}
 use Rattle.circus_node.specs.declared.event.Give.{Give}
-use Rattle.circus_node_text.specs.NodeText.{event_line, give_line}
+use Rattle.circus_serve.specs.NodeText.{event_line, give_line}
 use Rattle.circus_config.specs.declared.plan.Plan.{Plan}
 use Rattle.circus_value_text.specs.Reading.{behind_prefix}
 use Rattle.circus_value_text.proofs.Marks.{passed_stands}

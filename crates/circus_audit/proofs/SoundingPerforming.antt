@@ -325,24 +325,28 @@ module _ (plan : Plan) (s : Signature) (events : ℕ) where
             last = with_ask run ask ∷ [];
             are = refl;
             each = acts.ended;
-            one = inr (with_ask run ask, refl, record {
-              began = record {
-                root = going.began.root;
-                path = going.began.path;
-                takes = going.began.takes;
-                clock = going.began.clock;
-                started = going.began.started;
-              };
-              before = run.asks;
-              last = ask;
-              asks = refl;
-              answered = going.asked;
-              waits = acts.now.1;
-              outcome = going.outcome;
-              state = going.state;
-              after = going.after;
-              ended = going.ended;
-            });
+            one = inr (
+              with_ask run ask,
+              refl,
+              record {
+                began = record {
+                  root = going.began.root;
+                  path = going.began.path;
+                  takes = going.began.takes;
+                  clock = going.began.clock;
+                  started = going.began.started;
+                };
+                before = run.asks;
+                last = ask;
+                asks = refl;
+                answered = going.asked;
+                waits = acts.now.1;
+                outcome = going.outcome;
+                state = going.state;
+                after = going.after;
+                ended = going.ended;
+              },
+            );
             counted = omega (arith, here.0, here.1, counted);
             few = acts.few;
           };

@@ -9,7 +9,7 @@ use Rattle.circus_record.specs.MemberText.{member_lines}
 use Rattle.circus_report.specs.ViewLines.{ringmaster_line, views_lines}
 use Rattle.circus_node.specs.Accepting.{troupe_at}
 use Rattle.circus_node.specs.declared.event.Event.{Event}
-use Rattle.circus_node_text.specs.NodeText.{event_text, event_line, give_line, differ_line, foreign_line}
+use Rattle.circus_serve.specs.NodeText.{event_text, event_line, give_line, differ_line, foreign_line}
 use Rattle.circus_config.specs.declared.plan.Plan.{Plan}
 use Rattle.circus_audit.specs.declared.given.GivenEvent.{GivenEvent}
 use Rattle.circus_audit.specs.declared.given.Given.{Given}

@@ -10,8 +10,8 @@ use circus_check::ResolvedModule;
 use circus_config::Plan;
 use circus_idl::Interface;
 use circus_model::{ErrorShapes, Import, Imports, ProcedureShape, ProcedureShapes, Signature};
+use circus_modules::{procedures_of, shapes_of};
 use circus_node::troupe_at;
-use circus_signature::{procedures_of, shapes_of};
 use circus_value::{NoMemory, Shapes};
 use std::alloc::Global;
 
@@ -35,7 +35,8 @@ fn offered(
     interfaces: &[Interface],
     number: Option<u16>,
 ) -> Result<ProcedureShapes, NoMemory>
-    ensures { IfOk result (λ procedures. procedures ≡ means.procedures_offered interfaces.now number) }
+    ensures { IfOk result (λ procedures.
+        procedures ≡ means.procedures_offered interfaces.now number) }
 {
     match number {
         None => main_alone(alloc),

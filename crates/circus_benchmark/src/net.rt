@@ -2,10 +2,10 @@
 use anyhow::Error;
 use bytes::Bytes;
 use circus_config::read_program;
-use circus_guarded::GuardedNode;
-use circus_load::load;
 use circus_machine::TextModule;
 use circus_node::{Event, Outputs};
+use circus_node_guard::GuardedNode;
+use circus_plan_modules::load;
 use circus_value::ListOf;
 use std::alloc::Global;
 use std::collections::VecDeque;
@@ -43,7 +43,10 @@ impl Drop for Net {
 }
 
 // The nodes of a program at boot, and what they give.
-fn boot_nodes(alloc: Global, text: &str) -> Result<ListOf<(GuardedNode<TextModule>, Outputs)>, Error> {
+fn boot_nodes(
+    alloc: Global,
+    text: &str,
+) -> Result<ListOf<(GuardedNode<TextModule>, Outputs)>, Error> {
     let program = load(alloc, read_program(alloc, text.as_bytes())?)?;
     let nodes = GuardedNode::boot_all(alloc, &program.deployment, program.modules.as_slice())?;
     Ok(nodes)

@@ -33,7 +33,12 @@ fn measure(rt: &HostRuntime, calls: u64, client: &mut Pair, server: &mut Pair) -
 }
 
 // How long some calls take, in microseconds.
-fn time_calls(rt: &HostRuntime, calls: u64, client: &mut Pair, server: &mut Pair) -> io::Result<u128>
+fn time_calls(
+    rt: &HostRuntime,
+    calls: u64,
+    client: &mut Pair,
+    server: &mut Pair,
+) -> io::Result<u128>
     requires client { IsUp client.old }
     requires server { IsUp server.old }
     ensures client { IsUp client.new }

@@ -1,2 +1,7 @@
 mod Listing
 pub mod WellTyped
+mod ExpressionsInText
+pub mod InText
+pub mod Rising
+pub mod StatementsInText
+pub mod TypesInText

@@ -29,10 +29,10 @@ use Rattle.circus_resolve.specs.Faults.{Faults, place_of_type}
 use Rattle.circus_resolve.specs.Scope.{Standing, a_type, no_module, no_type, unsaid}
 use Rattle.circus_body.specs.Ending.{all_end}
 use Rattle.circus_idl.specs.declared.interface.Interface.{Interface}
-use Rattle.circus_text_order.proofs.Rising.{Rise, rising_in, below, split, front, back, behind, unopened, Lies, first, lies_wider}
-use Rattle.circus_text_order.proofs.InText.{AreIn, joined, one, wider}
-use Rattle.circus_text_order.proofs.TypesInText.{named, all_named, type_in, type_begins}
-use Rattle.circus_text_order.proofs.StatementsInText.{listed_in}
+use Rattle.circus_body.proofs.Rising.{Rise, rising_in, below, split, front, back, behind, unopened, Lies, first, lies_wider}
+use Rattle.circus_body.proofs.InText.{AreIn, joined, one, wider}
+use Rattle.circus_body.proofs.TypesInText.{named, all_named, type_in, type_begins}
+use Rattle.circus_body.proofs.StatementsInText.{listed_in}
 use Rattle.circus_limits.specs.Limits.{most_modules}
 use Rattle.circus_check.specs.Naming.{Import, good, forward, interface_called, module_named, import_of}
 use Rattle.circus_check.specs.Naming as naming

@@ -135,7 +135,10 @@ impl<'p, 's> Program<'p, 's> {
     {
         let mut imported = BTreeMap::new(self.alloc);
         for name in imports {
-            imported.insert(name.name.as_slice(), self.imported_interface(importing, name))?;
+            imported.insert(
+                name.name.as_slice(),
+                self.imported_interface(importing, name),
+            )?;
         }
         Ok(imported)
     }

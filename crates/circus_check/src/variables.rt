@@ -18,7 +18,7 @@ use circus_fault::{Best, Names};
 use circus_lang::VariableText;
 use circus_resolve::CheckCause;
 use circus_syntax::Named;
-use circus_type::{MOST_ZERO_BYTES, check_inside, measure_of_type, whole, shape_of_type};
+use circus_type::{MOST_ZERO_BYTES, check_inside, measure_of_type, shape_of_type, whole};
 use circus_value::{Duplicate, Field, Fields, Name, NoMemory};
 use std::alloc::Global;
 

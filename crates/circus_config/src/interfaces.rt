@@ -80,7 +80,8 @@ pub fn interfaces(
     stop: &Option<Stop>,
 ) -> Result<(Least, Interfaces), NoMemory>
     ensures found { IfOk result (λ read.
-        least_fault read.0 ≡ least_from rank_of None (read_faults stop.now (map interface_of texts.now))) }
+        least_fault read.0
+        ≡ least_from rank_of None (read_faults stop.now (map interface_of texts.now))) }
     ensures means { IfOk result (λ read.
         IfNone read.0.found (EachMeans (map interface_of texts.now) read.1)) }
 {

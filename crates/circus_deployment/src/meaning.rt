@@ -121,7 +121,10 @@ fn spares_len(troupe: &TroupeText) -> usize
 }
 
 /// Troupes with the numbers of their first nodes, where the Ringmaster's node is 0.
-pub fn number_troupes(alloc: Global, texts: &[TroupeText]) -> Result<Vec<NumberedTroupe<'_>>, NoMemory>
+pub fn number_troupes(
+    alloc: Global,
+    texts: &[TroupeText],
+) -> Result<Vec<NumberedTroupe<'_>>, NoMemory>
     requires { length (flat_map hosts_of texts.now) < most_nodes }
     ensures { IfOk result (λ made. map numbered_as made.items ≡ number_troupes texts.now) }
 {

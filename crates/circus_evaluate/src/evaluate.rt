@@ -11,7 +11,7 @@ ghost use Rattle.circus_evaluate.specs.Given.{got_as, given_as, Gives};
 ghost use Rattle.circus_evaluate.specs.Steps.{step_as};
 ghost use Rattle.circus_evaluate.specs.Seen.Suffixes.{step_of};
 
-use crate::got::{Given, Got, NoValue, unless_large, made_text};
+use crate::got::{Given, Got, NoValue, made_text, unless_large};
 use crate::number::{as_kind, calculate, is_ordered, literal, negate};
 use crate::part::{Step, part_by};
 use circus_checked::{
@@ -40,7 +40,9 @@ pub(crate) fn evaluate<'a>(
         And(left, right) => decide(alloc, limit, variables, false, left, right),
         Not(operand) => deny(alloc, limit, variables, operand),
         Equal(left, right) => compared_whole(alloc, limit, variables, left, right),
-        Compare(order, left, right) => compare_operands(alloc, limit, variables, *order, left, right),
+        Compare(order, left, right) => compare_operands(
+            alloc, limit, variables, *order, left, right,
+        ),
         Calculate(calculation, left, right) => {
             calculate_operands(alloc, limit, variables, *calculation, left, right)
         }

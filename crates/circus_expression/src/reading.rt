@@ -50,7 +50,8 @@ fn link(
 ) -> Result<Expression, NoMemory>
     requires { next_operator (operators of) (next reader.old) ≡ Some joint }
     ensures { IfOk result (λ read.
-        shown (lean_left (tree_of left)) (links levels of reader.old) ≡ (tree_of read, reader.new)) }
+        shown (lean_left (tree_of left)) (links levels of reader.old)
+        ≡ (tree_of read, reader.new)) }
 {
     let at = left.at;
     let left = Operand::new(reader.alloc(), left)?;
@@ -128,7 +129,11 @@ fn relation(reader: &mut Reader<'_>, levels: u8) -> Result<Expression, NoMemory>
 
 // What stands behind the first sum of a relation, joined to it.
 #[cycle(reading)]
-fn rest_of_relation(reader: &mut Reader<'_>, left: Expression, levels: u8) -> Result<Expression, NoMemory>
+fn rest_of_relation(
+    reader: &mut Reader<'_>,
+    left: Expression,
+    levels: u8,
+) -> Result<Expression, NoMemory>
     ensures { IfOk result (λ read.
         shown (related_tree (tree_of left)) (related_within levels reader.old)
         ≡ (tree_of read, reader.new)) }
@@ -277,9 +282,14 @@ fn kind_by_name(reader: &mut Reader<'_>, levels: u8) -> Result<ExpressionKind, N
 
 // What stands behind a name, where a dot follows it.
 #[cycle(reading)]
-fn kind_behind_dot(reader: &mut Reader<'_>, name: Named, levels: u8) -> Result<ExpressionKind, NoMemory>
+fn kind_behind_dot(
+    reader: &mut Reader<'_>,
+    name: Named,
+    levels: u8,
+) -> Result<ExpressionKind, NoMemory>
     ensures { IfOk result (λ kind.
-        shown (λ behind. stands_for (name_with_tail name behind)) (tail_behind_dot levels reader.old)
+        shown (λ behind.
+        stands_for (name_with_tail name behind)) (tail_behind_dot levels reader.old)
         ≡ (expression name.at (kind_tree kind), reader.new)) }
 {
     reader.sign(b".");
@@ -299,7 +309,11 @@ fn kind_behind_dot(reader: &mut Reader<'_>, name: Named, levels: u8) -> Result<E
 
 // What stands behind the name of a type: a hash, and a label, an arm with its value, or items.
 #[cycle(reading)]
-fn kind_of_type(reader: &mut Reader<'_>, of: TypeName, levels: u8) -> Result<ExpressionKind, NoMemory>
+fn kind_of_type(
+    reader: &mut Reader<'_>,
+    of: TypeName,
+    levels: u8,
+) -> Result<ExpressionKind, NoMemory>
     ensures { IfOk result (λ kind.
         shown (λ made. stands_for (construction of made)) (built_behind levels reader.old)
         ≡ (expression (type_place of) (kind_tree kind), reader.new)) }

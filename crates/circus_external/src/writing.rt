@@ -79,7 +79,8 @@ fn spell_count(count: usize, out: &mut Message) -> Result<(), NoMemory>
 
 fn spell_text(bytes: &[u8], out: &mut Message) -> Result<(), NoMemory>
     ensures { OnOk result
-        (out.new ≡ out.old ++ bytes_of_pieces (number (word (length bytes.now)) ∷ contents bytes.now)) }
+        (out.new ≡ out.old
+        ++ bytes_of_pieces (number (word (length bytes.now)) ∷ contents bytes.now)) }
 {
     spell_count(bytes.len(), out)?;
     write_content(bytes, out)

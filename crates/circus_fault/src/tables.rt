@@ -40,7 +40,8 @@ impl<'a> Names<'a> {
     /// Gives a name a number in place of the one that it had, which it answers.
     pub fn insert(&mut self, name: &'a [u8], number: usize) -> Result<Option<usize>, NoMemory>
         ensures earlier { IfOk result (λ earlier. earlier ≡ known_of self.old name.now) }
-        ensures added { OnOk result (known_of self.new ≡ add_name name.now number (known_of self.old)) }
+        ensures added { OnOk result
+            (known_of self.new ≡ add_name name.now number (known_of self.old)) }
     {
         Ok(self.table.insert(name, number)?)
     }

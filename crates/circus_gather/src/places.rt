@@ -24,7 +24,8 @@ pub(crate) fn note(
 ) -> Result<(), NoMemory>
     ensures ok { OnOk result
         ((q : ℕ) → slots_seen.slots_of_index places.new.entries q
-        ≡ slots_seen.slots_of_index places.old.entries q ++ (if nat_eq index q then place ∷ [] else [])) }
+        ≡ slots_seen.slots_of_index places.old.entries q
+        ++ (if nat_eq index q then place ∷ [] else [])) }
     ensures err { OnErr result (places.new.entries ≡ places.old.entries) }
 {
     match places.get_mut(&index) {
@@ -38,7 +39,8 @@ fn begin(alloc: Global, places: &mut Places, index: u32, place: usize) -> Result
     requires { slots_seen.slots_of_index places.old.entries index ≡ [] }
     ensures ok { OnOk result
         ((q : ℕ) → slots_seen.slots_of_index places.new.entries q
-        ≡ slots_seen.slots_of_index places.old.entries q ++ (if nat_eq index q then place ∷ [] else [])) }
+        ≡ slots_seen.slots_of_index places.old.entries q
+        ++ (if nat_eq index q then place ∷ [] else [])) }
     ensures err { OnErr result (places.new.entries ≡ places.old.entries) }
 {
     let mut of_index = ListOf::new(alloc);

@@ -50,9 +50,9 @@ use Rattle.circus_node.specs.Headers.{return_in}
 use Rattle.circus_member_theory.proofs.Accepting.Taken.{imported_as, called_open}
 use Rattle.circus_limits.specs.Limits.{limit_of}
 use Rattle.circus_world_theory.proofs.Border.Makers.{IsIn, IsAmong}
-use Rattle.circus_timely.specs.Past.{Past, now}
+use Rattle.circus_member_theory.specs.Past.{Past, now}
 use Rattle.circus_member_theory.specs.Living.{MayLive, after, kept_after, phase_at_boot}
-use Rattle.circus_timely.specs.Asks.{is_of_ask, open_asks}
+use Rattle.circus_member_theory.specs.Asks.{is_of_ask, open_asks}
 use Rattle.circus_headline_theory.specs.Owed.Living.{made_by}
 use Rattle.circus_headline_theory.proofs.Owed.Calling.{AreCalled, called_all}
 use Rattle.circus_headline_theory.proofs.Owed.Lives.{rises}

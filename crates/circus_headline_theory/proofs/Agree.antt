@@ -30,11 +30,11 @@ use Rattle.circus_member_rules.specs.declared.occurrence.AskName.{AskName}
 use Rattle.circus_member_rules.specs.declared.occurrence.Occurrence.{Occurrence}
 use Rattle.circus_member_rules.specs.declared.occurrence.Occurrence.TheVariants as comes
 use Rattle.circus_member_rules.specs.Step.{start_by_call, is_join}
-use Rattle.circus_timely.specs.First.{at_end, or_else, first_given}
-use Rattle.circus_timely.specs.Past.{Past, booted, followed, now, Rises, views_known, nodes_declared_down, replies_to, is_outside, is_asking, is_done, taken_in, phase, snapshot_fetched}
-use Rattle.circus_timely.specs.Timely.{given_value, ShowsAnswer, IsMain, has_ended, is_free_for, may_start, may_answer, collated_call, collated_reply, name_of, IsTimely}
+use Rattle.circus_member_theory.specs.First.{at_end, or_else, first_given}
+use Rattle.circus_member_theory.specs.Past.{Past, booted, followed, now, Rises, views_known, nodes_declared_down, replies_to, is_outside, is_asking, is_done, taken_in, phase, snapshot_fetched}
+use Rattle.circus_member_theory.specs.Timely.{given_value, ShowsAnswer, IsMain, has_ended, is_free_for, may_start, may_answer, collated_call, collated_reply, name_of, IsTimely}
 use Rattle.circus_member_theory.proofs.Timely.Firsts.{none_now}
-use Rattle.circus_timely.specs.Snapshots.{began}
+use Rattle.circus_member_theory.specs.Snapshots.{began}
 use Rattle.circus_headline_theory.specs.Datagrams.Due.{WasSo}
 use Rattle.circus_headline_theory.proofs.One.{at_front, take_front, get_within, none_is_some, some_of, asked_callee, asked_procedure, asked_arguments, turned_state, AskIs, ask_is, none_behind, ends_as, run_is, IsOne, none_given}
 

@@ -22,14 +22,14 @@ use Rattle.circus_member_rules.specs.Messages.{reply_message, stale_message, bef
 use Rattle.circus_member_rules.specs.declared.occurrence.AskName.{AskName}
 use Rattle.circus_member_rules.specs.declared.place.Place.{Place}
 use Rattle.circus_member_rules.specs.Step.{reply_of_run}
-use Rattle.circus_timely.specs.Past.{Past, now, Rises, phase, required_incarnation}
+use Rattle.circus_member_theory.specs.Past.{Past, now, Rises, phase, required_incarnation}
 use Rattle.circus_member_theory.proofs.Timely.Firsts.{same_first}
-use Rattle.circus_timely.specs.Asks.{is_new, is_waiting, as_made, asks_from, asks_of, knows, first_calls, calls_behind, open_asks, new_asks}
-use Rattle.circus_timely.specs.Made.{asks, requests}
-use Rattle.circus_timely.specs.Order.{if_now, ends_now, is_answered_by_end, returns_now, returns_at_once, made_by_run, made_by_runs, snapshots_now, executed_then, made_in_step}
-use Rattle.circus_timely.specs.Requests.{for_what_came, lookups}
-use Rattle.circus_timely.specs.Returns.{first_of, run_of, was_started, has_ended, is_stale, is_before, reply_by, return_at, return_owed}
-use Rattle.circus_timely.specs.Snapshots.{runs_before, began, snapshot_at, snapshot_owed}
+use Rattle.circus_member_theory.specs.Asks.{is_new, is_waiting, as_made, asks_from, asks_of, knows, first_calls, calls_behind, open_asks, new_asks}
+use Rattle.circus_member_theory.specs.Made.{asks, requests}
+use Rattle.circus_member_theory.specs.Order.{if_now, ends_now, is_answered_by_end, returns_now, returns_at_once, made_by_run, made_by_runs, snapshots_now, executed_then, made_in_step}
+use Rattle.circus_member_theory.specs.Requests.{for_what_came, lookups}
+use Rattle.circus_member_theory.specs.Returns.{first_of, run_of, was_started, has_ended, is_stale, is_before, reply_by, return_at, return_owed}
+use Rattle.circus_member_theory.specs.Snapshots.{runs_before, began, snapshot_at, snapshot_owed}
 use Rattle.circus_headline_theory.proofs.Owed.CallsOwing.{open_same}
 use Rattle.circus_headline_theory.proofs.Owed.Owing.{lookups_same}
 use Rattle.circus_headline_theory.proofs.Asks.{Callee, callee_of, recorded, recorded_at}

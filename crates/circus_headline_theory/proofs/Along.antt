@@ -25,9 +25,9 @@ use Rattle.circus_world.specs.WorldState.{WorldState, Standing}
 use Rattle.circus_world.specs.declared.sent.Sent.{Sent}
 use Rattle.circus_world.proofs.LineLemmas.{sent_stays}
 use Rattle.circus_world.proofs.SlotLemmas.{get_there}
-use Rattle.circus_talks.specs.Histories as talks
+use Rattle.circus_world_theory.specs.Histories as talks
 use Rattle.circus_node.specs.Trace.{effects_in, Trace}
-use Rattle.circus_talks.proofs.Worlds.{Stands}
+use Rattle.circus_world_theory.proofs.Worlds.{Stands}
 use Rattle.circus_world_theory.proofs.Along.{below_sent, line_talks}
 use Rattle.circus_world_theory.specs.NodeLives.{Events, Rising, Comes}
 use Rattle.circus_headline_theory.specs.Owed.Makes.{then_along}

@@ -28,7 +28,7 @@ use Rattle.circus_member_rules.proofs.Starting.{IsSoundNow}
 use Rattle.circus_member_rules.proofs.Writing.{one_is_performing}
 use Rattle.circus_node.specs.Accepting.{imported_procedure, recorded_ask}
 use Rattle.circus_member_theory.proofs.Accepting.Taken.{imported_as}
-use Rattle.circus_timely.specs.Past.{Past, followed}
+use Rattle.circus_member_theory.specs.Past.{Past, followed}
 use Rattle.circus_member_theory.specs.Living.{MayLive, kept_after}
 use Rattle.circus_headline_theory.proofs.Owed.Going.{behaves, Keeps, executed_keeps}
 use Rattle.circus_headline_theory.proofs.Owed.Lives.{handles, IsStepped, step_is, known}

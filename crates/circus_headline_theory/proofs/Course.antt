@@ -43,15 +43,15 @@ use Rattle.circus_node.specs.Step.{CanCome}
 use Rattle.circus_node.specs.declared.event.Event.{Event}
 use Rattle.circus_node.specs.declared.event.Event.TheVariants as comes
 use Rattle.circus_node.specs.declared.event.Outputs.{Outputs}
-use Rattle.circus_talks.specs.Histories.{beginning_of}
-use Rattle.circus_talks.specs.NodeActs.{with_all, came_by, wire_behind, acts_in, acts_at_boot}
+use Rattle.circus_world_theory.specs.Histories.{beginning_of}
+use Rattle.circus_world_theory.specs.NodeActs.{with_all, came_by, wire_behind, acts_in, acts_at_boot}
 use Rattle.circus_node.specs.Trace.{effects_in, effects_at_boot, Trace}
-use Rattle.circus_talks.proofs.Steps.{IsRead}
+use Rattle.circus_world_theory.proofs.Steps.{IsRead}
 use Rattle.circus_world_theory.proofs.Border.Going.{begun as with_nothing}
 use Rattle.circus_world_theory.proofs.Border.Hosting.{Hosts, IsOtherOf, boot_views_are, may_be_called}
 use Rattle.circus_world_theory.proofs.Border.Reaching.{Reaches, AllReach, TellsOf, MayBeCalled, IsReaching, step_reaches, boot_reaches}
 use Rattle.circus_world_theory.proofs.Border.Telling.{accepted_is}
-use Rattle.circus_timely.specs.Past.{Past, booted, followed, now}
+use Rattle.circus_member_theory.specs.Past.{Past, booted, followed, now}
 use Rattle.circus_member_theory.specs.Living.{MayLive, after, kept_after, phase_at_boot}
 use Rattle.circus_headline_theory.specs.Owed.Living.{made_in, made_by, makes_in}
 use Rattle.circus_headline_theory.proofs.Owed.Lives.{IsKnown, known}

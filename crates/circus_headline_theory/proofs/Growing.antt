@@ -16,12 +16,12 @@ use Rattle.circus_member_rules.specs.declared.place.Place.{Place}
 use Rattle.circus_member_rules.specs.declared.occurrence.AskName.{AskName}
 use Rattle.circus_member_rules.specs.declared.occurrence.Occurrence.{Occurrence}
 use Rattle.circus_member_rules.specs.Happening.{IsHome}
-use Rattle.circus_timely.specs.Past.{Past, followed, now, Rises}
+use Rattle.circus_member_theory.specs.Past.{Past, followed, now, Rises}
 use Rattle.circus_member_theory.specs.Living.{MayLive, kept_after, phase_at_boot}
-use Rattle.circus_timely.specs.Asks.{calls_behind, open_asks}
-use Rattle.circus_timely.specs.Order.{returns_at_once, executed_then, IsInOrder}
-use Rattle.circus_timely.specs.Requests.{for_what_came, lookups}
-use Rattle.circus_timely.specs.Returns.{reply_by}
+use Rattle.circus_member_theory.specs.Asks.{calls_behind, open_asks}
+use Rattle.circus_member_theory.specs.Order.{returns_at_once, executed_then, IsInOrder}
+use Rattle.circus_member_theory.specs.Requests.{for_what_came, lookups}
+use Rattle.circus_member_theory.specs.Returns.{reply_by}
 use Rattle.circus_headline_theory.specs.Owed.Living.{makes_in}
 use Rattle.circus_headline_theory.proofs.Owed.Calling.{AreCalled, called_all, made_same, waiting_same}
 use Rattle.circus_headline_theory.proofs.Owed.CallsOwing.{open_same}

@@ -15,8 +15,8 @@ use Rattle.circus_member_rules.specs.declared.occurrence.Purpose.{Purpose}
 use Rattle.circus_member_rules.specs.declared.occurrence.Effect.{Effect}
 use Rattle.circus_member_rules.specs.declared.occurrence.Effect.TheVariants as made
 use Rattle.circus_node.specs.Sending.{is_sendable}
-use Rattle.circus_talks.specs.Histories.{beginning_of}
-use Rattle.circus_talks.specs.NodeActs.{handed_by}
+use Rattle.circus_world_theory.specs.Histories.{beginning_of}
+use Rattle.circus_world_theory.specs.NodeActs.{handed_by}
 use Rattle.circus_world_theory.proofs.Border.Hosting.{IsOtherOf}
 use Rattle.circus_world_theory.proofs.Border.Reaching.{Reaches, AllReach}
 use Rattle.circus_headline_theory.proofs.Datagrams.AtPairs.{other_by}

@@ -23,7 +23,7 @@ use Rattle.circus_world.specs.WorldState.{WorldState, Standing}
 use Rattle.circus_world.specs.Answers.{IsBooted}
 use Rattle.circus_world.proofs.LineLemmas.{steps_rise, go_between}
 use Rattle.circus_world.proofs.SlotLemmas.{get_there}
-use Rattle.circus_talks.specs.Histories.{acts_of}
+use Rattle.circus_world_theory.specs.Histories.{acts_of}
 use Rattle.circus_world_theory.specs.Worlds.{IsWorldOf}
 use Rattle.circus_world_theory.proofs.Stepping.{CalledAt}
 use Rattle.circus_world_theory.proofs.Theorem.{nodes_true, records_stand}

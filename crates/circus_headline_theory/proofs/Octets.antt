@@ -79,15 +79,15 @@ use Rattle.circus_world.specs.WorldState.{WorldState, Standing}
 use Rattle.circus_world.specs.Lines.{IsBetween}
 use Rattle.circus_world.specs.declared.sent.Sent.{Sent}
 use Rattle.circus_world.proofs.SlotLemmas.{get_there}
-use Rattle.circus_talks.specs.Histories.{beginning_of, acts_of}
+use Rattle.circus_world_theory.specs.Histories.{beginning_of, acts_of}
 use Rattle.circus_node.specs.Trace.{effects_in}
-use Rattle.circus_talks.proofs.Boots.{world_stands}
-use Rattle.circus_talks.proofs.Worlds.{Stands, IsGiven, at_pair, lawful_at}
-use Rattle.circus_truth.specs.Messages.{IsReplyOf, IsTrueReply, IsTrueState}
-use Rattle.circus_truth.specs.Truth.{IsTrueReturn}
-use Rattle.circus_timely.specs.Past.{Past}
+use Rattle.circus_world_theory.proofs.Boots.{world_stands}
+use Rattle.circus_world_theory.proofs.Worlds.{Stands, IsGiven, at_pair, lawful_at}
+use Rattle.circus_member_theory.specs.Messages.{IsReplyOf, IsTrueReply, IsTrueState}
+use Rattle.circus_member_theory.specs.Truth.{IsTrueReturn}
+use Rattle.circus_member_theory.specs.Past.{Past}
 use Rattle.circus_member_theory.specs.Living.{after, phase_at_boot, MayLive}
-use Rattle.circus_timely.specs.Returns.{run_of, has_ended}
+use Rattle.circus_member_theory.specs.Returns.{run_of, has_ended}
 use Rattle.circus_headline_theory.proofs.Owed.States.{are_returned}
 use Rattle.circus_world_theory.specs.Made.{WasMade}
 use Rattle.circus_world_theory.proofs.Border.Makers.{was_answered, return_was_made}

@@ -29,17 +29,17 @@ use Rattle.circus_member_rules.specs.declared.place.Place.{Place}
 use Rattle.circus_member_rules.specs.declared.occurrence.AskName.{AskName}
 use Rattle.circus_member_rules.specs.declared.occurrence.Occurrence.TheVariants as comes
 use Rattle.circus_member_rules.specs.Step.{start_by_call, is_join}
-use Rattle.circus_timely.specs.First.{at_end, or_else, first_given}
-use Rattle.circus_timely.specs.Past.{Past, booted, followed, now, views_known, nodes_declared_down, replies_to, is_outside, is_asking, taken_in, phase, snapshot_fetched}
+use Rattle.circus_member_theory.specs.First.{at_end, or_else, first_given}
+use Rattle.circus_member_theory.specs.Past.{Past, booted, followed, now, views_known, nodes_declared_down, replies_to, is_outside, is_asking, taken_in, phase, snapshot_fetched}
 use Rattle.circus_member_theory.specs.Living.{phase_at_boot}
-use Rattle.circus_timely.specs.Snapshots.{began}
+use Rattle.circus_member_theory.specs.Snapshots.{began}
 use Rattle.circus_ring.specs.RingTable.{boot_views}
 use Rattle.circus_collate.specs.declared.deployment.Deployment.{Deployment}
 use Rattle.circus_collate.specs.declared.deployment.Troupe.{Troupe}
 use Rattle.circus_node.specs.Booting.{beginning_in, home_in}
 use Rattle.circus_headline_theory.specs.NodeRun.{past_of, runs_at_boot, IsNodeRun}
 use Rattle.circus_node.specs.Trace.{Trace}
-use Rattle.circus_timely.specs.Timely.{given_value, ShowsAnswer, IsMain, has_ended, is_free_for, may_start, may_answer, collated_call, name_of, IsTimely}
+use Rattle.circus_member_theory.specs.Timely.{given_value, ShowsAnswer, IsMain, has_ended, is_free_for, may_start, may_answer, collated_call, name_of, IsTimely}
 
 -- ---- lists
 

@@ -45,21 +45,21 @@ use Rattle.circus_node.specs.Accepting.{imported_procedure, recorded_ask}
 use Rattle.circus_node.specs.Bodies.{outcome_at}
 use Rattle.circus_node.specs.Headers.{return_in}
 use Rattle.circus_world_theory.proofs.Border.Makers.{IsIn, IsAmong, among_all, in_both, in_flat_map}
-use Rattle.circus_talks.specs.Histories.{beginning_of}
-use Rattle.circus_talks.specs.NodeActs.{with_all, came_by, acts_of_datagram}
+use Rattle.circus_world_theory.specs.Histories.{beginning_of}
+use Rattle.circus_world_theory.specs.NodeActs.{with_all, came_by, acts_of_datagram}
 use Rattle.circus_node.specs.Booting.{beginning_in, home_in}
 use Rattle.circus_node.specs.Sending.{is_sendable}
 use Rattle.circus_node.specs.Trace.{Trace, booted, stepped}
 use Rattle.circus_node.specs.declared.event.Event.{Event}
 use Rattle.circus_node.specs.declared.event.Event.TheVariants as comes
 use Rattle.circus_node.specs.declared.event.Outputs.{Outputs}
-use Rattle.circus_timely.specs.Past as past
-use Rattle.circus_timely.specs.Past.{Past}
+use Rattle.circus_member_theory.specs.Past as past
+use Rattle.circus_member_theory.specs.Past.{Past}
 use Rattle.circus_member_theory.specs.Living.{phase_at_boot}
-use Rattle.circus_timely.specs.Asks.{is_of_ask, knows, first_calls, calls_behind, open_asks, new_asks, calls_owed}
-use Rattle.circus_timely.specs.Differences.{differences}
-use Rattle.circus_timely.specs.Made.{asks, requests}
-use Rattle.circus_timely.specs.Requests.{is_no_ask, is_request, for_what_came, lookups, requests_owed}
+use Rattle.circus_member_theory.specs.Asks.{is_of_ask, knows, first_calls, calls_behind, open_asks, new_asks, calls_owed}
+use Rattle.circus_member_theory.specs.Differences.{differences}
+use Rattle.circus_member_theory.specs.Made.{asks, requests}
+use Rattle.circus_member_theory.specs.Requests.{is_no_ask, is_request, for_what_came, lookups, requests_owed}
 use Rattle.circus_headline_theory.specs.Owed.Living.{made_in, told_in}
 use Rattle.circus_world_theory.specs.Happened.{with_one}
 use Rattle.circus_headline_theory.specs.Datagrams.Due.{WasSo, IsForAsk}

@@ -7,7 +7,7 @@ use Rattle.circus_collate.specs.declared.view.View.{View}
 use Rattle.circus_model.specs.Behaviour.{Behaviour}
 use Rattle.circus_node.specs.NodeState.{Acting, member, ringmaster, ring_views}
 use Rattle.circus_schedule.specs.declared.line.Line.{Line}
-use Rattle.circus_alike.specs.Alike.{acting_as}
+use Rattle.circus_node.specs.Alike.{acting_as}
 use Rattle.circus_world.specs.Alike.{standing_as}
 use Rattle.circus_world.specs.WorldState.{WorldState, Standing}
 use Rattle.circus_world_theory.specs.Worlds.{IsPlainWorldOf}

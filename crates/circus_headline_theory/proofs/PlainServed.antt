@@ -12,11 +12,11 @@ use Rattle.circus_node.specs.Booting as booting
 use Rattle.circus_node.specs.NodeState.{NodeState, member_record}
 use Rattle.circus_node.specs.Step.{Ended}
 use Rattle.circus_node.specs.declared.event.Outputs.{Outputs}
-use Rattle.circus_alike.specs.Alike.{declared_of, turn_of, first_of, node_as, ended_as}
-use Rattle.circus_alike.proofs.NodesAlike.{node_booted_as}
+use Rattle.circus_node.specs.Alike.{declared_of, turn_of, first_of, node_as, ended_as}
+use Rattle.circus_node.proofs.NodesAlike.{node_booted_as}
 use Rattle.circus_serve.specs.Serving.{Served, Progress, on, spent, happened_by, serve_takes}
-use Rattle.circus_served.specs.Alike.{served_as, progress_as}
-use Rattle.circus_served.proofs.ServingAlike.{serving_as, record_as}
+use Rattle.circus_node_command.specs.Alike.{served_as, progress_as}
+use Rattle.circus_node_command.proofs.ServingAlike.{serving_as, record_as}
 use Rattle.circus_world_theory.proofs.Lawful as lawful
 use Rattle.circus_world_theory.proofs.Lawful.{Lawful}
 use Rattle.circus_headline_theory.specs.ServedRun.{IsOfOctets, IsServedRun, IsServedSoFar}

@@ -39,10 +39,10 @@ use Rattle.circus_node.specs.Step.{CanCome}
 use Rattle.circus_node.specs.declared.event.Event.{Event}
 use Rattle.circus_node.specs.declared.event.Event.TheVariants as comes
 use Rattle.circus_node.specs.declared.event.Outputs.{Outputs}
-use Rattle.circus_talks.specs.Histories.{beginning_of}
-use Rattle.circus_talks.specs.NodeActs.{with_all, came_by, handed_by, wire_behind, acts_in, acts_at_boot}
+use Rattle.circus_world_theory.specs.Histories.{beginning_of}
+use Rattle.circus_world_theory.specs.NodeActs.{with_all, came_by, handed_by, wire_behind, acts_in, acts_at_boot}
 use Rattle.circus_node.specs.Trace.{effects_in, Trace}
-use Rattle.circus_talks.proofs.Steps.{IsRead}
+use Rattle.circus_world_theory.proofs.Steps.{IsRead}
 use Rattle.circus_world_theory.specs.NodeLives.{Events, Comes}
 use Rattle.circus_world_theory.proofs.Timely.Lives.{acting_by}
 use Rattle.circus_world_theory.proofs.Timely.Nodes.{concludes, ends_by}

@@ -39,11 +39,11 @@ use Rattle.circus_node.specs.Making.{Made, hears, learns_down, is_told_to_join}
 use Rattle.circus_node.specs.NodeState.{NodeState}
 use Rattle.circus_node.specs.Sending.{Sending, sent, spent, gives_of, is_sendable, hand_over, all_handed}
 use Rattle.circus_node.specs.Step.{CanCome, end_step, conclude_step, step_node}
-use Rattle.circus_talks.specs.Histories.{beginning_of}
-use Rattle.circus_talks.specs.NodeActs.{with_all, acts_of_datagram, came_by, handed_by, wire_behind, acts_in, acts_at_boot}
-use Rattle.circus_talks.proofs.Given.{IsPeer, peer_by, with_both, same_end}
-use Rattle.circus_talks.proofs.Spelled.{few_made}
-use Rattle.circus_talks.proofs.Steps.{IsRead}
+use Rattle.circus_world_theory.specs.Histories.{beginning_of}
+use Rattle.circus_world_theory.specs.NodeActs.{with_all, acts_of_datagram, came_by, handed_by, wire_behind, acts_in, acts_at_boot}
+use Rattle.circus_world_theory.proofs.Given.{IsPeer, peer_by, with_both, same_end}
+use Rattle.circus_world_theory.proofs.Spelled.{few_made}
+use Rattle.circus_world_theory.proofs.Steps.{IsRead}
 use Rattle.circus_headline_theory.specs.Trace.{gives_for, gives_for_all, suspects_in}
 
 -- what is owed for acts behind others

@@ -26,8 +26,8 @@ use Rattle.circus_member_rules.proofs.Entering.{HasValue, with_answered}
 use Rattle.circus_member_rules.proofs.Starting.{IsSoundNow}
 use Rattle.circus_member_rules.proofs.Writing.{one_is_performing}
 use Rattle.circus_member_theory.proofs.Resting.{at_boot}
-use Rattle.circus_timely.specs.Past.{Past, booted, followed, phase, snapshot_fetched}
-use Rattle.circus_timely.specs.First.{or_else, first_given}
+use Rattle.circus_member_theory.specs.Past.{Past, booted, followed, phase, snapshot_fetched}
+use Rattle.circus_member_theory.specs.First.{or_else, first_given}
 use Rattle.circus_member_theory.specs.Living.{MayLive, after, kept_after, phase_at_boot}
 use Rattle.circus_member_theory.proofs.Timely.Firsts.{first_is, none_now}
 use Rattle.circus_headline_theory.proofs.Owed.Booting.{booted_keeps}

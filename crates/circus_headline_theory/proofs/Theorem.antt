@@ -33,14 +33,14 @@ use Rattle.circus_node.specs.Sending.{Sending, sent, spent, all_handed}
 use Rattle.circus_node.specs.Step as node_step
 use Rattle.circus_node.specs.declared.event.Event.{Event}
 use Rattle.circus_node.specs.declared.event.Outputs.{Outputs}
-use Rattle.circus_talks.specs.NodeActs.{with_all, acts_in}
+use Rattle.circus_world_theory.specs.NodeActs.{with_all, acts_in}
 use Rattle.circus_node.specs.Trace.{effects_in, effects_at_boot, Trace}
-use Rattle.circus_timely.specs.Past.{Past, booted, now, snapshot_fetched}
-use Rattle.circus_timely.specs.First.{first_given}
-use Rattle.circus_timely.specs.Timely.{IsTimely}
+use Rattle.circus_member_theory.specs.Past.{Past, booted, now, snapshot_fetched}
+use Rattle.circus_member_theory.specs.First.{first_given}
+use Rattle.circus_member_theory.specs.Timely.{IsTimely}
 use Rattle.circus_member_theory.specs.Living.{after, kept_after, phase_at_boot}
 use Rattle.circus_member_theory.specs.Living as member_living
-use Rattle.circus_timely.specs.Snapshots.{began}
+use Rattle.circus_member_theory.specs.Snapshots.{began}
 use Rattle.circus_headline_theory.specs.Owed.Living.{made_in, told_in}
 use Rattle.circus_headline_theory.proofs.Owed.Lives.{IsKnown, known}
 use Rattle.circus_world_theory.proofs.Stepping.{same_ended}

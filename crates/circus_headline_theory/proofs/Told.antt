@@ -11,7 +11,7 @@ use Rattle.circus_node.specs.NodeState.{ring_views}
 use Rattle.circus_world.specs.WorldState.{WorldState, Standing}
 use Rattle.circus_report.specs.Report.{members_lines, member_at, ring_lines, rest_text, report_text, first_line, sent_lines}
 use Rattle.circus_report.specs.ViewLines.{ringmaster_line, views_lines}
-use Rattle.circus_sample.specs.Summary.{count_at, count_lines, summary}
+use Rattle.circus_simulation.specs.Summary.{count_at, count_lines, summary}
 use Rattle.circus_settle.specs.Summary.{settled_text}
 use Rattle.circus_headline_theory.specs.Facts.{NodeFacts, members_text, ring_text, counts_text, report_of, summary_head, summary_of, settled_of, node_facts, ring_facts, facts_of}
 

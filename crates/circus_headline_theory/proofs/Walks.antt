@@ -31,8 +31,8 @@ use Rattle.circus_world.specs.Course.{Stepped, sent_by, noted, pass_step, told_t
 use Rattle.circus_world.specs.Lines.{Leads}
 use Rattle.circus_world.proofs.ComeLemmas.{live_then, datagram_may_come, delivered_at, down_differs}
 use Rattle.circus_world.proofs.SlotLemmas.{get_there, all_at}
-use Rattle.circus_talks.specs.Histories.{delivery, comes_by}
-use Rattle.circus_talks.proofs.Worlds.{Stands, get_same}
+use Rattle.circus_world_theory.specs.Histories.{delivery, comes_by}
+use Rattle.circus_world_theory.proofs.Worlds.{Stands, get_same}
 use Rattle.circus_world_theory.proofs.Along.{noted_at, live_there, below_sent}
 use Rattle.circus_world_theory.proofs.Stepping.{same_world, comes_is}
 use Rattle.circus_world_theory.specs.NodeLives.{Events, IsOfBytes}

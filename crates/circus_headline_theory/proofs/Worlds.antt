@@ -16,10 +16,10 @@ use Rattle.circus_node.specs.declared.event.Outputs.{Outputs}
 use Rattle.circus_node.proofs.TroupeLemmas.{hosted_can_boot}
 use Rattle.circus_schedule.specs.declared.line.Line.{Line}
 use Rattle.circus_world.specs.WorldState.{WorldState, Standing}
-use Rattle.circus_talks.specs.Histories.{acts_of}
+use Rattle.circus_world_theory.specs.Histories.{acts_of}
 use Rattle.circus_world.proofs.SlotLemmas.{get_there}
-use Rattle.circus_talks.proofs.Boots.{world_stands}
-use Rattle.circus_talks.proofs.Worlds.{Stands}
+use Rattle.circus_world_theory.proofs.Boots.{world_stands}
+use Rattle.circus_world_theory.proofs.Worlds.{Stands}
 use Rattle.circus_world_theory.specs.Worlds.{IsWorldOf}
 use Rattle.circus_world_theory.proofs.Stepping.{same_ended}
 use Rattle.circus_world_theory.specs.NodeLives.{Events}

@@ -22,8 +22,8 @@ use Rattle.circus_world.specs.declared.sent.Sent.{Sent}
 use Rattle.circus_world.specs.WorldState.{WorldState, Standing}
 use Rattle.circus_report.specs.Report.{first_line, sent_lines}
 use Rattle.circus_report.specs.ViewLines.{ringmaster_line, views_lines}
-use Rattle.circus_sample.specs.Summary.{count_line}
-use Rattle.circus_truth.specs.Stands.{Stands}
+use Rattle.circus_simulation.specs.Summary.{count_line}
+use Rattle.circus_member_theory.specs.Stands.{Stands}
 
 -- a node: the record of its member, none at the Ringmaster's, and the step in which it crashed
 pub record NodeFacts : Type 0 where

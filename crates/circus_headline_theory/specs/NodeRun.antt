@@ -31,13 +31,13 @@ use Rattle.circus_node.specs.Headers.{return_in}
 use Rattle.circus_node.specs.Booting.{beginning_in, home_in}
 use Rattle.circus_node.specs.declared.event.Event.{Event}
 use Rattle.circus_node.specs.declared.event.Event.TheVariants as comes
-use Rattle.circus_talks.specs.Histories.{beginning_of}
-use Rattle.circus_timely.specs.Past.{Past, booted, snapshot_fetched}
-use Rattle.circus_timely.specs.First.{first_given}
-use Rattle.circus_timely.specs.Timely.{IsTimely}
+use Rattle.circus_world_theory.specs.Histories.{beginning_of}
+use Rattle.circus_member_theory.specs.Past.{Past, booted, snapshot_fetched}
+use Rattle.circus_member_theory.specs.First.{first_given}
+use Rattle.circus_member_theory.specs.Timely.{IsTimely}
 use Rattle.circus_member_theory.specs.Living.{phase_at_boot}
-use Rattle.circus_timely.specs.Order.{IsInOrder}
-use Rattle.circus_timely.specs.Snapshots.{began}
+use Rattle.circus_member_theory.specs.Order.{IsInOrder}
+use Rattle.circus_member_theory.specs.Snapshots.{began}
 use Rattle.circus_world_theory.specs.Happened.{with_one}
 use Rattle.circus_headline_theory.specs.Owed.Owes.{MakesWhatIsOwed}
 use Rattle.circus_node.specs.Trace as trace

@@ -21,7 +21,7 @@ use Rattle.circus_node.specs.Accepting.{accepted_request}
 use Rattle.circus_node.specs.Making.{table_message}
 use Rattle.circus_node.specs.declared.event.Event.{Event}
 use Rattle.circus_node.specs.declared.event.Event.TheVariants as comes
-use Rattle.circus_talks.specs.Histories.{beginning_of}
+use Rattle.circus_world_theory.specs.Histories.{beginning_of}
 use Rattle.circus_headline_theory.specs.Datagrams.Ring.{Requests}
 use Rattle.circus_node.specs.Trace as trace
 use Rattle.circus_headline_theory.specs.Trace.{acts_of, heard_in, SendsWhatIsOwed}

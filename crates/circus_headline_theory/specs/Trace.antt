@@ -20,7 +20,7 @@ use Rattle.circus_node.specs.Sending.{gives_of, is_sendable}
 use Rattle.circus_node.specs.declared.event.Event.{Event}
 use Rattle.circus_node.specs.declared.event.Event.TheVariants as comes
 use Rattle.circus_node.specs.declared.event.Give.{Give}
-use Rattle.circus_talks.specs.NodeActs.{with_all, came_by}
+use Rattle.circus_world_theory.specs.NodeActs.{with_all, came_by}
 use Rattle.circus_headline_theory.specs.Owed.Living.{made_in, told_in}
 use Rattle.circus_world_theory.specs.NodeLives.{Events, IsOfBytes}
 use Rattle.circus_headline_theory.specs.Datagrams.Lives.{IsOfOther}

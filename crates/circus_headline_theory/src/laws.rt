@@ -22,7 +22,7 @@ ghost use Rattle.circus_headline_theory.specs.Datagrams.Lives.{IsOfOther};
 ghost use Rattle.circus_headline_theory.specs.Trace.{events_of, Rises, ComesFromOthers};
 ghost use Rattle.circus_headline_theory.specs.NodeRun.{IsNodeRun, past_of};
 ghost use Rattle.circus_headline_theory.specs.Lived.{trace_behind};
-ghost use Rattle.circus_alike.specs.Alike.{declared_of, turn_of, first_of};
+ghost use Rattle.circus_node.specs.Alike.{declared_of, turn_of, first_of};
 ghost use Rattle.circus_outside.specs.declared.link.TakenFrom.{TakenFrom};
 ghost use Rattle.circus_node.specs.Booting as booting;
 ghost use Rattle.circus_node.specs.declared.event.Outputs.{Outputs};

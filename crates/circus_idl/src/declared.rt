@@ -79,7 +79,8 @@ impl<'a> Scope<'a> {
         ensures formed { OnOk result
             (IfNone self.new.best.fault
             (type_form self.new.types
-            ≡ standing_for name.now.name (shape_of_type (type_form self.old.types) (tree_of shape.now))
+            ≡ standing_for name.now.name
+            (shape_of_type (type_form self.old.types) (tree_of shape.now))
             (type_form self.old.types))) }
     {
         meet_name(&mut self.names, &mut self.best, name)?;

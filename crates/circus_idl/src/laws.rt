@@ -22,7 +22,8 @@ pub fn shown_has_tokens()
 pub fn shown_is_read()
     ensures { (i : Interface) (found : List Token) → Obeys i
         → AreTokensOf (text_with_spaces (lexemes i)) found
-        → (tree : InterfaceTree) × IsInterface (placed_from (text_with_spaces (lexemes i)) found 0) tree
+        → (tree : InterfaceTree)
+        × IsInterface (placed_from (text_with_spaces (lexemes i)) found 0) tree
         × IsWithin most_levels tree
         × (interface_faults (cut_of None) tree ≡ [])
         × Means tree i × ((j : Interface) → Means tree j → j ≡ i) }

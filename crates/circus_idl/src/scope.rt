@@ -116,7 +116,11 @@ impl<'a> Scope<'a> {
     }
 
     /// The arguments of a procedure together.
-    pub fn arguments_together(&mut self, name: &Named, fields: &Option<FieldsText>) -> Result<(), NoMemory>
+    pub fn arguments_together(
+        &mut self,
+        name: &Named,
+        fields: &Option<FieldsText>,
+    ) -> Result<(), NoMemory>
         ensures found { OnOk result (self.new.best.fault ≡ least_from rank_of self.old.best.fault
             (whole.together_faults cut_off (cut_in self.old) (is_known self.old.types)
             (type_measure self.old.types) name.now fields.now)) }

@@ -69,7 +69,8 @@ impl Writer {
     }
 
     fn numeral(&mut self, number: u32) -> Result<(), NoMemory>
-        ensures { OnOk result (self.new ≡ self.old ++ lexemes_behind_spaces (lexeme.number number ∷ [])) }
+        ensures { OnOk result
+            (self.new ≡ self.old ++ lexemes_behind_spaces (lexeme.number number ∷ [])) }
     {
         let digits = format!(in self.alloc; " {number}")?;
         self.text.append(digits.as_bytes())
@@ -77,7 +78,8 @@ impl Writer {
 
     /// What stands between an interface's name and what it declares.
     pub fn heading(&mut self, interface: &Interface) -> Result<(), NoMemory>
-        ensures { OnOk result (self.new ≡ self.old ++ lexemes_behind_spaces (shown.heading interface.now)) }
+        ensures { OnOk result
+            (self.new ≡ self.old ++ lexemes_behind_spaces (shown.heading interface.now)) }
     {
         self.words(" : PROGRAM")?;
         self.numeral(interface.number)?;
@@ -87,7 +89,8 @@ impl Writer {
     }
 
     fn label(&mut self, name: &Name, number: u16) -> Result<(), NoMemory>
-        ensures { OnOk result (self.new ≡ self.old ++ lexemes_behind_spaces (shown.label_lexemes name.now number)) }
+        ensures { OnOk result
+            (self.new ≡ self.old ++ lexemes_behind_spaces (shown.label_lexemes name.now number)) }
     {
         self.name(name)?;
         self.words(" (")?;
@@ -96,7 +99,8 @@ impl Writer {
     }
 
     fn labels(&mut self, labels: &Labels) -> Result<(), NoMemory>
-        ensures { OnOk result (self.new ≡ self.old ++ lexemes_behind_spaces (shown.labels_lexemes labels.now)) }
+        ensures { OnOk result
+            (self.new ≡ self.old ++ lexemes_behind_spaces (shown.labels_lexemes labels.now)) }
     {
         let Some((first, others)) = labels.as_slice().split_first() else {
             return Ok(());
@@ -112,7 +116,8 @@ impl Writer {
     #[cycle(writing)]
     fn shape(&mut self, shape: &Shape) -> Result<(), NoMemory>
         ensures { OnOk result
-            (self.new ≡ self.old ++ lexemes_behind_spaces (shown.type_lexemes (tree_of shape.now))) }
+            (self.new ≡ self.old
+            ++ lexemes_behind_spaces (shown.type_lexemes (tree_of shape.now))) }
     {
         match shape {
             Shape::Boolean => self.words(" BOOLEAN"),
@@ -143,7 +148,8 @@ impl Writer {
 
     fn enumeration(&mut self, labels: &Labels) -> Result<(), NoMemory>
         ensures { OnOk result
-            (self.new ≡ self.old ++ lexemes_behind_spaces (shown.type_lexemes (enumeration labels.now))) }
+            (self.new ≡ self.old
+            ++ lexemes_behind_spaces (shown.type_lexemes (enumeration labels.now))) }
     {
         self.words(" {")?;
         self.labels(labels)?;
@@ -155,7 +161,8 @@ impl Writer {
     fn items(&mut self, len: u16, shape: &Shape) -> Result<(), NoMemory>
         ensures { OnOk result
             (self.new ≡ self.old
-            ++ lexemes_behind_spaces (shown.items_lexemes len (shown.type_lexemes (tree_of shape.now)))) }
+            ++ lexemes_behind_spaces
+            (shown.items_lexemes len (shown.type_lexemes (tree_of shape.now)))) }
     {
         self.numeral(u32::from(len))?;
         self.words(" OF")?;
@@ -164,7 +171,8 @@ impl Writer {
 
     #[cycle(writing)]
     fn fields(&mut self, fields: &Fields) -> Result<(), NoMemory>
-        ensures { OnOk result (self.new ≡ self.old ++ lexemes_behind_spaces (shown.fields_lexemes fields.now)) }
+        ensures { OnOk result
+            (self.new ≡ self.old ++ lexemes_behind_spaces (shown.fields_lexemes fields.now)) }
     {
         self.words(" [")?;
         self.fields_inside(fields.as_slice())?;
@@ -175,7 +183,8 @@ impl Writer {
     fn fields_inside(&mut self, fields: &[Field]) -> Result<(), NoMemory>
         ensures { OnOk result
             (self.new ≡ self.old
-            ++ lexemes_behind_spaces (shown.fields_inside (field_trees (map field_of fields.now)))) }
+            ++ lexemes_behind_spaces
+            (shown.fields_inside (field_trees (map field_of fields.now)))) }
     {
         for (place, field) in fields.iter().enumerate() {
             if place > 0 {
@@ -200,7 +209,8 @@ impl Writer {
 
     #[cycle(writing)]
     fn arms(&mut self, arms: &Arms) -> Result<(), NoMemory>
-        ensures { OnOk result (self.new ≡ self.old ++ lexemes_behind_spaces (shown.arms_lexemes arms.now)) }
+        ensures { OnOk result
+            (self.new ≡ self.old ++ lexemes_behind_spaces (shown.arms_lexemes arms.now)) }
     {
         self.words(" {")?;
         self.arms_inside(arms.as_slice())?;
@@ -210,7 +220,8 @@ impl Writer {
     #[cycle(writing)]
     fn arms_inside(&mut self, arms: &[Arm]) -> Result<(), NoMemory>
         ensures { OnOk result
-            (self.new ≡ self.old ++ lexemes_behind_spaces (shown.arms_inside (arm_trees (map arm_of arms.now)))) }
+            (self.new ≡ self.old
+            ++ lexemes_behind_spaces (shown.arms_inside (arm_trees (map arm_of arms.now)))) }
     {
         for (place, arm) in arms.iter().enumerate() {
             if place > 0 {
@@ -234,7 +245,8 @@ impl Writer {
     }
 
     fn optional_fields(&mut self, fields: &Fields) -> Result<(), NoMemory>
-        ensures { OnOk result (self.new ≡ self.old ++ lexemes_behind_spaces (shown.optional_fields fields.now)) }
+        ensures { OnOk result
+            (self.new ≡ self.old ++ lexemes_behind_spaces (shown.optional_fields fields.now)) }
     {
         if fields.is_empty() {
             return Ok(());
@@ -243,7 +255,8 @@ impl Writer {
     }
 
     fn results(&mut self, fields: &Fields) -> Result<(), NoMemory>
-        ensures { OnOk result (self.new ≡ self.old ++ lexemes_behind_spaces (shown.results_lexemes fields.now)) }
+        ensures { OnOk result
+            (self.new ≡ self.old ++ lexemes_behind_spaces (shown.results_lexemes fields.now)) }
     {
         if fields.is_empty() {
             return Ok(());
@@ -254,7 +267,8 @@ impl Writer {
 
     // The number of an error or a procedure, with which its declaration ends.
     fn declared_number(&mut self, number: u16) -> Result<(), NoMemory>
-        ensures { OnOk result (self.new ≡ self.old ++ lexemes_behind_spaces (shown.number_lexemes number)) }
+        ensures { OnOk result
+            (self.new ≡ self.old ++ lexemes_behind_spaces (shown.number_lexemes number)) }
     {
         self.words(" =")?;
         self.numeral(u32::from(number))?;
@@ -262,7 +276,8 @@ impl Writer {
     }
 
     fn declared_type(&mut self, declared: &DeclaredType) -> Result<(), NoMemory>
-        ensures { OnOk result (self.new ≡ self.old ++ lexemes_behind_spaces (shown.declared_type declared.now)) }
+        ensures { OnOk result
+            (self.new ≡ self.old ++ lexemes_behind_spaces (shown.declared_type declared.now)) }
     {
         self.name(&declared.name)?;
         self.words(" : TYPE =")?;
@@ -271,7 +286,8 @@ impl Writer {
     }
 
     fn declared_error(&mut self, error: &DeclaredError) -> Result<(), NoMemory>
-        ensures { OnOk result (self.new ≡ self.old ++ lexemes_behind_spaces (shown.declared_error error.now)) }
+        ensures { OnOk result
+            (self.new ≡ self.old ++ lexemes_behind_spaces (shown.declared_error error.now)) }
     {
         self.name(&error.name)?;
         self.words(" : ERROR")?;
@@ -281,7 +297,8 @@ impl Writer {
 
     /// What an interface declares: its types, then its errors, then its procedures.
     pub fn declarations(&mut self, interface: &Interface) -> Result<(), NoMemory>
-        ensures { OnOk result (self.new ≡ self.old ++ lexemes_behind_spaces (shown.declared_lexemes interface.now)) }
+        ensures { OnOk result
+            (self.new ≡ self.old ++ lexemes_behind_spaces (shown.declared_lexemes interface.now)) }
     {
         self.types(interface.types.as_slice())?;
         self.errors(interface.errors.as_slice())?;
@@ -291,7 +308,8 @@ impl Writer {
 
     fn types(&mut self, types: &[DeclaredType]) -> Result<(), NoMemory>
         ensures { OnOk result
-            (self.new ≡ self.old ++ lexemes_behind_spaces (flat_map shown.declared_type types.now)) }
+            (self.new ≡ self.old
+            ++ lexemes_behind_spaces (flat_map shown.declared_type types.now)) }
     {
         for declared in types {
             self.declared_type(declared)?;
@@ -301,7 +319,8 @@ impl Writer {
 
     fn errors(&mut self, errors: &[DeclaredError]) -> Result<(), NoMemory>
         ensures { OnOk result
-            (self.new ≡ self.old ++ lexemes_behind_spaces (flat_map shown.declared_error errors.now)) }
+            (self.new ≡ self.old
+            ++ lexemes_behind_spaces (flat_map shown.declared_error errors.now)) }
     {
         for error in errors {
             self.declared_error(error)?;
@@ -317,7 +336,8 @@ impl Writer {
     ) -> Result<(), NoMemory>
         ensures { OnOk result
             (self.new ≡ self.old
-            ++ lexemes_behind_spaces (flat_map (shown.declared_procedure errors.now.errors.now) procedures.now)) }
+            ++ lexemes_behind_spaces
+            (flat_map (shown.declared_procedure errors.now.errors.now) procedures.now)) }
     {
         for procedure in procedures {
             self.procedure(procedure, errors)?;
@@ -328,7 +348,8 @@ impl Writer {
     fn procedure(&mut self, procedure: &Procedure, errors: &ErrorsByNumber) -> Result<(), NoMemory>
         ensures { OnOk result
             (self.new ≡ self.old
-            ++ lexemes_behind_spaces (shown.declared_procedure errors.now.errors.now procedure.now)) }
+            ++ lexemes_behind_spaces
+            (shown.declared_procedure errors.now.errors.now procedure.now)) }
     {
         self.name(&procedure.name)?;
         self.words(" : PROCEDURE")?;
@@ -340,7 +361,8 @@ impl Writer {
     fn signature(&mut self, procedure: &Procedure, errors: &ErrorsByNumber) -> Result<(), NoMemory>
         ensures { OnOk result
             (self.new ≡ self.old
-            ++ lexemes_behind_spaces (shown.signature_lexemes errors.now.errors.now procedure.now)) }
+            ++ lexemes_behind_spaces
+            (shown.signature_lexemes errors.now.errors.now procedure.now)) }
     {
         self.optional_fields(&procedure.arguments)?;
         self.results(&procedure.results)?;
@@ -349,7 +371,8 @@ impl Writer {
 
     fn reports(&mut self, numbers: &[u16], errors: &ErrorsByNumber) -> Result<(), NoMemory>
         ensures { OnOk result
-            (self.new ≡ self.old ++ lexemes_behind_spaces (shown.reports_lexemes errors.now.errors.now numbers.now)) }
+            (self.new ≡ self.old
+            ++ lexemes_behind_spaces (shown.reports_lexemes errors.now.errors.now numbers.now)) }
     {
         if numbers.is_empty() {
             return Ok(());
@@ -360,7 +383,8 @@ impl Writer {
 
     fn names(&mut self, numbers: &[u16], errors: &ErrorsByNumber) -> Result<(), NoMemory>
         ensures { OnOk result
-            (self.new ≡ self.old ++ lexemes_behind_spaces (shown.names_lexemes errors.now.errors.now numbers.now)) }
+            (self.new ≡ self.old
+            ++ lexemes_behind_spaces (shown.names_lexemes errors.now.errors.now numbers.now)) }
     {
         self.words(" [")?;
         self.error_names(numbers, errors)?;
@@ -369,7 +393,8 @@ impl Writer {
 
     fn error_names(&mut self, numbers: &[u16], errors: &ErrorsByNumber) -> Result<(), NoMemory>
         ensures { OnOk result
-            (self.new ≡ self.old ++ lexemes_behind_spaces (shown.names_inside errors.now.errors.now numbers.now)) }
+            (self.new ≡ self.old
+            ++ lexemes_behind_spaces (shown.names_inside errors.now.errors.now numbers.now)) }
     {
         for (place, number) in numbers.iter().enumerate() {
             if place > 0 {

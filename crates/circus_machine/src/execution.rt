@@ -80,7 +80,8 @@ impl Execution {
     ) -> Result<bool, NoValue>
         requires { AreSized self.old.variables }
         ensures does { Does beside
-            (meaning.test_condition limit self.old.variables.states (tree_of condition.now)) result self.old
+            (meaning.test_condition limit self.old.variables.states (tree_of condition.now)) result
+            self.old
             self.new }
         ensures fewer { OnOk result (self.new.steps < self.old.steps) }
     {
@@ -139,7 +140,8 @@ impl Execution {
     ) -> Result<(), NoValue>
         requires { AreSized self.old.variables }
         ensures { Does nothing
-            (meaning.fill_places limit self.old.variables.states places.now values.now) result self.old
+            (meaning.fill_places limit self.old.variables.states places.now values.now) result
+            self.old
             self.new }
     {
         let mut number = 0;

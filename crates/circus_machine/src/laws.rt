@@ -24,7 +24,8 @@ pub fn stored_values_keep_shapes()
     ensures assigned { (limit states : ℕ) (shapes : List ShapeTree) (variables : List ValueTree)
         (place : CheckedPlace) (s : ShapeTree) (x : Got)
         → AreWell limit states shapes variables → Holds shapes place s → IsGot (sort_of s) x
-        → IfOk (store_at limit states variables place (stored_over x)) (AreWell limit states shapes) }
+        → IfOk (store_at limit states variables place (stored_over x))
+        (AreWell limit states shapes) }
     ensures appended { (limit states : ℕ) (shapes : List ShapeTree) (variables : List ValueTree)
         (place : CheckedPlace) (bound : ℕ) (s : ShapeTree) (x : Got)
         → AreWell limit states shapes variables → Holds shapes place (sequence bound s)

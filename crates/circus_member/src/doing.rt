@@ -96,7 +96,10 @@ impl<M: Module> Doing<M> {
                 let done = self.handle_table(request, table);
                 Ok((self.unless_spent(done)?, None))
             }
-            Occurrence::Restored { state, count } => Ok((self.handle_state(at, state, count)?, None)),
+            Occurrence::Restored { state, count } => Ok((
+                self.handle_state(at, state, count)?,
+                None,
+            )),
             Occurrence::Declared(node) => {
                 let done = self.handle_down(node);
                 Ok((self.unless_spent(done)?, None))
@@ -117,7 +120,12 @@ impl<M: Module> Doing<M> {
         Ok(self)
     }
 
-    fn handle_call(&mut self, header: CallHeader, body: Parts, sender: Caller) -> Result<(), NoMemory>
+    fn handle_call(
+        &mut self,
+        header: CallHeader,
+        body: Parts,
+        sender: Caller,
+    ) -> Result<(), NoMemory>
         requires { AreReplies self.old.member.gathered.replies }
         ensures { OnOk result
             (self.new ≡ behind self.old (step.handle_call self.old.member header body sender)) }
@@ -173,7 +181,8 @@ impl<M: Module> Doing<M> {
         requires asks { AllMayCall self.old.member.known self.old.member.asks }
         requires views { AreViews self.old.member.known }
         ensures { OnOk result
-            (self.new ≡ behind self.old (step.handle_stale self.old.member name server from incarnation)) }
+            (self.new ≡ behind self.old
+            (step.handle_stale self.old.member name server from incarnation)) }
     {
         self.member.asks.take_stale(
             self.member.alloc,

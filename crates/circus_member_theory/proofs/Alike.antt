@@ -25,7 +25,7 @@ use Rattle.circus_member_rules.specs.OpenAsks.{asking_of}
 use Rattle.circus_member_rules.specs.Rules.{difference_by, difference_told}
 use Rattle.circus_member_rules.specs.MemberState.{MemberState}
 use Rattle.circus_member_rules.specs.Step.{difference}
-use Rattle.circus_truth.specs.Truth.{reply_to, Answers, IsTrueAsking, IsTrueMember, IsTrueOccurrence}
+use Rattle.circus_member_theory.specs.Truth.{reply_to, Answers, IsTrueAsking, IsTrueMember, IsTrueOccurrence}
 use Rattle.circus_member_theory.proofs.Accepting.Entries.{ask_found}
 
 module _ (history : List (List Run)) (troupe : ℕ) (first : List ValueTree) (Called : Caller → List ℕ → Type 0) where

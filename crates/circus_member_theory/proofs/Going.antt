@@ -47,13 +47,13 @@ use Rattle.circus_member_rules.proofs.Turned.{IsTurned, sound_after_turns, same_
 use Rattle.circus_member_rules.proofs.Entering.{with_entered, turned_by_start, HasValue, has_value, with_answered, turned_by_reply}
 use Rattle.circus_member_rules.proofs.Writing.{one_is_performing}
 use Rattle.circus_member_rules.proofs.Starting.{none_from_test, given_is_chosen, IsReady, next_is_ready, may_start, IsSoundNow}
-use Rattle.circus_truth.specs.Stands.{Stands}
-use Rattle.circus_truth.specs.Messages.{IsTrueState}
+use Rattle.circus_member_theory.specs.Stands.{Stands}
+use Rattle.circus_member_theory.specs.Messages.{IsTrueState}
 use Rattle.circus_member_theory.proofs.Histories.{takes, clock_counts, asked_run}
 use Rattle.circus_member_theory.proofs.Standing.{open_is, entered_stands, answered_stands, idle_is}
 use Rattle.circus_member_theory.proofs.Accepting.Arguments.{arguments_read}
-use Rattle.circus_truth.specs.Proper.{AreProper}
-use Rattle.circus_truth.specs.Truth.{reply_to, Answers, IsTrueAsking, IsCalled, IsFetch}
+use Rattle.circus_member_theory.specs.Proper.{AreProper}
+use Rattle.circus_member_theory.specs.Truth.{reply_to, Answers, IsTrueAsking, IsCalled, IsFetch}
 use Rattle.circus_member_theory.proofs.Accepting.Entries.{ask_found}
 use Rattle.circus_member_theory.proofs.Ranges.{module_of, taken_is}
 use Rattle.circus_member_theory.proofs.Kept.{KeepsTrue}

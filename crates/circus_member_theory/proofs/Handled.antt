@@ -56,10 +56,10 @@ use Rattle.circus_member_rules.proofs.Named.{names_decide, All-changed_at}
 use Rattle.circus_member_rules.proofs.Homes.{told_as_many, told_incarnations, ring_views, called_views, declared_views, home_with, are_views, may_call}
 use Rattle.circus_member_rules.proofs.Held.{called_same}
 use Rattle.circus_member_rules.proofs.Sound.{sound_known}
-use Rattle.circus_truth.specs.Stands.{Stands}
-use Rattle.circus_truth.specs.Messages.{IsReplyOf, IsTrueReply, IsTrueState}
-use Rattle.circus_truth.specs.Proper.{AreProper}
-use Rattle.circus_truth.specs.Truth.{IsLong, Answers, IsTrueAsking, IsCalled, IsTrueKept, IsFetch, IsTrueMember, IsTrueOccurrence, IsOtherReturn, IsTrueEffect}
+use Rattle.circus_member_theory.specs.Stands.{Stands}
+use Rattle.circus_member_theory.specs.Messages.{IsReplyOf, IsTrueReply, IsTrueState}
+use Rattle.circus_member_theory.specs.Proper.{AreProper}
+use Rattle.circus_member_theory.specs.Truth.{IsLong, Answers, IsTrueAsking, IsCalled, IsTrueKept, IsFetch, IsTrueMember, IsTrueOccurrence, IsOtherReturn, IsTrueEffect}
 use Rattle.circus_member_theory.proofs.Standing.{active_stands}
 use Rattle.circus_member_theory.proofs.Accepting.Entries.{ask_found, kept_found}
 use Rattle.circus_member_theory.proofs.Headers.{is_one_reply}

@@ -24,7 +24,7 @@ use Rattle.circus_model.specs.History.{runs_of, run_at, state_after, current_clo
 use Rattle.circus_model.proofs.Lookups as lookups
 use Rattle.circus_model.proofs.Logging.{some_and, IsLogged}
 use Rattle.circus_model.proofs.Histories.{in_history, maker_of, root_runs_once, root_of}
-use Rattle.circus_truth.specs.Messages.{IsAskAt, IsTrueCall, IsReplyOf, IsTrueReply}
+use Rattle.circus_member_theory.specs.Messages.{IsAskAt, IsTrueCall, IsReplyOf, IsTrueReply}
 
 -- ---- lists
 

@@ -19,7 +19,7 @@ use Rattle.circus_record.specs.declared.record.AskRecord.{AskRecord}
 use Rattle.circus_record.specs.declared.record.RunRecord.{RunRecord}
 use Rattle.circus_performing.specs.Performing as P
 use Rattle.circus_performing.specs.Performing.{clock_after, made_ask, answered_ask, refusal, with_ask, with_refusal, ended_run, turn_run, gone_on}
-use Rattle.circus_truth.specs.Stands.{IsAnsweredSo, WaitsFor, AreAnsweredSo, IsEnteredSo, IsPerformed, IsUnderWay}
+use Rattle.circus_member_theory.specs.Stands.{IsAnsweredSo, WaitsFor, AreAnsweredSo, IsEnteredSo, IsPerformed, IsUnderWay}
 use Rattle.circus_member_theory.proofs.Histories.{known, run_follows, asking, ask_is_answered}
 
 -- ---- asks that were answered as in the history

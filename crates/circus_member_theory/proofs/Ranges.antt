@@ -17,7 +17,7 @@ use Rattle.circus_model.specs.Lawful.{procedure_numbered, import_of, arguments_f
 use Rattle.circus_model.proofs.Lookups.{found}
 use Rattle.circus_model.proofs.Turning.{some_true}
 use Rattle.circus_model.proofs.Histories.{in_history}
-use Rattle.circus_truth.specs.Messages.{IsReplyOf}
+use Rattle.circus_member_theory.specs.Messages.{IsReplyOf}
 use Rattle.circus_member_theory.proofs.Counts.{IsFew, end_few}
 use Rattle.circus_member_theory.proofs.Headers.{AreLong}
 

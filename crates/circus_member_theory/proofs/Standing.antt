@@ -24,8 +24,8 @@ use Rattle.circus_performing.specs.Performing.{clock_after, last_of, front_of, o
 use Rattle.circus_performing.specs.Record.{IsRecord, IsPerforming}
 use Rattle.circus_performing.proofs.Ends.{last_more, front_more, latest_more, replied_same}
 use Rattle.circus_performing.proofs.Records.{none_is_some, idle_has_none}
-use Rattle.circus_truth.specs.Stands.{WaitsFor, IsAnsweredSo, IsEnteredSo, IsPerformed, IsUnderWay, ArePerformed, IsIdle, IsBusy, Stands}
-use Rattle.circus_truth.specs.Messages.{IsAskAt, IsTrueState}
+use Rattle.circus_member_theory.specs.Stands.{WaitsFor, IsAnsweredSo, IsEnteredSo, IsPerformed, IsUnderWay, ArePerformed, IsIdle, IsBusy, Stands}
+use Rattle.circus_member_theory.specs.Messages.{IsAskAt, IsTrueState}
 use Rattle.circus_member_theory.proofs.Histories.{runs_are_few, asks_are_few}
 use Rattle.circus_member_theory.proofs.OneRun.{IsGone, entered_so_far, so_far_with, clock_is, gone_on_so}
 

@@ -15,7 +15,7 @@ use Rattle.circus_member_rules.specs.MemberState.{MemberState}
 use Rattle.circus_member_rules.specs.Step as step
 use Rattle.circus_member_rules.specs.Happening.{IsHome, CanHappen}
 use Rattle.circus_member_theory.specs.Ranges.{InRange}
-use Rattle.circus_timely.specs.Past.{Past, booted, followed, now}
+use Rattle.circus_member_theory.specs.Past.{Past, booted, followed, now}
 
 -- the phase at boot
 abbrev pub phase_at_boot : Beginning → Joiner

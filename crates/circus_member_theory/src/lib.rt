@@ -1,4 +1,15 @@
-//! Theory: what a member does is true of the history, and nothing of it comes late or early.
+//! Theory: what it means that copies agree and that nothing comes late or early, and that both hold of what a member does.
+//!
+//! The definitions are in `specs/`. That copies agree: `Stands.antt` says when a member's record stands in the history of the
+//! unreplicated program, and `Messages.antt` when a call, a reply and a snapshot that cite that history are true; a reader of
+//! the promise needs these alone. `Truth.antt` and `Proper.antt` are for the proof: what stays true of a member of a troupe, over
+//! the history, and of what happens to it and what it makes.
+//!
+//! In time: `Past.antt` has what happened and what was known then, `Timely.antt` when a run starts, an ask is answered and a
+//! member becomes active, and `Starts.antt` how the run of a call is entered. What is owed in a step: `Made.antt` has the
+//! effects that were made with their steps, `Returns.antt` the one return that each call gets, `Snapshots.antt` the one that
+//! each state request gets, `Requests.antt` the calls that are no asks, `Asks.antt` those of asks, and `Owed.antt` says that
+//! what was made is this, and nothing else. `Differences.antt` has what a watchdog tells.
 //!
 //! True, in `proofs/`: a member that enters the next run of the history, with replies that are
 //! those of the history, performs that run. `Histories.antt` has what the laws of histories say of

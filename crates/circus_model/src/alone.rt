@@ -42,7 +42,8 @@ fn perform<M: Module>(
     requires few { length modules.now ≤ most_modules }
     requires thread { IsThread (behaviours M.declared M.turn M.first modules.now)
         (thread_seen (behaviours M.declared M.turn M.first modules.now) thread.old) }
-    requires order { IsOrder (behaviours M.declared M.turn M.first modules.now) (order_given order) }
+    requires order { IsOrder (behaviours M.declared M.turn M.first modules.now)
+        (order_given order) }
     ensures { IfOk result
         (HasPerformed (behaviours M.declared M.turn M.first modules.now) thread.old order
         thread.new) }
@@ -100,7 +101,8 @@ fn answer<M: Module>(
     requires few { length modules.now ≤ most_modules }
     requires thread { IsThread (behaviours M.declared M.turn M.first modules.now)
         (thread_seen (behaviours M.declared M.turn M.first modules.now) thread.old) }
-    requires order { IsOrder (behaviours M.declared M.turn M.first modules.now) (order_given order) }
+    requires order { IsOrder (behaviours M.declared M.turn M.first modules.now)
+        (order_given order) }
     ensures { IfOk result
         (HasAnswered (behaviours M.declared M.turn M.first modules.now) thread.old order state
         thread.new) }

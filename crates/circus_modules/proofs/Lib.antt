@@ -1,3 +1,4 @@
+mod Shaped
 pub mod ZeroTrees
 pub mod ZeroFits
 pub mod Trees

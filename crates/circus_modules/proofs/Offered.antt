@@ -16,7 +16,7 @@ use Rattle.circus_idl.specs.Shown.{has_number}
 use Rattle.circus_idl.specs.declared.interface.DeclaredError.{DeclaredError}
 use Rattle.circus_idl.specs.declared.interface.Procedure.{Procedure}
 use Rattle.circus_idl.specs.declared.interface.Interface.{Interface}
-use Rattle.circus_signature.specs.Signatures.{error_of, error_numbered, errors_numbered, procedure_of, procedures_of}
+use Rattle.circus_modules.specs.InterfaceSignatures.{error_of, error_numbered, errors_numbered, procedure_of, procedures_of}
 use Rattle.circus_check.specs.Meaning.{ModuleMeant}
 use Rattle.circus_check.specs.WellFormed as checked
 use Rattle.circus_check.specs.WellFormed.{IsAt, Implements, Offers, Raised}

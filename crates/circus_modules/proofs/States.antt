@@ -13,7 +13,7 @@ use Rattle.circus_type.specs.Limits.{most_parts, most_zero_bytes}
 use Rattle.circus_type.specs.Obeys.{ObeysWhole}
 use Rattle.circus_type.specs.Together.{shapes_of, parts_of, zero_size_of}
 use Rattle.circus_type.specs.Written.{parts, zero_value, zero_size}
-use Rattle.circus_signature.specs.Signatures.{shapes_in}
+use Rattle.circus_modules.specs.InterfaceSignatures.{shapes_in}
 use Rattle.circus_check.specs.Meaning.{BodyMeant}
 use Rattle.circus_check.proofs.Interfaces.{as_many_parts}
 use Rattle.circus_modules.specs.Zeros.{zeros}

@@ -4,7 +4,7 @@ use Rattle.circus_value.specs.ShapeTree.{ShapeTree, FieldTrees, ArmTrees, FieldT
 use Rattle.circus_value.specs.ShapeOf.{tree_of, fields_in, arms_in, shape_in}
 use Rattle.circus_type.specs.Together.{shapes_of}
 use Rattle.circus_machine.specs.Modules.{trees}
-use Rattle.circus_signature.specs.Signatures.{shapes_in}
+use Rattle.circus_modules.specs.InterfaceSignatures.{shapes_in}
 
 fields_forth : (fs : FieldTrees) → field_trees (fields_in fs) ≡ fs
 fields_forth no_fields = refl

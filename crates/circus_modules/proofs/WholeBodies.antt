@@ -15,7 +15,7 @@ use Rattle.circus_type.specs.Together.{shapes_of}
 use Rattle.circus_idl.specs.Obeys.{Obeys}
 use Rattle.circus_idl.specs.declared.interface.Procedure.{Procedure}
 use Rattle.circus_idl.specs.declared.interface.Interface.{Interface}
-use Rattle.circus_signature.specs.Signatures.{shapes_in, procedure_of}
+use Rattle.circus_modules.specs.InterfaceSignatures.{shapes_in, procedure_of}
 use Rattle.circus_check.specs.Meaning.{BodyMeant, ModuleMeant}
 use Rattle.circus_check.specs.WellFormed as checked
 use Rattle.circus_check.specs.WellFormed.{IsAt, IsBody, AreBodies, IsMain, HasBodies, Raised}

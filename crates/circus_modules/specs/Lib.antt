@@ -1,3 +1,4 @@
+pub mod InterfaceSignatures
 pub mod Zeros
 pub mod Signatures
 pub mod Behaviours

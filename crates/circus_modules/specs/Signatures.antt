@@ -5,7 +5,7 @@ use Rattle.circus_model.specs.declared.signature.ProcedureShape.{ProcedureShape}
 use Rattle.circus_model.specs.declared.signature.Signature.{Signature}
 use Rattle.circus_model.specs.Agree.{main_alone}
 use Rattle.circus_idl.specs.declared.interface.Interface.{Interface}
-use Rattle.circus_signature.specs.Signatures.{shapes_in, procedures_of}
+use Rattle.circus_modules.specs.InterfaceSignatures.{shapes_in, procedures_of}
 use Rattle.circus_check.specs.Meaning.{ModuleMeant}
 
 abbrev pub procedures_if : Option Interface → List ProcedureShape

@@ -4,10 +4,10 @@ ghost use Rattle.circus_model.specs.Agree as agree;
 ghost use Rattle.circus_check.specs.Seen.Meant.{module_as};
 ghost use Rattle.circus_modules.specs.Signatures as means;
 
+use crate::{procedures_of, shapes_of};
 use circus_check::ResolvedModule;
 use circus_idl::Interface;
 use circus_model::{ErrorShapes, Import, Imports, ProcedureShape, ProcedureShapes, Signature};
-use circus_signature::{procedures_of, shapes_of};
 use circus_value::{NoMemory, Shapes};
 use std::alloc::Global;
 
@@ -30,7 +30,8 @@ fn procedures_offered(
     interfaces: &[Interface],
     number: Option<u16>,
 ) -> Result<ProcedureShapes, NoMemory>
-    ensures { IfOk result (λ procedures. procedures ≡ means.procedures_offered interfaces.now number) }
+    ensures { IfOk result (λ procedures.
+        procedures ≡ means.procedures_offered interfaces.now number) }
 {
     match number {
         None => main_alone(alloc),

@@ -19,7 +19,10 @@ use circus_value::{ListOf, NoMemory};
 use std::alloc::Global;
 
 // The number of each module's interface.
-fn interface_numbers(alloc: Global, modules: &[ResolvedModule]) -> Result<Vec<Option<u16>>, NoMemory>
+fn interface_numbers(
+    alloc: Global,
+    modules: &[ResolvedModule],
+) -> Result<Vec<Option<u16>>, NoMemory>
     ensures { IfOk result (λ numbers. numbers.items ≡ map (λ m. m.interface) modules.now) }
 {
     modules.iter().map(|module| module.interface).collect(alloc)

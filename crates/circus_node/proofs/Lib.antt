@@ -10,3 +10,5 @@ pub mod NodeLemmas
 pub mod NoticeLemmas
 pub mod TroupeLemmas
 pub mod TraceLemmas
+pub mod MembersAlike
+pub mod NodesAlike

@@ -14,3 +14,4 @@ pub mod Step
 pub mod Booting
 pub mod Trace
 pub mod Noticing
+pub mod Alike

@@ -4,16 +4,16 @@
 //! `event` has what comes to a node and what it gives, `node_core` the node and its step. `acting` is what the node does, a
 //! member or the Ringmaster, and what it makes of what happens; `home` says which of them it is. `sending` hands what is
 //! made to the pairs, and `station` has these. `laws` has what holds of nodes at boot, and of a member over every list of
-//! what happens to it.
+//! what happens to it; `behaviour_laws` that what a node does depends on what its module does, and on nothing else of the
+//! module.
 //!
-//! Which messages a node accepts, and what happens to its member by each of them.
-//!
-//! `accepting` tests what a member hears, of `calls_accepted` and `returns_accepted`, by the headers that `heads` reads and
-//! the values that `bodies` reads; `program` says what a node knows of the program.
+//! Which messages are accepted: `accepting` tests what a member hears, of `calls_accepted` and `returns_accepted`, by the
+//! headers that `heads` reads and the values that `bodies` reads; `program` says what a node knows of the program.
 #![tactic(auto)]
 
 mod accepting;
 mod acting;
+mod behaviour_laws;
 mod bodies;
 mod calls_accepted;
 mod event;
@@ -27,6 +27,7 @@ mod sending;
 mod station;
 
 pub use accepting::accept;
+pub use behaviour_laws::{boots_depend_on_behaviours, steps_depend_on_behaviours};
 pub use calls_accepted::accept_request;
 pub use circus_member_rules::Difference;
 pub use event::{Differences, Event, Give, Gives, Outputs, StepFault};

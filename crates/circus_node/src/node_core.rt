@@ -248,7 +248,8 @@ impl<M: Module> NodeCore<M> {
     ) -> Result<(Self, Outputs), StepFault>
         requires station { IsStation station }
         requires acting { IsActing station.deployment acting }
-        ensures ended { step.IsEnded result (step.conclude_step (node_of station acting) gives came) }
+        ensures ended { step.IsEnded result
+            (step.conclude_step (node_of station acting) gives came) }
         ensures rest { IfOk result (λ concluded. MemberHasGoneOn concluded.0.acting) }
     {
         let (station, outputs) = station.conclude(gives, came)?;

@@ -77,7 +77,8 @@ fn hand(
 ) -> Result<(), StepFault>
     requires format { (format ≡ 1) ⊎ (format ≡ 2) }
     requires same { wire.old.format ≡ format }
-    ensures handed { IsHanded result wire.new gives.new (sending.hand_over wire.old gives.old effect) }
+    ensures handed { IsHanded result wire.new gives.new
+        (sending.hand_over wire.old gives.old effect) }
     ensures remains { Remains wire.old wire.new }
 {
     match effect {

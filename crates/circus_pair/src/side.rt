@@ -119,7 +119,8 @@ impl Side {
         ensures state { OnOk result
             (self.new ≡ move_end self.old (act_of_delivery (slice_get other.old.sent number))) }
         ensures arrived { IfOk result (λ arrived.
-            arrived ≡ arrived_by self.old.exchange (act_of_delivery (slice_get other.old.sent number))) }
+            arrived ≡ arrived_by self.old.exchange
+            (act_of_delivery (slice_get other.old.sent number))) }
         ensures err { OnErr result (self.new ≡ self.old) }
         ensures other { other.new ≡ other.old }
     {
@@ -131,7 +132,8 @@ impl Side {
     }
 
     fn take_datagram(&mut self, datagram: &Bytes) -> Result<Arrived, NoMemory>
-        ensures state { OnOk result (self.new ≡ move_end self.old (act_of_datagram (reading datagram.now))) }
+        ensures state { OnOk result
+            (self.new ≡ move_end self.old (act_of_datagram (reading datagram.now))) }
         ensures arrived { IfOk result (λ arrived.
             arrived ≡ arrived_by self.old.exchange (act_of_datagram (reading datagram.now))) }
         ensures err { OnErr result (self.new ≡ self.old) }

@@ -6,13 +6,13 @@ use Rattle.std.specs.Option.{option_and_then}
 use Rattle.std.proofs.lemmas.List.{length-map}
 use Rattle.std.proofs.lemmas.List.Elements.{All-head, All-tail}
 use Rattle.std.proofs.lemmas.Option.{slice_get-get_or}
-use Rattle.circus_placing.specs.declared.placing.Constant.{Constant}
-use Rattle.circus_placing.specs.declared.placing.Machine.{Machine}
-use Rattle.circus_placing.specs.declared.condition.Comparison.{Comparison}
-use Rattle.circus_placing.specs.declared.condition.Comparison.TheVariants.{Equal}
-use Rattle.circus_placing.specs.declared.condition.Operand.{Operand}
-use Rattle.circus_placing.specs.declared.condition.Operand.TheVariants.{Attribute, Fixed}
-use Rattle.circus_placing.specs.Obeys.{IsOfMember}
+use Rattle.circus_place.specs.declared.placing.Constant.{Constant}
+use Rattle.circus_place.specs.declared.placing.Machine.{Machine}
+use Rattle.circus_place.specs.declared.condition.Comparison.{Comparison}
+use Rattle.circus_place.specs.declared.condition.Comparison.TheVariants.{Equal}
+use Rattle.circus_place.specs.declared.condition.Operand.{Operand}
+use Rattle.circus_place.specs.declared.condition.Operand.TheVariants.{Attribute, Fixed}
+use Rattle.circus_place.specs.Obeys.{IsOfMember}
 use Rattle.circus_place.specs.Value.{attribute_in, attribute_at, value_of, is_related, all_differ}
 use Rattle.circus_place.specs.Seen.Table.{constant_at, AreTablesOf, values_at, flag_at, relates}
 use Rattle.circus_place.specs.Seen.Test.{differs, member_of, ArePlaced}

@@ -1,3 +1,15 @@
+pub mod Ways
+pub mod Parts
+pub mod Chains
+pub mod Conditions
+pub mod Placings
+pub mod Within
+pub mod Whole
+pub mod Obeying
+pub mod ReadIs
+pub mod Ascii
+pub mod OneAnswer
+mod Signs
 pub mod Tables
 pub mod Compiled
 pub mod Known

@@ -6,9 +6,9 @@ use Rattle.std.proofs.lemmas.Bool.{or_parts, eqb-true, eq-eqb, true≢false, fal
 use Rattle.std.proofs.lemmas.List.Sums.{sum_by-cons}
 use Rattle.std.proofs.lemmas.List.Elements.{All-head, All-tail}
 use Rattle.std.proofs.lemmas.Option.{slice_get_past}
-use Rattle.circus_placing.specs.declared.placing.Machine.{Machine}
-use Rattle.circus_placing.specs.declared.placing.Placing.{Placing}
-use Rattle.circus_placing.specs.ConditionTree.{tree_of}
+use Rattle.circus_place.specs.declared.placing.Machine.{Machine}
+use Rattle.circus_place.specs.declared.placing.Placing.{Placing}
+use Rattle.circus_place.specs.ConditionTree.{tree_of}
 use Rattle.circus_place.specs.Value.{does_hold}
 use Rattle.circus_place.specs.Choice.{IsChoice, Satisfies, kept_by, IsBest}
 use Rattle.circus_place.specs.declared.choice.Placement.{Placement}

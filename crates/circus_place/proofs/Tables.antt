@@ -6,10 +6,10 @@ use Rattle.std.proofs.lemmas.List.{take_more, map-append, get_or-take, get_or_de
 use Rattle.std.proofs.lemmas.List.Elements.{recursion_from_All}
 use Rattle.std.proofs.lemmas.Option.{slice_get-map}
 use Rattle.std.proofs.lemmas.Slice.Eq.{bytes_eq-Decides}
-use Rattle.circus_placing.specs.declared.placing.Attribute.{Attribute}
-use Rattle.circus_placing.specs.declared.placing.Constant.{Constant}
-use Rattle.circus_placing.specs.declared.placing.Machine.{Machine}
-use Rattle.circus_placing.specs.declared.condition.Comparison.{Comparison}
+use Rattle.circus_place.specs.declared.placing.Attribute.{Attribute}
+use Rattle.circus_place.specs.declared.placing.Constant.{Constant}
+use Rattle.circus_place.specs.declared.placing.Machine.{Machine}
+use Rattle.circus_place.specs.declared.condition.Comparison.{Comparison}
 use Rattle.circus_place.specs.Value.{attribute_in, attribute_at, is_related}
 use Rattle.circus_place.specs.Seen.Table.{constant_at, AreTablesOf, flag_at, relates}
 use Rattle.circus_place.specs.declared.attributes.Attributes.{Attributes}

@@ -1,8 +1,8 @@
 -- Choices of machines for the members of a troupe, and the best of them.
 use Rattle.std.specs.Prelude.{◌≡◌, ◌≢◌, ℕ, ◌<◌, ◌≤◌, Bool, true, false, ◌&&◌, ◌||◌, ◌==◌, nat_lt, List, [], ◌∷◌, length, count_by, All, AllPairs, IsTrue}
 use Rattle.std.specs.List.{list_any}
-use Rattle.circus_placing.specs.declared.placing.Placing.{Placing}
-use Rattle.circus_placing.specs.ConditionTree.{tree_of}
+use Rattle.circus_place.specs.declared.placing.Placing.{Placing}
+use Rattle.circus_place.specs.ConditionTree.{tree_of}
 use Rattle.circus_place.specs.Value.{does_hold}
 
 -- a machine for each member, no machine twice

@@ -1,3 +1,14 @@
+pub mod ConditionTree
+pub mod Obeys
+pub mod Words
+pub mod Written
+pub mod Grammar
+pub mod Reading
+pub mod Stopping
+pub mod Rank
+pub mod Faults
+pub mod Means
+pub mod ReadAs
+pub mod Seen
 pub mod Value
 pub mod Choice
-pub mod Seen

@@ -3,16 +3,16 @@ use Rattle.std.specs.Prelude.{ℕ, ◌-◌, Bool, true, false, ◌&&◌, ◌||�
 use Rattle.std.specs.Bool.{beq}
 use Rattle.std.specs.List.{list_any}
 use Rattle.std.specs.Option.{option_and_then}
-use Rattle.circus_placing.specs.declared.placing.Attribute.{Attribute}
-use Rattle.circus_placing.specs.declared.placing.Constant.{Constant}
-use Rattle.circus_placing.specs.declared.placing.Constant.TheVariants.{Number, Text, Truth}
-use Rattle.circus_placing.specs.declared.placing.Machine.{Machine}
-use Rattle.circus_placing.specs.declared.condition.Comparison.{Comparison}
-use Rattle.circus_placing.specs.declared.condition.Comparison.TheVariants.{Equal, Unequal, Less, AtMost, Greater, AtLeast}
-use Rattle.circus_placing.specs.declared.condition.Operand.{Operand}
-use Rattle.circus_placing.specs.declared.condition.Operand.TheVariants as operand
-use Rattle.circus_placing.specs.ConditionTree as condition
-use Rattle.circus_placing.specs.ConditionTree.{ConditionTree}
+use Rattle.circus_place.specs.declared.placing.Attribute.{Attribute}
+use Rattle.circus_place.specs.declared.placing.Constant.{Constant}
+use Rattle.circus_place.specs.declared.placing.Constant.TheVariants.{Number, Text, Truth}
+use Rattle.circus_place.specs.declared.placing.Machine.{Machine}
+use Rattle.circus_place.specs.declared.condition.Comparison.{Comparison}
+use Rattle.circus_place.specs.declared.condition.Comparison.TheVariants.{Equal, Unequal, Less, AtMost, Greater, AtLeast}
+use Rattle.circus_place.specs.declared.condition.Operand.{Operand}
+use Rattle.circus_place.specs.declared.condition.Operand.TheVariants as operand
+use Rattle.circus_place.specs.ConditionTree as condition
+use Rattle.circus_place.specs.ConditionTree.{ConditionTree}
 
 -- what the attribute of this name is, where there is one
 abbrev pub attribute_in : List Attribute → List ℕ → Option Constant

@@ -3,7 +3,7 @@ ghost use Rattle.std.specs.Prelude.{◌≡◌, ◌≢◌, ℕ, List, AllPairs, o
 ghost use Rattle.circus_place.specs.Value.{attribute_in};
 ghost use Rattle.circus_place.specs.Seen.Table.{constant_at};
 
-use circus_placing::{Attribute, Constant};
+use crate::{Attribute, Constant};
 use circus_value::NoMemory;
 use std::alloc::Global;
 use std::collections::BTreeMap;

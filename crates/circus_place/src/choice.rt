@@ -1,13 +1,13 @@
 // The best choice.
 ghost use Rattle.std.specs.Prelude.{◌≡◌, ℕ, ◌<◌, ◌≤◌, ◌==◌, List, length, IfOk, IfSome, IfNone};
 ghost use Rattle.std.specs.List.{list_any};
-ghost use Rattle.circus_placing.specs.Obeys.{most_machines, Obeys};
+ghost use Rattle.circus_place.specs.Obeys.{most_machines, Obeys};
 ghost use Rattle.circus_place.specs.Choice.{IsChoice, Satisfies, kept_by, IsBest};
 ghost use Rattle.circus_place.specs.Seen.Table.{flag_at};
 
+use crate::Placing;
 use crate::compile::Compiler;
 use crate::search::Search;
-use circus_placing::Placing;
 use circus_value::{ListOf, NoMemory, Numbers};
 use std::alloc::Global;
 

@@ -1,8 +1,8 @@
 // Conditions made ready for the search.
 ghost use Rattle.std.specs.Prelude.{◌≡◌, ℕ, ◌<◌, List, Some, length, map, is_some, IfOk};
-ghost use Rattle.circus_placing.specs.ConditionTree.{tree_of};
-ghost use Rattle.circus_placing.specs.Obeys.{IsOfMember, AreOfMembers, Obeys};
-ghost use Rattle.circus_placing.specs.declared.placing.Machine.{Machine};
+ghost use Rattle.circus_place.specs.ConditionTree.{tree_of};
+ghost use Rattle.circus_place.specs.Obeys.{IsOfMember, AreOfMembers, Obeys};
+ghost use Rattle.circus_place.specs.declared.placing.Machine.{Machine};
 ghost use Rattle.circus_place.specs.Value.{attribute_at, value_of, is_related, all_differ, does_hold};
 ghost use Rattle.circus_place.specs.Seen.Table.{constant_at, AreTablesOf, pointed_to, values_at};
 ghost use Rattle.circus_place.specs.Seen.Test.{passes, IsTestOf, ArePlaced, member_of};
@@ -10,7 +10,7 @@ ghost use Rattle.circus_place.specs.Seen.Test.{passes, IsTestOf, ArePlaced, memb
 use crate::attributes::Attributes;
 use crate::relation::Relation;
 use crate::test::Test;
-use circus_placing::{Comparison, Condition, Constant, Operand, Placing};
+use crate::{Comparison, Condition, Constant, Operand, Placing};
 use circus_value::{ListOf, NoMemory};
 use std::alloc::Global;
 
@@ -58,7 +58,11 @@ impl<'a> Compiler<'a> {
             Condition::And(left, right) => Test::And(self.part(left)?, self.part(right)?),
             Condition::Not(inner) => Test::Not(self.part(inner)?),
             Condition::Differ(name) => self.differ(name.as_slice())?,
-            Condition::Compare(comparison, left, right) => self.relation_test(*comparison, left, right)?,
+            Condition::Compare(comparison, left, right) => self.relation_test(
+                *comparison,
+                left,
+                right,
+            )?,
             Condition::Holds(operand) => {
                 self.relation_test(
                     Comparison::Equal,
@@ -135,7 +139,10 @@ impl<'a> Compiler<'a> {
         }
     }
 
-    fn constant_everywhere<'v>(&self, constant: &'v Constant) -> Result<Vec<Option<&'v Constant>>, NoMemory>
+    fn constant_everywhere<'v>(
+        &self,
+        constant: &'v Constant,
+    ) -> Result<Vec<Option<&'v Constant>>, NoMemory>
         ensures { IfOk result (λ made.
             pointed_to made.items ≡ map (λ t. Some constant.now) self.now.machines.items) }
     {

@@ -4,7 +4,7 @@ ghost use Rattle.std.specs.Option.{option_copied};
 ghost use Rattle.circus_place.specs.Seen.Table.{pointed_to, flag_at, relates};
 ghost use Rattle.circus_place.specs.Value.{is_of_kind, is_same, compares, is_related};
 
-use circus_placing::{Comparison, Constant};
+use crate::{Comparison, Constant};
 use circus_value::{ListOf, NoMemory};
 use std::alloc::Global;
 

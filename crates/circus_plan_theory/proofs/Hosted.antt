@@ -6,7 +6,7 @@ use Rattle.circus_collate.specs.declared.deployment.Host.{Host}
 use Rattle.circus_model.specs.Behaviour.{Behaviour}
 use Rattle.circus_performing.specs.Record.{behaviour}
 use Rattle.circus_config.specs.declared.plan.Plan.{Plan}
-use Rattle.circus_load.specs.Loaded.{behaviours_in, hosted_by}
+use Rattle.circus_plan_modules.specs.Loaded.{behaviours_in, hosted_by}
 use Rattle.circus_world.specs.Boot.{AreHosted}
 use Rattle.circus_plan_theory.proofs.Places.{of_map}
 

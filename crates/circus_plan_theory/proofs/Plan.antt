@@ -15,8 +15,8 @@ use Rattle.circus_modules.specs.Signatures.{interface_numbers}
 use Rattle.circus_modules.specs.Behaviours.{behaviour_of, program_of}
 use Rattle.circus_config.specs.declared.plan.Plan.{Plan}
 use Rattle.circus_config.specs.Program.{IsPlan}
-use Rattle.circus_load.specs.Loaded.{behaviours_in}
-use Rattle.circus_truth.specs.Proper.{IsProperModule, AreProper}
+use Rattle.circus_plan_modules.specs.Loaded.{behaviours_in}
+use Rattle.circus_member_theory.specs.Proper.{IsProperModule, AreProper}
 use Rattle.circus_plan_theory.proofs.Abiding.{abides}
 use Rattle.circus_plan_theory.proofs.Bodies.{are_bodies}
 use Rattle.circus_plan_theory.proofs.Places.{at_place, of_map}

@@ -19,10 +19,10 @@ use Rattle.circus_idl.proofs.ObeysParts.{ErrorObeys, ProcedureObeys, parts_obey}
 use Rattle.circus_model.specs.LanguageError.{number_of}
 use Rattle.circus_model.specs.declared.language_error.LanguageError.TheVariants.{Range}
 use Rattle.circus_model.specs.declared.signature.ErrorShape.{ErrorShape}
-use Rattle.circus_signature.specs.Signatures.{shapes_in, error_of, errors_numbered, procedure_of}
+use Rattle.circus_modules.specs.InterfaceSignatures.{shapes_in, error_of, errors_numbered, procedure_of}
 use Rattle.circus_check.specs.Meaning.{ModuleMeant}
 use Rattle.circus_modules.specs.Signatures.{procedures_offered, procedures_if, signature_of}
-use Rattle.circus_truth.specs.Proper.{IsProperProcedure, IsProperModule}
+use Rattle.circus_member_theory.specs.Proper.{IsProperProcedure, IsProperModule}
 use Rattle.circus_plan_theory.proofs.Places.{at_place}
 use Rattle.circus_modules.proofs.Found.{contains_none}
 use Rattle.circus_modules.proofs.Trees.{shape_forth}

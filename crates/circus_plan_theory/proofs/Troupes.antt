@@ -5,8 +5,8 @@ use Rattle.circus_model.specs.Agree.{Agree}
 use Rattle.circus_model.specs.Behaviour.{Behaviour}
 use Rattle.circus_config.specs.declared.plan.Plan.{Plan}
 use Rattle.circus_config.specs.Program.{IsPlan}
-use Rattle.circus_load.specs.Loaded.{behaviours_in}
-use Rattle.circus_load.proofs.Fitting.{meant_of_troupes}
+use Rattle.circus_plan_modules.specs.Loaded.{behaviours_in}
+use Rattle.circus_plan_modules.proofs.Fitting.{meant_of_troupes}
 use Rattle.circus_node.specs.Booting.{AreOfTroupes}
 use Rattle.circus_plan_theory.proofs.Plan.{plan_agrees}
 

@@ -10,19 +10,19 @@ use Rattle.circus_model.specs.Execution.{history_of}
 use Rattle.circus_record.specs.declared.record.MemberRecord.{MemberRecord}
 use Rattle.circus_performing.specs.Performing.{is_active}
 use Rattle.circus_node.specs.Accepting.{troupe_at}
-use Rattle.circus_alike.specs.Alike.{declared_of, turn_of}
+use Rattle.circus_node.specs.Alike.{declared_of, turn_of}
 use Rattle.circus_schedule.specs.declared.line.Line.{Line}
 use Rattle.circus_world.specs.WorldState.{WorldState, Standing}
 use Rattle.circus_world.proofs.LineLemmas.{deployment_stays}
-use Rattle.circus_truth.specs.Stands.{Stands}
+use Rattle.circus_member_theory.specs.Stands.{Stands}
 use Rattle.circus_world_theory.specs.Agreeing.{RecordsStand}
 use Rattle.circus_config.specs.declared.plan.Plan.{Plan}
-use Rattle.circus_load.specs.Loaded.{behaviours_in}
+use Rattle.circus_plan_modules.specs.Loaded.{behaviours_in}
 use Rattle.circus_headline_theory.specs.Facts.{NodeFacts, AllStand, report_of, settled_of, node_facts, facts_of}
 use Rattle.circus_headline_theory.proofs.Told.{report_is_told, summary_is_told, settled_is_told}
-use Rattle.circus_ending.specs.declared.status.Status.TheVariants.{Done}
-use Rattle.circus_ending.specs.Ending.{Ending}
-use Rattle.circus_simulated.specs.Booted.{names_in}
+use Rattle.circus_commands.specs.declared.status.Status.TheVariants.{Done}
+use Rattle.circus_commands.specs.Ending.{Ending}
+use Rattle.circus_simulation.specs.Booted.{names_in}
 use Rattle.circus_program.specs.Form.{picture, draw}
 use Rattle.circus_program.specs.Replay.{replay_of}
 use Rattle.circus_program.specs.Worlds.{AreLed, AskForRecords, IsWrittenBySome}

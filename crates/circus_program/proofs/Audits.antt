@@ -1,18 +1,18 @@
 -- What an audit comes to: one end, with status 0 where the record is a true one, else with 13.
 use Rattle.std.proofs.Common.{◌≡◌, ℕ, ◌⊎◌, inl, inr, List, Result, Ok, Err, IfOk, refl, sym, ap, subst, ◌∙◌}
 use Rattle.circus_config.specs.declared.plan.Plan.{Plan}
-use Rattle.circus_load.specs.Loaded.{behaviours_in}
+use Rattle.circus_plan_modules.specs.Loaded.{behaviours_in}
 use Rattle.circus_audit.specs.declared.given.Given.{Given}
 use Rattle.circus_verdict.specs.declared.verdict.Verdict.{Verdict}
 use Rattle.circus_verdict.specs.declared.verdict.Verdict.TheVariants.{Yes, NotARun, Run}
 use Rattle.circus_verdict.specs.Verdict.{IsVerdict}
 use Rattle.circus_verdict.proofs.OneVerdict.{verdict_one}
-use Rattle.circus_ending.specs.declared.status.Status.{Status}
-use Rattle.circus_ending.specs.declared.status.Status.TheVariants.{Done, BadRecord}
-use Rattle.circus_ending.specs.Ending.{Ending}
-use Rattle.circus_ending.specs.declared.ending.Ending as coded
-use Rattle.circus_ending.specs.Seen.Ending.{ending_of}
-use Rattle.circus_simulated.specs.Booted.{names_in}
+use Rattle.circus_commands.specs.declared.status.Status.{Status}
+use Rattle.circus_commands.specs.declared.status.Status.TheVariants.{Done, BadRecord}
+use Rattle.circus_commands.specs.Ending.{Ending}
+use Rattle.circus_commands.specs.declared.ending.Ending as coded
+use Rattle.circus_commands.specs.Seen.Ending.{ending_of}
+use Rattle.circus_simulation.specs.Booted.{names_in}
 use Rattle.circus_program.specs.Audit.{IsRecord, IsBadAt, IsJudged, verdict_end, bad_line_end, IsEndOfAudit, IsRefusedRecord, IsTrueRecord}
 
 -- ---- one end

@@ -7,7 +7,7 @@ use Rattle.circus_model.specs.NextTurn.{NextTurn}
 use Rattle.circus_model.specs.Behaviour.{Behaviour}
 use Rattle.circus_model.specs.declared.signature.Signature.{Signature}
 use Rattle.circus_record.specs.Naming.{Names}
-use Rattle.circus_alike.specs.Alike.{declared_of, turn_of}
+use Rattle.circus_node.specs.Alike.{declared_of, turn_of}
 use Rattle.circus_schedule.specs.declared.line.Line.{Line}
 use Rattle.circus_world.specs.declared.cause.LineCause.{LineCause}
 use Rattle.circus_world.specs.WorldState.{WorldState}
@@ -17,10 +17,10 @@ use Rattle.circus_world.specs.Lines.{Lead}
 use Rattle.circus_report.specs.Run.{beginning, sent_from}
 use Rattle.circus_picture.specs.Picture.{procedures_in, picture_text}
 use Rattle.circus_config.specs.declared.plan.Plan.{Plan}
-use Rattle.circus_ending.specs.declared.status.Status.TheVariants.{Done}
-use Rattle.circus_ending.specs.Ending.{Ending}
-use Rattle.circus_ending.specs.Spent.{end_of_spent}
-use Rattle.circus_simulated.specs.Booted.{boot_world, names_in, after_step}
+use Rattle.circus_commands.specs.declared.status.Status.TheVariants.{Done}
+use Rattle.circus_commands.specs.Ending.{Ending}
+use Rattle.circus_commands.specs.Spent.{end_of_spent}
+use Rattle.circus_simulation.specs.Booted.{boot_world, names_in, after_step}
 use Rattle.circus_program.specs.Replay.{cause_text, refuse_line, behind, replay_lines, replayed_whole, follow_lines, picture_lines, replay_of, picture_of}
 use Rattle.circus_program.specs.Worlds.{AreLed}
 

@@ -1,10 +1,10 @@
 -- What may be due: the fetch of a file, an end that is no failure of the link, or, where the words ask for one, a node to be served.
 use Rattle.std.proofs.Common.{◌≡◌, ℕ, inl, inr, Option, List, [], ◌∷◌, sym, ap, ◌∙◌}
 use Rattle.circus_config.specs.declared.plan.Plan.{Plan}
-use Rattle.circus_ending.specs.declared.status.Status.TheVariants.{BadCommandLine, BadProgram, LinkFault}
-use Rattle.circus_ending.specs.declared.one_file.OneFile.{OneFile}
-use Rattle.circus_ending.specs.declared.one_file.OneFile.TheVariants.{Stubs, Run, Place}
-use Rattle.circus_ending.specs.Ending.{Ending}
+use Rattle.circus_commands.specs.declared.status.Status.TheVariants.{BadCommandLine, BadProgram, LinkFault}
+use Rattle.circus_commands.specs.declared.one_file.OneFile.{OneFile}
+use Rattle.circus_commands.specs.declared.one_file.OneFile.TheVariants.{Stubs, Run, Place}
+use Rattle.circus_commands.specs.Ending.{Ending}
 use Rattle.circus_program.specs.Form.{CommandForm, stubs, run, replay, picture, node, sample, draw, settle, place, audit, IsOfForm}
 use Rattle.circus_program.specs.declared.shown.Shown.TheVariants.{Report, Picture}
 use Rattle.circus_program.specs.declared.second.Second.{Second}

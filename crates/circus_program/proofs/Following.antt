@@ -9,7 +9,7 @@ use Rattle.circus_model.specs.NextTurn.{NextTurn}
 use Rattle.circus_model.specs.declared.signature.Signature.{Signature}
 use Rattle.circus_record.specs.Naming.{Names, names_of}
 use Rattle.circus_schedule.specs.declared.line.Line.{Line}
-use Rattle.circus_alike.specs.Alike.{declared_of, turn_of}
+use Rattle.circus_node.specs.Alike.{declared_of, turn_of}
 use Rattle.circus_world.specs.Alike.{world_as}
 use Rattle.circus_world.specs.declared.cause.LineCause.{LineCause}
 use Rattle.circus_world.specs.declared.cause.LineCause.TheVariants.{NoDatagram, NotLive, NotCrashed, NotSpare, AlreadyJoined}
@@ -22,10 +22,10 @@ use Rattle.circus_report.specs.declared.running.RunFault.TheVariants as fault
 use Rattle.circus_report.specs.Run.{beginning, sent_from, IsRun, IsCounted}
 use Rattle.circus_report.specs.Run as run
 use Rattle.circus_report.specs.Writing.{Writes, WritesPart}
-use Rattle.circus_ending.specs.declared.status.Status.{Status}
-use Rattle.circus_ending.specs.declared.status.Status.TheVariants.{Done, SinkFault, NoMemory}
-use Rattle.circus_ending.specs.Ending.{Ending}
-use Rattle.circus_ending.specs.Spent.{end_of_spent}
+use Rattle.circus_commands.specs.declared.status.Status.{Status}
+use Rattle.circus_commands.specs.declared.status.Status.TheVariants.{Done, SinkFault, NoMemory}
+use Rattle.circus_commands.specs.Ending.{Ending}
+use Rattle.circus_commands.specs.Spent.{end_of_spent}
 use Rattle.circus_program.specs.Replay.{cause_text, refuse_line, behind, replay_lines, replayed_whole}
 use Rattle.circus_program.specs.Seen.Put.{IsPutEnd}
 use Rattle.circus_program.specs.Seen.Ended.{IsEndedBy}

@@ -23,7 +23,7 @@ use Rattle.circus_deployment.specs.Meaning.{host_meant, module_of_troupe, hosts_
 use Rattle.circus_config.specs.declared.plan.Plan.{Plan}
 use Rattle.circus_config.specs.Program.{IsProgramOf}
 use Rattle.circus_record.specs.Naming.{host_name}
-use Rattle.circus_served.specs.Named.{IsNamed}
+use Rattle.circus_node_command.specs.Named.{IsNamed}
 use Rattle.circus_program.proofs.Decided.{IsDecided, same_bytes}
 
 abbrev text_name : HostText → List ℕ

@@ -10,11 +10,11 @@ use Rattle.circus_schedule.specs.Meaning.{numbers_of}
 use Rattle.circus_schedule.proofs.OneAnswer.{IsAnswer-one}
 use Rattle.circus_config.specs.declared.plan.Plan.{Plan}
 use Rattle.circus_config.specs.Program.{IsProgramOf}
-use Rattle.circus_ending.specs.declared.one_file.OneFile.{OneFile}
-use Rattle.circus_ending.specs.declared.one_file.OneFile.TheVariants.{Stubs, Run, Place}
-use Rattle.circus_ending.specs.Ending.{Ending}
-use Rattle.circus_ending.proofs.OneProgram.{refused_one, good_or_refused}
-use Rattle.circus_ending.proofs.OneEnding.{end_one}
+use Rattle.circus_commands.specs.declared.one_file.OneFile.{OneFile}
+use Rattle.circus_commands.specs.declared.one_file.OneFile.TheVariants.{Stubs, Run, Place}
+use Rattle.circus_commands.specs.Ending.{Ending}
+use Rattle.circus_commands.proofs.OneProgram.{refused_one, good_or_refused}
+use Rattle.circus_commands.proofs.OneEnding.{end_one}
 use Rattle.circus_program.specs.Form.{CommandForm, stubs, run, replay, picture, node, sample, draw, settle, place, audit, words_of, files_of, IsInRange, IsOfForm}
 use Rattle.circus_program.specs.declared.shown.Shown.{Shown}
 use Rattle.circus_program.specs.declared.shown.Shown.TheVariants.{Report, Picture}

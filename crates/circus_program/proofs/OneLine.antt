@@ -12,9 +12,9 @@ use Rattle.circus_world.specs.WorldState.{WorldState}
 use Rattle.circus_world.specs.Legal.{refusal}
 use Rattle.circus_world.specs.Course.{Stepped, step_line}
 use Rattle.circus_report.specs.Run.{sent_from}
-use Rattle.circus_ending.specs.Ending.{Ending}
-use Rattle.circus_ending.specs.Spent.{end_of_spent}
-use Rattle.circus_simulated.specs.Booted.{after_step}
+use Rattle.circus_commands.specs.Ending.{Ending}
+use Rattle.circus_commands.specs.Spent.{end_of_spent}
+use Rattle.circus_simulation.specs.Booted.{after_step}
 use Rattle.circus_program.specs.Replay.{cause_text, refuse_line, behind, replay_lines}
 
 module _ {M : Type 0} (declared : M → Signature) (turn : M → List ValueTree → ℕ → List ValueTree → List Outcome → NextTurn) where

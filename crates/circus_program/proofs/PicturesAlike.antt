@@ -9,7 +9,7 @@ use Rattle.circus_model.specs.declared.signature.Signature.{Signature}
 use Rattle.circus_idl.specs.declared.interface.Procedure.{Procedure}
 use Rattle.circus_record.specs.declared.record.MemberRecord.{MemberRecord}
 use Rattle.circus_record.specs.Naming.{Names}
-use Rattle.circus_alike.specs.Alike.{declared_of, turn_of}
+use Rattle.circus_node.specs.Alike.{declared_of, turn_of}
 use Rattle.circus_schedule.specs.declared.line.Line.{Line}
 use Rattle.circus_world.specs.declared.cause.LineCause.{LineCause}
 use Rattle.circus_world.specs.WorldState.{WorldState, Standing}
@@ -22,9 +22,9 @@ use Rattle.circus_picture.specs.Row.{width}
 use Rattle.circus_picture.specs.Deeds.{Deed, deeds_of_member, deeds_of_node, deeds_of}
 use Rattle.circus_picture.specs.Rows.{Scene, left_below, left_rows}
 use Rattle.circus_picture.specs.Picture.{beginning, middle, picture_text}
-use Rattle.circus_ending.specs.declared.status.Status.TheVariants.{Done}
-use Rattle.circus_ending.specs.Ending.{Ending}
-use Rattle.circus_simulated.specs.Booted.{after_step}
+use Rattle.circus_commands.specs.declared.status.Status.TheVariants.{Done}
+use Rattle.circus_commands.specs.Ending.{Ending}
+use Rattle.circus_simulation.specs.Booted.{after_step}
 use Rattle.circus_program.specs.Replay.{cause_text, refuse_line, follow_lines, picture_lines}
 use Rattle.circus_program.proofs.ReplaysAlike.{after_as}
 

@@ -1,14 +1,14 @@
 -- An end that is put piece by piece.
 use Rattle.std.proofs.Common.{◌≡◌, ℕ, inl, inr, Option, List, [], ◌++◌, refl, ap, subst, ◌∙◌, append_assoc, Result, Ok, Err, IfOk}
-use Rattle.circus_ending.specs.declared.status.Status.{Status}
-use Rattle.circus_ending.specs.Ending.{Ending}
-use Rattle.circus_ending.specs.declared.ending.Ending as coded
-use Rattle.circus_ending.specs.Seen.Ending.{ending_of}
+use Rattle.circus_commands.specs.declared.status.Status.{Status}
+use Rattle.circus_commands.specs.Ending.{Ending}
+use Rattle.circus_commands.specs.declared.ending.Ending as coded
+use Rattle.circus_commands.specs.Seen.Ending.{ending_of}
 use Rattle.circus_report.specs.Writing.{Writes, WritesPart}
 use Rattle.circus_report.proofs.ToldLemmas.{told_more-nil, Writes-joined, WritesPart-none, WritesPart-longer, WritesPart-joined}
 use Rattle.circus_config.specs.declared.plan.Plan.{Plan}
 use Rattle.circus_serve.specs.Outside.{Tells}
-use Rattle.circus_served.specs.NodeEnds.{IsEndOfServing}
+use Rattle.circus_node_command.specs.NodeEnds.{IsEndOfServing}
 use Rattle.circus_program.specs.declared.answer.Step.TheVariants.{Serve}
 use Rattle.circus_program.specs.Replay.{behind}
 use Rattle.circus_program.specs.Seen.Put.{IsPutEnd, IsPutIfEnd}

@@ -13,16 +13,16 @@ use Rattle.circus_world_theory.proofs.Quiescence.Plain.{plain_roots_are_done, pl
 use Rattle.circus_settle.proofs.AllDelivered.{alone, first_once}
 use Rattle.circus_config.specs.declared.plan.Plan.{Plan}
 use Rattle.circus_config.specs.Program.{IsProgramOf, IsPlan}
-use Rattle.circus_load.specs.Loaded.{behaviours_in}
+use Rattle.circus_plan_modules.specs.Loaded.{behaviours_in}
 use Rattle.circus_plan_theory.proofs.Plan.{plan_agrees, plan_modules, plan_proper}
 use Rattle.circus_plan_theory.proofs.Troupes.{plan_of_troupes}
 use Rattle.circus_plan_theory.proofs.Hosted.{plan_hosted}
-use Rattle.circus_ending.specs.declared.status.Status.TheVariants.{Done, BadSchedule, Spent}
-use Rattle.circus_ending.specs.Ending.{Ending}
-use Rattle.circus_ending.proofs.OneProgram.{good_or_refused}
-use Rattle.circus_ending.specs.Refusal.{IsEndOfRefused}
-use Rattle.circus_ending.specs.Spent.{end_of_spent}
-use Rattle.circus_simulated.specs.Booted.{names_in}
+use Rattle.circus_commands.specs.declared.status.Status.TheVariants.{Done, BadSchedule, Spent}
+use Rattle.circus_commands.specs.Ending.{Ending}
+use Rattle.circus_commands.proofs.OneProgram.{good_or_refused}
+use Rattle.circus_commands.specs.Refusal.{IsEndOfRefused}
+use Rattle.circus_commands.specs.Spent.{end_of_spent}
+use Rattle.circus_simulation.specs.Booted.{names_in}
 use Rattle.circus_program.specs.Form.{replay, picture, sample, draw, settle}
 use Rattle.circus_program.specs.declared.shown.Shown.TheVariants.{Report}
 use Rattle.circus_program.specs.declared.second.Second.TheVariants.{Schedule}

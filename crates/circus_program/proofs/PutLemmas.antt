@@ -1,19 +1,19 @@
 -- The clauses of the top call.
 use Rattle.std.proofs.Common.{◌≡◌, ℕ, ◌⊎◌, ◌==◌, false, if◌then◌else◌, Option, List, sym, subst, ap, ◌∙◌, inl, inr, refl}
 use Rattle.std.specs.Prelude.{IsTrue}
-use Rattle.circus_ending.specs.declared.status.Status.{Status}
-use Rattle.circus_ending.specs.declared.status.Status.TheVariants.{Done, BadCommandLine, BadProgram, BadSchedule, ShelfFault, SinkFault, LinkFault, NoMemory, Spent, Unsettled, BadPlacing, NoPlacement, BadRecord}
-use Rattle.circus_ending.specs.Status.{code_of, is_end}
+use Rattle.circus_commands.specs.declared.status.Status.{Status}
+use Rattle.circus_commands.specs.declared.status.Status.TheVariants.{Done, BadCommandLine, BadProgram, BadSchedule, ShelfFault, SinkFault, LinkFault, NoMemory, Spent, Unsettled, BadPlacing, NoPlacement, BadRecord}
+use Rattle.circus_commands.specs.Status.{code_of, is_end}
 use Rattle.circus_outside.specs.Faults.{Rose}
 use Rattle.circus_report.specs.Writing.{Writes, WritesPart}
 use Rattle.circus_program.specs.declared.answer.Step.{Step}
 use Rattle.circus_program.specs.declared.answer.Step.TheVariants.{Finish, Lack, Replay, Serve}
-use Rattle.circus_ending.specs.Ending.{Ending}
-use Rattle.circus_ending.specs.Seen.Ending.{ending_of}
+use Rattle.circus_commands.specs.Ending.{Ending}
+use Rattle.circus_commands.specs.Seen.Ending.{ending_of}
 use Rattle.circus_config.specs.declared.plan.Plan.{Plan}
 use Rattle.circus_serve.specs.Outside.{Tells}
-use Rattle.circus_simulated.specs.Seen.Simulated.{world_of}
-use Rattle.circus_served.specs.NodeEnds.{IsEndOfServing}
+use Rattle.circus_simulation.specs.Seen.Simulated.{world_of}
+use Rattle.circus_node_command.specs.NodeEnds.{IsEndOfServing}
 use Rattle.circus_program.specs.Answer.{AsksForNode, finish, Finishes, Lacks, IsText, IsDue, WasLast, shelf_fault}
 use Rattle.circus_program.specs.Seen.Put.{IsPut, IsFinished, IsAnswer}
 use Rattle.circus_record.specs.Naming.{names_of}

@@ -8,12 +8,12 @@ use Rattle.circus_schedule.specs.TextLines.{lines_of}
 use Rattle.circus_schedule.specs.Meaning.{Numbers, numbers_of, IsReadAs}
 use Rattle.circus_schedule.specs.Answer.{most_lines, IsAnswer}
 use Rattle.circus_config.specs.declared.plan.Plan.{Plan}
-use Rattle.circus_ending.specs.Ending.{Ending}
+use Rattle.circus_commands.specs.Ending.{Ending}
 use Rattle.circus_model.specs.Behaviour.{Behaviour}
 use Rattle.circus_world.specs.WorldState.{WorldState}
 use Rattle.circus_record.specs.Naming.{names_of}
-use Rattle.circus_simulated.specs.Booted.{boot_world, names_in}
-use Rattle.circus_simulated.specs.Seen.Simulated.{world_of, IsOfPlan}
+use Rattle.circus_simulation.specs.Booted.{boot_world, names_in}
+use Rattle.circus_simulation.specs.Seen.Simulated.{world_of, IsOfPlan}
 use Rattle.circus_program.specs.declared.ready.Ready.{Ready}
 use Rattle.circus_program.specs.declared.shown.Shown.{Shown}
 use Rattle.circus_program.specs.declared.shown.Shown.TheVariants.{Report, Picture}

@@ -5,7 +5,7 @@ use Rattle.circus_model.specs.Behaviour.{Behaviour}
 use Rattle.circus_record.specs.Naming.{Names, names_of}
 use Rattle.circus_idl.specs.declared.interface.Procedure.{Procedure}
 use Rattle.circus_picture.specs.Picture.{picture_text}
-use Rattle.circus_alike.specs.Alike.{declared_of, turn_of}
+use Rattle.circus_node.specs.Alike.{declared_of, turn_of}
 use Rattle.circus_schedule.specs.declared.line.Line.{Line}
 use Rattle.circus_schedule.specs.declared.schedule_fault.ScheduleFault.{ScheduleFault}
 use Rattle.circus_schedule.specs.declared.schedule_fault.ScheduleFault.TheVariants as schedule_fault
@@ -14,12 +14,12 @@ use Rattle.circus_schedule.specs.Answer.{IsAnswer}
 use Rattle.circus_world.specs.WorldState.{WorldState}
 use Rattle.circus_world.specs.Legal.{refusal}
 use Rattle.circus_world.specs.Course.{Stepped, step_line}
-use Rattle.circus_ending.specs.declared.status.Status.{Status}
-use Rattle.circus_ending.specs.declared.status.Status.TheVariants.{Done, BadSchedule, Spent}
-use Rattle.circus_ending.specs.Status.{is_end}
-use Rattle.circus_ending.specs.Ending.{Ending}
+use Rattle.circus_commands.specs.declared.status.Status.{Status}
+use Rattle.circus_commands.specs.declared.status.Status.TheVariants.{Done, BadSchedule, Spent}
+use Rattle.circus_commands.specs.Status.{is_end}
+use Rattle.circus_commands.specs.Ending.{Ending}
 use Rattle.circus_config.specs.declared.plan.Plan.{Plan}
-use Rattle.circus_simulated.specs.Booted.{boot_world, names_in, after_step}
+use Rattle.circus_simulation.specs.Booted.{boot_world, names_in, after_step}
 use Rattle.circus_program.specs.declared.shown.Shown.{Shown}
 use Rattle.circus_program.specs.declared.shown.Shown.TheVariants.{Report, Picture}
 use Rattle.circus_program.specs.Replay.{refuse_line, replay_lines, replayed_whole, replay_of, shown_of, IsEndOfReplay}

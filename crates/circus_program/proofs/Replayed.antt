@@ -8,7 +8,7 @@ use Rattle.circus_collate.specs.declared.deployment.Host.{Host}
 use Rattle.circus_model.specs.NextTurn.{NextTurn}
 use Rattle.circus_model.specs.declared.signature.Signature.{Signature}
 use Rattle.circus_record.specs.Naming.{host_name}
-use Rattle.circus_alike.specs.Alike.{declared_of, turn_of}
+use Rattle.circus_node.specs.Alike.{declared_of, turn_of}
 use Rattle.circus_schedule.specs.declared.line.Line.{Line}
 use Rattle.circus_schedule.specs.Meaning.{NamesBelow}
 use Rattle.circus_schedule.specs.ScheduleText.{lines_text, AreCalled}
@@ -17,11 +17,11 @@ use Rattle.circus_world.specs.WorldState.{WorldState}
 use Rattle.circus_world.specs.Lines.{Lead}
 use Rattle.circus_config.specs.declared.plan.Plan.{Plan}
 use Rattle.circus_config.specs.Program.{IsPlan}
-use Rattle.circus_ending.specs.declared.status.Status.TheVariants.{Done}
-use Rattle.circus_ending.specs.Ending.{Ending}
-use Rattle.circus_simulated.specs.Booted.{names_in}
-use Rattle.circus_simulated.specs.Schedule.{lines_of_sample, schedule_of}
-use Rattle.circus_simulated.proofs.Stepping.{stepped_keeps}
+use Rattle.circus_commands.specs.declared.status.Status.TheVariants.{Done}
+use Rattle.circus_commands.specs.Ending.{Ending}
+use Rattle.circus_simulation.specs.Booted.{names_in}
+use Rattle.circus_simulation.specs.Schedule.{lines_of_sample, schedule_of}
+use Rattle.circus_simulation.proofs.SteppingLines.{stepped_keeps}
 use Rattle.circus_program.specs.Form.{most_steps, draw}
 use Rattle.circus_program.specs.Answer.{finish}
 use Rattle.circus_program.specs.Last.{IsDueLast, IsLines}

@@ -7,7 +7,7 @@ use Rattle.circus_model.specs.NextTurn.{NextTurn}
 use Rattle.circus_model.specs.Behaviour.{Behaviour}
 use Rattle.circus_model.specs.declared.signature.Signature.{Signature}
 use Rattle.circus_record.specs.Naming.{Names}
-use Rattle.circus_alike.specs.Alike.{declared_of, turn_of}
+use Rattle.circus_node.specs.Alike.{declared_of, turn_of}
 use Rattle.circus_schedule.specs.declared.line.Line.{Line}
 use Rattle.circus_world.specs.declared.cause.LineCause.{LineCause}
 use Rattle.circus_world.specs.WorldState.{WorldState}
@@ -17,9 +17,9 @@ use Rattle.circus_world.specs.Alike.{world_as, step_as}
 use Rattle.circus_world.proofs.WorldsAlike.{refusal_as, world_stepped_as}
 use Rattle.circus_settle.proofs.Alike.{rest_as}
 use Rattle.circus_report.specs.Run.{beginning, sent_from}
-use Rattle.circus_ending.specs.declared.status.Status.TheVariants.{Done}
-use Rattle.circus_ending.specs.Ending.{Ending}
-use Rattle.circus_simulated.specs.Booted.{after_step}
+use Rattle.circus_commands.specs.declared.status.Status.TheVariants.{Done}
+use Rattle.circus_commands.specs.Ending.{Ending}
+use Rattle.circus_simulation.specs.Booted.{after_step}
 use Rattle.circus_program.specs.Replay.{cause_text, refuse_line, behind, replay_lines, replayed_whole}
 
 module _ {M : Type 0} (declared : M → Signature) (turn : M → List ValueTree → ℕ → List ValueTree → List Outcome → NextTurn) (first : M → List ValueTree) where

@@ -11,7 +11,7 @@ use Rattle.circus_collate.specs.declared.deployment.Host.{Host}
 use Rattle.circus_model.specs.NextTurn.{NextTurn}
 use Rattle.circus_model.specs.Behaviour.{Behaviour}
 use Rattle.circus_model.specs.declared.signature.Signature.{Signature}
-use Rattle.circus_alike.specs.Alike.{declared_of, turn_of, first_of}
+use Rattle.circus_node.specs.Alike.{declared_of, turn_of, first_of}
 use Rattle.circus_record.specs.Naming.{Names, names_of}
 use Rattle.circus_record.proofs.LinesMore.{all_append}
 use Rattle.circus_schedule.specs.declared.line.Line.{Line}
@@ -28,12 +28,12 @@ use Rattle.circus_world.proofs.LineLemmas.{sent_stays, deployment_stays}
 use Rattle.circus_report.specs.Report.{first_line, sent_line, sent_lines, rest_text, report_text}
 use Rattle.circus_report.specs.Run.{beginning, sent_from}
 use Rattle.circus_config.specs.declared.plan.Plan.{Plan}
-use Rattle.circus_ending.specs.declared.status.Status.TheVariants.{Done, BadSchedule, Spent}
-use Rattle.circus_ending.specs.Ending.{Ending}
-use Rattle.circus_ending.specs.Spent.{end_of_spent}
-use Rattle.circus_load.specs.Loaded.{behaviours_in, hosted_by}
-use Rattle.circus_simulated.specs.Booted.{boot_world, names_in, after_step}
-use Rattle.circus_simulated.proofs.Stepping.{booted_joins}
+use Rattle.circus_commands.specs.declared.status.Status.TheVariants.{Done, BadSchedule, Spent}
+use Rattle.circus_commands.specs.Ending.{Ending}
+use Rattle.circus_commands.specs.Spent.{end_of_spent}
+use Rattle.circus_plan_modules.specs.Loaded.{behaviours_in, hosted_by}
+use Rattle.circus_simulation.specs.Booted.{boot_world, names_in, after_step}
+use Rattle.circus_simulation.proofs.SteppingLines.{booted_joins}
 use Rattle.circus_program.specs.Replay.{cause_text, refuse_line, behind, replay_lines, replayed_whole, replay_of, picture_of}
 use Rattle.circus_program.specs.Worlds.{AreLed, sent_text, IsReported, IsCutByRefusal, IsCutBySpending, IsSpentAtBoot, IsPictured}
 use Rattle.circus_program.proofs.OneLine.{replayed_stepped, replayed_spent, replayed_refused}

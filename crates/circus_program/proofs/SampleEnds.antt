@@ -1,16 +1,16 @@
 -- How samples end, and their lines.
 use Rattle.std.proofs.Common.{◌≡◌, ℕ, ◌⊎◌, inl, inr, refl, ap, ◌∙◌, Ok, Err}
 use Rattle.circus_model.specs.Behaviour.{Behaviour}
-use Rattle.circus_alike.specs.Alike.{declared_of, turn_of}
+use Rattle.circus_node.specs.Alike.{declared_of, turn_of}
 use Rattle.circus_world.specs.WorldState.{WorldState}
 use Rattle.circus_world.specs.Course.{Stepped}
-use Rattle.circus_sample.specs.Sampled.{sample_lines}
+use Rattle.circus_simulation.specs.Sampled.{sample_lines}
 use Rattle.circus_config.specs.declared.plan.Plan.{Plan}
-use Rattle.circus_ending.specs.declared.status.Status.{Status}
-use Rattle.circus_ending.specs.declared.status.Status.TheVariants.{Done, Spent}
-use Rattle.circus_simulated.specs.Booted.{boot_world, names_in, after_step}
-use Rattle.circus_simulated.specs.Sample.{end_of_summary, sample_in, sample_of}
-use Rattle.circus_simulated.specs.Schedule.{lines_in, end_of_drawing, schedule_in, schedule_of}
+use Rattle.circus_commands.specs.declared.status.Status.{Status}
+use Rattle.circus_commands.specs.declared.status.Status.TheVariants.{Done, Spent}
+use Rattle.circus_simulation.specs.Booted.{boot_world, names_in, after_step}
+use Rattle.circus_simulation.specs.Sample.{end_of_summary, sample_in, sample_of}
+use Rattle.circus_simulation.specs.Schedule.{lines_in, end_of_drawing, schedule_in, schedule_of}
 use Rattle.circus_program.specs.Last.{HasSpentSample}
 
 -- what it comes to behind boot, and behind its last line

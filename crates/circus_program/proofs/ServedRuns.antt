@@ -14,7 +14,7 @@ use Rattle.circus_node.specs.Booting as booting
 use Rattle.circus_node.specs.NodeState.{NodeState, member_record}
 use Rattle.circus_node.specs.Step.{Ended}
 use Rattle.circus_node.specs.declared.event.Outputs.{Outputs}
-use Rattle.circus_alike.specs.Alike.{declared_of, turn_of, first_of}
+use Rattle.circus_node.specs.Alike.{declared_of, turn_of, first_of}
 use Rattle.circus_outside.specs.Link.{Taken, failed, taken_of}
 use Rattle.circus_outside.specs.declared.link.TakenFrom.{TakenFrom}
 use Rattle.circus_serve.specs.declared.happening.Happening.{Happening}
@@ -25,12 +25,12 @@ use Rattle.circus_serve.specs.Recorded.{Recorded}
 use Rattle.circus_serve.specs.Answers.{asked_of_link, IsServed, IsPartGiven}
 use Rattle.circus_config.specs.declared.plan.Plan.{Plan}
 use Rattle.circus_config.specs.Program.{IsPlan}
-use Rattle.circus_load.specs.Loaded.{behaviours_in, hosted_by}
+use Rattle.circus_plan_modules.specs.Loaded.{behaviours_in, hosted_by}
 use Rattle.circus_plan_theory.proofs.Plan.{plan_modules}
 use Rattle.circus_plan_theory.proofs.Troupes.{plan_of_troupes}
-use Rattle.circus_ending.specs.declared.status.Status.TheVariants.{Done, LinkFault, Spent}
-use Rattle.circus_ending.specs.Ending.{Ending}
-use Rattle.circus_served.specs.NodeEnds.{booted_node, IsEndOfBooted, IsEndOfServing}
+use Rattle.circus_commands.specs.declared.status.Status.TheVariants.{Done, LinkFault, Spent}
+use Rattle.circus_commands.specs.Ending.{Ending}
+use Rattle.circus_node_command.specs.NodeEnds.{booted_node, IsEndOfBooted, IsEndOfServing}
 use Rattle.circus_headline_theory.specs.ServedRun.{IsOfOctets, IsServedRun}
 use Rattle.circus_headline_theory.proofs.PlainServed.{plain_served_is_a_node_run, plain_served_so_far}
 use Rattle.circus_program.specs.ServedRuns.{IsServedRunOf, happened_so_far, WasGiven, WasServedSoFar, WasSpentAtBoot}

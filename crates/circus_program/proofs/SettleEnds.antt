@@ -3,7 +3,7 @@ use Rattle.std.proofs.Common.{◌≡◌, ℕ, ◌<◌, ◌⊎◌, inl, inr, Bool
 use Rattle.std.specs.Prelude.{nat_lt, if◌then◌else◌}
 use Rattle.std.proofs.lemmas.Bool.{lt-ltb}
 use Rattle.circus_model.specs.Behaviour.{Behaviour}
-use Rattle.circus_alike.specs.Alike.{declared_of, turn_of}
+use Rattle.circus_node.specs.Alike.{declared_of, turn_of}
 use Rattle.circus_world.specs.WorldState.{WorldState}
 use Rattle.circus_world.specs.Course.{Stepped}
 use Rattle.circus_world.specs.Lines.{Lead}
@@ -11,11 +11,11 @@ use Rattle.circus_settle.specs.Settled.{Delivered, Settling, first_deliveries, s
 use Rattle.circus_settle.specs.Summary.{settled_text}
 use Rattle.circus_settle.proofs.Leading.{led, led_settles}
 use Rattle.circus_config.specs.declared.plan.Plan.{Plan}
-use Rattle.circus_ending.specs.declared.status.Status.{Status}
-use Rattle.circus_ending.specs.declared.status.Status.TheVariants.{Done, Spent, Unsettled}
-use Rattle.circus_ending.specs.Ending.{Ending}
-use Rattle.circus_simulated.specs.Booted.{boot_world, names_in, after_step}
-use Rattle.circus_simulated.specs.Settle.{budget, settled_end, after_settling, settle_in, settle_of}
+use Rattle.circus_commands.specs.declared.status.Status.{Status}
+use Rattle.circus_commands.specs.declared.status.Status.TheVariants.{Done, Spent, Unsettled}
+use Rattle.circus_commands.specs.Ending.{Ending}
+use Rattle.circus_simulation.specs.Booted.{boot_world, names_in, after_step}
+use Rattle.circus_simulation.specs.Settle.{budget, settled_end, after_settling, settle_in, settle_of}
 use Rattle.circus_program.specs.Last.{HasSpentSettle, HasLeft}
 
 -- what it comes to behind boot, behind its last delivery, and where some are left

@@ -8,7 +8,7 @@ use Rattle.circus_collate.specs.declared.deployment.Deployment.{Deployment}
 use Rattle.circus_collate.specs.declared.deployment.Host.{Host}
 use Rattle.circus_model.specs.Behaviour.{Behaviour}
 use Rattle.circus_performing.specs.Record.{behaviour}
-use Rattle.circus_alike.specs.Alike.{declared_of, turn_of, first_of}
+use Rattle.circus_node.specs.Alike.{declared_of, turn_of, first_of}
 use Rattle.circus_schedule.specs.declared.line.Line.{Line}
 use Rattle.circus_schedule.specs.declared.schedule_fault.ScheduleFault.TheVariants as schedule_fault
 use Rattle.circus_schedule.specs.Meaning.{numbers_of}
@@ -16,25 +16,25 @@ use Rattle.circus_schedule.specs.Answer.{IsAnswer}
 use Rattle.circus_world.specs.WorldState.{WorldState}
 use Rattle.circus_world.specs.Course.{Stepped}
 use Rattle.circus_world.specs.Lines.{Lead}
-use Rattle.circus_sample.specs.Sampled.{lines_behind, sample_lines}
-use Rattle.circus_sample.specs.Summary.{summary}
-use Rattle.circus_sample.specs.Seen.Stepping.{NoneCrashed}
-use Rattle.circus_sample.proofs.Stepping.{samples_lead}
-use Rattle.circus_sample.proofs.Untouched.{none_crashed, booted_new}
+use Rattle.circus_simulation.specs.Sampled.{lines_behind, sample_lines}
+use Rattle.circus_simulation.specs.Summary.{summary}
+use Rattle.circus_simulation.specs.Seen.Stepping.{NoneCrashed}
+use Rattle.circus_simulation.proofs.Stepping.{samples_lead}
+use Rattle.circus_simulation.proofs.Untouched.{none_crashed, booted_new}
 use Rattle.circus_settle.specs.Settled.{Delivered, first_deliveries, settle_world}
 use Rattle.circus_settle.specs.Summary.{settled_text}
 use Rattle.circus_settle.proofs.Leading.{led}
 use Rattle.circus_config.specs.declared.plan.Plan.{Plan}
 use Rattle.circus_config.specs.Program.{IsProgramOf}
-use Rattle.circus_ending.specs.declared.status.Status.{Status}
-use Rattle.circus_ending.specs.declared.status.Status.TheVariants.{Done, BadProgram, BadSchedule, Spent, Unsettled}
-use Rattle.circus_ending.specs.Ending.{Ending}
-use Rattle.circus_load.specs.Loaded.{behaviours_in, hosted_by}
-use Rattle.circus_simulated.specs.Booted.{boot_world, names_in, after_step}
-use Rattle.circus_simulated.specs.Sample.{end_of_summary, sample_in, sample_of}
-use Rattle.circus_simulated.specs.Schedule.{lines_in, lines_of_sample, end_of_drawing, schedule_in, schedule_of}
-use Rattle.circus_simulated.specs.Settle.{budget, settled_end, after_settling, settle_in, settle_of}
-use Rattle.circus_simulated.proofs.Stepping.{booted_joins}
+use Rattle.circus_commands.specs.declared.status.Status.{Status}
+use Rattle.circus_commands.specs.declared.status.Status.TheVariants.{Done, BadProgram, BadSchedule, Spent, Unsettled}
+use Rattle.circus_commands.specs.Ending.{Ending}
+use Rattle.circus_plan_modules.specs.Loaded.{behaviours_in, hosted_by}
+use Rattle.circus_simulation.specs.Booted.{boot_world, names_in, after_step}
+use Rattle.circus_simulation.specs.Sample.{end_of_summary, sample_in, sample_of}
+use Rattle.circus_simulation.specs.Schedule.{lines_in, lines_of_sample, end_of_drawing, schedule_in, schedule_of}
+use Rattle.circus_simulation.specs.Settle.{budget, settled_end, after_settling, settle_in, settle_of}
+use Rattle.circus_simulation.proofs.SteppingLines.{booted_joins}
 use Rattle.circus_program.specs.Form.{CommandForm, stubs, run, replay, picture, node, sample, draw, settle, place, audit, words_of, IsOfForm}
 use Rattle.circus_program.specs.declared.shown.Shown.TheVariants.{Report, Picture}
 use Rattle.circus_program.specs.declared.second.Second.TheVariants.{Schedule}

@@ -2,11 +2,11 @@
 use Rattle.std.proofs.Common.{◌≡◌, ℕ, ◌⊎◌, inl, inr, Option, Some, None, List, [], ◌∷◌, refl}
 use Rattle.circus_config.specs.declared.plan.Plan.{Plan}
 use Rattle.circus_config.specs.Program.{IsProgramOf}
-use Rattle.circus_ending.specs.Ending.{Ending}
-use Rattle.circus_simulated.specs.Sample.{sample_of}
-use Rattle.circus_simulated.specs.Schedule.{schedule_of}
-use Rattle.circus_simulated.specs.Settle.{settle_of}
-use Rattle.circus_served.specs.Named.{no_node}
+use Rattle.circus_commands.specs.Ending.{Ending}
+use Rattle.circus_simulation.specs.Sample.{sample_of}
+use Rattle.circus_simulation.specs.Schedule.{schedule_of}
+use Rattle.circus_simulation.specs.Settle.{settle_of}
+use Rattle.circus_node_command.specs.Named.{no_node}
 use Rattle.circus_program.specs.Form.{CommandForm, stubs, run, replay, picture, node, sample, draw, settle, place, audit, files_of, IsOfForm, second_form}
 use Rattle.circus_program.specs.declared.shown.Shown.TheVariants.{Report, Picture}
 use Rattle.circus_program.specs.declared.second.Second.{Second}

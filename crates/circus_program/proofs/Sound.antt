@@ -5,19 +5,19 @@ use Rattle.circus_schedule.specs.declared.schedule_fault.ScheduleFault.{Schedule
 use Rattle.circus_schedule.specs.Meaning.{numbers_of}
 use Rattle.circus_schedule.proofs.OneAnswer.{IsAnswer-one}
 use Rattle.circus_config.specs.declared.plan.Plan.{Plan}
-use Rattle.circus_ending.specs.declared.status.Status.{Status}
-use Rattle.circus_ending.specs.declared.status.Status.TheVariants.{Done, BadCommandLine, BadProgram, BadSchedule, Spent, Unsettled, BadPlacing, NoPlacement, BadRecord}
-use Rattle.circus_ending.specs.declared.one_file.OneFile.{OneFile}
-use Rattle.circus_ending.specs.declared.one_file.OneFile.TheVariants.{Stubs, Run, Place}
-use Rattle.circus_ending.specs.Ending.{Ending}
-use Rattle.circus_ending.specs.OneFile.{IsEndOf}
-use Rattle.circus_ending.specs.Placed.{refused_text, IsRefusedPlacing, HasNoChoice, IsEndOfPlacing}
-use Rattle.circus_ending.specs.Program.{history_lines, stubs_lines, IsEndOfProgram}
-use Rattle.circus_ending.proofs.OneEnding.{choice_is_done}
+use Rattle.circus_commands.specs.declared.status.Status.{Status}
+use Rattle.circus_commands.specs.declared.status.Status.TheVariants.{Done, BadCommandLine, BadProgram, BadSchedule, Spent, Unsettled, BadPlacing, NoPlacement, BadRecord}
+use Rattle.circus_commands.specs.declared.one_file.OneFile.{OneFile}
+use Rattle.circus_commands.specs.declared.one_file.OneFile.TheVariants.{Stubs, Run, Place}
+use Rattle.circus_commands.specs.Ending.{Ending}
+use Rattle.circus_commands.specs.OneFile.{IsEndOf}
+use Rattle.circus_commands.specs.Placed.{refused_text, IsRefusedPlacing, HasNoChoice, IsEndOfPlacing}
+use Rattle.circus_commands.specs.Program.{history_lines, stubs_lines, IsEndOfProgram}
+use Rattle.circus_commands.proofs.OneEnding.{choice_is_done}
 use Rattle.circus_record.specs.Line.{line}
-use Rattle.circus_simulated.specs.Sample.{sample_of}
-use Rattle.circus_simulated.specs.Schedule.{schedule_of}
-use Rattle.circus_simulated.specs.Settle.{settle_of}
+use Rattle.circus_simulation.specs.Sample.{sample_of}
+use Rattle.circus_simulation.specs.Schedule.{schedule_of}
+use Rattle.circus_simulation.specs.Settle.{settle_of}
 use Rattle.circus_program.specs.declared.shown.Shown.{Shown}
 use Rattle.circus_program.specs.declared.shown.Shown.TheVariants.{Report, Picture}
 use Rattle.circus_program.specs.declared.second.Second.TheVariants.{Schedule}

@@ -11,9 +11,9 @@ use Rattle.circus_world.specs.WorldState.{WorldState}
 use Rattle.circus_report.specs.declared.running.RunFault.{RunFault}
 use Rattle.circus_report.specs.declared.running.RunFault.TheVariants as fault
 use Rattle.circus_report.proofs.ToldLemmas.{WritesPart-none}
-use Rattle.circus_ending.specs.declared.status.Status.{Status}
-use Rattle.circus_ending.specs.Ending.{Ending}
-use Rattle.circus_ending.specs.Spent.{end_of_spent}
+use Rattle.circus_commands.specs.declared.status.Status.{Status}
+use Rattle.circus_commands.specs.Ending.{Ending}
+use Rattle.circus_commands.specs.Spent.{end_of_spent}
 use Rattle.circus_program.specs.Replay.{cause_text, refuse_line, follow_lines}
 use Rattle.circus_program.specs.Seen.Put.{IsPutEnd}
 use Rattle.circus_program.specs.Seen.Ended.{IsEndedBy}

@@ -3,29 +3,29 @@ use Rattle.std.proofs.Common.{◌≡◌, ◌↔◌, ℕ, ◌⊎◌, inl, inr, Op
 use Rattle.circus_schedule.specs.declared.line.Line.{Line}
 use Rattle.circus_schedule.specs.Meaning.{numbers_of}
 use Rattle.circus_schedule.specs.Answer.{IsAnswer}
-use Rattle.circus_ending.specs.declared.status.Status.{Status}
-use Rattle.circus_ending.specs.declared.status.Status.TheVariants.{Done, BadCommandLine, BadProgram, BadSchedule, Spent, Unsettled, BadPlacing, NoPlacement, BadRecord}
+use Rattle.circus_commands.specs.declared.status.Status.{Status}
+use Rattle.circus_commands.specs.declared.status.Status.TheVariants.{Done, BadCommandLine, BadProgram, BadSchedule, Spent, Unsettled, BadPlacing, NoPlacement, BadRecord}
 use Rattle.circus_program.specs.Form.{CommandForm, stubs, run, replay, picture, node, sample, draw, settle, place, audit, files_of, IsOfForm, IsOfNoForm, second_form}
-use Rattle.circus_ending.specs.Ending.{Ending}
+use Rattle.circus_commands.specs.Ending.{Ending}
 use Rattle.circus_config.specs.declared.plan.Plan.{Plan}
 use Rattle.circus_config.specs.declared.program_fault.ProgramCause.{ProgramCause}
 use Rattle.circus_config.specs.Program.{IsProgramOf}
-use Rattle.circus_ending.specs.declared.one_file.OneFile.{OneFile}
-use Rattle.circus_ending.specs.declared.one_file.OneFile.TheVariants.{Stubs, Run, Place}
-use Rattle.circus_ending.specs.Refusal.{refused_text, IsEndOfRefused}
-use Rattle.circus_ending.specs.Program.{history_lines, stubs_lines, IsEndOfProgram}
-use Rattle.circus_ending.specs.Placed.{IsEndOfPlacing}
-use Rattle.circus_ending.specs.OneFile.{IsEndOf}
+use Rattle.circus_commands.specs.declared.one_file.OneFile.{OneFile}
+use Rattle.circus_commands.specs.declared.one_file.OneFile.TheVariants.{Stubs, Run, Place}
+use Rattle.circus_commands.specs.Refusal.{refused_text, IsEndOfRefused}
+use Rattle.circus_commands.specs.Program.{history_lines, stubs_lines, IsEndOfProgram}
+use Rattle.circus_commands.specs.Placed.{IsEndOfPlacing}
+use Rattle.circus_commands.specs.OneFile.{IsEndOf}
 use Rattle.circus_program.specs.declared.shown.Shown.{Shown}
 use Rattle.circus_program.specs.declared.shown.Shown.TheVariants.{Report, Picture}
 use Rattle.circus_program.specs.declared.second.Second.{Second}
 use Rattle.circus_program.specs.declared.second.Second.TheVariants.{Schedule, NodeRecord}
 use Rattle.circus_program.specs.Replay.{IsEndOfReplay}
 use Rattle.circus_program.specs.Audit.{IsEndOfAudit}
-use Rattle.circus_simulated.specs.Sample.{sample_of}
-use Rattle.circus_simulated.specs.Schedule.{schedule_of}
-use Rattle.circus_simulated.specs.Settle.{settle_of}
-use Rattle.circus_served.specs.Named.{no_node}
+use Rattle.circus_simulation.specs.Sample.{sample_of}
+use Rattle.circus_simulation.specs.Schedule.{schedule_of}
+use Rattle.circus_simulation.specs.Settle.{settle_of}
+use Rattle.circus_node_command.specs.Named.{no_node}
 use Rattle.circus_program.specs.Answer.{Due, fetch, finish, serve, bad_command_line, IsDueOfEnd, IsDueOfSample, IsDueOfLines, IsDueOfSettle, IsDueOfNode, IsDueOfForm, AreContents, IsDue}
 use Rattle.circus_program.specs.Seen.Asked.{end_form}
 use Rattle.circus_program.specs.Sound.{AreSound}

@@ -7,14 +7,14 @@ use Rattle.circus_schedule.specs.Meaning.{numbers_of}
 use Rattle.circus_schedule.specs.Answer.{IsAnswer}
 use Rattle.circus_config.specs.declared.plan.Plan.{Plan}
 use Rattle.circus_config.specs.Program.{IsProgramOf, IsPlan}
-use Rattle.circus_load.specs.Loaded.{behaviours_in}
+use Rattle.circus_plan_modules.specs.Loaded.{behaviours_in}
 use Rattle.circus_report.specs.Writing.{Writes}
 use Rattle.circus_headline_theory.specs.Facts.{Facts, sent_text, report_of, summary_of, settled_of}
 use Rattle.circus_headline_theory.specs.Headline.{Headline}
-use Rattle.circus_ending.specs.declared.status.Status.TheVariants.{Done}
+use Rattle.circus_commands.specs.declared.status.Status.TheVariants.{Done}
 use Rattle.circus_settle.specs.Settled.{first_deliveries}
-use Rattle.circus_simulated.specs.Booted.{names_in}
-use Rattle.circus_simulated.specs.Schedule.{lines_of_sample}
+use Rattle.circus_simulation.specs.Booted.{names_in}
+use Rattle.circus_simulation.specs.Schedule.{lines_of_sample}
 use Rattle.circus_program.specs.Form.{CommandForm, IsOfForm}
 use Rattle.circus_program.specs.Replay.{replay_of}
 use Rattle.circus_program.specs.Last.{program_read, IsReplay, IsSample, IsSettle}

@@ -1,10 +1,10 @@
 -- What the top call answers.
 use Rattle.std.specs.Prelude.{ℕ, ◌≡◌, ◌⊎◌, Option, Some, List, [], ◌∷◌, ◌++◌, codes, IfSome}
 use Rattle.circus_outside.specs.Told.{told_more}
-use Rattle.circus_ending.specs.declared.status.Status.{Status}
-use Rattle.circus_ending.specs.declared.status.Status.TheVariants.{BadCommandLine}
+use Rattle.circus_commands.specs.declared.status.Status.{Status}
+use Rattle.circus_commands.specs.declared.status.Status.TheVariants.{BadCommandLine}
 use Rattle.circus_program.specs.Form.{CommandForm, stubs, run, replay, picture, node, sample, draw, settle, place, audit, IsOfForm, IsOfNoForm, files_of}
-use Rattle.circus_ending.specs.Ending.{Ending}
+use Rattle.circus_commands.specs.Ending.{Ending}
 use Rattle.circus_program.specs.declared.shown.Shown.TheVariants.{Report, Picture}
 use Rattle.circus_program.specs.declared.second.Second.{Second}
 use Rattle.circus_program.specs.declared.second.Second.TheVariants.{Schedule, NodeRecord}
@@ -13,17 +13,17 @@ use Rattle.circus_program.specs.Audit.{IsEndOfAudit}
 use Rattle.circus_config.specs.declared.plan.Plan.{Plan}
 use Rattle.circus_config.specs.Program.{IsProgramOf}
 use Rattle.circus_report.specs.Writing.{Writes, WritesPart}
-use Rattle.circus_ending.specs.declared.one_file.OneFile.{OneFile}
-use Rattle.circus_ending.specs.declared.one_file.OneFile.TheVariants.{Stubs, Run, Place}
-use Rattle.circus_ending.specs.Refusal.{IsGood, IsEndOfRefused}
-use Rattle.circus_ending.specs.OneFile.{IsEndOf}
+use Rattle.circus_commands.specs.declared.one_file.OneFile.{OneFile}
+use Rattle.circus_commands.specs.declared.one_file.OneFile.TheVariants.{Stubs, Run, Place}
+use Rattle.circus_commands.specs.Refusal.{IsGood, IsEndOfRefused}
+use Rattle.circus_commands.specs.OneFile.{IsEndOf}
 use Rattle.circus_record.specs.Line.{line}
 use Rattle.circus_serve.specs.Outside.{Tells}
-use Rattle.circus_simulated.specs.Sample.{sample_of}
-use Rattle.circus_simulated.specs.Schedule.{schedule_of}
-use Rattle.circus_simulated.specs.Settle.{settle_of}
-use Rattle.circus_served.specs.Named.{IsNamed, no_node}
-use Rattle.circus_served.specs.NodeEnds.{IsEndOfServing}
+use Rattle.circus_simulation.specs.Sample.{sample_of}
+use Rattle.circus_simulation.specs.Schedule.{schedule_of}
+use Rattle.circus_simulation.specs.Settle.{settle_of}
+use Rattle.circus_node_command.specs.Named.{IsNamed, no_node}
+use Rattle.circus_node_command.specs.NodeEnds.{IsEndOfServing}
 
 -- what is due next: the contents of a file, the end, or to serve a node of a plan for so many takes
 pub data Due : Type 0 where

@@ -2,9 +2,9 @@
 use Rattle.std.specs.Prelude.{ℕ, ◌≡◌, ◌⊎◌, IsTrue}
 use Rattle.circus_outside.specs.Faults.{Rose}
 use Rattle.circus_outside.specs.Sink.{HasGivenOn}
-use Rattle.circus_ending.specs.declared.status.Status.{Status}
-use Rattle.circus_ending.specs.declared.status.Status.TheVariants.{Done, BadSchedule, ShelfFault, SinkFault, LinkFault, NoMemory, Spent}
-use Rattle.circus_ending.specs.Status.{code_of, is_end}
+use Rattle.circus_commands.specs.declared.status.Status.{Status}
+use Rattle.circus_commands.specs.declared.status.Status.TheVariants.{Done, BadSchedule, ShelfFault, SinkFault, LinkFault, NoMemory, Spent}
+use Rattle.circus_commands.specs.Status.{code_of, is_end}
 use Rattle.circus_program.specs.Agreeing.{WritesAgreed, WritesAgreedSoFar}
 use Rattle.circus_program.specs.Promise.{WritesKept, WritesKeptSoFar}
 use Rattle.circus_program.specs.Replayed.{WritesReplayed}

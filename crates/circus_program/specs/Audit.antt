@@ -3,15 +3,15 @@ use Rattle.std.specs.Prelude.{ℕ, ◌≡◌, ◌⊎◌, List, ◌++◌, codes, 
 use Rattle.std.specs.Fmt.{decimal}
 use Rattle.circus_record.specs.Line.{line}
 use Rattle.circus_config.specs.declared.plan.Plan.{Plan}
-use Rattle.circus_load.specs.Loaded.{behaviours_in}
+use Rattle.circus_plan_modules.specs.Loaded.{behaviours_in}
 use Rattle.circus_audit.specs.declared.given.Given.{Given}
 use Rattle.circus_audit.specs.Answer.{record_answer}
 use Rattle.circus_verdict.specs.declared.verdict.Verdict.{Verdict}
 use Rattle.circus_verdict.specs.declared.verdict.Verdict.TheVariants.{Yes, NotARun, Run}
 use Rattle.circus_verdict.specs.Verdict.{IsVerdict}
-use Rattle.circus_ending.specs.declared.status.Status.TheVariants.{Done, BadRecord}
-use Rattle.circus_ending.specs.Ending.{Ending}
-use Rattle.circus_simulated.specs.Booted.{names_in}
+use Rattle.circus_commands.specs.declared.status.Status.TheVariants.{Done, BadRecord}
+use Rattle.circus_commands.specs.Ending.{Ending}
+use Rattle.circus_simulation.specs.Booted.{names_in}
 
 -- the text is the record of a node of the program, and says this
 abbrev pub IsRecord : Plan → List ℕ → Given → Type 0

@@ -9,7 +9,7 @@ use Rattle.circus_world.specs.declared.cause.LineCause.{LineCause}
 use Rattle.circus_world.specs.WorldState.{WorldState}
 use Rattle.circus_world.specs.Legal.{refusal}
 use Rattle.circus_world.specs.Course.{step_line}
-use Rattle.circus_ending.specs.declared.status.Status.{Status}
+use Rattle.circus_commands.specs.declared.status.Status.{Status}
 use Rattle.circus_program.specs.Form.{CommandForm, stubs, run, replay, picture, node, sample, draw, settle, place, audit, IsOfForm, second_form}
 use Rattle.circus_program.specs.declared.shown.Shown.{Shown}
 use Rattle.circus_program.specs.declared.shown.Shown.TheVariants.{Report, Picture}
@@ -17,14 +17,14 @@ use Rattle.circus_program.specs.declared.second.Second.{Second}
 use Rattle.circus_program.specs.declared.second.Second.TheVariants.{Schedule, NodeRecord}
 use Rattle.circus_program.specs.Audit.{IsRefusedRecord}
 use Rattle.circus_world.specs.Lines.{Lead}
-use Rattle.circus_sample.specs.Sampled.{sample_lines}
+use Rattle.circus_simulation.specs.Sampled.{sample_lines}
 use Rattle.circus_settle.specs.Settled.{first_deliveries, settle_world}
-use Rattle.circus_simulated.specs.Booted.{boot_world}
-use Rattle.circus_served.specs.Named.{IsNamed}
-use Rattle.circus_ending.specs.declared.one_file.OneFile.TheVariants.{Stubs, Run, Place}
-use Rattle.circus_ending.specs.Ending.{Ending}
-use Rattle.circus_ending.specs.Refusal.{IsGood, IsEndOfRefused}
-use Rattle.circus_ending.specs.OneFile.{IsEndOf}
+use Rattle.circus_simulation.specs.Booted.{boot_world}
+use Rattle.circus_node_command.specs.Named.{IsNamed}
+use Rattle.circus_commands.specs.declared.one_file.OneFile.TheVariants.{Stubs, Run, Place}
+use Rattle.circus_commands.specs.Ending.{Ending}
+use Rattle.circus_commands.specs.Refusal.{IsGood, IsEndOfRefused}
+use Rattle.circus_commands.specs.OneFile.{IsEndOf}
 use Rattle.circus_config.specs.declared.program_fault.ProgramCause.{ProgramCause}
 use Rattle.circus_config.specs.declared.program_fault.ProgramFault.TheVariants.{Refused}
 use Rattle.circus_config.specs.declared.plan.Plan.{Plan}

@@ -6,11 +6,11 @@ use Rattle.circus_schedule.specs.declared.line.Line.{Line}
 use Rattle.circus_schedule.specs.declared.schedule_fault.ScheduleFault.{ScheduleFault}
 use Rattle.circus_schedule.specs.Meaning.{numbers_of}
 use Rattle.circus_schedule.specs.Answer.{IsAnswer}
-use Rattle.circus_alike.specs.Alike.{declared_of, turn_of, first_of}
+use Rattle.circus_node.specs.Alike.{declared_of, turn_of, first_of}
 use Rattle.circus_wire.specs.WireActs.{WireActs}
 use Rattle.circus_member_rules.specs.declared.occurrence.Purpose.{Purpose}
 use Rattle.circus_world.specs.WorldState.{WorldState}
-use Rattle.circus_talks.specs.Histories.{acts_of}
+use Rattle.circus_world_theory.specs.Histories.{acts_of}
 use Rattle.circus_world_theory.specs.Agreeing.{RecordsStand, AsksAreTrue, ReturnsAreTrue, OthersCiteNothing, NoneDiffer}
 use Rattle.circus_world_theory.specs.InTime.{RecordsAreTimely}
 use Rattle.circus_headline_theory.specs.Facts.{facts_of}
@@ -19,9 +19,9 @@ use Rattle.circus_world_theory.specs.Done.{AskEnough, RootsAreDone}
 use Rattle.circus_world_theory.specs.Enough.{all_segments, AreOnce}
 use Rattle.circus_world_theory.specs.Quiet.{IsDelivery, IsQuiet}
 use Rattle.circus_config.specs.declared.plan.Plan.{Plan}
-use Rattle.circus_load.specs.Loaded.{behaviours_in, hosted_by}
+use Rattle.circus_plan_modules.specs.Loaded.{behaviours_in, hosted_by}
 use Rattle.circus_report.specs.Writing.{Writes}
-use Rattle.circus_simulated.specs.Booted.{names_in}
+use Rattle.circus_simulation.specs.Booted.{names_in}
 use Rattle.circus_program.specs.Last.{IsReplay}
 use Rattle.circus_program.specs.Worlds.{AreLed, AskToSimulate, IsOfWorld, IsSpentAtBoot, sent_text}
 

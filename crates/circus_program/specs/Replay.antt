@@ -24,9 +24,9 @@ use Rattle.circus_world.specs.Course.{step_line}
 use Rattle.circus_report.specs.Report.{rest_text}
 use Rattle.circus_report.specs.Run.{beginning, sent_from}
 use Rattle.circus_picture.specs.Picture.{procedures_in, picture_text}
-use Rattle.circus_ending.specs.declared.status.Status.TheVariants.{Done, BadSchedule}
-use Rattle.circus_ending.specs.Ending.{Ending}
-use Rattle.circus_simulated.specs.Booted.{boot_world, names_in, after_step}
+use Rattle.circus_commands.specs.declared.status.Status.TheVariants.{Done, BadSchedule}
+use Rattle.circus_commands.specs.Ending.{Ending}
+use Rattle.circus_simulation.specs.Booted.{boot_world, names_in, after_step}
 use Rattle.circus_program.specs.declared.shown.Shown.{Shown}
 use Rattle.circus_program.specs.declared.shown.Shown.TheVariants.{Report, Picture}
 

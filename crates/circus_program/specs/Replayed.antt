@@ -4,13 +4,13 @@ use Rattle.circus_model.specs.Behaviour.{Behaviour}
 use Rattle.circus_schedule.specs.ScheduleText.{IsShort}
 use Rattle.circus_world.specs.WorldState.{WorldState}
 use Rattle.circus_report.specs.Report.{report_text}
-use Rattle.circus_sample.specs.Summary.{summary}
+use Rattle.circus_simulation.specs.Summary.{summary}
 use Rattle.circus_config.specs.declared.plan.Plan.{Plan}
 use Rattle.circus_report.specs.Writing.{Writes}
-use Rattle.circus_ending.specs.declared.status.Status.TheVariants.{Done}
-use Rattle.circus_simulated.specs.Booted.{names_in}
-use Rattle.circus_simulated.specs.Sample.{sample_of}
-use Rattle.circus_simulated.specs.Schedule.{lines_of_sample, schedule_of}
+use Rattle.circus_commands.specs.declared.status.Status.TheVariants.{Done}
+use Rattle.circus_simulation.specs.Booted.{names_in}
+use Rattle.circus_simulation.specs.Sample.{sample_of}
+use Rattle.circus_simulation.specs.Schedule.{lines_of_sample, schedule_of}
 use Rattle.circus_program.specs.declared.shown.Shown.TheVariants.{Report}
 use Rattle.circus_program.specs.Replay.{IsEndOfReplay}
 use Rattle.circus_program.specs.Last.{IsLines}

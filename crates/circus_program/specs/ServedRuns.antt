@@ -8,7 +8,7 @@ use Rattle.circus_record.specs.declared.record.MemberRecord.{MemberRecord}
 use Rattle.circus_node.specs.Accepting.{troupe_at}
 use Rattle.circus_node.specs.NodeState.{NodeState, member_record}
 use Rattle.circus_node.specs.declared.event.Outputs.{Outputs}
-use Rattle.circus_alike.specs.Alike.{declared_of, turn_of}
+use Rattle.circus_node.specs.Alike.{declared_of, turn_of}
 use Rattle.circus_outside.specs.Link.{Taken, failed, taken_of}
 use Rattle.circus_outside.specs.declared.link.TakenFrom.{TakenFrom}
 use Rattle.circus_serve.specs.declared.happening.Happening.{Happening}
@@ -17,10 +17,10 @@ use Rattle.circus_serve.specs.Serving.{happened_by, serve_takes}
 use Rattle.circus_serve.specs.Outside.{Tells, IsAsked}
 use Rattle.circus_serve.specs.Recorded.{Recorded}
 use Rattle.circus_serve.specs.Answers.{asked_of_link, IsServed}
-use Rattle.circus_node_text.specs.NodeText.{node_text}
+use Rattle.circus_serve.specs.NodeText.{node_text}
 use Rattle.circus_config.specs.declared.plan.Plan.{Plan}
-use Rattle.circus_load.specs.Loaded.{behaviours_in}
-use Rattle.circus_served.specs.NodeEnds.{booted_node}
+use Rattle.circus_plan_modules.specs.Loaded.{behaviours_in}
+use Rattle.circus_node_command.specs.NodeEnds.{booted_node}
 use Rattle.circus_headline_theory.specs.ServedRun.{IsOfOctets, IsServedRun, IsServedSoFar}
 
 -- the text is the record of a node of a plan that was served for so many takes, where the link tells this before and after; and where

@@ -8,10 +8,10 @@ use Rattle.circus_schedule.specs.Answer.{IsAnswer}
 use Rattle.circus_world.specs.WorldState.{WorldState}
 use Rattle.circus_config.specs.declared.plan.Plan.{Plan}
 use Rattle.circus_config.specs.Program.{IsProgramOf}
-use Rattle.circus_simulated.specs.Booted.{boot_world}
-use Rattle.circus_served.specs.Named.{IsNamed}
-use Rattle.circus_ending.specs.declared.status.Status.TheVariants.{Done, Spent}
-use Rattle.circus_ending.specs.Placed.{HasChoice}
+use Rattle.circus_simulation.specs.Booted.{boot_world}
+use Rattle.circus_node_command.specs.Named.{IsNamed}
+use Rattle.circus_commands.specs.declared.status.Status.TheVariants.{Done, Spent}
+use Rattle.circus_commands.specs.Placed.{HasChoice}
 use Rattle.circus_program.specs.Form.{CommandForm, stubs, run, replay, picture, node, sample, draw, settle, place, audit, IsOfForm}
 use Rattle.circus_program.specs.Audit.{IsTrueRecord}
 use Rattle.circus_program.specs.Answer.{Due, fetch, finish, serve}

@@ -12,16 +12,16 @@ use Rattle.circus_world.specs.Legal.{refusal}
 use Rattle.circus_world.specs.Course.{step_line}
 use Rattle.circus_world.specs.Lines.{Lead}
 use Rattle.circus_report.specs.Report.{first_line, sent_lines, report_text}
-use Rattle.circus_sample.specs.Sampled.{sample_lines}
-use Rattle.circus_sample.specs.Summary.{summary}
+use Rattle.circus_simulation.specs.Sampled.{sample_lines}
+use Rattle.circus_simulation.specs.Summary.{summary}
 use Rattle.circus_settle.specs.Settled.{first_deliveries}
 use Rattle.circus_settle.specs.Summary.{settled_text}
 use Rattle.circus_config.specs.declared.plan.Plan.{Plan}
 use Rattle.circus_picture.specs.Picture.{procedures_in, picture_text}
-use Rattle.circus_ending.specs.declared.status.Status.TheVariants.{Done}
-use Rattle.circus_ending.specs.Spent.{end_of_spent}
-use Rattle.circus_simulated.specs.Booted.{boot_world, names_in}
-use Rattle.circus_simulated.specs.Schedule.{lines_of_sample}
+use Rattle.circus_commands.specs.declared.status.Status.TheVariants.{Done}
+use Rattle.circus_commands.specs.Spent.{end_of_spent}
+use Rattle.circus_simulation.specs.Booted.{boot_world, names_in}
+use Rattle.circus_simulation.specs.Schedule.{lines_of_sample}
 use Rattle.circus_program.specs.Form.{CommandForm, stubs, run, replay, picture, node, sample, draw, settle, place, audit, IsOfForm}
 use Rattle.circus_program.specs.declared.shown.Shown.TheVariants.{Picture}
 use Rattle.circus_program.specs.Replay.{cause_text, refuse_line, replay_of, picture_of}

@@ -10,11 +10,11 @@ use crate::ready::{Ready, prepare};
 use crate::second::Second;
 use crate::shown::Shown;
 use crate::words::{CommandForm, read_words};
+use circus_commands::{Ending, OneFile, Status, end_of, plan_of};
 use circus_config::Plan;
-use circus_ending::{Ending, OneFile, Status, end_of, plan_of};
+use circus_node_command::{no_node, node_named};
 use circus_outside::{Shelf, ShelfFault};
-use circus_served::{no_node, node_named};
-use circus_simulated::{draw_plan, sample_plan, settle_plan};
+use circus_simulation::{draw_plan, sample_plan, settle_plan};
 use circus_value::NoMemory;
 use std::alloc::{AllocError, Global};
 

@@ -3,15 +3,15 @@ ghost use Rattle.std.specs.Prelude.{◌≡◌, ◌≤◌, ℕ, List, [], All, Is
 ghost use Rattle.circus_record.specs.Naming.{host_name, names_of};
 ghost use Rattle.circus_outside.specs.Limits.{longest_contents};
 ghost use Rattle.circus_config.specs.Program.{IsPlan};
-ghost use Rattle.circus_ending.specs.Status.{is_end};
-ghost use Rattle.circus_ending.specs.Seen.Ending.{ending_of};
+ghost use Rattle.circus_commands.specs.Status.{is_end};
+ghost use Rattle.circus_commands.specs.Seen.Ending.{ending_of};
 ghost use Rattle.circus_program.specs.Audit.{verdict_end, bad_line_end, IsEndOfAudit};
 ghost use Rattle.circus_program.specs.Seen.Planned.{HasModuleNames};
 
 use circus_audit::{RecordFault, read_record};
 use circus_collate::Hosts;
+use circus_commands::{Ending, Status};
 use circus_config::Plan;
-use circus_ending::{Ending, Status};
 use circus_record::{Naming, ProgramNames};
 use circus_value::NoMemory;
 use circus_verdict::{Verdict, audit};

@@ -2,8 +2,8 @@
 ghost use Rattle.std.specs.Prelude.{◌≡◌, ◌⊎◌, map, string_bytes, IfOk, IsTrue};
 ghost use Rattle.circus_outside.specs.Faults.{Rose};
 ghost use Rattle.circus_outside.specs.Sink.{HasGivenOn};
-ghost use Rattle.circus_ending.specs.Status.{is_end};
-ghost use Rattle.circus_ending.specs.Seen.Ending.{ending_of};
+ghost use Rattle.circus_commands.specs.Status.{is_end};
+ghost use Rattle.circus_commands.specs.Seen.Ending.{ending_of};
 ghost use Rattle.circus_serve.specs.Outside.{tells_of};
 ghost use Rattle.circus_program.specs.Answer.{AsksForNode, AsksOnly, shelf_fault};
 ghost use Rattle.circus_program.specs.Answered.{IsAnswered, IsBrokenOff};
@@ -14,9 +14,9 @@ ghost use Rattle.circus_program.specs.Seen.Step.{IsPutStep, IsServing, Stands};
 use crate::answer::{Step, follow};
 use crate::put::put_end;
 use crate::replay::replay;
-use circus_ending::{Ending, Status};
+use circus_commands::{Ending, Status};
+use circus_node_command::serve_node;
 use circus_outside::{Link, Shelf, Sink, SinkFault};
-use circus_served::serve_node;
 use circus_value::NoMemory;
 use std::alloc::Global;
 

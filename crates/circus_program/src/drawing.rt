@@ -4,7 +4,7 @@ ghost use Rattle.circus_record.specs.Naming.{host_name, names_of};
 ghost use Rattle.circus_schedule.specs.Answer.{most_lines};
 ghost use Rattle.circus_schedule.specs.Meaning.{NamesBelow};
 ghost use Rattle.circus_picture.specs.Picture.{picture_text};
-ghost use Rattle.circus_simulated.specs.Seen.Simulated.{world_of, IsFresh};
+ghost use Rattle.circus_simulation.specs.Seen.Simulated.{world_of, IsFresh};
 ghost use Rattle.circus_program.specs.Replay.{picture_lines};
 ghost use Rattle.circus_program.specs.Seen.Put.{IsPut, IsPutEnd};
 ghost use Rattle.circus_program.specs.Seen.Ready.{end_by};
@@ -12,14 +12,14 @@ ghost use Rattle.circus_program.specs.Seen.Followed.{IsOneStep, IsFollowed};
 
 use crate::ended::{end_of_lines, end_of_stop};
 use circus_collate::Hosts;
+use circus_commands::Status;
 use circus_config::ModuleNames;
-use circus_ending::Status;
 use circus_model::Module;
 use circus_outside::Sink;
 use circus_picture::{ModuleProcedures, put_picture};
 use circus_report::RunFault;
 use circus_schedule::Line;
-use circus_simulated::Simulated;
+use circus_simulation::Simulated;
 use circus_world::{World, WorldFault};
 use std::alloc::Global;
 
@@ -70,7 +70,8 @@ fn draw_world<M: Module, K: Sink>(
     requires below { All (NamesBelow (length world.nodes)) lines.now }
     requires few { world.steps + length lines.now < 18446744073709551615 }
     ensures { IsPutEnd
-        (picture_lines M.declared M.turn (names_of hosts.now names.now) procedures.now lines.now world)
+        (picture_lines M.declared M.turn
+        (names_of hosts.now names.now) procedures.now lines.now world)
         (K.written sink.old) (K.written sink.new) (K.faults sink.old) (K.faults sink.new) result }
 {
     match step_all(world, lines) {

@@ -6,7 +6,7 @@ ghost use Rattle.circus_program.specs.Seen.Ended.{IsEndedBy};
 use crate::put::put_end;
 use crate::schedule_refused::end_of_illegal;
 use circus_collate::Hosts;
-use circus_ending::{Status, end_of_spent};
+use circus_commands::{Status, end_of_spent};
 use circus_outside::Sink;
 use circus_report::RunFault;
 use std::alloc::Global;

@@ -1,7 +1,7 @@
 // What holds of all words and all contents of the files.
 ghost use Rattle.std.specs.Prelude.{◌≡◌, ◌<◌, ◌≤◌, ◌⊎◌, ◌↔◌, ◌++◌, ℕ, Option, List};
 ghost use Rattle.circus_program.specs.Form.{IsOfNoForm, most_steps};
-ghost use Rattle.circus_simulated.specs.Schedule.{schedule_of};
+ghost use Rattle.circus_simulation.specs.Schedule.{schedule_of};
 ghost use Rattle.circus_model.specs.Behaviour.{Behaviour};
 ghost use Rattle.circus_schedule.specs.declared.line.Line.{Line};
 ghost use Rattle.circus_world.specs.WorldState.{WorldState};
@@ -13,12 +13,12 @@ ghost use Rattle.circus_config.specs.Program.{IsPlan};
 ghost use Rattle.circus_program.specs.Promise.{KeepsPromise, IsKept, IsKeptSoFar, enough_deliveries};
 ghost use Rattle.circus_program.specs.ServedRuns.{IsServedRunOf, WasServedSoFar, WasSpentAtBoot};
 ghost use Rattle.circus_serve.specs.Outside.{Tells};
-ghost use Rattle.circus_served.specs.NodeEnds.{IsEndOfServing};
+ghost use Rattle.circus_node_command.specs.NodeEnds.{IsEndOfServing};
 ghost use Rattle.circus_program.specs.Replayed.{AreShort, IsReplayed};
 ghost use Rattle.circus_program.specs.Worlds.{AreLed, IsReported, IsCutByRefusal, IsCutBySpending, IsSpentAtBoot, IsPictured, AskForRecords, AskToSimulate, IsOfWorld};
-ghost use Rattle.circus_ending.specs.Ending.{Ending};
-ghost use Rattle.circus_ending.specs.declared.status.Status.TheVariants.{Done, BadCommandLine, BadProgram, BadSchedule, Spent, Unsettled, BadPlacing, NoPlacement, BadRecord};
-ghost use Rattle.circus_ending.specs.Placed.{IsRefusedPlacing, HasNoChoice};
+ghost use Rattle.circus_commands.specs.Ending.{Ending};
+ghost use Rattle.circus_commands.specs.declared.status.Status.TheVariants.{Done, BadCommandLine, BadProgram, BadSchedule, Spent, Unsettled, BadPlacing, NoPlacement, BadRecord};
+ghost use Rattle.circus_commands.specs.Placed.{IsRefusedPlacing, HasNoChoice};
 ghost use Rattle.circus_program.specs.Sound.{AreSound, AskToPlace, ComesWell, IsDone};
 ghost use Rattle.circus_program.specs.Last.{IsDueLast, EndsWith, IsToBeRead, IsAnswered, IsRefusedProgram, IsNameless, IsRefusedReplay, IsSpent, IsRefusedAudit, IsUnsettled, HasLeft};
 

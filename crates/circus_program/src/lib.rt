@@ -21,7 +21,7 @@ mod shown;
 mod words;
 
 pub use call::circus;
-pub use circus_ending::Status;
+pub use circus_commands::Status;
 pub use laws::{
     copies_agree, ends_are_of_worlds, ends_tell_why, lines_are_replayed, one_thing_is_due,
     pictures_are_of_worlds, promises_are_kept, reports_are_of_worlds, served_ends_are_node_runs,

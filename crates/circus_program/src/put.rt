@@ -1,7 +1,7 @@
 // What is written at the end.
 ghost use Rattle.circus_program.specs.Seen.Put.{IsPut, IsPutIfEnd};
 
-use circus_ending::{Ending, Status};
+use circus_commands::{Ending, Status};
 use circus_outside::Sink;
 use circus_report::{PutFault, put_lines};
 use circus_value::NoMemory;

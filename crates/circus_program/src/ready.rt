@@ -1,8 +1,8 @@
 // A replay that may begin.
 ghost use Rattle.std.specs.Prelude.{◌≡◌, ◌≤◌, All, IsTrue, length, IfOk, IfErr};
 ghost use Rattle.circus_config.specs.Program.{IsPlan};
-ghost use Rattle.circus_ending.specs.Status.{is_end};
-ghost use Rattle.circus_ending.specs.Seen.Ending.{ending_of};
+ghost use Rattle.circus_commands.specs.Status.{is_end};
+ghost use Rattle.circus_commands.specs.Seen.Ending.{ending_of};
 ghost use Rattle.circus_schedule.specs.Answer.{most_lines};
 ghost use Rattle.circus_schedule.specs.Meaning.{NamesBelow};
 ghost use Rattle.circus_program.specs.Replay.{shown_of, IsEndOfReplay};
@@ -10,11 +10,11 @@ ghost use Rattle.circus_program.specs.Seen.Ready.{end_of_ready, procedures_shown
 
 use crate::schedule_refused::end_of_schedule;
 use crate::shown::Shown;
+use circus_commands::Ending;
 use circus_config::Plan;
-use circus_ending::Ending;
 use circus_picture::{ModuleProcedures, procedures_in};
 use circus_schedule::{Lines, ScheduleFault, read_schedule};
-use circus_simulated::{Simulated, boot_plan};
+use circus_simulation::{Simulated, boot_plan};
 use circus_value::NoMemory;
 use std::alloc::{AllocError, Global};
 

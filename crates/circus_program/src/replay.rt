@@ -3,7 +3,7 @@ ghost use Rattle.std.specs.Prelude.{◌≡◌, ◌<◌, ◌≤◌, ◌+◌, All,
 ghost use Rattle.circus_record.specs.Naming.{host_name, names_of};
 ghost use Rattle.circus_schedule.specs.Answer.{most_lines};
 ghost use Rattle.circus_schedule.specs.Meaning.{NamesBelow};
-ghost use Rattle.circus_simulated.specs.Seen.Simulated.{world_of, IsFresh};
+ghost use Rattle.circus_simulation.specs.Seen.Simulated.{world_of, IsFresh};
 ghost use Rattle.circus_program.specs.Replay.{replay_lines};
 ghost use Rattle.circus_program.specs.Seen.Put.{IsPutEnd};
 ghost use Rattle.circus_program.specs.Seen.Ready.{end_by, end_of_ready, IsReady};
@@ -12,13 +12,13 @@ use crate::drawing::draw;
 use crate::ended::{end_of_lines, end_of_stop};
 use crate::ready::Ready;
 use circus_collate::Hosts;
+use circus_commands::Status;
 use circus_config::ModuleNames;
-use circus_ending::Status;
 use circus_model::Module;
 use circus_outside::Sink;
 use circus_report::Running;
 use circus_schedule::Line;
-use circus_simulated::Simulated;
+use circus_simulation::Simulated;
 use std::alloc::Global;
 
 /// Runs a replay to its end, and answers the status of that where all was written.

@@ -3,13 +3,13 @@ ghost use Rattle.std.specs.Prelude.{◌≡◌, ◌++◌, [], Err, All, IsAscii, 
 ghost use Rattle.std.specs.Fmt.{decimal};
 ghost use Rattle.circus_record.specs.Line.{line};
 ghost use Rattle.circus_record.specs.Naming.{host_name, names_of};
-ghost use Rattle.circus_ending.specs.Seen.Ending.{ending_of};
+ghost use Rattle.circus_commands.specs.Seen.Ending.{ending_of};
 ghost use Rattle.circus_program.specs.Replay.{cause_text, refuse_line as refused_end, IsReplayOf};
 ghost use Rattle.circus_config.specs.declared.plan.Plan.{Plan};
 ghost use Rattle.circus_program.specs.declared.shown.Shown.{Shown};
 
 use circus_collate::Hosts;
-use circus_ending::{Ending, Status};
+use circus_commands::{Ending, Status};
 use circus_record::{Naming, ProgramNames};
 use circus_schedule::ScheduleFault;
 use circus_value::{ListOf, Name, NoMemory, Octets};

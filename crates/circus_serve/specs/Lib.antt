@@ -6,3 +6,4 @@ pub mod Giving
 pub mod Recorded
 pub mod Answers
 pub mod Seen
+pub mod NodeText

@@ -16,7 +16,7 @@ use Rattle.circus_record.specs.Line.{line}
 use Rattle.circus_record.specs.MemberText.{member_lines}
 use Rattle.circus_record.specs.Naming.{Names}
 use Rattle.circus_node.specs.NodeState.{Acting, member, ringmaster, member_record, ring_views}
-use Rattle.circus_alike.specs.Alike.{declared_of, turn_of, acting_as}
+use Rattle.circus_node.specs.Alike.{declared_of, turn_of, acting_as}
 use Rattle.circus_schedule.specs.declared.line.Line.TheVariants.{Deliver}
 use Rattle.circus_world.specs.WorldState.{WorldState, Standing}
 use Rattle.circus_world.specs.Course.{Stepped, step_line}

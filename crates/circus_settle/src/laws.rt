@@ -4,7 +4,7 @@ ghost use Rattle.circus_collate.specs.declared.deployment.Deployment.{Deployment
 ghost use Rattle.circus_schedule.specs.declared.line.Line.TheVariants.{Deliver};
 ghost use Rattle.circus_model.specs.Behaviour.{behaviours};
 ghost use Rattle.circus_model.specs.Execution.{history_of};
-ghost use Rattle.circus_alike.specs.Alike.{declared_of, turn_of};
+ghost use Rattle.circus_node.specs.Alike.{declared_of, turn_of};
 ghost use Rattle.circus_record.specs.Naming.{Names};
 ghost use Rattle.circus_world.specs.WorldState.{WorldState};
 ghost use Rattle.circus_world.specs.Course.{step_line};

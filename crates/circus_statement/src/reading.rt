@@ -7,7 +7,7 @@ ghost use Rattle.circus_statement.specs.StatementOf.{tree_of, kind_tree, handler
 ghost use Rattle.circus_statement.specs.StatementStanding.{stands_for, handler_stands_for, head_stands_for, handled_stands_for};
 ghost use Rattle.circus_statement.specs.StatementReading.{block, opened_block, else_block, statement, statement_from, handler, handlers, handler_head, call_head};
 
-use crate::part_reading::{list_end, handled_places, into_if_any, required_list};
+use crate::part_reading::{handled_places, into_if_any, list_end, required_list};
 use crate::seeing::{sees_statement, statement_start};
 use crate::{
     CallText, Handler, Handlers, IntoText, PlaceTexts, Statement, StatementKind, StatementStart,

@@ -58,7 +58,12 @@ impl Stubs {
         ensures { IfOk result (λ bytes. bytes ≡ outcome_spelling outcome.now) }
     {
         match outcome {
-            Outcome::Returned(results) => pack_values(alloc, &[0], stub.results.as_slice(), results),
+            Outcome::Returned(results) => pack_values(
+                alloc,
+                &[0],
+                stub.results.as_slice(),
+                results,
+            ),
             Outcome::Raised(error, values) => match self.raised_operations(stub, *error) {
                 Some(operations) => pack_values(alloc, &[1, *error], operations, values),
                 None => unreachable!(),

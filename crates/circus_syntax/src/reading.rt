@@ -166,7 +166,8 @@ impl Reader<'_> {
     }
 
     fn long_kind(&mut self) -> TypeKind
-        ensures { simple_type TypeStart.Long self.old ≡ (tree_at (place self.old) result, self.new) }
+        ensures { simple_type TypeStart.Long self.old
+            ≡ (tree_at (place self.old) result, self.new) }
     {
         self.word(b"LONG");
         if self.is_long_integer() {

@@ -271,7 +271,8 @@ impl<'a> Reader<'a> {
 
     #[tactic(auto, unfolding(crate::specs::Reading::expect_token))]
     fn fixed(&mut self, kind: TokenKind, bytes: &[u8])
-        ensures { expect_token (record { kind = kind; bytes = bytes.now }) self.old ≡ (tt, self.new) }
+        ensures { expect_token (record { kind = kind; bytes = bytes.now }) self.old
+            ≡ (tt, self.new) }
     {
         if self.sees(kind, bytes) {
             self.skip();
@@ -322,7 +323,8 @@ impl<'a> Reader<'a> {
     /// `NoMemory` leaves the reader where it is.
     #[tactic(auto, unfolding(crate::specs::Reading::quoted_text))]
     pub fn text(&mut self) -> Result<Octets, NoMemory>
-        ensures { IfOk result (λ content. quoted_text self.old ≡ ((content, place self.old), self.new)) }
+        ensures { IfOk result (λ content.
+            quoted_text self.old ≡ ((content, place self.old), self.new)) }
     {
         let mut content = Octets::new(self.alloc);
         match self.next_text() {

@@ -17,7 +17,7 @@ mod wholes;
 mod writing;
 
 pub use cause::{TypeCause, WithTypeCauses};
-pub use inner::{field_names, check_inside, inside_groups};
+pub use inner::{check_inside, field_names, inside_groups};
 pub use laws::{faultless_obeys, sizes_are_cut_off};
 pub use limits::{GREATEST_WORD, MOST_PARTS, MOST_ZERO_BYTES};
 pub use measuring::{Measure, measure_of_type, measured_groups, shape_measure, word};

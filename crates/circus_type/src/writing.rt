@@ -13,7 +13,11 @@ use std::alloc::Global;
 
 /// The shape that a type means.
 #[cycle(written)]
-pub fn shape_of_type<N: TypeNames>(alloc: Global, names: &N, shape: &TypeText) -> Result<Shape, NoMemory>
+pub fn shape_of_type<N: TypeNames>(
+    alloc: Global,
+    names: &N,
+    shape: &TypeText,
+) -> Result<Shape, NoMemory>
     ensures { IfOk result (λ s.
         shapes.tree_of s ≡ meant.shape_of_type (N.forms names.now) (tree_of shape.now)) }
 {

@@ -9,7 +9,7 @@ use Rattle.circus_record.specs.declared.record.RunRecord.{RunRecord}
 use Rattle.circus_verdict.specs.Beside.{IsSoFar, IsRight, IsFirstWrongRun}
 use Rattle.circus_model.specs.declared.history.Ask.{Ask}
 use Rattle.circus_record.specs.declared.record.AskRecord.{AskRecord}
-use Rattle.circus_truth.specs.Stands.{IsAnsweredSo, AreAnsweredSo}
+use Rattle.circus_member_theory.specs.Stands.{IsAnsweredSo, AreAnsweredSo}
 
 pub as_many : (asks : List Ask) (made : List AskRecord) → AreAnsweredSo asks made → length asks ≡ length made
 as_many [] [] are = refl

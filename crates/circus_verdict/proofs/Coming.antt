@@ -34,7 +34,7 @@ use Rattle.circus_headline_theory.proofs.Stood.{core_is_a_node_run}
 use Rattle.circus_audit.specs.declared.given.Given.{Given}
 use Rattle.circus_audit.specs.declared.given.GivenEvent.{GivenEvent}
 use Rattle.circus_verdict.specs.Audited.{events_in, Awaits, IsRunOf, IsAuditedBy, IsAudited}
-use Rattle.circus_alike.specs.Alike.{node_as}
+use Rattle.circus_node.specs.Alike.{node_as}
 use Rattle.circus_verdict.specs.Spent.{came_later, behind_all, IsSpent}
 use Rattle.circus_verdict.specs.Seen.Judging.{AreEvents, HasRunSo, HasRingRunSo, HasStopped, ComesThrough}
 use Rattle.circus_verdict.specs.Seen.Living.{came_in, HasLived, EndsAmong, GoesOrEnds}

@@ -17,8 +17,8 @@ use Rattle.circus_member_theory.proofs.Histories.{runs_are_few}
 use Rattle.circus_member_theory.specs.Living.{phase_at_boot}
 use Rattle.circus_node.specs.Booting.{beginning_in}
 use Rattle.circus_node.specs.Accepting.{troupe_at}
-use Rattle.circus_truth.specs.Stands.{Stands}
-use Rattle.circus_timely.specs.Snapshots.{began}
+use Rattle.circus_member_theory.specs.Stands.{Stands}
+use Rattle.circus_member_theory.specs.Snapshots.{began}
 use Rattle.circus_headline_theory.specs.NodeRun.{past_of}
 use Rattle.circus_audit.specs.declared.given.Given.{Given}
 use Rattle.circus_audit.specs.declared.given.GivenEvent.{GivenEvent}

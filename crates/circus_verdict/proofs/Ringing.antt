@@ -33,8 +33,8 @@ use Rattle.circus_node.specs.Trace.{Trace, StandsFor, effects_in}
 use Rattle.circus_node.specs.declared.event.Event.{Event}
 use Rattle.circus_node.specs.declared.event.Event.TheVariants as comes
 use Rattle.circus_node.specs.declared.event.Outputs.{Outputs}
-use Rattle.circus_talks.specs.Histories.{beginning_of}
-use Rattle.circus_talks.specs.NodeActs.{came_by}
+use Rattle.circus_world_theory.specs.Histories.{beginning_of}
+use Rattle.circus_world_theory.specs.NodeActs.{came_by}
 use Rattle.circus_headline_theory.specs.Datagrams.Lives.{IsOfOther}
 use Rattle.circus_headline_theory.specs.Lived as lived
 use Rattle.circus_headline_theory.specs.Owed.Living.{told_in}

@@ -16,8 +16,8 @@ use Rattle.circus_node.specs.Step as step
 use Rattle.circus_node.specs.Step.{Ended}
 use Rattle.circus_node.specs.Trace.{Trace, booted, stepped, StandsFor}
 use Rattle.circus_node.specs.declared.event.Event.{Event}
-use Rattle.circus_alike.specs.Alike.{declared_of, turn_of, first_of, node_as, ended_as}
-use Rattle.circus_alike.proofs.NodesAlike.{node_stepped_as, node_booted_as}
+use Rattle.circus_node.specs.Alike.{declared_of, turn_of, first_of, node_as, ended_as}
+use Rattle.circus_node.proofs.NodesAlike.{node_stepped_as, node_booted_as}
 use Rattle.circus_headline_theory.specs.Trace.{now}
 use Rattle.circus_headline_theory.specs.ServedRun.{IsNumbered}
 use Rattle.circus_verdict.specs.Spent.{came_later, behind_step, behind_events, behind_all}

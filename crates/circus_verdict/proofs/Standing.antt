@@ -19,7 +19,7 @@ use Rattle.circus_performing.specs.Performing.{last_count}
 use Rattle.circus_performing.specs.Record as records
 use Rattle.circus_performing.specs.Record.{IsRecord, HaveEnded}
 use Rattle.circus_performing.proofs.Records.{none_is_some}
-use Rattle.circus_truth.specs.Stands.{IsPerformed, IsUnderWay, ArePerformed, IsIdle, IsBusy, Stands}
+use Rattle.circus_member_theory.specs.Stands.{IsPerformed, IsUnderWay, ArePerformed, IsIdle, IsBusy, Stands}
 use Rattle.circus_verdict.specs.Beside.{IsSoFar, IsRight}
 
 -- ---- lists and options

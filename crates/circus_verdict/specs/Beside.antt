@@ -6,7 +6,7 @@ use Rattle.circus_model.specs.History.{runs_of, state_after}
 use Rattle.circus_record.specs.declared.record.AskRecord.{AskRecord}
 use Rattle.circus_record.specs.declared.record.RunRecord.{RunRecord}
 use Rattle.circus_record.specs.declared.record.MemberRecord.{MemberRecord}
-use Rattle.circus_truth.specs.Stands.{IsPerformed, IsUnderWay}
+use Rattle.circus_member_theory.specs.Stands.{IsPerformed, IsUnderWay}
 
 -- a run is one of the history as far as it goes: to its end, or to an ask that waits
 abbrev pub IsSoFar : Run → RunRecord → Type 0

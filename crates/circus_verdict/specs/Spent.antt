@@ -9,7 +9,7 @@ use Rattle.circus_node.specs.Booting.{boot_node}
 use Rattle.circus_node.specs.NodeState.{NodeState}
 use Rattle.circus_node.specs.Step.{Ended, step_node}
 use Rattle.circus_node.specs.declared.event.Event.{Event}
-use Rattle.circus_alike.specs.Alike.{declared_of, turn_of, first_of}
+use Rattle.circus_node.specs.Alike.{declared_of, turn_of, first_of}
 use Rattle.circus_audit.specs.declared.given.GivenEvent.{GivenEvent}
 use Rattle.circus_audit.specs.declared.given.Given.{Given}
 

@@ -5,7 +5,7 @@ use Rattle.circus_model.specs.Behaviour.{Behaviour}
 use Rattle.circus_model.specs.Execution.{history_of}
 use Rattle.circus_record.specs.declared.record.MemberRecord.{MemberRecord}
 use Rattle.circus_performing.specs.Performing.{is_active}
-use Rattle.circus_truth.specs.Stands.{Stands}
+use Rattle.circus_member_theory.specs.Stands.{Stands}
 use Rattle.circus_node.specs.Accepting.{troupe_at}
 use Rattle.circus_audit.specs.declared.given.Given.{Given}
 use Rattle.circus_verdict.specs.declared.verdict.Verdict.{Verdict}

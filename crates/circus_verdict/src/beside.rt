@@ -2,7 +2,7 @@
 ghost use Rattle.std.specs.Prelude.{◌≡◌, ◌+◌, ◌≤◌, ℕ, length, Some, IfSome, IfNone, IsSomeAnd, option_copied, slice_get};
 ghost use Rattle.std.specs.Bool.{Decides};
 ghost use Rattle.circus_record.specs.declared.record.AskRecord.{AskRecord as Kept};
-ghost use Rattle.circus_truth.specs.Stands.{AsksThat, IsAnsweredSo, WaitsFor, AreAnsweredSo, IsEnteredSo, IsPerformed, IsUnderWay};
+ghost use Rattle.circus_member_theory.specs.Stands.{AsksThat, IsAnsweredSo, WaitsFor, AreAnsweredSo, IsEnteredSo, IsPerformed, IsUnderWay};
 ghost use Rattle.circus_verdict.specs.Beside.{IsSoFar, IsRight, IsFirstWrongRun};
 
 use crate::same::Same;

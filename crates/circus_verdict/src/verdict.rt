@@ -1,14 +1,14 @@
 // What is said of a record.
 ghost use Rattle.std.specs.Prelude.{IfOk};
 ghost use Rattle.circus_config.specs.Program.{IsPlan};
-ghost use Rattle.circus_load.specs.Loaded.{behaviours_in};
+ghost use Rattle.circus_plan_modules.specs.Loaded.{behaviours_in};
 ghost use Rattle.circus_audit.specs.Possible.{IsPossible};
 ghost use Rattle.circus_verdict.specs.Verdict.{IsVerdict};
 
 use crate::node::audit_node;
 use circus_audit::Given;
 use circus_config::Plan;
-use circus_load::{Loaded, load};
+use circus_plan_modules::{Loaded, load};
 use circus_value::NoMemory;
 use std::alloc::Global;
 

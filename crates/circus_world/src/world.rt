@@ -289,7 +289,8 @@ impl<M: Module> World<M> {
     // A datagram is delivered; one for a crashed node is lost.
     fn deliver(self, number: u64) -> Result<Self, Loss>
         requires few { self.steps < 18446744073709551615 }
-        ensures { IsFollowed result (course.step_line M.declared M.turn (Line.Deliver number) self) }
+        ensures { IsFollowed result
+            (course.step_line M.declared M.turn (Line.Deliver number) self) }
     {
         let Some(sent) = self.sent.get(number as usize) else {
             return Ok(self);

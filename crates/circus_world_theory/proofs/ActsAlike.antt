@@ -30,15 +30,15 @@ use Rattle.circus_node.specs.Making as making
 use Rattle.circus_node.specs.NodeState.{Acting, member, ringmaster, NodeState}
 use Rattle.circus_schedule.specs.declared.line.Line.{Line}
 use Rattle.circus_schedule.specs.declared.line.Line.TheVariants.{Deliver, Tick, Crash, Down, Join}
-use Rattle.circus_alike.specs.Alike.{declared_of, turn_of, first_of, member_as, acting_as, node_as}
-use Rattle.circus_alike.proofs.MembersAlike.{stepped_as, booted_as}
+use Rattle.circus_node.specs.Alike.{declared_of, turn_of, first_of, member_as, acting_as, node_as}
+use Rattle.circus_node.proofs.MembersAlike.{stepped_as, booted_as}
 use Rattle.circus_world.specs.declared.sent.Sent.{Sent}
 use Rattle.circus_world.specs.WorldState.{WorldState, Standing}
 use Rattle.circus_world.specs.Alike.{standing_as, world_as, step_as}
 use Rattle.circus_world.specs.Course.{Stepped, step_line}
 use Rattle.circus_world.proofs.WorldsAlike.{world_stepped_as}
-use Rattle.circus_talks.specs.Histories.{delivery, comes_by, with_others, with_step, with_line, with_lines, acts_of}
-use Rattle.circus_talks.specs.NodeActs.{with_all, came_by, handed_by, wire_behind, acts_in, acts_at_boot}
+use Rattle.circus_world_theory.specs.Histories.{delivery, comes_by, with_others, with_step, with_line, with_lines, acts_of}
+use Rattle.circus_world_theory.specs.NodeActs.{with_all, came_by, handed_by, wire_behind, acts_in, acts_at_boot}
 use Rattle.circus_node.specs.Trace.{effects_in}
 
 module _ {M : Type 0} (declared : M → Signature) (turn : M → List ValueTree → ℕ → List ValueTree → List Outcome → NextTurn) (first : M → List ValueTree) where

@@ -32,12 +32,12 @@ use Rattle.circus_world.specs.Course.{Stepped, noted, pass_step, crash_node, tol
 use Rattle.circus_world.specs.Lines.{Leads, Lead}
 use Rattle.circus_world.proofs.ComeLemmas.{delivered_at}
 use Rattle.circus_world.proofs.SlotLemmas.{get_set, get_there}
-use Rattle.circus_talks.specs.Histories.{delivery, comes_by, with_step, with_line, with_lines, with_others}
-use Rattle.circus_talks.specs.NodeActs.{with_all, acts_in}
-use Rattle.circus_talks.proofs.Lines.{lead_stands}
-use Rattle.circus_talks.proofs.Messages.{call_handed, return_handed}
-use Rattle.circus_talks.proofs.Worlds.{Stands, get_same}
-use Rattle.circus_truth.specs.Proper.{AreProper}
+use Rattle.circus_world_theory.specs.Histories.{delivery, comes_by, with_step, with_line, with_lines, with_others}
+use Rattle.circus_world_theory.specs.NodeActs.{with_all, acts_in}
+use Rattle.circus_world_theory.proofs.Lines.{lead_stands}
+use Rattle.circus_world_theory.proofs.Messages.{call_handed, return_handed}
+use Rattle.circus_world_theory.proofs.Worlds.{Stands, get_same}
+use Rattle.circus_member_theory.specs.Proper.{AreProper}
 use Rattle.circus_world_theory.proofs.Stepping.{CalledAt, HeardAt, ComesTruly, NodesTrue, same_world, comes_true}
 use Rattle.circus_world_theory.proofs.True.{ActsTrue}
 

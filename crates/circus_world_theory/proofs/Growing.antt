@@ -13,7 +13,7 @@ use Rattle.circus_member_rules.specs.declared.occurrence.AskName.{AskName}
 use Rattle.circus_member_rules.specs.declared.occurrence.Purpose.{Purpose}
 use Rattle.circus_member_rules.specs.declared.occurrence.Purpose.TheVariants as for
 use Rattle.circus_member_rules.specs.MemberState.{MemberState}
-use Rattle.circus_truth.specs.Truth.{IsNamed, Answers, IsTrueAsking, IsCalled, IsFetch, IsTrueMember, IsTrueCallFor, IsTrueReturn}
+use Rattle.circus_member_theory.specs.Truth.{IsNamed, Answers, IsTrueAsking, IsCalled, IsFetch, IsTrueMember, IsTrueCallFor, IsTrueReturn}
 
 module _ (history : List (List Run)) (troupe : ℕ) (first : List ValueTree) (Called Other : Caller → List ℕ → Type 0) where
   named_grows : (name : AskName) (header : CallHeader) (body : List ℕ) → IsNamed history troupe first Called name header body → IsNamed history troupe first Other name header body

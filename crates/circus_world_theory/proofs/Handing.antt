@@ -15,7 +15,7 @@ use Rattle.circus_member_rules.specs.declared.occurrence.Effect.TheVariants as m
 use Rattle.circus_node.specs.declared.event.Event.{Event}
 use Rattle.circus_node.specs.declared.event.Event.TheVariants as comes
 use Rattle.circus_node.specs.Sending.{is_sendable}
-use Rattle.circus_talks.specs.NodeActs.{with_all, acts_of_datagram, came_by, handed_by}
+use Rattle.circus_world_theory.specs.NodeActs.{with_all, acts_of_datagram, came_by, handed_by}
 use Rattle.circus_world_theory.proofs.Saying.{IsSaid, AllSaid, call_stays}
 
 pub calls_stay : (b : Beginning) (acts : WireActs Purpose) (later : List (WireAct Purpose)) (node n : ℕ) (found : List ℕ)

@@ -16,14 +16,14 @@ use Rattle.circus_node.specs.Booting.{AreOfTroupes}
 use Rattle.circus_node.specs.NodeState.{Acting, member, ringmaster, member_record}
 use Rattle.circus_schedule.specs.declared.line.Line.{Line}
 use Rattle.circus_schedule.specs.Meaning.{NamesBelow}
-use Rattle.circus_alike.specs.Alike.{declared_of, turn_of, first_of, acting_as}
+use Rattle.circus_node.specs.Alike.{declared_of, turn_of, first_of, acting_as}
 use Rattle.circus_world.specs.WorldState.{WorldState}
 use Rattle.circus_world.specs.Alike.{standing_as, world_as, step_as}
 use Rattle.circus_world.specs.Course.{Stepped, step_line}
 use Rattle.circus_world.specs.Boot.{before_any, all_booted, AreHosted}
 use Rattle.circus_world.specs.Lines.{Lead}
 use Rattle.circus_world.proofs.WorldsAlike.{refusal_as, world_stepped_as, all_booted_as}
-use Rattle.circus_truth.specs.Proper.{AreProper}
+use Rattle.circus_member_theory.specs.Proper.{AreProper}
 use Rattle.circus_world_theory.specs.Worlds.{IsWorldOf, IsPlainWorldOf}
 
 -- ---- behaviours that keep to the laws of modules

@@ -1,3 +1,11 @@
+pub mod Boots
+pub mod Given
+pub mod Lines
+pub mod Messages
+pub mod Spelled
+pub mod Steps
+pub mod Talks
+pub mod Worlds
 pub mod ActsAlike
 pub mod Along
 pub mod Beginning

@@ -13,7 +13,7 @@ use Rattle.circus_node.specs.NodeState.{member_record}
 use Rattle.circus_schedule.specs.declared.line.Line.{Line}
 use Rattle.circus_world.specs.WorldState.{WorldState, Standing}
 use Rattle.circus_world.specs.Alike.{standing_as}
-use Rattle.circus_truth.specs.Stands.{Stands}
+use Rattle.circus_member_theory.specs.Stands.{Stands}
 use Rattle.circus_world_theory.specs.Worlds.{IsPlainWorldOf}
 use Rattle.circus_world_theory.specs.Agreeing.{RecordsStand}
 use Rattle.circus_world_theory.proofs.Theorem.{records_stand}

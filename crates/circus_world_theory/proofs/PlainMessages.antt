@@ -11,11 +11,11 @@ use Rattle.circus_node.specs.declared.event.Outputs.{Outputs}
 use Rattle.circus_node.specs.NodeState.{NodeState}
 use Rattle.circus_node.specs.Step as node_step
 use Rattle.circus_schedule.specs.declared.line.Line.{Line}
-use Rattle.circus_alike.specs.Alike.{declared_of, turn_of, first_of, node_as, ended_as}
-use Rattle.circus_alike.proofs.NodesAlike.{node_stepped_as}
+use Rattle.circus_node.specs.Alike.{declared_of, turn_of, first_of, node_as, ended_as}
+use Rattle.circus_node.proofs.NodesAlike.{node_stepped_as}
 use Rattle.circus_world.specs.WorldState.{WorldState, Standing}
 use Rattle.circus_world.specs.Alike.{standing_as}
-use Rattle.circus_talks.specs.Histories.{comes_by, acts_of}
+use Rattle.circus_world_theory.specs.Histories.{comes_by, acts_of}
 use Rattle.circus_world_theory.specs.Worlds.{IsPlainWorldOf}
 use Rattle.circus_world_theory.specs.Agreeing.{AsksAreTrue, ReturnsAreTrue, OthersCiteNothing, NoneDiffer}
 use Rattle.circus_world_theory.proofs.ActsAlike.{acts_as, comes_as}

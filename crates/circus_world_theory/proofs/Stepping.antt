@@ -40,11 +40,11 @@ use Rattle.circus_world.specs.WorldState.{WorldState, Standing}
 use Rattle.circus_world.specs.Course.{Stepped, conclude_step, comes_to}
 use Rattle.circus_world.specs.Course as course
 use Rattle.circus_world.proofs.SlotLemmas.{get_set, get_there}
-use Rattle.circus_talks.specs.Histories.{beginning_of}
-use Rattle.circus_talks.specs.NodeActs.{with_all, wire_behind, acts_in}
+use Rattle.circus_world_theory.specs.Histories.{beginning_of}
+use Rattle.circus_world_theory.specs.NodeActs.{with_all, wire_behind, acts_in}
 use Rattle.circus_node.specs.Trace.{effects_in}
-use Rattle.circus_talks.proofs.Worlds.{at_pair}
-use Rattle.circus_truth.specs.Proper.{AreProper}
+use Rattle.circus_world_theory.proofs.Worlds.{at_pair}
+use Rattle.circus_member_theory.specs.Proper.{AreProper}
 use Rattle.circus_world_theory.proofs.Handing.{IsMade, calls_stay, step_said}
 use Rattle.circus_world_theory.proofs.Making.{MayHaveModule, HeardSo, hears_true, learns_true, joins_true}
 use Rattle.circus_world_theory.proofs.Saying.{AllSaid, all_said_weaker, call_said, purpose_said, return_said}

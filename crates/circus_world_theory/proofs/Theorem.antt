@@ -29,12 +29,12 @@ use Rattle.circus_schedule.specs.declared.line.Line.{Line}
 use Rattle.circus_schedule.specs.declared.line.Line.TheVariants.{Deliver, Tick, Crash, Down, Join}
 use Rattle.circus_world.specs.declared.sent.Sent.{Sent}
 use Rattle.circus_world.specs.WorldState.{WorldState, Standing, is_live}
-use Rattle.circus_talks.specs.Histories.{beginning_of, acts_of, comes_by, delivery}
-use Rattle.circus_talks.proofs.Boots.{world_stands}
-use Rattle.circus_talks.proofs.Worlds.{Stands}
-use Rattle.circus_truth.specs.Stands as standing
-use Rattle.circus_truth.specs.Messages.{IsAskAt, IsTrueState}
-use Rattle.circus_truth.specs.Truth.{IsTrueReturn, IsTrueCallFor}
+use Rattle.circus_world_theory.specs.Histories.{beginning_of, acts_of, comes_by, delivery}
+use Rattle.circus_world_theory.proofs.Boots.{world_stands}
+use Rattle.circus_world_theory.proofs.Worlds.{Stands}
+use Rattle.circus_member_theory.specs.Stands as standing
+use Rattle.circus_member_theory.specs.Messages.{IsAskAt, IsTrueState}
+use Rattle.circus_member_theory.specs.Truth.{IsTrueReturn, IsTrueCallFor}
 use Rattle.circus_world_theory.specs.Worlds.{IsWorldOf}
 use Rattle.circus_world_theory.specs.Agreeing.{RecordsStand, AsksAreTrue, ReturnsAreTrue, OthersCiteNothing, NoneDiffer, IsTrueAsk, IsTrueReplyTo, IsTrueSnapshot, CitesNothing, HasCalled, HasReturned}
 use Rattle.circus_world_theory.proofs.Along.{heard_at, lead_true}

@@ -20,7 +20,7 @@ use Rattle.circus_member_rules.specs.Seen.Sound.{IsRested}
 use Rattle.circus_node.specs.Accepting.{IsMemberOf}
 use Rattle.circus_node.specs.Making.{Made}
 use Rattle.circus_node.specs.NodeState.{Acting, member, ringmaster}
-use Rattle.circus_truth.specs.Truth.{IsTrueMember, IsTrueCallFor, IsOtherReturn, IsTrueReturn}
+use Rattle.circus_member_theory.specs.Truth.{IsTrueMember, IsTrueCallFor, IsOtherReturn, IsTrueReturn}
 use Rattle.circus_world_theory.proofs.Growing.{call_grows, return_grows, member_grows}
 
 -- the state before any run of the module of a troupe

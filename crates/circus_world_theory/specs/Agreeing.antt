@@ -34,9 +34,9 @@ use Rattle.circus_node.specs.declared.event.Outputs.{Outputs}
 use Rattle.circus_node.specs.NodeState.{NodeState}
 use Rattle.circus_schedule.specs.declared.line.Line.{Line}
 use Rattle.circus_world.specs.WorldState.{WorldState, Standing}
-use Rattle.circus_talks.specs.Histories.{beginning_of, comes_by}
-use Rattle.circus_truth.specs.Stands.{Stands}
-use Rattle.circus_truth.specs.Messages.{IsTrueCall, IsTrueReply, IsTrueState}
+use Rattle.circus_world_theory.specs.Histories.{beginning_of, comes_by}
+use Rattle.circus_member_theory.specs.Stands.{Stands}
+use Rattle.circus_member_theory.specs.Messages.{IsTrueCall, IsTrueReply, IsTrueState}
 
 -- ---- records
 

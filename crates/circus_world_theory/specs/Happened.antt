@@ -17,8 +17,8 @@ use Rattle.circus_node.specs.NodeState.{Acting, member, ringmaster, NodeState}
 use Rattle.circus_schedule.specs.declared.line.Line.{Line}
 use Rattle.circus_world.specs.WorldState.{WorldState, Standing}
 use Rattle.circus_world.specs.Course.{Stepped, step_line}
-use Rattle.circus_talks.specs.Histories.{comes_by}
-use Rattle.circus_timely.specs.Past.{Past, booted, followed}
+use Rattle.circus_world_theory.specs.Histories.{comes_by}
+use Rattle.circus_member_theory.specs.Past.{Past, booted, followed}
 
 -- ---- a node
 

@@ -13,8 +13,8 @@ use Rattle.circus_node.specs.Booting.{beginning_in, home_in}
 use Rattle.circus_node.specs.NodeState.{NodeState, member_record}
 use Rattle.circus_schedule.specs.declared.line.Line.{Line}
 use Rattle.circus_world.specs.WorldState.{WorldState, Standing}
-use Rattle.circus_timely.specs.Past.{Past}
-use Rattle.circus_timely.specs.Timely.{IsTimely}
+use Rattle.circus_member_theory.specs.Past.{Past}
+use Rattle.circus_member_theory.specs.Timely.{IsTimely}
 use Rattle.circus_member_theory.specs.Living.{phase_at_boot, runs_at_boot}
 use Rattle.circus_world_theory.specs.Happened.{past_of}
 use Rattle.circus_world_theory.specs.NodeLives.{Events, past_behind}

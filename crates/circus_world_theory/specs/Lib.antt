@@ -1,3 +1,5 @@
+pub mod NodeActs
+pub mod Histories
 pub mod Worlds
 pub mod Agreeing
 pub mod Made

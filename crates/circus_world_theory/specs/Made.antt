@@ -17,9 +17,9 @@ use Rattle.circus_node.specs.Booting.{home_of, made_at_boot}
 use Rattle.circus_schedule.specs.declared.line.Line.{Line}
 use Rattle.circus_world.specs.WorldState.{WorldState, Standing}
 use Rattle.circus_world.specs.Lines.{Lead}
-use Rattle.circus_talks.specs.NodeActs.{handed_by, wire_behind}
+use Rattle.circus_world_theory.specs.NodeActs.{handed_by, wire_behind}
 use Rattle.circus_node.specs.Trace.{effects_in}
-use Rattle.circus_talks.specs.Histories.{beginning_of, comes_by, acts_of}
+use Rattle.circus_world_theory.specs.Histories.{beginning_of, comes_by, acts_of}
 
 -- what an effect is at the pairs
 abbrev pub act_of : Effect → WireAct Purpose

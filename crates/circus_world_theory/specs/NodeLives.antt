@@ -13,7 +13,7 @@ use Rattle.circus_node.specs.Booting.{CanBoot}
 use Rattle.circus_node.specs.Booting as booting
 use Rattle.circus_node.specs.NodeState.{NodeState}
 use Rattle.circus_node.specs.Step.{Ended, step_node}
-use Rattle.circus_timely.specs.Past.{Past, booted}
+use Rattle.circus_member_theory.specs.Past.{Past, booted}
 use Rattle.circus_world_theory.specs.Happened.{happens_by, with_one}
 
 -- what comes in each step

@@ -10,11 +10,11 @@ use Rattle.circus_model.specs.Agree.{Agree, AreModules}
 use Rattle.circus_model.specs.declared.signature.Signature.{Signature}
 use Rattle.circus_node.specs.Booting.{AreOfTroupes}
 use Rattle.circus_schedule.specs.declared.line.Line.{Line}
-use Rattle.circus_alike.specs.Alike.{declared_of, turn_of, first_of}
+use Rattle.circus_node.specs.Alike.{declared_of, turn_of, first_of}
 use Rattle.circus_world.specs.WorldState.{WorldState}
 use Rattle.circus_world.specs.Boot.{before_any, all_booted, AreHosted}
 use Rattle.circus_world.specs.Lines.{Lead}
-use Rattle.circus_truth.specs.Proper.{AreProper}
+use Rattle.circus_member_theory.specs.Proper.{AreProper}
 
 -- modules that agree and whose shapes are proper boot on the nodes of a deployment, and lines lead from there to a world
 module _ {M : Type 0} (declared : M → Signature) (turn : M → List ValueTree → ℕ → List ValueTree → List Outcome → NextTurn) (first : M → List ValueTree) where

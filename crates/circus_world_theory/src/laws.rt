@@ -4,8 +4,8 @@ ghost use Rattle.circus_collate.specs.declared.deployment.Deployment.{Deployment
 ghost use Rattle.circus_model.specs.Behaviour.{Behaviour, behaviours};
 ghost use Rattle.circus_schedule.specs.declared.line.Line.{Line};
 ghost use Rattle.circus_world.specs.WorldState.{WorldState};
-ghost use Rattle.circus_alike.specs.Alike.{declared_of, turn_of, first_of};
-ghost use Rattle.circus_talks.specs.Histories.{acts_of};
+ghost use Rattle.circus_node.specs.Alike.{declared_of, turn_of, first_of};
+ghost use Rattle.circus_world_theory.specs.Histories.{acts_of};
 ghost use Rattle.circus_world_theory.specs.Worlds.{IsWorldOf, IsPlainWorldOf};
 ghost use Rattle.circus_world_theory.specs.Agreeing.{RecordsStand, AsksAreTrue, ReturnsAreTrue, OthersCiteNothing, NoneDiffer};
 

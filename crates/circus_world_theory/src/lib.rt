@@ -23,9 +23,13 @@
 //!
 //! Where nothing is lost everything that is handed over arrives, and every root ends
 //! (`laws::quiescence`; proofs in `proofs/Quiescence/`).
+//!
+//! What passes between the nodes: each two of them talk as two ends of a pair, and what arrives was handed over
+//! (`talk_laws`, over `specs/NodeActs.antt` and `specs/Histories.antt`; proofs in `proofs/Talks.antt` and `proofs/Worlds.antt`).
 #![tactic(auto)]
 
 mod laws;
+mod talk_laws;
 
 pub use laws::border::{messages_were_made, nothing_is_dropped};
 pub use laws::quiescence::{
@@ -39,3 +43,4 @@ pub use laws::{
     messages_are_true, no_difference, plain_messages_are_true, plain_no_difference,
     plain_records_stand, records_stand,
 };
+pub use talk_laws::{messages_were_handed_over, pairs_stand_for_their_acts, two_nodes_talk};

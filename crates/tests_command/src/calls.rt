@@ -9,7 +9,7 @@ use circus_collate::Deployment;
 use circus_config::{ModuleNames, read_program};
 use circus_header::{Call, Request, ReturnHeader, read_call, read_return};
 use circus_lang::read_module;
-use circus_load::{Loaded, load};
+use circus_plan_modules::{Loaded, load};
 use circus_record::{MemberRecord, show_member};
 use circus_text::tokens;
 use circus_troupe::read_deployment_text;

@@ -1,10 +1,10 @@
 // What no node of a program sends, at its server that has just booted: how much of it counts for nothing.
 use crate::fails::ONE_CALL;
 use circus_config::read_program;
-use circus_guarded::GuardedNode;
-use circus_load::load;
 use circus_machine::TextModule;
 use circus_node::{Event, Outputs};
+use circus_node_guard::GuardedNode;
+use circus_plan_modules::load;
 use circus_value::{ListOf, Message};
 use std::alloc::Global;
 use std::test::Fail;
@@ -44,7 +44,10 @@ const BYTES: [(usize, usize, bool); 11] = [
 ];
 
 // The nodes of a program at boot, and what they give.
-fn boot_nodes(alloc: Global, format: &str) -> Result<ListOf<(GuardedNode<TextModule>, Outputs)>, Fail> {
+fn boot_nodes(
+    alloc: Global,
+    format: &str,
+) -> Result<ListOf<(GuardedNode<TextModule>, Outputs)>, Fail> {
     let behind = ONE_CALL.strip_prefix("CIRCUS 1;").ok_or("no format")?;
     let text = format!(in alloc; "CIRCUS {format};{behind}")?;
     let program = load(alloc, read_program(alloc, text.as_bytes())?)?;

@@ -34,9 +34,9 @@ use Rattle.circus_member_rules.specs.Messages.{ask_message}
 use Rattle.circus_member_rules.specs.OpenAsks.{is_name, asking_of, with_ask, with_asking}
 use Rattle.circus_member_rules.specs.Rules.{call_of_ask, call_for, call_again, after_stale, is_to, seen_by_ask, with_new_view, calls_for_view, calls_for_a_new_view, stays_open, incarnation_of, calls_of_ask}
 use Rattle.circus_member_rules.proofs.Named.{All-opened_at, All-changed_at}
-use Rattle.circus_talks.proofs.Worlds.{get_same}
-use Rattle.circus_timely.specs.Past.{Past, booted, followed, now, views_known, nodes_declared_down, is_newer, Rises}
-use Rattle.circus_timely.specs.Asks.{is_new, as_made, asks_from, asks_of, knows, opened_one, first_calls, asks_behind, calls_behind, new_asks, waits_then, open_asks, calls_owed}
+use Rattle.circus_world_theory.proofs.Worlds.{get_same}
+use Rattle.circus_member_theory.specs.Past.{Past, booted, followed, now, views_known, nodes_declared_down, is_newer, Rises}
+use Rattle.circus_member_theory.specs.Asks.{is_new, as_made, asks_from, asks_of, knows, opened_one, first_calls, asks_behind, calls_behind, new_asks, waits_then, open_asks, calls_owed}
 use Rattle.circus_world_theory.proofs.Border.Makers.{IsIn, in_both, in_flat_map, contains}
 use Rattle.circus_headline_theory.specs.Datagrams.Due.{WasSo, IsOpenThen}
 use Rattle.circus_headline_theory.proofs.Datagrams.Membership.{in_filter, in_map, all_in}

@@ -15,8 +15,8 @@ use Rattle.circus_wire.proofs.Histories.{knows_lawful}
 use Rattle.circus_member_rules.specs.declared.occurrence.Purpose.{Purpose}
 use Rattle.circus_node.specs.declared.event.Event.{Event}
 use Rattle.circus_node.specs.declared.event.Event.TheVariants as comes
-use Rattle.circus_talks.proofs.Given.{OfGives, HoldsBy, StaysBy, Carries, IsPeer}
-use Rattle.circus_talks.proofs.Steps.{Brings}
+use Rattle.circus_world_theory.proofs.Given.{OfGives, HoldsBy, StaysBy, Carries, IsPeer}
+use Rattle.circus_world_theory.proofs.Steps.{Brings}
 use Rattle.circus_headline_theory.specs.Datagrams.Lives.{is_tick}
 use Rattle.circus_headline_theory.specs.Datagrams.Sendings.{IsSentFor}
 use Rattle.circus_headline_theory.proofs.Datagrams.Sent as pairs

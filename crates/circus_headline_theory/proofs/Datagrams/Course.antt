@@ -44,16 +44,16 @@ use Rattle.circus_node.specs.Step.{CanCome}
 use Rattle.circus_node.specs.declared.event.Event.{Event}
 use Rattle.circus_node.specs.declared.event.Event.TheVariants as comes
 use Rattle.circus_node.specs.declared.event.Outputs.{Outputs}
-use Rattle.circus_talks.specs.Histories.{beginning_of}
-use Rattle.circus_talks.specs.NodeActs.{with_all, came_by, acts_of_datagram, handed_by, wire_behind, acts_in}
+use Rattle.circus_world_theory.specs.Histories.{beginning_of}
+use Rattle.circus_world_theory.specs.NodeActs.{with_all, came_by, acts_of_datagram, handed_by, wire_behind, acts_in}
 use Rattle.circus_node.specs.Trace.{effects_in}
-use Rattle.circus_talks.proofs.Given.{GivesSo, with_both}
-use Rattle.circus_talks.proofs.Steps.{IsRead, step_gives}
+use Rattle.circus_world_theory.proofs.Given.{GivesSo, with_both}
+use Rattle.circus_world_theory.proofs.Steps.{IsRead, step_gives}
 use Rattle.circus_world_theory.specs.Made.{act_of}
 use Rattle.circus_world_theory.proofs.Border.Makers.{IsIn, in_both, IsAmong, among_all, no_event, in_effects}
 use Rattle.circus_world_theory.proofs.Border.Telling.{IsTakenOf, accepted_is}
 use Rattle.circus_world_theory.proofs.Border.Members.{declared_among}
-use Rattle.circus_timely.specs.Past.{Past, followed, now, nodes_declared_down}
+use Rattle.circus_member_theory.specs.Past.{Past, followed, now, nodes_declared_down}
 use Rattle.circus_headline_theory.specs.Owed.Living.{made_in, made_by}
 use Rattle.circus_member_theory.specs.Living.{after}
 use Rattle.circus_world_theory.specs.Happened.{happens_by, with_one}

@@ -29,14 +29,14 @@ use Rattle.circus_member_rules.specs.MemberState.{MemberState}
 use Rattle.circus_node.specs.Booting.{beginning_in, home_in}
 use Rattle.circus_node.specs.NodeState.{Acting, member, ringmaster, NodeState, member_record}
 use Rattle.circus_node.specs.declared.event.Give.{Give}
-use Rattle.circus_talks.specs.Histories.{beginning_of}
+use Rattle.circus_world_theory.specs.Histories.{beginning_of}
 use Rattle.circus_world_theory.proofs.Border.Makers.{IsIn, was_called, was_answered}
-use Rattle.circus_timely.specs.Past.{Past}
+use Rattle.circus_member_theory.specs.Past.{Past}
 use Rattle.circus_member_theory.specs.Living.{MayLive, after, phase_at_boot}
-use Rattle.circus_timely.specs.Asks.{is_of_ask, calls_owed}
-use Rattle.circus_timely.specs.Made.{AreDistinct}
-use Rattle.circus_timely.specs.Owed.{AreReturned}
-use Rattle.circus_timely.specs.Requests.{is_request, requests_owed}
+use Rattle.circus_member_theory.specs.Asks.{is_of_ask, calls_owed}
+use Rattle.circus_member_theory.specs.Made.{AreDistinct}
+use Rattle.circus_member_theory.specs.Owed.{AreReturned}
+use Rattle.circus_member_theory.specs.Requests.{is_request, requests_owed}
 use Rattle.circus_headline_theory.proofs.Owed.Calling.{called_all}
 use Rattle.circus_headline_theory.proofs.Owed.Lives.{rises}
 use Rattle.circus_headline_theory.proofs.Owed.Requesting.{asked_all}

@@ -1,7 +1,7 @@
 -- What is in a list.
 use Rattle.std.proofs.Common.{◌≡◌, inl, inr, Bool, true, false, cond, List, [], ◌∷◌, ◌++◌, map, filter, All, Option, None, Some, refl, sym, ap, subst, ◌∙◌}
 use Rattle.std.proofs.lemmas.List.Elements.{All-head, All-tail}
-use Rattle.circus_timely.specs.Made.{at_most_one}
+use Rattle.circus_member_theory.specs.Made.{at_most_one}
 use Rattle.circus_world_theory.proofs.Border.Makers.{IsIn}
 
 module _ {X : Type 0} where

@@ -26,8 +26,8 @@ use Rattle.circus_member_rules.specs.declared.occurrence.Occurrence.{Occurrence}
 use Rattle.circus_member_rules.specs.declared.occurrence.Occurrence.TheVariants as comes
 use Rattle.circus_member_rules.specs.Rules.{ringmaster, request_call, performs_any, may_give, givers, state_request, state_requests, lookup_call}
 use Rattle.circus_member_rules.specs.Step.{is_join}
-use Rattle.circus_timely.specs.Past.{Past, booted, followed, now, views_known, nodes_declared_down, is_asking, is_done, taken_in, phase}
-use Rattle.circus_timely.specs.Requests.{to_ring, answers_lookup, gone_from, gone, for_what_came, wanted, is_due, due_from, due, is_unanswered, lookups, requests_owed}
+use Rattle.circus_member_theory.specs.Past.{Past, booted, followed, now, views_known, nodes_declared_down, is_asking, is_done, taken_in, phase}
+use Rattle.circus_member_theory.specs.Requests.{to_ring, answers_lookup, gone_from, gone, for_what_came, wanted, is_due, due_from, due, is_unanswered, lookups, requests_owed}
 use Rattle.circus_world_theory.proofs.Border.Makers.{IsIn, in_both}
 use Rattle.circus_headline_theory.specs.Datagrams.Due.{WasSo, Causes, CallIsDue}
 use Rattle.circus_headline_theory.proofs.Datagrams.Membership.{in_filter, in_map}

@@ -22,12 +22,12 @@ use Rattle.circus_member_rules.specs.declared.occurrence.Effect.TheVariants as m
 use Rattle.circus_member_rules.specs.declared.occurrence.Occurrence.TheVariants as comes
 use Rattle.circus_member_rules.specs.Messages.{reply_message, stale_message, before_message}
 use Rattle.circus_member_rules.specs.Step.{reply_of_run}
-use Rattle.circus_timely.specs.Past.{Past, booted, followed, now, required_incarnation, phase}
-use Rattle.circus_timely.specs.First.{at_end, or_else, first_given}
-use Rattle.circus_timely.specs.Made.{is_caller, returns_to, asks, requests, callers}
-use Rattle.circus_timely.specs.Owed.{IsReturned, IsGivenState, AreReturned}
-use Rattle.circus_timely.specs.Returns.{first_of, run_of, has_ended, is_stale, is_before, reply_by, return_at, return_owed}
-use Rattle.circus_timely.specs.Snapshots.{runs_before, began, snapshot_at, snapshot_owed}
+use Rattle.circus_member_theory.specs.Past.{Past, booted, followed, now, required_incarnation, phase}
+use Rattle.circus_member_theory.specs.First.{at_end, or_else, first_given}
+use Rattle.circus_member_theory.specs.Made.{is_caller, returns_to, asks, requests, callers}
+use Rattle.circus_member_theory.specs.Owed.{IsReturned, IsGivenState, AreReturned}
+use Rattle.circus_member_theory.specs.Returns.{first_of, run_of, has_ended, is_stale, is_before, reply_by, return_at, return_owed}
+use Rattle.circus_member_theory.specs.Snapshots.{runs_before, began, snapshot_at, snapshot_owed}
 use Rattle.circus_world_theory.proofs.Border.Makers.{IsIn, contains}
 use Rattle.circus_headline_theory.proofs.Owed.Distinct.{is_caller-refl}
 use Rattle.circus_headline_theory.specs.Datagrams.Due.{WasSo, IsStale, IsBefore, IsReply, ReturnIsDue}

@@ -37,10 +37,10 @@ use Rattle.circus_node.specs.declared.event.Event.{Event}
 use Rattle.circus_node.specs.declared.event.Event.TheVariants as comes
 use Rattle.circus_node.specs.declared.event.Give.{Give}
 use Rattle.circus_node.specs.declared.event.Outputs.{Outputs}
-use Rattle.circus_talks.specs.Histories.{beginning_of}
-use Rattle.circus_talks.specs.NodeActs.{with_all, came_by, handed_by, wire_behind, acts_in, acts_at_boot}
+use Rattle.circus_world_theory.specs.Histories.{beginning_of}
+use Rattle.circus_world_theory.specs.NodeActs.{with_all, came_by, handed_by, wire_behind, acts_in, acts_at_boot}
 use Rattle.circus_node.specs.Trace.{effects_in}
-use Rattle.circus_talks.proofs.Steps.{IsRead, step_gives, boot_gives}
+use Rattle.circus_world_theory.proofs.Steps.{IsRead, step_gives, boot_gives}
 use Rattle.circus_world_theory.specs.Made.{act_of}
 use Rattle.circus_world_theory.proofs.Border.Makers.{IsIn, in_both, IsAmong, among_all, no_event, in_effects, was_called, was_answered}
 use Rattle.circus_world_theory.specs.NodeLives.{Events, Comes}

@@ -28,12 +28,12 @@ use Rattle.circus_node.specs.Step as node_step
 use Rattle.circus_node.specs.declared.event.Event.{Event}
 use Rattle.circus_node.specs.declared.event.Event.TheVariants as comes
 use Rattle.circus_node.specs.declared.event.Outputs.{Outputs}
-use Rattle.circus_talks.specs.Histories.{beginning_of}
-use Rattle.circus_talks.specs.NodeActs.{with_all, acts_in, acts_at_boot}
-use Rattle.circus_talks.proofs.Steps.{IsRead, boot_gives}
+use Rattle.circus_world_theory.specs.Histories.{beginning_of}
+use Rattle.circus_world_theory.specs.NodeActs.{with_all, acts_in, acts_at_boot}
+use Rattle.circus_world_theory.proofs.Steps.{IsRead, boot_gives}
 use Rattle.circus_world_theory.specs.Made.{act_of}
 use Rattle.circus_world_theory.proofs.Border.Makers.{IsIn, IsAmong, among_all, in_effects}
-use Rattle.circus_timely.specs.Past.{Past, booted, now}
+use Rattle.circus_member_theory.specs.Past.{Past, booted, now}
 use Rattle.circus_world_theory.specs.Happened.{happens_by, with_one}
 use Rattle.circus_world_theory.specs.NodeLives.{Events, Rising, IsOfBytes, Comes, past_behind, IsLife}
 use Rattle.circus_world_theory.specs.NodeLives as pasts

@@ -29,13 +29,13 @@ use Rattle.circus_world.specs.Course.{Stepped, noted, pass_step, told_to_join, c
 use Rattle.circus_world.specs.Lines.{Leads, Lead}
 use Rattle.circus_world.proofs.ComeLemmas.{datagram_may_come, delivered_at, down_differs}
 use Rattle.circus_world.proofs.SlotLemmas.{get_set, get_there, all_at}
-use Rattle.circus_talks.specs.Histories.{delivery, comes_by}
-use Rattle.circus_talks.specs.Histories as talks
-use Rattle.circus_talks.specs.NodeActs.{with_all, acts_in}
-use Rattle.circus_talks.proofs.Steps.{IsRead}
-use Rattle.circus_talks.proofs.Worlds.{Stands, IsGiven, IsReal, get_same, is_read}
-use Rattle.circus_timely.specs.Past.{Past, now}
-use Rattle.circus_truth.specs.Proper.{AreProper}
+use Rattle.circus_world_theory.specs.Histories.{delivery, comes_by}
+use Rattle.circus_world_theory.specs.Histories as talks
+use Rattle.circus_world_theory.specs.NodeActs.{with_all, acts_in}
+use Rattle.circus_world_theory.proofs.Steps.{IsRead}
+use Rattle.circus_world_theory.proofs.Worlds.{Stands, IsGiven, IsReal, get_same, is_read}
+use Rattle.circus_member_theory.specs.Past.{Past, now}
+use Rattle.circus_member_theory.specs.Proper.{AreProper}
 use Rattle.circus_world_theory.proofs.Along as along
 use Rattle.circus_world_theory.proofs.Along.{noted_at, live_there, below_sent, heard_at, line_talks, line_true}
 use Rattle.circus_world_theory.proofs.Stepping.{same_world, comes_is, ComesTruly, NodesTrue}

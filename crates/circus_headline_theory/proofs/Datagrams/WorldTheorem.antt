@@ -23,11 +23,11 @@ use Rattle.circus_node.specs.declared.event.Event.{Event}
 use Rattle.circus_node.specs.declared.event.Outputs.{Outputs}
 use Rattle.circus_schedule.specs.declared.line.Line.{Line}
 use Rattle.circus_world.specs.WorldState.{WorldState, Standing}
-use Rattle.circus_talks.specs.Histories.{beginning_of, acts_of}
-use Rattle.circus_talks.specs.NodeActs.{with_all, acts_in, acts_at_boot}
-use Rattle.circus_talks.proofs.Boots.{world_stands}
-use Rattle.circus_talks.proofs.Worlds.{Stands}
-use Rattle.circus_timely.specs.Past.{booted, now}
+use Rattle.circus_world_theory.specs.Histories.{beginning_of, acts_of}
+use Rattle.circus_world_theory.specs.NodeActs.{with_all, acts_in, acts_at_boot}
+use Rattle.circus_world_theory.proofs.Boots.{world_stands}
+use Rattle.circus_world_theory.proofs.Worlds.{Stands}
+use Rattle.circus_member_theory.specs.Past.{booted, now}
 use Rattle.circus_member_theory.specs.Living.{phase_at_boot}
 use Rattle.circus_world_theory.specs.Worlds.{IsWorldOf}
 use Rattle.circus_world_theory.proofs.Booted.{HasBooted, all_have_booted}

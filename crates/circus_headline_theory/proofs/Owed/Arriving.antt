@@ -38,13 +38,13 @@ use Rattle.circus_member_rules.specs.MemberState.{MemberState, Doing}
 use Rattle.circus_member_rules.specs.Step.{reply_of_run}
 use Rattle.circus_member_theory.proofs.Resting.{at_boot}
 use Rattle.circus_world_theory.proofs.Border.Going.{begun}
-use Rattle.circus_timely.specs.Past.{Past, booted, followed, now, Rises}
-use Rattle.circus_timely.specs.First.{at_end, or_else, first_given}
+use Rattle.circus_member_theory.specs.Past.{Past, booted, followed, now, Rises}
+use Rattle.circus_member_theory.specs.First.{at_end, or_else, first_given}
 use Rattle.circus_member_theory.specs.Living.{phase_at_boot, after, MayLive}
 use Rattle.circus_member_theory.proofs.Timely.Firsts.{first_is}
-use Rattle.circus_timely.specs.Made.{asks}
-use Rattle.circus_timely.specs.Order.{if_now, ends_now, is_answered_by_end, returns_now, returns_at_once}
-use Rattle.circus_timely.specs.Returns.{first_of, run_of, was_started, is_stale, is_before, reply_by, return_at, return_owed}
+use Rattle.circus_member_theory.specs.Made.{asks}
+use Rattle.circus_member_theory.specs.Order.{if_now, ends_now, is_answered_by_end, returns_now, returns_at_once}
+use Rattle.circus_member_theory.specs.Returns.{first_of, run_of, was_started, is_stale, is_before, reply_by, return_at, return_owed}
 use Rattle.circus_headline_theory.proofs.Owed.AtOnce.{at_once, held_now, answered_now, Sorts, sorts}
 use Rattle.circus_headline_theory.proofs.Owed.Booting.{booted_keeps}
 use Rattle.circus_headline_theory.proofs.Owed.Going.{executed_keeps}

@@ -31,14 +31,14 @@ use Rattle.circus_member_rules.specs.Happening.{IsHome}
 use Rattle.circus_member_rules.specs.MemberState.{MemberState, Doing}
 use Rattle.circus_member_rules.specs.Step.{is_idle, handle}
 use Rattle.circus_member_rules.proofs.Writing.{one_is_performing}
-use Rattle.circus_timely.specs.Past.{Past, followed, now, phase}
-use Rattle.circus_timely.specs.First.{at_end, or_else}
+use Rattle.circus_member_theory.specs.Past.{Past, followed, now, phase}
+use Rattle.circus_member_theory.specs.First.{at_end, or_else}
 use Rattle.circus_member_theory.specs.Living.{phase_at_boot, after, MayLive}
 use Rattle.circus_member_theory.proofs.Timely.Firsts.{first_is, none_first}
-use Rattle.circus_timely.specs.Made.{requests}
-use Rattle.circus_timely.specs.Order.{if_now, snapshots_now}
-use Rattle.circus_timely.specs.Returns.{first_of, has_ended}
-use Rattle.circus_timely.specs.Snapshots.{began, runs_before, snapshot_at, snapshot_owed}
+use Rattle.circus_member_theory.specs.Made.{requests}
+use Rattle.circus_member_theory.specs.Order.{if_now, snapshots_now}
+use Rattle.circus_member_theory.specs.Returns.{first_of, has_ended}
+use Rattle.circus_member_theory.specs.Snapshots.{began, runs_before, snapshot_at, snapshot_owed}
 use Rattle.circus_headline_theory.proofs.Owed.Arriving.{first_low, now_is, not_now}
 use Rattle.circus_headline_theory.proofs.Owed.AtOnce.{all_stay}
 use Rattle.circus_headline_theory.proofs.Owed.Distinct.{All-zip, All-last}

@@ -7,7 +7,7 @@ use Rattle.circus_gather.specs.declared.held.HeldCall.{HeldCall}
 use Rattle.circus_member_rules.specs.declared.occurrence.Effect.{Effect}
 use Rattle.circus_member_rules.specs.declared.occurrence.Effect.TheVariants as made
 use Rattle.circus_member_rules.specs.Rules.{answers}
-use Rattle.circus_timely.specs.Made.{is_caller, returns_to}
+use Rattle.circus_member_theory.specs.Made.{is_caller, returns_to}
 use Rattle.circus_headline_theory.specs.Owed.Living.{made_in}
 
 -- ---- tests

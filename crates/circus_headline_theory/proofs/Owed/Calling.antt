@@ -49,9 +49,9 @@ use Rattle.circus_member_rules.specs.Step.{name_of_last, known_by_table, is_take
 use Rattle.circus_member_rules.proofs.Writing.{one_is_performing, none_is_idle}
 use Rattle.circus_member_theory.proofs.Resting.{at_boot}
 use Rattle.circus_world_theory.proofs.Border.Going.{begun}
-use Rattle.circus_timely.specs.Past as past
-use Rattle.circus_timely.specs.Past.{Past, booted, followed, now, views_known, nodes_declared_down}
-use Rattle.circus_timely.specs.Asks.{is_of_ask, is_new, is_waiting, as_made, asks_of, knows, opened_one, first_calls, asks_behind, calls_behind, new_asks, waits_then, open_asks, calls_owed}
+use Rattle.circus_member_theory.specs.Past as past
+use Rattle.circus_member_theory.specs.Past.{Past, booted, followed, now, views_known, nodes_declared_down}
+use Rattle.circus_member_theory.specs.Asks.{is_of_ask, is_new, is_waiting, as_made, asks_of, knows, opened_one, first_calls, asks_behind, calls_behind, new_asks, waits_then, open_asks, calls_owed}
 use Rattle.circus_headline_theory.specs.Owed.Living.{boots, made_in, made_by}
 use Rattle.circus_member_theory.specs.Living.{after, MayLive}
 use Rattle.circus_headline_theory.proofs.Owed.Booting.{booted_keeps}

@@ -10,8 +10,8 @@ use Rattle.circus_member_rules.specs.declared.occurrence.AskName.{AskName}
 use Rattle.circus_member_rules.specs.declared.occurrence.Effect.{Effect}
 use Rattle.circus_member_rules.specs.OpenAsks.{is_name}
 use Rattle.circus_member_rules.specs.Rules.{stays_open}
-use Rattle.circus_timely.specs.Past.{Past, booted, followed, now, Rises}
-use Rattle.circus_timely.specs.Asks.{is_waiting, asks_of, knows, opened_one, first_calls, asks_behind, calls_behind, new_asks, waits_then, open_asks, calls_owed}
+use Rattle.circus_member_theory.specs.Past.{Past, booted, followed, now, Rises}
+use Rattle.circus_member_theory.specs.Asks.{is_waiting, asks_of, knows, opened_one, first_calls, asks_behind, calls_behind, new_asks, waits_then, open_asks, calls_owed}
 
 module _ (place : Place) (boot : List View) (old new : MemberRecord) (step : ℕ)
     (made : (r : Past) → now r < step → new_asks place boot old r ≡ new_asks place boot new r)

@@ -25,10 +25,10 @@ use Rattle.circus_member_rules.specs.MemberState.{MemberState, Doing}
 use Rattle.circus_member_rules.specs.Step.{is_join, kept_by_table, handle}
 use Rattle.circus_member_rules.specs.Seen.Sound.{IsSound}
 use Rattle.circus_member_theory.specs.Ranges.{InRange}
-use Rattle.circus_timely.specs.Past.{Past, followed, required_incarnation, is_asking, taken_in as way_in, phase, snapshot_fetched}
+use Rattle.circus_member_theory.specs.Past.{Past, followed, required_incarnation, is_asking, taken_in as way_in, phase, snapshot_fetched}
 use Rattle.circus_member_theory.proofs.Timely.Phases.{once_told, once_tabled}
-use Rattle.circus_timely.specs.Returns.{first_of}
-use Rattle.circus_timely.specs.Snapshots.{began}
+use Rattle.circus_member_theory.specs.Returns.{first_of}
+use Rattle.circus_member_theory.specs.Snapshots.{began}
 use Rattle.circus_headline_theory.proofs.Owed.Links.{numbered, IsLinked}
 use Rattle.circus_headline_theory.proofs.Owed.Stays.{IsSame}
 

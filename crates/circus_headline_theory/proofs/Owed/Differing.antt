@@ -30,11 +30,11 @@ use Rattle.circus_member_rules.specs.OpenAsks.{is_name, asking_of, with_ask, wit
 use Rattle.circus_member_rules.specs.Rules.{difference_of, difference_told, difference_by, after_stale, is_to, seen_by_ask, with_new_view, stays_open}
 use Rattle.circus_member_rules.specs.Seen.Sound.{AreNamed}
 use Rattle.circus_member_rules.proofs.Named.{names_decide, All-opened_at, named-opened, named-changed, named-filtered}
-use Rattle.circus_timely.specs.Past.{Past, booted, followed, now, Rises, is_newer, views_known, replies_to}
+use Rattle.circus_member_theory.specs.Past.{Past, booted, followed, now, Rises, is_newer, views_known, replies_to}
 use Rattle.circus_member_theory.proofs.Timely.Replies.{said_none, names_turned}
-use Rattle.circus_timely.specs.Returns.{run_of}
-use Rattle.circus_timely.specs.Asks.{is_new, as_made, asks_from, asks_of, knows, opened_one, asks_behind, new_asks, waits_then, open_asks}
-use Rattle.circus_timely.specs.Differences.{watches, ask_named, difference_from, first_reply, differences_now}
+use Rattle.circus_member_theory.specs.Returns.{run_of}
+use Rattle.circus_member_theory.specs.Asks.{is_new, as_made, asks_from, asks_of, knows, opened_one, asks_behind, new_asks, waits_then, open_asks}
+use Rattle.circus_member_theory.specs.Differences.{watches, ask_named, difference_from, first_reply, differences_now}
 
 -- ---- the only entry of a name is changed
 

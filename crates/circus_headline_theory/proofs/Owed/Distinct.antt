@@ -9,8 +9,8 @@ use Rattle.circus_gather.specs.declared.held.HeldCall.{HeldCall}
 use Rattle.circus_member_rules.specs.declared.occurrence.Occurrence.{Occurrence}
 use Rattle.circus_member_rules.specs.declared.occurrence.Occurrence.TheVariants as comes
 use Rattle.circus_member_rules.proofs.Concerned.{all_of}
-use Rattle.circus_timely.specs.Past.{Past, booted, followed}
-use Rattle.circus_timely.specs.Made.{is_caller, asks, requests, callers, AreDistinct}
+use Rattle.circus_member_theory.specs.Past.{Past, booted, followed}
+use Rattle.circus_member_theory.specs.Made.{is_caller, asks, requests, callers, AreDistinct}
 use Rattle.circus_headline_theory.proofs.Owed.Handling.{is_by}
 
 -- ---- lists

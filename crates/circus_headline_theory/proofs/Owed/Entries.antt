@@ -25,7 +25,7 @@ use Rattle.circus_member_rules.specs.MemberState.{Doing}
 use Rattle.circus_member_rules.proofs.Entering.{HasValue, with_entered, with_answered}
 use Rattle.circus_member_rules.proofs.Starting.{IsSoundNow}
 use Rattle.circus_member_rules.proofs.Writing.{one_is_performing}
-use Rattle.circus_timely.specs.Asks.{as_made, asks_from, asks_of}
+use Rattle.circus_member_theory.specs.Asks.{as_made, asks_from, asks_of}
 use Rattle.circus_headline_theory.proofs.Owed.Going.{behaves}
 
 and_true : (b : Bool) → (b && true) ≡ b

@@ -18,8 +18,8 @@ use Rattle.circus_node.specs.declared.event.Event.{Event}
 use Rattle.circus_schedule.specs.declared.line.Line.{Line}
 use Rattle.circus_world.specs.WorldState.{WorldState, Standing}
 use Rattle.circus_world.specs.Lines.{Lead}
-use Rattle.circus_talks.specs.Histories.{comes_by, with_line}
-use Rattle.circus_talks.specs.NodeActs.{acts_at_boot}
+use Rattle.circus_world_theory.specs.Histories.{comes_by, with_line}
+use Rattle.circus_world_theory.specs.NodeActs.{acts_at_boot}
 use Rattle.circus_node.specs.Trace.{effects_in, effects_at_boot}
 use Rattle.circus_world_theory.specs.Worlds.{IsWorldOf}
 use Rattle.circus_world_theory.specs.Made.{act_of}

@@ -35,7 +35,7 @@ use Rattle.circus_member_rules.specs.Rules.{ringmaster, answer, request_call, re
 use Rattle.circus_member_rules.specs.MemberState.{MemberState, Doing}
 use Rattle.circus_member_rules.specs.Step as step
 use Rattle.circus_member_rules.specs.Step.{known_by_table, is_taken_in, handle}
-use Rattle.circus_timely.specs.Made.{is_caller}
+use Rattle.circus_member_theory.specs.Made.{is_caller}
 use Rattle.circus_headline_theory.proofs.Owed.Callers.{returned, is_from, filter_no, filter_twice, returned-append, none_mapped, none_flat_mapped, returned_passed}
 use Rattle.circus_headline_theory.proofs.Owed.Waiting.{IsQuiet, Waits, HasReply}
 

@@ -17,7 +17,7 @@ use Rattle.circus_member_rules.specs.Step.{is_idle, handle, execute}
 use Rattle.circus_member_rules.proofs.Resting.{rested}
 use Rattle.circus_member_rules.proofs.Starting.{IsSoundNow, sound_executed}
 use Rattle.circus_member_theory.proofs.Resting.{sound_once_handled, at_boot}
-use Rattle.circus_timely.specs.Past.{Past, booted, followed, now, Rises}
+use Rattle.circus_member_theory.specs.Past.{Past, booted, followed, now, Rises}
 use Rattle.circus_headline_theory.proofs.Owed.Booting.{sound_booted, booted_keeps}
 use Rattle.circus_headline_theory.specs.Owed.Living.{boots}
 use Rattle.circus_member_theory.specs.Living.{phase_at_boot, after, MayLive}

@@ -31,7 +31,7 @@ use Rattle.circus_node.specs.NodeState.{Acting, member, ringmaster, NodeState}
 use Rattle.circus_node.specs.Sending.{Sending, sent, spent, gives_of, all_handed}
 use Rattle.circus_node.specs.Step as node_step
 use Rattle.circus_node.specs.Trace.{effects_in}
-use Rattle.circus_timely.specs.Past.{Past}
+use Rattle.circus_member_theory.specs.Past.{Past}
 use Rattle.circus_headline_theory.specs.Owed.Living.{made_in, told_in, made_by, told_by}
 use Rattle.circus_world_theory.proofs.Stepping.{same_ended}
 use Rattle.circus_world_theory.specs.Happened.{happens_by, with_one}

@@ -30,9 +30,9 @@ use Rattle.circus_member_rules.proofs.Entering.{HasValue, with_entered, with_ans
 use Rattle.circus_member_rules.proofs.Starting.{IsSoundNow, and_right, none_from_test}
 use Rattle.circus_member_rules.proofs.Writing.{one_is_performing, none_is_idle}
 use Rattle.circus_world_theory.proofs.Border.Going.{with_given}
-use Rattle.circus_timely.specs.Past.{Past, now}
-use Rattle.circus_timely.specs.Made.{is_caller}
-use Rattle.circus_timely.specs.Returns.{has_ended}
+use Rattle.circus_member_theory.specs.Past.{Past, now}
+use Rattle.circus_member_theory.specs.Made.{is_caller}
+use Rattle.circus_member_theory.specs.Returns.{has_ended}
 use Rattle.circus_headline_theory.proofs.Owed.Callers.{returned, is_from}
 use Rattle.circus_headline_theory.proofs.Owed.Distinct.{All-without_last, All-last}
 use Rattle.circus_headline_theory.proofs.Owed.Going.{behaves, Keeps}

@@ -20,9 +20,9 @@ use Rattle.circus_node.specs.Accepting.{troupe_at}
 use Rattle.circus_node.specs.Booting.{beginning_in, home_in, made_at_boot}
 use Rattle.circus_node.specs.NodeState.{Acting, member, ringmaster, NodeState, member_record}
 use Rattle.circus_node.specs.Trace.{effects_in, effects_at_boot}
-use Rattle.circus_timely.specs.Past.{Past, booted, now}
+use Rattle.circus_member_theory.specs.Past.{Past, booted, now}
 use Rattle.circus_member_theory.specs.Living.{kept_after}
-use Rattle.circus_timely.specs.Made.{AreDistinct}
+use Rattle.circus_member_theory.specs.Made.{AreDistinct}
 use Rattle.circus_headline_theory.specs.Owed.Living.{made_in, told_in}
 use Rattle.circus_headline_theory.proofs.Owed.Calling.{called_all}
 use Rattle.circus_headline_theory.proofs.Owed.Requesting.{asked_all}

@@ -34,7 +34,7 @@ use Rattle.circus_member_rules.specs.Step.{name_of_last, asking_begun, opened_by
 use Rattle.circus_member_rules.proofs.Entering.{HasValue, with_entered, with_answered}
 use Rattle.circus_member_rules.proofs.Starting.{IsSoundNow}
 use Rattle.circus_member_rules.proofs.Writing.{one_is_performing}
-use Rattle.circus_timely.specs.Asks.{is_of_ask, as_made, opened_one, first_calls}
+use Rattle.circus_member_theory.specs.Asks.{is_of_ask, as_made, opened_one, first_calls}
 use Rattle.circus_headline_theory.proofs.Owed.Distinct.{All-without_last, All-last}
 use Rattle.circus_headline_theory.proofs.Owed.Entries.{open_part, asks_in, HasMore, entered_more, answered_more}
 use Rattle.circus_headline_theory.proofs.Owed.Going.{behaves, Keeps}

@@ -35,14 +35,14 @@ use Rattle.circus_member_rules.proofs.Concerned.{all_of}
 use Rattle.circus_member_rules.proofs.Entering.{HasValue, with_entered, with_answered}
 use Rattle.circus_member_rules.proofs.Starting.{IsSoundNow}
 use Rattle.circus_member_rules.proofs.Writing.{one_is_performing}
-use Rattle.circus_timely.specs.Past.{Past, followed, now, Rises, required_incarnation}
+use Rattle.circus_member_theory.specs.Past.{Past, followed, now, Rises, required_incarnation}
 use Rattle.circus_member_theory.specs.Living.{phase_at_boot, kept_after, MayLive}
 use Rattle.circus_member_theory.proofs.Timely.Firsts.{same_first}
-use Rattle.circus_timely.specs.Asks.{is_new, knows, first_calls}
-use Rattle.circus_timely.specs.Made.{asks, requests}
-use Rattle.circus_timely.specs.Order.{if_now, ends_now, is_answered_by_end, returns_now, returns_at_once, made_by_run, made_by_runs, snapshots_now, executed_then}
-use Rattle.circus_timely.specs.Returns.{run_of, is_stale, is_before, return_at, return_owed}
-use Rattle.circus_timely.specs.Snapshots.{snapshot_at, snapshot_owed}
+use Rattle.circus_member_theory.specs.Asks.{is_new, knows, first_calls}
+use Rattle.circus_member_theory.specs.Made.{asks, requests}
+use Rattle.circus_member_theory.specs.Order.{if_now, ends_now, is_answered_by_end, returns_now, returns_at_once, made_by_run, made_by_runs, snapshots_now, executed_then}
+use Rattle.circus_member_theory.specs.Returns.{run_of, is_stale, is_before, return_at, return_owed}
+use Rattle.circus_member_theory.specs.Snapshots.{snapshot_at, snapshot_owed}
 use Rattle.circus_headline_theory.proofs.Owed.Entries.{HasNoAsk, asks_by, gone_asks, answered_asks}
 use Rattle.circus_headline_theory.proofs.Owed.Going.{behaves, Keeps, executed_keeps}
 use Rattle.circus_headline_theory.proofs.Owed.Grown.{EndsAt, HasGone, Grown, AreGrown, got_more}

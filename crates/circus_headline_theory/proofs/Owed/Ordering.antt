@@ -46,12 +46,12 @@ use Rattle.circus_member_rules.specs.Messages.{reply_message, stale_message, bef
 use Rattle.circus_member_rules.specs.Rules.{ringmaster, answer, answers, request_call, request_to_ring, message_at_once, call_of_ask, call_for, call_again, calls_for_view, calls_for_a_new_view, is_to, givers, state_request, state_requests, gone_from, gone_call, lookup_call, active_call, before_answers, answers_of_run}
 use Rattle.circus_member_rules.specs.Step.{reply_of_run, known_by_table, is_taken_in, kept_by_table, handle}
 use Rattle.circus_member_rules.proofs.Concerned.{all_of}
-use Rattle.circus_timely.specs.Past.{Past, booted, followed, now, views_known, nodes_declared_down}
+use Rattle.circus_member_theory.specs.Past.{Past, booted, followed, now, views_known, nodes_declared_down}
 use Rattle.circus_member_theory.specs.Living.{phase_at_boot, after, kept_after, MayLive}
-use Rattle.circus_timely.specs.Asks.{is_of_ask, is_new, knows, first_calls}
-use Rattle.circus_timely.specs.Order.{calls_of_what_came, is_answered_by_end, returns_now, returns_at_once, made_by_run, made_by_runs, executed_then, IsInOrder}
-use Rattle.circus_timely.specs.Requests.{is_no_ask, is_request}
-use Rattle.circus_timely.specs.Returns.{run_of, has_ended}
+use Rattle.circus_member_theory.specs.Asks.{is_of_ask, is_new, knows, first_calls}
+use Rattle.circus_member_theory.specs.Order.{calls_of_what_came, is_answered_by_end, returns_now, returns_at_once, made_by_run, made_by_runs, executed_then, IsInOrder}
+use Rattle.circus_member_theory.specs.Requests.{is_no_ask, is_request}
+use Rattle.circus_member_theory.specs.Returns.{run_of, has_ended}
 use Rattle.circus_headline_theory.specs.Owed.Living.{makes_in}
 use Rattle.circus_headline_theory.proofs.Owed.Arriving.{back_to, nothing, AreHeld, are_held, IsNew, is_new as is_new_at, own as own_module, reply_then, ends_as, at_once_are, by_end_are}
 use Rattle.circus_headline_theory.proofs.Owed.Askers.{AreAsking, IsDivided, sorted_then, asking_then, snapshots_are}

@@ -10,9 +10,9 @@ use Rattle.circus_member_rules.specs.declared.place.Place.{Place}
 use Rattle.circus_member_rules.specs.declared.occurrence.Effect.{Effect}
 use Rattle.circus_member_rules.specs.declared.occurrence.Occurrence.TheVariants as comes
 use Rattle.circus_member_rules.specs.Rules.{ringmaster, lookup_call}
-use Rattle.circus_timely.specs.Past.{Past, booted, followed, now, Rises, nodes_declared_down, views_known, required_incarnation}
-use Rattle.circus_timely.specs.Requests.{answers_lookup, for_what_came, is_held, wanted, due_from, due, is_unanswered, lookups, requests_owed}
-use Rattle.circus_timely.specs.Returns.{is_before, reply_by}
+use Rattle.circus_member_theory.specs.Past.{Past, booted, followed, now, Rises, nodes_declared_down, views_known, required_incarnation}
+use Rattle.circus_member_theory.specs.Requests.{answers_lookup, for_what_came, is_held, wanted, due_from, due, is_unanswered, lookups, requests_owed}
+use Rattle.circus_member_theory.specs.Returns.{is_before, reply_by}
 
 module _ (place : Place) (boot : List View) (begins : Joiner) (old new : MemberRecord) (step : ℕ) (replies : (call : HeldCall) (r : Past) → now r < step → reply_by place.troupe begins old call r ≡ reply_by place.troupe begins new call r) where
   pub held_same : (call : HeldCall) (r : Past) → now r < step → is_held place boot begins old r call ≡ is_held place boot begins new r call

@@ -40,7 +40,7 @@ use Rattle.circus_member_rules.proofs.Turned.{IsTurned}
 use Rattle.circus_member_rules.proofs.Writing.{one_is_performing, none_is_idle}
 use Rattle.circus_model.proofs.Lookups.{at_end}
 use Rattle.circus_world_theory.proofs.Border.Going.{with_given}
-use Rattle.circus_timely.specs.Asks.{as_made, first_calls}
+use Rattle.circus_member_theory.specs.Asks.{as_made, first_calls}
 use Rattle.circus_headline_theory.proofs.Owed.Distinct.{All-without_last, All-last}
 use Rattle.circus_headline_theory.proofs.Owed.Entries.{HasNoAsk, none_from, open_part, asks_by, gone_asks, answered_asks}
 use Rattle.circus_headline_theory.proofs.Owed.Going.{behaves, Keeps}

@@ -49,10 +49,10 @@ use Rattle.circus_member_rules.specs.Step.{is_lookup, is_join, known_by_table, a
 use Rattle.circus_member_rules.proofs.Homes.{told_down, ring_down, ring_views, called_views, declared_views}
 use Rattle.circus_member_theory.proofs.Resting.{at_boot}
 use Rattle.circus_world_theory.proofs.Border.Going.{begun}
-use Rattle.circus_timely.specs.Past as past
-use Rattle.circus_timely.specs.Past.{Past, booted, followed, now, views_known, nodes_declared_down, required_incarnation, phase}
-use Rattle.circus_timely.specs.Requests.{is_request, to_ring, answers_lookup, for_what_came, is_held, wanted, is_due, due_from, due, is_unanswered, lookups, requests_owed}
-use Rattle.circus_timely.specs.Returns.{first_of, reply_by}
+use Rattle.circus_member_theory.specs.Past as past
+use Rattle.circus_member_theory.specs.Past.{Past, booted, followed, now, views_known, nodes_declared_down, required_incarnation, phase}
+use Rattle.circus_member_theory.specs.Requests.{is_request, to_ring, answers_lookup, for_what_came, is_held, wanted, is_due, due_from, due, is_unanswered, lookups, requests_owed}
+use Rattle.circus_member_theory.specs.Returns.{first_of, reply_by}
 use Rattle.circus_headline_theory.specs.Owed.Living.{boots, made_in, made_by}
 use Rattle.circus_member_theory.specs.Living.{phase_at_boot, after, MayLive}
 use Rattle.circus_member_theory.proofs.Timely.Known.{told_views, called_down, declared_down, known_long}

@@ -28,11 +28,11 @@ use Rattle.circus_member_rules.specs.Rules.{lookups}
 use Rattle.circus_member_rules.specs.Happening.{IsHome}
 use Rattle.circus_member_rules.specs.MemberState.{MemberState, Doing}
 use Rattle.circus_member_rules.specs.Step.{step_member}
-use Rattle.circus_timely.specs.Past.{Past, booted, followed, now, required_incarnation, phase}
-use Rattle.circus_timely.specs.First.{at_end, or_else}
-use Rattle.circus_timely.specs.Made.{is_caller, returns_to, at_most_one, asks, AreDistinct}
-use Rattle.circus_timely.specs.Owed.{IsReturned}
-use Rattle.circus_timely.specs.Returns.{first_of, was_started, run_of, reply_by, return_at, return_owed}
+use Rattle.circus_member_theory.specs.Past.{Past, booted, followed, now, required_incarnation, phase}
+use Rattle.circus_member_theory.specs.First.{at_end, or_else}
+use Rattle.circus_member_theory.specs.Made.{is_caller, returns_to, at_most_one, asks, AreDistinct}
+use Rattle.circus_member_theory.specs.Owed.{IsReturned}
+use Rattle.circus_member_theory.specs.Returns.{first_of, was_started, run_of, reply_by, return_at, return_owed}
 use Rattle.circus_member_theory.proofs.Resting.{at_boot}
 use Rattle.circus_world_theory.proofs.Border.Going.{begun}
 use Rattle.circus_headline_theory.specs.Owed.Living.{boots, made_in, made_by}

@@ -31,12 +31,12 @@ use Rattle.circus_member_rules.specs.Happening.{IsHome}
 use Rattle.circus_member_rules.specs.MemberState.{MemberState, Doing}
 use Rattle.circus_member_rules.specs.Step.{is_idle}
 use Rattle.circus_member_rules.proofs.Writing.{one_is_performing}
-use Rattle.circus_timely.specs.Past.{Past, booted, followed, now, phase}
-use Rattle.circus_timely.specs.First.{at_end, or_else}
-use Rattle.circus_timely.specs.Made.{is_caller, returns_to, at_most_one, requests, AreDistinct}
-use Rattle.circus_timely.specs.Owed.{IsGivenState, AreReturned}
-use Rattle.circus_timely.specs.Returns.{first_of, has_ended}
-use Rattle.circus_timely.specs.Snapshots.{began, runs_before, snapshot_at, snapshot_owed}
+use Rattle.circus_member_theory.specs.Past.{Past, booted, followed, now, phase}
+use Rattle.circus_member_theory.specs.First.{at_end, or_else}
+use Rattle.circus_member_theory.specs.Made.{is_caller, returns_to, at_most_one, requests, AreDistinct}
+use Rattle.circus_member_theory.specs.Owed.{IsGivenState, AreReturned}
+use Rattle.circus_member_theory.specs.Returns.{first_of, has_ended}
+use Rattle.circus_member_theory.specs.Snapshots.{began, runs_before, snapshot_at, snapshot_owed}
 use Rattle.circus_headline_theory.specs.Owed.Living.{made_by}
 use Rattle.circus_member_theory.specs.Living.{phase_at_boot, after, MayLive}
 use Rattle.circus_headline_theory.proofs.Owed.Callers.{is_from, filter_twice, returned_passed}

@@ -21,8 +21,8 @@ use Rattle.circus_performing.proofs.Records.{none_is_some}
 use Rattle.circus_member_rules.specs.Messages.{reply_message, stale_message, before_message}
 use Rattle.circus_member_rules.specs.Step.{reply_of_run}
 use Rattle.circus_member_rules.proofs.Writing.{one_is_performing, none_is_idle}
-use Rattle.circus_timely.specs.Past.{Past, now, required_incarnation, phase}
-use Rattle.circus_timely.specs.Returns.{first_of, run_of, was_started, has_ended, is_stale, is_before, reply_by, return_at}
+use Rattle.circus_member_theory.specs.Past.{Past, now, required_incarnation, phase}
+use Rattle.circus_member_theory.specs.Returns.{first_of, run_of, was_started, has_ended, is_stale, is_before, reply_by, return_at}
 use Rattle.circus_headline_theory.proofs.Owed.Grown.{EndsAt, Grown, AreGrown}
 use Rattle.circus_headline_theory.proofs.Owed.Links.{numbered, lookup_numbered, lookup_below, IsLinked}
 

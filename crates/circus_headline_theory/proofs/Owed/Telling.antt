@@ -16,10 +16,10 @@ use Rattle.circus_member_rules.specs.declared.occurrence.Occurrence.TheVariants 
 use Rattle.circus_member_rules.specs.Happening.{IsHome}
 use Rattle.circus_member_rules.specs.MemberState.{MemberState}
 use Rattle.circus_member_rules.specs.Step as step
-use Rattle.circus_timely.specs.Past.{Past, booted, followed, now, Rises}
+use Rattle.circus_member_theory.specs.Past.{Past, booted, followed, now, Rises}
 use Rattle.circus_member_theory.specs.Living.{after, kept_after, MayLive}
-use Rattle.circus_timely.specs.Asks.{is_waiting, asks_of, new_asks}
-use Rattle.circus_timely.specs.Differences.{differences}
+use Rattle.circus_member_theory.specs.Asks.{is_waiting, asks_of, new_asks}
+use Rattle.circus_member_theory.specs.Differences.{differences}
 use Rattle.circus_headline_theory.specs.Owed.Living.{told_in, told_by}
 use Rattle.circus_headline_theory.proofs.Owed.Calling.{called_all, made_same, waiting_same, asks_then}
 use Rattle.circus_headline_theory.proofs.Owed.CallsOwing.{open_same}

@@ -23,7 +23,7 @@ use Rattle.circus_member_rules.specs.Rules.{calls_of_ask, call_of_ask, snapshots
 use Rattle.circus_member_rules.specs.MemberState.{Doing}
 use Rattle.circus_member_rules.specs.Step.{name_of_last, asking_begun, opened_by_view, ended_run, reply_of_run}
 use Rattle.circus_world_theory.proofs.Border.Going.{with_given}
-use Rattle.circus_timely.specs.Made.{is_caller}
+use Rattle.circus_member_theory.specs.Made.{is_caller}
 use Rattle.circus_headline_theory.proofs.Owed.Callers.{returned, is_from, returned-append, none_mapped, returned_answers, returned_passed, filter_twice}
 use Rattle.circus_headline_theory.proofs.Owed.Going.{Keeps}
 

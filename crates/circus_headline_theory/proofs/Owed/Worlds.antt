@@ -21,13 +21,13 @@ use Rattle.circus_node.specs.declared.event.Event.{Event}
 use Rattle.circus_schedule.specs.declared.line.Line.{Line}
 use Rattle.circus_world.specs.WorldState.{WorldState, Standing}
 use Rattle.circus_world.specs.Lines.{Lead}
-use Rattle.circus_talks.specs.Histories.{comes_by, acts_of}
-use Rattle.circus_talks.specs.Histories as talks
-use Rattle.circus_talks.proofs.Boots.{world_stands}
-use Rattle.circus_talks.proofs.Lines.{lead_stands}
-use Rattle.circus_talks.proofs.Worlds.{Stands}
-use Rattle.circus_timely.specs.Past.{Past, booted}
-use Rattle.circus_truth.specs.Proper.{AreProper}
+use Rattle.circus_world_theory.specs.Histories.{comes_by, acts_of}
+use Rattle.circus_world_theory.specs.Histories as talks
+use Rattle.circus_world_theory.proofs.Boots.{world_stands}
+use Rattle.circus_world_theory.proofs.Lines.{lead_stands}
+use Rattle.circus_world_theory.proofs.Worlds.{Stands}
+use Rattle.circus_member_theory.specs.Past.{Past, booted}
+use Rattle.circus_member_theory.specs.Proper.{AreProper}
 use Rattle.circus_headline_theory.specs.Owed.Living.{made_in}
 use Rattle.circus_world_theory.specs.Worlds.{IsWorldOf}
 use Rattle.circus_world_theory.proofs.Along.{lead_true}

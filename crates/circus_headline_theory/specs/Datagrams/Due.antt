@@ -32,12 +32,12 @@ use Rattle.circus_member_rules.specs.declared.occurrence.Purpose.TheVariants as 
 use Rattle.circus_member_rules.specs.Messages.{ask_message, request_message, fetch_message, reply_message, stale_message, before_message}
 use Rattle.circus_member_rules.specs.Rules.{ringmaster, incarnation_of}
 use Rattle.circus_member_rules.specs.Step.{is_join, reply_of_run}
-use Rattle.circus_timely.specs.Past.{Past, booted, followed, now, views_known, nodes_declared_down, required_incarnation, phase}
-use Rattle.circus_timely.specs.Asks.{knows, open_asks}
-use Rattle.circus_timely.specs.Made.{asks, requests}
-use Rattle.circus_timely.specs.Requests.{wanted}
-use Rattle.circus_timely.specs.Returns.{first_of, run_of, has_ended}
-use Rattle.circus_timely.specs.Snapshots.{runs_before, began}
+use Rattle.circus_member_theory.specs.Past.{Past, booted, followed, now, views_known, nodes_declared_down, required_incarnation, phase}
+use Rattle.circus_member_theory.specs.Asks.{knows, open_asks}
+use Rattle.circus_member_theory.specs.Made.{asks, requests}
+use Rattle.circus_member_theory.specs.Requests.{wanted}
+use Rattle.circus_member_theory.specs.Returns.{first_of, run_of, has_ended}
+use Rattle.circus_member_theory.specs.Snapshots.{runs_before, began}
 
 -- this is a past as it was at the end of one of its steps
 abbrev pub WasSo : Past → Past → Type 0

@@ -18,9 +18,9 @@ use Rattle.circus_node.specs.declared.event.Event.{Event}
 use Rattle.circus_node.specs.declared.event.Event.TheVariants as comes
 use Rattle.circus_node.specs.declared.event.Give.{Give}
 use Rattle.circus_node.specs.declared.event.Outputs.{Outputs}
-use Rattle.circus_talks.specs.NodeActs.{with_all, acts_in, acts_at_boot}
-use Rattle.circus_talks.specs.Histories.{beginning_of}
-use Rattle.circus_timely.specs.Past.{Past, booted}
+use Rattle.circus_world_theory.specs.NodeActs.{with_all, acts_in, acts_at_boot}
+use Rattle.circus_world_theory.specs.Histories.{beginning_of}
+use Rattle.circus_member_theory.specs.Past.{Past, booted}
 use Rattle.circus_member_theory.specs.Living.{phase_at_boot}
 use Rattle.circus_world_theory.specs.Happened.{happens_by, with_one}
 use Rattle.circus_world_theory.specs.NodeLives.{Events, IsOfBytes, past_behind, IsLife}

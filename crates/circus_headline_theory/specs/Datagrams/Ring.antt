@@ -29,8 +29,8 @@ use Rattle.circus_node.specs.declared.event.Event.{Event}
 use Rattle.circus_node.specs.declared.event.Event.TheVariants as comes
 use Rattle.circus_node.specs.declared.event.Give.{Give}
 use Rattle.circus_node.specs.declared.event.Outputs.{Outputs}
-use Rattle.circus_talks.specs.Histories.{beginning_of}
-use Rattle.circus_talks.specs.NodeActs.{with_all, acts_in, acts_at_boot}
+use Rattle.circus_world_theory.specs.Histories.{beginning_of}
+use Rattle.circus_world_theory.specs.NodeActs.{with_all, acts_in, acts_at_boot}
 use Rattle.circus_world_theory.specs.NodeLives.{Events, Rising, IsOfBytes, Comes}
 use Rattle.circus_headline_theory.specs.Datagrams.Lives.{IsOfOther, is_tick, last_step, with_rest, with_events}
 use Rattle.circus_headline_theory.specs.Datagrams.Sendings.{IsSaidFor, IsSentFor}

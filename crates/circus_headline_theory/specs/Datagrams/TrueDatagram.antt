@@ -14,7 +14,7 @@ use Rattle.circus_wire.specs.WireStanding.{pair_of}
 use Rattle.circus_member_rules.specs.declared.place.Place.{Place}
 use Rattle.circus_member_rules.specs.declared.occurrence.Purpose.{Purpose}
 use Rattle.circus_node.specs.declared.event.Give.{Give}
-use Rattle.circus_timely.specs.Past.{Past, nodes_declared_down}
+use Rattle.circus_member_theory.specs.Past.{Past, nodes_declared_down}
 use Rattle.circus_headline_theory.specs.Datagrams.Sendings.{IsSaidFor, IsSentFor}
 use Rattle.circus_headline_theory.specs.Datagrams.Due.{WasSo, CallIsDue, ReturnIsDue}
 

@@ -10,7 +10,7 @@ use Rattle.circus_model.specs.Execution.{history_of}
 use Rattle.circus_model.specs.declared.signature.Signature.{Signature}
 use Rattle.circus_record.specs.declared.record.MemberRecord.{MemberRecord}
 use Rattle.circus_performing.specs.Performing.{is_active}
-use Rattle.circus_truth.specs.Stands.{Stands}
+use Rattle.circus_member_theory.specs.Stands.{Stands}
 use Rattle.circus_node.specs.Accepting.{troupe_at}
 use Rattle.circus_node.specs.NodeState.{member_record}
 use Rattle.circus_node.specs.Step as node_step
@@ -19,8 +19,8 @@ use Rattle.circus_node.specs.declared.event.Outputs.{Outputs}
 use Rattle.circus_schedule.specs.declared.line.Line.{Line}
 use Rattle.circus_world.specs.Lines.{Leads, Lead}
 use Rattle.circus_world.specs.WorldState.{WorldState, Standing}
-use Rattle.circus_talks.specs.Histories.{comes_by, acts_of}
-use Rattle.circus_talks.specs.NodeActs.{with_all, acts_in}
+use Rattle.circus_world_theory.specs.Histories.{comes_by, acts_of}
+use Rattle.circus_world_theory.specs.NodeActs.{with_all, acts_in}
 use Rattle.circus_world_theory.specs.Worlds.{IsWorldOf}
 use Rattle.circus_world_theory.specs.Happened.{past_of, happens_by, with_one}
 use Rattle.circus_headline_theory.specs.Datagrams.Lives.{is_tick, AreJustified}

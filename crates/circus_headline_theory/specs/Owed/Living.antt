@@ -13,7 +13,7 @@ use Rattle.circus_member_rules.specs.declared.occurrence.Effect.{Effect}
 use Rattle.circus_member_rules.specs.declared.occurrence.Occurrence.{Occurrence}
 use Rattle.circus_member_rules.specs.MemberState.{Doing}
 use Rattle.circus_member_rules.specs.Step as step
-use Rattle.circus_timely.specs.Past.{Past, booted, followed}
+use Rattle.circus_member_theory.specs.Past.{Past, booted, followed}
 use Rattle.circus_member_theory.specs.Living.{after}
 
 -- what was made by effects in a step

@@ -23,9 +23,9 @@ use Rattle.circus_world.specs.WorldState.{WorldState, Standing}
 use Rattle.circus_world.specs.Course.{Stepped}
 use Rattle.circus_world.specs.Course as course
 use Rattle.circus_world_theory.specs.Made.{act_of}
-use Rattle.circus_talks.specs.NodeActs.{handed_by, wire_behind, acts_at_boot}
+use Rattle.circus_world_theory.specs.NodeActs.{handed_by, wire_behind, acts_at_boot}
 use Rattle.circus_node.specs.Trace.{effects_in, effects_at_boot}
-use Rattle.circus_talks.specs.Histories.{comes_by}
+use Rattle.circus_world_theory.specs.Histories.{comes_by}
 use Rattle.circus_headline_theory.specs.Owed.Living.{made_in, told_in}
 use Rattle.circus_world_theory.specs.NodeLives.{Events}
 

@@ -3,7 +3,7 @@ ghost use Rattle.std.specs.Prelude.{◌≡◌, ◌≤◌, ◌<◌, ◌*◌, ℕ,
 ghost use Rattle.circus_collate.specs.declared.deployment.Deployment.{Deployment};
 ghost use Rattle.circus_model.specs.Behaviour.{Behaviour};
 ghost use Rattle.circus_model.specs.Execution.{history_of};
-ghost use Rattle.circus_alike.specs.Alike.{declared_of, turn_of};
+ghost use Rattle.circus_node.specs.Alike.{declared_of, turn_of};
 ghost use Rattle.circus_schedule.specs.declared.line.Line.{Line};
 ghost use Rattle.circus_world.specs.WorldState.{WorldState};
 ghost use Rattle.circus_world_theory.specs.Worlds.{IsPlainWorldOf};

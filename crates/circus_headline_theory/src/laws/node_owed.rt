@@ -9,7 +9,7 @@ ghost use Rattle.circus_node.specs.NodeState.{NodeState};
 ghost use Rattle.circus_node.specs.Step.{step_node};
 ghost use Rattle.circus_schedule.specs.declared.line.Line.{Line};
 ghost use Rattle.circus_world.specs.WorldState.{WorldState, Standing};
-ghost use Rattle.circus_timely.specs.Made.{AreDistinct};
+ghost use Rattle.circus_member_theory.specs.Made.{AreDistinct};
 ghost use Rattle.circus_world_theory.specs.Worlds.{IsWorldOf};
 ghost use Rattle.circus_world_theory.specs.Happened.{past_of};
 ghost use Rattle.circus_world_theory.specs.NodeLives.{Events, IsLife, past_behind};

@@ -32,8 +32,8 @@ use Rattle.circus_model.proofs.Logging.{some_and}
 use Rattle.circus_member_rules.specs.Messages.{outcome_spelling, reply_message}
 use Rattle.circus_member_rules.specs.declared.occurrence.Purpose.{Purpose}
 use Rattle.circus_member_rules.specs.declared.occurrence.Purpose.TheVariants as for
-use Rattle.circus_truth.specs.Messages.{IsReplyOf}
-use Rattle.circus_truth.specs.Truth.{IsTrueCallFor, IsTrueReturn}
+use Rattle.circus_member_theory.specs.Messages.{IsReplyOf}
+use Rattle.circus_member_theory.specs.Truth.{IsTrueCallFor, IsTrueReturn}
 use Rattle.circus_member_theory.proofs.Histories.{run_follows, state_is, within}
 
 -- ---- sizes

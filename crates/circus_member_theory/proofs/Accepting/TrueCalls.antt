@@ -17,8 +17,8 @@ use Rattle.circus_member_rules.specs.declared.occurrence.Occurrence.{Occurrence}
 use Rattle.circus_member_rules.specs.declared.occurrence.Purpose.{Purpose}
 use Rattle.circus_member_rules.specs.declared.occurrence.Purpose.TheVariants as for
 use Rattle.circus_member_rules.specs.MemberState.{MemberState}
-use Rattle.circus_truth.specs.Messages.{IsAskAt}
-use Rattle.circus_truth.specs.Truth.{IsTrueOccurrence, IsAskMessage, IsTrueCallFor}
+use Rattle.circus_member_theory.specs.Messages.{IsAskAt}
+use Rattle.circus_member_theory.specs.Truth.{IsTrueOccurrence, IsAskMessage, IsTrueCallFor}
 use Rattle.circus_node.specs.Headers.{call_in}
 use Rattle.circus_node.specs.Accepting.{taken_ask, taken_fetch, taken_call, accepted_call}
 use Rattle.circus_member_theory.proofs.Accepting.Calls.{call_whole, ask_length, ask_read, ask_body, request_read, fetch_read}

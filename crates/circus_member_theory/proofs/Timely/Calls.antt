@@ -15,8 +15,8 @@ use Rattle.circus_gather.specs.declared.added.Added.TheVariants as added
 use Rattle.circus_gather.specs.Gathering.{Gathered, index_of, is_of_index, reply_of, answer_to, is_held, with_call, with_start, is_known, is_counted, as_said, given_call, call_to_start, with_end, is_stale, with_required, is_before, with_first}
 use Rattle.circus_member_rules.specs.declared.place.Place.{Place}
 use Rattle.circus_member_rules.proofs.Named.{lookup-push}
-use Rattle.circus_timely.specs.Past.{Past, views_known, nodes_declared_down, required_incarnation, calls_arrived}
-use Rattle.circus_timely.specs.Timely.{collated_call}
+use Rattle.circus_member_theory.specs.Past.{Past, views_known, nodes_declared_down, required_incarnation, calls_arrived}
+use Rattle.circus_member_theory.specs.Timely.{collated_call}
 
 -- ---- lists that pass tests
 

@@ -1,7 +1,7 @@
 -- What was given first, along a past.
 use Rattle.std.proofs.Common.{◌≡◌, ℕ, ◌<◌, ◌≤◌, Option, None, Some, refl, ap, sym, ◌∙◌, arith}
-use Rattle.circus_timely.specs.Past.{Past, booted, followed, now, Rises}
-use Rattle.circus_timely.specs.First.{at_end, or_else, first_given}
+use Rattle.circus_member_theory.specs.Past.{Past, booted, followed, now, Rises}
+use Rattle.circus_member_theory.specs.First.{at_end, or_else, first_given}
 
 module _ {A : Type 0} where
   -- what was given before the end of a past

@@ -32,9 +32,9 @@ use Rattle.circus_member_rules.proofs.Writing.{one_is_performing, none_is_idle}
 use Rattle.circus_member_rules.proofs.Entering.{with_entered, turned_by_start, has_value, with_answered, turned_by_reply}
 use Rattle.circus_member_rules.proofs.Starting.{next_is_ready, may_start, IsSoundNow, sound_given, sound_entered, sound_answered}
 use Rattle.circus_member_rules.proofs.Enough.{next_is_idle, start_by}
-use Rattle.circus_timely.specs.Past.{Past, now, Rises, phase}
-use Rattle.circus_timely.specs.First.{first_given}
-use Rattle.circus_timely.specs.Timely.{ShowsAnswer, collated_call, is_free_for, may_answer}
+use Rattle.circus_member_theory.specs.Past.{Past, now, Rises, phase}
+use Rattle.circus_member_theory.specs.First.{first_given}
+use Rattle.circus_member_theory.specs.Timely.{ShowsAnswer, collated_call, is_free_for, may_answer}
 use Rattle.circus_member_theory.proofs.Timely.Firsts.{earlier, first_now, none_now}
 use Rattle.circus_member_theory.proofs.Timely.Runs.{AsksSo, IsNew, gone_so, not_before, named, ended_by, may_by, kept_of, next_more, not_free, IsInTime, RunSo, RunsSo, runs_more, runs_less, asks_more, asks_less}
 use Rattle.circus_member_theory.proofs.Timely.Calls.{left_start, call_is}

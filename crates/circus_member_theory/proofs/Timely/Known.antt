@@ -24,8 +24,8 @@ use Rattle.circus_member_rules.specs.MemberState.{MemberState, Doing}
 use Rattle.circus_member_rules.specs.Step.{is_join, answered_by_ring, handle}
 use Rattle.circus_member_rules.proofs.Homes.{ring_views, ring_down, called_views, declared_views, told_down}
 use Rattle.circus_member_theory.specs.Ranges.{InRange}
-use Rattle.circus_timely.specs.Past.{Past, booted, followed, is_newer, with_view, views_known, nodes_declared_down, required_incarnation, calls_arrived, is_asking, taken_in as way_in, phase, snapshot_fetched}
-use Rattle.circus_timely.specs.First.{first_given}
+use Rattle.circus_member_theory.specs.Past.{Past, booted, followed, is_newer, with_view, views_known, nodes_declared_down, required_incarnation, calls_arrived, is_asking, taken_in as way_in, phase, snapshot_fetched}
+use Rattle.circus_member_theory.specs.First.{first_given}
 use Rattle.circus_member_theory.proofs.Timely.Firsts.{first_now, none_yet, none_now, given_before}
 use Rattle.circus_member_theory.proofs.Timely.Phases.{once_told, once_tabled, once_restored, inactive_told, inactive_tabled, inactive_restored}
 use Rattle.circus_member_theory.proofs.Timely.Calls.{IsLeft, left_call, left_required, left_first}

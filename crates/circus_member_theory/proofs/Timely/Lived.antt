@@ -31,8 +31,8 @@ use Rattle.circus_member_rules.specs.Seen.Sound.{IsRested}
 use Rattle.circus_member_rules.proofs.Enough.{none_given}
 use Rattle.circus_member_theory.specs.Ranges.{InRange}
 use Rattle.circus_member_theory.proofs.Resting.{sound_once_handled, step_rests, boot_rests, at_boot, sound_at_boot, may_begin}
-use Rattle.circus_timely.specs.Past.{Past, booted, followed, now, Rises, snapshot_fetched}
-use Rattle.circus_timely.specs.Timely.{given_value, collated_call, collated_reply, is_free_for, may_answer, IsTimely}
+use Rattle.circus_member_theory.specs.Past.{Past, booted, followed, now, Rises, snapshot_fetched}
+use Rattle.circus_member_theory.specs.Timely.{given_value, collated_call, collated_reply, is_free_for, may_answer, IsTimely}
 use Rattle.circus_member_theory.specs.Living.{phase_at_boot, runs_at_boot, after, MayLive}
 use Rattle.circus_member_theory.proofs.Timely.Firsts.{first_is}
 use Rattle.circus_member_theory.proofs.Timely.Known.{ActiveSo}

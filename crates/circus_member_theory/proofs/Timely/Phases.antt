@@ -9,7 +9,7 @@ use Rattle.circus_transfer.specs.declared.joiner.Joiner.TheVariants.{Outside, As
 use Rattle.circus_transfer.specs.Joining.{after_join, after_table, after_state}
 use Rattle.circus_transfer.specs.Joining as joining
 use Rattle.circus_performing.specs.Performing.{is_active, is_fetching}
-use Rattle.circus_timely.specs.Past.{is_outside, is_asking, is_done, taken_in}
+use Rattle.circus_member_theory.specs.Past.{is_outside, is_asking, is_done, taken_in}
 
 pub once_told : (j : Joiner) → after_join j ≡ (if is_outside j then Asking else j)
 once_told Outside = refl

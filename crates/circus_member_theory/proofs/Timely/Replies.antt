@@ -28,8 +28,8 @@ use Rattle.circus_member_rules.specs.declared.occurrence.Occurrence.TheVariants 
 use Rattle.circus_member_rules.specs.OpenAsks.{is_name, asking_of, with_ask, with_asking}
 use Rattle.circus_member_rules.specs.Rules.{answer_in, value_of_ask, after_stale, seen_by_ask, with_new_view}
 use Rattle.circus_member_rules.proofs.Named.{names_decide, names_are, lookup-kept, opened_there}
-use Rattle.circus_timely.specs.Past.{Past, booted, followed, now, Rises, views_known, nodes_declared_down, reply_said, replies_to}
-use Rattle.circus_timely.specs.Timely.{given_value, collated_reply, may_answer}
+use Rattle.circus_member_theory.specs.Past.{Past, booted, followed, now, Rises, views_known, nodes_declared_down, reply_said, replies_to}
+use Rattle.circus_member_theory.specs.Timely.{given_value, collated_reply, may_answer}
 use Rattle.circus_member_theory.proofs.Timely.Firsts.{none_earlier}
 use Rattle.circus_member_theory.proofs.Timely.Runs.{IsNew, IsStillWaiting}
 

@@ -36,9 +36,9 @@ use Rattle.circus_member_rules.proofs.Resting.{waiting_stays}
 use Rattle.circus_member_rules.proofs.Starting.{IsSoundNow}
 use Rattle.circus_member_theory.specs.Ranges.{InRange}
 use Rattle.circus_member_theory.proofs.Resting.{same_handled}
-use Rattle.circus_timely.specs.Past.{Past, followed, now, Rises, phase}
-use Rattle.circus_timely.specs.First.{first_given}
-use Rattle.circus_timely.specs.Timely.{ShowsAnswer, may_answer, IsTimely}
+use Rattle.circus_member_theory.specs.Past.{Past, followed, now, Rises, phase}
+use Rattle.circus_member_theory.specs.First.{first_given}
+use Rattle.circus_member_theory.specs.Timely.{ShowsAnswer, may_answer, IsTimely}
 use Rattle.circus_member_theory.proofs.Timely.Firsts.{earlier, none_yet, given_before}
 use Rattle.circus_member_theory.proofs.Timely.Runs.{named, ended_by, may_by, kept_of, IsStillWaiting, IsInTime, RunSo, RunsSo}
 use Rattle.circus_member_theory.proofs.Timely.Replies.{IsWaitingBy, value_is, waits_same, waits_replied, waits_stale, waits_before, waits_seen, waits_left}

@@ -24,9 +24,9 @@ use Rattle.circus_performing.specs.Record.{start_of}
 use Rattle.circus_member_rules.specs.declared.place.Place.{Place}
 use Rattle.circus_member_rules.specs.declared.occurrence.AskName.{AskName}
 use Rattle.circus_member_rules.specs.Step.{start_by_call}
-use Rattle.circus_timely.specs.Past.{Past, now, Rises, phase}
-use Rattle.circus_timely.specs.First.{first_given}
-use Rattle.circus_timely.specs.Timely.{ShowsAnswer, IsMain, collated_call, is_free_for, may_start, may_answer, IsStartedInTime}
+use Rattle.circus_member_theory.specs.Past.{Past, now, Rises, phase}
+use Rattle.circus_member_theory.specs.First.{first_given}
+use Rattle.circus_member_theory.specs.Timely.{ShowsAnswer, IsMain, collated_call, is_free_for, may_start, may_answer, IsStartedInTime}
 use Rattle.circus_member_theory.proofs.Timely.Firsts.{earlier, same_first, none_earlier}
 
 same_there : {X : Type 0} (xs : List X) (x : X) (n : ℕ) → n < length xs → slice_get (xs ++ x ∷ []) n ≡ slice_get xs n

@@ -32,10 +32,10 @@ use Rattle.circus_member_rules.specs.declared.place.Place.{Place}
 use Rattle.circus_member_rules.specs.Happening.{IsHome, IsCallTo}
 use Rattle.circus_member_rules.specs.Step.{start_by_call}
 use Rattle.circus_member_rules.proofs.Starting.{given_is_chosen}
-use Rattle.circus_timely.specs.First.{at_end, or_else, first_given}
-use Rattle.circus_timely.specs.Past.{Past, booted, followed, views_known, nodes_declared_down, required_incarnation, calls_arrived, phase}
-use Rattle.circus_timely.specs.Starts.{IsUnpacked, IsCounted, IsStartOf, AreEnteredByCalls}
-use Rattle.circus_timely.specs.Timely.{collated_call, is_free_for, may_start}
+use Rattle.circus_member_theory.specs.First.{at_end, or_else, first_given}
+use Rattle.circus_member_theory.specs.Past.{Past, booted, followed, views_known, nodes_declared_down, required_incarnation, calls_arrived, phase}
+use Rattle.circus_member_theory.specs.Starts.{IsUnpacked, IsCounted, IsStartOf, AreEnteredByCalls}
+use Rattle.circus_member_theory.specs.Timely.{collated_call, is_free_for, may_start}
 use Rattle.circus_member_theory.specs.Living.{phase_at_boot, runs_at_boot, after, kept_after, MayLive}
 use Rattle.circus_member_theory.proofs.Timely.Firsts.{first_is}
 use Rattle.circus_member_theory.proofs.Timely.Known.{known_long}

@@ -34,7 +34,7 @@ use Rattle.circus_member_rules.proofs.Named.{lookup-push}
 use Rattle.circus_member_rules.proofs.Homes.{slice_get_none}
 use Rattle.circus_member_rules.proofs.Writing.{one_is_performing, last_is_performed, last_has_ended}
 use Rattle.circus_member_rules.proofs.Turned.{IsTurned, IsAsking, asking_now}
-use Rattle.circus_timely.specs.Past.{Past, now, Rises, views_known, nodes_declared_down, calls_arrived}
+use Rattle.circus_member_theory.specs.Past.{Past, now, Rises, views_known, nodes_declared_down, calls_arrived}
 use Rattle.circus_member_theory.proofs.Timely.Firsts.{earlier}
 use Rattle.circus_member_theory.proofs.Timely.Runs.{AsksSo, EndsNow, ended_by, may_by, RunsSo}
 use Rattle.circus_member_theory.proofs.Timely.Calls.{left_end}

@@ -2,7 +2,7 @@
 use Rattle.std.specs.Prelude.{◌≡◌, ℕ, ◌≤◌, Bool, true, false, ◌&&◌, if◌then◌else◌, nat_lt, List, [], ◌∷◌, ◌++◌, Option, Some, None, length, count_by}
 use Rattle.std.proofs.Common.{zero, suc}
 use Rattle.circus_value.specs.Among.{is_among}
-use Rattle.circus_placing.specs.Obeys.{most_machines}
+use Rattle.circus_place.specs.Obeys.{most_machines}
 use Rattle.circus_place.specs.declared.choice.Placement.{Placement}
 use Rattle.circus_place.specs.declared.test.Test.{Test}
 use Rattle.circus_place.specs.declared.search.Search.{Search}

@@ -4,10 +4,10 @@ use Rattle.std.specs.Borrow.{Bor}
 use Rattle.std.specs.Ordering.{nat_cmp}
 use Rattle.std.specs.Cmp.Lexicographic.{slice_cmp}
 use Rattle.std.specs.BTreeMap.{get_by}
-use Rattle.circus_placing.specs.declared.placing.Constant.{Constant}
-use Rattle.circus_placing.specs.declared.placing.Machine.{Machine}
-use Rattle.circus_placing.specs.declared.condition.Operand.{Operand}
-use Rattle.circus_placing.specs.declared.condition.Operand.TheVariants.{Attribute, Fixed}
+use Rattle.circus_place.specs.declared.placing.Constant.{Constant}
+use Rattle.circus_place.specs.declared.placing.Machine.{Machine}
+use Rattle.circus_place.specs.declared.condition.Operand.{Operand}
+use Rattle.circus_place.specs.declared.condition.Operand.TheVariants.{Attribute, Fixed}
 use Rattle.circus_place.specs.Value.{attribute_in}
 use Rattle.circus_place.specs.declared.attributes.Attributes.{Attributes}
 use Rattle.circus_place.specs.declared.relation.Relation.{Relation}

@@ -1,8 +1,8 @@
 -- Conditions as the search asks them.
 use Rattle.std.specs.Prelude.{◌≡◌, ℕ, ◌-◌, ◌<◌, Bool, true, false, ◌&&◌, ◌||◌, not, if◌then◌else◌, nat_eq, List, [], ◌∷◌, length, slice_get, slice_index, Option, Some, None, option_map, All}
 use Rattle.std.specs.List.{list_any}
-use Rattle.circus_placing.specs.declared.condition.Operand.{Operand}
-use Rattle.circus_placing.specs.declared.condition.Operand.TheVariants.{Attribute, Fixed}
+use Rattle.circus_place.specs.declared.condition.Operand.{Operand}
+use Rattle.circus_place.specs.declared.condition.Operand.TheVariants.{Attribute, Fixed}
 use Rattle.circus_place.specs.declared.relation.Relation.{Relation}
 use Rattle.circus_place.specs.declared.test.Test.{Test, Or', And', Not', Related, Differ}
 use Rattle.circus_place.specs.Seen.Table.{flag_at, relates}

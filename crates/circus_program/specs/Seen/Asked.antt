@@ -1,8 +1,8 @@
 -- What a form asks for, as the code says it, as plain data.
 use Rattle.std.specs.Prelude.{List, ℕ}
 use Rattle.circus_config.specs.declared.plan.Plan.{Plan}
-use Rattle.circus_ending.specs.declared.one_file.OneFile.{OneFile}
-use Rattle.circus_ending.specs.declared.one_file.OneFile.TheVariants.{Stubs, Run, Place}
+use Rattle.circus_commands.specs.declared.one_file.OneFile.{OneFile}
+use Rattle.circus_commands.specs.declared.one_file.OneFile.TheVariants.{Stubs, Run, Place}
 use Rattle.circus_program.specs.Form.{CommandForm, stubs, run, node, sample, draw, settle, place, second_form}
 use Rattle.circus_program.specs.Answer.{Due, IsDueOfEnd, IsDueOfProgram, IsDueOfSample, IsDueOfLines, IsDueOfSettle, IsDueOfNode}
 use Rattle.circus_program.specs.declared.answer.Task.{Task}

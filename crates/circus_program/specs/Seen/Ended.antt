@@ -3,9 +3,9 @@ use Rattle.std.specs.Prelude.{◌≡◌, ℕ, Option, List}
 use Rattle.circus_record.specs.Naming.{Names}
 use Rattle.circus_report.specs.declared.running.RunFault.{RunFault}
 use Rattle.circus_report.specs.declared.running.RunFault.TheVariants as fault
-use Rattle.circus_ending.specs.declared.status.Status.{Status}
-use Rattle.circus_ending.specs.declared.status.Status.TheVariants.{SinkFault, NoMemory}
-use Rattle.circus_ending.specs.Spent.{end_of_spent}
+use Rattle.circus_commands.specs.declared.status.Status.{Status}
+use Rattle.circus_commands.specs.declared.status.Status.TheVariants.{SinkFault, NoMemory}
+use Rattle.circus_commands.specs.Spent.{end_of_spent}
 use Rattle.circus_program.specs.Replay.{cause_text, refuse_line}
 use Rattle.circus_program.specs.Seen.Put.{IsPutEnd}
 

@@ -11,8 +11,8 @@ use Rattle.circus_world.specs.Legal.{refusal}
 use Rattle.circus_world.specs.Course.{step_line}
 use Rattle.circus_report.specs.declared.running.RunFault.{RunFault}
 use Rattle.circus_report.specs.declared.running.RunFault.TheVariants as fault
-use Rattle.circus_ending.specs.Ending.{Ending}
-use Rattle.circus_ending.specs.Spent.{end_of_spent}
+use Rattle.circus_commands.specs.Ending.{Ending}
+use Rattle.circus_commands.specs.Spent.{end_of_spent}
 use Rattle.circus_program.specs.declared.drawing.Cut.{Cut}
 use Rattle.circus_program.specs.Replay.{cause_text, refuse_line, follow_lines}
 

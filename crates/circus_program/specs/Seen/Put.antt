@@ -1,12 +1,12 @@
 -- What a call answers, as one fact.
 use Rattle.std.specs.Prelude.{◌≡◌, ◌⊎◌, ℕ, Option, List, Result, Ok, Err, IsTrue}
 use Rattle.circus_outside.specs.Faults.{Rose}
-use Rattle.circus_ending.specs.declared.status.Status.{Status}
-use Rattle.circus_ending.specs.declared.status.Status.TheVariants.{ShelfFault, SinkFault, LinkFault, NoMemory}
-use Rattle.circus_ending.specs.Status.{is_end}
-use Rattle.circus_ending.specs.Ending.{Ending}
-use Rattle.circus_ending.specs.declared.ending.Ending as coded
-use Rattle.circus_ending.specs.Seen.Ending.{ending_of}
+use Rattle.circus_commands.specs.declared.status.Status.{Status}
+use Rattle.circus_commands.specs.declared.status.Status.TheVariants.{ShelfFault, SinkFault, LinkFault, NoMemory}
+use Rattle.circus_commands.specs.Status.{is_end}
+use Rattle.circus_commands.specs.Ending.{Ending}
+use Rattle.circus_commands.specs.declared.ending.Ending as coded
+use Rattle.circus_commands.specs.Seen.Ending.{ending_of}
 use Rattle.circus_report.specs.Writing.{Writes, WritesPart}
 use Rattle.circus_serve.specs.Outside.{Tells}
 use Rattle.circus_program.specs.Answer.{WritesPartOfText, WritesEnd, WritesLack}

@@ -2,14 +2,14 @@
 use Rattle.std.specs.Prelude.{ℕ, ◌≡◌, ◌⊎◌, ◌<◌, Option, List, [], ◌∷◌, length, IsTrue}
 use Rattle.circus_outside.specs.Faults.{Rose}
 use Rattle.circus_serve.specs.Outside.{Tells}
-use Rattle.circus_served.specs.NodeEnds.{IsEndOfServing}
+use Rattle.circus_node_command.specs.NodeEnds.{IsEndOfServing}
 use Rattle.circus_program.specs.declared.answer.Step.{Step}
 use Rattle.circus_program.specs.declared.answer.Step.TheVariants.{Finish, Lack, Replay, Serve}
-use Rattle.circus_ending.specs.declared.status.Status.{Status}
-use Rattle.circus_ending.specs.declared.status.Status.TheVariants.{ShelfFault, NoMemory}
-use Rattle.circus_ending.specs.Status.{is_end}
-use Rattle.circus_ending.specs.Ending.{Ending}
-use Rattle.circus_ending.specs.Seen.Ending.{ending_of}
+use Rattle.circus_commands.specs.declared.status.Status.{Status}
+use Rattle.circus_commands.specs.declared.status.Status.TheVariants.{ShelfFault, NoMemory}
+use Rattle.circus_commands.specs.Status.{is_end}
+use Rattle.circus_commands.specs.Ending.{Ending}
+use Rattle.circus_commands.specs.Seen.Ending.{ending_of}
 use Rattle.circus_config.specs.declared.plan.Plan.{Plan}
 use Rattle.circus_config.specs.Program.{IsProgramOf, IsPlan}
 use Rattle.circus_program.specs.declared.second.Second.{Second}

@@ -18,8 +18,8 @@ use Rattle.circus_schedule.specs.declared.line.Line.{Line}
 use Rattle.circus_world.specs.WorldState.{WorldState}
 use Rattle.circus_world.specs.Boot.{before_any, all_booted, AreHosted}
 use Rattle.circus_world.specs.Lines.{Lead}
-use Rattle.circus_talks.specs.NodeActs.{with_all, acts_at_boot}
-use Rattle.circus_talks.proofs.Boots.{world_stands}
+use Rattle.circus_world_theory.specs.NodeActs.{with_all, acts_at_boot}
+use Rattle.circus_world_theory.proofs.Boots.{world_stands}
 use Rattle.circus_world_theory.proofs.Booted.{all_have_booted}
 use Rattle.circus_world_theory.proofs.Border.Boots.{BootHands, boot_hands, boot_at_border}
 use Rattle.circus_world_theory.proofs.Border.Steps.{IsAtBorder}

@@ -32,8 +32,8 @@ use Rattle.circus_node.specs.Making.{Made}
 use Rattle.circus_node.specs.Booting.{home_in, home_of, IsOfTroupe, CanBoot, fresh_wire, member_at_boot, ring_at_boot, made_at_boot, boot_node}
 use Rattle.circus_node.proofs.BootLemmas.{is_home}
 use Rattle.circus_node.proofs.ViewLemmas.{booted_knows}
-use Rattle.circus_talks.specs.NodeActs.{with_all, handed_by, acts_at_boot}
-use Rattle.circus_talks.specs.Histories.{beginning_of}
+use Rattle.circus_world_theory.specs.NodeActs.{with_all, handed_by, acts_at_boot}
+use Rattle.circus_world_theory.specs.Histories.{beginning_of}
 use Rattle.circus_world_theory.proofs.Border.Booting.{booted_sound}
 use Rattle.circus_world_theory.proofs.Border.Reaching.{Reaches, boot_reaches}
 use Rattle.circus_world_theory.proofs.Border.Sizing.{SaysBriefly, boot_is_sized}

@@ -16,7 +16,7 @@ use Rattle.circus_member_rules.specs.declared.occurrence.Purpose.{Purpose}
 use Rattle.circus_member_rules.specs.declared.occurrence.Effect.{Effect}
 use Rattle.circus_member_rules.specs.declared.occurrence.Effect.TheVariants as made
 use Rattle.circus_node.specs.Sending.{is_sendable}
-use Rattle.circus_talks.specs.NodeActs.{with_all, handed_by}
+use Rattle.circus_world_theory.specs.NodeActs.{with_all, handed_by}
 use Rattle.circus_world_theory.proofs.Border.Brief.{IsBrief, brief_is_sendable}
 use Rattle.circus_world_theory.proofs.Border.Sizing.{SaysBriefly, AllBrief}
 use Rattle.circus_world_theory.proofs.Border.Waiting.{is_caller, one_if, answered_in}

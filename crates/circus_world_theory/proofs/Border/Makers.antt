@@ -31,8 +31,8 @@ use Rattle.circus_node.specs.Sending.{is_sendable}
 use Rattle.circus_schedule.specs.declared.line.Line.{Line}
 use Rattle.circus_world.specs.WorldState.{WorldState, Standing}
 use Rattle.circus_world.specs.Lines.{Lead}
-use Rattle.circus_talks.specs.Histories.{beginning_of, comes_by, with_step, with_line, with_lines, with_others, acts_of, acts_between}
-use Rattle.circus_talks.specs.NodeActs.{with_all, acts_of_datagram, came_by, handed_by, wire_behind, acts_in, acts_at_boot}
+use Rattle.circus_world_theory.specs.Histories.{beginning_of, comes_by, with_step, with_line, with_lines, with_others, acts_of, acts_between}
+use Rattle.circus_world_theory.specs.NodeActs.{with_all, acts_of_datagram, came_by, handed_by, wire_behind, acts_in, acts_at_boot}
 use Rattle.circus_node.specs.Trace.{effects_in}
 use Rattle.circus_world_theory.specs.Made.{act_of}
 use Rattle.circus_world_theory.specs.Made.{WasMade, WasMadeAtAll, CallWasMade}

@@ -35,8 +35,8 @@ use Rattle.circus_member_rules.specs.Step.{is_lookup, handle, step_member, execu
 use Rattle.circus_member_rules.proofs.Resting.{rested}
 use Rattle.circus_member_rules.proofs.Starting.{IsSoundNow, sound_executed}
 use Rattle.circus_node.proofs.ViewLemmas.{executed_knows}
-use Rattle.circus_talks.specs.NodeActs.{with_all}
-use Rattle.circus_talks.specs.Histories.{beginning_of}
+use Rattle.circus_world_theory.specs.NodeActs.{with_all}
+use Rattle.circus_world_theory.specs.Histories.{beginning_of}
 use Rattle.circus_member_theory.specs.Ranges.{InRange}
 use Rattle.circus_member_theory.proofs.Resting.{sound_once_handled}
 use Rattle.circus_world_theory.proofs.Border.Going.{begun, behaves}

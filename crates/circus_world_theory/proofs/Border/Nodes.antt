@@ -41,8 +41,8 @@ use Rattle.circus_node.specs.NodeState.{Acting, member, ringmaster}
 use Rattle.circus_node.specs.Making.{Made, hears, arrives_at_member, called_at_ring, performs, table_message, learns_down, is_told_to_join, happens, keep_acting, refuse, by_ring, consequences, a_drop}
 use Rattle.circus_node.specs.Seen.Kept.{IsRingOf}
 use Rattle.circus_node.proofs.RingLemmas.{is_table, still_ring}
-use Rattle.circus_talks.specs.NodeActs.{with_all}
-use Rattle.circus_talks.specs.Histories.{beginning_of}
+use Rattle.circus_world_theory.specs.NodeActs.{with_all}
+use Rattle.circus_world_theory.specs.Histories.{beginning_of}
 use Rattle.circus_member_theory.specs.Ranges.{InRange}
 use Rattle.circus_world_theory.proofs.Border.Brief.{IsBrief, fields_few}
 use Rattle.circus_world_theory.proofs.Border.Sizing.{SaysBriefly, AllBrief}

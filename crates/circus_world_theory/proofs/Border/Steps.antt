@@ -31,11 +31,11 @@ use Rattle.circus_node.specs.NodeState.{NodeState}
 use Rattle.circus_node.specs.Making.{Made, hears, learns_down, is_told_to_join}
 use Rattle.circus_node.specs.Sending.{Sending, sent, spent, gives_of, is_sendable, hand_over, all_handed}
 use Rattle.circus_node.specs.Step.{CanCome, end_step, conclude_step, step_node}
-use Rattle.circus_talks.specs.NodeActs.{with_all, acts_of_datagram, came_by, wire_behind, acts_in, handed_by}
+use Rattle.circus_world_theory.specs.NodeActs.{with_all, acts_of_datagram, came_by, wire_behind, acts_in, handed_by}
 use Rattle.circus_node.specs.Trace.{effects_in}
-use Rattle.circus_talks.specs.Histories.{beginning_of}
-use Rattle.circus_talks.proofs.Given.{with_both}
-use Rattle.circus_talks.proofs.Steps.{IsRead}
+use Rattle.circus_world_theory.specs.Histories.{beginning_of}
+use Rattle.circus_world_theory.proofs.Given.{with_both}
+use Rattle.circus_world_theory.proofs.Steps.{IsRead}
 use Rattle.circus_world_theory.proofs.Border.Pairs.{awaits_in, awaits_on, awaits_behind, call_arrives, up_called, up_answered, up_heard, up_ticked, up_stopped}
 use Rattle.circus_world_theory.proofs.Border.Sizing.{AllBrief}
 use Rattle.circus_world_theory.proofs.Border.Handing.{AreReturns}

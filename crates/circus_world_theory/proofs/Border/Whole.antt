@@ -26,10 +26,10 @@ use Rattle.circus_node.specs.NodeState.{Acting, member, ringmaster}
 use Rattle.circus_schedule.specs.declared.line.Line.{Line}
 use Rattle.circus_world.specs.WorldState.{WorldState, Standing}
 use Rattle.circus_world.specs.Lines.{Lead}
-use Rattle.circus_talks.specs.Histories.{acts_of, comes_by, with_line}
-use Rattle.circus_talks.proofs.Boots.{world_stands}
-use Rattle.circus_talks.proofs.Worlds.{Stands}
-use Rattle.circus_truth.specs.Proper.{AreProper}
+use Rattle.circus_world_theory.specs.Histories.{acts_of, comes_by, with_line}
+use Rattle.circus_world_theory.proofs.Boots.{world_stands}
+use Rattle.circus_world_theory.proofs.Worlds.{Stands}
+use Rattle.circus_member_theory.specs.Proper.{AreProper}
 use Rattle.circus_member_theory.proofs.Step.{in_range}
 use Rattle.circus_world_theory.specs.Worlds.{IsWorldOf}
 use Rattle.circus_world_theory.proofs.Along.{line_talks, line_true}

@@ -29,10 +29,10 @@ use Rattle.circus_world.specs.Course.{Stepped, noted, pass_step, crash_node, tol
 use Rattle.circus_world.specs.Lines.{Leads, Lead}
 use Rattle.circus_world.proofs.ComeLemmas.{datagram_may_come, delivered_at, down_differs}
 use Rattle.circus_world.proofs.SlotLemmas.{get_set, get_there, all_at}
-use Rattle.circus_talks.specs.Histories.{beginning_of, delivery, comes_by, with_line, with_lines, with_others}
-use Rattle.circus_talks.specs.NodeActs.{with_all, acts_in}
-use Rattle.circus_talks.proofs.Steps.{IsRead}
-use Rattle.circus_talks.proofs.Worlds.{Stands, IsGiven, IsReal, is_other, came_sent, get_same}
+use Rattle.circus_world_theory.specs.Histories.{beginning_of, delivery, comes_by, with_line, with_lines, with_others}
+use Rattle.circus_world_theory.specs.NodeActs.{with_all, acts_in}
+use Rattle.circus_world_theory.proofs.Steps.{IsRead}
+use Rattle.circus_world_theory.proofs.Worlds.{Stands, IsGiven, IsReal, is_other, came_sent, get_same}
 use Rattle.circus_world_theory.proofs.Along.{noted_at, live_there, below_sent, nothing_by, here_by, elsewhere_by, line_talks}
 use Rattle.circus_world_theory.proofs.Stepping.{same_world, comes_is}
 use Rattle.circus_world_theory.proofs.Border.Steps.{IsAtBorder, MayTake, IsHandedWhole, step_at_border}

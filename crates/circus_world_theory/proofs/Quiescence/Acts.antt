@@ -25,7 +25,7 @@ use Rattle.circus_wire.proofs.Performing.{came_tells}
 use Rattle.circus_member_rules.specs.declared.occurrence.Purpose.{Purpose}
 use Rattle.circus_member_rules.specs.declared.occurrence.Effect.{Effect}
 use Rattle.circus_member_rules.specs.declared.occurrence.Effect.TheVariants as made
-use Rattle.circus_talks.specs.NodeActs.{with_all}
+use Rattle.circus_world_theory.specs.NodeActs.{with_all}
 use Rattle.circus_world_theory.specs.Made.{act_of}
 use Rattle.circus_world_theory.proofs.Border.Handing.{AreReturns, is_same}
 use Rattle.circus_world_theory.proofs.Border.Waiting.{is_caller, one_if, answered_in}

@@ -28,7 +28,7 @@ use Rattle.circus_node.specs.NodeState.{NodeState}
 use Rattle.circus_node.specs.Making.{Made, hears}
 use Rattle.circus_node.specs.Sending.{Sending, sent, spent, give_to, gives_of, is_sendable, hand_over, all_handed}
 use Rattle.circus_node.specs.Step.{end_step, conclude_step, step_node}
-use Rattle.circus_talks.proofs.Given.{same_end}
+use Rattle.circus_world_theory.proofs.Given.{same_end}
 use Rattle.circus_world_theory.proofs.Quiescence.Amounts.{is_data, datas, datas-append, first_long, first_datas}
 use Rattle.circus_world_theory.proofs.Quiescence.Sums.{one, weigh, weigh-append}
 

@@ -41,7 +41,7 @@ use Rattle.circus_member_rules.specs.MemberState.{MemberState, Doing}
 use Rattle.circus_member_rules.specs.Step.{main_start, before_any, performer_at_boot, starts_at_boot, enter_run_of, boot_member, after_turns, opened_ask, ended_run, opened_by_view, name_of_last, asking_begun}
 use Rattle.circus_member_theory.proofs.Resting.{at_boot, sound_at_boot, may_begin}
 use Rattle.circus_node.proofs.ViewLemmas.{booted_knows}
-use Rattle.circus_truth.specs.Stands.{Stands, IsIdle, IsBusy}
+use Rattle.circus_member_theory.specs.Stands.{Stands, IsIdle, IsBusy}
 use Rattle.circus_world_theory.specs.Still.{phase_of}
 use Rattle.circus_world_theory.proofs.Quiescence.Phases.{entered_keeps}
 use Rattle.circus_world_theory.specs.Told.{Recorded, IsOpenAt}

@@ -55,12 +55,12 @@ use Rattle.circus_node.specs.Booting as node_booting
 use Rattle.circus_node.specs.Step as node_step
 use Rattle.circus_node.specs.NodeState.{Acting, member, ringmaster}
 use Rattle.circus_schedule.specs.declared.line.Line.{Line}
-use Rattle.circus_truth.specs.Truth.{reply_to, IsAskMessage, IsTrueCallFor, IsTrueReturn}
+use Rattle.circus_member_theory.specs.Truth.{reply_to, IsAskMessage, IsTrueCallFor, IsTrueReturn}
 use Rattle.circus_world.specs.WorldState.{WorldState, Standing}
 use Rattle.circus_world.proofs.SlotLemmas.{get_there}
-use Rattle.circus_talks.specs.Histories.{beginning_of}
-use Rattle.circus_talks.proofs.Boots.{world_stands}
-use Rattle.circus_talks.proofs.Worlds.{Stands, at_pair, lawful_at}
+use Rattle.circus_world_theory.specs.Histories.{beginning_of}
+use Rattle.circus_world_theory.proofs.Boots.{world_stands}
+use Rattle.circus_world_theory.proofs.Worlds.{Stands, at_pair, lawful_at}
 use Rattle.circus_world_theory.specs.Worlds.{IsWorldOf}
 use Rattle.circus_world_theory.proofs.Saying.{IsSaidCall, call_said, return_said}
 use Rattle.circus_world_theory.proofs.Stepping.{CalledAt}

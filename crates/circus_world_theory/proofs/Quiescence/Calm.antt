@@ -44,7 +44,7 @@ use Rattle.circus_member_rules.specs.Seen.Sound.{IsRested}
 use Rattle.circus_member_rules.specs.Step.{handle, step_member}
 use Rattle.circus_member_theory.proofs.Resting.{step_rests}
 use Rattle.circus_member_theory.specs.Ranges.{InRange}
-use Rattle.circus_talks.specs.NodeActs.{with_all}
+use Rattle.circus_world_theory.specs.NodeActs.{with_all}
 use Rattle.circus_world.proofs.SlotLemmas.{all_at}
 use Rattle.circus_world_theory.specs.Made.{act_of}
 use Rattle.circus_world_theory.proofs.Border.Handing.{AreReturns, itself}

@@ -51,12 +51,12 @@ use Rattle.circus_schedule.specs.declared.line.Line.TheVariants.{Deliver, Tick, 
 use Rattle.circus_world.specs.WorldState.{WorldState, Standing}
 use Rattle.circus_world.specs.Lines.{Lead}
 use Rattle.circus_world.proofs.SlotLemmas.{get_set, get_there, all_at}
-use Rattle.circus_talks.specs.Histories.{beginning_of, with_line, with_lines, with_others}
-use Rattle.circus_talks.specs.NodeActs.{with_all, acts_of_datagram, came_by, wire_behind}
+use Rattle.circus_world_theory.specs.Histories.{beginning_of, with_line, with_lines, with_others}
+use Rattle.circus_world_theory.specs.NodeActs.{with_all, acts_of_datagram, came_by, wire_behind}
 use Rattle.circus_node.specs.Trace.{effects_in}
-use Rattle.circus_talks.proofs.Given.{with_both}
-use Rattle.circus_talks.proofs.Worlds.{Stands, IsGiven, get_same, came_sent}
-use Rattle.circus_truth.specs.Proper.{AreProper}
+use Rattle.circus_world_theory.proofs.Given.{with_both}
+use Rattle.circus_world_theory.proofs.Worlds.{Stands, IsGiven, get_same, came_sent}
+use Rattle.circus_member_theory.specs.Proper.{AreProper}
 use Rattle.circus_world_theory.proofs.Handing.{IsMade, step_said}
 use Rattle.circus_world_theory.proofs.Saying.{AllSaid, IsSaidCall, all_said_weaker, purpose_said}
 use Rattle.circus_world_theory.proofs.Stepping.{CalledAt, HeardAt, NodesTrue, ends_true}

@@ -43,8 +43,8 @@ use Rattle.circus_node.proofs.TroupeLemmas.{hosted_can_boot}
 use Rattle.circus_schedule.specs.declared.line.Line.{Line}
 use Rattle.circus_world.specs.WorldState.{WorldState, Standing}
 use Rattle.circus_world.proofs.SlotLemmas.{get_there, all_at}
-use Rattle.circus_talks.specs.Histories.{beginning_of, acts_of}
-use Rattle.circus_talks.specs.NodeActs.{with_all, handed_by}
+use Rattle.circus_world_theory.specs.Histories.{beginning_of, acts_of}
+use Rattle.circus_world_theory.specs.NodeActs.{with_all, handed_by}
 use Rattle.circus_world_theory.specs.Worlds.{IsWorldOf}
 use Rattle.circus_world_theory.proofs.Handing.{IsMade, boot_said}
 use Rattle.circus_world_theory.proofs.Saying.{AllSaid}

@@ -17,8 +17,8 @@ use Rattle.circus_schedule.specs.declared.line.Line.TheVariants.{Deliver, Tick, 
 use Rattle.circus_world.specs.declared.sent.Sent.{Sent}
 use Rattle.circus_world.specs.WorldState.{WorldState}
 use Rattle.circus_world.specs.Lines.{Lead}
-use Rattle.circus_talks.specs.Histories.{beginning_of, with_line}
-use Rattle.circus_talks.proofs.Worlds.{Stands, is_other}
+use Rattle.circus_world_theory.specs.Histories.{beginning_of, with_line}
+use Rattle.circus_world_theory.proofs.Worlds.{Stands, is_other}
 use Rattle.circus_world_theory.specs.Enough.{total, AreOnce}
 use Rattle.circus_world_theory.specs.Quiet.{IsDelivery}
 use Rattle.circus_world_theory.proofs.Quiescence.Amounts.{is_data}

@@ -34,11 +34,11 @@ use Rattle.circus_world.specs.Boot.{before_any, joined_by, then_others, all_boot
 use Rattle.circus_world.specs.Lines.{Leads, Lead}
 use Rattle.circus_world.proofs.ComeLemmas.{datagram_may_come, goes_there, delivered_at}
 use Rattle.circus_world.proofs.SlotLemmas.{get_set, get_push, get_there}
-use Rattle.circus_talks.specs.Histories.{delivery, comes_by, with_step, with_line, with_lines, with_others}
-use Rattle.circus_talks.specs.NodeActs.{with_all, acts_in, acts_at_boot}
-use Rattle.circus_talks.proofs.Boots.{world_stands}
-use Rattle.circus_talks.proofs.Lines.{lead_stands}
-use Rattle.circus_talks.proofs.Worlds.{Stands}
+use Rattle.circus_world_theory.specs.Histories.{delivery, comes_by, with_step, with_line, with_lines, with_others}
+use Rattle.circus_world_theory.specs.NodeActs.{with_all, acts_in, acts_at_boot}
+use Rattle.circus_world_theory.proofs.Boots.{world_stands}
+use Rattle.circus_world_theory.proofs.Lines.{lead_stands}
+use Rattle.circus_world_theory.proofs.Worlds.{Stands}
 use Rattle.circus_world_theory.specs.Enough.{total}
 use Rattle.circus_world_theory.proofs.Quiescence.Amounts.{is_data}
 use Rattle.circus_world_theory.proofs.Quiescence.Answering.{data_in, boot_but}

@@ -48,8 +48,8 @@ use Rattle.circus_member_rules.specs.declared.place.Beginning.TheVariants as Beg
 use Rattle.circus_transfer.specs.declared.joiner.Joiner.TheVariants.{Outside, Active}
 use Rattle.circus_node.specs.NodeState.{Acting, member, ringmaster, member_record}
 use Rattle.circus_schedule.specs.declared.line.Line.{Line}
-use Rattle.circus_truth.specs.Stands.{IsPerformed, IsIdle, IsBusy, IsUnderWay, Stands}
-use Rattle.circus_talks.proofs.Boots.{world_stands}
+use Rattle.circus_member_theory.specs.Stands.{IsPerformed, IsIdle, IsBusy, IsUnderWay, Stands}
+use Rattle.circus_world_theory.proofs.Boots.{world_stands}
 use Rattle.circus_world.specs.WorldState.{WorldState, Standing}
 use Rattle.circus_world.proofs.SlotLemmas.{get_there}
 use Rattle.circus_wire.specs.WireActs.{WireActs}
@@ -85,9 +85,9 @@ use Rattle.circus_gather.specs.declared.held.HeldCall.{HeldCall}
 use Rattle.circus_member_rules.specs.Messages.{ask_message}
 use Rattle.circus_member_rules.specs.declared.occurrence.AskName.{AskName}
 use Rattle.circus_member_rules.specs.declared.occurrence.Purpose.TheVariants as for
-use Rattle.circus_truth.specs.Messages.{IsAskAt, AsksSo}
-use Rattle.circus_truth.specs.Truth.{reply_to, Answers, IsTrueAsking, IsCalled}
-use Rattle.circus_talks.specs.Histories.{beginning_of}
+use Rattle.circus_member_theory.specs.Messages.{IsAskAt, AsksSo}
+use Rattle.circus_member_theory.specs.Truth.{reply_to, Answers, IsTrueAsking, IsCalled}
+use Rattle.circus_world_theory.specs.Histories.{beginning_of}
 use Rattle.circus_member_theory.proofs.Accepting.Calls.{ask_header}
 use Rattle.circus_world.proofs.SlotLemmas.{all_at}
 use Rattle.circus_world_theory.specs.Agreeing.{HasCalled, HasCalledFor}

@@ -32,8 +32,8 @@ use Rattle.circus_node.specs.Making.{hears}
 use Rattle.circus_node.specs.Booting.{boot_node, fresh_wire, home_of, made_at_boot}
 use Rattle.circus_node.specs.declared.event.Event.TheVariants.{Datagram}
 use Rattle.circus_node.specs.Step.{step_node}
-use Rattle.circus_talks.specs.Histories.{beginning_of}
-use Rattle.circus_talks.specs.NodeActs.{acts_of_datagram, acts_in, acts_at_boot}
+use Rattle.circus_world_theory.specs.Histories.{beginning_of}
+use Rattle.circus_world_theory.specs.NodeActs.{acts_of_datagram, acts_in, acts_at_boot}
 use Rattle.circus_member_rules.specs.declared.occurrence.Purpose.{Purpose}
 use Rattle.circus_member_rules.specs.declared.occurrence.Effect.{Effect}
 use Rattle.circus_member_rules.specs.declared.occurrence.Effect.TheVariants as made
@@ -43,9 +43,9 @@ use Rattle.circus_node.specs.NodeState.{NodeState}
 use Rattle.circus_node.specs.Making.{Made}
 use Rattle.circus_node.specs.Sending.{Sending, sent, spent, give_to, gives_of, is_sendable, hand_over, all_handed}
 use Rattle.circus_node.specs.Step.{end_step, conclude_step}
-use Rattle.circus_talks.specs.NodeActs.{with_all, handed_by}
-use Rattle.circus_talks.proofs.Spelled.{few_made}
-use Rattle.circus_talks.proofs.Given.{WasGiven, with_both, same_end}
+use Rattle.circus_world_theory.specs.NodeActs.{with_all, handed_by}
+use Rattle.circus_world_theory.proofs.Spelled.{few_made}
+use Rattle.circus_world_theory.proofs.Given.{WasGiven, with_both, same_end}
 use Rattle.circus_world_theory.specs.Enough.{total}
 use Rattle.circus_world_theory.proofs.Quiescence.Amounts.{is_data, datas, datas-append}
 use Rattle.circus_world_theory.proofs.Quiescence.Answering.{data_in, data_of_batch}

@@ -38,11 +38,11 @@ use Rattle.circus_world.specs.Course as course
 use Rattle.circus_world.specs.Boot.{before_any, all_booted, AreHosted}
 use Rattle.circus_world.specs.Lines.{Lead}
 use Rattle.circus_world.proofs.SlotLemmas.{get_there, all_at}
-use Rattle.circus_talks.specs.Histories.{beginning_of, acts_of}
-use Rattle.circus_talks.specs.NodeActs.{with_all, acts_of_datagram, handed_by, wire_behind, acts_in, acts_at_boot}
+use Rattle.circus_world_theory.specs.Histories.{beginning_of, acts_of}
+use Rattle.circus_world_theory.specs.NodeActs.{with_all, acts_of_datagram, handed_by, wire_behind, acts_in, acts_at_boot}
 use Rattle.circus_node.specs.Trace.{effects_in}
-use Rattle.circus_talks.proofs.Given.{WasGiven}
-use Rattle.circus_talks.proofs.Worlds.{Stands, IsGiven, at_pair, is_other, lawful_at, came_sent}
+use Rattle.circus_world_theory.proofs.Given.{WasGiven}
+use Rattle.circus_world_theory.proofs.Worlds.{Stands, IsGiven, at_pair, is_other, lawful_at, came_sent}
 use Rattle.circus_world_theory.specs.Coming.{IsUndisturbed, HasCome, AllCame, AllArrived}
 use Rattle.circus_world_theory.specs.Quiet.{IsDelivery, IsQuiet}
 use Rattle.circus_world_theory.proofs.Quiescence.Joint.{joint_talk}

@@ -11,7 +11,7 @@ use Rattle.circus_model.specs.declared.signature.Signature.{Signature}
 use Rattle.circus_record.specs.declared.record.MemberRecord.{MemberRecord}
 use Rattle.circus_node.specs.Accepting.{is_root}
 use Rattle.circus_node.specs.NodeState.{member_record}
-use Rattle.circus_alike.specs.Alike.{declared_of}
+use Rattle.circus_node.specs.Alike.{declared_of}
 use Rattle.circus_schedule.specs.declared.line.Line.{Line}
 use Rattle.circus_world.specs.WorldState.{WorldState, Standing}
 use Rattle.circus_world.specs.Alike.{standing_as}

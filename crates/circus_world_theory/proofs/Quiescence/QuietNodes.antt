@@ -49,12 +49,12 @@ use Rattle.circus_node.specs.Step as node_step
 use Rattle.circus_world.specs.WorldState.{WorldState, Standing}
 use Rattle.circus_world.specs.Course.{Stepped, comes_to, conclude_step}
 use Rattle.circus_world.proofs.SlotLemmas.{get_set}
-use Rattle.circus_talks.specs.Histories.{beginning_of}
-use Rattle.circus_talks.specs.NodeActs.{wire_behind, acts_in}
+use Rattle.circus_world_theory.specs.Histories.{beginning_of}
+use Rattle.circus_world_theory.specs.NodeActs.{wire_behind, acts_in}
 use Rattle.circus_node.specs.Trace.{effects_in}
-use Rattle.circus_talks.proofs.Worlds.{Stands, at_pair}
-use Rattle.circus_truth.specs.Proper.{AreProper}
-use Rattle.circus_truth.specs.Truth.{IsTrueCallFor}
+use Rattle.circus_world_theory.proofs.Worlds.{Stands, at_pair}
+use Rattle.circus_member_theory.specs.Proper.{AreProper}
+use Rattle.circus_member_theory.specs.Truth.{IsTrueCallFor}
 use Rattle.circus_world_theory.proofs.Along.{heard_at}
 use Rattle.circus_world_theory.proofs.Handing.{IsMade, calls_stay, step_said}
 use Rattle.circus_world_theory.proofs.Making.{MayHaveModule}

@@ -38,9 +38,9 @@ use Rattle.circus_node.proofs.TroupeLemmas.{hosted_can_boot}
 use Rattle.circus_schedule.specs.declared.line.Line.{Line}
 use Rattle.circus_world.specs.WorldState.{WorldState, Standing}
 use Rattle.circus_world.proofs.SlotLemmas.{get_there}
-use Rattle.circus_talks.specs.Histories.{beginning_of, acts_of}
-use Rattle.circus_talks.proofs.Worlds.{Stands}
-use Rattle.circus_truth.specs.Truth.{IsReplyMessage}
+use Rattle.circus_world_theory.specs.Histories.{beginning_of, acts_of}
+use Rattle.circus_world_theory.proofs.Worlds.{Stands}
+use Rattle.circus_member_theory.specs.Truth.{IsReplyMessage}
 use Rattle.circus_world_theory.specs.Agreeing.{IsTrueReplyTo, HasCalled}
 use Rattle.circus_world_theory.specs.Worlds.{IsWorldOf}
 use Rattle.circus_world_theory.proofs.Beginning.{boot_true}

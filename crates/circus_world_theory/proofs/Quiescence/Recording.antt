@@ -15,7 +15,7 @@ use Rattle.circus_record.specs.declared.record.MemberRecord.{MemberRecord}
 use Rattle.circus_record.specs.declared.record.RunRecord.{RunRecord}
 use Rattle.circus_performing.specs.Performing.{clock_after}
 use Rattle.circus_member_theory.proofs.OneRun.{clock_is}
-use Rattle.circus_truth.specs.Stands.{IsAnsweredSo, AreAnsweredSo, IsEnteredSo, IsPerformed, IsUnderWay, ArePerformed, IsBusy, Stands}
+use Rattle.circus_member_theory.specs.Stands.{IsAnsweredSo, AreAnsweredSo, IsEnteredSo, IsPerformed, IsUnderWay, ArePerformed, IsBusy, Stands}
 use Rattle.circus_world_theory.specs.Told.{Recorded}
 
 -- ---- lists

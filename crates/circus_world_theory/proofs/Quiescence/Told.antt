@@ -21,7 +21,7 @@ use Rattle.circus_member_rules.specs.MemberState.{MemberState}
 use Rattle.circus_node.specs.NodeState.{member}
 use Rattle.circus_schedule.specs.declared.line.Line.{Line}
 use Rattle.circus_world.specs.WorldState.{WorldState, Standing}
-use Rattle.circus_talks.proofs.Worlds.{at_pair}
+use Rattle.circus_world_theory.proofs.Worlds.{at_pair}
 use Rattle.circus_world_theory.specs.Worlds.{IsWorldOf}
 use Rattle.circus_world_theory.proofs.Border.Handing.{is_same}
 use Rattle.circus_world_theory.proofs.Border.Waiting.{is_caller, one_if, times_in, waiting_at}
@@ -30,7 +30,7 @@ use Rattle.circus_world_theory.specs.Told.{IsWaiting, IsTold, AllTold}
 use Rattle.circus_model.proofs.Threads.{are_modules}
 use Rattle.circus_wire.specs.WireActs.{WireActs}
 use Rattle.circus_member_rules.specs.declared.occurrence.Purpose.{Purpose}
-use Rattle.circus_talks.proofs.Boots.{world_stands}
+use Rattle.circus_world_theory.proofs.Boots.{world_stands}
 use Rattle.circus_world_theory.specs.Coming.{AllArrived}
 use Rattle.circus_world_theory.proofs.Quiescence.CalmSteps.{CalmAt}
 use Rattle.circus_world_theory.proofs.Quiescence.CalmWorlds.{program, many, fits, acts, holds_at_last}

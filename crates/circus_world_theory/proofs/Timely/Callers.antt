@@ -36,8 +36,8 @@ use Rattle.circus_node.specs.Headers.{call_in, return_in, table_at}
 use Rattle.circus_node.specs.Accepting.{may_ask, taken_call, accepted_call, taken_reply, taken_answer, accepted_answer, may_tell, taken_table, accepted_table, occurrence_of_heard}
 use Rattle.circus_node.specs.declared.event.Give.{Give}
 use Rattle.circus_node.specs.Sending.{Sending, sent, spent, gives_of, is_sendable, hand_over, next_handed, all_handed}
-use Rattle.circus_timely.specs.Past.{Past, booted, followed}
-use Rattle.circus_timely.specs.Made.{is_caller, callers, AreDistinct}
+use Rattle.circus_member_theory.specs.Past.{Past, booted, followed}
+use Rattle.circus_member_theory.specs.Made.{is_caller, callers, AreDistinct}
 use Rattle.circus_world_theory.proofs.Timely.Once.{reading_within, has_call, called_has, returned_has, ticked_has, after_has, arrives_first}
 
 -- ---- the pairs of a node

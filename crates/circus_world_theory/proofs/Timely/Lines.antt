@@ -32,12 +32,12 @@ use Rattle.circus_world.specs.Course.{Stepped, noted, pass_step, told_to_join, c
 use Rattle.circus_world.specs.Lines.{Leads, Lead}
 use Rattle.circus_world.proofs.ComeLemmas.{delivered_at}
 use Rattle.circus_world.proofs.SlotLemmas.{get_set, get_there}
-use Rattle.circus_talks.specs.Histories.{delivery, comes_by}
-use Rattle.circus_talks.specs.Histories as talks
-use Rattle.circus_talks.proofs.Lines.{lead_stands}
-use Rattle.circus_talks.proofs.Worlds.{Stands, get_same}
-use Rattle.circus_timely.specs.Past.{Past, now}
-use Rattle.circus_truth.specs.Proper.{AreProper}
+use Rattle.circus_world_theory.specs.Histories.{delivery, comes_by}
+use Rattle.circus_world_theory.specs.Histories as talks
+use Rattle.circus_world_theory.proofs.Lines.{lead_stands}
+use Rattle.circus_world_theory.proofs.Worlds.{Stands, get_same}
+use Rattle.circus_member_theory.specs.Past.{Past, now}
+use Rattle.circus_member_theory.specs.Proper.{AreProper}
 use Rattle.circus_world_theory.proofs.Along.{noted_at, live_there, below_sent, heard_at, lead_true}
 use Rattle.circus_world_theory.proofs.Stepping.{same_world, comes_is, ComesTruly, NodesTrue}
 use Rattle.circus_world_theory.specs.Happened.{of_member, happens_by, with_one, with_others, with_step, with_line, with_lines}

@@ -34,7 +34,7 @@ use Rattle.circus_node.specs.NodeState.{Acting, member, ringmaster, NodeState, m
 use Rattle.circus_node.specs.Making.{happens, refuse, hears, learns_down, is_told_to_join}
 use Rattle.circus_member_theory.specs.Ranges.{InRange}
 use Rattle.circus_member_theory.proofs.Resting.{step_rests, boot_rests}
-use Rattle.circus_timely.specs.Past.{Past, booted, followed, now}
+use Rattle.circus_member_theory.specs.Past.{Past, booted, followed, now}
 use Rattle.circus_member_theory.specs.Living.{after, MayLive}
 use Rattle.circus_member_theory.proofs.Timely.Lived.{timely}
 use Rattle.circus_world_theory.specs.Happened.{happens_by, with_one}

@@ -32,8 +32,8 @@ use Rattle.circus_node.specs.Sending.{Sending, sent, spent, gives_of, all_handed
 use Rattle.circus_node.specs.Step as node_step
 use Rattle.circus_node.proofs.BootLemmas.{is_home}
 use Rattle.circus_member_theory.proofs.Accepting.Can.{accepted_can}
-use Rattle.circus_talks.specs.NodeActs.{wire_behind}
-use Rattle.circus_timely.specs.Past.{Past, booted, now}
+use Rattle.circus_world_theory.specs.NodeActs.{wire_behind}
+use Rattle.circus_member_theory.specs.Past.{Past, booted, now}
 use Rattle.circus_world_theory.proofs.Stepping.{same_ended}
 use Rattle.circus_world_theory.specs.Happened.{happens_by, with_one}
 use Rattle.circus_world_theory.specs.InTime.{NodeIsInTime}

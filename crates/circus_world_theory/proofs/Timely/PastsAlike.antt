@@ -13,13 +13,13 @@ use Rattle.circus_node.specs.declared.event.Event.{Event}
 use Rattle.circus_node.specs.declared.event.Event.TheVariants as comes
 use Rattle.circus_node.specs.NodeState.{Acting, member, ringmaster, NodeState}
 use Rattle.circus_schedule.specs.declared.line.Line.{Line}
-use Rattle.circus_alike.specs.Alike.{declared_of, turn_of, acting_as, node_as}
+use Rattle.circus_node.specs.Alike.{declared_of, turn_of, acting_as, node_as}
 use Rattle.circus_world.specs.WorldState.{WorldState, Standing}
 use Rattle.circus_world.specs.Alike.{standing_as, world_as, step_as}
 use Rattle.circus_world.specs.Course.{Stepped, step_line}
 use Rattle.circus_world.proofs.WorldsAlike.{world_stepped_as}
-use Rattle.circus_talks.specs.Histories.{comes_by}
-use Rattle.circus_timely.specs.Past.{Past}
+use Rattle.circus_world_theory.specs.Histories.{comes_by}
+use Rattle.circus_member_theory.specs.Past.{Past}
 use Rattle.circus_world_theory.proofs.ActsAlike.{accepted_as, by_place, comes_as}
 use Rattle.circus_world_theory.specs.Happened.{happens_by, with_one, with_others, with_step, with_line, with_lines}
 

@@ -12,11 +12,11 @@ use Rattle.circus_member_rules.specs.declared.place.Beginning.TheVariants.{Found
 use Rattle.circus_node.specs.Booting.{beginning_in, home_in}
 use Rattle.circus_node.specs.NodeState.{member_record}
 use Rattle.circus_schedule.specs.declared.line.Line.{Line}
-use Rattle.circus_alike.specs.Alike.{declared_of, turn_of}
+use Rattle.circus_node.specs.Alike.{declared_of, turn_of}
 use Rattle.circus_world.specs.WorldState.{WorldState, Standing}
 use Rattle.circus_world.specs.Alike.{standing_as}
-use Rattle.circus_timely.specs.Past.{Past, booted}
-use Rattle.circus_timely.specs.Timely.{IsTimely}
+use Rattle.circus_member_theory.specs.Past.{Past, booted}
+use Rattle.circus_member_theory.specs.Timely.{IsTimely}
 use Rattle.circus_member_theory.specs.Living.{phase_at_boot, runs_at_boot}
 use Rattle.circus_world_theory.specs.Worlds.{IsPlainWorldOf}
 use Rattle.circus_world_theory.proofs.Lawful as lawful

@@ -19,9 +19,9 @@ use Rattle.circus_node.specs.Booting as booting
 use Rattle.circus_node.specs.NodeState.{member_record}
 use Rattle.circus_schedule.specs.declared.line.Line.{Line}
 use Rattle.circus_world.specs.WorldState.{WorldState, Standing}
-use Rattle.circus_talks.specs.Histories.{acts_of}
-use Rattle.circus_talks.proofs.Boots.{world_stands}
-use Rattle.circus_timely.specs.Past.{booted}
+use Rattle.circus_world_theory.specs.Histories.{acts_of}
+use Rattle.circus_world_theory.proofs.Boots.{world_stands}
+use Rattle.circus_member_theory.specs.Past.{booted}
 use Rattle.circus_world_theory.specs.Worlds.{IsWorldOf}
 use Rattle.circus_world_theory.proofs.Booted.{HasBooted, all_have_booted}
 use Rattle.circus_world_theory.proofs.Beginning.{boot_true}

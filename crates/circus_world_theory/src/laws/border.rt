@@ -7,7 +7,7 @@ ghost use Rattle.circus_member_rules.specs.declared.occurrence.Effect.TheVariant
 ghost use Rattle.circus_schedule.specs.declared.line.Line.{Line};
 ghost use Rattle.circus_world.specs.WorldState.{WorldState};
 ghost use Rattle.circus_world.specs.Lines.{Lead};
-ghost use Rattle.circus_talks.specs.Histories.{acts_between};
+ghost use Rattle.circus_world_theory.specs.Histories.{acts_between};
 ghost use Rattle.circus_world_theory.specs.Worlds.{IsWorldOf};
 ghost use Rattle.circus_world_theory.specs.Made.{StepOf, HandsAll, WasMadeAtAll, CallWasMade};
 

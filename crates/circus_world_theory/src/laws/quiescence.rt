@@ -4,7 +4,7 @@ ghost use Rattle.circus_collate.specs.declared.deployment.Deployment.{Deployment
 ghost use Rattle.circus_pair.specs.TwoEnds.{Talk, IsTalk, acts_at_first, acts_at_second};
 ghost use Rattle.circus_schedule.specs.declared.line.Line.{Line};
 ghost use Rattle.circus_world.specs.WorldState.{WorldState};
-ghost use Rattle.circus_talks.specs.Histories.{acts_of, acts_between};
+ghost use Rattle.circus_world_theory.specs.Histories.{acts_of, acts_between};
 ghost use Rattle.circus_model.specs.Behaviour.{behaviours};
 ghost use Rattle.circus_model.specs.Execution.{history_of};
 ghost use Rattle.circus_world_theory.specs.Worlds.{IsWorldOf};

@@ -9,4 +9,4 @@ use Rattle.circus_deployment.proofs.checking.deployment_of.Goals as goal
 pub troupes-requires : goal.troupes-requires
 troupes-requires c =
     subst (AllByRecursion (λ (n : NumberedTroupe). n.first + length (hosts_of n.troupe.now) ≤ most_nodes)) (sym c.as_slice-2.ensures.value)
-    (few_numbered c.in_ok-number_troupes.numbered.items c.args.text.now.troupes (c.in_ok-number_troupes.ensures ∙ ap number_troupes c.as_slice.ensures) (omega (arith, c.requires.few)))
+    (few_numbered c.in_ok-numbered.numbered.items c.args.text.now.troupes (c.in_ok-numbered.ensures ∙ ap number_troupes c.as_slice.ensures) (omega (arith, c.requires.few)))

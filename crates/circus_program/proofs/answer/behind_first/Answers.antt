@@ -1,8 +1,8 @@
 use Rattle.std.proofs.Common.{inr, refl, subst, IfOk, IfErr}
 use Rattle.circus_config.specs.Program.{IsProgramOf, IsPlan}
 use Rattle.circus_audit.proofs.ModuleNames.{names_of, words_of}
-use Rattle.circus_ending.specs.Refusal.{IsEndOfRefused}
-use Rattle.circus_ending.specs.Seen.Ending.{ending_of}
+use Rattle.circus_commands.specs.Refusal.{IsEndOfRefused}
+use Rattle.circus_commands.specs.Seen.Ending.{ending_of}
 use Rattle.circus_program.specs.Seen.Planned.{MeanPlans}
 use Rattle.circus_program.proofs.AnswerLemmas.{behind-good}
 use Rattle.circus_program.proofs.Planned.{good_plans, refused_plans, holds_ok}

@@ -1,7 +1,7 @@
 use Rattle.std.proofs.Common.{refl, sym, subst, IfOk, IfErr}
 use Rattle.circus_config.specs.Program.{IsProgramOf, IsPlan}
-use Rattle.circus_ending.specs.Refusal.{IsEndOfRefused}
-use Rattle.circus_ending.specs.Seen.Ending.{ending_of}
+use Rattle.circus_commands.specs.Refusal.{IsEndOfRefused}
+use Rattle.circus_commands.specs.Seen.Ending.{ending_of}
 use Rattle.circus_program.specs.Answer.{finish}
 use Rattle.circus_program.specs.Seen.Asked.{IsDueOfTask, IsDueOfCommand}
 use Rattle.circus_program.specs.Seen.Step.{due_of}

@@ -1,6 +1,6 @@
 use Rattle.std.proofs.Common.{ap, sym, subst, ◌∙◌}
-use Rattle.circus_ending.specs.Seen.Ending.{ending_of}
-use Rattle.circus_ending.specs.Ending.{Ending}
+use Rattle.circus_commands.specs.Seen.Ending.{ending_of}
+use Rattle.circus_commands.specs.Ending.{Ending}
 use Rattle.circus_program.specs.Answer.{finish}
 use Rattle.circus_program.specs.Seen.Asked.{IsDueOfTask}
 use Rattle.circus_program.specs.Seen.Planned.{IsKnownOf}

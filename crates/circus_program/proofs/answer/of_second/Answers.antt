@@ -1,5 +1,5 @@
 use Rattle.std.proofs.Common.{refl, sym, subst, IfOk, IfErr}
-use Rattle.circus_ending.specs.Seen.Ending.{ending_of}
+use Rattle.circus_commands.specs.Seen.Ending.{ending_of}
 use Rattle.circus_program.specs.declared.second.Second.{Second}
 use Rattle.circus_program.specs.Replay.{IsEndOfReplay}
 use Rattle.circus_program.specs.Answer.{finish, IsDueOfSecond}

@@ -1,8 +1,8 @@
 use Rattle.std.proofs.Common.{Err, subst}
 use Rattle.circus_audit.specs.Answer.{record_answer, IsAnswer}
 use Rattle.circus_audit.specs.declared.fault.RecordFault.{RecordFault}
-use Rattle.circus_load.proofs.Named.{nodes_ascii}
-use Rattle.circus_simulated.specs.Booted.{names_in}
+use Rattle.circus_plan_modules.proofs.Named.{nodes_ascii}
+use Rattle.circus_simulation.specs.Booted.{names_in}
 use Rattle.circus_program.proofs.Audits.{judged_ends, bad_line_ends}
 use Rattle.circus_program.proofs.audited.audit_record.Goals as goal
 

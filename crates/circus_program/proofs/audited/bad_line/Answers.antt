@@ -1,7 +1,7 @@
 use Rattle.std.proofs.Common.{◌≡◌, ◌∙◌, ℕ, List, ap, append_assoc, [], ◌∷◌, ◌++◌, codes}
 use Rattle.std.specs.Fmt.{decimal}
-use Rattle.circus_ending.specs.declared.status.Status.TheVariants.{BadRecord}
-use Rattle.circus_ending.specs.Ending.{Ending}
+use Rattle.circus_commands.specs.declared.status.Status.TheVariants.{BadRecord}
+use Rattle.circus_commands.specs.Ending.{Ending}
 use Rattle.circus_program.specs.Audit.{bad_line_end}
 use Rattle.circus_program.proofs.audited.bad_line.Goals as goal
 

@@ -1,7 +1,7 @@
 use Rattle.std.proofs.Common.{inl, refl, sym, subst}
-use Rattle.circus_ending.specs.declared.status.Status.TheVariants.{ShelfFault}
-use Rattle.circus_ending.specs.Ending.{Ending}
-use Rattle.circus_ending.specs.Seen.Ending.{ending_of}
+use Rattle.circus_commands.specs.declared.status.Status.TheVariants.{ShelfFault}
+use Rattle.circus_commands.specs.Ending.{Ending}
+use Rattle.circus_commands.specs.Seen.Ending.{ending_of}
 use Rattle.circus_serve.specs.Outside.{tells_of}
 use Rattle.circus_program.specs.declared.answer.Step.{Step}
 use Rattle.circus_program.specs.declared.answer.Step.TheVariants.{Finish, Lack, Replay}

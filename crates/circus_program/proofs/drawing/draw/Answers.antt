@@ -1,7 +1,7 @@
 use Rattle.std.proofs.Common.{subst}
 use Rattle.circus_record.specs.Naming.{names_of}
-use Rattle.circus_ending.specs.Ending.{Ending}
-use Rattle.circus_load.specs.Seen.Behaving.{declared_signature, turn, first}
+use Rattle.circus_commands.specs.Ending.{Ending}
+use Rattle.circus_plan_modules.specs.Seen.Behaving.{declared_signature, turn, first}
 use Rattle.circus_program.specs.Seen.Put.{IsPutEnd}
 use Rattle.circus_program.proofs.PicturesAlike.{pictured_as}
 use Rattle.circus_program.proofs.drawing.draw.Goals as goal

@@ -1,7 +1,7 @@
 use Rattle.std.proofs.Common.{inl, refl}
 use Rattle.circus_record.specs.Naming.{names_of}
 use Rattle.circus_picture.specs.Picture.{picture_text}
-use Rattle.circus_ending.specs.declared.status.Status.TheVariants.{Done}
+use Rattle.circus_commands.specs.declared.status.Status.TheVariants.{Done}
 use Rattle.circus_program.proofs.Following.{put-stopped}
 use Rattle.circus_program.proofs.drawing.show.Goals as goal
 

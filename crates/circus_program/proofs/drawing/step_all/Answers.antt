@@ -2,7 +2,7 @@ use Rattle.std.proofs.Common.{ℕ, ◌+◌, ◌∙◌, List, ◌∷◌, get_or, 
 use Rattle.circus_schedule.specs.declared.line.Line.{Line}
 use Rattle.circus_schedule.specs.declared.line.Line.TheVariants.{Deliver}
 use Rattle.circus_schedule.specs.Meaning.{NamesBelow}
-use Rattle.circus_simulated.proofs.Stepping.{stepped_keeps}
+use Rattle.circus_simulation.proofs.SteppingLines.{stepped_keeps}
 use Rattle.circus_program.proofs.Following.{lines_from}
 use Rattle.circus_program.proofs.Stepping.{IsLeft, left-next, left-cut}
 use Rattle.circus_program.specs.Replay.{follow_lines}

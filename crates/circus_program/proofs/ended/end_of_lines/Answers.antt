@@ -1,7 +1,7 @@
 use Rattle.std.proofs.Common.{sym, subst, []}
 use Rattle.circus_record.specs.Naming.{names_of}
 use Rattle.circus_report.specs.declared.running.RunFault.{RunFault}
-use Rattle.circus_ending.specs.Spent.{end_of_spent}
+use Rattle.circus_commands.specs.Spent.{end_of_spent}
 use Rattle.circus_program.specs.Replay.{cause_text, refuse_line}
 use Rattle.circus_program.specs.Seen.Ended.{IsEndedBy}
 use Rattle.circus_program.proofs.Pieces.{put-if}

@@ -1,7 +1,7 @@
 use Rattle.std.proofs.Common.{◌≡◌, All, Ok, IfOk, length, ap, sym, subst}
 use Rattle.circus_schedule.specs.Meaning.{NamesBelow}
-use Rattle.circus_simulated.specs.Booted.{boot_world}
-use Rattle.circus_simulated.specs.Seen.Simulated.{world_of, IsOfPlan}
+use Rattle.circus_simulation.specs.Booted.{boot_world}
+use Rattle.circus_simulation.specs.Seen.Simulated.{world_of, IsOfPlan}
 use Rattle.circus_program.proofs.ReadyLemmas.{ready_shows}
 use Rattle.circus_program.proofs.ready.boot.Goals as goal
 

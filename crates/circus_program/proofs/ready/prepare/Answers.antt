@@ -1,5 +1,5 @@
 use Rattle.std.proofs.Common.{arith, refl}
-use Rattle.circus_ending.specs.Seen.Ending.{ending_of}
+use Rattle.circus_commands.specs.Seen.Ending.{ending_of}
 use Rattle.circus_program.specs.Seen.Ready.{end_of_ready}
 use Rattle.circus_program.proofs.ReadyLemmas.{read-answers, read-few, end-of_fault, end-of_lines, ended-of_lines}
 use Rattle.circus_program.proofs.ready.prepare.Goals as goal

@@ -9,10 +9,10 @@ use Rattle.circus_schedule.specs.Meaning.{NamesBelow}
 use Rattle.circus_report.specs.Report.{rest_text}
 use Rattle.circus_report.specs.Run.{IsPut}
 use Rattle.circus_report.specs.Writing.{Writes}
-use Rattle.circus_ending.specs.declared.status.Status.TheVariants.{Done}
+use Rattle.circus_commands.specs.declared.status.Status.TheVariants.{Done}
 use Rattle.circus_program.specs.Replay.{replay_lines}
 use Rattle.circus_program.specs.Seen.Put.{IsPutEnd}
-use Rattle.circus_simulated.proofs.Stepping.{stepped_keeps}
+use Rattle.circus_simulation.proofs.SteppingLines.{stepped_keeps}
 use Rattle.circus_program.proofs.Pieces.{begun-none, begun-as, part-left}
 use Rattle.circus_program.proofs.Following.{lines_from, put-stopped, begun-next, put-ended, put-done}
 use Rattle.circus_program.proofs.replay.follow.Goals as goal

@@ -2,8 +2,8 @@ use Rattle.std.proofs.Common.{List, Option, None, Some, sym, ap, subst, ◌∙�
 use Rattle.circus_idl.specs.declared.interface.Procedure.{Procedure}
 use Rattle.circus_record.specs.Naming.{names_of}
 use Rattle.circus_schedule.specs.declared.line.Line.{Line}
-use Rattle.circus_ending.specs.Ending.{Ending}
-use Rattle.circus_simulated.specs.Seen.Simulated.{world_of}
+use Rattle.circus_commands.specs.Ending.{Ending}
+use Rattle.circus_simulation.specs.Seen.Simulated.{world_of}
 use Rattle.circus_program.specs.Seen.Put.{IsPutEnd}
 use Rattle.circus_program.specs.Seen.Ready.{end_by}
 use Rattle.circus_program.proofs.replay.replay.Goals as goal

@@ -3,10 +3,10 @@ use Rattle.circus_machine.specs.declared.text.TextModule.{TextModule}
 use Rattle.circus_record.specs.Naming.{names_of}
 use Rattle.circus_world.specs.WorldState.{WorldState}
 use Rattle.circus_report.specs.Run.{beginning}
-use Rattle.circus_simulated.specs.Seen.Simulated.{world_of}
+use Rattle.circus_simulation.specs.Seen.Simulated.{world_of}
 use Rattle.circus_program.specs.Replay.{replay_lines}
 use Rattle.circus_program.specs.Seen.Put.{IsPutEnd}
-use Rattle.circus_load.specs.Seen.Behaving.{declared_signature, turn, first}
+use Rattle.circus_plan_modules.specs.Seen.Behaving.{declared_signature, turn, first}
 use Rattle.circus_program.specs.Seen.Ready.{end_by}
 use Rattle.circus_program.proofs.Pieces.{put-left}
 use Rattle.circus_program.proofs.Following.{put-stopped, begun-boot, part-boot}

@@ -3,8 +3,8 @@ use Rattle.std.specs.Fmt.{decimal}
 use Rattle.circus_collate.specs.declared.deployment.Host.{Host}
 use Rattle.circus_record.specs.Line.{line}
 use Rattle.circus_record.specs.Naming.{names_of}
-use Rattle.circus_ending.specs.declared.status.Status.TheVariants.{BadSchedule}
-use Rattle.circus_ending.specs.Ending.{Ending}
+use Rattle.circus_commands.specs.declared.status.Status.TheVariants.{BadSchedule}
+use Rattle.circus_commands.specs.Ending.{Ending}
 use Rattle.circus_program.specs.Replay.{cause_text}
 use Rattle.circus_program.proofs.schedule_refused.end_of_illegal.Goals as goal
 

@@ -3,8 +3,8 @@ use Rattle.std.specs.Fmt.{decimal}
 use Rattle.circus_record.specs.Line.{line}
 use Rattle.circus_schedule.specs.declared.schedule_fault.ScheduleFault.{ScheduleFault}
 use Rattle.circus_config.specs.declared.plan.Plan.{Plan}
-use Rattle.circus_ending.specs.declared.status.Status.TheVariants.{BadSchedule}
-use Rattle.circus_ending.specs.Ending.{Ending}
+use Rattle.circus_commands.specs.declared.status.Status.TheVariants.{BadSchedule}
+use Rattle.circus_commands.specs.Ending.{Ending}
 use Rattle.circus_program.specs.declared.shown.Shown.{Shown}
 use Rattle.circus_program.specs.Replay.{refuse_line, IsReplayOf}
 use Rattle.circus_program.proofs.schedule_refused.fault_text.Goals as goal

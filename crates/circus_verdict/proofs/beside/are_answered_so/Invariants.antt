@@ -1,5 +1,5 @@
 use Rattle.std.proofs.Common.{drop, ◌↔◌}
-use Rattle.circus_truth.specs.Stands.{AreAnsweredSo}
+use Rattle.circus_member_theory.specs.Stands.{AreAnsweredSo}
 use Rattle.circus_verdict.proofs.beside.are_answered_so.Given as goal
 
 -- those that are left decide

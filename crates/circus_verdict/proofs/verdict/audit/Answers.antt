@@ -1,7 +1,7 @@
 use Rattle.std.proofs.Common.{◌<◌, ◌∙◌, List, All, IfOk, length, map, ap, sym, subst}
 use Rattle.circus_collate.specs.Deployment.{IsDeployment}
 use Rattle.circus_collate.specs.declared.deployment.Deployment.{Deployment}
-use Rattle.circus_load.specs.Seen.Behaving.{declared_signature, turn, first}
+use Rattle.circus_plan_modules.specs.Seen.Behaving.{declared_signature, turn, first}
 use Rattle.circus_machine.specs.declared.text.TextModule.{TextModule}
 use Rattle.circus_model.specs.Agree.{Agree}
 use Rattle.circus_model.specs.Behaviour.{Behaviour, behaviours}

@@ -1,4 +1,4 @@
-use Rattle.circus_load.proofs.Named.{nodes_ascii}
+use Rattle.circus_plan_modules.proofs.Named.{nodes_ascii}
 use Rattle.tests_command.proofs.calls.lines.Goals as goal
 
 pub show_member-requires-clause-nodes : goal.show_member-requires-clause-nodes

@@ -2,7 +2,7 @@ use Rattle.std.proofs.Common.{◌≡◌, [], ◌∷◌, ◌++◌, length, arith,
 use Rattle.circus_schedule.specs.declared.line.Line.TheVariants.{Deliver}
 use Rattle.circus_world.proofs.SoundLemmas.{booted_sound, step_sound}
 use Rattle.tests_command.proofs.Leading.{one_more, steps_led}
-use Rattle.circus_load.proofs.Named.{nodes_ascii}
+use Rattle.circus_plan_modules.proofs.Named.{nodes_ascii}
 use Rattle.tests_command.proofs.tally.replay.Goals as goal
 
 pub begin-requires : goal.begin-requires

@@ -82,7 +82,7 @@ returns-in_ok-unless_spent-in-IsStale-clause-sound g c =
     (sound_stale b m c.in-IsStale.name c.in-IsStale.server c.in-IsStale.from c.in-IsStale.incarnation c.requires.sound)
 
 pub returns-in-IsBefore-clause-kept : goal.returns-in-IsBefore-clause-kept
-returns-in-IsBefore-clause-kept g c = rw c.in-IsBefore.is c.handle_before-in-IsBefore.ensures
+returns-in-IsBefore-clause-kept g c = rw c.in-IsBefore.is c.handle_before.ensures
 
 pub returns-in-IsBefore-clause-told : goal.returns-in-IsBefore-clause-told
 returns-in-IsBefore-clause-told g c = rw c.in-IsBefore.is refl
@@ -91,7 +91,7 @@ pub returns-in-IsBefore-clause-sound : goal.returns-in-IsBefore-clause-sound
 returns-in-IsBefore-clause-sound g c =
     let m = c.args.self.member in
     let b = behaviour g.M.Module.declared g.M.Module.turn g.M.Module.first m.performing.hosted in
-    subst (λ (d : Doing g.row.M.Denot). IsSound (behaviour g.M.Module.declared g.M.Module.turn g.M.Module.first d.member.performing.hosted) d.member) (sym c.handle_before-in-IsBefore.ensures)
+    subst (λ (d : Doing g.row.M.Denot). IsSound (behaviour g.M.Module.declared g.M.Module.turn g.M.Module.first d.member.performing.hosted) d.member) (sym c.handle_before.ensures)
     (sound_before b m c.in-IsBefore.name c.in-IsBefore.from c.requires.sound)
 
 pub handle_table-done-requires-clause-home : goal.handle_table-done-requires-clause-home

@@ -86,9 +86,11 @@ returns-in_ok-acting-in-Some-Some-clause-kept g c =
     let M = g.M.Module in
     let a = c.in-Some-Some in
     let views = c.in_ok-views-in-Some-Some.ensures ∙ c.views.ensures ∙ ap (λ (k : Kept). k.views) c.in_ok-ring.ensures in
-    subst (λ (x : Acting g.row.M.Denot). IsActing c.args.deployment.now x) (sym c.in_ok-acting-in-Some-Some.ensures)
-    (booted_of M.declared M.turn M.first a.home.place c.in_ok-views-in-Some-Some.views a.home.beginning a.hosted c.in_ok-member-in-Some-Some.member c.args.deployment.now
-    views c.in_ok-member-in-Some-Some.ensures.member, c.in_ok-member-in-Some-Some.ensures.rest)
+    subst (λ (x : Acting g.row.M.Denot). IsActing c.args.deployment.now x) (sym c.in_ok-acting-in-Some-Some.ensures) (
+      booted_of M.declared M.turn M.first a.home.place c.in_ok-views-in-Some-Some.views a.home.beginning a.hosted c.in_ok-member-in-Some-Some.member c.args.deployment.now
+          views c.in_ok-member-in-Some-Some.ensures.member,
+      c.in_ok-member-in-Some-Some.ensures.rest,
+    )
 
 pub returns-in_default-clause-acting : goal.returns-in_default-clause-acting
 returns-in_default-clause-acting g c =

@@ -1,7 +1,7 @@
 use Rattle.std.proofs.Common.{Bool, List, ◌∙◌, ap, map}
 use Rattle.std.specs.Prelude.{Option, is_some}
-use Rattle.circus_placing.specs.declared.placing.Constant.{Constant}
-use Rattle.circus_placing.specs.declared.condition.Comparison.TheVariants.{Equal}
+use Rattle.circus_place.specs.declared.placing.Constant.{Constant}
+use Rattle.circus_place.specs.declared.condition.Comparison.TheVariants.{Equal}
 use Rattle.circus_place.specs.Value.{is_related}
 use Rattle.circus_place.specs.Seen.Table.{pointed_to}
 use Rattle.circus_place.proofs.Compiled.{differs_is}

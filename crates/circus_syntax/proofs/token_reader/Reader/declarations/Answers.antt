@@ -10,7 +10,7 @@ use Rattle.circus_syntax.proofs.ByLine.{declarations_are}
 use Rattle.circus_syntax.proofs.token_reader.Reader.declarations.Goals as goal
 
 pub loop-declared-init : goal.loop-declared-init
-loop-declared-init c = declarations_are most_levels c.args.self.now ∙ ap (λ ds. goes_on is_name (one_declaration most_levels) (map declared_of ds) c.args.self.now) (sym c.new-one_declaration.ensures)
+loop-declared-init c = declarations_are most_levels c.args.self.now ∙ ap (λ ds. goes_on is_name (one_declaration most_levels) (map declared_of ds) c.args.self.now) (sym c.new-declared.ensures)
 
 pub loop-declared-smaller : goal.loop-declared-smaller
 loop-declared-smaller c =

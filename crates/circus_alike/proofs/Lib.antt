@@ -1,2 +1,0 @@
-pub mod MembersAlike
-pub mod NodesAlike

@@ -1,5 +1,0 @@
-use Rattle.circus_alike.proofs.NodesAlike.{node_booted_as}
-use Rattle.circus_alike.proofs.laws.boots_depend_on_behaviours.Goals as goal
-
-pub returns : goal.returns
-returns g c = λ d hosted node. node_booted_as g.M.Module.declared g.M.Module.turn g.M.Module.first d hosted node

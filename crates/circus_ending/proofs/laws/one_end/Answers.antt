@@ -1,5 +1,0 @@
-use Rattle.circus_ending.proofs.OneEnding.{end_one}
-use Rattle.circus_ending.proofs.laws.one_end.Goals as goal
-
-pub returns : goal.returns
-returns c = end_one

@@ -1,8 +1,0 @@
--- How a command ends.
-use Rattle.std.specs.Prelude.{ℕ, List}
-use Rattle.circus_ending.specs.declared.status.Status.{Status}
-
--- its status, and all that it writes
-pub record Ending : Type 0 where
-  pub status : Status
-  pub text : List ℕ

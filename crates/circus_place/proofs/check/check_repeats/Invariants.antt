@@ -1,0 +1,12 @@
+use Rattle.std.proofs.Common.{◌≡◌, drop}
+use Rattle.circus_fault.specs.Least.{least_from}
+use Rattle.circus_fault.specs.Known.{nobody}
+use Rattle.circus_fault.specs.Seen.Tables.{known_of}
+use Rattle.circus_place.specs.Rank.{rank_of}
+use Rattle.circus_place.specs.Faults.{repeated_names}
+use Rattle.circus_place.proofs.check.check_repeats.Given as goal
+
+-- the names that are left decide with what is kept
+abbrev pub invariant-loop-name : goal.invariant-loop-name
+invariant-loop-name l =
+    least_from rank_of l.best.fault (repeated_names (known_of l.names) (drop l.name-index l.all)) ≡ least_from rank_of l.fn.best.fault (repeated_names nobody l.all)

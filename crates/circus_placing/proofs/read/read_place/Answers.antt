@@ -1,9 +1,0 @@
-use Rattle.circus_placing.proofs.Ascii.{names_ascii}
-use Rattle.circus_placing.proofs.ReadIs.{accepted}
-use Rattle.circus_placing.proofs.read.read_place.Goals as goal
-
-pub returns-clause-accepts : goal.returns-clause-accepts
-returns-clause-accepts c = accepted c.args.text.now c.read.result c.read.ensures.err
-
-pub returns-clause-named : goal.returns-clause-named
-returns-clause-named c = names_ascii c.args.text.now c.read.result c.read.ensures.ok

@@ -1,9 +1,0 @@
-pub mod Counting
-pub mod Drawing
-pub mod Places
-pub mod Possible
-pub mod SamplesAlike
-pub mod Spares
-pub mod Stepping
-pub mod Untouched
-pub mod Writing

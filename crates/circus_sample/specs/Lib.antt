@@ -1,4 +1,0 @@
-pub mod Sampled
-pub mod Summary
-pub mod Answers
-pub mod Seen

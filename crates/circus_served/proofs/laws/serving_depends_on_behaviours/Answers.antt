@@ -1,5 +1,0 @@
-use Rattle.circus_served.proofs.ServingAlike.{serving_as}
-use Rattle.circus_served.proofs.laws.serving_depends_on_behaviours.Goals as goal
-
-pub returns : goal.returns
-returns g c = λ d own booted gives takes. serving_as g.M.Module.declared g.M.Module.turn g.M.Module.first d own booted gives takes

@@ -1,7 +1,0 @@
-use Rattle.std.proofs.Common.{◌≡◌, ◌++◌, drop}
-use Rattle.circus_signature.specs.Signatures.{errors_numbered}
-use Rattle.circus_signature.proofs.procedures.errors_of.Given as goal
-
--- the errors that are left follow those so far
-abbrev pub invariant-loop-number : goal.invariant-loop-number
-invariant-loop-number l = l.shapes ++ errors_numbered l.errors.errors.now (drop l.number-index l.numbers) ≡ errors_numbered l.errors.errors.now l.numbers

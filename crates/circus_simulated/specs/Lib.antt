@@ -1,5 +1,0 @@
-pub mod Booted
-pub mod Sample
-pub mod Schedule
-pub mod Settle
-pub mod Seen

@@ -1,2 +1,0 @@
--- How code is seen.
-pub mod Simulated

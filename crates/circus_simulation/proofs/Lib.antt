@@ -1,0 +1,14 @@
+pub mod Counting
+pub mod Drawing
+pub mod Places
+pub mod Possible
+pub mod SamplesAlike
+pub mod Spares
+pub mod Stepping
+pub mod Untouched
+pub mod Writing
+pub mod SteppingLines
+pub mod Booted
+pub mod SamplingLines
+pub mod DrawingLines
+pub mod Settling

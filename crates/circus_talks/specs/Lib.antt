@@ -1,2 +1,0 @@
-pub mod NodeActs
-pub mod Histories

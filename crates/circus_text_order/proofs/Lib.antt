@@ -1,5 +1,0 @@
-mod ExpressionsInText
-pub mod InText
-pub mod Rising
-pub mod StatementsInText
-pub mod TypesInText

@@ -1,4 +1,0 @@
-pub mod Stands
-pub mod Messages
-pub mod Proper
-pub mod Truth
