@@ -8,7 +8,7 @@ ghost use Rattle.circus_audit.specs.Seen.Events as events;
 use crate::differing::Replied;
 use crate::member_lines::clock_behind;
 use crate::noted::{Differing, Noted, Notes};
-use crate::values::{imported, outcome_behind};
+use crate::values::{imported_procedure, outcome_behind};
 use crate::words::{end, read_other};
 use crate::{GivenEvent, GivenEvents};
 use circus_collate::Host;
@@ -142,7 +142,7 @@ impl ReplyReader<'_> {
         let Some(ask) = ask_named(kept, each.run, each.ask) else {
             return Err(Unread::Unlike);
         };
-        match imported(imports, ask.callee, ask.procedure) {
+        match imported_procedure(imports, ask.callee, ask.procedure) {
             Some(procedure) => self.read_replies(each, procedure),
             None => Err(Unread::Unlike),
         }

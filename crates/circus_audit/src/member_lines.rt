@@ -5,7 +5,7 @@ ghost use Rattle.circus_node.specs.Accepting as accepting;
 ghost use Rattle.circus_audit.specs.Seen.Lines as lines;
 
 use crate::member_line::{After, Asked, Entered, Performs, Phase};
-use crate::values::{imported, outcome_behind, values_behind};
+use crate::values::{imported_procedure, outcome_behind, values_behind};
 use crate::words::{end, read_module};
 use circus_collate::Deployment;
 use circus_model::{Signature, procedure_numbered};
@@ -203,7 +203,7 @@ pub(crate) fn read_phase(line: &[u8], at: usize, events: u64) -> Result<Phase, U
     }
 }
 
-fn begun(alloc: Global, entered: Entered, performs: Performs) -> RunRecord
+fn begin_run(alloc: Global, entered: Entered, performs: Performs) -> RunRecord
     ensures { result ≡ lines.run_begun entered performs }
 {
     RunRecord {
@@ -237,7 +237,7 @@ fn ask_made(asked: Asked, procedure: u16, arguments: Values, state: State) -> As
     }
 }
 
-fn answered(ask: AskRecord, after: After, reply: Outcome) -> AskRecord
+fn answer_ask(ask: AskRecord, after: After, reply: Outcome) -> AskRecord
     ensures { result ≡ lines.answered ask after reply }
 {
     let mut answered = ask;
@@ -247,7 +247,7 @@ fn answered(ask: AskRecord, after: After, reply: Outcome) -> AskRecord
     answered
 }
 
-fn ended(run: RunRecord, after: After, outcome: Outcome, state: State) -> RunRecord
+fn end_run(run: RunRecord, after: After, outcome: Outcome, state: State) -> RunRecord
     ensures { result ≡ lines.run_ended run after outcome state }
 {
     let mut ended = run;
@@ -347,7 +347,7 @@ impl LineReader<'_> {
     {
         let (entered, next) = self.read_entered(line, at, place)?;
         let (performs, next) = self.read_performs(line, next)?;
-        Ok((begun(self.alloc, entered, performs), next))
+        Ok((begin_run(self.alloc, entered, performs), next))
     }
 
     /// The run at a place, whose line stands from a place on.
@@ -395,7 +395,8 @@ impl LineReader<'_> {
         ensures { GivesAt line.now at result
             (lines.wanted_read self.now.signature.now asked procedure) }
     {
-        let Some(shape) = imported(&self.signature.imports, asked.callee, procedure) else {
+        let Some(shape) = imported_procedure(&self.signature.imports, asked.callee, procedure)
+        else {
             return Err(Unread::Unlike);
         };
         let (arguments, next) = values_behind(self.alloc, line, at, ARGUMENTS, &shape.arguments)?;
@@ -455,11 +456,12 @@ impl LineReader<'_> {
         requires { at ≤ length line.now }
         ensures { GivesAt line.now at result (lines.reply_by self.now.signature.now ask after) }
     {
-        let Some(shape) = imported(&self.signature.imports, ask.callee, ask.procedure) else {
+        let Some(shape) = imported_procedure(&self.signature.imports, ask.callee, ask.procedure)
+        else {
             return Err(Unread::Unlike);
         };
         let (reply, next) = outcome_behind(self.alloc, line, at, shape)?;
-        Ok((answered(ask, after, reply), next))
+        Ok((answer_ask(ask, after, reply), next))
     }
 
     // The reply to an ask with a number.
@@ -514,7 +516,7 @@ impl LineReader<'_> {
         };
         let (outcome, next) = outcome_behind(self.alloc, line, at, shape)?;
         let (state, next) = read_state(self.alloc, line, next, self.signature)?;
-        Ok((ended(run, after, outcome, state), next))
+        Ok((end_run(run, after, outcome, state), next))
     }
 
     // The end of the run at a place.

@@ -9,7 +9,7 @@ use crate::performed::{Current, Performed};
 use crate::performing::place_behind;
 use crate::setting::Hosted;
 use crate::stage::Stage;
-use crate::values::imported;
+use crate::values::imported_procedure;
 use circus_model::{Import, Imports, Signature};
 use circus_record::{AskRecord, MemberRecord, RunRecord};
 use circus_value::{Duplicate, ListOf, NoMemory};
@@ -181,7 +181,7 @@ impl ReplyReader<'_> {
             ≡ outlook.may_answer (map host_name self.now.nodes.now) self.now.modules self.now.own
             imports.now callee.module callee.procedure each.now) }
     {
-        let Some(procedure) = imported(imports, callee.module, callee.procedure) else {
+        let Some(procedure) = imported_procedure(imports, callee.module, callee.procedure) else {
             return Ok(false);
         };
         match self.read_replies(each, procedure) {
@@ -325,7 +325,7 @@ impl ReplyReader<'_> {
                     run,
                     ask: begun.asks.len(),
                 };
-                self.all_answer(&signature.imports, expected, place, called(ask))
+                self.all_answer(&signature.imports, expected, place, callee_of(ask))
             }
         }
     }
@@ -360,7 +360,7 @@ impl ReplyReader<'_> {
 }
 
 // The procedure that an ask goes to.
-fn called(ask: &AskRecord) -> Callee
+fn callee_of(ask: &AskRecord) -> Callee
     ensures { (result.module ≡ ask.now.callee) × (result.procedure ≡ ask.now.procedure) }
 {
     Callee {

@@ -30,7 +30,7 @@ fn main_alone(alloc: Global) -> Result<ProcedureShapes, NoMemory>
 }
 
 // The procedures of a module, by the number of its interface.
-fn offered(
+fn procedures_offered(
     alloc: Global,
     interfaces: &[Interface],
     number: Option<u16>,
@@ -67,7 +67,7 @@ fn import(
     let number = implemented.get(usize::from(module)).copied();
     Ok(Import {
         module,
-        procedures: offered(alloc, interfaces, number.unwrap_or(None))?,
+        procedures: procedures_offered(alloc, interfaces, number.unwrap_or(None))?,
     })
 }
 
@@ -103,7 +103,7 @@ fn signature(
         root: module.root,
         imports: imports(alloc, interfaces, implemented, module.imports.as_slice())?,
         variables: shapes_of(alloc, module.variables.as_slice())?,
-        procedures: offered(alloc, interfaces, module.interface)?,
+        procedures: procedures_offered(alloc, interfaces, module.interface)?,
         limit,
     })
 }

@@ -220,7 +220,11 @@ fn import_of(imports: &Imports, callee: u16) -> Option<&Import>
 }
 
 /// The procedure of an import with a number. It takes no memory.
-pub(crate) fn imported(imports: &Imports, callee: u16, number: u16) -> Option<&ProcedureShape>
+pub(crate) fn imported_procedure(
+    imports: &Imports,
+    callee: u16,
+    number: u16,
+) -> Option<&ProcedureShape>
     ensures { option_copied result ≡ values.imported imports.now callee number }
 {
     procedure_numbered(&import_of(imports, callee)?.procedures, number)

@@ -29,7 +29,7 @@ pub fn audit_record(alloc: Global, plan: Plan, text: &[u8]) -> Result<Ending, No
         Ok(given) => {
             let no_run = no_run(alloc, &plan.deployment.nodes, given.node)?;
             let verdict = audit(alloc, &given, plan)?;
-            judged(alloc, verdict, no_run)
+            end_of_verdict(alloc, verdict, no_run)
         }
         Err(RecordFault::BadLine(number)) => bad_line(alloc, number),
         Err(RecordFault::NoMemory) => Err(AllocError),
@@ -37,7 +37,7 @@ pub fn audit_record(alloc: Global, plan: Plan, text: &[u8]) -> Result<Ending, No
 }
 
 // The end of a record of which this is said, which ends so where it is no run of its node.
-fn judged(alloc: Global, verdict: Verdict, no_run: Ending) -> Result<Ending, NoMemory>
+fn end_of_verdict(alloc: Global, verdict: Verdict, no_run: Ending) -> Result<Ending, NoMemory>
     requires { no_run.status ≡ Status.BadRecord }
     ensures ending { (name : List ℕ) → ending_of no_run ≡ verdict_end name Verdict.NotARun
         → IfOk result (λ ending. ending_of ending ≡ verdict_end name verdict) }

@@ -14,8 +14,8 @@ audit-requires-clause-possible c = c.in-Ok.ensures.given.possible
 
 pub returns-in-Ok-clause-ending : goal.returns-in-Ok-clause-ending
 returns-in-Ok-clause-ending c =
-    judged_ends c.args.plan c.args.text.now c.in-Ok.given c.in_ok-verdict-in-Ok.verdict c.judged.result c.in-Ok.ensures.answer c.in_ok-verdict-in-Ok.ensures
-    (c.judged.ensures.ending ((names_in c.args.plan).node c.in-Ok.given.node) c.in_ok-no_run-in-Ok.ensures.ending)
+    judged_ends c.args.plan c.args.text.now c.in-Ok.given c.in_ok-verdict-in-Ok.verdict c.end_of_verdict.result c.in-Ok.ensures.answer c.in_ok-verdict-in-Ok.ensures
+    (c.end_of_verdict.ensures.ending ((names_in c.args.plan).node c.in-Ok.given.node) c.in_ok-no_run-in-Ok.ensures.ending)
 
 pub returns-in-Err-BadLine-clause-ending : goal.returns-in-Err-BadLine-clause-ending
 returns-in-Err-BadLine-clause-ending c =
