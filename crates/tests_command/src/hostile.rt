@@ -79,7 +79,7 @@ fn message(alloc: Global, digits: &str, place: Option<usize>) -> Result<Message,
 fn count_dropped(alloc: Global, format: &str, bytes: Message) -> Result<u64, Fail> {
     let server = server(alloc, format)?;
     let (server, _) = server.step(1, Event::Datagram(2, bytes.shared()?))?;
-    Ok(server.count_dropped())
+    Ok(server.dropped())
 }
 
 #[test]

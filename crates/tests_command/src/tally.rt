@@ -89,7 +89,7 @@ fn is_no_root(deployment: &Deployment) -> bool
 }
 
 // A tally stands for the first module.
-fn with_tally(
+fn put_tally(
     deployment: &Deployment,
     mut modules: Vec<Mixed>,
     tally: Tally,
@@ -122,7 +122,7 @@ fn modules_of(
 {
     let modules = as_texts(alloc, texts)?;
     if with_tally {
-        with_tally(deployment, modules, Tally::new(alloc)?)
+        put_tally(deployment, modules, Tally::new(alloc)?)
     } else {
         Ok(modules)
     }
