@@ -71,7 +71,9 @@ fn text_modules(
     requires { AllByRecursion (CanBeMade limit interfaces.now implemented.now)
         (map module_as modules) }
     ensures { IfOk result (λ made.
-        behaviours ⟦<TextModule as circus_model::Module>⟧.declared ⟦<TextModule as circus_model::Module>⟧.turn ⟦<TextModule as circus_model::Module>⟧.first made.items
+        behaviours ⟦<TextModule as circus_model::Module>⟧.declared
+        ⟦<TextModule as circus_model::Module>⟧.turn
+        ⟦<TextModule as circus_model::Module>⟧.first made.items
         ≡ map (behaviour_of limit interfaces.now implemented.now) (map module_as modules)) }
 {
     let mut made = Vec::with_capacity(alloc, modules.len())?;
@@ -94,10 +96,14 @@ pub fn modules_of(
     requires well_formed { AreWellFormed checked.interfaces (map module_as checked.modules) }
     ensures interfaces { IfOk result (λ made. made.0 ≡ checked.interfaces) }
     ensures behave { IfOk result (λ made.
-        behaviours ⟦<TextModule as circus_model::Module>⟧.declared ⟦<TextModule as circus_model::Module>⟧.turn ⟦<TextModule as circus_model::Module>⟧.first made.1.items
+        behaviours ⟦<TextModule as circus_model::Module>⟧.declared
+        ⟦<TextModule as circus_model::Module>⟧.turn
+        ⟦<TextModule as circus_model::Module>⟧.first made.1.items
         ≡ program_of limit checked.interfaces (map module_as checked.modules)) }
     ensures agree { IfOk result (λ made.
-        Agree (behaviours ⟦<TextModule as circus_model::Module>⟧.declared ⟦<TextModule as circus_model::Module>⟧.turn ⟦<TextModule as circus_model::Module>⟧.first made.1.items)) }
+        Agree (behaviours ⟦<TextModule as circus_model::Module>⟧.declared
+        ⟦<TextModule as circus_model::Module>⟧.turn
+        ⟦<TextModule as circus_model::Module>⟧.first made.1.items)) }
     ensures few { IfOk result (λ made. length made.1.items ≤ most_modules) }
 {
     let Checked {
