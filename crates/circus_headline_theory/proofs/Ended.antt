@@ -48,7 +48,6 @@ module _ (d : Deployment) (program : List Behaviour) (hosted : List (Option Beha
     troupes = world.troupes;
     modules = world.modules;
     agree = world.agree;
-    proper = world.proper;
     hosts = world.hosts;
     boots = world.boots;
     leads = (led declared_of turn_of most booted done settled).lead;

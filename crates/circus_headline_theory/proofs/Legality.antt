@@ -115,7 +115,6 @@ module _ {M : Type 0} (declared : M → Signature) (turn : M → List ValueTree 
         deployment = world.deployment;
         troupes = world.troupes;
         agree = world.agree;
-        proper = world.proper;
         hosts = world.hosts;
         boots = world.boots;
         leads = l.lead;

@@ -12,7 +12,7 @@ use Rattle.circus_member_rules.specs.declared.occurrence.AskName.{AskName}
 use Rattle.circus_member_rules.specs.declared.occurrence.Occurrence.{Occurrence}
 use Rattle.circus_member_rules.specs.declared.occurrence.Purpose.{Purpose}
 use Rattle.circus_member_rules.specs.declared.occurrence.Purpose.TheVariants as for
-use Rattle.circus_member_theory.specs.Proper.{IsProperProcedure, IsProperModule}
+use Rattle.circus_member_rules.specs.Proper.{IsProperProcedure, IsProperModule}
 use Rattle.circus_node.specs.Acceptance.{procedure_recorded, AcceptsReturn}
 use Rattle.circus_node.specs.Headers.{return_in}
 use Rattle.circus_member_theory.proofs.Accepting.Rules.{answer_by, answer_follows, answer_accepted, table_follows, table_accepted, state_follows, state_accepted}

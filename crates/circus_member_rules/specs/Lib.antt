@@ -7,3 +7,4 @@ pub mod MemberState
 pub mod Step
 pub mod Happening
 pub mod GoneOn
+pub mod Proper

@@ -28,7 +28,7 @@ use Rattle.circus_member_rules.specs.Callable.{MayCall}
 use Rattle.circus_member_rules.specs.Rules.{incarnation_of, header_now, call_of_ask, calls_of_ask, call_for, is_to, calls_for_view, calls_for_a_new_view}
 use Rattle.circus_member_rules.proofs.Calls.{may_ask}
 use Rattle.circus_member_theory.proofs.Histories.{index_is_few, takes, clock_counts}
-use Rattle.circus_member_theory.specs.Proper.{AreProper}
+use Rattle.circus_member_rules.specs.Proper.{AreProper}
 use Rattle.circus_member_theory.specs.Truth.{IsLong, IsNamed, IsTrueEffect}
 use Rattle.circus_member_theory.proofs.Headers.{HasRanges, is_one_call}
 use Rattle.circus_member_theory.proofs.Ranges.{few_are_long, taken_is}

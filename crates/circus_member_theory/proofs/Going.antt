@@ -52,7 +52,7 @@ use Rattle.circus_member_theory.specs.Messages.{IsTrueState}
 use Rattle.circus_member_theory.proofs.Histories.{takes, clock_counts, asked_run}
 use Rattle.circus_member_theory.proofs.Standing.{open_is, entered_stands, answered_stands, idle_is}
 use Rattle.circus_member_theory.proofs.Accepting.Arguments.{arguments_read}
-use Rattle.circus_member_theory.specs.Proper.{AreProper}
+use Rattle.circus_member_rules.specs.Proper.{AreProper}
 use Rattle.circus_member_theory.specs.Truth.{reply_to, Answers, IsTrueAsking, IsCalled, IsFetch}
 use Rattle.circus_member_theory.proofs.Accepting.Entries.{ask_found}
 use Rattle.circus_member_theory.proofs.Ranges.{module_of, taken_is}

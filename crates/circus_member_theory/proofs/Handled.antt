@@ -58,7 +58,7 @@ use Rattle.circus_member_rules.proofs.Held.{called_same}
 use Rattle.circus_member_rules.proofs.Sound.{sound_known}
 use Rattle.circus_member_theory.specs.Stands.{Stands}
 use Rattle.circus_member_theory.specs.Messages.{IsReplyOf, IsTrueReply, IsTrueState}
-use Rattle.circus_member_theory.specs.Proper.{AreProper}
+use Rattle.circus_member_rules.specs.Proper.{AreProper}
 use Rattle.circus_member_theory.specs.Truth.{IsLong, Answers, IsTrueAsking, IsCalled, IsTrueKept, IsFetch, IsTrueMember, IsTrueOccurrence, IsOtherReturn, IsTrueEffect}
 use Rattle.circus_member_theory.proofs.Standing.{active_stands}
 use Rattle.circus_member_theory.proofs.Accepting.Entries.{ask_found, kept_found}

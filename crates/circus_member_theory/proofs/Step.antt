@@ -30,7 +30,7 @@ use Rattle.circus_member_rules.specs.Happening.{IsHome, CanHappen}
 use Rattle.circus_member_rules.specs.Seen.Sound.{IsRested}
 use Rattle.circus_member_theory.proofs.Histories.{runs_are_few, main_run}
 use Rattle.circus_member_theory.proofs.Standing.{founder_stands}
-use Rattle.circus_member_theory.specs.Proper.{AreProper}
+use Rattle.circus_member_rules.specs.Proper.{AreProper}
 use Rattle.circus_member_theory.specs.Truth.{IsLong, IsTrueAsking, IsCalled, IsTrueKept, IsFetch, IsTrueMember, IsTrueOccurrence, IsTrueEffect}
 use Rattle.circus_member_theory.proofs.Kept.{KeepsTrue}
 use Rattle.circus_member_theory.proofs.Handled.{true_handled}

@@ -41,7 +41,7 @@ use Rattle.circus_member_rules.proofs.Writing.{last_has_ended, one_is_performing
 use Rattle.circus_member_rules.proofs.Turned.{IsTurned, asking_now}
 use Rattle.circus_member_theory.specs.Stands.{IsPerformed}
 use Rattle.circus_member_theory.specs.Messages.{IsAskAt, AsksSo, IsReplyOf}
-use Rattle.circus_member_theory.specs.Proper.{AreProper}
+use Rattle.circus_member_rules.specs.Proper.{AreProper}
 use Rattle.circus_member_theory.specs.Truth.{Answers, IsNamed, IsCalled, IsTrueKept}
 use Rattle.circus_member_theory.proofs.Standing.{IsOpenOf, open_is, last_performed}
 use Rattle.circus_member_theory.proofs.Calling.{MayName, named_by_view, known_is_long, incarnation_is_long, IsReady, calls_are_true}

@@ -24,7 +24,7 @@ ghost use Rattle.circus_node.specs.Headers.{call_in, return_in, table_at};
 ghost use Rattle.circus_ring.specs.RingTable.{Kept};
 ghost use Rattle.circus_ring.specs.TableFields.{tables};
 ghost use Rattle.circus_transfer.specs.Snapshot.{fields_of};
-ghost use Rattle.circus_member_theory.specs.Proper.{IsProperModule, IsProperProcedure};
+ghost use Rattle.circus_member_rules.specs.Proper.{IsProperModule, IsProperProcedure};
 ghost use Rattle.circus_value.specs.Parts.{AreOctets};
 ghost use Rattle.circus_value.specs.ValueTree.{ValueTree};
 ghost use Rattle.circus_value.specs.declared.caller.Caller.{Caller};

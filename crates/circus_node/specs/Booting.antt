@@ -17,6 +17,7 @@ use Rattle.circus_performing.specs.Record.{behaviour}
 use Rattle.circus_wire.specs.Wire as wire
 use Rattle.circus_member_rules.specs.declared.place.Beginning.{Beginning}
 use Rattle.circus_member_rules.specs.declared.place.Beginning.TheVariants.{Founder, Spare}
+use Rattle.circus_member_rules.specs.Proper.{IsProperModule}
 use Rattle.circus_member_rules.specs.Step as member_step
 use Rattle.circus_node.specs.declared.home.Home.{Home}
 use Rattle.circus_node.specs.declared.event.Outputs.{Outputs}
@@ -51,12 +52,13 @@ home_of d node =
     option_and_then (λ number. option_map (home_in d node number) (slice_get d.troupes number)) (troupe_at d node)
 
 -- a module of a troupe of the program: it is a root where the troupe is one, then it has its MAIN alone; its imports are
--- earlier troupes that are no roots; and it keeps to the limit of the format
+-- earlier troupes that are no roots; it keeps to the limit of the format; and its shapes and numbers are proper
 pub record IsOfTroupe (d : Deployment) (number : ℕ) (declared : Signature) : Type 0 where
   pub root : declared.root ≡ is_root d number
   pub main : declared.root ≡ true → declared.procedures ≡ main_alone
   pub imports : (callee : ℕ) (i : Import) → import_of callee declared.imports ≡ Some i → (callee < number) × (is_root d callee ≡ false)
   pub limit : declared.limit ≤ limit_of d.format
+  pub proper : IsProperModule declared
 
 -- a node of a program, with a module exactly where it isn't the Ringmaster's
 pub record CanBoot (d : Deployment) (node : ℕ) (declared : Option Signature) : Type 0 where

@@ -1,6 +1,7 @@
--- Modules that agree, of which those are roots whose troupes are, are those of the troupes.
+-- Modules that agree and are proper, of which those are roots whose troupes are, are those of the troupes.
 use Rattle.std.proofs.Common.{◌≡◌, ℕ, zero, suc, ◌<◌, ◌≤◌, Bool, true, false, List, [], ◌∷◌, length, map, Option, None, Some, refl, sym, ◌∙◌, ap, subst, arith}
 use Rattle.std.specs.Prelude.{Contains, find, slice_get, option_map, ◌==◌, if◌then◌else◌}
+use Rattle.std.specs.List.{AllByRecursion}
 use Rattle.std.specs.Option.{option_map_or}
 use Rattle.std.proofs.lemmas.Bool.Decides.{nat_tests}
 use Rattle.std.proofs.lemmas.List.{length-map}
@@ -8,8 +9,10 @@ use Rattle.std.proofs.lemmas.Option.{slice_get-map, same_Some}
 use Rattle.circus_fault.proofs.Items.{contains_first, contains_later}
 use Rattle.circus_collate.specs.declared.deployment.Troupe.{Troupe}
 use Rattle.circus_collate.specs.declared.deployment.Deployment.{Deployment}
+use Rattle.circus_idl.specs.Obeys.{Obeys}
 use Rattle.circus_idl.specs.declared.interface.Interface.{Interface}
 use Rattle.circus_check.specs.Meaning.{ModuleMeant}
+use Rattle.circus_check.specs.WellFormed.{AreWellFormed}
 use Rattle.circus_limits.specs.Limits.{limit_of}
 use Rattle.circus_model.specs.Agree.{Agree, IsAt}
 use Rattle.circus_model.specs.Behaviour.{Behaviour}
@@ -17,8 +20,10 @@ use Rattle.circus_model.specs.Lawful.{import_of}
 use Rattle.circus_model.specs.declared.signature.Import.{Import}
 use Rattle.circus_modules.specs.Signatures.{interface_numbers}
 use Rattle.circus_modules.specs.Behaviours.{behaviour_of, program_of}
+use Rattle.circus_member_rules.specs.Proper.{AreProper}
 use Rattle.circus_node.specs.Accepting.{is_root}
 use Rattle.circus_node.specs.Booting.{IsOfTroupe, AreOfTroupes}
+use Rattle.circus_plan_modules.proofs.Proper.{modules_proper}
 
 -- what an image at a place is the image of
 image_at : {X Y : Type 0} (f : X → Y) (xs : List X) (place : ℕ) (y : Y) → slice_get (map f xs) place ≡ Some y → (x : X) × (slice_get xs place ≡ Some x) × (f x ≡ y)
@@ -43,7 +48,8 @@ module _ (d : Deployment) (program : List Behaviour) where
   abbrev pub RootsAre : Type 0
   RootsAre = map (λ (t : Troupe). t.root) d.troupes ≡ map (λ (b : Behaviour). b.declared.root) program
 
-  module _ (roots : RootsAre) (agree : Agree program) (within : (place : ℕ) (b : Behaviour) → IsAt program place b → b.declared.limit ≤ limit_of d.format) where
+  module _ (roots : RootsAre) (agree : Agree program) (within : (place : ℕ) (b : Behaviour) → IsAt program place b → b.declared.limit ≤ limit_of d.format)
+      (are_proper : AreProper program) where
     root_kept : (place : ℕ) (b : Behaviour) → IsAt program place b → b.declared.root ≡ is_root d place
     root_kept place b at = by_troupe (slice_get d.troupes place) (
         sym (slice_get-map (λ (t : Troupe). t.root) d.troupes place)
@@ -64,6 +70,7 @@ module _ (d : Deployment) (program : List Behaviour) where
           let of = agree.imports place b i at among in
           (subst (λ n. n < place) numbered of.earlier, subst (λ n. is_root d n ≡ false) numbered (sym (root_kept i.«module» of.imported of.there) ∙ of.no_root));
       limit = within place b at;
+      proper = are_proper place b at;
     }
 
     pub of_troupes : AreOfTroupes d (map (λ (b : Behaviour). b.declared) program)
@@ -97,13 +104,15 @@ declared_by behaviour (m ∷ ms) = ap (λ l. (behaviour m).declared ∷ l) (decl
 
 -- modules that do what is meant, where the roots of a plan are those of its troupes
 pub meant_of_troupes : {M : Type 0} (behaviour : M → Behaviour) (made : List M) (d : Deployment) (interfaces : List Interface) (modules : List ModuleMeant)
+    → AllByRecursion Obeys interfaces → AreWellFormed interfaces modules
     → map (λ (t : Troupe). t.root) d.troupes ≡ map (λ (m : ModuleMeant). m.root) modules
     → map behaviour made ≡ program_of (limit_of d.format) interfaces modules → Agree (map behaviour made)
     → AreOfTroupes d (map (λ m. (behaviour m).declared) made)
-meant_of_troupes behaviour made d interfaces modules roots is agree =
+meant_of_troupes behaviour made d interfaces modules obey good roots is agree =
     subst (AreOfTroupes d) (declared_by behaviour made)
     (of_troupes d (map behaviour made)
     (roots ∙ sym (roots_meant (limit_of d.format) interfaces (interface_numbers modules) modules) ∙ ap (map (λ (b : Behaviour). b.declared.root)) (sym is))
     agree
     (subst (λ p. (place : ℕ) (b : Behaviour) → IsAt p place b → b.declared.limit ≤ limit_of d.format) (sym is)
-    (limits_meant (limit_of d.format) interfaces modules)))
+    (limits_meant (limit_of d.format) interfaces modules))
+    (subst (λ (l : List Behaviour). AreProper l) (sym is) (modules_proper interfaces obey (limit_of d.format) modules good)))

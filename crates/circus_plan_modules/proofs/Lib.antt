@@ -1,2 +1,4 @@
+pub mod Places
+pub mod Proper
 pub mod Fitting
 pub mod Named

@@ -34,11 +34,15 @@ pub fn load(alloc: Global, plan: Plan) -> Result<Loaded, NoMemory>
 
     // The modules do what those of the file mean, agree, and are those of the troupes.
     ensures behave { IfOk result (λ loaded.
-        behaviours ⟦<TextModule as circus_model::Module>⟧.declared ⟦<TextModule as circus_model::Module>⟧.turn ⟦<TextModule as circus_model::Module>⟧.first
+        behaviours ⟦<TextModule as circus_model::Module>⟧.declared
+        ⟦<TextModule as circus_model::Module>⟧.turn
+        ⟦<TextModule as circus_model::Module>⟧.first
         loaded.modules.items
         ≡ behaviours_in plan) }
     ensures agree { IfOk result (λ loaded.
-        Agree (behaviours ⟦<TextModule as circus_model::Module>⟧.declared ⟦<TextModule as circus_model::Module>⟧.turn ⟦<TextModule as circus_model::Module>⟧.first
+        Agree (behaviours ⟦<TextModule as circus_model::Module>⟧.declared
+        ⟦<TextModule as circus_model::Module>⟧.turn
+        ⟦<TextModule as circus_model::Module>⟧.first
         loaded.modules.items)) }
     ensures fit { IfOk result (λ loaded.
         AreOfTroupes loaded.deployment

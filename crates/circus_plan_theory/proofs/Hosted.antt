@@ -8,7 +8,7 @@ use Rattle.circus_performing.specs.Record.{behaviour}
 use Rattle.circus_config.specs.declared.plan.Plan.{Plan}
 use Rattle.circus_plan_modules.specs.Loaded.{behaviours_in, hosted_by}
 use Rattle.circus_world.specs.Boot.{AreHosted}
-use Rattle.circus_plan_theory.proofs.Places.{of_map}
+use Rattle.circus_plan_modules.proofs.Places.{of_map}
 
 pub plan_hosted : (plan : Plan) → AreHosted (λ (b : Behaviour). b.declared) (λ (b : Behaviour). b.turn) (λ (b : Behaviour). b.first) plan.deployment (behaviours_in plan) (map (hosted_by (behaviours_in plan)) plan.deployment.nodes)
 plan_hosted plan = record {

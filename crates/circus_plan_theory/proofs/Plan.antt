@@ -1,10 +1,10 @@
--- The modules of a plan: they agree, they keep to the laws of modules, and their shapes are proper.
+-- The modules of a plan: they agree, and they keep to the laws of modules.
 use Rattle.std.proofs.Common.{ℕ, ◌≤◌, Bool, true, false, List, map, sym, subst, arith}
 use Rattle.std.specs.Prelude.{◌==◌, if◌then◌else◌}
 use Rattle.std.specs.List.{AllByRecursion}
 use Rattle.circus_limits.specs.Limits.{limit_of, first_limit, most_bytes}
 use Rattle.circus_model.specs.Agree.{Agree, AreModules}
-use Rattle.circus_model.specs.Behaviour.{Behaviour, IsModule}
+use Rattle.circus_model.specs.Behaviour.{IsModule}
 use Rattle.circus_idl.specs.Obeys.{Obeys}
 use Rattle.circus_idl.specs.declared.interface.Interface.{Interface}
 use Rattle.circus_check.specs.Meaning.{ModuleMeant}
@@ -16,11 +16,9 @@ use Rattle.circus_modules.specs.Behaviours.{behaviour_of, program_of}
 use Rattle.circus_config.specs.declared.plan.Plan.{Plan}
 use Rattle.circus_config.specs.Program.{IsPlan}
 use Rattle.circus_plan_modules.specs.Loaded.{behaviours_in}
-use Rattle.circus_member_theory.specs.Proper.{IsProperModule, AreProper}
+use Rattle.circus_plan_modules.proofs.Places.{at_place, of_map}
 use Rattle.circus_plan_theory.proofs.Abiding.{abides}
 use Rattle.circus_plan_theory.proofs.Bodies.{are_bodies}
-use Rattle.circus_plan_theory.proofs.Places.{at_place, of_map}
-use Rattle.circus_plan_theory.proofs.Proper.{module_proper}
 use Rattle.circus_modules.proofs.Agreeing.{modules_agree}
 use Rattle.circus_modules.proofs.States.{zeros_fit_shapes, zeros_within}
 
@@ -55,12 +53,6 @@ module _ (limit : ℕ) (interfaces : List Interface) (modules : List ModuleMeant
       let o = of_map (behaviour_of limit interfaces (interface_numbers modules)) modules place b at in
       subst IsModule (sym o.is) (module_keeps large place o.item o.there)
 
-  modules_proper : AreProper (program_of limit interfaces modules)
-  modules_proper place b at =
-      let o = of_map (behaviour_of limit interfaces (interface_numbers modules)) modules place b at in
-      subst (λ (x : Behaviour). IsProperModule x.declared) (sym o.is)
-      (module_proper interfaces obey limit (interface_numbers modules) o.item (good.each place o.item o.there).types)
-
 -- ---- plans
 
 pub plan_agrees : (plan : Plan) → IsPlan plan → Agree (behaviours_in plan)
@@ -68,6 +60,3 @@ plan_agrees plan is = modules_agree (limit_of plan.deployment.format) plan.check
 
 pub plan_modules : (plan : Plan) → IsPlan plan → AreModules (behaviours_in plan)
 plan_modules plan is = modules_keep (limit_of plan.deployment.format) plan.checked.interfaces (map module_as plan.checked.modules) is.obey is.well_formed (limit_least plan.deployment.format)
-
-pub plan_proper : (plan : Plan) → IsPlan plan → AreProper (behaviours_in plan)
-plan_proper plan is = modules_proper (limit_of plan.deployment.format) plan.checked.interfaces (map module_as plan.checked.modules) is.obey is.well_formed

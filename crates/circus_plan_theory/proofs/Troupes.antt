@@ -17,5 +17,5 @@ map_same (x ∷ xs) = ap (λ l. x ∷ l) (map_same xs)
 pub plan_of_troupes : (plan : Plan) → IsPlan plan → AreOfTroupes plan.deployment (map (λ (b : Behaviour). b.declared) (behaviours_in plan))
 plan_of_troupes plan is =
     let same = map_same (behaviours_in plan) in
-    meant_of_troupes (λ (b : Behaviour). b) (behaviours_in plan) plan.deployment plan.checked.interfaces (map module_as plan.checked.modules) is.roots same
+    meant_of_troupes (λ (b : Behaviour). b) (behaviours_in plan) plan.deployment plan.checked.interfaces (map module_as plan.checked.modules) is.obey is.well_formed is.roots same
     (subst Agree (sym same) (plan_agrees plan is))

@@ -14,7 +14,7 @@ use Rattle.circus_settle.proofs.AllDelivered.{alone, first_once}
 use Rattle.circus_config.specs.declared.plan.Plan.{Plan}
 use Rattle.circus_config.specs.Program.{IsProgramOf, IsPlan}
 use Rattle.circus_plan_modules.specs.Loaded.{behaviours_in}
-use Rattle.circus_plan_theory.proofs.Plan.{plan_agrees, plan_modules, plan_proper}
+use Rattle.circus_plan_theory.proofs.Plan.{plan_agrees, plan_modules}
 use Rattle.circus_plan_theory.proofs.Troupes.{plan_of_troupes}
 use Rattle.circus_plan_theory.proofs.Hosted.{plan_hosted}
 use Rattle.circus_commands.specs.declared.status.Status.TheVariants.{Done, BadSchedule, Spent}
@@ -47,7 +47,6 @@ plain_world plan lines last is led = record {
   troupes = plan_of_troupes plan is;
   modules = plan_modules plan is;
   agree = plan_agrees plan is;
-  proper = plan_proper plan is;
   hosts = plan_hosted plan;
   boots = led.booted_is;
   leads = led.lead;

@@ -37,7 +37,6 @@ module _ {M : Type 0} (declared : M → Signature) (turn : M → List ValueTree 
     deployment = world.deployment;
     troupes = world.troupes;
     agree = world.agree;
-    proper = world.proper;
     hosts = world.hosts;
     boots = world.boots;
     leads = (led declared turn most booted done settled).lead;

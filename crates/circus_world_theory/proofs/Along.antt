@@ -37,7 +37,7 @@ use Rattle.circus_world_theory.specs.NodeActs.{with_all, acts_in}
 use Rattle.circus_world_theory.proofs.Lines.{lead_stands}
 use Rattle.circus_world_theory.proofs.Messages.{call_handed, return_handed}
 use Rattle.circus_world_theory.proofs.Worlds.{Stands, get_same}
-use Rattle.circus_member_theory.specs.Proper.{AreProper}
+use Rattle.circus_member_rules.specs.Proper.{AreProper}
 use Rattle.circus_world_theory.proofs.Stepping.{CalledAt, HeardAt, ComesTruly, NodesTrue, same_world, comes_true}
 use Rattle.circus_world_theory.proofs.True.{ActsTrue}
 

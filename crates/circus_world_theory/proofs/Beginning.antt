@@ -37,7 +37,7 @@ use Rattle.circus_world.specs.WorldState.{WorldState}
 use Rattle.circus_world.specs.Boot.{before_any, all_booted, AreHosted}
 use Rattle.circus_world.proofs.SlotLemmas.{get_there}
 use Rattle.circus_world_theory.specs.NodeActs.{with_all, acts_at_boot}
-use Rattle.circus_member_theory.specs.Proper.{AreProper}
+use Rattle.circus_member_rules.specs.Proper.{AreProper}
 use Rattle.circus_member_theory.specs.Truth.{IsLong, IsTrueMember, IsTrueEffect, IsTrueCallFor, IsTrueReturn}
 use Rattle.circus_member_theory.proofs.Resting.{boot_rests}
 use Rattle.circus_member_theory.proofs.Step.{boot_keeps_true}

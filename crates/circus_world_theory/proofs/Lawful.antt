@@ -23,7 +23,6 @@ use Rattle.circus_world.specs.Course.{Stepped, step_line}
 use Rattle.circus_world.specs.Boot.{before_any, all_booted, AreHosted}
 use Rattle.circus_world.specs.Lines.{Lead}
 use Rattle.circus_world.proofs.WorldsAlike.{refusal_as, world_stepped_as, all_booted_as}
-use Rattle.circus_member_theory.specs.Proper.{AreProper}
 use Rattle.circus_world_theory.specs.Worlds.{IsWorldOf, IsPlainWorldOf}
 
 -- ---- behaviours that keep to the laws of modules
@@ -192,7 +191,6 @@ module _ (d : Deployment) (program : List Behaviour) (hosted : List (Option Beha
     deployment = world.deployment;
     troupes = subst (λ (l : List Signature). AreOfTroupes d l) (ap (map declared_of) (sym modules_are) ∙ sym (declared_are modules)) world.troupes;
     agree = subst (λ (l : List Behaviour). Agree l) (sym modules_are) world.agree;
-    proper = subst (λ (l : List Behaviour). AreProper l) (sym modules_are) world.proper;
     hosts = hosts;
     boots = boots.is;
     leads = leads.leads;

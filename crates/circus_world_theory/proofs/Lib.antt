@@ -16,6 +16,7 @@ pub mod Lawful
 pub mod Making
 pub mod Plain
 pub mod PlainMessages
+pub mod Proper
 pub mod Saying
 pub mod Stepping
 pub mod Theorem

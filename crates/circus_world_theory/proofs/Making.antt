@@ -34,7 +34,7 @@ use Rattle.circus_member_rules.specs.Seen.Sound.{IsRested}
 use Rattle.circus_node.specs.Accepting.{occurrence_of_heard, accepted_request}
 use Rattle.circus_node.specs.NodeState.{Acting, member, ringmaster}
 use Rattle.circus_node.specs.Making.{Made, happens, keep_acting, refuse, arrives_at_ring, by_ring, hears, learns_down, is_told_to_join, performs, table_message, a_drop}
-use Rattle.circus_member_theory.specs.Proper.{AreProper}
+use Rattle.circus_member_rules.specs.Proper.{AreProper}
 use Rattle.circus_member_theory.specs.Truth.{IsTrueMember, IsTrueOccurrence, IsTrueEffect, IsTrueCallFor, IsTrueReturn}
 use Rattle.circus_member_theory.proofs.Accepting.True.{call_is_true, return_is_true}
 use Rattle.circus_member_theory.proofs.Accepting.TrueCan.{call_can, return_can}

@@ -44,7 +44,7 @@ use Rattle.circus_world_theory.specs.Histories.{beginning_of}
 use Rattle.circus_world_theory.specs.NodeActs.{with_all, wire_behind, acts_in}
 use Rattle.circus_node.specs.Trace.{effects_in}
 use Rattle.circus_world_theory.proofs.Worlds.{at_pair}
-use Rattle.circus_member_theory.specs.Proper.{AreProper}
+use Rattle.circus_member_rules.specs.Proper.{AreProper}
 use Rattle.circus_world_theory.proofs.Handing.{IsMade, calls_stay, step_said}
 use Rattle.circus_world_theory.proofs.Making.{MayHaveModule, HeardSo, hears_true, learns_true, joins_true}
 use Rattle.circus_world_theory.proofs.Saying.{AllSaid, all_said_weaker, call_said, purpose_said, return_said}

@@ -37,6 +37,7 @@ use Rattle.circus_member_theory.specs.Messages.{IsAskAt, IsTrueState}
 use Rattle.circus_member_theory.specs.Truth.{IsTrueReturn, IsTrueCallFor}
 use Rattle.circus_world_theory.specs.Worlds.{IsWorldOf}
 use Rattle.circus_world_theory.specs.Agreeing.{RecordsStand, AsksAreTrue, ReturnsAreTrue, OthersCiteNothing, NoneDiffer, IsTrueAsk, IsTrueReplyTo, IsTrueSnapshot, CitesNothing, HasCalled, HasReturned}
+use Rattle.circus_world_theory.proofs.Proper.{are_proper}
 use Rattle.circus_world_theory.proofs.Along.{heard_at, lead_true}
 use Rattle.circus_world_theory.proofs.Beginning.{boot_true}
 use Rattle.circus_world_theory.proofs.Saying.{call_said, return_said}
@@ -119,9 +120,9 @@ module _ {M : Type 0} (declared : M → Signature) (turn : M → List ValueTree 
 
     pub nodes_true : NodesTrue declared turn first program d acts last
     nodes_true =
-        lead_true declared turn first lawful program world.agree (are_modules declared turn first modules lawful) world.proper d world.deployment one_each (acts_of declared turn first d hosted [] booted) lines booted last
+        lead_true declared turn first lawful program world.agree (are_modules declared turn first modules lawful) (are_proper declared turn first d modules world.troupes) d world.deployment one_each (acts_of declared turn first d hosted [] booted) lines booted last
         (world_stands declared turn first d hosted modules [] booted booted world.deployment world.troupes world.hosts world.boots refl)
-        (boot_true declared turn first lawful modules world.agree (are_modules declared turn first modules lawful) world.proper d world.deployment world.troupes hosted world.hosts booted world.boots)
+        (boot_true declared turn first lawful modules world.agree (are_modules declared turn first modules lawful) (are_proper declared turn first d modules world.troupes) d world.deployment world.troupes hosted world.hosts booted world.boots)
         world.leads
 
     -- ---- records
@@ -208,5 +209,5 @@ module _ {M : Type 0} (declared : M → Signature) (turn : M → List ValueTree 
 
     pub none_differ : NoneDiffer declared turn last
     none_differ = λ line node event s ended comes_it at ends.
-        (ends_true declared turn first lawful program world.agree (are_modules declared turn first modules lawful) world.proper d world.deployment one_each acts last nodes_true node s at
+        (ends_true declared turn first lawful program world.agree (are_modules declared turn first modules lawful) (are_proper declared turn first d modules world.troupes) d world.deployment one_each acts last nodes_true node s at
         ((talks.sound.nodes node s at).deployment ∙ nodes_true.deployment) event ended (truly_comes d acts last talks line node event s comes_it at) ends).differences

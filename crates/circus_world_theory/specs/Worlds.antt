@@ -14,15 +14,13 @@ use Rattle.circus_node.specs.Alike.{declared_of, turn_of, first_of}
 use Rattle.circus_world.specs.WorldState.{WorldState}
 use Rattle.circus_world.specs.Boot.{before_any, all_booted, AreHosted}
 use Rattle.circus_world.specs.Lines.{Lead}
-use Rattle.circus_member_theory.specs.Proper.{AreProper}
 
--- modules that agree and whose shapes are proper boot on the nodes of a deployment, and lines lead from there to a world
+-- modules that agree boot on the nodes of a deployment, and lines lead from there to a world
 module _ {M : Type 0} (declared : M → Signature) (turn : M → List ValueTree → ℕ → List ValueTree → List Outcome → NextTurn) (first : M → List ValueTree) where
   pub record IsWorldOf (d : Deployment) (modules : List M) (hosted : List (Option M)) (lines : List Line) (booted last : WorldState M) : Type 0 where
     pub deployment : IsDeployment d
     pub troupes : AreOfTroupes d (map declared modules)
     pub agree : Agree (behaviours declared turn first modules)
-    pub proper : AreProper (behaviours declared turn first modules)
     pub hosts : AreHosted declared turn first d modules hosted
     pub boots : all_booted declared turn first hosted (before_any d modules) ≡ Ok booted
     pub leads : Lead declared turn lines booted last
@@ -33,7 +31,6 @@ pub record IsPlainWorldOf (d : Deployment) (program : List Behaviour) (hosted : 
   pub troupes : AreOfTroupes d (map declared_of program)
   pub modules : AreModules program
   pub agree : Agree program
-  pub proper : AreProper program
   pub hosts : AreHosted declared_of turn_of first_of d program hosted
   pub boots : all_booted declared_of turn_of first_of hosted (before_any d program) ≡ Ok booted
   pub leads : Lead declared_of turn_of lines booted last

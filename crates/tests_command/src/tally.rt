@@ -78,6 +78,7 @@ fn as_texts(alloc: Global, texts: Vec<TextModule>) -> Result<Vec<Mixed>, NoMemor
 }
 
 // Whether the first troupe is that of a module that is no root.
+#[tactic(auto, using(crate::proofs::Proper::tally_proper))]
 fn is_no_root(deployment: &Deployment) -> bool
     requires { IsDeployment deployment.now }
     ensures { IsTrue result → IsOfTroupe deployment.now 0 tally_signature }

@@ -35,7 +35,7 @@ use Rattle.circus_world_theory.specs.NodeActs.{with_all, acts_in}
 use Rattle.circus_world_theory.proofs.Steps.{IsRead}
 use Rattle.circus_world_theory.proofs.Worlds.{Stands, IsGiven, IsReal, get_same, is_read}
 use Rattle.circus_member_theory.specs.Past.{Past, now}
-use Rattle.circus_member_theory.specs.Proper.{AreProper}
+use Rattle.circus_member_rules.specs.Proper.{AreProper}
 use Rattle.circus_world_theory.proofs.Along as along
 use Rattle.circus_world_theory.proofs.Along.{noted_at, live_there, below_sent, heard_at, line_talks, line_true}
 use Rattle.circus_world_theory.proofs.Stepping.{same_world, comes_is, ComesTruly, NodesTrue}

@@ -30,6 +30,7 @@ use Rattle.circus_world_theory.proofs.Worlds.{Stands}
 use Rattle.circus_member_theory.specs.Past.{booted, now}
 use Rattle.circus_member_theory.specs.Living.{phase_at_boot}
 use Rattle.circus_world_theory.specs.Worlds.{IsWorldOf}
+use Rattle.circus_world_theory.proofs.Proper.{are_proper}
 use Rattle.circus_world_theory.proofs.Booted.{HasBooted, all_have_booted}
 use Rattle.circus_world_theory.proofs.Theorem.{one_each, nodes_true, records_stand}
 use Rattle.circus_world_theory.specs.Happened.{past_of, happens_by, with_one}
@@ -55,7 +56,6 @@ module _ {M : Type 0} (declared : M → Signature) (turn : M → List ValueTree 
       deployment = world.deployment;
       troupes = world.troupes;
       agree = world.agree;
-      proper = world.proper;
       hosts = world.hosts;
       boots = world.boots;
       leads = refl;
@@ -86,7 +86,7 @@ module _ {M : Type 0} (declared : M → Signature) (turn : M → List ValueTree 
 
       pub goes_then : GoesIn declared turn first lawful d world.deployment node number troupe own (past_of declared turn lines begun_ node) (acts_of declared turn first d hosted lines begun_ node) w
       goes_then =
-          lead_goes declared turn first lawful program world.agree (are_modules declared turn first modules lawful) world.proper d world.deployment (one_each declared turn first lawful d modules hosted lines begun_ w world) node number troupe own
+          lead_goes declared turn first lawful program world.agree (are_modules declared turn first modules lawful) (are_proper declared turn first d modules world.troupes) d world.deployment (one_each declared turn first lawful d modules hosted lines begun_ w world) node number troupe own
           at_boot booted lines begun_ w boot_stands (nodes_true declared turn first lawful d modules hosted [] begun_ begun_ boot_world) begins world.leads
 
   pub steps_are_true : (lines : List Line) (line : Line) (begun_ w last : WorldState M) (node : ℕ) (event : Event) (before after : Standing M) (outputs : Outputs)
@@ -103,7 +103,6 @@ module _ {M : Type 0} (declared : M → Signature) (turn : M → List ValueTree 
         deployment = is.world.deployment;
         troupes = is.world.troupes;
         agree = is.world.agree;
-        proper = is.world.proper;
         hosts = is.world.hosts;
         boots = is.world.boots;
         leads = is.leads;
@@ -125,7 +124,7 @@ module _ {M : Type 0} (declared : M → Signature) (turn : M → List ValueTree 
           let low = in_world.before in
           let later : now p < w.steps + 1 = omega (arith, low) in
           let goes = in_world.goes before is.was in
-          let well = comes_so declared turn first lawful program is.world.agree (are_modules declared turn first modules lawful) is.world.proper d good (one_each declared turn first lawful d modules hosted lines begun_ w then_) node other troupe own
+          let well = comes_so declared turn first lawful program is.world.agree (are_modules declared turn first modules lawful) (are_proper declared turn first d modules is.world.troupes) d good (one_each declared turn first lawful d modules hosted lines begun_ w then_) node other troupe own
           (acts_of declared turn first d hosted lines begun_) p w last (world_stands declared turn first d hosted modules lines begun_ w good is.world.troupes is.world.hosts is.world.boots is.leads)
           (nodes_true declared turn first lawful d modules hosted lines begun_ w then_) line is.on node event before is.comes is.was in
           let on_ = goes_on declared turn first lawful d good node other troupe own p acts before.node (w.steps + 1) event (after.node, outputs) later goes well.far well.read well.may is.ends in

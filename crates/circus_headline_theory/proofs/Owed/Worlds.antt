@@ -27,9 +27,10 @@ use Rattle.circus_world_theory.proofs.Boots.{world_stands}
 use Rattle.circus_world_theory.proofs.Lines.{lead_stands}
 use Rattle.circus_world_theory.proofs.Worlds.{Stands}
 use Rattle.circus_member_theory.specs.Past.{Past, booted}
-use Rattle.circus_member_theory.specs.Proper.{AreProper}
+use Rattle.circus_member_rules.specs.Proper.{AreProper}
 use Rattle.circus_headline_theory.specs.Owed.Living.{made_in}
 use Rattle.circus_world_theory.specs.Worlds.{IsWorldOf}
+use Rattle.circus_world_theory.proofs.Proper.{are_proper}
 use Rattle.circus_world_theory.proofs.Along.{lead_true}
 use Rattle.circus_world_theory.proofs.Beginning.{boot_true}
 use Rattle.circus_world_theory.proofs.Stepping.{NodesTrue}
@@ -130,10 +131,10 @@ module _ {M : Type 0} (declared : M → Signature) (turn : M → List ValueTree 
       (of_troupe declared turn first d modules node number own world.troupes (world.hosts.each node (Some own) hosts_it) is_at) in
       let lives = lives_so declared turn first lawful d modules hosted lines begun last world node number troupe own hosts_it is_at there in
       let p = past_of declared turn lines begun node in
-      let m = lead_made declared turn first lawful d node number troupe own program world.agree modules_are world.proper world.deployment
+      let m = lead_made declared turn first lawful d node number troupe own program world.agree modules_are (are_proper declared turn first d modules world.troupes) world.deployment
       (one_each declared turn first lawful d modules hosted lines begun last world) (acts_of declared turn first d hosted [] begun) booted lines begun last
       (world_stands declared turn first d hosted modules [] begun begun world.deployment world.troupes world.hosts world.boots refl)
-      (boot_true declared turn first lawful modules world.agree modules_are world.proper d world.deployment world.troupes hosted world.hosts begun world.boots)
+      (boot_true declared turn first lawful modules world.agree modules_are (are_proper declared turn first d modules world.troupes) d world.deployment world.troupes hosted world.hosts begun world.boots)
       (begins declared turn first lawful d modules hosted lines begun last world node number troupe own hosts_it is_at there) world.leads in
       let own_is : option_and_then (λ (o : Option M). o) (slice_get hosted node) ≡ Some own = ap (option_and_then (λ (o : Option M). o)) hosts_it in
       let boots : made_in 0 (effects_at_boot declared turn first d (option_and_then (λ (o : Option M). o) (slice_get hosted node)) node)

@@ -9,7 +9,7 @@ ghost use Rattle.circus_model.specs.declared.signature.ProcedureShape.{Procedure
 ghost use Rattle.circus_model.specs.declared.signature.Signature.{Signature};
 ghost use Rattle.circus_node.specs.Acceptance.{AcceptsReturn, procedure_recorded};
 ghost use Rattle.circus_record.specs.declared.record.MemberRecord.{MemberRecord};
-ghost use Rattle.circus_member_theory.specs.Proper.{IsProperModule, IsProperProcedure};
+ghost use Rattle.circus_member_rules.specs.Proper.{IsProperModule, IsProperProcedure};
 ghost use Rattle.circus_value.specs.Parts.{AreOctets};
 
 /// Of the returns that come to a node run just those are accepted, by its record, of which a rule

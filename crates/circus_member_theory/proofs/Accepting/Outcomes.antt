@@ -25,7 +25,7 @@ use Rattle.circus_model.specs.declared.signature.ErrorShape.{ErrorShape}
 use Rattle.circus_member_rules.specs.Messages.{outcome_spelling}
 use Rattle.circus_node.specs.Bodies.{found_whole, values_at, raised_shapes, raised_values, outcome_by, outcome_at}
 use Rattle.circus_member_theory.proofs.Accepting.Arguments.{values_read}
-use Rattle.circus_member_theory.specs.Proper.{IsProperProcedure}
+use Rattle.circus_member_rules.specs.Proper.{IsProperProcedure}
 
 -- ---- values
 

@@ -33,7 +33,7 @@ use Rattle.circus_member_rules.specs.declared.occurrence.Occurrence.{Occurrence}
 use Rattle.circus_member_rules.specs.declared.occurrence.Occurrence.TheVariants as comes
 use Rattle.circus_member_rules.specs.declared.occurrence.Purpose.{Purpose}
 use Rattle.circus_member_rules.specs.declared.occurrence.Purpose.TheVariants as for
-use Rattle.circus_member_theory.specs.Proper.{IsProperProcedure, IsProperModule}
+use Rattle.circus_member_rules.specs.Proper.{IsProperProcedure, IsProperModule}
 use Rattle.circus_node.specs.Bodies.{values_at, outcome_at, restored_in}
 use Rattle.circus_node.specs.Headers.{call_in, return_in, table_at}
 use Rattle.circus_node.specs.Accepting.{is_in_order, unpacks, may_ask, taken_call, accepted_call, taken_request, accepted_request, taken_answer, accepted_answer, may_tell, taken_table, accepted_table, accepted_state, accepted_return}

@@ -46,7 +46,7 @@ use Rattle.circus_transfer.specs.Snapshot.{fields_of, snapshot_label, snapshot_f
 use Rattle.circus_transfer.proofs.Fields.{admits}
 use Rattle.circus_model.specs.Lawful.{outcome_fits}
 use Rattle.circus_model.specs.declared.signature.ProcedureShape.{ProcedureShape}
-use Rattle.circus_member_theory.specs.Proper.{IsProperProcedure}
+use Rattle.circus_member_rules.specs.Proper.{IsProperProcedure}
 use Rattle.circus_node.specs.Headers.{read_by, whole, call_in, return_in, table_at}
 use Rattle.circus_node.specs.Bodies.{found_whole, values_at, raised_shapes, raised_values, outcome_by, outcome_at, counted_state, restored_in}
 use Rattle.circus_node.specs.Grammar.{Heads, Spell, SpellOutcome, HandsOver}

@@ -14,7 +14,7 @@ use Rattle.circus_wire.specs.declared.delivery.Heard.TheVariants as hears
 use Rattle.circus_member_rules.specs.declared.occurrence.Occurrence.{Occurrence}
 use Rattle.circus_member_rules.specs.declared.occurrence.Purpose.{Purpose}
 use Rattle.circus_member_rules.specs.MemberState.{MemberState}
-use Rattle.circus_member_theory.specs.Proper.{AreProper}
+use Rattle.circus_member_rules.specs.Proper.{AreProper}
 use Rattle.circus_member_theory.specs.Truth.{IsTrueMember, IsTrueOccurrence, IsTrueCallFor, IsTrueReturn}
 use Rattle.circus_node.specs.Accepting.{occurrence_of_heard}
 use Rattle.circus_member_theory.proofs.Accepting.TrueCalls.{called_true}

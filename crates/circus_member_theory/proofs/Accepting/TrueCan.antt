@@ -37,7 +37,7 @@ use Rattle.circus_member_rules.specs.declared.occurrence.Purpose.{Purpose}
 use Rattle.circus_member_rules.specs.declared.occurrence.Purpose.TheVariants as for
 use Rattle.circus_member_rules.specs.Happening.{CanHappen}
 use Rattle.circus_member_rules.specs.MemberState.{MemberState}
-use Rattle.circus_member_theory.specs.Proper.{IsProperProcedure, AreProper}
+use Rattle.circus_member_rules.specs.Proper.{IsProperProcedure, AreProper}
 use Rattle.circus_member_theory.specs.Truth.{IsTrueCallFor, IsTrueReturn}
 use Rattle.circus_member_theory.proofs.Histories.{takes, answers}
 use Rattle.circus_node.specs.Bodies.{restored_in}

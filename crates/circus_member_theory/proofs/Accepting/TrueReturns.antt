@@ -35,7 +35,7 @@ use Rattle.circus_member_rules.specs.declared.occurrence.Purpose.{Purpose}
 use Rattle.circus_member_rules.specs.declared.occurrence.Purpose.TheVariants as for
 use Rattle.circus_member_rules.specs.MemberState.{MemberState}
 use Rattle.circus_member_theory.specs.Messages.{IsAskAt, IsTrueCall, IsTrueReply, IsTrueState}
-use Rattle.circus_member_theory.specs.Proper.{IsProperProcedure, AreProper}
+use Rattle.circus_member_rules.specs.Proper.{IsProperProcedure, AreProper}
 use Rattle.circus_member_theory.specs.Truth.{reply_to, Answers, IsNamed, IsTrueAsking, IsTrueMember, IsTrueOccurrence, IsAskMessage, IsTrueCallFor, IsReplyMessage, IsStateMessage, IsTrueReturn}
 use Rattle.circus_member_theory.proofs.Histories.{runs_are_few, state_is as state_of, answers, true_reply_is}
 use Rattle.circus_node.specs.Bodies.{outcome_at, restored_in}

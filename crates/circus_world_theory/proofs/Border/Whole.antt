@@ -29,9 +29,10 @@ use Rattle.circus_world.specs.Lines.{Lead}
 use Rattle.circus_world_theory.specs.Histories.{acts_of, comes_by, with_line}
 use Rattle.circus_world_theory.proofs.Boots.{world_stands}
 use Rattle.circus_world_theory.proofs.Worlds.{Stands}
-use Rattle.circus_member_theory.specs.Proper.{AreProper}
+use Rattle.circus_member_rules.specs.Proper.{AreProper}
 use Rattle.circus_member_theory.proofs.Step.{in_range}
 use Rattle.circus_world_theory.specs.Worlds.{IsWorldOf}
+use Rattle.circus_world_theory.proofs.Proper.{are_proper}
 use Rattle.circus_world_theory.proofs.Along.{line_talks, line_true}
 use Rattle.circus_world_theory.proofs.Beginning.{boot_true}
 use Rattle.circus_world_theory.proofs.Making.{MayHaveModule, HeardSo, heard_accepts}
@@ -105,10 +106,10 @@ module _ {M : Type 0} (declared : M → Signature) (turn : M → List ValueTree 
       let are = are_modules declared turn first modules lawful in
       let one_each : length program ≡ length d.troupes = length-map modules (behaviour declared turn first) ∙ sym (length-map modules declared) ∙ world.troupes.one_each in
       world_at_border declared turn first lawful d world.deployment modules hosted world.troupes world.hosts lines booted last world.boots
-      (lines_take declared turn first lawful program world.agree are world.proper d world.deployment one_each
+      (lines_take declared turn first lawful program world.agree are (are_proper declared turn first d modules world.troupes) d world.deployment one_each
       (at_boot declared turn first lawful d world.deployment modules hosted world.troupes world.hosts) lines booted last
       (world_stands declared turn first d hosted modules [] booted booted world.deployment world.troupes world.hosts world.boots refl)
-      (boot_true declared turn first lawful modules world.agree are world.proper d world.deployment world.troupes hosted world.hosts booted world.boots)
+      (boot_true declared turn first lawful modules world.agree are (are_proper declared turn first d modules world.troupes) d world.deployment world.troupes hosted world.hosts booted world.boots)
       world.leads)
       world.leads
 

@@ -47,7 +47,7 @@ use Rattle.circus_member_rules.specs.MemberState.{MemberState}
 use Rattle.circus_node.specs.Booting.{IsOfTroupe}
 use Rattle.circus_member_theory.proofs.Histories.{run_follows, takes, within, answers, makes, path_short, clock_length, callee_below}
 use Rattle.circus_member_theory.specs.Messages.{IsAskAt}
-use Rattle.circus_member_theory.specs.Proper.{IsProperProcedure, AreProper}
+use Rattle.circus_member_rules.specs.Proper.{IsProperProcedure, AreProper}
 use Rattle.circus_member_theory.specs.Truth.{reply_to, IsNamed, IsAskMessage}
 use Rattle.circus_node.specs.Bodies.{found_whole, values_at, raised_values, outcome_by, outcome_at}
 use Rattle.circus_node.specs.Headers.{call_in, return_in}

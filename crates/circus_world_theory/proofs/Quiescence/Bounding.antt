@@ -62,6 +62,7 @@ use Rattle.circus_world_theory.specs.Histories.{beginning_of}
 use Rattle.circus_world_theory.proofs.Boots.{world_stands}
 use Rattle.circus_world_theory.proofs.Worlds.{Stands, at_pair, lawful_at}
 use Rattle.circus_world_theory.specs.Worlds.{IsWorldOf}
+use Rattle.circus_world_theory.proofs.Proper.{fits, are_proper}
 use Rattle.circus_world_theory.proofs.Saying.{IsSaidCall, call_said, return_said}
 use Rattle.circus_world_theory.proofs.Stepping.{CalledAt}
 use Rattle.circus_world_theory.proofs.True.{first_at, CallSo, ReturnSo, IsTrueAt, ActsTrue, return_so_grows}
@@ -70,7 +71,7 @@ use Rattle.circus_world_theory.specs.Quiet.{IsDelivery}
 use Rattle.circus_world_theory.specs.Still.{phase_of, phase_at}
 use Rattle.circus_world_theory.proofs.Quiescence.Amounts.{segments_in, datas, ReturnsBelow, few_datas}
 use Rattle.circus_world_theory.proofs.Quiescence.CalmSteps.{CalmAt}
-use Rattle.circus_world_theory.proofs.Quiescence.CalmWorlds.{Holds, fits, many, acts, holds_at_last}
+use Rattle.circus_world_theory.proofs.Quiescence.CalmWorlds.{Holds, many, acts, holds_at_last}
 use Rattle.circus_world_theory.proofs.Quiescence.Counts.{DataCounted, counted_still, few_in_all}
 use Rattle.circus_world_theory.proofs.Quiescence.Course.{AllLive, own_of, at_boot, boot_live, boot_counts, data_of_end, lead_keeps}
 use Rattle.circus_world_theory.proofs.Quiescence.Evolving.{Named}
@@ -287,8 +288,8 @@ module _ {M : Type 0} (declared : M → Signature) (turn : M → List ValueTree 
         named : Named m.performing.kept name.run name.ask
         entry : IsEntryOf (boot_views d.troupes) server other
 
-      calm : CalmAt declared turn first lawful program world.agree (are_modules declared turn first modules lawful) world.proper d world.deployment (many declared turn first lawful d modules hosted lines booted last world)
-          (fits declared turn first lawful d modules hosted lines booted last world) node (happened node) m
+      calm : CalmAt declared turn first lawful program world.agree (are_modules declared turn first modules lawful) (are_proper declared turn first d modules world.troupes) d world.deployment (many declared turn first lawful d modules hosted lines booted last world)
+          (fits declared turn first d modules world.troupes) node (happened node) m
       calm = holds.2.calm node s.0 m s.1 acting
 
       call_of : (k : ℕ) → k < count → IsCallOf k
@@ -332,7 +333,7 @@ module _ {M : Type 0} (declared : M → Signature) (turn : M → List ValueTree 
               let t = true_reply program (λ _ l. l ≡ c.message) server firsts caller message
               (λ n f. ask_no_fetch c.is.header c.is.body server n c.is.header_is (sym c.is.message_is ∙ sym f)) so given in
               t.message_is ∙ ap reply_message
-              (answers_ask declared turn first program world.agree (are_modules declared turn first modules lawful) world.proper d place Called m truth.at server firsts caller c.message message other (occurs.IsBefore c.name other) c.name c.server c.is t)
+              (answers_ask declared turn first program world.agree (are_modules declared turn first modules lawful) (are_proper declared turn first d modules world.troupes) d place Called m truth.at server firsts caller c.message message other (occurs.IsBefore c.name other) c.name c.server c.is t)
 
           by_server : (o : Option ℕ) → ReturnSo program (λ _ l. l ≡ c.message) o caller message → message ≡ reply_message (reply_to c.is.named.ask)
           by_server (Some server) so = by_true server (first_at program server) so
@@ -401,10 +402,10 @@ module _ {M : Type 0} (declared : M → Signature) (turn : M → List ValueTree 
           c : IsCallOf k
           c = call_of k below
 
-          still : MemberQuiet declared turn first lawful program world.agree (are_modules declared turn first modules lawful) world.proper d Called (phase_at d node) place m
+          still : MemberQuiet declared turn first lawful program world.agree (are_modules declared turn first modules lawful) (are_proper declared turn first d modules world.troupes) d Called (phase_at d node) place m
           still =
-              subst (λ o. NodeQuiet declared turn first lawful program world.agree (are_modules declared turn first modules lawful) world.proper d world.deployment (many declared turn first lawful d modules hosted lines booted last world) Called node o (member m)) hosts
-              (subst (λ a. NodeQuiet declared turn first lawful program world.agree (are_modules declared turn first modules lawful) world.proper d world.deployment (many declared turn first lawful d modules hosted lines booted last world) Called node (troupe_at d node) a) acting
+              subst (λ o. NodeQuiet declared turn first lawful program world.agree (are_modules declared turn first modules lawful) (are_proper declared turn first d modules world.troupes) d world.deployment (many declared turn first lawful d modules hosted lines booted last world) Called node o (member m)) hosts
+              (subst (λ a. NodeQuiet declared turn first lawful program world.agree (are_modules declared turn first modules lawful) (are_proper declared turn first d modules world.troupes) d world.deployment (many declared turn first lawful d modules hosted lines booted last world) Called node (troupe_at d node) a) acting
               (holds.1.nodes node s.0 s.1))
 
           by_troupe : (o : Option Troupe) → is_among (option_map_or (λ (t : Troupe). t.founders) o []) node ≡ false → option_map_or (λ (t : Troupe). phase_of (beginning_in t node)) o Outside ≡ Outside

@@ -50,7 +50,7 @@ use Rattle.circus_node.specs.Accepting.{troupe_at, occurrence_of_heard, accepted
 use Rattle.circus_member_theory.proofs.Accepting.Calls.{ask_no_fetch}
 use Rattle.circus_member_theory.proofs.Accepting.TrueReturns.{answers_ask}
 use Rattle.circus_node.specs.Booting.{IsOfTroupe}
-use Rattle.circus_member_theory.specs.Proper.{AreProper}
+use Rattle.circus_member_rules.specs.Proper.{AreProper}
 use Rattle.circus_member_theory.specs.Truth.{reply_to, IsNamed, IsTrueCallFor, IsTrueReturn, IsTrueAsking, IsAskMessage}
 use Rattle.circus_world_theory.specs.Histories.{beginning_of}
 use Rattle.circus_world_theory.specs.NodeActs.{with_all, acts_of_datagram}

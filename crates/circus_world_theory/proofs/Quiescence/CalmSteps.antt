@@ -56,7 +56,7 @@ use Rattle.circus_world_theory.specs.NodeActs.{with_all, acts_of_datagram, came_
 use Rattle.circus_node.specs.Trace.{effects_in}
 use Rattle.circus_world_theory.proofs.Given.{with_both}
 use Rattle.circus_world_theory.proofs.Worlds.{Stands, IsGiven, get_same, came_sent}
-use Rattle.circus_member_theory.specs.Proper.{AreProper}
+use Rattle.circus_member_rules.specs.Proper.{AreProper}
 use Rattle.circus_world_theory.proofs.Handing.{IsMade, step_said}
 use Rattle.circus_world_theory.proofs.Saying.{AllSaid, IsSaidCall, all_said_weaker, purpose_said}
 use Rattle.circus_world_theory.proofs.Stepping.{CalledAt, HeardAt, NodesTrue, ends_true}

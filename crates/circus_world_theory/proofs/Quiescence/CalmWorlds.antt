@@ -2,7 +2,7 @@
 use Rattle.std.proofs.Common.{◌≡◌, inl, inr, ℕ, ◌+◌, ◌<◌, ◌≤◌, true, List, [], ◌∷◌, length, map, All, Option, None, Some, refl, sym, ap, subst, ◌∙◌}
 use Rattle.std.specs.Prelude.{slice_get, flat_map, option_map, option_and_then, if◌then◌else◌}
 use Rattle.std.proofs.lemmas.List.Elements.{All-head, All-weaker}
-use Rattle.std.proofs.lemmas.Option.{none-some, same_Some, slice_get-map, slice_get_within}
+use Rattle.std.proofs.lemmas.Option.{none-some, same_Some, slice_get_within}
 use Rattle.circus_value.specs.ValueTree.{ValueTree}
 use Rattle.circus_value.specs.declared.caller.Caller.{Caller}
 use Rattle.circus_value.specs.declared.outcome.Outcome.{Outcome}
@@ -12,7 +12,6 @@ use Rattle.circus_collate.specs.declared.deployment.Deployment.{Deployment}
 use Rattle.circus_collate.specs.declared.deployment.Troupe.{Troupe}
 use Rattle.circus_ring.specs.RingTable.{Kept, boot_views}
 use Rattle.circus_model.specs.NextTurn.{NextTurn}
-use Rattle.circus_model.specs.Agree.{IsAt}
 use Rattle.circus_model.specs.Behaviour.{Behaviour, IsModule, behaviours}
 use Rattle.circus_model.specs.declared.signature.Signature.{Signature}
 use Rattle.circus_model.proofs.Threads.{are_modules}
@@ -46,6 +45,7 @@ use Rattle.circus_world.proofs.SlotLemmas.{get_there, all_at}
 use Rattle.circus_world_theory.specs.Histories.{beginning_of, acts_of}
 use Rattle.circus_world_theory.specs.NodeActs.{with_all, handed_by}
 use Rattle.circus_world_theory.specs.Worlds.{IsWorldOf}
+use Rattle.circus_world_theory.proofs.Proper.{fits, are_proper}
 use Rattle.circus_world_theory.proofs.Handing.{IsMade, boot_said}
 use Rattle.circus_world_theory.proofs.Saying.{AllSaid}
 use Rattle.circus_world_theory.proofs.Stepping.{CalledAt, NodesTrue}
@@ -84,26 +84,14 @@ module _ {M : Type 0} (declared : M → Signature) (turn : M → List ValueTree 
   abbrev pub program : List Behaviour
   program = behaviours declared turn first modules
 
-  pub fits : (number : ℕ) (b : Behaviour) → IsAt program number b → IsOfTroupe d number b.declared
-  fits number b at = by_module (slice_get modules number) refl
-    where
-      seen : (o : Option M) → slice_get modules number ≡ o → option_map (behaviour declared turn first) o ≡ Some b
-      seen o is = sym (slice_get-map (behaviour declared turn first) modules number ∙ ap (option_map (behaviour declared turn first)) is) ∙ at
-
-      by_module : (o : Option M) → slice_get modules number ≡ o → IsOfTroupe d number b.declared
-      by_module None is = absurd (none-some b (seen None is))
-      by_module (Some m) is =
-          subst (λ (x : Behaviour). IsOfTroupe d number x.declared) (same_Some (behaviour declared turn first m) b (seen (Some m) is))
-          (world.troupes.each number (declared m) (slice_get-map declared modules number ∙ ap (option_map declared) is))
-
   abbrev pub many : length program ≡ length d.troupes
   many = one_each declared turn first lawful d modules hosted lines booted last world
 
   abbrev pub Calm : (ℕ → WireActs Purpose) → WorldState M → Type 0
-  Calm acts w = NodesCalm declared turn first lawful program world.agree (are_modules declared turn first modules lawful) world.proper d world.deployment many fits acts w
+  Calm acts w = NodesCalm declared turn first lawful program world.agree (are_modules declared turn first modules lawful) (are_proper declared turn first d modules world.troupes) d world.deployment many (fits declared turn first d modules world.troupes) acts w
 
   abbrev pub Quiet : (ℕ → WireActs Purpose) → WorldState M → Type 0
-  Quiet acts w = NodesQuiet declared turn first lawful program world.agree (are_modules declared turn first modules lawful) world.proper d world.deployment many acts w
+  Quiet acts w = NodesQuiet declared turn first lawful program world.agree (are_modules declared turn first modules lawful) (are_proper declared turn first d modules world.troupes) d world.deployment many acts w
 
   abbrev begins : ℕ → WireActs Purpose
   begins = at_boot declared turn first d hosted
@@ -288,11 +276,11 @@ module _ {M : Type 0} (declared : M → Signature) (turn : M → List ValueTree 
 
     pub holds_at_last : Holds acts last
     holds_at_last =
-        lead_hands declared turn first lawful program world.agree (are_modules declared turn first modules lawful) world.proper d world.deployment many fits (λ a w. Holds a w)
+        lead_hands declared turn first lawful program world.agree (are_modules declared turn first modules lawful) (are_proper declared turn first d modules world.troupes) d world.deployment many (fits declared turn first d modules world.troupes) (λ a w. Holds a w)
         (λ number a new w next stands delivers handed i. (
-          delivered_true declared turn first lawful program world.agree (are_modules declared turn first modules lawful) world.proper d world.deployment many number a new w next stands delivers i.0 i.1,
-          delivered_quiet declared turn first lawful program world.agree (are_modules declared turn first modules lawful) world.proper d world.deployment many number a new w next stands delivers i.0 i.1,
-          delivered_calm declared turn first lawful program world.agree (are_modules declared turn first modules lawful) world.proper d world.deployment many fits number a new w next stands delivers i.0 i.1 i.2 handed,
+          delivered_true declared turn first lawful program world.agree (are_modules declared turn first modules lawful) (are_proper declared turn first d modules world.troupes) d world.deployment many number a new w next stands delivers i.0 i.1,
+          delivered_quiet declared turn first lawful program world.agree (are_modules declared turn first modules lawful) (are_proper declared turn first d modules world.troupes) d world.deployment many number a new w next stands delivers i.0 i.1,
+          delivered_calm declared turn first lawful program world.agree (are_modules declared turn first modules lawful) (are_proper declared turn first d modules world.troupes) d world.deployment many (fits declared turn first d modules world.troupes) number a new w next stands delivers i.0 i.1 i.2 handed,
         ))
         lines begins booted last deliveries (began declared turn first lawful d modules hosted lines booted last world) (boot_live declared turn first d hosted modules booted world.boots)
         (nothing_is_dropped declared turn first lawful d modules hosted lines booted last world).hands

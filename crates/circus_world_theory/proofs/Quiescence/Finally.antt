@@ -64,6 +64,7 @@ use Rattle.circus_model.proofs.Paths.{one_maker}
 use Rattle.circus_gather.specs.Gathering.{is_of_index, is_known, is_counted, expected_callers, call_to_start}
 use Rattle.circus_member_rules.specs.Step.{is_idle, next_start}
 use Rattle.circus_member_rules.proofs.Held.{All-passed}
+use Rattle.circus_world_theory.proofs.Proper.{fits, are_proper}
 use Rattle.circus_world_theory.proofs.Saying.{return_said}
 use Rattle.circus_world_theory.proofs.Quiescence.Accepts.{both_so}
 use Rattle.circus_world_theory.proofs.Quiescence.CalmSteps.{AnyCall, EarlyReturn}
@@ -102,7 +103,7 @@ use Rattle.circus_world_theory.specs.Quiet.{IsQuiet}
 use Rattle.circus_world_theory.specs.Still.{phase_of, phase_at}
 use Rattle.circus_world_theory.specs.Told.{Recorded, IsOpenAt, IsTold, IsWaiting}
 use Rattle.circus_world_theory.proofs.Quiescence.Booting.{few_runs}
-use Rattle.circus_world_theory.proofs.Quiescence.CalmWorlds.{acts, holds_at_last, fits, many}
+use Rattle.circus_world_theory.proofs.Quiescence.CalmWorlds.{acts, holds_at_last, many}
 use Rattle.circus_world_theory.proofs.Quiescence.Ordered.{all_ended}
 use Rattle.circus_world_theory.proofs.Quiescence.Quietly.{MemberQuiet, HasCame}
 use Rattle.circus_world_theory.proofs.Quiescence.QuietNodes.{NodeQuiet}
@@ -159,12 +160,12 @@ module _ {M : Type 0} (declared : M → Signature) (turn : M → List ValueTree 
     pub acting : s.node.acting ≡ member m
     pub hosts : troupe_at d node ≡ Some place
     pub true_ : IsTrueAt declared turn first program d (CalledAt d happened node) place m
-    pub still : MemberQuiet declared turn first lawful program world.agree (are_modules declared turn first modules lawful) world.proper d (CalledAt d happened node) (phase_at d node) place m
+    pub still : MemberQuiet declared turn first lawful program world.agree (are_modules declared turn first modules lawful) (are_proper declared turn first d modules world.troupes) d (CalledAt d happened node) (phase_at d node) place m
     pub active : is_active m.performing.kept.phase ≡ true
 
   pub founder_at : (place node : ℕ) → IsFounderAt d place node → Founder place node
   founder_at place node e = by_acting s.0.node.acting refl (subst (λ o. ActsTrue declared turn first program d (CalledAt d happened node) o s.0.node.acting) hosts ((holds_at_last declared turn first lawful d modules hosted lines booted last world lossless.alone).0.nodes node s.0 s.1))
-      (subst (λ o. NodeQuiet declared turn first lawful program world.agree (are_modules declared turn first modules lawful) world.proper d world.deployment (many declared turn first lawful d modules hosted lines booted last world) (CalledAt d happened node) node o s.0.node.acting) hosts ((holds_at_last declared turn first lawful d modules hosted lines booted last world lossless.alone).1.nodes node s.0 s.1))
+      (subst (λ o. NodeQuiet declared turn first lawful program world.agree (are_modules declared turn first modules lawful) (are_proper declared turn first d modules world.troupes) d world.deployment (many declared turn first lawful d modules hosted lines booted last world) (CalledAt d happened node) node o s.0.node.acting) hosts ((holds_at_last declared turn first lawful d modules hosted lines booted last world lossless.alone).1.nodes node s.0 s.1))
     where
       hosts : troupe_at d node ≡ Some place
       hosts = belongs_hosts d world.deployment place node (ap (λ o. option_map_or (λ (t : Troupe). is_among t.founders node || is_among t.spares node) o false) e.there ∙ ap (λ b. b || is_among e.troupe.spares node) e.among)
@@ -179,7 +180,7 @@ module _ {M : Type 0} (declared : M → Signature) (turn : M → List ValueTree 
           ∙ ap (λ b. phase_of (if b then Begin.Founder else Begin.Spare)) e.among
 
       by_acting : (a : Acting M) → s.0.node.acting ≡ a → ActsTrue declared turn first program d (CalledAt d happened node) (Some place) a
-          → NodeQuiet declared turn first lawful program world.agree (are_modules declared turn first modules lawful) world.proper d world.deployment (many declared turn first lawful d modules hosted lines booted last world)
+          → NodeQuiet declared turn first lawful program world.agree (are_modules declared turn first modules lawful) (are_proper declared turn first d modules world.troupes) d world.deployment (many declared turn first lawful d modules hosted lines booted last world)
           (CalledAt d happened node) node (Some place) a
           → Founder place node
       by_acting (member m) is truth quiet = record {
@@ -261,7 +262,7 @@ module _ {M : Type 0} (declared : M → Signature) (turn : M → List ValueTree 
   roots : (place : ℕ) → IsRoot program place → Answered place 0 0
   roots place root node e =
       let f = founder_at place node e in
-      let rooted : is_root d place ≡ true = sym (fits declared turn first lawful d modules hosted lines booted last world place root.behaviour root.there).root ∙ root.root in
+      let rooted : is_root d place ≡ true = sym (fits declared turn first d modules world.troupes place root.behaviour root.there).root ∙ root.root in
       begun_so place node f 0
       ((holds_at_last declared turn first lawful d modules hosted lines booted last world lossless.alone).2.begun node place e.troupe f.s f.m f.at f.acting f.hosts e.there e.among rooted)
 
@@ -432,7 +433,7 @@ module _ {M : Type 0} (declared : M → Signature) (turn : M → List ValueTree 
         number_is = (let within = busy.within in omega (arith, top, within));
       }
 
-      h : HasAsking (boot_views d.troupes) place (phase_at d node) (HasCame declared turn first lawful program world.agree (are_modules declared turn first modules lawful) world.proper d (CalledAt d happened node)) f.m index number ask.callee
+      h : HasAsking (boot_views d.troupes) place (phase_at d node) (HasCame declared turn first lawful program world.agree (are_modules declared turn first modules lawful) (are_proper declared turn first d modules world.troupes) d (CalledAt d happened node)) f.m index number ask.callee
       h = f.still.opened index number ask.callee open_at
 
       each : (other : ℕ) → is_among callee.0.founders other ≡ true → list_any (is_from other) h.asking.said ≡ true
@@ -698,7 +699,7 @@ module _ {M : Type 0} (declared : M → Signature) (turn : M → List ValueTree 
         let f = founder_at place node e in
         let same_s : f.s ≡ s = same_Some f.s s (sym f.at ∙ at) in
         let record_so : f.m.performing.kept ≡ kept = same_Some f.m.performing.kept kept (ap member_record (sym f.acting ∙ ap (λ (x : Standing M). x.node.acting) same_s) ∙ is) in
-        let declares : (b place node f).declared.root ≡ true = (fits declared turn first lawful d modules hosted lines booted last world place (b place node f) f.true_.at).root ∙ rooted in
+        let declares : (b place node f).declared.root ≡ true = (fits declared turn first d modules world.troupes place (b place node f) f.true_.at).root ∙ rooted in
         let once = root_runs_once program world.agree (are_modules declared turn first modules lawful) place (b place node f) f.true_.at declares in
         let done = all_done place 0 once.0 (ap (λ l. slice_get l 0) once.1.0) node e in
         subst (λ k. IsDone k) record_so (done_of place node f once.0 once.1.0 done)

@@ -53,7 +53,7 @@ use Rattle.circus_world_theory.specs.Histories.{beginning_of}
 use Rattle.circus_world_theory.specs.NodeActs.{wire_behind, acts_in}
 use Rattle.circus_node.specs.Trace.{effects_in}
 use Rattle.circus_world_theory.proofs.Worlds.{Stands, at_pair}
-use Rattle.circus_member_theory.specs.Proper.{AreProper}
+use Rattle.circus_member_rules.specs.Proper.{AreProper}
 use Rattle.circus_member_theory.specs.Truth.{IsTrueCallFor}
 use Rattle.circus_world_theory.proofs.Along.{heard_at}
 use Rattle.circus_world_theory.proofs.Handing.{IsMade, calls_stay, step_said}

@@ -43,6 +43,7 @@ use Rattle.circus_world_theory.proofs.Worlds.{Stands}
 use Rattle.circus_member_theory.specs.Truth.{IsReplyMessage}
 use Rattle.circus_world_theory.specs.Agreeing.{IsTrueReplyTo, HasCalled}
 use Rattle.circus_world_theory.specs.Worlds.{IsWorldOf}
+use Rattle.circus_world_theory.proofs.Proper.{are_proper}
 use Rattle.circus_world_theory.proofs.Beginning.{boot_true}
 use Rattle.circus_world_theory.proofs.Handing.{IsMade, boot_said}
 use Rattle.circus_world_theory.proofs.Saying.{AllSaid, call_said, purpose_said, return_said}
@@ -68,22 +69,22 @@ module _ {M : Type 0} (declared : M → Signature) (turn : M → List ValueTree 
   one_each = length-map modules (behaviour declared turn first) ∙ sym (length-map modules declared) ∙ world.troupes.one_each
 
   abbrev Quiet : (ℕ → WireActs Purpose) → WorldState M → Type 0
-  Quiet acts w = NodesQuiet declared turn first lawful program world.agree (are_modules declared turn first modules lawful) world.proper d world.deployment one_each acts w
+  Quiet acts w = NodesQuiet declared turn first lawful program world.agree (are_modules declared turn first modules lawful) (are_proper declared turn first d modules world.troupes) d world.deployment one_each acts w
 
   abbrev QuietAt : (Caller → List ℕ → Type 0) → ℕ → Option ℕ → Acting M → Type 0
-  QuietAt Called node own a = NodeQuiet declared turn first lawful program world.agree (are_modules declared turn first modules lawful) world.proper d world.deployment one_each Called node own a
+  QuietAt Called node own a = NodeQuiet declared turn first lawful program world.agree (are_modules declared turn first modules lawful) (are_proper declared turn first d modules world.troupes) d world.deployment one_each Called node own a
 
   abbrev begins : ℕ → WireActs Purpose
   begins = at_boot declared turn first d hosted
 
   pub true_at_boot : NodesTrue declared turn first program d begins booted
-  true_at_boot = boot_true declared turn first lawful modules world.agree (are_modules declared turn first modules lawful) world.proper d world.deployment world.troupes hosted world.hosts booted world.boots
+  true_at_boot = boot_true declared turn first lawful modules world.agree (are_modules declared turn first modules lawful) (are_proper declared turn first d modules world.troupes) d world.deployment world.troupes hosted world.hosts booted world.boots
 
   -- ---- at boot
 
   module _ (Called : Caller → List ℕ → Type 0) (node : ℕ) where
     abbrev Makes : Option ℕ → Made M → Type 0
-    Makes own x = MakesQuiet declared turn first lawful program world.agree (are_modules declared turn first modules lawful) world.proper d Called (phase_at d node) own x
+    Makes own x = MakesQuiet declared turn first lawful program world.agree (are_modules declared turn first modules lawful) (are_proper declared turn first d modules world.troupes) d Called (phase_at d node) own x
 
     ring_makes : (own : Option ℕ) → Makes own (ring_at_boot declared turn first d)
     ring_makes None = record { acting = tt; effects = All-nil (IsMade QuietCall QuietReturn) }
@@ -100,15 +101,15 @@ module _ {M : Type 0} (declared : M → Signature) (turn : M → List ValueTree 
         let n = (member_step.boot_member declared turn first (home_in d node number one).place (boot_views d.troupes) (home_in d node number one).beginning own) in
         let few : length n.member.performing.kept.runs ≤ last_count =
         few_runs program world.agree (are_modules declared turn first modules lawful) number (first n.member.performing.hosted) n.member.performing.kept truth.rested.sound.kept.inactive truth.is.stands in
-        let b = boots_quietly declared turn first lawful (HasCame declared turn first lawful program world.agree (are_modules declared turn first modules lawful) world.proper d Called)
+        let b = boots_quietly declared turn first lawful (HasCame declared turn first lawful program world.agree (are_modules declared turn first modules lawful) (are_proper declared turn first d modules world.troupes) d Called)
         (home_in d node number one).place (boot_views d.troupes) (first_views 0 d.troupes) own stands (home_in d node number one).beginning few in
         let phase : phase_at d node ≡ phase_of (beginning_in one node) =
         ap (λ (o : Option ℕ). option_map_or (λ (t : Troupe). phase_of (beginning_in t node)) (option_and_then (slice_get d.troupes) o) Outside) hosts
         ∙ ap (λ (o : Option Troupe). option_map_or (λ (t : Troupe). phase_of (beginning_in t node)) o Outside) there in
         record {
-          acting = subst (λ (p : Joiner). IsQuiet (boot_views d.troupes) number p (HasCame declared turn first lawful program world.agree (are_modules declared turn first modules lawful) world.proper d Called) n.member) (sym phase) b.quiet;
-          effects = All-weaker (EffectSo (boot_views d.troupes) number (HasCame declared turn first lawful program world.agree (are_modules declared turn first modules lawful) world.proper d Called) n.member.performing.kept) (IsMade QuietCall QuietReturn)
-              (made_quietly (boot_views d.troupes) number (HasCame declared turn first lawful program world.agree (are_modules declared turn first modules lawful) world.proper d Called) n.member.performing.kept) n.effects b.effects;
+          acting = subst (λ (p : Joiner). IsQuiet (boot_views d.troupes) number p (HasCame declared turn first lawful program world.agree (are_modules declared turn first modules lawful) (are_proper declared turn first d modules world.troupes) d Called) n.member) (sym phase) b.quiet;
+          effects = All-weaker (EffectSo (boot_views d.troupes) number (HasCame declared turn first lawful program world.agree (are_modules declared turn first modules lawful) (are_proper declared turn first d modules world.troupes) d Called) n.member.performing.kept) (IsMade QuietCall QuietReturn)
+              (made_quietly (boot_views d.troupes) number (HasCame declared turn first lawful program world.agree (are_modules declared turn first modules lawful) (are_proper declared turn first d modules world.troupes) d Called) n.member.performing.kept) n.effects b.effects;
         }
 
     by_own : (number : ℕ) (one : Troupe) (own : Option M) → troupe_at d node ≡ Some number → slice_get d.troupes number ≡ Some one → CanBoot d node (option_map declared own)
@@ -138,7 +139,7 @@ module _ {M : Type 0} (declared : M → Signature) (turn : M → List ValueTree 
 
   -- a node that boots, and what it has become
   pub record Boots (node : ℕ) (s : Standing M) : Type 0 where
-    pub makes : MakesQuiet declared turn first lawful program world.agree (are_modules declared turn first modules lawful) world.proper d (CalledAt d begins node) (phase_at d node) (troupe_at d node)
+    pub makes : MakesQuiet declared turn first lawful program world.agree (are_modules declared turn first modules lawful) (are_proper declared turn first d modules world.troupes) d (CalledAt d begins node) (phase_at d node) (troupe_at d node)
         (made_at_boot declared turn first d (home_of d node) (own_of declared turn first d hosted node))
     pub acting : s.node.acting ≡ (made_at_boot declared turn first d (home_of d node) (own_of declared turn first d hosted node)).acting
 
@@ -149,7 +150,7 @@ module _ {M : Type 0} (declared : M → Signature) (turn : M → List ValueTree 
       let m = made_at_boot declared turn first d (home_of d node) own in
       let n : NodeState M = record { deployment = d; wire = fresh_wire d node; acting = m.acting; dropped = 0 } in
       let same : s.node.acting ≡ m.acting = ap (λ (t : Standing M). t.node.acting) b.is
-      ∙ acting_sent declared turn first lawful program world.agree (are_modules declared turn first modules lawful) world.proper d world.deployment one_each n m (all_handed (sent n.wire []) m.came.effects) b.ended b.ends in
+      ∙ acting_sent declared turn first lawful program world.agree (are_modules declared turn first modules lawful) (are_proper declared turn first d modules world.troupes) d world.deployment one_each n m (all_handed (sent n.wire []) m.came.effects) b.ended b.ends in
       let below : node < length hosted = subst (λ k. node < k) (sym world.hosts.one_each) (subst (λ k. node < k) began.all (slice_get_within booted.nodes node s at)) in
       let host = get_there hosted node below in
       let own_is : own ≡ host.0 = ap (option_and_then (λ (o : Option M). o)) host.1 in
@@ -198,8 +199,8 @@ module _ {M : Type 0} (declared : M → Signature) (turn : M → List ValueTree 
     so_at_last =
         lead_keeps declared turn d (λ a w. NodesTrue declared turn first program d a w × Quiet a w)
         (λ number a new w next stands after delivers i. (
-          delivered_true declared turn first lawful program world.agree (are_modules declared turn first modules lawful) world.proper d world.deployment one_each number a new w next stands delivers i.0 i.1,
-          delivered_quiet declared turn first lawful program world.agree (are_modules declared turn first modules lawful) world.proper d world.deployment one_each number a new w next stands delivers i.0 i.1,
+          delivered_true declared turn first lawful program world.agree (are_modules declared turn first modules lawful) (are_proper declared turn first d modules world.troupes) d world.deployment one_each number a new w next stands delivers i.0 i.1,
+          delivered_quiet declared turn first lawful program world.agree (are_modules declared turn first modules lawful) (are_proper declared turn first d modules world.troupes) d world.deployment one_each number a new w next stands delivers i.0 i.1,
         ))
         lines begins booted last deliveries began (boot_live declared turn first d hosted modules booted world.boots) (true_at_boot, quiet_at_boot) world.leads
 

@@ -48,7 +48,7 @@ use Rattle.circus_member_theory.proofs.Accepting.Taken.{ask_taken}
 use Rattle.circus_member_theory.proofs.Accepting.TrueCan.{call_can, return_can}
 use Rattle.circus_node.specs.NodeState.{Acting, member, ringmaster}
 use Rattle.circus_node.specs.Making.{Made, happens, refuse}
-use Rattle.circus_member_theory.specs.Proper.{AreProper}
+use Rattle.circus_member_rules.specs.Proper.{AreProper}
 use Rattle.circus_member_theory.specs.Truth.{IsTrueCallFor, IsTrueReturn, IsReplyMessage}
 use Rattle.circus_world_theory.proofs.Handing.{IsMade}
 use Rattle.circus_world_theory.proofs.True.{CallSo, IsTrueAt}

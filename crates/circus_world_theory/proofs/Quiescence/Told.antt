@@ -23,6 +23,7 @@ use Rattle.circus_schedule.specs.declared.line.Line.{Line}
 use Rattle.circus_world.specs.WorldState.{WorldState, Standing}
 use Rattle.circus_world_theory.proofs.Worlds.{at_pair}
 use Rattle.circus_world_theory.specs.Worlds.{IsWorldOf}
+use Rattle.circus_world_theory.proofs.Proper.{fits, are_proper}
 use Rattle.circus_world_theory.proofs.Border.Handing.{is_same}
 use Rattle.circus_world_theory.proofs.Border.Waiting.{is_caller, one_if, times_in, waiting_at}
 use Rattle.circus_world_theory.specs.Quiet.{IsQuiet}
@@ -33,7 +34,7 @@ use Rattle.circus_member_rules.specs.declared.occurrence.Purpose.{Purpose}
 use Rattle.circus_world_theory.proofs.Boots.{world_stands}
 use Rattle.circus_world_theory.specs.Coming.{AllArrived}
 use Rattle.circus_world_theory.proofs.Quiescence.CalmSteps.{CalmAt}
-use Rattle.circus_world_theory.proofs.Quiescence.CalmWorlds.{program, many, fits, acts, holds_at_last}
+use Rattle.circus_world_theory.proofs.Quiescence.CalmWorlds.{program, many, acts, holds_at_last}
 use Rattle.circus_world_theory.proofs.Quiescence.Lossless.{all_between}
 use Rattle.circus_world_theory.proofs.Quiescence.QuietWorlds.{all_still}
 
@@ -76,8 +77,8 @@ module _ {M : Type 0} (declared : M → Signature) (turn : M → List ValueTree 
     abbrev happened : ℕ → WireActs Purpose
     happened = acts declared turn first lawful d modules hosted lines booted last world lossless.alone
 
-    calm : CalmAt declared turn first lawful (program declared turn first lawful d modules hosted lines booted last world) world.agree (are_modules declared turn first modules lawful) world.proper d world.deployment
-        (many declared turn first lawful d modules hosted lines booted last world) (fits declared turn first lawful d modules hosted lines booted last world) node (happened node) m
+    calm : CalmAt declared turn first lawful (program declared turn first lawful d modules hosted lines booted last world) world.agree (are_modules declared turn first modules lawful) (are_proper declared turn first d modules world.troupes) d world.deployment
+        (many declared turn first lawful d modules hosted lines booted last world) (fits declared turn first d modules world.troupes) node (happened node) m
     calm = (holds_at_last declared turn first lawful d modules hosted lines booted last world lossless.alone).2.calm node s m at acting
 
     node_below : node < length d.nodes

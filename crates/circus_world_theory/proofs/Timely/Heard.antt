@@ -20,7 +20,7 @@ use Rattle.circus_node.specs.Accepting.{occurrence_of_heard, troupe_at}
 use Rattle.circus_node.specs.declared.event.Event.{Event}
 use Rattle.circus_node.specs.declared.event.Event.TheVariants as comes
 use Rattle.circus_node.specs.NodeState.{Acting, member, ringmaster, NodeState}
-use Rattle.circus_member_theory.specs.Proper.{AreProper}
+use Rattle.circus_member_rules.specs.Proper.{AreProper}
 use Rattle.circus_member_theory.proofs.Step.{in_range}
 use Rattle.circus_world_theory.proofs.Making.{HasModule, MayHaveModule, HeardSo, Happens, heard_accepts}
 use Rattle.circus_world_theory.proofs.Stepping.{has_module, CalledAt, SaysTrue, HeardAt, heard_so, ComesTruly}

@@ -37,7 +37,7 @@ use Rattle.circus_world_theory.specs.Histories as talks
 use Rattle.circus_world_theory.proofs.Lines.{lead_stands}
 use Rattle.circus_world_theory.proofs.Worlds.{Stands, get_same}
 use Rattle.circus_member_theory.specs.Past.{Past, now}
-use Rattle.circus_member_theory.specs.Proper.{AreProper}
+use Rattle.circus_member_rules.specs.Proper.{AreProper}
 use Rattle.circus_world_theory.proofs.Along.{noted_at, live_there, below_sent, heard_at, lead_true}
 use Rattle.circus_world_theory.proofs.Stepping.{same_world, comes_is, ComesTruly, NodesTrue}
 use Rattle.circus_world_theory.specs.Happened.{of_member, happens_by, with_one, with_others, with_step, with_line, with_lines}

@@ -23,6 +23,7 @@ use Rattle.circus_world_theory.specs.Histories.{acts_of}
 use Rattle.circus_world_theory.proofs.Boots.{world_stands}
 use Rattle.circus_member_theory.specs.Past.{booted}
 use Rattle.circus_world_theory.specs.Worlds.{IsWorldOf}
+use Rattle.circus_world_theory.proofs.Proper.{are_proper}
 use Rattle.circus_world_theory.proofs.Booted.{HasBooted, all_have_booted}
 use Rattle.circus_world_theory.proofs.Beginning.{boot_true}
 use Rattle.circus_world_theory.specs.Happened.{past_of}
@@ -79,10 +80,10 @@ module _ {M : Type 0} (declared : M → Signature) (turn : M → List ValueTree 
       pub lives_so : Lives last
       lives_so =
           let modules_are = are_modules declared turn first modules lawful in
-          lead_lives declared turn first lawful program world.agree modules_are world.proper d world.deployment one_each node number troupe own
+          lead_lives declared turn first lawful program world.agree modules_are (are_proper declared turn first d modules world.troupes) d world.deployment one_each node number troupe own
           (acts_of declared turn first d hosted [] begun) booted lines begun last
           (world_stands declared turn first d hosted modules [] begun begun world.deployment world.troupes world.hosts world.boots refl)
-          (boot_true declared turn first lawful modules world.agree modules_are world.proper d world.deployment world.troupes hosted world.hosts begun world.boots)
+          (boot_true declared turn first lawful modules world.agree modules_are (are_proper declared turn first d modules world.troupes) d world.deployment world.troupes hosted world.hosts begun world.boots)
           begins world.leads
 
       in_time : (s : Standing M) (kept : MemberRecord) → slice_get last.nodes node ≡ Some s → member_record s.node.acting ≡ Some kept

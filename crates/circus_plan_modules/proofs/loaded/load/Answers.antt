@@ -14,6 +14,6 @@ returns-clause-fit c =
       turn = turn_with m.parts.value.signature m.parts.value.bodies;
       first = m.parts.value.first;
     })
-    c.in_ok-interfaces.modules.items plan.deployment plan.checked.interfaces (map module_as plan.checked.modules) c.requires.roots
+    c.in_ok-interfaces.modules.items plan.deployment plan.checked.interfaces (map module_as plan.checked.modules) c.requires.obey c.requires.well_formed c.requires.roots
     (c.in_ok-interfaces.ensures.behave ∙ ap (λ limit. program_of limit plan.checked.interfaces (map module_as plan.checked.modules)) c.limit-limit.ensures)
     c.in_ok-interfaces.ensures.agree

@@ -1,5 +1,5 @@
 -- The shapes and numbers of modules that obey the rules are proper.
-use Rattle.std.proofs.Common.{◌≡◌, ℕ, ◌<◌, ◌≤◌, ◌⊎◌, inl, inr, Bool, true, false, cond, List, [], ◌∷◌, ◌++◌, length, Option, Some, None, arith, lt-ltb, refl, ap, ◌∙◌}
+use Rattle.std.proofs.Common.{◌≡◌, ℕ, ◌<◌, ◌≤◌, ◌⊎◌, inl, inr, Bool, true, false, cond, List, [], ◌∷◌, ◌++◌, length, Option, Some, None, arith, lt-ltb, refl, sym, subst, ap, ◌∙◌}
 use Rattle.std.specs.Prelude.{Contains, find, map, nat_lt, option_to_list, slice_get}
 use Rattle.std.specs.List.{AllByRecursion, list_any}
 use Rattle.circus_value.specs.declared.shape.Label.{Label}
@@ -17,13 +17,16 @@ use Rattle.circus_idl.specs.declared.interface.Procedure.{Procedure}
 use Rattle.circus_idl.specs.declared.interface.Interface.{Interface}
 use Rattle.circus_idl.proofs.ObeysParts.{ErrorObeys, ProcedureObeys, parts_obey}
 use Rattle.circus_model.specs.LanguageError.{number_of}
+use Rattle.circus_model.specs.Behaviour.{Behaviour}
 use Rattle.circus_model.specs.declared.language_error.LanguageError.TheVariants.{Range}
 use Rattle.circus_model.specs.declared.signature.ErrorShape.{ErrorShape}
 use Rattle.circus_modules.specs.InterfaceSignatures.{shapes_in, error_of, errors_numbered, procedure_of}
 use Rattle.circus_check.specs.Meaning.{ModuleMeant}
-use Rattle.circus_modules.specs.Signatures.{procedures_offered, procedures_if, signature_of}
-use Rattle.circus_member_theory.specs.Proper.{IsProperProcedure, IsProperModule}
-use Rattle.circus_plan_theory.proofs.Places.{at_place}
+use Rattle.circus_check.specs.WellFormed.{AreWellFormed}
+use Rattle.circus_modules.specs.Signatures.{procedures_offered, procedures_if, signature_of, interface_numbers}
+use Rattle.circus_modules.specs.Behaviours.{behaviour_of, program_of}
+use Rattle.circus_member_rules.specs.Proper.{IsProperProcedure, IsProperModule, AreProper}
+use Rattle.circus_plan_modules.proofs.Places.{at_place, of_map}
 use Rattle.circus_modules.proofs.Found.{contains_none}
 use Rattle.circus_modules.proofs.Trees.{shape_forth}
 use Rattle.circus_modules.proofs.ZeroFits.{both}
@@ -128,8 +131,15 @@ module _ (interfaces : List Interface) (obey : AllByRecursion Obeys interfaces) 
   )
   offered_proper (Some n) = of_interface n (slice_get interfaces n) refl
 
-  pub module_proper : (limit : ℕ) (numbers : List (Option ℕ)) (m : ModuleMeant) → AllByRecursion ObeysWhole (shapes_of m.variables) → IsProperModule (signature_of limit interfaces numbers m)
+  module_proper : (limit : ℕ) (numbers : List (Option ℕ)) (m : ModuleMeant) → AllByRecursion ObeysWhole (shapes_of m.variables) → IsProperModule (signature_of limit interfaces numbers m)
   module_proper limit numbers m types = record {
     variables = shapes_proper m.variables types;
     procedures = λ p among. of_each IsProperProcedure (procedures_offered interfaces m.interface) p (offered_proper m.interface) among;
   }
+
+  module _ (limit : ℕ) (modules : List ModuleMeant) (good : AreWellFormed interfaces modules) where
+    pub modules_proper : AreProper (program_of limit interfaces modules)
+    modules_proper place b at =
+        let o = of_map (behaviour_of limit interfaces (interface_numbers modules)) modules place b at in
+        subst (λ (x : Behaviour). IsProperModule x.declared) (sym o.is)
+        (module_proper limit (interface_numbers modules) o.item (good.each place o.item o.there).types)
