@@ -139,6 +139,13 @@ impl<M: Module> Performer<M> {
         &self.held.kept
     }
 
+    /// The state with which the member became active; before that, the first one of its module. It takes no memory.
+    pub fn activation_state(&self) -> &State
+        ensures { result.now ≡ self.now.began }
+    {
+        &self.held.began
+    }
+
     /// The ask for whose reply its run waits. `None` exactly where it performs no run. It takes no memory.
     pub fn open_ask(&self) -> Option<&AskRecord>
         ensures { option_copied result ≡ performing.open_ask self.now.kept }
