@@ -22,7 +22,7 @@ use circus_member_rules::{
 use circus_model::{Module, Signature};
 use circus_performing::Performer;
 use circus_record::MemberRecord;
-use circus_value::{Duplicate, ListOf, NoMemory};
+use circus_value::{Duplicate, ListOf, NoMemory, State};
 use std::alloc::Global;
 use std::marker::Model;
 
@@ -128,6 +128,13 @@ impl<M: Module> Member<M> {
             (behaviour M.declared M.turn M.first p.hosted) p.began p.kept }
     {
         self.state.performer.record()
+    }
+
+    /// The state with which the member became active; before that, the first one of its module. It takes no memory.
+    pub fn activation_state(&self) -> &State
+        ensures { result.now ≡ self.now.performing.began }
+    {
+        self.state.performer.activation_state()
     }
 
     /// What an open ask asks. It takes no memory.
