@@ -1,5 +1,6 @@
 -- A node, as a state.
 use Rattle.std.specs.Prelude.{ℕ, List, Option, None, Some}
+use Rattle.circus_value.specs.ValueTree.{ValueTree}
 use Rattle.circus_collate.specs.declared.deployment.Deployment.{Deployment}
 use Rattle.circus_collate.specs.declared.view.View.{View}
 use Rattle.circus_record.specs.declared.record.MemberRecord.{MemberRecord}
@@ -27,6 +28,11 @@ module _ {M : Type 0} where
   abbrev pub member_record : Acting M → Option MemberRecord
   member_record (member m) = Some m.performing.kept
   member_record (ringmaster kept) = None
+
+  -- the state with which the member became active; before that, the first one of its module
+  abbrev pub state_at_activation : Acting M → Option (List ValueTree)
+  state_at_activation (member m) = Some m.performing.began
+  state_at_activation (ringmaster kept) = None
 
   -- the views that the Ringmaster keeps
   abbrev pub ring_views : Acting M → Option (List View)

@@ -11,7 +11,7 @@ ghost use Rattle.circus_node.specs.Recorded.{IsRecorded};
 ghost use Rattle.circus_node.specs.Booting as booting;
 ghost use Rattle.circus_node.specs.Accepting.{IsMemberOf};
 ghost use Rattle.circus_node.specs.Seen.Kept.{IsRingOf, IsActing, MayStand};
-ghost use Rattle.circus_node.specs.NodeState.{member_record as record_of, ring_views as views_of};
+ghost use Rattle.circus_node.specs.NodeState.{member_record as record_of, ring_views as views_of, state_at_activation};
 
 use crate::home::Home;
 use crate::{Differences, accept, accept_request};
@@ -22,7 +22,7 @@ use circus_member_rules::{Difference, Effect, Effects, Occurrence, Purpose};
 use circus_model::Module;
 use circus_record::MemberRecord;
 use circus_ring::{Ring, write_table};
-use circus_value::{Caller, Duplicate, ListOf, Message, NoMemory, Parts};
+use circus_value::{Caller, Duplicate, ListOf, Message, NoMemory, Parts, State};
 use circus_wire::Heard;
 use std::alloc::Global;
 use std::marker::Model;
@@ -265,6 +265,16 @@ impl<M: Module> Acting<M> {
     {
         match &self.role {
             Role::Member(member) => Some(member.record()),
+            Role::Ringmaster(_) => None,
+        }
+    }
+
+    /// The state with which the member became active. `None` exactly at the Ringmaster's node. It takes no memory.
+    pub fn activation_state(&self) -> Option<&State>
+        ensures { option_copied result ≡ state_at_activation self.now }
+    {
+        match &self.role {
+            Role::Member(member) => Some(member.activation_state()),
             Role::Ringmaster(_) => None,
         }
     }

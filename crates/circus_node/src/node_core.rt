@@ -14,7 +14,7 @@ ghost use Rattle.circus_node.specs.GoneOn.{MemberHasGoneOn};
 ghost use Rattle.circus_node.specs.Recorded.{IsRecorded};
 ghost use Rattle.circus_node.specs.Seen.Kept.{IsActing};
 ghost use Rattle.circus_node.specs.Seen.StationOf.{node_of, IsStation};
-ghost use Rattle.circus_node.specs.NodeState.{member_record as record_of, ring_views as views_of};
+ghost use Rattle.circus_node.specs.NodeState.{member_record as record_of, ring_views as views_of, state_at_activation};
 
 use crate::acting::{Acting, Consequences};
 use crate::home::home_of;
@@ -24,7 +24,7 @@ use bytes::Bytes;
 use circus_collate::{Deployment, Views};
 use circus_model::Module;
 use circus_record::MemberRecord;
-use circus_value::NoMemory;
+use circus_value::{NoMemory, State};
 use std::alloc::Global;
 use std::marker::Model;
 
@@ -136,6 +136,14 @@ impl<M: Module> NodeCore<M> {
         ensures kept { IsRecorded M.declared M.turn M.first self.now.acting }
     {
         self.acting.record()
+    }
+
+    /// The state with which the member became active; before that, the first one of its module. `None` exactly at the
+    /// Ringmaster's node. It takes no memory.
+    pub fn activation_state(&self) -> Option<&State>
+        ensures { option_copied result ≡ state_at_activation self.now.acting }
+    {
+        self.acting.activation_state()
     }
 
     /// The views that the Ringmaster keeps, one a troupe. `None` exactly at another node. It takes no memory.
