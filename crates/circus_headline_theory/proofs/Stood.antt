@@ -27,7 +27,7 @@ use Rattle.circus_headline_theory.specs.Trace.{events_of, now, Rises, ComesFromO
 use Rattle.circus_headline_theory.specs.Lived.{trace_behind}
 use Rattle.circus_headline_theory.specs.Lived as lived
 use Rattle.circus_headline_theory.specs.NodeRun.{IsNodeRun}
-use Rattle.circus_headline_theory.proofs.Theorem.{node_is_a_node_run}
+use Rattle.circus_headline_theory.proofs.Theorem.{IsRunOfNode, is_run_of_node}
 
 -- ---- one event more
 
@@ -110,12 +110,19 @@ module _ {M : Type 0} (declared : M → Signature) (turn : M → List ValueTree 
               ∙ ap (λ (x : List Effect). trace.stepped t at event x outputs) (sym stands.3);
         }
 
+    -- a core is one behind its trace
+    pub is_run_of_core : ((m : M) → IsModule (behaviour declared turn first m)) → CanBoot d node (Some (declared own)) → (number : ℕ) (troupe : Troupe) (t : Trace) (n : NodeState M)
+        (kept : MemberRecord) → StandsFor declared turn first d (Some own) node t n → Rises t → ComesFromOthers d node t → troupe_at d node ≡ Some number
+        → slice_get d.troupes number ≡ Some troupe → member_record n.acting ≡ Some kept → IsRunOfNode d (behaviour declared turn first own) node number troupe t n kept
+    is_run_of_core lawful can number troupe t n kept stands rises others hosts there at =
+        let l = lived_it t n stands rises others in
+        let life : IsLife declared turn first d own node (events_of t) l.begun n =
+        record { can = can; outputs = l.outputs; boots = l.boots; rising = l.rising; comes = l.comes } in
+        subst (λ (x : Trace). IsRunOfNode d (behaviour declared turn first own) node number troupe x n kept) l.same
+        (is_run_of_node declared turn first lawful d own node number troupe (events_of t) l.begun n kept life (all_others d node t others) hosts there at)
+
     pub core_is_a_node_run : ((m : M) → IsModule (behaviour declared turn first m)) → CanBoot d node (Some (declared own)) → (number : ℕ) (troupe : Troupe) (t : Trace) (n : NodeState M)
         (kept : MemberRecord) → StandsFor declared turn first d (Some own) node t n → Rises t → ComesFromOthers d node t → troupe_at d node ≡ Some number
         → slice_get d.troupes number ≡ Some troupe → member_record n.acting ≡ Some kept → IsNodeRun d (behaviour declared turn first own) node number troupe t kept
     core_is_a_node_run lawful can number troupe t n kept stands rises others hosts there at =
-        let l = lived_it t n stands rises others in
-        let life : IsLife declared turn first d own node (events_of t) l.begun n =
-        record { can = can; outputs = l.outputs; boots = l.boots; rising = l.rising; comes = l.comes } in
-        subst (λ (x : Trace). IsNodeRun d (behaviour declared turn first own) node number troupe x kept) l.same
-        (node_is_a_node_run declared turn first lawful d own node number troupe (events_of t) l.begun n kept life (all_others d node t others) hosts there at)
+        (is_run_of_core lawful can number troupe t n kept stands rises others hosts there at).run

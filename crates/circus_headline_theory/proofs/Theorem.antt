@@ -29,6 +29,7 @@ use Rattle.circus_node.specs.Booting.{beginning_in, home_in, home_of, made_at_bo
 use Rattle.circus_node.specs.Booting as booting
 use Rattle.circus_node.specs.Making.{Made}
 use Rattle.circus_node.specs.NodeState.{member, NodeState, member_record}
+use Rattle.circus_node.specs.NodeState as node_state
 use Rattle.circus_node.specs.Sending.{Sending, sent, spent, all_handed}
 use Rattle.circus_node.specs.Step as node_step
 use Rattle.circus_node.specs.declared.event.Event.{Event}
@@ -57,7 +58,7 @@ use Rattle.circus_headline_theory.specs.Datagrams.Lives.{IsOfOther, boot_acts, a
 use Rattle.circus_headline_theory.specs.Datagrams.Lives as at_pairs
 use Rattle.circus_headline_theory.specs.Lived.{trace_behind}
 use Rattle.circus_headline_theory.specs.Lived as lived
-use Rattle.circus_headline_theory.specs.NodeRun.{past_of, IsNodeRun}
+use Rattle.circus_headline_theory.specs.NodeRun.{past_of, state_at_activation, IsNodeRun}
 use Rattle.circus_node.specs.Trace as trace
 use Rattle.circus_headline_theory.specs.Trace.{events_of, made_of, told_of}
 use Rattle.circus_headline_theory.proofs.Course.{Says, is_life, may_live, Follows, follows_on, follows_at_boot}
@@ -65,6 +66,11 @@ use Rattle.circus_headline_theory.proofs.Growing.{says_same}
 use Rattle.circus_headline_theory.proofs.Since.{IsFromFirst, from_first}
 
 -- ---- what stands in the trace
+
+-- it is a node run that ends in a node: the state with which the node's member became active is that of the trace
+pub record IsRunOfNode {M : Type 0} (d : Deployment) (b : Behaviour) (node number : ℕ) (troupe : Troupe) (t : Trace) (last : NodeState M) (kept : MemberRecord) : Type 0 where
+  pub run : IsNodeRun d b node number troupe t kept
+  pub activation : node_state.state_at_activation last.acting ≡ Some (state_at_activation d b node number troupe kept t)
 
 module _ {M : Type 0} (declared : M → Signature) (turn : M → List ValueTree → ℕ → List ValueTree → List Outcome → NextTurn) where
   abbrev grown : Trace → Events → NodeState M → Trace
@@ -148,21 +154,24 @@ module _ {M : Type 0} (declared : M → Signature) (turn : M → List ValueTree 
   runs_are own Founder = refl
   runs_are own Spare = refl
 
-  pub node_is_a_node_run : (d : Deployment) (own : M) (node number : ℕ) (troupe : Troupe) (events : Events) (begun_ last : NodeState M) (kept : MemberRecord) (life : IsLife declared turn first d own node events begun_ last)
+  pub is_run_of_node : (d : Deployment) (own : M) (node number : ℕ) (troupe : Troupe) (events : Events) (begun_ last : NodeState M) (kept : MemberRecord) (life : IsLife declared turn first d own node events begun_ last)
       → All (λ (e : ℕ × Event). IsOfOther d node e.1) events → troupe_at d node ≡ Some number → slice_get d.troupes number ≡ Some troupe → member_record last.acting ≡ Some kept
-      → IsNodeRun d (behaviour declared turn first own) node number troupe (trace_behind declared turn first d own node life.outputs events begun_) kept
-  node_is_a_node_run d own node number troupe events begun_ last kept life others hosts there at =
-      record {
-        timely = subst (λ n. IsTimely place views begins (declared own).procedures n kept (past_of d b node number troupe kept t)) (runs_are own beginning)
-            (subst (IsTimely place views begins (declared own).procedures (member_living.runs_at_boot declared beginning own) kept) (sym past_so)
-            (node_records_are_timely declared turn first lawful d own node events begun_ last life number troupe kept hosts there at));
-        from_first = subst (λ q. first_given (snapshot_fetched begins) q ≡ None → (kept.from ≡ 0) × (kept.active_at ≡ 0)) (sym past_so)
-            (λ none. subst IsFromFirst kept_is (from_first declared turn first lawful place views beginning own home p (may_live declared turn first lawful d good node number troupe own hosts home p last.acting f.goes.lives) none));
-        follows = subst (λ q. IsRecord b (began begins b.first q) kept) (sym past_so) follows_so;
-        makes = subst (λ q. MakesWhatIsOwed d node number troupe b.first kept q (made_of t) (told_of t)) (sym past_so) makes_so;
-        ordered = f.ordered kept says;
-        sends = f.sends;
-      }
+      → IsRunOfNode d (behaviour declared turn first own) node number troupe (trace_behind declared turn first d own node life.outputs events begun_) last kept
+  is_run_of_node d own node number troupe events begun_ last kept life others hosts there at = record {
+    run =
+        record {
+          timely = subst (λ n. IsTimely place views begins (declared own).procedures n kept (past_of d b node number troupe kept t)) (runs_are own beginning)
+              (subst (IsTimely place views begins (declared own).procedures (member_living.runs_at_boot declared beginning own) kept) (sym past_so)
+              (node_records_are_timely declared turn first lawful d own node events begun_ last life number troupe kept hosts there at));
+          from_first = subst (λ q. first_given (snapshot_fetched begins) q ≡ None → (kept.from ≡ 0) × (kept.active_at ≡ 0)) (sym past_so)
+              (λ none. subst IsFromFirst kept_is (from_first declared turn first lawful place views beginning own home p (may_live declared turn first lawful d good node number troupe own hosts home p last.acting f.goes.lives) none));
+          follows = subst (λ q. IsRecord b (began begins b.first q) kept) (sym past_so) follows_so;
+          makes = subst (λ q. MakesWhatIsOwed d node number troupe b.first kept q (made_of t) (told_of t)) (sym past_so) makes_so;
+          ordered = f.ordered kept says;
+          sends = f.sends;
+        };
+    activation = ap node_state.state_at_activation acting_is ∙ ap Some (knows.knows.state_is ∙ ap (began begins b.first) (sym past_so));
+  }
     where
       good : IsDeployment d
       good = life.can.deployment
@@ -211,13 +220,15 @@ module _ {M : Type 0} (declared : M → Signature) (turn : M → List ValueTree 
       past_so : past_of d b node number troupe kept t ≡ p
       past_so = f.past_is kept says
 
+      knows : IsKnown declared turn first lawful place views beginning own p m
+      knows = known declared turn first lawful place views beginning own home p (may_live declared turn first lawful d good node number troupe own hosts home p last.acting f.goes.lives)
+
       -- the record follows the turns from the state that the member had as it became active
       follows_so : IsRecord b (began begins b.first p) kept
       follows_so =
-          let k : IsKnown declared turn first lawful place views beginning own p m = known declared turn first lawful place views beginning own home p (may_live declared turn first lawful d good node number troupe own hosts home p last.acting f.goes.lives) in
-          let by : IsRecord (behaviour declared turn first m.performing.hosted) m.performing.began m.performing.kept = k.sound.kept in
+          let by : IsRecord (behaviour declared turn first m.performing.hosted) m.performing.began m.performing.kept = knows.sound.kept in
           subst (IsRecord b (began begins b.first p)) kept_is
-          (subst (λ s. IsRecord b s m.performing.kept) k.knows.state_is (subst (λ h. IsRecord (behaviour declared turn first h) m.performing.began m.performing.kept) k.hosts by))
+          (subst (λ s. IsRecord b s m.performing.kept) knows.knows.state_is (subst (λ h. IsRecord (behaviour declared turn first h) m.performing.began m.performing.kept) knows.hosts by))
 
       makes_so : MakesWhatIsOwed d node number troupe b.first kept p (made_of t) (told_of t)
       makes_so =
@@ -227,6 +238,12 @@ module _ {M : Type 0} (declared : M → Signature) (turn : M → List ValueTree 
           subst (λ l. MakesWhatIsOwed d node number troupe b.first kept p l (told_of t)) (sym made_is)
           (subst (λ l. MakesWhatIsOwed d node number troupe b.first kept p (made_behind declared turn first d own node events begun_) l) (sym told_is)
           (node_makes_what_is_owed declared turn first lawful d own node events begun_ last life number troupe kept hosts there at))
+
+  pub node_is_a_node_run : (d : Deployment) (own : M) (node number : ℕ) (troupe : Troupe) (events : Events) (begun_ last : NodeState M) (kept : MemberRecord) (life : IsLife declared turn first d own node events begun_ last)
+      → All (λ (e : ℕ × Event). IsOfOther d node e.1) events → troupe_at d node ≡ Some number → slice_get d.troupes number ≡ Some troupe → member_record last.acting ≡ Some kept
+      → IsNodeRun d (behaviour declared turn first own) node number troupe (trace_behind declared turn first d own node life.outputs events begun_) kept
+  node_is_a_node_run d own node number troupe events begun_ last kept life others hosts there at =
+      (is_run_of_node d own node number troupe events begun_ last kept life others hosts there at).run
 
 module _ {M : Type 0} (declared : M → Signature) (turn : M → List ValueTree → ℕ → List ValueTree → List Outcome → NextTurn) (first : M → List ValueTree) where
   pub trace_has_the_events : (d : Deployment) (own : M) (node : ℕ) (events : Events) (begun_ last : NodeState M) (life : IsLife declared turn first d own node events begun_ last)

@@ -1,6 +1,7 @@
 -- When a trace and a record are a run of a node: whatever came to it, its member did what it may, in time, made what it owes, and
 -- its pairs sent what they owe.
 use Rattle.std.specs.Prelude.{ℕ, ◌≡◌, ◌==◌, if◌then◌else◌, List, [], Option, None, Some, length, option_map, option_and_then}
+use Rattle.circus_value.specs.ValueTree.{ValueTree}
 use Rattle.circus_segment.specs.Segment.{reading}
 use Rattle.circus_header.specs.declared.answer.Reply.{Reply}
 use Rattle.circus_header.specs.declared.answer.ReturnHeader.{ReturnHeader}
@@ -103,6 +104,10 @@ module _ (d : Deployment) (b : Behaviour) (node number : ℕ) (troupe : Troupe) 
       with_one (past_of kept t) at
       (happens_by d b.declared node number kept (acts_of (beginning_of d node) t) event)
 
+  -- the state with which the member became active: that of the first snapshot that came to it as a spare, else the first one of its module
+  abbrev pub state_at_activation : MemberRecord → Trace → List ValueTree
+  state_at_activation kept t = began begins b.first (past_of kept t)
+
   -- one run is entered at boot where the member is a founder of a root
   abbrev pub runs_at_boot : ℕ
   runs_at_boot = if is_active begins then (if b.declared.root then 1 else 0) else 0
@@ -125,9 +130,9 @@ module _ (d : Deployment) (b : Behaviour) (node number : ℕ) (troupe : Troupe) 
     pub timely : IsTimely place (boot_views d.troupes) begins b.declared.procedures runs_at_boot kept (past_of kept t)
     -- one that took no state performs from the first call on, since boot
     pub from_first : first_given (snapshot_fetched begins) (past_of kept t) ≡ None → (kept.from ≡ 0) × (kept.active_at ≡ 0)
-    -- runs, asks, outcomes and states are turns of the module on the replies so far, from the state with which it became active
-    -- (the first one of its module, or the first that came to it as a spare); one that isn't active has done nothing
-    pub follows : IsRecord b (began begins b.first (past_of kept t)) kept
+    -- runs, asks, outcomes and states are turns of the module on the replies so far, from the state with which it became active; one
+    -- that isn't active has done nothing
+    pub follows : IsRecord b (state_at_activation kept t) kept
     -- what it made and told are what it owes, and what differed
     pub makes : MakesWhatIsOwed d node number troupe b.first kept (past_of kept t) (made_of t) (told_of t)
     pub ordered : IsOrdered kept t
