@@ -4,7 +4,7 @@ use Rattle.std.specs.Prelude.{IsSome, slice_get, option_map, option_and_then}
 use Rattle.std.specs.Option.{option_map_or, option_to_list}
 use Rattle.std.proofs.lemmas.List.{map-append}
 use Rattle.std.proofs.lemmas.List.Concat.{flat_map-append}
-use Rattle.std.proofs.lemmas.Option.{slice_get-map, slice_get_cases}
+use Rattle.std.proofs.lemmas.Option.{same_Some, slice_get-map, slice_get_cases}
 use Rattle.circus_value.specs.ValueTree.{ValueTree}
 use Rattle.circus_value.specs.declared.outcome.Outcome.{Outcome}
 use Rattle.circus_collate.specs.Deployment.{IsDeployment}
@@ -24,13 +24,15 @@ use Rattle.circus_node.specs.Booting.{AreOfTroupes, CanBoot}
 use Rattle.circus_node.specs.declared.event.StepFault.{StepFault}
 use Rattle.circus_node.specs.declared.event.StepFault.TheVariants as fault
 use Rattle.circus_node.specs.Node.{IsNodeOf}
-use Rattle.circus_node.specs.NodeState.{Acting, member, ringmaster, NodeState, member_record, ring_views}
+use Rattle.circus_node.specs.NodeState.{Acting, member, ringmaster, NodeState, member_record, state_at_activation, ring_views}
 use Rattle.circus_node.specs.Trace.{Trace, StandsFor}
 use Rattle.circus_node.specs.declared.event.Event.{Event}
 use Rattle.circus_node.proofs.TroupeLemmas.{hosted_can_boot}
+use Rattle.circus_headline_theory.specs.NodeRun as node_run
 use Rattle.circus_headline_theory.specs.RingRun.{IsRingRun}
 use Rattle.circus_headline_theory.proofs.Ring.{ring_run}
-use Rattle.circus_headline_theory.proofs.Stood.{core_is_a_node_run}
+use Rattle.circus_headline_theory.proofs.Theorem.{IsRunOfNode}
+use Rattle.circus_headline_theory.proofs.Stood.{is_run_of_core}
 use Rattle.circus_audit.specs.declared.given.Given.{Given}
 use Rattle.circus_audit.specs.declared.given.GivenEvent.{GivenEvent}
 use Rattle.circus_verdict.specs.Audited.{events_in, Awaits, IsRunOf, IsAuditedBy, IsAudited}
@@ -53,6 +55,11 @@ ok_err n peer is = cc
 
 abbrev came_as : List GivenEvent → List (Option Event)
 came_as events = map (λ (e : GivenEvent). e.event) events
+
+-- what has a record has a state with which it became active
+pub has_activation : {M : Type 0} (a : Acting M) (kept : MemberRecord) → member_record a ≡ Some kept → state_at_activation a ≡ None → ⊥
+has_activation (member m) kept at none = none_is_some (sym none)
+has_activation (ringmaster views) kept at none = none_is_some at
 
 module _ {M : Type 0} (declared : M → Signature) (turn : M → List ValueTree → ℕ → List ValueTree → List Outcome → NextTurn) (first : M → List ValueTree) where
   abbrev does : M → Behaviour
@@ -152,6 +159,12 @@ module _ {M : Type 0} (declared : M → Signature) (turn : M → List ValueTree 
       own : (m : M) × (hosted ≡ Some m)
       own = own_there hosted refl
 
+      core_run : (kept : MemberRecord) → member_record core.acting ≡ Some kept → IsRunOfNode d (does own.0) given.node number troupe.0 t core kept
+      core_run kept at =
+          is_run_of_core declared turn first d own.0 given.node lawful
+          (subst (λ (o : Option M). CanBoot d given.node (option_map declared o)) own.1 (hosted_can_boot declared turn first d modules given.node hosted good fit within through.through.is_hosted))
+          number troupe.0 t core kept (subst (λ (o : Option M). StandsFor declared turn first d o given.node t core) own.1 h.stands) (rises t h.numbered) h.others hosts troupe.1 at
+
       pub run_of : (kept : MemberRecord) → member_record core.acting ≡ Some kept → IsRunOf d program given.node number t kept
       run_of kept at = record {
         troupe = troupe.0;
@@ -160,11 +173,14 @@ module _ {M : Type 0} (declared : M → Signature) (turn : M → List ValueTree 
         is_hosted =
             slice_get-map does modules number
             ∙ sym (sym (ap (option_map does) own.1) ∙ through.through.is_hosted ∙ ap (λ o. option_map does (option_and_then (slice_get modules) o)) hosts);
-        is =
-            core_is_a_node_run declared turn first d own.0 given.node lawful
-            (subst (λ (o : Option M). CanBoot d given.node (option_map declared o)) own.1 (hosted_can_boot declared turn first d modules given.node hosted good fit within through.through.is_hosted))
-            number troupe.0 t core kept (subst (λ (o : Option M). StandsFor declared turn first d o given.node t core) own.1 h.stands) (rises t h.numbered) h.others hosts troupe.1 at;
+        is = (core_run kept at).run;
       }
+
+      -- from the state with which its member became active
+      activation_of : (kept : MemberRecord) (begun : List ValueTree) (at : member_record core.acting ≡ Some kept) → state_at_activation core.acting ≡ Some begun
+          → begun ≡ node_run.state_at_activation d (run_of kept at).hosted given.node number (run_of kept at).troupe kept t
+      unfolding run_of
+      activation_of kept begun at begins = same_Some begun (node_run.state_at_activation d (does own.0) given.node number troupe.0 kept t) (sym begins ∙ (core_run kept at).activation)
 
       kept_there : (o : Option MemberRecord) → member_record core.acting ≡ o → (kept : MemberRecord) × (member_record core.acting ≡ Some kept)
       kept_there (Some kept) is = (kept, is)
@@ -216,11 +232,19 @@ module _ {M : Type 0} (declared : M → Signature) (turn : M → List ValueTree 
           h.awaited_is ∙ awaited_alone t [] (subst (λ x. Awaits x []) same a.is.declares),
         )
 
-    pub has_run : is_told ≡ true → awaited ≡ Some [] → (kept : MemberRecord) → member_record core.acting ≡ Some kept → HasRunSo d program given kept
-    has_run told left kept at = by_troupe (troupe_at d given.node) refl
+    pub has_run : is_told ≡ true → awaited ≡ Some [] → (kept : MemberRecord) (begun : List ValueTree) → member_record core.acting ≡ Some kept → state_at_activation core.acting ≡ Some begun
+        → HasRunSo d program given kept begun
+    has_run told left kept begun at begins = by_troupe (troupe_at d given.node) refl
       where
-        by_troupe : (o : Option ℕ) → troupe_at d given.node ≡ o → HasRunSo d program given kept
-        by_troupe (Some number) hosts = record { lived = t; number = number; are = are_events told left; hosts = hosts; run = run_of number hosts kept at }
+        by_troupe : (o : Option ℕ) → troupe_at d given.node ≡ o → HasRunSo d program given kept begun
+        by_troupe (Some number) hosts = record {
+          lived = t;
+          number = number;
+          are = are_events told left;
+          hosts = hosts;
+          run = run_of number hosts kept at;
+          activation = activation_of number hosts kept begun at begins;
+        }
         by_troupe None none = absurd (no_member none kept at)
 
     pub has_ring_run : is_told ≡ true → awaited ≡ Some [] → member_record core.acting ≡ None → (views : List View) → ring_views core.acting ≡ Some views → HasRingRunSo d program given views

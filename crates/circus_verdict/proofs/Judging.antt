@@ -14,24 +14,21 @@ use Rattle.circus_model.specs.declared.history.Run.{Run}
 use Rattle.circus_record.specs.declared.record.MemberRecord.{MemberRecord}
 use Rattle.circus_performing.specs.Performing.{is_active, last_count}
 use Rattle.circus_member_theory.proofs.Histories.{runs_are_few}
-use Rattle.circus_member_theory.specs.Living.{phase_at_boot}
-use Rattle.circus_node.specs.Booting.{beginning_in}
 use Rattle.circus_node.specs.Accepting.{troupe_at}
 use Rattle.circus_member_theory.specs.Stands.{Stands}
-use Rattle.circus_member_theory.specs.Snapshots.{began}
-use Rattle.circus_headline_theory.specs.NodeRun.{past_of}
+use Rattle.circus_headline_theory.specs.NodeRun.{state_at_activation}
 use Rattle.circus_audit.specs.declared.given.Given.{Given}
 use Rattle.circus_audit.specs.declared.given.GivenEvent.{GivenEvent}
 use Rattle.circus_verdict.specs.declared.verdict.Verdict.{Verdict}
 use Rattle.circus_verdict.specs.declared.verdict.Verdict.TheVariants as says
 use Rattle.circus_verdict.specs.Audited.{said_in, said_of, HasRunAt, IsAuditedBy, IsAudited}
-use Rattle.circus_verdict.specs.Beside.{HasWrongRun, IsFirstWrong}
+use Rattle.circus_verdict.specs.Beside.{IsFirstWrong}
 use Rattle.circus_verdict.specs.Verdict.{StandsWhereActive, IsVerdict}
 use Rattle.circus_verdict.specs.Seen.Judged.{state_in, IsBeyond, IsInAnother, IsWrongLater, IsJudged}
 use Rattle.circus_verdict.specs.Seen.Judging.{HasRunSo}
 use Rattle.circus_verdict.specs.Seen.Living.{came_in}
 use Rattle.circus_verdict.proofs.Auditing.{came_events, audited_is}
-use Rattle.circus_verdict.proofs.Standing.{right_stands, stands_right}
+use Rattle.circus_verdict.proofs.Standing.{IsAllRight, right_stands, stands_right, state_began}
 
 -- ---- what is said of a member
 
@@ -48,7 +45,7 @@ said_whole said kept is active = is ∙ said_active kept kept.phase (ap (λ (k :
 module _ (d : Deployment) (program : List Behaviour) (given : Given) where
   -- ---- by the record that its member has
 
-  module _ (kept : MemberRecord) (ran : HasRunSo d program given kept) where
+  module _ (kept : MemberRecord) (begun : List ValueTree) (ran : HasRunSo d program given kept begun) where
     came : came_in ran.lived ≡ map (λ (e : GivenEvent). e.event) given.events
     came = sym (came_events ran.lived) ∙ ap (map (λ (e : GivenEvent). e.event)) (sym ran.are.events)
 
@@ -84,8 +81,8 @@ module _ (d : Deployment) (program : List Behaviour) (given : Given) where
       first = ran.run.hosted.first
 
       -- the state with which it became active
-      abbrev begun : List ValueTree
-      begun = began (phase_at_boot (beginning_in ran.run.troupe given.node)) first (past_of d ran.run.hosted given.node ran.number ran.run.troupe kept ran.lived)
+      abbrev begins : List ValueTree
+      begins = state_at_activation d ran.run.hosted given.node ran.number ran.run.troupe kept ran.lived
 
       few : length runs ≤ last_count
       few = (let most = runs_are_few program agree are ran.number in omega (arith, most))
@@ -106,34 +103,37 @@ module _ (d : Deployment) (program : List Behaviour) (given : Given) where
       audited : IsAuditedBy d program given ran.lived
       audited = said_by (member_is ∙ ap Some (sym whole))
 
-      falls : (wrong : ℕ) → IsBeyond runs first kept wrong ⊎ (IsInAnother runs first kept wrong ⊎ IsWrongLater runs first kept wrong) → Stands (history_of program) ran.number first kept → ⊥
-      falls wrong (inl beyond) stands =
-          let right = (stands_right (history_of program) ran.number ran.run.hosted begun kept few stands).within in
-          let less = beyond.few in omega (arith, right, less)
-      falls wrong (inr (inl another)) stands =
-          let right = (stands_right (history_of program) ran.number ran.run.hosted begun kept few stands).state another.none in
-          another.other (right ∙ sym (state_same kept.from))
-      falls wrong (inr (inr later)) stands =
-          let right = (stands_right (history_of program) ran.number ran.run.hosted begun kept few stands).right in
-          later.run.first_wrong.wrong (right later.run.number)
+      abbrev IsWrong : ℕ → Type 0
+      IsWrong wrong = IsBeyond runs first begun kept wrong ⊎ (IsInAnother runs first begun kept wrong ⊎ IsWrongLater runs first begun kept wrong)
 
-      none_performed : (wrong : ℕ) → HasWrongRun runs kept wrong → kept.runs ≡ [] → ⊥
-      none_performed wrong run none = let within = run.first_wrong.within in let l : length kept.runs ≡ 0 = ap length none in omega (arith, within, l)
+      all_right : Stands (history_of program) ran.number first kept → IsAllRight (history_of program) ran.number ran.run.hosted begins kept few
+      all_right stands = stands_right (history_of program) ran.number ran.run.hosted begins kept few stands
 
-      first_wrong : (wrong : ℕ) → IsBeyond runs first kept wrong ⊎ (IsInAnother runs first kept wrong ⊎ IsWrongLater runs first kept wrong)
-          → IsFirstWrong (history_of program) ran.number first kept wrong
+      -- where it performed nothing, its state is that with which it became active
+      begun_is : kept.runs ≡ [] → kept.state ≡ begun
+      begun_is none = state_began (history_of program) ran.number ran.run.hosted begins kept few ran.run.is.follows none ∙ sym ran.activation
+
+      falls : (wrong : ℕ) → IsWrong wrong → Stands (history_of program) ran.number first kept → ⊥
+      falls wrong (inl beyond) stands = (let right = (all_right stands).within in let less = beyond.few in omega (arith, right, less))
+      falls wrong (inr (inl another)) stands = elim another.shown [
+        | inl none ↦ another.other (sym (begun_is none) ∙ (all_right stands).state none ∙ sym (state_same kept.from))
+        | inr run ↦ run.1.wrong ((all_right stands).right run.0)
+      ]
+      falls wrong (inr (inr later)) stands = later.run.first_wrong.wrong ((all_right stands).right later.run.number)
+
+      first_wrong : (wrong : ℕ) → IsWrong wrong → IsFirstWrong (history_of program) ran.number first begins kept wrong
       first_wrong wrong (inl beyond) = inl (inl beyond.few, beyond.is)
-      first_wrong wrong (inr (inl another)) = inl (inr (another.none, λ same. another.other (same ∙ sym (state_same kept.from))), another.is)
+      first_wrong wrong (inr (inl another)) = inl (inr (λ same. another.other (ran.activation ∙ same ∙ sym (state_same kept.from))), another.is)
       first_wrong wrong (inr (inr later)) =
           inr (
-            λ begins. elim begins [
+            λ wrongly. elim wrongly [
               | inl few ↦ (let within = later.within in omega (arith, few, within))
-              | inr other ↦ none_performed wrong later.run other.0
+              | inr other ↦ other (sym ran.activation ∙ later.state ∙ state_same kept.from)
             ],
             later.run,
           )
 
-      pub judged : (v : Verdict) → IsJudged runs first kept v → IsVerdict d program given v
+      pub judged : (v : Verdict) → IsJudged runs first begun kept v → IsVerdict d program given v
       judged says.Yes right = (
         record { lived = ran.lived; is = audited },
         λ number hosted other at there other_is is_on.
@@ -141,31 +141,31 @@ module _ (d : Deployment) (program : List Behaviour) (given : Given) where
             let there_is : slice_get program ran.number ≡ Some hosted = ap (slice_get program) number_is ∙ there in
             let hosted_is : ran.run.hosted ≡ hosted = same_Some ran.run.hosted hosted (sym ran.run.is_hosted ∙ there_is) in
             let kept_is : kept ≡ other = same_Some kept other (sym member_is ∙ other_is) in
-            let stands = right_stands (history_of program) ran.number ran.run.hosted begun kept few ran.run.is.follows right.within right.right
-            (λ none. right.state none ∙ state_same kept.from) in
+            let stands = right_stands (history_of program) ran.number ran.run.hosted begins kept few ran.run.is.follows right.within right.right
+            (λ none. begun_is none ∙ right.state none ∙ state_same kept.from) in
             subst (λ k. Stands (history_of program) number hosted.first k) kept_is
             (subst (λ (x : Behaviour). Stands (history_of program) number x.first kept) hosted_is (subst (λ n. Stands (history_of program) n first kept) number_is stands)),
       )
       judged says.NotARun never = absurd never
       judged (says.Run wrong) found = record {
-        audited = record { lived = ran.lived; is = audited };
+        lived = ran.lived;
+        audited = audited;
         number = ran.number;
-        hosted = ran.run.hosted;
         kept = kept;
         is_number = ran.hosts;
-        is_hosted = ran.run.is_hosted;
         is_kept = member_is;
         active = active;
+        run = ran.run;
         falls = falls wrong found;
         first_wrong = first_wrong wrong found;
       }
 
       -- so it is with the module of the node's troupe, and with its runs and its first state as they are found
-      pub judged_here : (number : ℕ) (b : Behaviour) (found : List Run) (begins : List ValueTree) → troupe_at d given.node ≡ Some number → slice_get program number ≡ Some b
-          → found ≡ runs_of (history_of program) number → begins ≡ b.first → (v : Verdict) → IsJudged found begins kept v → IsVerdict d program given v
-      judged_here number b found begins at there found_is begins_is v is =
+      pub judged_here : (number : ℕ) (b : Behaviour) (found : List Run) (starts : List ValueTree) → troupe_at d given.node ≡ Some number → slice_get program number ≡ Some b
+          → found ≡ runs_of (history_of program) number → starts ≡ b.first → (v : Verdict) → IsJudged found starts begun kept v → IsVerdict d program given v
+      judged_here number b found starts at there found_is starts_is v is =
           let number_is : number ≡ ran.number = same_Some number ran.number (sym at ∙ ran.hosts) in
           let hosted_is : b ≡ ran.run.hosted = same_Some b ran.run.hosted (sym there ∙ ap (slice_get program) number_is ∙ ran.run.is_hosted) in
           judged v
-          (subst (λ (x : List ValueTree). IsJudged runs x kept v) (begins_is ∙ ap (λ (x : Behaviour). x.first) hosted_is)
-          (subst (λ (x : List Run). IsJudged x begins kept v) (found_is ∙ ap (runs_of (history_of program)) number_is) is))
+          (subst (λ (x : List ValueTree). IsJudged runs x begun kept v) (starts_is ∙ ap (λ (x : Behaviour). x.first) hosted_is)
+          (subst (λ (x : List Run). IsJudged x starts begun kept v) (found_is ∙ ap (runs_of (history_of program)) number_is) is))

@@ -187,3 +187,10 @@ module _ (history : List (List Run)) (place : ℕ) (b : Behaviour) (began : List
               some_so (slice_get runs (kept.from + n)) (λ (x : Run). IsSoFar x run) s.0
               (ap (slice_get runs) (let c = busy.count in let l = last.0 in omega (arith, c, l)) ∙ s.1)
               (subst (λ r. IsSoFar s.0 r) last.1 (inr (busy.waiting, s.2)))
+
+  -- the state of one that performed nothing is that with which it became active
+  pub state_began : IsRecord b began kept → kept.runs ≡ [] → kept.state ≡ began
+  state_began r none = elim r.now [
+    | inl idle ↦ idle.state ∙ ap (performing.state_after began) none
+    | inr p ↦ absurd (no_push p.before p.run (sym p.runs_are ∙ none))
+  ]

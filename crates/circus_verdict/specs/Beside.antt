@@ -1,5 +1,5 @@
 -- The first run of a record that isn't a run of the history.
-use Rattle.std.specs.Prelude.{ℕ, ◌≡◌, ◌≢◌, ◌⊎◌, ◌+◌, ◌<◌, List, [], length, Some, IsSomeAnd, slice_get}
+use Rattle.std.specs.Prelude.{ℕ, ◌≡◌, ◌≢◌, ◌⊎◌, ◌+◌, ◌<◌, List, length, Some, IsSomeAnd, slice_get}
 use Rattle.circus_value.specs.ValueTree.{ValueTree}
 use Rattle.circus_model.specs.declared.history.Run.{Run}
 use Rattle.circus_model.specs.History.{runs_of, state_after}
@@ -32,15 +32,12 @@ pub record HasWrongRun (runs : List Run) (kept : MemberRecord) (wrong : ℕ) : T
 
 -- the history of a program, the number of a module in it, and its first state
 module _ (history : List (List Run)) (place : ℕ) (first : List ValueTree) where
-  -- the history has fewer runs than there were before the record's first one, or a member that performed nothing isn't in the state
-  -- behind so many
-  abbrev pub BeginsWrong : MemberRecord → Type 0
-  BeginsWrong kept =
-      (length (runs_of history place) < kept.from)
-      ⊎ ((kept.runs ≡ []) × (kept.state ≢ state_after history place first kept.from))
+  -- the history has fewer runs than those behind which the member became active, or the state with which it did isn't the one after them
+  abbrev pub BeginsWrong : List ValueTree → MemberRecord → Type 0
+  BeginsWrong state kept = (length (runs_of history place) < kept.from) ⊎ (state ≢ state_after history place first kept.from)
 
   -- what is told of a record that doesn't stand: its first place where it began wrong, else that of its first wrong run
-  abbrev pub IsFirstWrong : MemberRecord → ℕ → Type 0
-  IsFirstWrong kept wrong =
-      (BeginsWrong kept × (wrong ≡ kept.from))
-      ⊎ ((BeginsWrong kept → ⊥) × HasWrongRun (runs_of history place) kept wrong)
+  abbrev pub IsFirstWrong : List ValueTree → MemberRecord → ℕ → Type 0
+  IsFirstWrong state kept wrong =
+      (BeginsWrong state kept × (wrong ≡ kept.from))
+      ⊎ ((BeginsWrong state kept → ⊥) × HasWrongRun (runs_of history place) kept wrong)

@@ -24,18 +24,20 @@ use circus_transfer::Joiner;
 use circus_value::{NoMemory, State};
 use std::alloc::Global;
 
-/// The node lived through what the record says, and its member has this record then.
+/// The node lived through what the record says, and its member, which became active with this state, has this record then.
 pub(crate) fn judge_member<M: Module>(
     alloc: Global,
     given: &Given,
     kept: &MemberRecord,
+    activation_state: &State,
     deployment: &Deployment,
     modules: &[M],
 ) -> Result<Verdict, NoMemory>
     requires agree { Agree (behaviours M.declared M.turn M.first modules.now) }
     requires few_modules { length modules.now ≤ most_modules }
     requires ran { HasRunSo deployment.now
-        (behaviours M.declared M.turn M.first modules.now) given.now kept.now }
+        (behaviours M.declared M.turn M.first modules.now) given.now kept.now
+        activation_state.now }
     requires few { FewRuns given.now.member }
     ensures { IfOk result
         (IsVerdict deployment.now
@@ -50,7 +52,7 @@ pub(crate) fn judge_member<M: Module>(
     if !is_active(said.phase) {
         return Ok(Verdict::Yes);
     }
-    judge_active(alloc, given, said, deployment, modules)
+    judge_active(alloc, given, said, activation_state, deployment, modules)
 }
 
 fn is_active(phase: Joiner) -> bool
@@ -64,13 +66,15 @@ fn judge_active<M: Module>(
     alloc: Global,
     given: &Given,
     kept: &MemberRecord,
+    activation_state: &State,
     deployment: &Deployment,
     modules: &[M],
 ) -> Result<Verdict, NoMemory>
     requires agree { Agree (behaviours M.declared M.turn M.first modules.now) }
     requires few_modules { length modules.now ≤ most_modules }
     requires ran { HasRunSo deployment.now
-        (behaviours M.declared M.turn M.first modules.now) given.now kept.now }
+        (behaviours M.declared M.turn M.first modules.now) given.now kept.now
+        activation_state.now }
     requires said { given.now.member ≡ Some kept.now }
     requires active { performing.is_active kept.now.phase ≡ true }
     requires few { kept.now.from + length kept.now.runs ≤ 4294967296 }
@@ -83,7 +87,8 @@ fn judge_active<M: Module>(
     };
     let first = first_of(modules, number)?;
     let history = run_alone(alloc, modules)?;
-    Ok(judge_runs(runs_of(&history, number), &first, kept))
+    let runs = runs_of(&history, number);
+    Ok(judge_runs(runs, &first, activation_state, kept))
 }
 
 // The first state of a module.
@@ -106,30 +111,31 @@ fn runs_of(history: &History, number: u16) -> &[Run]
     }
 }
 
-// The record beside the runs that its module performs, from this state on.
-fn judge_runs(runs: &[Run], first: &State, kept: &MemberRecord) -> Verdict
+// The record of a member that became active with a state, beside the runs that its module performs from its first state on.
+fn judge_runs(runs: &[Run], first: &State, activation_state: &State, kept: &MemberRecord) -> Verdict
     requires { kept.now.from + length kept.now.runs ≤ 4294967296 }
-    ensures { IsJudged runs.now first.now kept.now result }
+    ensures { IsJudged runs.now first.now activation_state.now kept.now result }
 {
     if runs.len() < kept.from as usize {
         return Verdict::Run(kept.from);
     }
+    let is_begun_right = is_state_behind(runs, first, kept.from, activation_state);
     match first_wrong_run(runs, kept) {
-        Some(number) => Verdict::Run(kept.from + number as u32),
-        None if kept.runs.is_empty() && !is_in_state(runs, first, kept) => Verdict::Run(kept.from),
-        None => Verdict::Yes,
+        Some(number) if is_begun_right => Verdict::Run(kept.from + number as u32),
+        None if is_begun_right || !kept.runs.is_empty() => Verdict::Yes,
+        _ => Verdict::Run(kept.from),
     }
 }
 
-// It is in the state behind the runs before its first one.
-fn is_in_state(runs: &[Run], first: &State, kept: &MemberRecord) -> bool
-    ensures { Decides result (kept.now.state ≡ state_in runs.now first.now kept.now.from) }
+// It is the state behind so many runs.
+fn is_state_behind(runs: &[Run], first: &State, count: u32, state: &State) -> bool
+    ensures { Decides result (state.now ≡ state_in runs.now first.now count) }
 {
-    match kept.from.checked_sub(1) {
-        None => kept.state.is_same(first),
+    match count.checked_sub(1) {
+        None => state.is_same(first),
         Some(last) => match runs.get(last as usize) {
-            Some(run) => kept.state.is_same(&run.state),
-            None => kept.state.is_same(first),
+            Some(run) => state.is_same(&run.state),
+            None => state.is_same(first),
         },
     }
 }

@@ -79,7 +79,10 @@ fn judge<M: Module>(
         return Ok(Verdict::NotARun);
     }
     if let Some(kept) = lived.core.member_record() {
-        return judge_member(alloc, given, kept, deployment, modules);
+        let Some(activation_state) = lived.core.activation_state() else {
+            unreachable!()
+        };
+        return judge_member(alloc, given, kept, activation_state, deployment, modules);
     }
     let Some(views) = lived.core.ring_views() else {
         unreachable!()

@@ -19,7 +19,8 @@ pub enum Verdict {
     Yes,
     /// It is no run of the node.
     NotARun,
-    /// It is a run of the node, but what its member performed in this place is not what the program performs there.
+    /// It is a run of the node, but not all that its member performed is the program's. This is the number from which the member
+    /// began, where the program has fewer runs or another state behind them, else that of its first wrong run.
     Run(u32),
 }
 

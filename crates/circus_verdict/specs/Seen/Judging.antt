@@ -13,6 +13,7 @@ use Rattle.circus_node.specs.NodeState.{NodeState}
 use Rattle.circus_node.specs.Trace.{Trace}
 use Rattle.circus_world.specs.Legal.{is_spare}
 use Rattle.circus_collate.specs.declared.view.View.{View}
+use Rattle.circus_headline_theory.specs.NodeRun.{state_at_activation}
 use Rattle.circus_headline_theory.specs.RingRun.{IsRingRun}
 use Rattle.circus_headline_theory.specs.Trace.{told_of}
 use Rattle.circus_headline_theory.specs.ServedRun.{IsNumbered}
@@ -48,13 +49,14 @@ pub record AreEvents (d : Deployment) (program : List Behaviour) (given : Given)
   pub declares : Awaits lived []
   pub numbers : IsSpent d program given → ⊥
 
--- and a member has this record then
-pub record HasRunSo (d : Deployment) (program : List Behaviour) (given : Given) (kept : MemberRecord) : Type 0 where
+-- and a member has this record then, and became active with this state
+pub record HasRunSo (d : Deployment) (program : List Behaviour) (given : Given) (kept : MemberRecord) (begun : List ValueTree) : Type 0 where
   pub lived : Trace
   pub number : ℕ
   pub are : AreEvents d program given lived
   pub hosts : troupe_at d given.node ≡ Some number
   pub run : IsRunOf d program given.node number lived kept
+  pub activation : begun ≡ state_at_activation d run.hosted given.node number run.troupe kept lived
 
 -- a node of the program has come through the events of a record, of which the first alone is boot, and in which joins stand where they may
 pub record ComesThrough {M : Type 0} (declared : M → Signature) (turn : M → List ValueTree → ℕ → List ValueTree → List Outcome → NextTurn) (first : M → List ValueTree) (d : Deployment) (modules : List M)

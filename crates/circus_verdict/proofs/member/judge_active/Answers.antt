@@ -29,7 +29,7 @@ returns g c =
     let number = c.in-Some.number in
     let number_is : number ≡ ran.number = same_Some number ran.number (c.in-Some.ensures ∙ ran.hosts) in
     let there : slice_get program number ≡ Some ran.run.hosted = ap (slice_get program) number_is ∙ ran.run.is_hosted in
-    judged_here c.args.deployment.now program c.args.given.now c.args.kept.now ran c.requires.agree
+    judged_here c.args.deployment.now program c.args.given.now c.args.kept.now c.args.activation_state.now ran c.requires.agree
     (are_modules M.declared M.turn M.first c.args.modules.now (λ m. record { first_is_state = g.met.M.Module.first_is_state m; turns_are_lawful = g.met.M.Module.turns_are_lawful m }))
-    c.requires.said c.requires.active number ran.run.hosted c.runs_of.result.now c.in_ok-first.first (sym c.in-Some.ensures) there
-    (c.runs_of.ensures ∙ ap (λ history. runs_of history number) c.in_ok-history.ensures) (c.in_ok-first.ensures ran.run.hosted there) c.judge_runs.result c.judge_runs.ensures
+    c.requires.said c.requires.active number ran.run.hosted c.runs_of-runs.result.now c.in_ok-first.first (sym c.in-Some.ensures) there
+    (c.runs_of-runs.ensures ∙ ap (λ history. runs_of history number) c.in_ok-history.ensures) (c.in_ok-first.ensures ran.run.hosted there) c.judge_runs.result c.judge_runs.ensures

@@ -2,7 +2,7 @@ use Rattle.std.proofs.Common.{◌≡◌, ◌∙◌, true, false, sym, arith}
 use Rattle.std.proofs.Math.ListN.{length-map}
 use Rattle.circus_model.specs.Behaviour.{behaviours}
 use Rattle.circus_performing.proofs.Records.{none_is_some}
-use Rattle.circus_verdict.proofs.Coming.{not_right, has_run, has_ring_run, not_neither}
+use Rattle.circus_verdict.proofs.Coming.{has_activation, not_right, has_run, has_ring_run, not_neither}
 use Rattle.circus_verdict.proofs.Ringing.{ring_not_said, ring_said}
 use Rattle.circus_verdict.proofs.node.judge.Goals as goal
 
@@ -26,10 +26,13 @@ judge_member-requires-clause-ran g c =
     let right = c.is_right.ensures.0 c.if-not-is_right.false in
     has_run M.declared M.turn M.first (λ m. record { first_is_state = g.met.M.Module.first_is_state m; turns_are_lawful = g.met.M.Module.turns_are_lawful m })
     c.args.deployment.now c.args.modules.now c.args.given.now c.args.lived.now.core c.args.lived.now.is_told c.args.lived.now.awaited c.requires.deployment c.requires.modules c.requires.within c.requires.node c.requires.through
-    right.0 right.1 c.in-Some.kept.now (sym c.in-Some.ensures.value)
+    right.0 right.1 c.in-Some.kept.now c.in-Some-activation_state.activation_state.now (sym c.in-Some.ensures.value) (sym c.in-Some-activation_state.ensures)
 
 pub unreachable-requires : goal.unreachable-requires
-unreachable-requires g c =
+unreachable-requires g c = has_activation c.args.lived.now.core.acting c.in-Some.kept.now (sym c.in-Some.ensures.value) (sym c.in_default-activation_state.ensures)
+
+pub unreachable-requires-in_default-ring_views : goal.unreachable-requires-in_default-ring_views
+unreachable-requires-in_default-ring_views g c =
     let M = g.M.Module in
     not_neither M.declared M.turn M.first (λ m. record { first_is_state = g.met.M.Module.first_is_state m; turns_are_lawful = g.met.M.Module.turns_are_lawful m })
     c.args.deployment.now c.args.modules.now c.args.given.now c.args.lived.now.core c.args.lived.now.is_told c.args.lived.now.awaited c.requires.deployment c.requires.modules c.requires.within c.requires.node c.requires.through
