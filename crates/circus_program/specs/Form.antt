@@ -1,6 +1,7 @@
 -- The forms of a command line, and the words that spell each.
 use Rattle.std.specs.Prelude.{ℕ, ◌≡◌, ◌≢◌, ◌<◌, ◌≤◌, ◌^◌, List, [], ◌∷◌, codes}
 use Rattle.std.specs.Fmt.{decimal}
+use Rattle.circus_schedule.specs.Answer.{most_lines}
 use Rattle.circus_program.specs.declared.shown.Shown.{Shown}
 use Rattle.circus_program.specs.declared.shown.Shown.TheVariants.{Report, Picture}
 use Rattle.circus_program.specs.declared.second.Second.{Second}
@@ -46,9 +47,9 @@ words_of (audit program «record») = codes "audit" ∷ program ∷ «record» �
 abbrev pub most_turns : ℕ
 most_turns = 100000
 
--- at most so many steps are drawn; a schedule has at most so many lines
+-- at most so many steps are drawn, each of which is a line of a schedule
 abbrev pub most_steps : ℕ
-most_steps = 200000
+most_steps = most_lines
 
 -- at most so many datagrams are delivered to settle a program
 abbrev pub most_deliveries : ℕ

@@ -4,11 +4,11 @@ ghost use Rattle.circus_program.specs.Seen.Words.{form_of};
 ghost use Rattle.std.specs.Prelude.{[], ◌∷◌, IfNone, IfSome, map};
 ghost use Rattle.std.specs.String.{string_bytes};
 
-use circus_schedule::decimal_at_most;
+use circus_schedule::{MOST_LINES, decimal_at_most};
 
 const MOST_TURNS: u64 = 100_000;
 
-const MOST_STEPS: u64 = 200_000;
+const MOST_STEPS: u64 = MOST_LINES as u64;
 
 const MOST_DELIVERIES: u64 = 1_000_000;
 

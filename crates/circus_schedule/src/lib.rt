@@ -18,6 +18,6 @@ mod written;
 pub use decimal::decimal_at_most;
 pub use laws::{lines_are_read_back, nodes_are_named, one_answer, one_spelling, written_is_read};
 pub use line::{Line, Lines};
-pub use read::read_schedule;
+pub use read::{MOST_LINES, read_schedule};
 pub use sample::{Facts, next_word, sample_line};
 pub use schedule_fault::ScheduleFault;

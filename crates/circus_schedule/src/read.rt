@@ -16,7 +16,8 @@ use circus_collate::Deployment;
 use circus_value::Name;
 use std::alloc::Global;
 
-const MOST_LINES: u32 = 200_000;
+/// How many lines a schedule has at most.
+pub const MOST_LINES: u32 = 200_000;
 
 const NEWLINE: u8 = b'\n';
 
